@@ -1,0 +1,5 @@
+pub mod Place
+pub mod Item
+pub mod Reading
+pub mod Law
+pub mod Seen

@@ -1,0 +1,40 @@
+-- A place in a packet, and what a reader's call answers from there.
+use Rattle.std.specs.Prelude.{◌≡◌, ℕ, ◌-◌, List, length, drop, Result, Ok, Err}
+use Rattle.px_tag.specs.declared.fault.TagFault.{TagFault}
+
+-- how many bytes the packet has, and those of them that are left
+pub record Place : Type 0 where
+  pub size : ℕ
+  pub rest : List ℕ
+
+-- the place before a packet's first byte
+abbrev pub start_of : List ℕ → Place
+start_of packet = record { size = length packet; rest = packet }
+
+-- the offset of the first byte that is left
+abbrev pub offset_of : Place → ℕ
+offset_of place = place.size - length place.rest
+
+-- the place behind the next n bytes
+abbrev pub past : ℕ → Place → Place
+past n place = record { size = place.size; rest = drop n place.rest }
+
+-- What is read at a place: a value and the place behind it, or the first fault.
+abbrev pub Reading : Type 0 → Type 0
+Reading A = Place → Result (A × Place) TagFault
+
+infixl 10 ◌>>=◌
+abbrev pub ◌>>=◌ : {A B : Type 0} → Result A TagFault → (A → Result B TagFault) → Result B TagFault
+(Ok x) >>= f = f x
+(Err fault) >>= f = Err fault
+
+-- A function answered what is read, its value seen by view.
+abbrev pub Gives : {X Y : Type 0} → (X → Y) → Result X TagFault → Result Y TagFault → Type 0
+Gives view (Ok x) read = read ≡ Ok (view x)
+Gives view (Err fault) read = read ≡ Err fault
+
+-- A call of a reader answered what is read from the place where the reader was: the value, and the reader is
+-- behind it, or the fault, and the reader is where it was.
+abbrev pub Reads : {X Y : Type 0} → (X → Y) → Result X TagFault → Place → Place → Result (Y × Place) TagFault → Type 0
+Reads view (Ok x) before after read = read ≡ Ok (view x, after)
+Reads view (Err fault) before after read = (read ≡ Err fault) × (after ≡ before)

@@ -1,0 +1,18 @@
+//! The items of PulseAudio's tagstruct, the alphabet of the native protocol: each is read exactly where
+//! its one spelling stands in a packet, and written in that spelling. Property lists are kept in order.
+#![tactic(auto)]
+
+mod fault;
+mod law;
+mod memory;
+mod packet;
+mod place;
+mod reader;
+mod writer;
+
+pub use fault::TagFault;
+pub use law::one_spelling;
+pub use memory::{Mem, NoMemory};
+pub use packet::Packet;
+pub use reader::TagReader;
+pub use writer::TagWriter;
