@@ -1,13 +1,9 @@
-// A library with one function.
+//! Sample formats, and the work values that samples are mixed as.
+//! `format` has the formats and their sizes and widths, `spec` the sample spec of a stream or a sink.
 #![tactic(auto)]
 
-ghost use Rattle.std.specs.Prelude.{◌≡◌};
-ghost use Rattle.px_sample.specs.Echo.{echo_of};
+mod format;
+mod spec;
 
-// The `ensures` clause is the contract: what `echo` returns is `echo_of` of its argument, a definition
-// in `specs/Echo.antt`, which a caller's clause can cite too.
-pub fn echo(x: usize) -> usize
-    ensures { result ≡ echo_of x }
-{
-    x
-}
+pub use format::{Format, Width};
+pub use spec::Spec;
