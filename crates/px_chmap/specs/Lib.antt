@@ -1,0 +1,2 @@
+pub mod ChannelMap
+pub mod Held
