@@ -1,5 +1,5 @@
 -- A stream after k frames of its sink, and the frames that it gives (PulseAudio: `pa_memblockq_drop` and `update_prebuf` of pulsecore/memblockq.c, `playing_for` and `underrun_for` of pulsecore/sink-input.c). That prebuffering stops the read index at the last frame is own.
-use Rattle.std.specs.Prelude.{ℕ, zero, suc, ◌+◌, ◌-◌, min, ℤ, ◌&&◌, List, map, drop, nat_lt, ◌==◌, if◌then◌else◌}
+use Rattle.std.specs.Prelude.{ℕ, zero, suc, ◌+◌, ◌-◌, ◌^◌, min, ℤ, ◌&&◌, List, map, drop, nat_lt, ◌==◌, if◌then◌else◌}
 use Rattle.std.specs.Int.{int_min}
 use Rattle.std.specs.List.{range_with_len}
 use Rattle.px_model.specs.declared.data.Run.{Run}
@@ -7,14 +7,18 @@ use Rattle.px_model.specs.declared.data.Run.TheVariants.{Quiet, Playing}
 use Rattle.px_model.specs.Index.{above, onward, LAST}
 use Rattle.px_model.specs.Stream.{Stream, Ahead, left_of, is_held_short, is_waiting, frame_at}
 
+-- a count of a run stays at 2 ^ 64 - 1 once it is there
+abbrev pub counted : ℕ → ℕ
+counted n = min n (2 ^ 64 - 1)
+
 -- the run of one that gives all of k frames, and of one that gives g of them, fewer
 abbrev pub playing_on : Run → ℕ → Run
-playing_on (Playing p) k = Playing (p + k)
-playing_on (Quiet u) k = Playing k
+playing_on (Playing p) k = Playing (counted (p + k))
+playing_on (Quiet u) k = Playing (counted k)
 
 abbrev pub quiet_on : Run → ℕ → ℕ → Run
-quiet_on (Playing p) g k = Quiet (k - g)
-quiet_on (Quiet u) g k = if g == 0 then Quiet (u + k) else Quiet (k - g)
+quiet_on (Playing p) g k = Quiet (counted (k - g))
+quiet_on (Quiet u) g k = if g == 0 then Quiet (counted (u + k)) else Quiet (counted (k - g))
 
 abbrev pub run_after : Run → ℕ → ℕ → Run
 run_after run g k = if g == k then playing_on run k else quiet_on run g k

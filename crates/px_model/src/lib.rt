@@ -3,7 +3,11 @@
 #![tactic(auto)]
 
 mod data;
+mod going;
+mod held;
 mod rows;
 
 pub use data::{Attr, Run, Seek};
+pub use going::going_adds_up;
+pub use held::{going_drops_the_past, places_are_a_map, write_changes_its_indices};
 pub use rows::worked_rows;
