@@ -6,3 +6,6 @@ pub mod Runs
 pub mod Forward
 pub mod Adding
 pub mod Pointwise
+pub mod Kept
+pub mod Inputs
+pub mod Rounds

@@ -5,9 +5,9 @@ use Rattle.px_model.specs.Frame.{Frame}
 use Rattle.px_model.specs.Stream.{Stream}
 use Rattle.px_model.specs.Message.{Message}
 use Rattle.px_model.specs.Notice.{Notice}
-use Rattle.px_model.specs.Mix.{Samples, mix_of}
-use Rattle.px_model.specs.Sink.{Sink, streams_of}
-use Rattle.px_model.specs.Turn.{turned, stopped_turn, turn_notices, stopped_notices, played_by}
+use Rattle.px_model.specs.Mix.{Samples}
+use Rattle.px_model.specs.Sink.{Sink}
+use Rattle.px_model.specs.Turn.{frame_mixed, turned, stopped_turn, turn_notices, stopped_notices, played_by}
 
 -- a turn with the frames that its sync consumed, or one whose sync failed, and the messages taken
 pub data Entry : Type 0 where
@@ -54,10 +54,6 @@ deciding samples sink [] f = None
 deciding samples sink (e ∷ history) f =
     option_or (deciding samples (sink_after samples sink e) history f)
     (if nat_le (sink_after samples sink e).horizon f then Some (sink_after samples sink e) else None)
-
--- frame f as a sink mixes it
-abbrev pub frame_mixed : Samples → ℕ → Sink → Frame
-frame_mixed samples f sink = mix_of samples sink.spec (streams_of sink.inputs) (f - sink.horizon)
 
 -- what the deciding turn makes of frame f
 abbrev pub decided : Samples → Sink → List Entry → ℕ → Option Frame

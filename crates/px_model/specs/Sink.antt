@@ -1,5 +1,5 @@
 -- A sink: its counts of frames, its buffer and its inputs (PulseAudio: `thread_info` of pulsecore/sink.h; guard is `rewind_safeguard`).
-use Rattle.std.specs.Prelude.{◌≡◌, ℕ, ◌+◌, ◌-◌, ◌<◌, ◌≤◌, Bool, false, not, List, [], ◌∷◌, map, filter, length, Option, Some, None, nat_lt, ◌==◌, if◌then◌else◌, ⊤}
+use Rattle.std.specs.Prelude.{◌≡◌, ℕ, ◌+◌, ◌-◌, ◌<◌, ◌≤◌, Bool, false, not, List, [], ◌∷◌, map, filter, length, Option, Some, None, nat_lt, slice_get, ◌==◌, if◌then◌else◌, ⊤}
 use Rattle.std.specs.List.{AllByRecursion}
 use Rattle.std.specs.FinMap as finite
 use Rattle.px_model.specs.Frame.{Frame, SampleSpec}
@@ -41,6 +41,10 @@ empty_sink spec guard depth = record {
 
 abbrev pub streams_of : List Input → List Stream
 streams_of inputs = map (λ x. Input.stream x) inputs
+
+-- frame f of the buffer, if it is there
+abbrev pub frame_in : Sink → ℕ → Option Frame
+frame_in sink f = if nat_lt f sink.consumed then None else slice_get sink.buffer (f - sink.consumed)
 
 -- the stream of an input, if it is there
 abbrev pub stream_at : ℕ → List Input → Option Stream

@@ -1,20 +1,21 @@
 -- A turn of a sink, and a turn whose device failed, each with its notices in order (PulseAudio: `pa_sink_render`, `pa_sink_process_rewind` and `pa_sink_input_process_rewind`; the order of messages and notices is own).
-use Rattle.std.specs.Prelude.{ℕ, zero, suc, ◌+◌, ◌-◌, min, Bool, true, false, not, ◌&&◌, ◌||◌, List, [], ◌∷◌, ◌++◌, map, flat_map, take, drop, length, Option, Some, None, nat_lt, nat_le, ◌==◌, if◌then◌else◌}
-use Rattle.std.specs.List.{range_with_len}
+use Rattle.std.specs.Prelude.{ℕ, zero, suc, ◌+◌, ◌-◌, min, Bool, true, false, not, ◌&&◌, ◌||◌, List, [], ◌∷◌, ◌++◌, map, flat_map, take, drop, length, Option, Some, None, nat_lt, nat_le, ◌==◌, if◌then◌else◌, ⊤}
+use Rattle.std.specs.List.{range_with_len, AllByRecursion}
 use Rattle.px_model.specs.declared.data.Run.{Run}
 use Rattle.px_model.specs.declared.data.Run.TheVariants.{Quiet, Playing}
 use Rattle.px_model.specs.declared.data.Seek.{Seek}
 use Rattle.px_model.specs.declared.data.Seek.TheVariants.{Relative, Absolute, RelativeOnRead, RelativeEnd}
 use Rattle.px_model.specs.Index.{above}
 use Rattle.px_model.specs.Frame.{Frame, frame_size, frames_of}
-use Rattle.px_model.specs.Stream.{Stream, left_of}
+use Rattle.px_model.specs.Stream.{Stream, IsStream, left_of}
 use Rattle.px_model.specs.Going.{after, ahead_of, given_of}
 use Rattle.px_model.specs.Write.{Outcome, stored, overflow, outside, outcome_of, target_of, written}
 use Rattle.px_model.specs.Control.{new_stream, attached, corked_to, triggered, prebuffered, flushed, drained_by, with_attr, with_factors}
 use Rattle.px_model.specs.Message.{Message, FrameWrite, InputFactors}
 use Rattle.px_model.specs.Notice.{Notice, Latency}
 use Rattle.px_model.specs.Mix.{Samples, mix_of}
-use Rattle.px_model.specs.Sink.{Sink, Input, streams_of, stream_at, with_input, without_input, with_stream, with_change}
+use Rattle.px_model.specs.Orderly.{IsOrderly}
+use Rattle.px_model.specs.Sink.{Sink, Input, specs_of, streams_of, stream_at, with_input, without_input, with_stream, with_change}
 
 abbrev pub is_playing : Run → Bool
 is_playing (Playing p) = true
@@ -136,6 +137,10 @@ told sink messages = record sink { inputs = inputs_with_all (sink.filled - sink.
 abbrev pub told_notices : Sink → List (Message Stream) → List (Notice Stream)
 told_notices sink messages = all_message_notices (sink.filled - sink.horizon) (sink.filled - sink.consumed) messages sink.inputs
 
+-- frame f, at or past the horizon, as the sink's streams make it
+abbrev pub frame_mixed : Samples → ℕ → Sink → Frame
+frame_mixed samples f sink = mix_of samples sink.spec (streams_of sink.inputs) (f - sink.horizon)
+
 -- ---- 3. the frames below the horizon stay, all others are mixed afresh
 
 abbrev pub fresh_mix : Samples → Sink → ℕ → List Frame
@@ -211,3 +216,23 @@ stopped_notices sink messages =
     flat_map (going_notices (next_horizon sink 0 - sink.horizon)) sink.inputs
     ++ told_notices (halted sink) messages
     ++ flat_map (asked_notices 0) (told (halted sink) messages).inputs
+
+-- a parcel that comes is a stream with all that a stream keeps
+abbrev pub BringsStream : Message Stream → Type 0
+BringsStream (Message.new n) = ⊤
+BringsStream (Message.attach i parcel feed factors) = IsStream parcel
+BringsStream (Message.detach i) = ⊤
+BringsStream (Message.write w) = ⊤
+BringsStream (Message.cork i on) = ⊤
+BringsStream (Message.flush i) = ⊤
+BringsStream (Message.trigger i) = ⊤
+BringsStream (Message.prebuf i) = ⊤
+BringsStream (Message.drain i tag) = ⊤
+BringsStream (Message.attr i attr) = ⊤
+BringsStream (Message.factors each) = ⊤
+BringsStream (Message.query i tag) = ⊤
+
+-- the messages that a sink may be given: orderly from its inputs, and with streams for parcels
+pub record AreFor (sink : Sink) (messages : List (Message Stream)) : Type 0 where
+  pub orderly : IsOrderly Stream.spec sink.spec (specs_of sink.inputs) messages
+  pub parcels : AllByRecursion BringsStream messages

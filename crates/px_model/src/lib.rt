@@ -5,9 +5,13 @@
 mod data;
 mod going;
 mod held;
+mod keeping;
 mod rows;
+mod turns;
 
 pub use data::{Attr, Run, Seek};
 pub use going::going_adds_up;
 pub use held::{going_drops_the_past, places_are_a_map, write_changes_its_indices};
+pub use keeping::stream_keeps;
 pub use rows::worked_rows;
+pub use turns::{sink_keeps, turn_mixes_from_its_horizon};
