@@ -9,3 +9,4 @@ pub mod Pointwise
 pub mod Kept
 pub mod Inputs
 pub mod Rounds
+pub mod Decided

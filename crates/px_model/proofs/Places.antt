@@ -118,3 +118,8 @@ join_range f h m n e =
     let same : Some (f k) ≡ Some (h (k - m)) = ap (λ x. Some x) (sym (e (k - m) (omega arith) ∙ ap f whole)) in
     same ∙ sym (get_right (map f (range_with_len 0 m)) (map h (range_with_len 0 n)) (k - m) k (omega (arith, length-map-range_with_len f 0 m)) ∙ get-range h 0 n (k - m) (k - m) (omega arith) (omega arith)))
     (cases_lt k m))
+
+pub got_elem : {X : Type 0} (xs : List X) (k : ℕ) → k < length xs → IsSome (slice_get xs k)
+got_elem [] k h = absurd (omega arith)
+got_elem (x ∷ xs) zero h = refl
+got_elem (x ∷ xs) (suc k) h = got_elem xs k (omega arith)

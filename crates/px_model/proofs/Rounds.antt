@@ -63,7 +63,7 @@ told_inputs sink keeps n mixed messages a =
     each_keeps (asked_stream mixed) (asked_keeps mixed) (told (settled sink n) messages).inputs
     (messages_keep sink.spec (specs_of sink.inputs) ((settled sink n).filled - (settled sink n).horizon) messages a.orderly a.parcels (settled sink n).inputs (settled_inputs sink keeps n))
 
-length-mixed : (samples : Samples) (sink : Sink) (n m : ℕ) (buffer : List Frame) (inputs : List Input) → length (take n buffer ++ map (mix_of samples sink.spec (streams_of inputs)) (range_with_len 0 m)) ≡ min n (length buffer) + m
+pub length-mixed : (samples : Samples) (sink : Sink) (n m : ℕ) (buffer : List Frame) (inputs : List Input) → length (take n buffer ++ map (mix_of samples sink.spec (streams_of inputs)) (range_with_len 0 m)) ≡ min n (length buffer) + m
 length-mixed samples sink n m buffer inputs =
     omega (arith, length-append (take n buffer) (map (mix_of samples sink.spec (streams_of inputs)) (range_with_len 0 m)), length-take n buffer, length-map-range_with_len (mix_of samples sink.spec (streams_of inputs)) 0 m)
 

@@ -1,5 +1,5 @@
 -- The history of a sink, and the turn that decides a frame. Own: PulseAudio has no such notion, and its rewind is to give the same frames.
-use Rattle.std.specs.Prelude.{ℕ, ◌-◌, ◌≤◌, ◌≡◌, false, List, [], ◌∷◌, ◌++◌, Option, Some, None, nat_le, if◌then◌else◌, ⊤, option_map}
+use Rattle.std.specs.Prelude.{ℕ, ◌-◌, ◌<◌, ◌≤◌, ◌≡◌, false, List, [], ◌∷◌, ◌++◌, Option, Some, None, nat_le, if◌then◌else◌, ⊤, option_map}
 use Rattle.std.specs.Option.{option_or}
 use Rattle.px_model.specs.Frame.{Frame}
 use Rattle.px_model.specs.Stream.{Stream}
@@ -58,3 +58,18 @@ deciding samples sink (e ∷ history) f =
 -- what the deciding turn makes of frame f
 abbrev pub decided : Samples → Sink → List Entry → ℕ → Option Frame
 decided samples sink history f = option_map (frame_mixed samples f) (deciding samples sink history f)
+
+-- every turn of the history leaves a horizon past frame f
+abbrev pub ArePast : Samples → Sink → List Entry → ℕ → Type 0
+ArePast samples sink [] f = ⊤
+ArePast samples sink (e ∷ history) f = (f < (sink_after samples sink e).horizon) × ArePast samples (sink_after samples sink e) history f
+
+-- a turn of the history left the sink as it is, with a horizon of at most f, and every later one left a horizon past f
+pub record IsLastReaching (samples : Samples) (start : Sink) (history : List Entry) (f : ℕ) (sink : Sink) : Type 0 where
+  pub earlier : List Entry
+  pub entry : Entry
+  pub later : List Entry
+  pub whole : history ≡ earlier ++ (entry ∷ later)
+  pub left : sink ≡ sink_after samples (replay samples start earlier) entry
+  pub reached : sink.horizon ≤ f
+  pub passed : ArePast samples sink later f

@@ -3,6 +3,7 @@
 #![tactic(auto)]
 
 mod data;
+mod deciding;
 mod going;
 mod held;
 mod keeping;
@@ -10,6 +11,7 @@ mod rows;
 mod turns;
 
 pub use data::{Attr, Run, Seek};
+pub use deciding::played_frames_are_decided;
 pub use going::going_adds_up;
 pub use held::{going_drops_the_past, places_are_a_map, write_changes_its_indices};
 pub use keeping::stream_keeps;
