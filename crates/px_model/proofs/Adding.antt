@@ -96,10 +96,10 @@ plays s c h = ap (λ x. x || is_held_short s) c ∙ h
 abbrev ran_out : Stream → ℕ → Bool
 ran_out s k = nat_lt 0 s.attr.prebuf && nat_lt (left_of s) k
 
-given_waiting : (s : Stream) (k : ℕ) → is_waiting s ≡ true → given_of s k ≡ 0
+pub given_waiting : (s : Stream) (k : ℕ) → is_waiting s ≡ true → given_of s k ≡ 0
 given_waiting s k w = cond-true (is_waiting s) 0 (min k (left_of s)) w
 
-given_playing : (s : Stream) (k : ℕ) → is_waiting s ≡ false → given_of s k ≡ min k (left_of s)
+pub given_playing : (s : Stream) (k : ℕ) → is_waiting s ≡ false → given_of s k ≡ min k (left_of s)
 given_playing s k w = cond-false (is_waiting s) 0 (min k (left_of s)) w
 
 given_splits : (p n a b : ℕ) → min (a + b) n ≡ min a n + cond (nat_lt 0 p && nat_lt n a) 0 (min b (n - a))
@@ -113,7 +113,7 @@ given_of_played s keeps a b w c =
     given_playing s (a + b) w ∙ given_splits s.attr.prebuf (left_of s) a b
     ∙ (λ i. sym (given_playing s a w) i + sym (given_next s keeps a b c) i)
 
-given_none : (s : Stream) → given_of s 0 ≡ 0
+pub given_none : (s : Stream) → given_of s 0 ≡ 0
 given_none s = cond_both (is_waiting s) 0 (min 0 (left_of s)) (λ x. x ≡ 0) (λ e. refl) (λ e. omega arith)
 
 none_more : (x y : ℕ) → x ≡ 0 → y ≡ x + y

@@ -10,3 +10,4 @@ pub mod Kept
 pub mod Inputs
 pub mod Rounds
 pub mod Decided
+pub mod Joined

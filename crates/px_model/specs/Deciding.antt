@@ -7,7 +7,7 @@ use Rattle.px_model.specs.Message.{Message}
 use Rattle.px_model.specs.Notice.{Notice}
 use Rattle.px_model.specs.Mix.{Samples}
 use Rattle.px_model.specs.Sink.{Sink}
-use Rattle.px_model.specs.Turn.{frame_mixed, turned, stopped_turn, turn_notices, stopped_notices, played_by}
+use Rattle.px_model.specs.Turn.{AreFor, frame_mixed, turned, stopped_turn, turn_notices, stopped_notices, played_by}
 
 -- a turn with the frames that its sync consumed, or one whose sync failed, and the messages taken
 pub data Entry : Type 0 where
@@ -47,6 +47,15 @@ CanBe sink (stop messages) = ⊤
 abbrev pub IsHistory : Samples → Sink → List Entry → Type 0
 IsHistory samples sink [] = ⊤
 IsHistory samples sink (e ∷ history) = CanBe sink e × IsHistory samples (sink_after samples sink e) history
+
+-- each turn's messages are those that the sink may be given
+abbrev pub messages_of : Entry → List (Message Stream)
+messages_of (turn n messages) = messages
+messages_of (stop messages) = messages
+
+abbrev pub IsOrderlyHistory : Samples → Sink → List Entry → Type 0
+IsOrderlyHistory samples sink [] = ⊤
+IsOrderlyHistory samples sink (e ∷ history) = AreFor sink (messages_of e) × IsOrderlyHistory samples (sink_after samples sink e) history
 
 -- the sink as the deciding turn of frame f left it: the last turn of the history whose horizon is at most f
 abbrev pub deciding : Samples → Sink → List Entry → ℕ → Option Sink

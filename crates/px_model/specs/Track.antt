@@ -1,5 +1,5 @@
 -- The track of an input: the stream indices that it settles over a history of one sink. Own.
-use Rattle.std.specs.Prelude.{ℕ, ◌+◌, ◌-◌, ◌≡◌, ◌⊎◌, ℤ, ◌≤ℤ◌, Bool, not, ◌&&◌, IsTrue, List, [], ◌∷◌, ◌++◌, map, Option, Some, None, nat_lt, ◌==◌, if◌then◌else◌, ⊤}
+use Rattle.std.specs.Prelude.{ℕ, ◌+◌, ◌-◌, ◌≡◌, ◌⊎◌, ℤ, ◌≤ℤ◌, Bool, not, ◌&&◌, IsTrue, List, [], ◌∷◌, ◌++◌, map, flat_map, Option, Some, None, nat_lt, ◌==◌, if◌then◌else◌, ⊤}
 use Rattle.std.specs.List.{range_with_len}
 use Rattle.px_model.specs.Index.{onward}
 use Rattle.px_model.specs.Stream.{Stream, left_of, is_waiting}
@@ -8,7 +8,7 @@ use Rattle.px_model.specs.Message.{Message}
 use Rattle.px_model.specs.Mix.{Samples}
 use Rattle.px_model.specs.Sink.{Sink, stream_at}
 use Rattle.px_model.specs.Turn.{next_horizon}
-use Rattle.px_model.specs.Deciding.{Entry, turn, stop, sink_after}
+use Rattle.px_model.specs.Deciding.{Entry, turn, stop, sink_after, messages_of}
 
 -- one going forward: from an index so many frames on, and whether the read index ran on past them, without prebuffering
 pub record Stretch : Type 0 where
@@ -38,6 +38,18 @@ track_of samples sink (e ∷ history) i =
 abbrev pub indices_of : Stretch → List ℤ
 indices_of stretch = map (onward stretch.from) (range_with_len 0 stretch.count)
 
+abbrev pub indices_of_all : List Stretch → List ℤ
+indices_of_all track = flat_map indices_of track
+
+-- each index lies above the one before it, and the first at or past a bound
+abbrev pub RiseFrom : ℤ → List ℤ → Type 0
+RiseFrom bound [] = ⊤
+RiseFrom bound (i ∷ indices) = (bound ≤ℤ i) × RiseFrom (onward i 1) indices
+
+abbrev pub Rise : List ℤ → Type 0
+Rise [] = ⊤
+Rise (i ∷ indices) = RiseFrom (onward i 1) indices
+
 -- a stretch begins where the one before it ended, or past it where that one ran on
 pub record Follows (before next : Stretch) : Type 0 where
   pub joined : (next.from ≡ onward before.from before.count) ⊎ IsTrue before.ran_on
@@ -48,7 +60,12 @@ IsJoined [] = ⊤
 IsJoined (x ∷ []) = ⊤
 IsJoined (x ∷ y ∷ track) = Follows x y × IsJoined (y ∷ track)
 
--- how often a list of messages opens an input, and how often a history does
+-- 1 where a stream is there
+abbrev pub presence_of : Option Stream → ℕ
+presence_of None = 0
+presence_of (Some s) = 1
+
+-- how often a message opens an input, and how often all of them and a history do
 abbrev pub opens : ℕ → Message Stream → ℕ
 opens i (Message.new n) = if n.input == i then 1 else 0
 opens i (Message.attach j parcel feed factors) = if j == i then 1 else 0
@@ -66,10 +83,6 @@ opens i (Message.query j tag) = 0
 abbrev pub all_opens : ℕ → List (Message Stream) → ℕ
 all_opens i [] = 0
 all_opens i (m ∷ messages) = opens i m + all_opens i messages
-
-abbrev pub messages_of : Entry → List (Message Stream)
-messages_of (turn n messages) = messages
-messages_of (stop messages) = messages
 
 abbrev pub history_opens : ℕ → List Entry → ℕ
 history_opens i [] = 0

@@ -8,6 +8,7 @@ mod going;
 mod held;
 mod keeping;
 mod rows;
+mod tracks;
 mod turns;
 
 pub use data::{Attr, Run, Seek};
@@ -16,4 +17,5 @@ pub use going::going_adds_up;
 pub use held::{going_drops_the_past, places_are_a_map, write_changes_its_indices};
 pub use keeping::stream_keeps;
 pub use rows::worked_rows;
+pub use tracks::tracks_are_joined;
 pub use turns::{sink_keeps, turn_mixes_from_its_horizon};
