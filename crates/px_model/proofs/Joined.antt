@@ -1,5 +1,5 @@
 -- The track of an input is joined, but where the read index ran on, and rises.
-use Rattle.std.proofs.Common.{◌≡◌, ℕ, zero, suc, ◌+◌, ◌≤◌, min, List, [], ◌∷◌, ◌++◌, map, length, Option, Some, None, Bool, true, false, refl, ap, sym, subst, ◌∙◌, arith, cond, ⊎_elim, inl, inr, ◌⊎◌}
+use Rattle.std.proofs.Common.{◌≡◌, ℕ, zero, suc, ◌+◌, ◌≤◌, min, List, [], ◌∷◌, ◌++◌, map, Option, Some, None, Bool, true, false, refl, ap, sym, subst, ◌∙◌, arith, cond, ⊎_elim, inl, inr, ◌⊎◌}
 use Rattle.std.specs.Prelude.{nat_lt, ◌==◌, not, ◌&&◌, ℤ, ◌≤ℤ◌, option_map, ⊤, IsTrue}
 use Rattle.std.specs.List.{range_with_len, AllByRecursion}
 use Rattle.std.proofs.lemmas.Option.{none-some, same_Some}
@@ -7,19 +7,24 @@ use Rattle.std.proofs.lemmas.Bool.{false≢true, cond_both, cases_Bool, ltb-fals
 use Rattle.std.proofs.lemmas.Int.{ints}
 use Rattle.px_model.specs.Index.{onward, above, LAST}
 use Rattle.px_model.specs.Frame.{Frame, frame_size, frames_of}
-use Rattle.px_model.specs.Stream.{Stream, IsStream, left_of, is_waiting}
-use Rattle.px_model.specs.Going.{after, played_on, given_of, run_after, ahead_of}
-use Rattle.px_model.specs.Write.{Outcome, stored, overflow, outside, stream_with, target_of, outcome_of}
+use Rattle.px_model.specs.Queue.{Queue, IsQueue, left_of, is_held_short}
+use Rattle.px_model.specs.Stream.{Stream, IsStream}
+use Rattle.px_model.specs.Going.{after, given_of, queue_given, queue_after, queue_on}
+use Rattle.px_model.specs.Write.{Outcome, stored, overflow, outside, queue_with, target_of}
 use Rattle.px_model.specs.Control.{corked_to, triggered, prebuffered, flushed, drained_by, with_attr, with_factors, new_stream, attached}
 use Rattle.px_model.specs.Message.{Message, InputFactors}
 use Rattle.px_model.specs.Mix.{Samples}
 use Rattle.px_model.specs.Sink.{Sink, Input, IsSink, stream_at, with_input, without_input, with_stream, with_change}
-use Rattle.px_model.specs.Turn.{inputs_with, inputs_with_all, with_each_factors, written_by, seek_of, asked_stream, AreFor}
+use Rattle.px_model.specs.Turn.{inputs_with, inputs_with_all, with_each_factors, written_by, write_outcome, seek_of, asked_stream, AreFor}
 use Rattle.px_model.specs.Deciding.{Entry, turn, stop, sink_after, CanBe, IsHistory, IsOrderlyHistory, messages_of}
 use Rattle.px_model.specs.Track.{Stretch, stretch_of, stretches_from, track_of, forward_by, IsJoined, presence_of, opens, all_opens, history_opens, indices_of_all, RiseFrom, Rise}
-use Rattle.px_model.proofs.Forward.{step_of, played_step, left_fits}
-use Rattle.px_model.proofs.Adding.{after_by, waits_corked, waits_short, plays, given_playing, given_waiting, given_none}
+use Rattle.px_model.proofs.Forward.{step_of, on_step, left_fits, after_by}
+use Rattle.px_model.proofs.Adding.{given_short, given_on, given_none as queue_given_none}
+use Rattle.px_model.proofs.Streams.{stream_on, stream_by, given_open, given_corked, given_none}
 use Rattle.px_model.proofs.Rounds.{turn_keeps, stop_keeps}
+
+abbrev read_of : Stream → ℤ
+read_of s = s.queue.read
 
 -- ---- what a message does to the stream of an input: it may leave, and its read index stays
 
@@ -27,7 +32,7 @@ abbrev KeepsRead : Option Stream → Option Stream → Type 0
 KeepsRead None None = ⊤
 KeepsRead None (Some t) = ⊥
 KeepsRead (Some s) None = ⊤
-KeepsRead (Some s) (Some t) = Stream.read t ≡ Stream.read s
+KeepsRead (Some s) (Some t) = read_of t ≡ read_of s
 
 keeps_same : (o : Option Stream) → KeepsRead o o
 keeps_same None = tt
@@ -54,21 +59,21 @@ one_at_most (Some s) = omega arith
 
 -- ---- look-ups after a change
 
-keeps_here : (b : Bool) (s t : Stream) (o p : Option Stream) → Stream.read t ≡ Stream.read s → KeepsRead o p → KeepsRead (cond b (Some s) o) (cond b (Some t) p)
+keeps_here : (b : Bool) (s t : Stream) (o p : Option Stream) → read_of t ≡ read_of s → KeepsRead o p → KeepsRead (cond b (Some s) o) (cond b (Some t) p)
 keeps_here true s t o p e h = e
 keeps_here false s t o p e h = h
 
-at_map : (i : ℕ) (f : Input → Input) → ((x : Input) → Input.index (f x) ≡ Input.index x) → ((x : Input) → Stream.read (Input.stream (f x)) ≡ Stream.read (Input.stream x)) → (xs : List Input) → KeepsRead (stream_at i xs) (stream_at i (map f xs))
+at_map : (i : ℕ) (f : Input → Input) → ((x : Input) → Input.index (f x) ≡ Input.index x) → ((x : Input) → read_of (Input.stream (f x)) ≡ read_of (Input.stream x)) → (xs : List Input) → KeepsRead (stream_at i xs) (stream_at i (map f xs))
 at_map i f e r [] = tt
 at_map i f e r (x ∷ xs) =
     subst (λ n. KeepsRead (cond (x.index == i) (Some x.stream) (stream_at i xs)) (cond (n == i) (Some (Input.stream (f x))) (stream_at i (map f xs)))) (sym (e x))
     (keeps_here (x.index == i) x.stream (Input.stream (f x)) (stream_at i xs) (stream_at i (map f xs)) (r x) (at_map i f e r xs))
 
-at_change : (i j : ℕ) (f : Stream → Stream) → ((s : Stream) → Stream.read (f s) ≡ Stream.read s) → (xs : List Input) → KeepsRead (stream_at i xs) (stream_at i (with_change j f xs))
+at_change : (i j : ℕ) (f : Stream → Stream) → ((s : Stream) → read_of (f s) ≡ read_of s) → (xs : List Input) → KeepsRead (stream_at i xs) (stream_at i (with_change j f xs))
 at_change i j f r xs =
     at_map i (λ x. cond (Input.index x == j) (with_stream f x) x)
     (λ x. cond_both (x.index == j) (with_stream f x) x (λ y. Input.index y ≡ x.index) (λ e. refl) (λ e. refl))
-    (λ x. cond_both (x.index == j) (with_stream f x) x (λ y. Stream.read (Input.stream y) ≡ Stream.read x.stream) (λ e. r x.stream) (λ e. refl))
+    (λ x. cond_both (x.index == j) (with_stream f x) x (λ y. read_of (Input.stream y) ≡ read_of x.stream) (λ e. r x.stream) (λ e. refl))
     xs
 
 at_each : (i : ℕ) (f : Stream → Stream) (xs : List Input) → stream_at i (map (with_stream f) xs) ≡ option_map f (stream_at i xs)
@@ -125,10 +130,10 @@ same_with i j s (x ∷ xs) n =
     ∙ ap (λ b. cond b (Some x.stream) (stream_at i xs)) (sym (ap (λ m. m == i) (eqb-true x.index j f) ∙ n)))
     (λ f. ap (λ o. cond (x.index == i) (Some x.stream) o) (same_with i j s xs n)))
 
-written_read : (o : Outcome) (s : Stream) (p : ℤ) (frames : List Frame) → Stream.read (stream_with o s p frames) ≡ s.read
-written_read stored s p frames = refl
-written_read overflow s p frames = refl
-written_read outside s p frames = refl
+written_read : (o : Outcome) (q : Queue) (p : ℤ) (frames : List Frame) → Queue.read (queue_with o q p frames) ≡ q.read
+written_read stored q p frames = refl
+written_read overflow q p frames = refl
+written_read outside q p frames = refl
 
 at_factors : (i : ℕ) (each : List InputFactors) (xs : List Input) → KeepsRead (stream_at i xs) (stream_at i (with_each_factors each xs))
 at_factors i [] xs = keeps_same (stream_at i xs)
@@ -149,8 +154,7 @@ message_reads i mixed (Message.attach j parcel feed factors) xs e =
     keeps_equal (stream_at i xs) _ (same_with i j (attached parcel feed factors) xs (not_opened (j == i) e))
 message_reads i mixed (Message.detach j) xs e = at_without i j xs
 message_reads i mixed (Message.write w) xs e =
-    at_change i w.input (written_by w mixed)
-    (λ s. written_read (outcome_of s (target_of s (seek_of w.seek) w.offset) (length (frames_of (frame_size s.spec) w.frames w.bytes)) (ahead_of s mixed)) s (target_of s (seek_of w.seek) w.offset) (frames_of (frame_size s.spec) w.frames w.bytes)) xs
+    at_change i w.input (written_by w mixed) (λ s. written_read (write_outcome s w mixed) s.queue (target_of s.queue (seek_of w.seek) w.offset) (frames_of (frame_size s.spec) w.frames w.bytes)) xs
 message_reads i mixed (Message.cork j on) xs e = at_change i j (λ s. corked_to s on) (λ s. refl) xs
 message_reads i mixed (Message.flush j) xs e = at_change i j flushed (λ s. refl) xs
 message_reads i mixed (Message.trigger j) xs e = at_change i j triggered (λ s. refl) xs
@@ -232,9 +236,6 @@ step_reaches : (b : Bool) (n m k : ℕ) → n ≤ m → min k n ≤ min k (cond 
 step_reaches true n m k h = omega arith
 step_reaches false n m k h = omega arith
 
-abbrev Meets : Stream → ℕ → Stream → Type 0
-Meets s k t = ((Stream.read t ≡ onward s.read (given_of s k)) ⊎ IsTrue (stretch_of s k).ran_on) × (onward s.read (given_of s k) ≤ℤ Stream.read t)
-
 onward_none : (i : ℤ) (n : ℕ) → n ≡ 0 → i ≡ onward i n
 onward_none i n e = omega (arith, ints)
 
@@ -244,33 +245,55 @@ rises_none i n e = omega (arith, ints)
 onward_rises : (i : ℤ) (m n : ℕ) → m ≤ n → onward i m ≤ℤ onward i n
 onward_rises i m n h = omega (arith, ints)
 
-meets_still : (s t : Stream) (k : ℕ) → Stream.read t ≡ s.read → given_of s k ≡ 0 → Meets s k t
-meets_still s t k e g = (inl (e ∙ onward_none s.read (given_of s k) g), subst (λ i. onward s.read (given_of s k) ≤ℤ i) (sym e) (rises_none s.read (given_of s k) g))
-
 short_or_all : (b : Bool) (n k : ℕ) → (b && nat_lt n k) ≡ false → b ≡ true → k ≤ n
 short_or_all true n k e h = ltb-false n k e
 short_or_all false n k e h = absurd (false≢true h)
 
-meets_playing : (s : Stream) → IsStream s → (k : ℕ) → is_waiting s ≡ false → Meets s k (played_on s k)
-meets_playing s keeps k w =
-    let given : given_of s k ≡ min k (left_of s) = given_playing s k w in
-    let read : Stream.read (played_on s k) ≡ onward s.read (step_of s k) = ap Stream.read (played_step s keeps k) in
-    let reaches : given_of s k ≤ step_of s k = subst (λ n. n ≤ step_of s k) (sym given) (step_reaches (s.attr.prebuf == 0) (left_of s) (above LAST s.read) k (left_fits s keeps)) in (
+-- a read index after n frames were given of k, where the queue ran on or not
+abbrev Ends : ℤ → ℕ → Bool → ℤ → Type 0
+Ends from n ran i = ((i ≡ onward from n) ⊎ IsTrue ran) × (onward from n ≤ℤ i)
+
+abbrev queue_ran : Queue → ℕ → Bool
+queue_ran q k = not (is_held_short q) && q.prebuf == 0 && nat_lt (left_of q) k
+
+ends_still : (from : ℤ) (n : ℕ) (ran : Bool) → n ≡ 0 → Ends from n ran from
+ends_still from n ran e = (inl (onward_none from n e), rises_none from n e)
+
+ends_on : (q : Queue) → IsQueue q → (k : ℕ) → is_held_short q ≡ false → Ends q.read (queue_given q k) (queue_ran q k) (queue_on q k).read
+ends_on q keeps k w =
+    let given : queue_given q k ≡ min k (left_of q) = given_on q k w in
+    let read : (queue_on q k).read ≡ onward q.read (step_of q k) = ap Queue.read (on_step q keeps k) in
+    let reaches : queue_given q k ≤ step_of q k = subst (λ n. n ≤ step_of q k) (sym given) (step_reaches (q.prebuf == 0) (left_of q) (above LAST q.read) k (left_fits q keeps)) in (
       ⊎_elim
-          (λ (e : (s.attr.prebuf == 0 && nat_lt (left_of s) k) ≡ true). inr (ap (λ b. not b && s.attr.prebuf == 0 && nat_lt (left_of s) k) w ∙ e))
-          (λ (e : (s.attr.prebuf == 0 && nat_lt (left_of s) k) ≡ false).
-          inl (read ∙ ap (onward s.read) (step_meets (s.attr.prebuf == 0) (left_of s) (above LAST s.read) k (left_fits s keeps) (short_or_all (s.attr.prebuf == 0) (left_of s) k e) ∙ sym given)))
-          (cases_Bool (s.attr.prebuf == 0 && nat_lt (left_of s) k)),
-      subst (λ i. onward s.read (given_of s k) ≤ℤ i) (sym read) (onward_rises s.read (given_of s k) (step_of s k) reaches),
+          (λ (e : (q.prebuf == 0 && nat_lt (left_of q) k) ≡ true). inr (ap (λ b. not b && q.prebuf == 0 && nat_lt (left_of q) k) w ∙ e))
+          (λ (e : (q.prebuf == 0 && nat_lt (left_of q) k) ≡ false).
+          inl (read ∙ ap (onward q.read) (step_meets (q.prebuf == 0) (left_of q) (above LAST q.read) k (left_fits q keeps) (short_or_all (q.prebuf == 0) (left_of q) k e) ∙ sym given)))
+          (cases_Bool (q.prebuf == 0 && nat_lt (left_of q) k)),
+      subst (λ i. onward q.read (queue_given q k) ≤ℤ i) (sym read) (onward_rises q.read (queue_given q k) (step_of q k) reaches),
     )
 
+queue_ends : (q : Queue) → IsQueue q → (k : ℕ) → Ends q.read (queue_given q k) (queue_ran q k) (queue_after q k).read
+queue_ends q keeps zero = ends_still q.read (queue_given q 0) (queue_ran q 0) (queue_given_none q)
+queue_ends q keeps (suc k) =
+    after_by (λ t. Ends q.read (queue_given q (suc k)) (queue_ran q (suc k)) (Queue.read t)) q (suc k) (omega arith)
+    (λ h. ends_still q.read (queue_given q (suc k)) (queue_ran q (suc k)) (given_short q (suc k) h))
+    (λ h. ends_on q keeps (suc k) h)
+
+abbrev Meets : Stream → ℕ → Stream → Type 0
+Meets s k t = Ends s.queue.read (given_of s k) (stretch_of s k).ran_on t.queue.read
+
+meets_open : (s : Stream) → IsStream s → (k : ℕ) → s.corked ≡ false → Meets s k (stream_on s k)
+meets_open s keeps k c =
+    let ends : Ends s.queue.read (queue_given s.queue k) (queue_ran s.queue k) (queue_after s.queue k).read = queue_ends s.queue keeps.queue_kept k in
+    subst (λ n. Ends s.queue.read n (stretch_of s k).ran_on (queue_after s.queue k).read) (sym (given_open s k c))
+    (subst (λ b. Ends s.queue.read (queue_given s.queue k) (not b && not (is_held_short s.queue) && s.queue.prebuf == 0 && nat_lt (left_of s.queue) k) (queue_after s.queue k).read) (sym c) ends)
+
 meets : (s : Stream) → IsStream s → (k : ℕ) → Meets s k (after s k)
-meets s keeps zero = meets_still s s 0 refl (given_none s)
+meets s keeps zero = ends_still s.queue.read (given_of s 0) (stretch_of s 0).ran_on (given_none s)
 meets s keeps (suc k) =
-    after_by (Meets s (suc k)) s (suc k) (omega arith)
-    (λ c. meets_still s s (suc k) refl (given_waiting s (suc k) (waits_corked s c)))
-    (λ c h. meets_still s (record s { run = run_after s.run 0 (suc k) }) (suc k) refl (given_waiting s (suc k) (waits_short s h)))
-    (λ c h. meets_playing s keeps (suc k) (plays s c h))
+    stream_by (Meets s (suc k)) s (suc k) (omega arith)
+    (λ c. ends_still s.queue.read (given_of s (suc k)) (stretch_of s (suc k)).ran_on (given_corked s (suc k) c))
+    (λ c. meets_open s keeps (suc k) c)
 
 -- ---- over a history
 
@@ -279,10 +302,10 @@ abbrev Begins : ℤ → List Stretch → Type 0
 Begins read [] = ⊤
 Begins read (x ∷ track) = Stretch.from x ≡ read
 
-begins_at : (samples : Samples) (sink : Sink) (history : List Entry) (i : ℕ) (s : Stream) → stream_at i sink.inputs ≡ Some s → Begins s.read (track_of samples sink history i)
+begins_at : (samples : Samples) (sink : Sink) (history : List Entry) (i : ℕ) (s : Stream) → stream_at i sink.inputs ≡ Some s → Begins s.queue.read (track_of samples sink history i)
 begins_at samples sink [] i s e = tt
 begins_at samples sink (x ∷ history) i s e =
-    subst (λ o. Begins s.read (stretches_from o (forward_by sink x) ++ track_of samples (sink_after samples sink x) history i)) (sym e) refl
+    subst (λ o. Begins s.queue.read (stretches_from o (forward_by sink x) ++ track_of samples (sink_after samples sink x) history i)) (sym e) refl
 
 none_stays : (p : Option Stream) → KeepsRead None p → p ≡ None
 none_stays None h = refl
@@ -318,11 +341,11 @@ stream_kept i (x ∷ xs) s k e =
     (cases_Bool (x.index == i))
 
 -- what follows a stretch of a stream that is there
-follow : (s : Stream) → IsStream s → (k : ℕ) (o : Option Stream) (track : List Stretch) → KeepsRead (Some (after s k)) o → ((t : Stream) → o ≡ Some t → Begins (Stream.read t) track) → (o ≡ None → track ≡ []) → IsJoined track → IsJoined (stretch_of s k ∷ track)
+follow : (s : Stream) → IsStream s → (k : ℕ) (o : Option Stream) (track : List Stretch) → KeepsRead (Some (after s k)) o → ((t : Stream) → o ≡ Some t → Begins (read_of t) track) → (o ≡ None → track ≡ []) → IsJoined track → IsJoined (stretch_of s k ∷ track)
 follow s keeps k None track h begins nothing j = subst (λ l. IsJoined (stretch_of s k ∷ l)) (sym (nothing refl)) tt
 follow s keeps k (Some t) track h begins nothing j =
-    let ends : Meets s k t = subst (λ i. ((i ≡ onward s.read (given_of s k)) ⊎ IsTrue (stretch_of s k).ran_on) × (onward s.read (given_of s k) ≤ℤ i)) (sym h) (meets s keeps k) in
-    join_one (stretch_of s k) (Stream.read t) track ends.0 ends.1 (begins t refl) j
+    let ends : Meets s k t = subst (λ i. Ends s.queue.read (given_of s k) (stretch_of s k).ran_on i) (sym h) (meets s keeps k) in
+    join_one (stretch_of s k) (read_of t) track ends.0 ends.1 (begins t refl) j
 
 pub track_joined : (samples : Samples) (sink : Sink) → IsSink sink → (history : List Entry) → IsHistory samples sink history → IsOrderlyHistory samples sink history
     → (i : ℕ) → presence_of (stream_at i sink.inputs) + history_opens i history ≤ 1 → IsJoined (track_of samples sink history i)

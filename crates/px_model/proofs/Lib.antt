@@ -5,6 +5,7 @@ pub mod Overlay
 pub mod Runs
 pub mod Forward
 pub mod Adding
+pub mod Streams
 pub mod Pointwise
 pub mod Kept
 pub mod Inputs

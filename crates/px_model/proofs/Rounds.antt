@@ -6,7 +6,8 @@ use Rattle.std.specs.Int.{saturate_signed}
 use Rattle.std.specs.List.{AllByRecursion, range_with_len}
 use Rattle.std.proofs.lemmas.List.FromFn.{length-map-range_with_len}
 use Rattle.px_model.specs.Frame.{Frame, SampleSpec, frame_size, frames_of}
-use Rattle.px_model.specs.Stream.{Stream, Ahead, nothing, silence, sound, frame_at}
+use Rattle.px_model.specs.Queue.{Ahead, nothing, silence, sound}
+use Rattle.px_model.specs.Stream.{Stream, frame_at}
 use Rattle.px_model.specs.Going.{after, ahead_of}
 use Rattle.px_model.specs.Write.{target_of}
 use Rattle.px_model.specs.Control.{corked_to, triggered, prebuffered, flushed, drained_by, with_attr, with_factors, new_stream, attached}
@@ -15,7 +16,7 @@ use Rattle.px_model.specs.Orderly.{IsOrderly, Fits, Inputs, inputs_left}
 use Rattle.px_model.specs.Mix.{Samples, mix_of, share_of}
 use Rattle.px_model.specs.Sink.{Sink, Input, IsSink, empty_sink, streams_of, specs_of, with_stream, frame_in}
 use Rattle.px_model.specs.Turn.{AreFor, BringsStream, inputs_with, inputs_with_all, with_each_factors, seek_of, written_by, next_horizon, settled, told, fresh_mix, mixed, asked_stream, turned, halted, stopped_turn, frame_mixed}
-use Rattle.px_model.proofs.Adding.{after_keeps}
+use Rattle.px_model.proofs.Streams.{after_keeps}
 use Rattle.px_model.proofs.Kept.{written_keeps, new_keeps, attached_keeps, corked_keeps, triggered_keeps, prebuffered_keeps, flushed_keeps, drained_keeps, attr_keeps, factors_keep, asked_keeps}
 use Rattle.px_model.proofs.Inputs.{AreInputs, each_keeps, change_keeps, without_keeps, with_keeps}
 use Rattle.px_model.proofs.Places.{get_left, get_right, get-take, get-drop, get-range}
@@ -32,7 +33,7 @@ message_keeps sink there mixed (Message.new n) f b inputs h = with_keeps n.input
 message_keeps sink there mixed (Message.attach i parcel feed factors) f b inputs h = with_keeps i (attached parcel feed factors) inputs (attached_keeps parcel b feed factors) h
 message_keeps sink there mixed (Message.detach i) f b inputs h = without_keeps i inputs h
 message_keeps sink there mixed (Message.write w) f b inputs h =
-    change_keeps w.input (written_by w mixed) (λ s k. written_keeps s k (target_of s (seek_of w.seek) w.offset) (frames_of (frame_size s.spec) w.frames w.bytes) (ahead_of s mixed)) inputs h
+    change_keeps w.input (written_by w mixed) (λ s k. written_keeps s k (target_of s.queue (seek_of w.seek) w.offset) (frames_of (frame_size s.spec) w.frames w.bytes) (ahead_of s mixed)) inputs h
 message_keeps sink there mixed (Message.cork i on) f b inputs h = change_keeps i (λ s. corked_to s on) (λ s k. corked_keeps s k on) inputs h
 message_keeps sink there mixed (Message.flush i) f b inputs h = change_keeps i flushed flushed_keeps inputs h
 message_keeps sink there mixed (Message.trigger i) f b inputs h = change_keeps i triggered triggered_keeps inputs h

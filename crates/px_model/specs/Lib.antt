@@ -1,6 +1,7 @@
 pub mod Index
 pub mod Frame
 pub mod Held
+pub mod Queue
 pub mod Stream
 pub mod Going
 pub mod Write

@@ -3,7 +3,8 @@ use Rattle.std.specs.Prelude.{ℕ, ℤ, pos, ◌+ℤ◌, ◌*ℤ◌, List, map, 
 use Rattle.std.specs.Int.{Width, int_div_euclid, saturate_signed}
 use Rattle.std.specs.List.{range_with_len}
 use Rattle.px_model.specs.Frame.{Frame, SampleSpec, sample_of}
-use Rattle.px_model.specs.Stream.{Stream, Ahead, nothing, silence, sound, frame_at}
+use Rattle.px_model.specs.Queue.{Ahead, nothing, silence, sound}
+use Rattle.px_model.specs.Stream.{Stream, frame_at}
 
 -- What the mix asks of the sample formats, each by its code. The laws hold for any.
 pub record Samples : Type 0 where

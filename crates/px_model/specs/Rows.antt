@@ -198,12 +198,11 @@ stop_history =
 
 abbrev pub stop_parcel : Stream
 stop_parcel = record {
-  held = replicate 170 (Some (s16 (pos 1000)));
-  read = pos 30;
-  write = pos 200;
-  hold = false;
+  queue = record { held = replicate 170 (Some (s16 (pos 1000))); read = pos 30; write = pos 200; hold = false; prebuf = 1 };
   corked = false;
-  attr = usual_attr 1;
+  maxlength = 2097152;
+  tlength = 200;
+  minreq = 1;
   requested = 120;
   draining = [];
   run = Playing 30;

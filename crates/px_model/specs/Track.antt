@@ -2,7 +2,8 @@
 use Rattle.std.specs.Prelude.{ℕ, ◌+◌, ◌-◌, ◌≡◌, ◌⊎◌, ℤ, ◌≤ℤ◌, Bool, not, ◌&&◌, IsTrue, List, [], ◌∷◌, ◌++◌, map, flat_map, Option, Some, None, nat_lt, ◌==◌, if◌then◌else◌, ⊤}
 use Rattle.std.specs.List.{range_with_len}
 use Rattle.px_model.specs.Index.{onward}
-use Rattle.px_model.specs.Stream.{Stream, left_of, is_waiting}
+use Rattle.px_model.specs.Queue.{left_of, is_held_short}
+use Rattle.px_model.specs.Stream.{Stream}
 use Rattle.px_model.specs.Going.{given_of}
 use Rattle.px_model.specs.Message.{Message}
 use Rattle.px_model.specs.Mix.{Samples}
@@ -17,7 +18,11 @@ pub record Stretch : Type 0 where
   pub ran_on : Bool
 
 abbrev pub stretch_of : Stream → ℕ → Stretch
-stretch_of s k = record { from = s.read; count = given_of s k; ran_on = not (is_waiting s) && s.attr.prebuf == 0 && nat_lt (left_of s) k }
+stretch_of s k = record {
+  from = s.queue.read;
+  count = given_of s k;
+  ran_on = not s.corked && not (is_held_short s.queue) && s.queue.prebuf == 0 && nat_lt (left_of s.queue) k;
+}
 
 -- how far a turn goes forward
 abbrev pub forward_by : Sink → Entry → ℕ

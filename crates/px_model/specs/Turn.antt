@@ -7,7 +7,8 @@ use Rattle.px_model.specs.declared.data.Seek.{Seek}
 use Rattle.px_model.specs.declared.data.Seek.TheVariants.{Relative, Absolute, RelativeOnRead, RelativeEnd}
 use Rattle.px_model.specs.Index.{above}
 use Rattle.px_model.specs.Frame.{Frame, frame_size, frames_of}
-use Rattle.px_model.specs.Stream.{Stream, IsStream, left_of}
+use Rattle.px_model.specs.Queue.{left_of}
+use Rattle.px_model.specs.Stream.{Stream, IsStream}
 use Rattle.px_model.specs.Going.{after, ahead_of, given_of}
 use Rattle.px_model.specs.Write.{Outcome, stored, overflow, outside, outcome_of, target_of, written}
 use Rattle.px_model.specs.Control.{new_stream, attached, corked_to, triggered, prebuffered, flushed, drained_by, with_attr, with_factors}
@@ -59,10 +60,10 @@ seek_of (suc (suc (suc n))) = RelativeEnd
 
 -- how a write to a stream ends, and the stream after it, where so many frames are mixed past the horizon
 abbrev pub write_outcome : Stream → FrameWrite → ℕ → Outcome
-write_outcome s w mixed = outcome_of s (target_of s (seek_of w.seek) w.offset) (length (frames_of (frame_size s.spec) w.frames w.bytes)) (ahead_of s mixed)
+write_outcome s w mixed = outcome_of s.queue s.maxlength (target_of s.queue (seek_of w.seek) w.offset) (length (frames_of (frame_size s.spec) w.frames w.bytes)) (ahead_of s mixed)
 
 abbrev pub written_by : FrameWrite → ℕ → Stream → Stream
-written_by w mixed s = written s (target_of s (seek_of w.seek) w.offset) (frames_of (frame_size s.spec) w.frames w.bytes) (ahead_of s mixed)
+written_by w mixed s = written s (target_of s.queue (seek_of w.seek) w.offset) (frames_of (frame_size s.spec) w.frames w.bytes) (ahead_of s mixed)
 
 -- Factors skips inputs that aren't there
 abbrev pub with_each_factors : List InputFactors → List Input → List Input
@@ -93,7 +94,7 @@ refusal_of i outside = Notice.overflow i ∷ []
 -- where a stream stands, with so many frames mixed past the horizon and so many in the buffer
 abbrev pub latency_of : ℕ → ℕ → Stream → Latency
 latency_of mixed buffered s = record {
-  write = s.write;
+  write = s.queue.write;
   read = ahead_of s mixed;
   buffered = buffered;
   playing = not s.corked && is_playing (after s mixed).run;
@@ -156,15 +157,15 @@ mixed samples sink = record sink {
 
 -- nothing is left at the horizon
 abbrev pub has_ended : Stream → Bool
-has_ended s = left_of s == 0
+has_ended s = left_of s.queue == 0
 
 -- the frames that tlength asks for past those that wait and those asked for already, with so many frames mixed past the horizon
 abbrev pub missing_of : Stream → ℕ → ℕ
-missing_of s mixed = s.attr.tlength - above s.write (ahead_of s mixed) - s.requested
+missing_of s mixed = s.tlength - above s.queue.write (ahead_of s mixed) - s.requested
 
 -- the frames of the request: all that are missing, where they are at least minreq
 abbrev pub request_of : Stream → ℕ → ℕ
-request_of s mixed = if nat_le s.attr.minreq (missing_of s mixed) then missing_of s mixed else 0
+request_of s mixed = if nat_le s.minreq (missing_of s mixed) then missing_of s mixed else 0
 
 abbrev pub asked_stream : ℕ → Stream → Stream
 asked_stream mixed s = record s {
@@ -175,7 +176,7 @@ asked_stream mixed s = record s {
 abbrev pub asked_notices : ℕ → Input → List (Notice Stream)
 asked_notices mixed x =
     (if has_ended x.stream then map (λ tag. Notice.drained x.index tag) x.stream.draining else [])
-    ++ (if nat_le x.stream.attr.minreq (missing_of x.stream mixed) then Notice.request x.index (missing_of x.stream mixed) ∷ [] else [])
+    ++ (if nat_le x.stream.minreq (missing_of x.stream mixed) then Notice.request x.index (missing_of x.stream mixed) ∷ [] else [])
 
 -- the sink after the fourth step
 abbrev pub asked : Sink → Sink

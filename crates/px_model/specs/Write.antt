@@ -5,43 +5,47 @@ use Rattle.px_model.specs.declared.data.Seek.TheVariants.{Relative, Absolute, Re
 use Rattle.px_model.specs.Index.{above, onward, is_index}
 use Rattle.px_model.specs.Frame.{Frame}
 use Rattle.px_model.specs.Held.{written_over}
-use Rattle.px_model.specs.Stream.{Stream, end_of}
+use Rattle.px_model.specs.Queue.{Queue, end_of}
+use Rattle.px_model.specs.Stream.{Stream}
 
 -- what the offset counts from
-abbrev pub origin_of : Stream → Seek → ℤ
-origin_of s Relative = s.write
-origin_of s Absolute = pos 0
-origin_of s RelativeOnRead = s.read
-origin_of s RelativeEnd = end_of s
+abbrev pub origin_of : Queue → Seek → ℤ
+origin_of q Relative = q.write
+origin_of q Absolute = pos 0
+origin_of q RelativeOnRead = q.read
+origin_of q RelativeEnd = end_of q
 
 -- the index at which the frames are to stand
-abbrev pub target_of : Stream → Seek → ℤ → ℤ
-target_of s seek offset = origin_of s seek +ℤ offset
+abbrev pub target_of : Queue → Seek → ℤ → ℤ
+target_of q seek offset = origin_of q seek +ℤ offset
 
 pub data Outcome : Type 0 where
   stored : Outcome
   overflow : Outcome
   outside : Outcome
 
--- how a write of l frames at index p ends, where the read index is a once all rendered frames are given:
--- outside where it leaves the range of indices; overflow where it goes past the end and past maxlength frames from a; else stored
-abbrev pub outcome_of : Stream → ℤ → ℕ → ℤ → Outcome
-outcome_of s p l a =
+-- how a write of l frames at index p ends, where at most limit frames may wait past the ahead index a:
+-- outside where it leaves the range of indices; overflow where it goes past the end and past that limit; else stored
+abbrev pub outcome_of : Queue → ℕ → ℤ → ℕ → ℤ → Outcome
+outcome_of q limit p l a =
     if not (is_index p && is_index (onward p l)) then outside
-    else (if int_lt (end_of s) (onward p l) && nat_lt s.attr.maxlength (above (onward p l) a) then overflow else stored)
+    else (if int_lt (end_of q) (onward p l) && nat_lt limit (above (onward p l) a) then overflow else stored)
 
--- the stream after each outcome
-abbrev pub stream_with : Outcome → Stream → ℤ → List Frame → Stream
-stream_with outside s p frames = s
-stream_with overflow s p frames = record s {
-  write = onward p (length frames);
-  requested = s.requested - length frames;
-}
-stream_with stored s p frames = record s {
-  held = written_over s.read p frames s.held;
-  write = onward p (length frames);
-  requested = s.requested - length frames;
-}
+-- the queue after each outcome
+abbrev pub queue_with : Outcome → Queue → ℤ → List Frame → Queue
+queue_with outside q p frames = q
+queue_with overflow q p frames = record q { write = onward p (length frames) }
+queue_with stored q p frames = record q { held = written_over q.read p frames q.held; write = onward p (length frames) }
 
+-- the frames that are asked for no more
+abbrev pub requested_with : Outcome → ℕ → ℕ → ℕ
+requested_with outside requested l = requested
+requested_with overflow requested l = requested - l
+requested_with stored requested l = requested - l
+
+-- the stream after a write at index p, where a is the ahead index
 abbrev pub written : Stream → ℤ → List Frame → ℤ → Stream
-written s p frames a = stream_with (outcome_of s p (length frames) a) s p frames
+written s p frames a = record s {
+  queue = queue_with (outcome_of s.queue s.maxlength p (length frames) a) s.queue p frames;
+  requested = requested_with (outcome_of s.queue s.maxlength p (length frames) a) s.requested (length frames);
+}

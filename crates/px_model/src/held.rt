@@ -1,10 +1,10 @@
-//! Laws of what a stream holds: a list of places from the read index on, which stands for a map from index to frame.
+//! Laws of what a queue holds: a list of places from the read index on, which stands for a map from index to frame.
 ghost use Rattle.std.specs.Prelude.{◌≡◌, ◌<◌, ◌≤◌, ◌⊎◌, List, Option, None, length, slice_get, ℕ, ℤ, ◌≤ℤ◌, ◌<ℤ◌};
 ghost use Rattle.px_model.specs.Index.{onward, above};
 ghost use Rattle.px_model.specs.Frame.{Frame};
 ghost use Rattle.px_model.specs.Held.{frame_of, places_of, written_over, overlay, IsTrimmed};
-ghost use Rattle.px_model.specs.Stream.{Stream, IsStream, frame_held, left_of, edge_of};
-ghost use Rattle.px_model.specs.Going.{after};
+ghost use Rattle.px_model.specs.Queue.{Queue, IsQueue, frame_held, left_of, edge_of};
+ghost use Rattle.px_model.specs.Going.{queue_after};
 
 /// The list of places and the finite map from index to frame give each other: nothing is held below the read index
 /// nor past the list, the list comes back from its map and the map from its list, and equal maps are equal lists.
@@ -37,8 +37,8 @@ pub fn write_changes_its_indices()
 /// Going forward never moves the read index back, and keeps every frame at or past the new one; the frames that are
 /// left reach from the read index to the edge. Source: PulseAudio's `pa_memblockq_drop`.
 pub fn going_drops_the_past()
-    ensures rises { (s : Stream) → IsStream s → (k : ℕ) → s.read ≤ℤ (after s k).read }
-    ensures kept { (s : Stream) → IsStream s → (k : ℕ) (i : ℤ) → (after s k).read ≤ℤ i
-        → frame_held (after s k) i ≡ frame_held s i }
-    ensures left { (s : Stream) → left_of s ≡ above (edge_of s) s.read }
+    ensures rises { (q : Queue) → IsQueue q → (k : ℕ) → q.read ≤ℤ (queue_after q k).read }
+    ensures kept { (q : Queue) → IsQueue q → (k : ℕ) (i : ℤ) → (queue_after q k).read ≤ℤ i
+        → frame_held (queue_after q k) i ≡ frame_held q i }
+    ensures left { (q : Queue) → left_of q ≡ above (edge_of q) q.read }
 {}

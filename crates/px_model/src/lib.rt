@@ -13,9 +13,9 @@ mod turns;
 
 pub use data::{Attr, Run, Seek};
 pub use deciding::played_frames_are_decided;
-pub use going::going_adds_up;
+pub use going::{going_adds_up, queue_going_adds_up};
 pub use held::{going_drops_the_past, places_are_a_map, write_changes_its_indices};
-pub use keeping::stream_keeps;
+pub use keeping::{queue_keeps, stream_keeps};
 pub use rows::worked_rows;
 pub use tracks::tracks_are_joined;
 pub use turns::{sink_keeps, turn_mixes_from_its_horizon};

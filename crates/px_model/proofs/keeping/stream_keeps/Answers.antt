@@ -1,4 +1,4 @@
-use Rattle.px_model.proofs.Adding as adding
+use Rattle.px_model.proofs.Streams as streams
 use Rattle.px_model.proofs.Kept as kept
 use Rattle.px_model.proofs.keeping.stream_keeps.Goals as goal
 
@@ -9,7 +9,7 @@ pub returns-clause-attach : goal.returns-clause-attach
 returns-clause-attach c = kept.attached_keeps
 
 pub returns-clause-going : goal.returns-clause-going
-returns-clause-going c = adding.after_keeps
+returns-clause-going c = streams.after_keeps
 
 pub returns-clause-write : goal.returns-clause-write
 returns-clause-write c = kept.written_keeps
