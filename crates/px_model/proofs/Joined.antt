@@ -76,7 +76,7 @@ at_change i j f r xs =
     (λ x. cond_both (x.index == j) (with_stream f x) x (λ y. read_of (Input.stream y) ≡ read_of x.stream) (λ e. r x.stream) (λ e. refl))
     xs
 
-at_each : (i : ℕ) (f : Stream → Stream) (xs : List Input) → stream_at i (map (with_stream f) xs) ≡ option_map f (stream_at i xs)
+pub at_each : (i : ℕ) (f : Stream → Stream) (xs : List Input) → stream_at i (map (with_stream f) xs) ≡ option_map f (stream_at i xs)
 at_each i f [] = refl
 at_each i f (x ∷ xs) = cond_map (x.index == i) f x.stream (stream_at i (map (with_stream f) xs)) (stream_at i xs) (at_each i f xs)
   where
@@ -84,7 +84,7 @@ at_each i f (x ∷ xs) = cond_map (x.index == i) f x.stream (stream_at i (map (w
     cond_map true g s o p e = refl
     cond_map false g s o p e = e
 
-none_without : (j : ℕ) (xs : List Input) → stream_at j (without_input j xs) ≡ None
+pub none_without : (j : ℕ) (xs : List Input) → stream_at j (without_input j xs) ≡ None
 none_without j [] = refl
 none_without j (x ∷ xs) =
     ⊎_elim
@@ -93,7 +93,7 @@ none_without j (x ∷ xs) =
     ∙ ap (λ b. cond b (Some x.stream) (stream_at j (without_input j xs))) e ∙ none_without j xs)
     (cases_Bool (x.index == j))
 
-same_without : (i j : ℕ) (xs : List Input) → (i ≡ j → ⊥) → stream_at i (without_input j xs) ≡ stream_at i xs
+pub same_without : (i j : ℕ) (xs : List Input) → (i ≡ j → ⊥) → stream_at i (without_input j xs) ≡ stream_at i xs
 same_without i j [] n = refl
 same_without i j (x ∷ xs) n =
     ⊎_elim
@@ -120,7 +120,7 @@ at_without i j xs =
     (λ (n : i ≡ j → ⊥). keeps_equal (stream_at i xs) (stream_at i (without_input j xs)) (same_without i j xs n))
     (cases_eq i j)
 
-same_with : (i j : ℕ) (s : Stream) (xs : List Input) → (j == i) ≡ false → stream_at i (with_input j s xs) ≡ stream_at i xs
+pub same_with : (i j : ℕ) (s : Stream) (xs : List Input) → (j == i) ≡ false → stream_at i (with_input j s xs) ≡ stream_at i xs
 same_with i j s [] n = ap (λ b. cond b (Some s) None) n
 same_with i j s (x ∷ xs) n =
     cond_both (nat_lt j x.index) (record { index = j; stream = s } ∷ (x ∷ xs)) (cond (x.index == j) (record { index = j; stream = s } ∷ xs) (x ∷ with_input j s xs)) (λ ys. stream_at i ys ≡ stream_at i (x ∷ xs))

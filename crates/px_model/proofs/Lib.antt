@@ -12,3 +12,4 @@ pub mod Inputs
 pub mod Rounds
 pub mod Decided
 pub mod Joined
+pub mod Shown
