@@ -1,5 +1,5 @@
 -- Every frame in the buffer is what its deciding turn makes it.
-use Rattle.std.proofs.Common.{◌≡◌, ℕ, ◌+◌, ◌-◌, ◌<◌, ◌≤◌, List, [], ◌∷◌, length, drop, Option, Some, None, Bool, true, false, refl, ap, sym, subst, ◌∙◌, arith, cond, ⊎_elim, length-take, length-drop}
+use Rattle.std.proofs.Common.{◌≡◌, ℕ, ◌+◌, ◌-◌, ◌<◌, ◌≤◌, List, [], ◌∷◌, length, drop, Option, Some, None, Bool, true, false, refl, ap, sym, subst, ◌∙◌, arith, cond, ⊎_elim, length-take, length-drop, length-append}
 use Rattle.std.specs.Prelude.{slice_get, nat_le, option_map, IsSome}
 use Rattle.std.specs.Option.{option_or}
 use Rattle.std.proofs.lemmas.Bool.{cases_lt, cond-true, cond-false, le-leb, lt-leb, leb-true, leb-false}
@@ -10,8 +10,8 @@ use Rattle.px_model.specs.Message.{Message}
 use Rattle.px_model.specs.Mix.{Samples, mix_of}
 use Rattle.px_model.specs.Sink.{Sink, empty_sink, streams_of}
 use Rattle.px_model.specs.Turn.{next_horizon, settled, told, turned, stopped_turn, frame_mixed, played_by}
-use Rattle.px_model.specs.Deciding.{Entry, turn, stop, sink_after, replay, CanBe, IsHistory, deciding, decided, ArePast, IsLastReaching}
-use Rattle.px_model.proofs.Places.{get-take, got_elem}
+use Rattle.px_model.specs.Deciding.{Entry, turn, stop, sink_after, replay, played_of, replay_played, CanBe, IsHistory, deciding, decided, ArePast, IsLastReaching}
+use Rattle.px_model.proofs.Places.{get-take, got_elem, get_left, get_right}
 use Rattle.px_model.proofs.Rounds.{get_kept, get_fresh, length-mixed}
 
 -- a buffer from consumed to filled, whose frames are those of a function
@@ -117,15 +117,6 @@ some_mapped : (g : Sink → Frame) (o : Option Sink) → IsSome (option_map g o)
 some_mapped g None h = h
 some_mapped g (Some t) h = refl
 
-pub played_have_one : (samples : Samples) (spec : SampleSpec) (guard depth : ℕ) (history : List Entry) → IsHistory samples (empty_sink spec guard depth) history
-    → (n : ℕ) → n ≤ (replay samples (empty_sink spec guard depth) history).filled - (replay samples (empty_sink spec guard depth) history).consumed → (j : ℕ) → j < n
-    → IsSome (deciding samples (empty_sink spec guard depth) history ((replay samples (empty_sink spec guard depth) history).consumed + j))
-played_have_one samples spec guard depth history h n l j k =
-    let start : Sink = empty_sink spec guard depth in
-    let b : IsBuffer (replay samples start history) (decided samples start history) = from_nothing samples spec guard depth history h in
-    some_mapped (frame_mixed samples ((replay samples start history).consumed + j)) (deciding samples start history ((replay samples start history).consumed + j))
-    (subst (λ o. IsSome o) (b.each j (omega arith)) (got_elem (replay samples start history).buffer j (omega (arith, b.full))))
-
 none_past : (samples : Samples) (sink : Sink) (history : List Entry) (f : ℕ) → deciding samples sink history f ≡ None → ArePast samples sink history f
 none_past samples sink [] f h = tt
 none_past samples sink (e ∷ history) f h =
@@ -161,3 +152,93 @@ last_reaching samples start (e ∷ history) f sink h =
           passed = subst (λ t. ArePast samples t history f) same (none_past samples (sink_after samples start e) history f p);
         }
     go None p false q x rest = absurd (none-some sink x)
+
+-- ---- the whole run
+
+-- a turn's horizon lies at or past what was consumed
+entry_forward : (samples : Samples) (sink : Sink) (e : Entry) → sink.consumed ≤ sink.filled → CanBe sink e → (sink.consumed ≤ (sink_after samples sink e).consumed) × ((sink_after samples sink e).consumed ≤ (sink_after samples sink e).horizon)
+entry_forward samples sink (turn n messages) first c = (omega arith, omega (arith, c.0))
+entry_forward samples sink (stop messages) first c = (omega arith, omega arith)
+
+-- a frame that was consumed is decided no more
+past_decided : (samples : Samples) (sink : Sink) (before : ℕ → Option Frame) (history : List Entry) (f : ℕ) → IsBuffer sink before → IsHistory samples sink history → f < sink.consumed → deciding samples sink history f ≡ None
+past_decided samples sink before [] f b h l = refl
+past_decided samples sink before (e ∷ history) f b h l =
+    let next : IsBuffer (sink_after samples sink e) (redecided samples (sink_after samples sink e) before) = entry_buffer samples sink before b e h.0 in
+    let forward = entry_forward samples sink e b.first h.0 in
+    (λ i. option_or (past_decided samples (sink_after samples sink e) (redecided samples (sink_after samples sink e) before) history f next h.1 (omega (arith, l, forward.0)) i)
+    (cond (lt-leb (sink_after samples sink e).horizon f (omega (arith, l, forward.0, forward.1)) i) (Some (sink_after samples sink e)) None))
+
+-- the frames that an entry plays are those that it consumes
+entry_played : (samples : Samples) (sink : Sink) (before : ℕ → Option Frame) → IsBuffer sink before → (e : Entry) → CanBe sink e → (sink_after samples sink e).consumed ≡ sink.consumed + length (played_of sink e)
+entry_played samples sink before b (turn n messages) c = omega (arith, length-take n sink.buffer, b.full, c.0)
+entry_played samples sink before b (stop messages) c = omega arith
+
+entry_plays : (samples : Samples) (sink : Sink) (before : ℕ → Option Frame) → IsBuffer sink before → (e : Entry) → CanBe sink e → (k : ℕ) → k < length (played_of sink e) → slice_get (played_of sink e) k ≡ before (sink.consumed + k)
+entry_plays samples sink before b (turn n messages) c k l =
+    get-take n sink.buffer k (omega (arith, l, length-take n sink.buffer)) ∙ b.each k (omega (arith, l, length-take n sink.buffer, b.full))
+entry_plays samples sink before b (stop messages) c k l = absurd (omega (arith, l))
+
+-- every frame of a run is what the run decides, and before it what was decided before
+run_plays : (samples : Samples) (sink : Sink) (before : ℕ → Option Frame) (history : List Entry) → IsBuffer sink before → IsHistory samples sink history
+    → (k : ℕ) → k < length (replay_played samples sink history) → slice_get (replay_played samples sink history) k ≡ decided_past samples sink history before (sink.consumed + k)
+run_plays samples sink before [] b h k l = absurd (omega (arith, l))
+run_plays samples sink before (e ∷ history) b h k l =
+    let next : IsBuffer (sink_after samples sink e) (redecided samples (sink_after samples sink e) before) = entry_buffer samples sink before b e h.0 in
+    let forward = entry_forward samples sink e b.first h.0 in
+    let played = entry_played samples sink before b e h.0 in
+    ⊎_elim
+    (λ (now : k < length (played_of sink e)).
+    get_left (played_of sink e) (replay_played samples (sink_after samples sink e) history) k now
+    ∙ entry_plays samples sink before b e h.0 k now
+    ∙ (λ i. option_or
+    (option_map (frame_mixed samples (sink.consumed + k))
+    (option_or (sym (past_decided samples (sink_after samples sink e) (redecided samples (sink_after samples sink e) before) history (sink.consumed + k) next h.1 (omega (arith, played, now))) i)
+    (cond (sym (lt-leb (sink_after samples sink e).horizon (sink.consumed + k) (omega (arith, played, now, forward.1))) i) (Some (sink_after samples sink e)) None)))
+    (before (sink.consumed + k))))
+    (λ (later : length (played_of sink e) ≤ k).
+    let rest : ℕ = k - length (played_of sink e) in
+    let whole : (sink_after samples sink e).consumed + rest ≡ sink.consumed + k = omega (arith, played, later) in
+    get_right (played_of sink e) (replay_played samples (sink_after samples sink e) history) rest k (omega (arith, later))
+    ∙ run_plays samples (sink_after samples sink e) (redecided samples (sink_after samples sink e) before) history next h.1 rest
+    (omega (arith, l, later, length-append (played_of sink e) (replay_played samples (sink_after samples sink e) history)))
+    ∙ past_joins (frame_mixed samples ((sink_after samples sink e).consumed + rest)) (deciding samples (sink_after samples sink e) history ((sink_after samples sink e).consumed + rest))
+    (nat_le (sink_after samples sink e).horizon ((sink_after samples sink e).consumed + rest)) (sink_after samples sink e) (before ((sink_after samples sink e).consumed + rest))
+    ∙ ap (decided_past samples sink (e ∷ history) before) whole)
+    (cases_lt k (length (played_of sink e)))
+
+run_length : (samples : Samples) (sink : Sink) (before : ℕ → Option Frame) (history : List Entry) → IsBuffer sink before → IsHistory samples sink history → (replay samples sink history).consumed ≡ sink.consumed + length (replay_played samples sink history)
+run_length samples sink before [] b h = omega arith
+run_length samples sink before (e ∷ history) b h =
+    let next : IsBuffer (sink_after samples sink e) (redecided samples (sink_after samples sink e) before) = entry_buffer samples sink before b e h.0 in
+    omega (
+      arith,
+      run_length samples (sink_after samples sink e) (redecided samples (sink_after samples sink e) before) history next h.1,
+      entry_played samples sink before b e h.0,
+      length-append (played_of sink e) (replay_played samples (sink_after samples sink e) history),
+    )
+
+empty_buffer : (spec : SampleSpec) (guard depth : ℕ) → IsBuffer (empty_sink spec guard depth) (λ f. None)
+empty_buffer spec guard depth = record { first = omega arith; bounded = omega arith; full = refl; each = λ k l. absurd (omega arith) }
+
+pub run_is_consumed : (samples : Samples) (spec : SampleSpec) (guard depth : ℕ) (history : List Entry) → IsHistory samples (empty_sink spec guard depth) history
+    → length (replay_played samples (empty_sink spec guard depth) history) ≡ (replay samples (empty_sink spec guard depth) history).consumed
+run_is_consumed samples spec guard depth history h = omega (arith, run_length samples (empty_sink spec guard depth) (λ f. None) history (empty_buffer spec guard depth) h)
+
+pub run_is_decided : (samples : Samples) (spec : SampleSpec) (guard depth : ℕ) (history : List Entry) → IsHistory samples (empty_sink spec guard depth) history
+    → (f : ℕ) → f < (replay samples (empty_sink spec guard depth) history).consumed → slice_get (replay_played samples (empty_sink spec guard depth) history) f ≡ decided samples (empty_sink spec guard depth) history f
+run_is_decided samples spec guard depth history h f l =
+    let start : Sink = empty_sink spec guard depth in
+    run_plays samples start (λ f. None) history (empty_buffer spec guard depth) h f (omega (arith, l, run_is_consumed samples spec guard depth history h))
+    ∙ nothing_past (decided samples start history (0 + f))
+    ∙ ap (decided samples start history) (plus_none f)
+  where
+    plus_none : (n : ℕ) → 0 + n ≡ n
+    plus_none n = omega arith
+
+pub run_has_one : (samples : Samples) (spec : SampleSpec) (guard depth : ℕ) (history : List Entry) → IsHistory samples (empty_sink spec guard depth) history
+    → (f : ℕ) → f < (replay samples (empty_sink spec guard depth) history).consumed → IsSome (deciding samples (empty_sink spec guard depth) history f)
+run_has_one samples spec guard depth history h f l =
+    let start : Sink = empty_sink spec guard depth in
+    some_mapped (frame_mixed samples f) (deciding samples start history f)
+    (subst (λ o. IsSome o) (run_is_decided samples spec guard depth history h f l) (got_elem (replay_played samples start history) f (omega (arith, l, run_is_consumed samples spec guard depth history h))))

@@ -1,5 +1,5 @@
 -- The track of an input is joined, but where the read index ran on, and rises.
-use Rattle.std.proofs.Common.{◌≡◌, ℕ, zero, suc, ◌+◌, ◌≤◌, min, List, [], ◌∷◌, ◌++◌, map, Option, Some, None, Bool, true, false, refl, ap, sym, subst, ◌∙◌, arith, cond, ⊎_elim, inl, inr, ◌⊎◌}
+use Rattle.std.proofs.Common.{◌≡◌, ℕ, zero, suc, ◌+◌, ◌-◌, ◌≤◌, min, List, [], ◌∷◌, ◌++◌, map, Option, Some, None, Bool, true, false, refl, ap, sym, subst, ◌∙◌, arith, cond, ⊎_elim, inl, inr, ◌⊎◌}
 use Rattle.std.specs.Prelude.{nat_lt, ◌==◌, not, ◌&&◌, ℤ, ◌≤ℤ◌, option_map, ⊤, IsTrue}
 use Rattle.std.specs.List.{range_with_len, AllByRecursion}
 use Rattle.std.proofs.lemmas.Option.{none-some, same_Some}
@@ -15,7 +15,7 @@ use Rattle.px_model.specs.Control.{corked_to, triggered, prebuffered, flushed, d
 use Rattle.px_model.specs.Message.{Message, InputFactors}
 use Rattle.px_model.specs.Mix.{Samples}
 use Rattle.px_model.specs.Sink.{Sink, Input, IsSink, stream_at, with_input, without_input, with_stream, with_change}
-use Rattle.px_model.specs.Turn.{inputs_with, inputs_with_all, with_each_factors, written_by, write_outcome, seek_of, asked_stream, AreFor}
+use Rattle.px_model.specs.Turn.{next_horizon, inputs_with, inputs_with_all, with_each_factors, written_by, write_outcome, seek_of, asked_stream, AreFor}
 use Rattle.px_model.specs.Deciding.{Entry, turn, stop, sink_after, CanBe, IsHistory, IsOrderlyHistory, messages_of}
 use Rattle.px_model.specs.Track.{Stretch, stretch_of, stretches_from, track_of, forward_by, IsJoined, presence_of, opens, all_opens, history_opens, indices_of_all, RiseFrom, Rise}
 use Rattle.px_model.proofs.Forward.{step_of, on_step, left_fits, after_by}
@@ -215,12 +215,12 @@ round_count i k mixed asked messages xs =
     )
 
 entry_reads : (samples : Samples) (sink : Sink) (e : Entry) (i : ℕ) → all_opens i (messages_of e) ≡ 0 → KeepsRead (gone (forward_by sink e) (stream_at i sink.inputs)) (stream_at i (sink_after samples sink e).inputs)
-entry_reads samples sink (turn n messages) i h = round_reads i (forward_by sink (turn n messages)) _ _ messages sink.inputs h
-entry_reads samples sink (stop messages) i h = round_reads i (forward_by sink (stop messages)) _ _ messages sink.inputs h
+entry_reads samples sink (turn n messages) i h = round_reads i (forward_by sink (turn n messages)) (sink.filled - next_horizon sink n) (sink.consumed + n + sink.depth - next_horizon sink n) messages sink.inputs h
+entry_reads samples sink (stop messages) i h = round_reads i (forward_by sink (stop messages)) (next_horizon sink 0 - next_horizon sink 0) (next_horizon sink 0 - next_horizon sink 0) messages sink.inputs h
 
 entry_count : (samples : Samples) (sink : Sink) (e : Entry) (i : ℕ) → presence_of (stream_at i (sink_after samples sink e).inputs) ≤ presence_of (stream_at i sink.inputs) + all_opens i (messages_of e)
-entry_count samples sink (turn n messages) i = round_count i (forward_by sink (turn n messages)) _ _ messages sink.inputs
-entry_count samples sink (stop messages) i = round_count i (forward_by sink (stop messages)) _ _ messages sink.inputs
+entry_count samples sink (turn n messages) i = round_count i (forward_by sink (turn n messages)) (sink.filled - next_horizon sink n) (sink.consumed + n + sink.depth - next_horizon sink n) messages sink.inputs
+entry_count samples sink (stop messages) i = round_count i (forward_by sink (stop messages)) (next_horizon sink 0 - next_horizon sink 0) (next_horizon sink 0 - next_horizon sink 0) messages sink.inputs
 
 entry_keeps : (samples : Samples) (sink : Sink) → IsSink sink → (e : Entry) → CanBe sink e → AreFor sink (messages_of e) → IsSink (sink_after samples sink e)
 entry_keeps samples sink keeps (turn n messages) c a = turn_keeps samples sink keeps n c.0 messages a

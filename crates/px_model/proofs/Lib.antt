@@ -13,3 +13,4 @@ pub mod Rounds
 pub mod Decided
 pub mod Joined
 pub mod Shown
+pub mod Replays

@@ -13,7 +13,7 @@ mod tracks;
 mod turns;
 
 pub use data::{Attr, Run, Seek};
-pub use deciding::played_frames_are_decided;
+pub use deciding::{histories_join, played_frames_are_decided};
 pub use going::{going_adds_up, queue_going_adds_up};
 pub use held::{going_drops_the_past, places_are_a_map, write_changes_its_indices};
 pub use keeping::{queue_keeps, stream_keeps};

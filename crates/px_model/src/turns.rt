@@ -1,9 +1,9 @@
 //! Laws of a sink's turns, and of turns whose sync failed.
-ghost use Rattle.std.specs.Prelude.{◌≡◌, ◌-◌, ◌<◌, ◌≤◌, List, ℕ, Some};
+ghost use Rattle.std.specs.Prelude.{◌≡◌, ◌-◌, ◌*◌, ◌<◌, ◌≤◌, List, ℕ, ℤ, Some, length};
 ghost use Rattle.px_model.specs.Frame.{SampleSpec};
 ghost use Rattle.px_model.specs.Stream.{Stream};
 ghost use Rattle.px_model.specs.Message.{Message};
-ghost use Rattle.px_model.specs.Mix.{Samples};
+ghost use Rattle.px_model.specs.Mix.{Samples, mix_of};
 ghost use Rattle.px_model.specs.Sink.{Sink, IsSink, empty_sink, frame_in};
 ghost use Rattle.px_model.specs.Turn.{AreFor, turned, stopped_turn, frame_mixed};
 
@@ -22,7 +22,8 @@ pub fn sink_keeps()
 {}
 
 /// A turn keeps the frames below its horizon, and each frame at or past it is the mix of the streams as the turn leaves
-/// them; a stopped turn keeps the frames below its horizon and gives up the others. Source: PulseAudio's rewinding.
+/// them, of as many bytes as a frame of the sink has; a stopped turn keeps the frames below its horizon and gives up the
+/// others. Source: PulseAudio's rewinding.
 pub fn turn_mixes_from_its_horizon()
     ensures kept { (samples : Samples) (sink : Sink) → IsSink sink → (n : ℕ) → n ≤ sink.filled - sink.consumed
         → (messages : List (Message Stream)) (f : ℕ) → (turned samples sink n messages).consumed ≤ f
@@ -31,6 +32,9 @@ pub fn turn_mixes_from_its_horizon()
         → (messages : List (Message Stream)) (f : ℕ) → (turned samples sink n messages).horizon ≤ f
         → f < (turned samples sink n messages).filled
         → frame_in (turned samples sink n messages) f ≡ Some (frame_mixed samples f (turned samples sink n messages)) }
+    ensures whole { (samples : Samples) (sink : SampleSpec) (size : ℕ)
+        → ((x : ℤ) → length (samples.packed sink.format x) ≡ size)
+        → (streams : List Stream) (k : ℕ) → length (mix_of samples sink streams k) ≡ sink.channels * size }
     ensures stop_kept { (sink : Sink) → IsSink sink → (messages : List (Message Stream)) (f : ℕ) → sink.consumed ≤ f
         → f < (stopped_turn sink messages).horizon → frame_in (stopped_turn sink messages) f ≡ frame_in sink f }
 {}
