@@ -11,6 +11,7 @@ pub mod Kept
 pub mod Inputs
 pub mod Rounds
 pub mod Decided
+pub mod Lookups
 pub mod Joined
 pub mod Shown
 pub mod Replays

@@ -15,7 +15,7 @@ use Rattle.px_model.specs.Orderly.{IsOrderly, Inputs, inputs_left, inputs_left_b
 use Rattle.px_model.specs.Mix.{Samples}
 use Rattle.px_model.specs.Sink.{Sink, Input, stream_at, specs_of, with_input, without_input, with_stream, with_change}
 use Rattle.px_model.specs.Turn.{inputs_with, inputs_with_all, with_each_factors, written_by, asked_stream, turned, stopped_turn, next_horizon, settled, halted}
-use Rattle.px_model.proofs.Joined.{none_without, same_without, same_with}
+use Rattle.px_model.proofs.Lookups.{none_without, same_without, same_with}
 use Rattle.px_model.proofs.Streams.{after_corked, after_open}
 
 -- the sample spec of an input that is there

@@ -1,5 +1,6 @@
 -- Which lists of messages a sink may be given: orderly from the inputs that are there, each with its sample spec. Own: PulseAudio's core and its sinks share their memory.
 use Rattle.std.specs.Prelude.{◌≡◌, ℕ, ◌+◌, ◌-◌, ◌*◌, ◌<◌, ◌≤◌, ◌≢◌, List, [], ◌∷◌, length, All, MatchOption, IsSome, IsNone, ⊤}
+use Rattle.std.specs.List.{AllByRecursion}
 use Rattle.std.specs.Ordering.{nat_cmp}
 use Rattle.std.specs.FinMap as map
 use Rattle.px_model.specs.declared.data.Attr.{Attr}
@@ -63,7 +64,7 @@ Fits spec_of sink inputs (Message.trigger i) = ⊤
 Fits spec_of sink inputs (Message.prebuf i) = ⊤
 Fits spec_of sink inputs (Message.drain i tag) = ⊤
 Fits spec_of sink inputs (Message.attr i attr) = IsRepaired attr
-Fits spec_of sink inputs (Message.factors each) = All (λ f. AreFactors sink (InputFactors.factors f)) each
+Fits spec_of sink inputs (Message.factors each) = AllByRecursion (λ f. AreFactors sink (InputFactors.factors f)) each
 Fits spec_of sink inputs (Message.query i tag) = ⊤
 
 -- it is new there, and there is room for it

@@ -4,7 +4,7 @@ use Rattle.std.specs.List.{AllByRecursion}
 use Rattle.std.specs.FinMap as finite
 use Rattle.px_model.specs.Frame.{Frame, SampleSpec}
 use Rattle.px_model.specs.Stream.{Stream, IsStream}
-use Rattle.px_model.specs.Orderly.{Inputs}
+use Rattle.px_model.specs.Orderly.{Inputs, IsPlayable, IsFeed, AreFactors}
 
 -- a stream by its input index
 pub record Input : Type 0 where
@@ -79,6 +79,13 @@ abbrev pub IsRising : List Input → Type 0
 IsRising [] = ⊤
 IsRising (x ∷ inputs) = AllAbove x.index inputs × IsRising inputs
 
+-- a stream that a sink can mix: it keeps what a stream keeps, and has a spec that is played, and a channel and a factor for each sink channel
+pub record IsStreamOf (sink : SampleSpec) (s : Stream) : Type 0 where
+  pub kept : IsStream s
+  pub playable : IsPlayable s.spec
+  pub feed_fits : IsFeed sink s.spec s.feed
+  pub factors_fit : AreFactors sink s.factors
+
 -- what a sink keeps
 pub record IsSink (sink : Sink) : Type 0 where
   pub consumed_first : sink.consumed ≤ sink.horizon
@@ -87,4 +94,4 @@ pub record IsSink (sink : Sink) : Type 0 where
   pub filled_bounded : sink.filled ≤ sink.consumed + sink.depth
   pub buffer_full : length sink.buffer ≡ sink.filled - sink.consumed
   pub rising : IsRising sink.inputs
-  pub streams : AllByRecursion (λ x. IsStream (Input.stream x)) sink.inputs
+  pub streams : AllByRecursion (λ x. IsStreamOf sink.spec (Input.stream x)) sink.inputs

@@ -1,4 +1,5 @@
-/// How long a stream has played or been silent, in frames (PulseAudio: `playing_for`, `underrun_for`).
+/// How long a stream has played or been silent, in frames (PulseAudio: `playing_for`,
+/// `underrun_for`).
 #[derive(Clone, Copy, Debug, PartialEq, Eq)]
 pub enum Run {
     /// Silent for so many frames.

@@ -5,9 +5,9 @@ ghost use Rattle.px_model.specs.Sink.{Sink, IsSink, stream_at};
 ghost use Rattle.px_model.specs.Deciding.{Entry, IsHistory, IsOrderlyHistory};
 ghost use Rattle.px_model.specs.Track.{track_of, IsJoined, Rise, indices_of_all, presence_of, history_opens};
 
-/// For every sink, history and input that is opened at most once, at the start or by a message: the stretches of its
-/// track are joined, but where the read index ran on without prebuffering, and the indices of the track rise, so that
-/// none is settled twice. Source: own.
+/// For every sink, history and input that is opened at most once, at the start or by a message: the
+/// stretches of its track are joined, but where the read index ran on without prebuffering, and the
+/// indices of the track rise, so that none is settled twice. Source: own.
 pub fn tracks_are_joined()
     ensures joined { (samples : Samples) (sink : Sink) → IsSink sink → (history : List Entry)
         → IsHistory samples sink history → IsOrderlyHistory samples sink history
