@@ -6,12 +6,12 @@ use Rattle.px_model.specs.Frame.{Frame, frame_size, frames_of}
 use Rattle.px_model.specs.Queue.{Queue}
 use Rattle.px_model.specs.Stream.{Stream}
 use Rattle.px_model.specs.Going.{after}
-use Rattle.px_model.specs.Write.{Outcome, stored, overflow, outside, queue_with, target_of}
+use Rattle.px_model.specs.Write.{seek_of, Outcome, stored, overflow, outside, queue_with, target_of}
 use Rattle.px_model.specs.Control.{corked_to, triggered, prebuffered, flushed, drained_by, with_attr, with_factors, new_stream, attached}
 use Rattle.px_model.specs.Message.{Message, InputFactors}
 use Rattle.px_model.specs.Mix.{Samples}
 use Rattle.px_model.specs.Sink.{Sink, Input, stream_at, with_input, without_input, with_stream, with_change}
-use Rattle.px_model.specs.Turn.{next_horizon, inputs_with, inputs_with_all, with_each_factors, written_by, write_outcome, seek_of, asked_stream}
+use Rattle.px_model.specs.Turn.{next_horizon, inputs_with, inputs_with_all, with_each_factors, written_by, write_outcome, asked_stream}
 use Rattle.px_model.specs.Deciding.{Entry, turn, stop, sink_after, messages_of}
 use Rattle.px_model.specs.Track.{forward_by, presence_of, opens, all_opens}
 

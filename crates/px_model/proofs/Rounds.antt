@@ -9,13 +9,13 @@ use Rattle.px_model.specs.Frame.{Frame, SampleSpec, frame_size, frames_of}
 use Rattle.px_model.specs.Queue.{Ahead, nothing, silence, sound}
 use Rattle.px_model.specs.Stream.{Stream, IsStream, frame_at}
 use Rattle.px_model.specs.Going.{after, ahead_of}
-use Rattle.px_model.specs.Write.{target_of}
+use Rattle.px_model.specs.Write.{seek_of, target_of}
 use Rattle.px_model.specs.Control.{corked_to, triggered, prebuffered, flushed, drained_by, with_attr, with_factors, new_stream, attached}
 use Rattle.px_model.specs.Message.{Message, InputFactors}
 use Rattle.px_model.specs.Orderly.{IsOrderly, Fits, Inputs, inputs_left, IsPlayable, IsFeed, AreFactors}
 use Rattle.px_model.specs.Mix.{Samples, mix_of, share_of}
 use Rattle.px_model.specs.Sink.{Sink, Input, IsSink, IsStreamOf, empty_sink, streams_of, specs_of, with_stream, with_change, frame_in}
-use Rattle.px_model.specs.Turn.{AreFor, BringsStream, inputs_with, inputs_with_all, with_each_factors, seek_of, written_by, next_horizon, settled, told, fresh_mix, mixed, asked_stream, turned, halted, stopped_turn, frame_mixed}
+use Rattle.px_model.specs.Turn.{AreFor, BringsStream, inputs_with, inputs_with_all, with_each_factors, written_by, next_horizon, settled, told, fresh_mix, mixed, asked_stream, turned, halted, stopped_turn, frame_mixed}
 use Rattle.px_model.proofs.Streams.{after_keeps, stream_by}
 use Rattle.px_model.proofs.Kept.{written_keeps, new_keeps, attached_keeps, corked_keeps, triggered_keeps, prebuffered_keeps, flushed_keeps, drained_keeps, attr_keeps, factors_keep, asked_keeps}
 use Rattle.px_model.proofs.Inputs.{AreInputs, each_keeps, change_keeps, without_keeps, with_keeps}

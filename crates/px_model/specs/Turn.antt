@@ -1,16 +1,14 @@
 -- A turn of a sink, and a turn whose device failed, each with its notices in order (PulseAudio: `pa_sink_render`, `pa_sink_process_rewind` and `pa_sink_input_process_rewind`; the order of messages and notices is own).
-use Rattle.std.specs.Prelude.{ℕ, zero, suc, ◌+◌, ◌-◌, min, Bool, true, false, not, ◌&&◌, ◌||◌, List, [], ◌∷◌, ◌++◌, map, flat_map, take, drop, length, Option, Some, None, nat_lt, nat_le, ◌==◌, if◌then◌else◌, ⊤}
+use Rattle.std.specs.Prelude.{ℕ, ◌+◌, ◌-◌, min, Bool, true, false, not, ◌&&◌, ◌||◌, List, [], ◌∷◌, ◌++◌, map, flat_map, take, drop, length, Option, Some, None, nat_lt, nat_le, ◌==◌, if◌then◌else◌, ⊤}
 use Rattle.std.specs.List.{range_with_len, AllByRecursion}
 use Rattle.px_model.specs.declared.data.Run.{Run}
 use Rattle.px_model.specs.declared.data.Run.TheVariants.{Quiet, Playing}
-use Rattle.px_model.specs.declared.data.Seek.{Seek}
-use Rattle.px_model.specs.declared.data.Seek.TheVariants.{Relative, Absolute, RelativeOnRead, RelativeEnd}
 use Rattle.px_model.specs.Index.{above}
 use Rattle.px_model.specs.Frame.{Frame, frame_size, frames_of}
 use Rattle.px_model.specs.Queue.{left_of}
 use Rattle.px_model.specs.Stream.{Stream, IsStream}
 use Rattle.px_model.specs.Going.{after, ahead_of, given_of}
-use Rattle.px_model.specs.Write.{Outcome, stored, overflow, outside, outcome_of, target_of, written}
+use Rattle.px_model.specs.Write.{Outcome, stored, overflow, outside, outcome_of, seek_of, target_of, written}
 use Rattle.px_model.specs.Control.{new_stream, attached, corked_to, triggered, prebuffered, flushed, drained_by, with_attr, with_factors}
 use Rattle.px_model.specs.Message.{Message, FrameWrite, InputFactors}
 use Rattle.px_model.specs.Notice.{Notice, Latency}
@@ -51,12 +49,6 @@ going_notices k x =
     ++ (if has_run_out x.stream k then Notice.underflow x.index ∷ [] else [])
 
 -- ---- 2. the messages in order, at the horizon
-
-abbrev pub seek_of : ℕ → Seek
-seek_of zero = Relative
-seek_of (suc zero) = Absolute
-seek_of (suc (suc zero)) = RelativeOnRead
-seek_of (suc (suc (suc n))) = RelativeEnd
 
 -- how a write to a stream ends, and the stream after it, where so many frames are mixed past the horizon
 abbrev pub write_outcome : Stream → FrameWrite → ℕ → Outcome

@@ -1,5 +1,5 @@
 -- A write of frames with a seek, and its three outcomes (PulseAudio: `pa_memblockq_seek` and `pa_memblockq_push` of pulsecore/memblockq.c). That the bound counts from the ahead index, and what falls from requested, is own.
-use Rattle.std.specs.Prelude.{ℕ, ◌-◌, ℤ, pos, ◌+ℤ◌, int_lt, not, ◌&&◌, List, length, nat_lt, if◌then◌else◌}
+use Rattle.std.specs.Prelude.{ℕ, zero, suc, ◌-◌, ℤ, pos, ◌+ℤ◌, int_lt, not, ◌&&◌, List, length, nat_lt, if◌then◌else◌}
 use Rattle.px_model.specs.declared.data.Seek.{Seek}
 use Rattle.px_model.specs.declared.data.Seek.TheVariants.{Relative, Absolute, RelativeOnRead, RelativeEnd}
 use Rattle.px_model.specs.Index.{above, onward, is_index}
@@ -7,6 +7,13 @@ use Rattle.px_model.specs.Frame.{Frame}
 use Rattle.px_model.specs.Held.{written_over}
 use Rattle.px_model.specs.Queue.{Queue, end_of}
 use Rattle.px_model.specs.Stream.{Stream}
+
+-- the seek of a mode as on the wire, 0 to 3 (PulseAudio: `pa_seek_mode_t`)
+abbrev pub seek_of : ℕ → Seek
+seek_of zero = Relative
+seek_of (suc zero) = Absolute
+seek_of (suc (suc zero)) = RelativeOnRead
+seek_of (suc (suc (suc n))) = RelativeEnd
 
 -- what the offset counts from
 abbrev pub origin_of : Queue → Seek → ℤ

@@ -47,8 +47,10 @@ pub fn histories_join()
         ≡ replay samples (replay samples sink earlier) later }
     ensures notices { (samples : Samples) (sink : Sink) (earlier later : List Entry)
         → replay_notices samples sink (earlier ++ later)
-        ≡ replay_notices samples sink earlier ++ replay_notices samples (replay samples sink earlier) later }
+        ≡ replay_notices samples sink earlier
+        ++ replay_notices samples (replay samples sink earlier) later }
     ensures played { (samples : Samples) (sink : Sink) (earlier later : List Entry)
         → replay_played samples sink (earlier ++ later)
-        ≡ replay_played samples sink earlier ++ replay_played samples (replay samples sink earlier) later }
+        ≡ replay_played samples sink earlier
+        ++ replay_played samples (replay samples sink earlier) later }
 {}

@@ -26,7 +26,8 @@ pub fn worked_rows()
         ≡ s16 (pos 32767) ∷ [] }
     ensures deep_plays { replay_played s16_samples small_sink (mix_history deep_messages)
         ≡ s16 (negsuc 32767) ∷ [] }
-    ensures balanced_plays { replay_played s16_samples small_sink (mix_history balanced_messages) ≡ s16 (pos 30000) ∷ [] }
+    ensures balanced_plays { replay_played s16_samples small_sink (mix_history balanced_messages)
+        ≡ s16 (pos 30000) ∷ [] }
     ensures eighth_plays { replay_played s16_samples small_sink eighth_history ≡ eighth_played }
     ensures drain_gives { replay_notices s16_samples small_sink drain_history ≡ drain_notices }
     ensures stop_gives { replay_notices s16_samples small_sink stop_history ≡ stop_notices }
