@@ -13,7 +13,7 @@ use Rattle.px_model.specs.Going.{after, given_of, queue_given, queue_after, queu
 use Rattle.px_model.specs.Mix.{Samples}
 use Rattle.px_model.specs.Sink.{Sink, Input, IsSink, IsStreamOf, stream_at}
 use Rattle.px_model.specs.Turn.{AreFor}
-use Rattle.px_model.specs.Deciding.{Entry, turn, stop, sink_after, CanBe, IsHistory, IsOrderlyHistory, messages_of}
+use Rattle.px_model.specs.Deciding.{replay, Entry, turn, stop, sink_after, CanBe, IsHistory, IsOrderlyHistory, messages_of}
 use Rattle.px_model.specs.Track.{Stretch, stretch_of, stretches_from, track_of, forward_by, IsJoined, presence_of, all_opens, history_opens, indices_of_all, RiseFrom, Rise}
 use Rattle.px_model.proofs.Forward.{step_of, on_step, left_fits, after_by}
 use Rattle.px_model.proofs.Adding.{given_short, given_on, given_none as queue_given_none}
@@ -24,6 +24,11 @@ use Rattle.px_model.proofs.Lookups.{read_of, KeepsRead, gone, entry_reads, entry
 entry_keeps : (samples : Samples) (sink : Sink) → IsSink sink → (e : Entry) → CanBe sink e → AreFor sink (messages_of e) → IsSink (sink_after samples sink e)
 entry_keeps samples sink keeps (turn n messages) c a = turn_keeps samples sink keeps n c.0 messages a
 entry_keeps samples sink keeps (stop messages) c a = stop_keeps sink keeps messages a
+
+-- a whole history keeps what a sink keeps
+pub replay_keeps : (samples : Samples) (sink : Sink) → IsSink sink → (history : List Entry) → IsHistory samples sink history → IsOrderlyHistory samples sink history → IsSink (replay samples sink history)
+replay_keeps samples sink keeps [] h o = keeps
+replay_keeps samples sink keeps (e ∷ history) h o = replay_keeps samples (sink_after samples sink e) (entry_keeps samples sink keeps e h.0 o.0) history h.1 o.1
 
 -- ---- a stretch ends where the read index goes, or the read index ran on past it
 

@@ -1,6 +1,7 @@
 -- The inputs that messages leave are those of the sink after them, so that orderly messages go on from turn to turn.
-use Rattle.std.proofs.Common.{◌≡◌, ℕ, zero, suc, ◌+◌, ◌-◌, List, [], ◌∷◌, ◌++◌, map, Option, Some, None, Bool, true, false, refl, ap, sym, ◌∙◌, arith, cond, ⊎_elim}
-use Rattle.std.specs.Prelude.{nat_lt, ◌==◌, option_map}
+use Rattle.std.proofs.Common.{◌≡◌, ℕ, zero, suc, ◌+◌, ◌-◌, List, [], ◌∷◌, ◌++◌, map, Option, Some, None, Bool, true, false, refl, ap, sym, ◌∙◌, arith, cond, ⊎_elim, subst}
+use Rattle.std.specs.Prelude.{nat_lt, ◌==◌, option_map, flat_map}
+use Rattle.std.specs.List.{AllByRecursion}
 use Rattle.std.specs.Ordering.{nat_cmp, eq_by_cmp}
 use Rattle.std.specs.FinMap as finite
 use Rattle.std.specs.Cmp.{nat_cmp_total}
@@ -14,7 +15,8 @@ use Rattle.px_model.specs.Message.{Message, InputFactors}
 use Rattle.px_model.specs.Orderly.{IsOrderly, Inputs, inputs_left, inputs_left_by}
 use Rattle.px_model.specs.Mix.{Samples}
 use Rattle.px_model.specs.Sink.{Sink, Input, stream_at, specs_of, with_input, without_input, with_stream, with_change}
-use Rattle.px_model.specs.Turn.{inputs_with, inputs_with_all, with_each_factors, written_by, asked_stream, turned, stopped_turn, next_horizon, settled, halted}
+use Rattle.px_model.specs.Turn.{inputs_with, inputs_with_all, with_each_factors, written_by, asked_stream, turned, stopped_turn, next_horizon, settled, halted, BringsStream}
+use Rattle.px_model.specs.Deciding.{Entry, turn, stop, sink_after, messages_of, IsOrderlyHistory}
 use Rattle.px_model.proofs.Lookups.{none_without, same_without, same_with}
 use Rattle.px_model.proofs.Streams.{after_corked, after_open}
 
@@ -163,3 +165,31 @@ orderly_begins spec_of sink inputs (m ∷ earlier) later h = (h.0, h.1, orderly_
 pub orderly_goes_on : {P : Type 0} (spec_of : P → SampleSpec) (sink : SampleSpec) (inputs : Inputs) (earlier later : List (Message P)) → IsOrderly spec_of sink inputs (earlier ++ later) → IsOrderly spec_of sink (inputs_left_by spec_of inputs earlier) later
 orderly_goes_on spec_of sink inputs [] later h = h
 orderly_goes_on spec_of sink inputs (m ∷ earlier) later h = orderly_goes_on spec_of sink (inputs_left spec_of inputs m) earlier later h.2
+
+-- ---- over a history
+
+all_split : {X : Type 0} (P : X → Type 0) (xs ys : List X) → AllByRecursion P (xs ++ ys) → AllByRecursion P xs × AllByRecursion P ys
+all_split P [] ys h = (tt, h)
+all_split P (x ∷ xs) ys h = let rest = all_split P xs ys h.1 in ((h.0, rest.0), rest.1)
+
+entry_leaves : (samples : Samples) (sink : Sink) (e : Entry) → inputs_left_by Stream.spec (specs_of sink.inputs) (messages_of e) ≡ specs_of (sink_after samples sink e).inputs
+entry_leaves samples sink (turn n messages) = turn_leaves samples sink n messages
+entry_leaves samples sink (stop messages) = stop_leaves sink messages
+
+entry_spec : (samples : Samples) (sink : Sink) (e : Entry) → (sink_after samples sink e).spec ≡ sink.spec
+entry_spec samples sink (turn n messages) = refl
+entry_spec samples sink (stop messages) = refl
+
+-- messages that are orderly all together are orderly turn by turn
+pub history_is_orderly : (samples : Samples) (sink : Sink) (history : List Entry) → IsOrderly Stream.spec sink.spec (specs_of sink.inputs) (flat_map messages_of history) → AllByRecursion BringsStream (flat_map messages_of history) → IsOrderlyHistory samples sink history
+history_is_orderly samples sink [] o b = tt
+history_is_orderly samples sink (e ∷ history) o b =
+    let parcels = all_split BringsStream (messages_of e) (flat_map messages_of history) b in
+    let later : IsOrderly Stream.spec sink.spec (inputs_left_by Stream.spec (specs_of sink.inputs) (messages_of e)) (flat_map messages_of history) =
+    orderly_goes_on Stream.spec sink.spec (specs_of sink.inputs) (messages_of e) (flat_map messages_of history) o in (
+      record { orderly = orderly_begins Stream.spec sink.spec (specs_of sink.inputs) (messages_of e) (flat_map messages_of history) o; parcels = parcels.0 },
+      history_is_orderly samples (sink_after samples sink e) history
+          (subst (λ spec. IsOrderly Stream.spec spec (specs_of (sink_after samples sink e).inputs) (flat_map messages_of history)) (sym (entry_spec samples sink e))
+          (subst (λ inputs. IsOrderly Stream.spec sink.spec inputs (flat_map messages_of history)) (entry_leaves samples sink e) later))
+          parcels.1,
+    )

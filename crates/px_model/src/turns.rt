@@ -5,10 +5,11 @@ ghost use Rattle.px_model.specs.Stream.{Stream};
 ghost use Rattle.px_model.specs.Message.{Message};
 ghost use Rattle.px_model.specs.Mix.{Samples, mix_of};
 ghost use Rattle.px_model.specs.Sink.{Sink, IsSink, empty_sink, frame_in};
+ghost use Rattle.px_model.specs.Deciding.{Entry, IsHistory, IsOrderlyHistory, replay};
 ghost use Rattle.px_model.specs.Turn.{AreFor, turned, stopped_turn, frame_mixed};
 
-/// A sink keeps what it keeps under every turn and every stopped turn, whose messages are orderly
-/// from its inputs, and its horizon never falls. Source: own.
+/// A sink keeps what it keeps under every turn, every stopped turn and so every history of them,
+/// where each turn's messages are orderly from its inputs; and its horizon never falls. Source: own.
 pub fn sink_keeps()
     ensures empty { (spec : SampleSpec) (guard depth : ℕ) → IsSink (empty_sink spec guard depth) }
     ensures turn { (samples : Samples) (sink : Sink) → IsSink sink → (n : ℕ)
@@ -18,6 +19,9 @@ pub fn sink_keeps()
     ensures stop { (sink : Sink) → IsSink sink → (messages : List (Message Stream))
         → AreFor sink messages
         → IsSink (stopped_turn sink messages) }
+    ensures history { (samples : Samples) (sink : Sink) → IsSink sink → (history : List Entry)
+        → IsHistory samples sink history → IsOrderlyHistory samples sink history
+        → IsSink (replay samples sink history) }
     ensures turn_rises { (samples : Samples) (sink : Sink) → IsSink sink
         → (n : ℕ) (messages : List (Message Stream))
         → sink.horizon ≤ (turned samples sink n messages).horizon }

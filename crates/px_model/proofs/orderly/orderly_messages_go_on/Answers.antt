@@ -16,3 +16,6 @@ returns-clause-begins c = shown.orderly_begins Stream.spec
 
 pub returns-clause-goes_on : goal.returns-clause-goes_on
 returns-clause-goes_on c = shown.orderly_goes_on Stream.spec
+
+pub returns-clause-history : goal.returns-clause-history
+returns-clause-history c = shown.history_is_orderly

@@ -1,3 +1,4 @@
+use Rattle.px_model.proofs.Joined as joined
 use Rattle.px_model.proofs.Rounds as rounds
 use Rattle.px_model.proofs.turns.sink_keeps.Goals as goal
 
@@ -15,3 +16,6 @@ returns-clause-turn_rises c = λ samples sink keeps n messages. rounds.horizon_r
 
 pub returns-clause-stop_rises : goal.returns-clause-stop_rises
 returns-clause-stop_rises c = λ sink keeps messages. rounds.horizon_rises sink keeps 0
+
+pub returns-clause-history : goal.returns-clause-history
+returns-clause-history c = joined.replay_keeps
