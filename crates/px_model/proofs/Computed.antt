@@ -2,7 +2,7 @@
 use Rattle.std.proofs.Common.{◌≡◌, refl, [], ◌∷◌}
 use Rattle.std.specs.Prelude.{pos, negsuc}
 use Rattle.px_model.specs.Deciding.{replay_played, replay_notices}
-use Rattle.px_model.specs.Rows.{s16, s16_samples, small_sink, underrun_history, underrun_played, underrun_notices, seek_history, seek_played, seek_notices, limit_history, limit_played, limit_notices, overflow_history, overflow_played, overflow_notices, rewind_history, rewind_played, rewind_notices, late_history, late_played, late_notices, mix_history, loud_messages, deep_messages, balanced_messages, eighth_history, eighth_played, drain_history, drain_notices, stop_history, stop_notices}
+use Rattle.px_model.specs.Rows.{s16, s16_samples, small_sink, underrun_history, underrun_played, underrun_notices, seek_history, seek_played, seek_notices, limit_history, limit_played, limit_notices, overflow_history, overflow_played, overflow_notices, rewind_history, rewind_played, rewind_notices, late_history, late_played, late_notices, mix_history, loud_messages, deep_messages, balanced_messages, eighth_history, eighth_played, drain_history, drain_notices, stop_history, stop_notices, hold_history, hold_played, hold_notices, cork_history, cork_played, cork_notices, flush_history, flush_played, flush_notices, minreq_history, minreq_notices, last_history, last_notices}
 
 pub underrun_plays : replay_played s16_samples small_sink underrun_history ≡ underrun_played
 underrun_plays = refl
@@ -57,3 +57,27 @@ drain_gives = refl
 
 pub stop_gives : replay_notices s16_samples small_sink stop_history ≡ stop_notices
 stop_gives = refl
+
+pub hold_plays : replay_played s16_samples small_sink hold_history ≡ hold_played
+hold_plays = refl
+
+pub hold_gives : replay_notices s16_samples small_sink hold_history ≡ hold_notices
+hold_gives = refl
+
+pub cork_plays : replay_played s16_samples small_sink cork_history ≡ cork_played
+cork_plays = refl
+
+pub cork_gives : replay_notices s16_samples small_sink cork_history ≡ cork_notices
+cork_gives = refl
+
+pub flush_plays : replay_played s16_samples small_sink flush_history ≡ flush_played
+flush_plays = refl
+
+pub flush_gives : replay_notices s16_samples small_sink flush_history ≡ flush_notices
+flush_gives = refl
+
+pub minreq_gives : replay_notices s16_samples small_sink minreq_history ≡ minreq_notices
+minreq_gives = refl
+
+pub last_gives : replay_notices s16_samples small_sink last_history ≡ last_notices
+last_gives = refl

@@ -2,7 +2,7 @@
 use Rattle.std.specs.Prelude.{ℕ, ◌+◌, ◌*◌, ◌/◌, ◌%◌, ◌^◌, ℤ, pos, negsuc, false, true, List, [], ◌∷◌, ◌++◌, flat_map, replicate, slice_index, Some}
 use Rattle.std.specs.Int.{w16, cast_signed, cast_unsigned}
 use Rattle.px_model.specs.declared.data.Attr.{Attr}
-use Rattle.px_model.specs.declared.data.Run.TheVariants.{Playing}
+use Rattle.px_model.specs.declared.data.Run.TheVariants.{Quiet, Playing}
 use Rattle.px_model.specs.Frame.{Frame, SampleSpec}
 use Rattle.px_model.specs.Stream.{Stream}
 use Rattle.px_model.specs.Message.{Message}
@@ -217,3 +217,73 @@ stop_latency = record { write = pos 200; read = pos 30; buffered = 10; playing =
 abbrev pub stop_notices : List (Notice Stream)
 stop_notices =
     Notice.request 0 100 ∷ Notice.started 0 ∷ Notice.request 0 20 ∷ Notice.latency 0 9 stop_latency ∷ Notice.detached 0 stop_parcel ∷ []
+
+-- Prebuffering holds a stream that has less than prebuf, until a Trigger.
+abbrev pub hold_history : List Entry
+hold_history =
+    turn 0 (create 0 (usual_attr 50) ∷ factor 0 65536 ∷ write 0 20 (tone (pos 1000) 20) ∷ [])
+    ∷ turn 20 []
+    ∷ turn 0 (Message.trigger 0 ∷ [])
+    ∷ turn 50 []
+    ∷ []
+
+abbrev pub hold_played : List Frame
+hold_played = tone (pos 0) 20 ++ (tone (pos 0) 10 ++ tone (pos 1000) 20 ++ tone (pos 0) 20)
+
+abbrev pub hold_notices : List (Notice Stream)
+hold_notices = Notice.request 0 20 ∷ Notice.started 0 ∷ Notice.underflow 0 ∷ []
+
+-- A corked stream stands still, and goes on where it stood.
+abbrev pub cork_history : List Entry
+cork_history =
+    turn 0 (create 0 (usual_attr 0) ∷ factor 0 65536 ∷ write 0 100 (tone (pos 1000) 100) ∷ Message.cork 0 true ∷ [])
+    ∷ turn 20 []
+    ∷ turn 0 (Message.query 0 5 ∷ Message.cork 0 false ∷ [])
+    ∷ turn 30 []
+    ∷ []
+
+abbrev pub cork_played : List Frame
+cork_played = tone (pos 0) 20 ++ (tone (pos 0) 10 ++ tone (pos 1000) 20)
+
+abbrev pub cork_latency : Latency
+cork_latency = record { write = pos 100; read = pos 0; buffered = 100; playing = false; run = Quiet 0 }
+
+abbrev pub cork_notices : List (Notice Stream)
+cork_notices = Notice.latency 0 5 cork_latency ∷ Notice.request 0 90 ∷ Notice.started 0 ∷ Notice.request 0 10 ∷ []
+
+-- A flush gives up what is held; seeks from the read index and from the end leave holes, which are silent.
+abbrev pub flush_history : List Entry
+flush_history =
+    turn 0 (create 0 (usual_attr 0) ∷ factor 0 65536 ∷ write 0 100 (tone (pos 1000) 100) ∷ [])
+    ∷ turn 20 []
+    ∷ turn 0 (Message.flush 0 ∷ write_at 0 2 (pos 5) 5 (tone (pos 7) 5) ∷ write_at 0 3 (pos 5) 5 (tone (pos 9) 5) ∷ [])
+    ∷ turn 40 []
+    ∷ []
+
+abbrev pub flush_played : List Frame
+flush_played =
+    tone (pos 1000) 20
+    ++ (tone (pos 1000) 10 ++ tone (pos 0) 5 ++ tone (pos 7) 5 ++ tone (pos 0) 5 ++ tone (pos 9) 5 ++ tone (pos 0) 10)
+
+abbrev pub flush_notices : List (Notice Stream)
+flush_notices = Notice.request 0 100 ∷ Notice.started 0 ∷ Notice.request 0 10 ∷ Notice.underflow 0 ∷ []
+
+-- Fewer than minreq frames are asked for later, all at once.
+abbrev pub minreq_history : List Entry
+minreq_history =
+    turn 0 (create 0 (record { maxlength = 2097152; tlength = 200; prebuf = 0; minreq = 50 }) ∷ factor 0 65536 ∷ write 0 30 (tone (pos 1) 30) ∷ [])
+    ∷ turn 0 (write 0 30 (tone (pos 1) 30) ∷ [])
+    ∷ []
+
+abbrev pub minreq_notices : List (Notice Stream)
+minreq_notices = Notice.started 0 ∷ Notice.request 0 60 ∷ []
+
+-- A stream that runs out while it drains has no underrun.
+abbrev pub last_history : List Entry
+last_history =
+    turn 0 (create 0 (usual_attr 1) ∷ factor 0 65536 ∷ write 0 50 (tone (pos 1000) 50) ∷ Message.drain 0 3 ∷ [])
+    ∷ turn 100 []
+    ∷ []
+
+abbrev pub last_notices : List (Notice Stream)
+last_notices = Notice.request 0 50 ∷ Notice.started 0 ∷ Notice.drained 0 3 ∷ []

@@ -55,3 +55,27 @@ returns-clause-drain_gives c = computed.drain_gives
 
 pub returns-clause-stop_gives : goal.returns-clause-stop_gives
 returns-clause-stop_gives c = computed.stop_gives
+
+pub returns-clause-hold_plays : goal.returns-clause-hold_plays
+returns-clause-hold_plays c = computed.hold_plays
+
+pub returns-clause-hold_gives : goal.returns-clause-hold_gives
+returns-clause-hold_gives c = computed.hold_gives
+
+pub returns-clause-cork_plays : goal.returns-clause-cork_plays
+returns-clause-cork_plays c = computed.cork_plays
+
+pub returns-clause-cork_gives : goal.returns-clause-cork_gives
+returns-clause-cork_gives c = computed.cork_gives
+
+pub returns-clause-flush_plays : goal.returns-clause-flush_plays
+returns-clause-flush_plays c = computed.flush_plays
+
+pub returns-clause-flush_gives : goal.returns-clause-flush_gives
+returns-clause-flush_gives c = computed.flush_gives
+
+pub returns-clause-minreq_gives : goal.returns-clause-minreq_gives
+returns-clause-minreq_gives c = computed.minreq_gives
+
+pub returns-clause-last_gives : goal.returns-clause-last_gives
+returns-clause-last_gives c = computed.last_gives
