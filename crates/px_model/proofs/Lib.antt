@@ -15,3 +15,4 @@ pub mod Lookups
 pub mod Joined
 pub mod Shown
 pub mod Replays
+pub mod Parcels

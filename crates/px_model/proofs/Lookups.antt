@@ -139,7 +139,7 @@ not_opened : (b : Bool) → ◌≡◌ {A = ℕ} (cond b 1 0) 0 → b ≡ false
 not_opened true e = absurd (omega (arith, e))
 not_opened false e = refl
 
-message_reads : (i mixed : ℕ) (m : Message Stream) (xs : List Input) → opens i m ≡ 0 → KeepsRead (stream_at i xs) (stream_at i (inputs_with mixed m xs))
+pub message_reads : (i mixed : ℕ) (m : Message Stream) (xs : List Input) → opens i m ≡ 0 → KeepsRead (stream_at i xs) (stream_at i (inputs_with mixed m xs))
 message_reads i mixed (Message.new n) xs e =
     keeps_equal (stream_at i xs) _ (same_with i n.input (new_stream n.spec n.feed n.factors n.attr n.corked) xs (not_opened (n.input == i) e))
 message_reads i mixed (Message.attach j parcel feed factors) xs e =
@@ -156,7 +156,7 @@ message_reads i mixed (Message.attr j attr) xs e = at_change i j (λ s. with_att
 message_reads i mixed (Message.factors each) xs e = at_factors i each xs
 message_reads i mixed (Message.query j tag) xs e = keeps_same (stream_at i xs)
 
-messages_read : (i mixed : ℕ) (messages : List (Message Stream)) (xs : List Input) → all_opens i messages ≡ 0 → KeepsRead (stream_at i xs) (stream_at i (inputs_with_all mixed messages xs))
+pub messages_read : (i mixed : ℕ) (messages : List (Message Stream)) (xs : List Input) → all_opens i messages ≡ 0 → KeepsRead (stream_at i xs) (stream_at i (inputs_with_all mixed messages xs))
 messages_read i mixed [] xs e = keeps_same (stream_at i xs)
 messages_read i mixed (m ∷ messages) xs e =
     keeps_then (stream_at i xs) (stream_at i (inputs_with mixed m xs)) (stream_at i (inputs_with_all mixed messages (inputs_with mixed m xs)))

@@ -65,7 +65,7 @@ spec_factors i [] xs = refl
 spec_factors i (f ∷ each) xs =
     spec_factors i each (with_change f.input (λ s. with_factors s f.factors) xs) ∙ spec_change i f.input (λ s. with_factors s f.factors) (λ s. refl) xs
 
-here_with : (j : ℕ) (s : Stream) (xs : List Input) → stream_at j (with_input j s xs) ≡ Some s
+pub here_with : (j : ℕ) (s : Stream) (xs : List Input) → stream_at j (with_input j s xs) ≡ Some s
 here_with j s [] = ap (λ b. cond b (Some s) None) (eq-eqb j j refl)
 here_with j s (x ∷ xs) =
     cond_both (nat_lt j x.index) (record { index = j; stream = s } ∷ (x ∷ xs)) (cond (x.index == j) (record { index = j; stream = s } ∷ xs) (x ∷ with_input j s xs)) (λ ys. stream_at j ys ≡ Some s)

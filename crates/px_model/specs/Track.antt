@@ -6,6 +6,7 @@ use Rattle.px_model.specs.Queue.{left_of, is_held_short}
 use Rattle.px_model.specs.Stream.{Stream}
 use Rattle.px_model.specs.Going.{given_of}
 use Rattle.px_model.specs.Message.{Message}
+use Rattle.px_model.specs.Notice.{Notice}
 use Rattle.px_model.specs.Mix.{Samples}
 use Rattle.px_model.specs.Sink.{Sink, stream_at}
 use Rattle.px_model.specs.Turn.{next_horizon}
@@ -92,3 +93,20 @@ all_opens i (m ∷ messages) = opens i m + all_opens i messages
 abbrev pub history_opens : ℕ → List Entry → ℕ
 history_opens i [] = 0
 history_opens i (e ∷ history) = all_opens i (messages_of e) + history_opens i history
+
+-- ---- where an input stands
+
+-- a stream, if there is one, stands at this read index
+abbrev pub StandsAt : ℤ → Option Stream → Type 0
+StandsAt read None = ⊤
+StandsAt read (Some s) = s.queue.read ≡ read
+
+-- a notice that hands over the input's parcel has it standing at this read index
+abbrev pub HandsOverAt : ℕ → ℤ → Notice Stream → Type 0
+HandsOverAt i read (Notice.request j frames) = ⊤
+HandsOverAt i read (Notice.overflow j) = ⊤
+HandsOverAt i read (Notice.underflow j) = ⊤
+HandsOverAt i read (Notice.started j) = ⊤
+HandsOverAt i read (Notice.drained j tag) = ⊤
+HandsOverAt i read (Notice.detached j parcel) = j ≡ i → parcel.queue.read ≡ read
+HandsOverAt i read (Notice.latency j tag answer) = ⊤
