@@ -15,7 +15,7 @@ use Rattle.px_model.specs.Message.{Message, InputFactors}
 use Rattle.px_model.specs.Orderly.{IsOrderly, Fits, Inputs, inputs_left, IsPlayable, IsFeed, AreFactors}
 use Rattle.px_model.specs.Mix.{Samples, mix_of, share_of}
 use Rattle.px_model.specs.Sink.{Sink, Input, IsSink, IsStreamOf, empty_sink, streams_of, specs_of, with_stream, with_change, frame_in}
-use Rattle.px_model.specs.Turn.{AreFor, BringsStream, inputs_with, inputs_with_all, with_each_factors, written_by, next_horizon, settled, told, fresh_mix, mixed, asked_stream, turned, halted, stopped_turn, frame_mixed}
+use Rattle.px_model.specs.Turn.{AreFor, BringsStream, inputs_with, inputs_with_all, with_each_factors, written_by, next_horizon, settled, told, fresh_mix, asked_stream, turned, halted, stopped_turn, frame_mixed}
 use Rattle.px_model.proofs.Streams.{after_keeps, stream_by}
 use Rattle.px_model.proofs.Kept.{written_keeps, new_keeps, attached_keeps, corked_keeps, triggered_keeps, prebuffered_keeps, flushed_keeps, drained_keeps, attr_keeps, factors_keep, asked_keeps}
 use Rattle.px_model.proofs.Inputs.{AreInputs, each_keeps, change_keeps, without_keeps, with_keeps}

@@ -52,10 +52,10 @@ going_notices k x =
 
 -- how a write to a stream ends, and the stream after it, where so many frames are mixed past the horizon
 abbrev pub write_outcome : Stream → FrameWrite → ℕ → Outcome
-write_outcome s w mixed = outcome_of s.queue s.maxlength (target_of s.queue (seek_of w.seek) w.offset) (length (frames_of (frame_size s.spec) w.frames w.bytes)) (ahead_of s mixed)
+write_outcome s w ahead = outcome_of s.queue s.maxlength (target_of s.queue (seek_of w.seek) w.offset) (length (frames_of (frame_size s.spec) w.frames w.bytes)) (ahead_of s ahead)
 
 abbrev pub written_by : FrameWrite → ℕ → Stream → Stream
-written_by w mixed s = written s (target_of s.queue (seek_of w.seek) w.offset) (frames_of (frame_size s.spec) w.frames w.bytes) (ahead_of s mixed)
+written_by w ahead s = written s (target_of s.queue (seek_of w.seek) w.offset) (frames_of (frame_size s.spec) w.frames w.bytes) (ahead_of s ahead)
 
 -- Factors skips inputs that aren't there
 abbrev pub with_each_factors : List InputFactors → List Input → List Input
@@ -64,18 +64,18 @@ with_each_factors (f ∷ each) inputs = with_each_factors each (with_change f.in
 
 -- the inputs after a message
 abbrev pub inputs_with : ℕ → Message Stream → List Input → List Input
-inputs_with mixed (Message.new n) inputs = with_input n.input (new_stream n.spec n.feed n.factors n.attr n.corked) inputs
-inputs_with mixed (Message.attach i parcel feed factors) inputs = with_input i (attached parcel feed factors) inputs
-inputs_with mixed (Message.detach i) inputs = without_input i inputs
-inputs_with mixed (Message.write w) inputs = with_change w.input (written_by w mixed) inputs
-inputs_with mixed (Message.cork i on) inputs = with_change i (λ s. corked_to s on) inputs
-inputs_with mixed (Message.flush i) inputs = with_change i flushed inputs
-inputs_with mixed (Message.trigger i) inputs = with_change i triggered inputs
-inputs_with mixed (Message.prebuf i) inputs = with_change i prebuffered inputs
-inputs_with mixed (Message.drain i tag) inputs = with_change i (λ s. drained_by s tag) inputs
-inputs_with mixed (Message.attr i attr) inputs = with_change i (λ s. with_attr s attr) inputs
-inputs_with mixed (Message.factors each) inputs = with_each_factors each inputs
-inputs_with mixed (Message.query i tag) inputs = inputs
+inputs_with ahead (Message.new n) inputs = with_input n.input (new_stream n.spec n.feed n.factors n.attr n.corked) inputs
+inputs_with ahead (Message.attach i parcel feed factors) inputs = with_input i (attached parcel feed factors) inputs
+inputs_with ahead (Message.detach i) inputs = without_input i inputs
+inputs_with ahead (Message.write w) inputs = with_change w.input (written_by w ahead) inputs
+inputs_with ahead (Message.cork i on) inputs = with_change i (λ s. corked_to s on) inputs
+inputs_with ahead (Message.flush i) inputs = with_change i flushed inputs
+inputs_with ahead (Message.trigger i) inputs = with_change i triggered inputs
+inputs_with ahead (Message.prebuf i) inputs = with_change i prebuffered inputs
+inputs_with ahead (Message.drain i tag) inputs = with_change i (λ s. drained_by s tag) inputs
+inputs_with ahead (Message.attr i attr) inputs = with_change i (λ s. with_attr s attr) inputs
+inputs_with ahead (Message.factors each) inputs = with_each_factors each inputs
+inputs_with ahead (Message.query i tag) inputs = inputs
 
 -- a write that isn't stored is told
 abbrev pub refusal_of : ℕ → Outcome → List (Notice Stream)
@@ -85,12 +85,12 @@ refusal_of i outside = Notice.overflow i ∷ []
 
 -- where a stream stands, with so many frames mixed past the horizon and so many in the buffer
 abbrev pub latency_of : ℕ → ℕ → Stream → Latency
-latency_of mixed buffered s = record {
+latency_of ahead buffered s = record {
   write = s.queue.write;
-  read = ahead_of s mixed;
+  read = ahead_of s ahead;
   buffered = buffered;
-  playing = not s.corked && is_playing (after s mixed).run;
-  run = (after s mixed).run;
+  playing = not s.corked && is_playing (after s ahead).run;
+  run = (after s ahead).run;
 }
 
 -- the notices of a stream that is there
@@ -100,28 +100,28 @@ notices_from (Some s) notices = notices s
 
 -- the notices of a message
 abbrev pub message_notices : ℕ → ℕ → Message Stream → List Input → List (Notice Stream)
-message_notices mixed buffered (Message.new n) inputs = []
-message_notices mixed buffered (Message.attach i parcel feed factors) inputs = []
-message_notices mixed buffered (Message.detach i) inputs = notices_from (stream_at i inputs) (λ s. Notice.detached i s ∷ [])
-message_notices mixed buffered (Message.write w) inputs = notices_from (stream_at w.input inputs) (λ s. refusal_of w.input (write_outcome s w mixed))
-message_notices mixed buffered (Message.cork i on) inputs = []
-message_notices mixed buffered (Message.flush i) inputs = []
-message_notices mixed buffered (Message.trigger i) inputs = []
-message_notices mixed buffered (Message.prebuf i) inputs = []
-message_notices mixed buffered (Message.drain i tag) inputs = []
-message_notices mixed buffered (Message.attr i attr) inputs = []
-message_notices mixed buffered (Message.factors each) inputs = []
-message_notices mixed buffered (Message.query i tag) inputs = notices_from (stream_at i inputs) (λ s. Notice.latency i tag (latency_of mixed buffered s) ∷ [])
+message_notices ahead buffered (Message.new n) inputs = []
+message_notices ahead buffered (Message.attach i parcel feed factors) inputs = []
+message_notices ahead buffered (Message.detach i) inputs = notices_from (stream_at i inputs) (λ s. Notice.detached i s ∷ [])
+message_notices ahead buffered (Message.write w) inputs = notices_from (stream_at w.input inputs) (λ s. refusal_of w.input (write_outcome s w ahead))
+message_notices ahead buffered (Message.cork i on) inputs = []
+message_notices ahead buffered (Message.flush i) inputs = []
+message_notices ahead buffered (Message.trigger i) inputs = []
+message_notices ahead buffered (Message.prebuf i) inputs = []
+message_notices ahead buffered (Message.drain i tag) inputs = []
+message_notices ahead buffered (Message.attr i attr) inputs = []
+message_notices ahead buffered (Message.factors each) inputs = []
+message_notices ahead buffered (Message.query i tag) inputs = notices_from (stream_at i inputs) (λ s. Notice.latency i tag (latency_of ahead buffered s) ∷ [])
 
 -- all of them, in order
 abbrev pub inputs_with_all : ℕ → List (Message Stream) → List Input → List Input
-inputs_with_all mixed [] inputs = inputs
-inputs_with_all mixed (m ∷ messages) inputs = inputs_with_all mixed messages (inputs_with mixed m inputs)
+inputs_with_all ahead [] inputs = inputs
+inputs_with_all ahead (m ∷ messages) inputs = inputs_with_all ahead messages (inputs_with ahead m inputs)
 
 abbrev pub all_message_notices : ℕ → ℕ → List (Message Stream) → List Input → List (Notice Stream)
-all_message_notices mixed buffered [] inputs = []
-all_message_notices mixed buffered (m ∷ messages) inputs =
-    message_notices mixed buffered m inputs ++ all_message_notices mixed buffered messages (inputs_with mixed m inputs)
+all_message_notices ahead buffered [] inputs = []
+all_message_notices ahead buffered (m ∷ messages) inputs =
+    message_notices ahead buffered m inputs ++ all_message_notices ahead buffered messages (inputs_with ahead m inputs)
 
 -- the sink after the second step
 abbrev pub told : Sink → List (Message Stream) → Sink
@@ -139,8 +139,8 @@ frame_mixed samples f sink = mix_of samples sink.spec (streams_of sink.inputs) (
 abbrev pub fresh_mix : Samples → Sink → ℕ → List Frame
 fresh_mix samples sink n = map (mix_of samples sink.spec (streams_of sink.inputs)) (range_with_len 0 n)
 
-abbrev pub mixed : Samples → Sink → Sink
-mixed samples sink = record sink {
+abbrev pub remixed : Samples → Sink → Sink
+remixed samples sink = record sink {
   buffer = take (sink.horizon - sink.consumed) sink.buffer ++ fresh_mix samples sink (sink.consumed + sink.depth - sink.horizon);
   filled = sink.consumed + sink.depth;
 }
@@ -153,22 +153,22 @@ has_ended s = left_of s.queue == 0
 
 -- the frames that tlength asks for past those that wait and those asked for already, with so many frames mixed past the horizon
 abbrev pub missing_of : Stream → ℕ → ℕ
-missing_of s mixed = s.tlength - above s.queue.write (ahead_of s mixed) - s.requested
+missing_of s ahead = s.tlength - above s.queue.write (ahead_of s ahead) - s.requested
 
 -- the frames of the request: all that are missing, where they are at least minreq
 abbrev pub request_of : Stream → ℕ → ℕ
-request_of s mixed = if nat_le s.minreq (missing_of s mixed) then missing_of s mixed else 0
+request_of s ahead = if nat_le s.minreq (missing_of s ahead) then missing_of s ahead else 0
 
 abbrev pub asked_stream : ℕ → Stream → Stream
-asked_stream mixed s = record s {
+asked_stream ahead s = record s {
   draining = if has_ended s then [] else s.draining;
-  requested = s.requested + request_of s mixed;
+  requested = s.requested + request_of s ahead;
 }
 
 abbrev pub asked_notices : ℕ → Input → List (Notice Stream)
-asked_notices mixed x =
+asked_notices ahead x =
     (if has_ended x.stream then map (λ tag. Notice.drained x.index tag) x.stream.draining else [])
-    ++ (if nat_le x.stream.minreq (missing_of x.stream mixed) then Notice.request x.index (missing_of x.stream mixed) ∷ [] else [])
+    ++ (if nat_le x.stream.minreq (missing_of x.stream ahead) then Notice.request x.index (missing_of x.stream ahead) ∷ [] else [])
 
 -- the sink after the fourth step
 abbrev pub asked : Sink → Sink
@@ -178,7 +178,7 @@ asked sink = record sink { inputs = map (with_stream (asked_stream (sink.filled 
 
 -- the sink after the sync consumed n frames and the messages were taken
 abbrev pub turned : Samples → Sink → ℕ → List (Message Stream) → Sink
-turned samples sink n messages = asked (mixed samples (told (settled sink n) messages))
+turned samples sink n messages = asked (remixed samples (told (settled sink n) messages))
 
 -- the frames that it played
 abbrev pub played_by : Sink → ℕ → List Frame

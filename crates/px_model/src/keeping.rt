@@ -41,5 +41,5 @@ pub fn stream_keeps()
         → IsStream (with_attr s attr) }
     ensures factors { (s : Stream) → IsStream s → (factors : List ℕ)
         → IsStream (with_factors s factors) }
-    ensures asked { (mixed : ℕ) (s : Stream) → IsStream s → IsStream (asked_stream mixed s) }
+    ensures asked { (ahead : ℕ) (s : Stream) → IsStream s → IsStream (asked_stream ahead s) }
 {}

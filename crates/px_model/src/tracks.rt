@@ -37,7 +37,7 @@ pub fn parcels_stand_at_the_horizon()
         → all_opens i (messages_of e) ≡ 0 → stream_at i sink.inputs ≡ Some s
         → AllByRecursion (HandsOverAt i (after s (forward_by sink e)).queue.read)
         (notices_of samples sink e) }
-    ensures attaches { (mixed i : ℕ) (parcel : Stream) (feed factors : List ℕ) (inputs : List Input)
-        → stream_at i (inputs_with mixed (Message.attach i parcel feed factors) inputs)
+    ensures attaches { (ahead i : ℕ) (parcel : Stream) (feed factors : List ℕ) (inputs : List Input)
+        → stream_at i (inputs_with ahead (Message.attach i parcel feed factors) inputs)
         ≡ Some (attached parcel feed factors) }
 {}
