@@ -5,11 +5,12 @@
 mod standard;
 
 use crate::standard::{Reading, Writing};
-use px_app::run;
+use px_app::{report, run};
 use px_ends::NoHost;
+use px_types::Status;
 use std::alloc::{AllocError, Global};
+use std::env;
 use std::process::ExitCode;
-use std::{env, io};
 
 // The words behind the program's own name. Words that aren't text are wrong words, as none are.
 fn words(rt: &HostRuntime, alloc: Global) -> Result<Vec<String>, AllocError> {
@@ -22,11 +23,13 @@ fn words(rt: &HostRuntime, alloc: Global) -> Result<Vec<String>, AllocError> {
     Ok(words)
 }
 
-fn main(rt: HostRuntime) -> io::Result<ExitCode> {
-    let words = words(&rt, rt.alloc())?;
+fn main(rt: HostRuntime) -> ExitCode {
     let mut input = Reading::new(rt.stdin());
     let mut output = Writing::new(rt.stdout());
     let mut log = Writing::new(rt.stderr());
-    let status = run(&rt, &words, &mut input, &mut output, &mut log, &mut NoHost);
-    Ok(ExitCode::from(status.code()))
+    let status = match words(&rt, rt.alloc()) {
+        Ok(words) => run(&rt, &words, &mut input, &mut output, &mut log, &mut NoHost),
+        Err(_) => report(Status::Memory, &mut log),
+    };
+    ExitCode::from(status.code())
 }
