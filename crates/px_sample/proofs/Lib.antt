@@ -1,1 +1,4 @@
+pub mod CompandedLemmas
 pub mod FormatLemmas
+pub mod RunLemmas
+pub mod WidthLemmas
