@@ -1,4 +1,6 @@
+pub mod BytesLemmas
 pub mod CompandedLemmas
 pub mod FormatLemmas
+pub mod LawLemmas
 pub mod RunLemmas
 pub mod WidthLemmas

@@ -1,5 +1,5 @@
 -- Work values: the whole numbers that samples are mixed as.
-use Rattle.std.specs.Prelude.{ℕ, ◌-◌, ◌/◌, ◌%◌, ◌^◌, List, [], length, map, ℤ, pos, ◌+ℤ◌, ◌-ℤ◌, ◌*ℤ◌, ◌<ℤ◌, ◌≤ℤ◌, neg_ℤ}
+use Rattle.std.specs.Prelude.{ℕ, ◌-◌, ◌/◌, ◌%◌, ◌^◌, List, [], ◌∷◌, ◌++◌, length, map, take, drop, ℤ, pos, ◌+ℤ◌, ◌-ℤ◌, ◌*ℤ◌, ◌<ℤ◌, ◌≤ℤ◌, neg_ℤ}
 use Rattle.std.specs.List.{flat_map}
 use Rattle.std.specs.Int.{int_div_euclid}
 use Rattle.std.specs.Simd.{first_chunks}
@@ -32,9 +32,13 @@ work_value_of S24Be sample = signed_of 24 (big_endian sample) *ℤ pos 256
 work_value_of S24In32Le sample = signed_of 24 (little_endian sample % 2 ^ 24) *ℤ pos 256
 work_value_of S24In32Be sample = signed_of 24 (big_endian sample % 2 ^ 24) *ℤ pos 256
 
+-- the samples of a run, each as its bytes
+abbrev pub samples_of : Format → List ℕ → List (List ℕ)
+samples_of format bytes = first_chunks (size_of format) (length bytes / size_of format) bytes
+
 -- the work values of a run of samples
 abbrev pub work_values_of : Format → List ℕ → List ℤ
-work_values_of format bytes = map (work_value_of format) (first_chunks (size_of format) (length bytes / size_of format) bytes)
+work_values_of format bytes = map (work_value_of format) (samples_of format bytes)
 
 -- the sample that carries a work value, as its bytes; only linear formats have one
 abbrev pub sample_of : Format → ℤ → List ℕ
@@ -55,6 +59,12 @@ sample_of S24In32Be value = big_bytes 4 (unsigned_of 24 (int_div_euclid value (p
 -- the bytes that carry a run of work values
 abbrev pub packed_of : Format → List ℤ → List ℕ
 packed_of format values = flat_map (sample_of format) values
+
+-- a sample with the upper byte of 24 bits in 32 cleared
+abbrev pub cleared_of : Format → List ℕ → List ℕ
+cleared_of S24In32Le sample = take 3 sample ++ 0 ∷ []
+cleared_of S24In32Be sample = 0 ∷ drop 1 sample
+cleared_of _ sample = sample
 
 -- a work value brought to another width, rounded down where bits fall away
 abbrev pub at_width : Width → Width → ℤ → ℤ

@@ -7,12 +7,14 @@
 mod coding;
 mod format;
 mod g711;
+mod laws;
 mod linear;
 mod sample;
 mod spec;
 mod width;
 
 pub use format::{Format, Width};
+pub use laws::packing_gives_back;
 pub use sample::{pack, unpack};
 pub use spec::Spec;
 pub use width::to_work;
