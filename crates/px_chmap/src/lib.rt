@@ -11,3 +11,6 @@ mod planner;
 pub use feed::Feed;
 pub use map::Map;
 pub use planner::plan;
+
+#[cfg(test)]
+mod tests;

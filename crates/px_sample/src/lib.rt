@@ -18,3 +18,6 @@ pub use laws::packing_gives_back;
 pub use sample::{pack, unpack};
 pub use spec::Spec;
 pub use width::to_work;
+
+#[cfg(test)]
+mod tests;

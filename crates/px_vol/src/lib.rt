@@ -9,3 +9,6 @@ mod volume;
 
 pub use channels::{CVolume, Factors};
 pub use volume::{MAX, MUTED, NORM, cube, divide, multiply};
+
+#[cfg(test)]
+mod tests;
