@@ -1,4 +1,4 @@
-use crate::{CVolume, Factors, MAX, MUTED, NORM, cube, divide, multiply};
+use crate::{CVolume, Factors, MAX, MUTED, NORM, cube, divide, dividing_is_undone, multiply};
 
 #[test]
 fn volumes_multiply_divide_and_cube(rt: HostRuntime) {
@@ -37,6 +37,7 @@ fn volumes_multiply_divide_and_cube(rt: HostRuntime) {
     ] {
         assert_eq!(rt; cube(v), factor, "{v} cubed");
     }
+    dividing_is_undone();
 }
 
 #[test]

@@ -23,7 +23,7 @@ pub fn multiply(a: u32, b: u32) -> u32
 
 /// The volume that makes `a` when it comes after `b`: their quotient to the nearest, at most `MAX`, and
 /// 0 where `b` is 0. Each is at most `MAX`. Takes no memory. Source: `pa_sw_volume_divide` in
-/// PulseAudio's `pulse/volume.c`; rounding to the nearest is own.
+/// PulseAudio's `pulse/volume.c`.
 pub fn divide(a: u32, b: u32) -> u32
     requires first { a ≤ greatest }
     requires second { b ≤ greatest }
