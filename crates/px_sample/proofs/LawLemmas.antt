@@ -13,6 +13,7 @@ use Rattle.px_sample.specs.Format.{size_of, IsLinear}
 use Rattle.px_sample.specs.Bytes.{little_endian, big_endian, little_bytes, big_bytes, signed_of, unsigned_of}
 use Rattle.px_sample.specs.WorkValue.{work_value_of, work_values_of, sample_of, samples_of, packed_of, cleared_of}
 use Rattle.px_sample.proofs.BytesLemmas.{AreBytes, little_bytes-little_endian, little_endian-below, big_bytes-big_endian, big_endian-below, unsigned_signed, upper_bits}
+use Rattle.px_sample.proofs.FormatLemmas.{size_of-some}
 use Rattle.px_sample.proofs.RunLemmas.{whole_samples}
 
 le_below : (k : ℕ) (sample : List ℕ) → length sample ≡ k → AreBytes sample → little_endian sample < 256 ^ k
@@ -139,15 +140,11 @@ pub cleared_run : (format : Format) (bytes : List ℕ) → IsLinear format → A
 cleared_run format bytes linear are =
     run_back format (length bytes / size_of format) bytes linear (div-mul-le_self (length bytes) (size_of format)) are
 
-size_some : (format : Format) → 0 < size_of format
-size_some U8 = omega arith
-size_some _ = omega arith
-
 pub same_run : (format : Format) (bytes : List ℕ) (count : ℕ) → IsLinear format → AreBytes bytes →
     length bytes ≡ size_of format * count → format ≢ S24In32Le → format ≢ S24In32Be →
     packed_of format (work_values_of format bytes) ≡ bytes
 same_run format bytes count linear are whole not_le not_be =
     cleared_run format bytes linear are
     ∙ ap (λ n. flat_map (cleared_of format) (first_chunks (size_of format) n bytes))
-    (whole_samples (size_of format) count (length bytes) (size_some format) whole)
+    (whole_samples (size_of format) count (length bytes) (size_of-some format) whole)
     ∙ joined (cleared_of format) (size_of format) count bytes (cleared_is format not_le not_be) whole

@@ -4,3 +4,4 @@ pub mod FormatLemmas
 pub mod LawLemmas
 pub mod RunLemmas
 pub mod WidthLemmas
+pub mod WorkValuesLemmas
