@@ -1,2 +1,3 @@
 pub mod ChannelMap
 pub mod Held
+pub mod Plan
