@@ -1,0 +1,4 @@
+pub mod Descriptor
+pub mod Fault
+pub mod Frame
+pub mod Reading

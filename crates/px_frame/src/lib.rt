@@ -1,0 +1,14 @@
+//! The frames of a client's byte stream, taken out of whatever pieces it comes in, and written.
+//! Which frames a stream has, and where it first breaks a rule, depends on its bytes alone and not on its pieces.
+#![tactic(auto)]
+
+mod descriptor;
+mod fault;
+mod frame;
+mod law;
+mod packet;
+
+pub use fault::{FrameError, FrameFault};
+pub use frame::{Body, Frame, Frames};
+pub use law::one_reading;
+pub use packet::Packet;
