@@ -1,2 +1,3 @@
 pub mod DescriptorLemmas
 pub mod ReadingLemmas
+pub mod FeedingLemmas

@@ -121,7 +121,7 @@ frame-unique w v x y p q e =
     let tail = parts-same w.payload v.payload x y lengths head.1 in
     (wire-same w v head.0 tail.0, tail.1)
 
-length-wire : (w : Wire) → length (wire_bytes w) ≡ 20 + length w.payload
+pub length-wire : (w : Wire) → length (wire_bytes w) ≡ 20 + length w.payload
 length-wire w = length-append (descriptor_bytes w.descriptor) w.payload ∙ ap (λ n. n + length w.payload) (length-descriptor_bytes w.descriptor)
 
 wire-then : (w : Wire) (x : List ℕ) → wire_bytes w ++ x ≡ descriptor_bytes w.descriptor ++ (w.payload ++ x)

@@ -2,3 +2,5 @@ pub mod Descriptor
 pub mod Fault
 pub mod Frame
 pub mod Reading
+pub mod Feeding
+pub mod Stage

@@ -2,7 +2,7 @@
 
 ghost use Rattle.std.specs.Prelude.{◌≡◌, ℕ, ◌+◌, ◌≤◌, ◌<◌, take, drop, length, ◌++◌, ◌-◌, min};
 ghost use Rattle.std.specs.Int.{to_be_bytes, w32};
-ghost use Rattle.px_frame.specs.Descriptor.{descriptor_bytes, broken_rule, byte_offset, seek_of};
+ghost use Rattle.px_frame.specs.Descriptor.{descriptor_bytes, HasWords, broken_rule, byte_offset, seek_of};
 
 use crate::fault::FrameFault;
 
@@ -28,7 +28,8 @@ pub struct Descriptor {
 impl Descriptor {
     /// The descriptor that these bytes spell.
     pub fn from_bytes(bytes: &[u8; 20]) -> Descriptor
-        ensures { descriptor_bytes result ≡ bytes.now }
+        ensures bytes { descriptor_bytes result ≡ bytes.now }
+        ensures words { HasWords result }
     {
         Descriptor {
             length: word(bytes, 0),

@@ -7,6 +7,7 @@ mod fault;
 mod frame;
 mod law;
 mod packet;
+mod stage;
 
 pub use fault::{FrameError, FrameFault};
 pub use frame::{Body, Frame, Frames};
