@@ -1,3 +1,4 @@
 pub mod DescriptorLemmas
 pub mod ReadingLemmas
 pub mod FeedingLemmas
+pub mod DecoderLemmas

@@ -4,3 +4,4 @@ pub mod Frame
 pub mod Reading
 pub mod Feeding
 pub mod Stage
+pub mod Progress

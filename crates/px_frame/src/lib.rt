@@ -2,6 +2,7 @@
 //! Which frames a stream has, and where it first breaks a rule, depends on its bytes alone and not on its pieces.
 #![tactic(auto)]
 
+mod decoder;
 mod descriptor;
 mod fault;
 mod frame;
@@ -9,6 +10,7 @@ mod law;
 mod packet;
 mod stage;
 
+pub use decoder::Decoder;
 pub use fault::{FrameError, FrameFault};
 pub use frame::{Body, Frame, Frames};
 pub use law::one_reading;
