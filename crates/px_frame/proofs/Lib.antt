@@ -2,3 +2,4 @@ pub mod DescriptorLemmas
 pub mod ReadingLemmas
 pub mod FeedingLemmas
 pub mod DecoderLemmas
+pub mod WriteLemmas

@@ -1,6 +1,6 @@
 -- The descriptor before a frame's payload: how it is spelled, and which rules it keeps.
-use Rattle.std.specs.Prelude.{ℕ, ◌+◌, ◌*◌, ◌%◌, ◌^◌, ◌<◌, List, ◌++◌, if◌then◌else◌, ◌==◌, nat_lt, nat_le, Option, Some, None, ℤ, slice_index}
-use Rattle.std.specs.Int.{to_be_bytes, cast_signed, w32, w64}
+use Rattle.std.specs.Prelude.{ℕ, ◌+◌, ◌*◌, ◌/◌, ◌%◌, ◌^◌, ◌<◌, List, ◌++◌, if◌then◌else◌, ◌==◌, nat_lt, nat_le, Option, Some, None, ℤ, slice_index}
+use Rattle.std.specs.Int.{to_be_bytes, cast_signed, cast_unsigned, w32, w64}
 use Rattle.px_frame.specs.declared.descriptor.Descriptor.{Descriptor}
 use Rattle.px_frame.specs.declared.descriptor.TheConstants.{MAX_PAYLOAD, CONTROL_CHANNEL}
 use Rattle.px_frame.specs.declared.fault.FrameFault.{FrameFault}
@@ -36,6 +36,16 @@ byte_offset d = cast_signed w64 (d.offset_high * 2 ^ 32 + d.offset_low)
 -- the seek mode is the low byte of the flags
 abbrev pub seek_of : Descriptor → ℕ
 seek_of d = d.flags % 256
+
+-- of a control packet of so many bytes
+abbrev pub control_descriptor : ℕ → Descriptor
+control_descriptor n = record { length = n; channel = CONTROL_CHANNEL; offset_high = 0; offset_low = 0; flags = 0 }
+
+-- of a write of so many bytes to a stream, at an offset that counts from where the seek mode says
+abbrev pub data_descriptor : ℕ → ℕ → ℤ → ℕ → Descriptor
+data_descriptor n stream offset seek =
+    let bits = cast_unsigned w64 offset in
+    record { length = n; channel = stream; offset_high = bits / 2 ^ 32; offset_low = bits % 2 ^ 32; flags = seek }
 
 -- each is a byte
 abbrev pub AreBytes : List ℕ → Type 0

@@ -9,9 +9,11 @@ mod frame;
 mod law;
 mod packet;
 mod stage;
+mod write;
 
 pub use decoder::Decoder;
 pub use fault::{FrameError, FrameFault};
 pub use frame::{Body, Frame, Frames};
 pub use law::one_reading;
 pub use packet::Packet;
+pub use write::{write_data, write_packet};

@@ -1,6 +1,6 @@
 // The bytes of a packet.
 
-ghost use Rattle.std.specs.Prelude.{◌≡◌};
+ghost use Rattle.std.specs.Prelude.{◌≡◌, ◌+◌, ◌≤◌, ◌++◌, length, vec_len, vec_capacity};
 
 use std::marker::Model;
 
@@ -39,4 +39,13 @@ impl Packet {
     {
         self.bytes
     }
+}
+
+/// Appends bytes for which there is room.
+pub fn append(bytes: &mut Vec<u8>, more: &[u8])
+    requires { vec_len bytes.old + length more.now ≤ vec_capacity bytes.old }
+    ensures items { bytes.new.items ≡ bytes.old.items ++ more.now }
+    ensures room { vec_capacity bytes.old ≤ vec_capacity bytes.new }
+{
+    bytes.extend_from_slice(more).unwrap();
 }

@@ -1,6 +1,6 @@
 // How far a decoder is in the frame that has begun.
 
-ghost use Rattle.std.specs.Prelude.{◌≡◌, ◌≢◌, ℕ, ◌+◌, ◌<◌, ◌≤◌, List, [], ◌++◌, length, take, IfOk, None, vec_len, vec_capacity};
+ghost use Rattle.std.specs.Prelude.{◌≡◌, ◌≢◌, ℕ, ◌+◌, ◌<◌, ◌≤◌, List, [], ◌++◌, length, take, IfOk, None};
 ghost use Rattle.px_frame.specs.declared.descriptor.TheConstants.{CONTROL_CHANNEL};
 ghost use Rattle.px_frame.specs.Descriptor.{broken_rule, descriptor_bytes};
 ghost use Rattle.px_frame.specs.Frame.{body_of};
@@ -9,7 +9,7 @@ ghost use Rattle.px_frame.specs.Stage.{IsPart, IsStep, IsWhole, held_of};
 use crate::descriptor::{CONTROL_CHANNEL, DESCRIPTOR_SIZE, Descriptor, fill};
 use crate::fault::FrameFault;
 use crate::frame::{Body, Frame};
-use crate::packet::Packet;
+use crate::packet::{Packet, append};
 use px_block::{BlockSource, Blocks, Mem};
 use std::alloc::Global;
 
@@ -170,15 +170,6 @@ fn control_step(
     }
     let body = Body::Control(Packet::from_vec(bytes));
     whole(&descriptor, body, start, count)
-}
-
-// Appends bytes for which there is room.
-fn append(bytes: &mut Vec<u8>, more: &[u8])
-    requires { vec_len bytes.old + length more.now ≤ vec_capacity bytes.old }
-    ensures items { bytes.new.items ≡ bytes.old.items ++ more.now }
-    ensures room { vec_capacity bytes.old ≤ vec_capacity bytes.new }
-{
-    bytes.extend_from_slice(more).unwrap();
 }
 
 // Takes bytes for a stream.
