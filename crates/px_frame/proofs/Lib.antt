@@ -3,3 +3,4 @@ pub mod ReadingLemmas
 pub mod FeedingLemmas
 pub mod DecoderLemmas
 pub mod WriteLemmas
+pub mod PiecesLemmas

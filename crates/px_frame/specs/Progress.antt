@@ -1,5 +1,5 @@
 -- Where a decoder stands, and what its answers say of all bytes that it was fed.
-use Rattle.std.specs.Prelude.{◌≡◌, ℕ, List, [], ◌++◌, Result, Ok, Err}
+use Rattle.std.specs.Prelude.{◌≡◌, ℕ, List, [], ◌++◌, ◌⊎◌, Result, Ok, Err}
 use Rattle.px_frame.specs.declared.decoder.Run.{Run}
 use Rattle.px_frame.specs.declared.decoder.Run.TheVariants.{Fed, Broken as broken}
 use Rattle.px_frame.specs.declared.decoder.Stage.{Stage}
@@ -56,3 +56,9 @@ IsStage lost = Unit {0}
 abbrev pub IsRun : ℕ → List ℕ → List ℕ → Run → Type 0
 IsRun start held piece (Fed frames part start') = Feeds start held piece frames start' (held_of part) [] × IsPart part
 IsRun start held piece (broken frames fault at) = Breaks start held piece frames fault at
+
+-- the error behind frames that came before it, for which there may be no memory
+abbrev pub IsBehind : List Frame → FrameError → FrameError → Type 0
+IsBehind all (Fault frames fault at) error = (error ≡ Fault (all ++ frames) fault at) ⊎ (error ≡ NoMemory)
+IsBehind all (Failed fault at) error = error ≡ Failed fault at
+IsBehind all NoMemory error = error ≡ NoMemory

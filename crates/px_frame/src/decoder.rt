@@ -1,6 +1,6 @@
 // The decoder of a connection's bytes.
 
-ghost use Rattle.std.specs.Prelude.{◌≡◌, ℕ, List, [], ◌++◌, IfOk, OnOk};
+ghost use Rattle.std.specs.Prelude.{◌≡◌, ℕ, List, [], ◌++◌, ◌↔◌, IfOk, OnOk};
 ghost use Rattle.std.specs.Option.{option_to_list};
 ghost use Rattle.px_frame.specs.declared.frame.Frame.{Frame};
 ghost use Rattle.px_frame.specs.declared.fault.FrameFault.{FrameFault};
@@ -73,7 +73,9 @@ impl Decoder {
         // Whatever was fed before, and whatever frames it gave.
         ensures answers { (fed : List ℕ) (before : List Frame) → HasFed self.old fed before → Answers fed before piece.now result }
         ensures leaves { (fed : List ℕ) (before : List Frame) → HasFed self.old fed before → Leaves self.new fed before piece.now result }
-        ensures failed { (fault : FrameFault) (at : ℕ) → self.old ≡ Stopped fault at → (result ≡ Err (FrameError.Failed fault at)) × (self.new ≡ self.old) }
+        // It failed before, exactly where an earlier feed answered that fault.
+        ensures failed { (fault : FrameFault) (at : ℕ) → (self.old ≡ Stopped fault at) ↔ (result ≡ Err (FrameError.Failed fault at)) }
+        ensures stays { (fault : FrameFault) (at : ℕ) → self.old ≡ Stopped fault at → self.new ≡ self.old }
         ensures lost { self.old ≡ Lost → (result ≡ Err FrameError.NoMemory) × (self.new ≡ Lost) }
     {
         match mem::replace(&mut self.stage, Stage::Lost) {

@@ -69,6 +69,15 @@ impl Frames {
         Ok(())
     }
 
+    /// Appends the frames of another list. After an `Err` those are dropped, and no other is.
+    pub fn append(&mut self, mut more: Frames) -> Mem<()>
+        ensures ok { OnOk result (self.new ≡ self.old ++ more) }
+        ensures err { OnErr result (self.new ≡ self.old) }
+    {
+        self.frames.append(&mut more.frames)?;
+        Ok(())
+    }
+
     /// The frames, in order. Takes no memory.
     pub fn as_slice(&self) -> &[Frame]
         ensures { result.now ≡ self.now }

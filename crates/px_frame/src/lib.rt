@@ -8,6 +8,7 @@ mod fault;
 mod frame;
 mod law;
 mod packet;
+mod pieces;
 mod stage;
 mod write;
 
@@ -16,4 +17,5 @@ pub use fault::{FrameError, FrameFault};
 pub use frame::{Body, Frame, Frames};
 pub use law::one_reading;
 pub use packet::Packet;
+pub use pieces::decode;
 pub use write::{write_data, write_packet};
