@@ -5,7 +5,8 @@ use Rattle.px_block.specs.declared.block.TheConstants.{BLOCK_SIZE}
 -- none is empty, none has more than a block can, and each but the last is full
 abbrev pub IsPacked : List (List ℕ) → Type 0
 IsPacked [] = Unit {0}
-IsPacked (block ∷ blocks) = (0 < length block) × (length block ≤ BLOCK_SIZE) × (0 < length blocks → length block ≡ BLOCK_SIZE) × IsPacked blocks
+IsPacked (block ∷ blocks) =
+    (0 < length block) × (length block ≤ BLOCK_SIZE) × (0 < length blocks → length block ≡ BLOCK_SIZE) × IsPacked blocks
 
 -- each has all the bytes that a block can
 abbrev pub AreFull : List (List ℕ) → Type 0

@@ -41,7 +41,8 @@ impl Blocks {
     /// Appends the first of these bytes to the last block, or to one that it takes where that is full, and
     /// answers how many went in: none only where there are none. After an `Err` nothing has changed.
     pub fn put<B: BlockSource>(&mut self, source: &mut B, bytes: &[u8]) -> Mem<usize>
-        ensures count { IfOk result (λ count. count ≡ min (length bytes.now) (BLOCK_SIZE - length self.old % BLOCK_SIZE)) }
+        ensures count { IfOk result (λ count.
+            count ≡ min (length bytes.now) (BLOCK_SIZE - length self.old % BLOCK_SIZE)) }
         ensures bytes { IfOk result (λ count. self.new ≡ self.old ++ take count bytes.now) }
         ensures err { OnErr result (self.new ≡ self.old) }
     {

@@ -4,3 +4,4 @@ pub mod FeedingLemmas
 pub mod DecoderLemmas
 pub mod WriteLemmas
 pub mod PiecesLemmas
+pub mod BodyLemmas

@@ -6,7 +6,8 @@ use Rattle.px_frame.specs.declared.fault.FrameError.{FrameError}
 use Rattle.px_frame.specs.declared.fault.FrameError.TheVariants.{Fault, Failed, NoMemory}
 use Rattle.px_frame.specs.declared.fault.FrameFault.{FrameFault}
 use Rattle.px_frame.specs.declared.frame.Frame.{Frame}
-use Rattle.px_frame.specs.Progress.{Progress, HasFed, Answers, IsBehind}
+use Rattle.px_frame.specs.Progress.{Progress, HasFed, Answers}
+use Rattle.px_frame.specs.Run.{IsBehind}
 use Rattle.px_frame.specs.Reading.{Unfinished, Broken, IsRead}
 use Rattle.px_frame.proofs.DecoderLemmas.{failed-more}
 use Rattle.px_frame.proofs.ReadingLemmas.{reading-unique, splits-none}

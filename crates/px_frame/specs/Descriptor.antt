@@ -9,7 +9,8 @@ use Rattle.px_frame.specs.declared.fault.FrameFault.TheVariants.{ZeroLength, Too
 -- its twenty bytes: five words, each with its high byte first
 unfoldable pub descriptor_bytes : Descriptor → List ℕ
 descriptor_bytes d =
-    to_be_bytes w32 d.length ++ (to_be_bytes w32 d.channel ++ (to_be_bytes w32 d.offset_high ++ (to_be_bytes w32 d.offset_low ++ to_be_bytes w32 d.flags)))
+    to_be_bytes w32 d.length ++ (to_be_bytes w32 d.channel
+    ++ (to_be_bytes w32 d.offset_high ++ (to_be_bytes w32 d.offset_low ++ to_be_bytes w32 d.flags)))
 
 -- each word fits its four bytes
 pub record HasWords (d : Descriptor) : Type 0 where

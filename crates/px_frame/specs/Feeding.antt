@@ -7,7 +7,8 @@ use Rattle.px_frame.specs.Reading.{Splits, IsBegun, IsEnding, Broken}
 
 -- behind `held`, which stands at `start`, the piece has these frames; then `held'` at `start'` is less than a
 -- frame, and `left` of the piece is not taken
-pub record Feeds (start : ℕ) (held piece : List ℕ) (frames : List Frame) (start' : ℕ) (held' left : List ℕ) : Type 0 where
+pub record Feeds (start : ℕ) (held piece : List ℕ) (frames : List Frame) (start' : ℕ) (held' left : List ℕ) :
+    Type 0 where
   pub after : ℕ
   pub splits : Splits start (held ++ piece) frames after (held' ++ left)
   pub begun : IsBegun held'

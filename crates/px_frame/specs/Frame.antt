@@ -1,7 +1,7 @@
 -- A frame on the wire, and what it says.
-use Rattle.std.specs.Prelude.{◌≡◌, ℕ, ◌+◌, ◌-◌, ◌^◌, min, List, ◌++◌, length, if◌then◌else◌, ◌==◌, None}
+use Rattle.std.specs.Prelude.{◌≡◌, ℕ, ◌+◌, ◌-◌, ◌^◌, ◌<◌, ◌≤◌, ◌≢◌, min, List, ◌++◌, length, if◌then◌else◌, ◌==◌, None}
 use Rattle.px_frame.specs.declared.descriptor.Descriptor.{Descriptor}
-use Rattle.px_frame.specs.declared.descriptor.TheConstants.{CONTROL_CHANNEL}
+use Rattle.px_frame.specs.declared.descriptor.TheConstants.{CONTROL_CHANNEL, MAX_PAYLOAD}
 use Rattle.px_frame.specs.declared.frame.Frame.{Frame}
 use Rattle.px_frame.specs.declared.frame.Body.{Body}
 use Rattle.px_frame.specs.declared.frame.Body.TheVariants.{Control, Write}
@@ -31,6 +31,12 @@ abbrev pub body_of : Descriptor → List ℕ → Body
 body_of d payload =
     if d.channel == CONTROL_CHANNEL then Control payload
     else Write d.channel (byte_offset d) (seek_of d) payload
+
+-- what a frame can say: 1 to 16,777,216 bytes, and for a stream one of four seek modes
+abbrev pub IsBody : Body → Type 0
+IsBody (Control bytes) = (0 < length bytes) × (length bytes ≤ MAX_PAYLOAD)
+IsBody (Write stream offset seek bytes) =
+    (stream ≢ CONTROL_CHANNEL) × (seek ≤ 3) × (0 < length bytes) × (length bytes ≤ MAX_PAYLOAD)
 
 -- what a frame says that begins there: its offset is that of its payload
 abbrev pub frame_of : ℕ → Wire → Frame

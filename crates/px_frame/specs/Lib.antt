@@ -5,3 +5,4 @@ pub mod Reading
 pub mod Feeding
 pub mod Stage
 pub mod Progress
+pub mod Run

@@ -25,12 +25,14 @@ pub record Splits (start : ℕ) (bytes : List ℕ) (frames : List Frame) (after 
 abbrev pub IsBegun : List ℕ → Type 0
 IsBegun rest =
     (length rest < 20)
-    ⊎ ((d : Descriptor) × (part : List ℕ) × HasWords d × (rest ≡ descriptor_bytes d ++ part) × (broken_rule d ≡ None) × (length part < d.length))
+    ⊎ ((d : Descriptor) × (part : List ℕ) × HasWords d × (rest ≡ descriptor_bytes d ++ part)
+    × (broken_rule d ≡ None) × (length part < d.length))
 
 -- a descriptor that breaks a rule, first this one in this of its bytes, and whatever follows
 abbrev pub IsBroken : List ℕ → FrameFault → ℕ → Type 0
 IsBroken rest fault place =
-    (d : Descriptor) × (later : List ℕ) × HasWords d × (rest ≡ descriptor_bytes d ++ later) × (broken_rule d ≡ Some (fault, place))
+    (d : Descriptor) × (later : List ℕ) × HasWords d × (rest ≡ descriptor_bytes d ++ later)
+    × (broken_rule d ≡ Some (fault, place))
 
 -- how bytes end: in less than a frame, or by a fault at an offset
 pub data Ending : Type 0 where

@@ -29,7 +29,8 @@ pub record IsAwaiting (d : Descriptor) (got missing : ℕ) : Type 0 where
 abbrev pub IsPart : Part → Type 0
 IsPart (Head bytes got) = (length bytes ≡ 20) × (got < 20)
 IsPart (Control d bytes missing) =
-    IsAwaiting d (length bytes.items) missing × (d.channel ≡ CONTROL_CHANNEL) × (length bytes.items + missing ≤ vec_capacity bytes)
+    IsAwaiting d (length bytes.items) missing × (d.channel ≡ CONTROL_CHANNEL)
+    × (length bytes.items + missing ≤ vec_capacity bytes)
 IsPart (Write d bytes missing) = IsAwaiting d (length bytes) missing × (d.channel ≢ CONTROL_CHANNEL)
 
 -- a step on from the bytes held: it takes some of the piece, and brings at most one frame, or a fault
@@ -43,4 +44,4 @@ IsStep start held piece (Broken fault at) = Breaks start held piece [] fault at
 abbrev pub IsWhole : Descriptor → Body → ℕ → ℕ → Step → Type 0
 IsWhole d body start taken step =
     (part : Part) × (held_of part ≡ []) × IsPart part
-    × (step ≡ On part (offset_at (offset_at (start + 20) + d.length)) taken (Some (record { at = offset_at (start + 20); body = body })))
+    × (let at = offset_at (start + 20) in step ≡ On part (offset_at (at + d.length)) taken (Some (record { at = at; body = body })))

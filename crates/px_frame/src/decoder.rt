@@ -4,7 +4,8 @@ ghost use Rattle.std.specs.Prelude.{◌≡◌, ℕ, List, [], ◌++◌, ◌↔�
 ghost use Rattle.std.specs.Option.{option_to_list};
 ghost use Rattle.px_frame.specs.declared.frame.Frame.{Frame};
 ghost use Rattle.px_frame.specs.declared.fault.FrameFault.{FrameFault};
-ghost use Rattle.px_frame.specs.Progress.{Within, Stopped, Lost, HasFed, Answers, Leaves, IsRun};
+ghost use Rattle.px_frame.specs.Progress.{Within, Stopped, Lost, HasFed, Answers, Leaves, GivesBodies};
+ghost use Rattle.px_frame.specs.Run.{IsRun};
 ghost use Rattle.px_frame.specs.Stage.{IsPart, held_of};
 
 use crate::fault::{FrameError, FrameFault};
@@ -40,7 +41,7 @@ impl Model for Decoder {
 
     ghost Value = { Progress };
 
-    ghost use Rattle.px_frame.specs.Progress.{IsStage, progress_of};
+    ghost use Rattle.px_frame.specs.Run.{IsStage, progress_of};
 
     ghost view = { λ d. progress_of d.start d.stage };
 
@@ -71,10 +72,15 @@ impl Decoder {
         blocks: &mut B,
     ) -> Result<Frames, FrameError>
         // Whatever was fed before, and whatever frames it gave.
-        ensures answers { (fed : List ℕ) (before : List Frame) → HasFed self.old fed before → Answers fed before piece.now result }
-        ensures leaves { (fed : List ℕ) (before : List Frame) → HasFed self.old fed before → Leaves self.new fed before piece.now result }
+        ensures answers { (fed : List ℕ) (before : List Frame) → HasFed self.old fed before
+            → Answers fed before piece.now result }
+        ensures leaves { (fed : List ℕ) (before : List Frame) → HasFed self.old fed before
+            → Leaves self.new fed before piece.now result }
+        // Each frame has 1 to 16,777,216 bytes, and one for a stream has a stream's channel and a known seek mode.
+        ensures bodies { GivesBodies result }
         // It failed before, exactly where an earlier feed answered that fault.
-        ensures failed { (fault : FrameFault) (at : ℕ) → (self.old ≡ Stopped fault at) ↔ (result ≡ Err (FrameError.Failed fault at)) }
+        ensures failed { (fault : FrameFault) (at : ℕ) →
+            (self.old ≡ Stopped fault at) ↔ (result ≡ Err (FrameError.Failed fault at)) }
         ensures stays { (fault : FrameFault) (at : ℕ) → self.old ≡ Stopped fault at → self.new ≡ self.old }
         ensures lost { self.old ≡ Lost → (result ≡ Err FrameError.NoMemory) × (self.new ≡ Lost) }
     {

@@ -1,5 +1,5 @@
 //! The frames of a client's byte stream, taken out of whatever pieces it comes in, and written.
-//! Which frames a stream has, and where it first breaks a rule, depends on its bytes alone and not on its pieces.
+//! Which frames a stream has, and where it first breaks a rule, depends on its bytes alone.
 #![tactic(auto)]
 
 mod decoder;

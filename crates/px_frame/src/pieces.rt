@@ -2,7 +2,8 @@
 
 ghost use Rattle.std.specs.Prelude.{[], map};
 ghost use Rattle.std.specs.List.{concat};
-ghost use Rattle.px_frame.specs.Progress.{Answers, IsBehind};
+ghost use Rattle.px_frame.specs.Progress.{Answers};
+ghost use Rattle.px_frame.specs.Run.{IsBehind};
 
 use crate::decoder::Decoder;
 use crate::fault::FrameError;

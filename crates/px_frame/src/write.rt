@@ -16,8 +16,10 @@ use std::alloc::Global;
 pub fn write_packet(alloc: Global, bytes: &[u8]) -> Mem<Packet>
     requires some { 0 < length bytes.now }
     requires few { length bytes.now ≤ MAX_PAYLOAD }
-    ensures spelling { IfOk result (λ packet. packet ≡ descriptor_bytes (control_descriptor (length bytes.now)) ++ bytes.now) }
-    ensures frame { IfOk result (λ packet. IsRead packet (record { at = 20; body = Control bytes.now } ∷ []) Unfinished) }
+    ensures spelling { IfOk result (λ packet. packet
+        ≡ descriptor_bytes (control_descriptor (length bytes.now)) ++ bytes.now) }
+    ensures frame { IfOk result (λ packet.
+        IsRead packet (record { at = 20; body = Control bytes.now } ∷ []) Unfinished) }
 {
     let descriptor = Descriptor {
         length: bytes.len() as u32,
@@ -36,8 +38,10 @@ pub fn write_data(alloc: Global, stream: u32, offset: i64, seek: u8, bytes: &[u8
     requires few { length bytes.now ≤ MAX_PAYLOAD }
     requires channel { stream ≢ CONTROL_CHANNEL }
     requires mode { seek ≤ 3 }
-    ensures spelling { IfOk result (λ packet. packet ≡ descriptor_bytes (data_descriptor (length bytes.now) stream offset seek) ++ bytes.now) }
-    ensures frame { IfOk result (λ packet. IsRead packet (record { at = 20; body = Write stream offset seek bytes.now } ∷ []) Unfinished) }
+    ensures spelling { IfOk result (λ packet. packet
+        ≡ descriptor_bytes (data_descriptor (length bytes.now) stream offset seek) ++ bytes.now) }
+    ensures frame { IfOk result (λ packet.
+        IsRead packet (record { at = 20; body = Write stream offset seek bytes.now } ∷ []) Unfinished) }
 {
     let bits = offset.cast_unsigned();
     let descriptor = Descriptor {

@@ -3,8 +3,10 @@ use Rattle.px_frame.specs.declared.decoder.Run.TheVariants.{Fed, Broken}
 use Rattle.px_frame.specs.declared.decoder.Stage.{Stage}
 use Rattle.px_frame.specs.declared.decoder.Stage.TheVariants.{Within as within, Failed as failed}
 use Rattle.px_frame.specs.declared.frame.Frame.{Frame}
-use Rattle.px_frame.specs.Progress.{Progress, progress_of, HasFed, IsRun}
+use Rattle.px_frame.specs.Progress.{Progress, HasFed}
+use Rattle.px_frame.specs.Run.{progress_of, IsRun}
 use Rattle.px_frame.specs.Stage.{held_of}
+use Rattle.px_frame.proofs.BodyLemmas.{bodies-read}
 use Rattle.px_frame.proofs.DecoderLemmas.{read-fed, fed-on, fed-broken, failed-more}
 use Rattle.px_frame.proofs.decoder.Decoder.feed.Goals as goal
 
@@ -46,3 +48,15 @@ returns-in-Failed-clause-leaves g c =
     λ fed before h.
     failed-more c.args.piece.now
     (fed_there c.args.self.now c.self.inside.start c.self.inside.stage (failed c.in-Failed.fault c.in-Failed.at) fed before c.self.view_is c.in-Failed.ensures.value h)
+
+pub returns-in-Fed-clause-bodies : goal.returns-in-Fed-clause-bodies
+returns-in-Fed-clause-bodies g c =
+    let ran : IsRun c.self.inside.start (held_of c.in-Within.part) c.args.piece.now (Fed c.in-Fed.frames c.in-Fed.part c.in-Fed.start) =
+    subst (IsRun c.self.inside.start (held_of c.in-Within.part) c.args.piece.now) c.in-Fed.is c.in_ok-frames-in-Within.ensures in
+    bodies-read ran.0.splits
+
+pub returns-in-Broken-clause-bodies : goal.returns-in-Broken-clause-bodies
+returns-in-Broken-clause-bodies g c =
+    let ran : IsRun c.self.inside.start (held_of c.in-Within.part) c.args.piece.now (Broken c.in-Broken.frames c.in-Broken.fault c.in-Broken.at) =
+    subst (IsRun c.self.inside.start (held_of c.in-Within.part) c.args.piece.now) c.in-Broken.is c.in_ok-frames-in-Within.ensures in
+    bodies-read ran.splits
