@@ -7,12 +7,16 @@ mod law;
 mod memory;
 mod packet;
 mod place;
+mod raw;
 mod reader;
+mod stands;
+mod tag;
 mod writer;
 
 pub use fault::TagFault;
 pub use law::one_spelling;
 pub use memory::{Mem, NoMemory};
 pub use packet::Packet;
+pub use raw::{CHANNELS_MAX, RawMap, RawSpec, RawVolume, TimeVal};
 pub use reader::TagReader;
 pub use writer::TagWriter;
