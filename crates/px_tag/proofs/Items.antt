@@ -180,7 +180,7 @@ counted_again bytes size behind lt =
     let regrouped = append_assoc (to_be_bytes w32 (length bytes)) bytes behind in
     rw (regrouped, field_again w32 (2 ^ 32) wide32 (length bytes) size (bytes ++ behind) lt, bytes_again bytes size behind) refl
 
-counted_stands : (bytes : List ℕ) (place field after : Place) (n : ℕ) → Stands (to_be_bytes w32 n) place field → Stands bytes field after → length bytes ≡ n → Stands (counted bytes) place after
+pub counted_stands : (bytes : List ℕ) (place field after : Place) (n : ℕ) → Stands (to_be_bytes w32 n) place field → Stands bytes field after → length bytes ≡ n → Stands (counted bytes) place after
 counted_stands bytes place field after n first others is =
     let count : Stands (to_be_bytes w32 (length bytes)) place field = rw is first in
     Stands-then (to_be_bytes w32 (length bytes)) bytes place field after count others

@@ -5,3 +5,5 @@ pub mod Counts
 pub mod Items
 pub mod Parts
 pub mod Loop
+pub mod Properties
+pub mod Written

@@ -3,6 +3,7 @@
 use Rattle.std.specs.Prelude.{◌≡◌, ℕ, ◌<◌, ◌≤◌, ◌^◌, ℤ, Bool, true, false, not, ◌==◌, IsTrue, List, [], ◌∷◌, ◌++◌, length, All, Option, None, Some}
 use Rattle.std.specs.Int.{w32, w64, to_be_bytes, cast_unsigned}
 use Rattle.std.specs.List.{flat_map, list_all}
+use Rattle.px_tag.specs.PropList.{Property, is_property, is_proplist}
 use Rattle.px_tag.specs.declared.raw.RawSpec.{RawSpec}
 use Rattle.px_tag.specs.declared.raw.TimeVal.{TimeVal}
 
@@ -60,6 +61,14 @@ channel_volumes volumes = 0x76 ∷ length volumes ∷ flat_map (to_be_bytes w32)
 unfoldable pub time : TimeVal → List ℕ
 time t = 0x54 ∷ to_be_bytes w32 t.seconds ++ to_be_bytes w32 t.micros
 
+-- a property: its key, how long its value is, and its value
+unfoldable pub property : Property → List ℕ
+property p = text (Some p.0) ++ number (length p.1) ++ arbitrary p.1
+
+-- a property list: P, its properties, the null string
+unfoldable pub proplist : List Property → List ℕ
+proplist list = 0x50 ∷ flat_map property list ++ 0x4E ∷ []
+
 -- ---- what has a spelling
 
 -- a string has no zero byte
@@ -69,6 +78,13 @@ is_text bytes = list_all (λ b. not (b == 0)) bytes
 abbrev pub IsText : Option (List ℕ) → Type 0
 IsText None = Unit {0}
 IsText (Some bytes) = IsTrue (is_text bytes)
+
+-- a property list as it is written; a key may be there twice
+abbrev pub AreProperties : List Property → Type 0
+AreProperties list = IsTrue (list_all is_property list)
+
+abbrev pub IsPropList : List Property → Type 0
+IsPropList list = IsTrue (is_proplist list)
 
 abbrev pub AnyFlag : Bool → Type 0
 AnyFlag b = Unit {0}

@@ -1,10 +1,11 @@
 -- What stands at a place, by the kind of item that is wanted there, and the first fault where none stands.
-use Rattle.std.specs.Prelude.{ℕ, zero, suc, ◌+◌, ℤ, Bool, true, false, List, [], ◌∷◌, length, take, position, Option, None, Some, Result, Ok, Err, nat_lt, ◌==◌, if◌then◌else◌}
+use Rattle.std.specs.Prelude.{ℕ, zero, suc, ◌+◌, ℤ, Bool, true, false, List, [], ◌∷◌, length, take, position, Option, None, Some, Result, Ok, Err, nat_lt, nat_le, ◌&&◌, ◌==◌, if◌then◌else◌}
 use Rattle.std.specs.Int.{Width, w32, w64, byte_len, from_be_bytes, cast_signed}
 use Rattle.px_tag.specs.declared.fault.TagFault.{TagFault}
 use Rattle.px_tag.specs.declared.fault.TagFault.TheVariants.{WrongTag, Short, BadValue, Left}
 use Rattle.px_tag.specs.declared.raw.RawSpec.{RawSpec}
 use Rattle.px_tag.specs.declared.raw.TimeVal.{TimeVal}
+use Rattle.px_tag.specs.PropList.{Property, is_key, meaning}
 use Rattle.px_tag.specs.Place.{Place, Reading, offset_of, past, ◌>>=◌}
 
 -- ---- the parts of items
@@ -128,6 +129,54 @@ time_at place = do
   seconds ← field_at w32 field
   micros ← field_at w32 seconds.1
   Ok (record { seconds = seconds.0; micros = micros.0 }, micros.1)
+
+-- ---- property lists
+
+-- a property's value: how long it is, and then an arbitrary that is as long, 65,536 bytes at the most; both are
+-- checked before its bytes are read
+unfoldable pub value_at : Reading (List ℕ)
+value_at place = do
+  size ← number_at place
+  field ← tagged_at 0x78 size.1
+  count ← field_at w32 field
+  if (count.0 == size.0) && nat_le size.0 65536 then bytes_at size.0 count.1 else Err (BadValue (offset_of size.1))
+
+-- behind a key, which is checked first, its value; the null string ends the list
+abbrev pub keyed_at : Place → Option (List ℕ) → Reading (Option Property)
+keyed_at start None place = Ok (None, place)
+keyed_at start (Some key) place = if is_key key then (value_at place >>= λ value. Ok (Some (key, value.0), value.1)) else Err (BadValue (offset_of start))
+
+-- the next property, or none at the list's end
+unfoldable pub property_at : Reading (Option Property)
+property_at place = do
+  key ← text_at place
+  keyed_at place key.0 key.1
+
+-- a property, and those behind it; or none
+abbrev pub followed_by : Option Property → Place → Result (List Property × Place) TagFault → Result (List Property × Place) TagFault
+followed_by None place others = Ok ([], place)
+followed_by (Some p) place others = others >>= λ list. Ok (p ∷ list.0, list.1)
+
+-- the properties up to the list's end; each has a byte at least, so there are no more of them than bytes
+unfoldable pub properties_at : ℕ → Reading (List Property)
+properties_at zero place = Err (Short place.size)
+properties_at (suc most) place = do
+  first ← property_at place
+  followed_by first.0 first.1 (properties_at most first.1)
+
+-- a property list as it is written
+unfoldable pub written_at : Reading (List Property)
+written_at place = do
+  field ← tagged_at 0x50 place
+  properties_at (length field.rest) field
+
+-- a property list
+unfoldable pub proplist_at : Reading (List Property)
+proplist_at place = do
+  written ← written_at place
+  Ok (meaning written.0, written.1)
+
+-- ---- the end
 
 -- nothing is left
 unfoldable pub end_at : Place → Result Unit TagFault

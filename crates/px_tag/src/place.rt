@@ -1,6 +1,6 @@
 //! A place in a packet, and the parts that items are made of.
 
-ghost use Rattle.std.specs.Prelude.{◌≡◌, ◌<◌, ◌==◌, length, position, IfOk, IfSome};
+ghost use Rattle.std.specs.Prelude.{◌≡◌, ◌<◌, ◌≤◌, ◌==◌, length, position, IfOk, IfSome};
 ghost use Rattle.std.specs.Int.{w32, w64};
 ghost use Rattle.px_tag.specs.Place.{offset_of, Gives};
 ghost use Rattle.px_tag.specs.Seen.{place_of};
@@ -47,6 +47,7 @@ impl<'a> Place<'a> {
     pub(crate) fn bytes(self, count: usize) -> Result<(&'a [u8], Place<'a>), TagFault>
         ensures value { Gives (λ read. (read.0.now, place_of read.1)) result (bytes_at count (place_of self.entry)) }
         ensures count { IfOk result (λ read. length read.0.now ≡ count) }
+        ensures shorter { IfOk result (λ read. length read.1.rest.now ≤ length self.entry.rest.now) }
     {
         if self.rest.len() < count {
             return Err(TagFault::Short { at: self.size });
@@ -58,7 +59,8 @@ impl<'a> Place<'a> {
     /// One byte.
     #[tactic(auto, unfolding(crate::specs::Reading::next_at))]
     pub(crate) fn next(self) -> Result<(u8, Place<'a>), TagFault>
-        ensures { Gives (λ read. (read.0, place_of read.1)) result (next_at (place_of self.entry)) }
+        ensures value { Gives (λ read. (read.0, place_of read.1)) result (next_at (place_of self.entry)) }
+        ensures shorter { IfOk result (λ read. length read.1.rest.now < length self.entry.rest.now) }
     {
         match self.rest {
             [] => Err(TagFault::Short { at: self.size }),
@@ -69,7 +71,8 @@ impl<'a> Place<'a> {
     /// The place behind the tag byte.
     #[tactic(auto, unfolding(crate::specs::Reading::tagged_at))]
     pub(crate) fn tagged(self, tag: u8) -> Result<Place<'a>, TagFault>
-        ensures { Gives place_of result (tagged_at tag (place_of self.entry)) }
+        ensures value { Gives place_of result (tagged_at tag (place_of self.entry)) }
+        ensures shorter { IfOk result (λ read. length read.rest.now < length self.entry.rest.now) }
     {
         let (byte, place) = self.next()?;
         if byte != tag {
@@ -81,7 +84,8 @@ impl<'a> Place<'a> {
     /// A number of four bytes.
     #[tactic(auto, unfolding(crate::specs::Reading::field_at))]
     pub(crate) fn four(self) -> Result<(u32, Place<'a>), TagFault>
-        ensures { Gives (λ read. (read.0, place_of read.1)) result (field_at w32 (place_of self.entry)) }
+        ensures value { Gives (λ read. (read.0, place_of read.1)) result (field_at w32 (place_of self.entry)) }
+        ensures shorter { IfOk result (λ read. length read.1.rest.now ≤ length self.entry.rest.now) }
     {
         if self.rest.len() < 4 {
             return Err(TagFault::Short { at: self.size });
@@ -109,7 +113,8 @@ impl<'a> Place<'a> {
     /// The bytes before the next zero byte, and the place behind that.
     #[tactic(auto, unfolding(crate::specs::Reading::string_at))]
     pub(crate) fn string(self) -> Result<(&'a [u8], Place<'a>), TagFault>
-        ensures { Gives (λ read. (read.0.now, place_of read.1)) result (string_at (place_of self.entry)) }
+        ensures value { Gives (λ read. (read.0.now, place_of read.1)) result (string_at (place_of self.entry)) }
+        ensures shorter { IfOk result (λ read. length read.1.rest.now ≤ length self.entry.rest.now) }
     {
         match zero_byte(self.rest) {
             None => Err(TagFault::Short { at: self.size }),

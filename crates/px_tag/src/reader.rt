@@ -2,12 +2,14 @@
 
 ghost use Rattle.std.specs.Prelude.{◌≡◌};
 ghost use Rattle.std.specs.Option.{option_map};
-ghost use Rattle.px_tag.specs.Place.{start_of, Gives, Reads};
-ghost use Rattle.px_tag.specs.Reading.{number_at, byte_at, wide_at, signed_at, usec_at, flag_at, text_at, arbitrary_at, counted_at, spec_at, map_at, volumes_at, time_at, end_at};
+ghost use Rattle.px_tag.specs.Place.{start_of, Gives, Reads, ReadsList};
+ghost use Rattle.px_tag.specs.Reading.{number_at, byte_at, wide_at, signed_at, usec_at, flag_at, text_at, arbitrary_at, counted_at, spec_at, map_at, volumes_at, time_at, proplist_at, end_at};
 
-use crate::fault::TagFault;
+use crate::fault::{ListFault, TagFault};
 use crate::place::Place;
+use crate::proplist::PropList;
 use crate::raw::{RawMap, RawSpec, RawVolume, TimeVal};
+use std::alloc::Global;
 use std::marker::Model;
 
 /// A place in a packet, from which items are read one after the other, as `pulsecore/tagstruct.c` does.
@@ -159,6 +161,18 @@ impl<'a> TagReader<'a> {
         ensures { Reads (λ value. value) result self.old self.new (time_at self.old) }
     {
         let (value, place) = self.place.time()?;
+        self.place = place;
+        Ok(value)
+    }
+
+    /// The property list (tag `P`, properties, the null string) that stands here; each property is a string,
+    /// a u32 and an arbitrary of that length. A key that is empty or has a byte above 0x7F, a value above
+    /// 65,536 bytes and two lengths that differ are `BadValue`. A repeated key keeps its first place and
+    /// takes its last value. Takes memory; where that runs out, the reader is where it was.
+    pub fn proplist(&mut self, alloc: Global) -> Result<PropList, ListFault>
+        ensures { ReadsList (λ list. list) result self.old self.new (proplist_at self.old) }
+    {
+        let (value, place) = self.place.proplist(alloc)?;
         self.place = place;
         Ok(value)
     }

@@ -29,3 +29,5 @@ pub(crate) const MAP: u8 = b'm';
 pub(crate) const VOLUMES: u8 = b'v';
 
 pub(crate) const TIME: u8 = b'T';
+
+pub(crate) const PROPLIST: u8 = b'P';

@@ -1,13 +1,15 @@
 //! Items, written one after the other.
 
-ghost use Rattle.std.specs.Prelude.{◌≡◌, ◌<◌, ◌≤◌, ◌^◌, ◌++◌, [], length, take, OnOk, OnErr};
+ghost use Rattle.std.specs.Prelude.{◌≡◌, ◌<◌, ◌≤◌, ◌^◌, ◌++◌, [], length, take, IsTrue, OnOk, OnErr};
 ghost use Rattle.std.specs.Int.{w32, to_be_bytes};
 ghost use Rattle.std.specs.List.{flat_map};
 ghost use Rattle.std.specs.Option.{option_map};
-ghost use Rattle.px_tag.specs.Item.{number, byte, wide, signed, usec, volume, flag, text, arbitrary, spec, channel_map, channel_volumes, time, IsText};
+ghost use Rattle.px_tag.specs.Item.{number, byte, wide, signed, usec, volume, flag, text, arbitrary, spec, channel_map, channel_volumes, time, property, proplist, IsText};
+ghost use Rattle.px_tag.specs.PropList.{is_key, is_value};
 
 use crate::memory::{Mem, NoMemory};
 use crate::packet::Packet;
+use crate::proplist::PropList;
 use crate::raw::{RawMap, RawSpec, RawVolume, TimeVal};
 use crate::tag;
 use std::alloc::Global;
@@ -203,6 +205,56 @@ impl TagWriter {
         ensures unchanged { OnErr result (self.new ≡ self.old) }
     {
         append(&mut self.bytes, &[tag::VOLUME], &v.to_be_bytes(), &[])
+    }
+
+    // Appends a property.
+    #[tactic(auto, using(crate::proofs::Properties::key_is_text), unfolding(crate::specs::Item::property))]
+    fn property(&mut self, key: &[u8], value: &[u8]) -> Mem<()>
+        requires key { IsTrue (is_key key.now) }
+        requires value { IsTrue (is_value value.now) }
+        ensures appended { OnOk result (self.new ≡ self.old ++ property (key.now, value.now)) }
+        ensures kept { take (length self.old) self.new ≡ self.old }
+    {
+        self.text(Some(key))?;
+        self.number(value.len() as u32)?;
+        self.arbitrary(value)
+    }
+
+    // Appends each property of a list. Where memory runs out some bytes may be appended.
+    fn properties(&mut self, list: &PropList) -> Mem<()>
+        ensures appended { OnOk result (self.new ≡ self.old ++ flat_map property list.now) }
+        ensures kept { take (length self.old) self.new ≡ self.old }
+    {
+        for i in 0..list.len() {
+            let (key, value) = list.property(i);
+            self.property(key, value)?;
+        }
+        Ok(())
+    }
+
+    /// Appends a property list (tag `P`).
+    #[tactic(auto, unfolding(crate::specs::Item::proplist))]
+    pub fn proplist(&mut self, v: &PropList) -> Mem<()>
+        ensures appended { OnOk result (self.new ≡ self.old ++ proplist v.now) }
+        ensures unchanged { OnErr result (self.new ≡ self.old) }
+    {
+        let before = self.bytes.len();
+        let written = self.whole_proplist(v);
+        if written.is_err() {
+            self.bytes.truncate(before);
+        }
+        written
+    }
+
+    // Appends a property list. Where memory runs out some bytes may be appended.
+    #[tactic(auto, unfolding(crate::specs::Item::proplist, crate::specs::Item::text))]
+    fn whole_proplist(&mut self, v: &PropList) -> Mem<()>
+        ensures appended { OnOk result (self.new ≡ self.old ++ proplist v.now) }
+        ensures kept { take (length self.old) self.new ≡ self.old }
+    {
+        append(&mut self.bytes, &[tag::PROPLIST], &[], &[])?;
+        self.properties(v)?;
+        self.text(None)
     }
 
     /// The packet that was written. Takes no memory.

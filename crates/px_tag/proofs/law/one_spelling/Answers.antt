@@ -1,5 +1,6 @@
 use Rattle.px_tag.proofs.Items.{number_law, byte_law, wide_law, signed_law, usec_law, flag_law, text_law, arbitrary_law, counted_law}
 use Rattle.px_tag.proofs.Parts.{spec_law, map_law, volumes_law, time_law}
+use Rattle.px_tag.proofs.Written.{written_law, list_again, meaning_rules}
 use Rattle.px_tag.proofs.law.one_spelling.Goals as goal
 
 pub returns-clause-numbers : goal.returns-clause-numbers
@@ -40,3 +41,12 @@ returns-clause-volumes c = volumes_law
 
 pub returns-clause-times : goal.returns-clause-times
 returns-clause-times c = time_law
+
+pub returns-clause-proplists : goal.returns-clause-proplists
+returns-clause-proplists c = written_law
+
+pub returns-clause-kept : goal.returns-clause-kept
+returns-clause-kept c = list_again
+
+pub returns-clause-meanings : goal.returns-clause-meanings
+returns-clause-meanings c = meaning_rules
