@@ -1,30 +1,47 @@
 -- The parts of items: a tag byte, a number of a width, a count of bytes.
-use Rattle.std.proofs.Common.{◌≡◌, ℕ, ◌^◌, ◌<◌, ◌≤◌, false, ltb, eqb, List, [], ◌∷◌, ◌++◌, length, take, Ok, refl, sym, ap, subst, arith}
+use Rattle.std.proofs.Common.{◌≡◌, ℕ, ◌^◌, ◌<◌, ◌≤◌, true, false, cond, ltb, eqb, List, [], ◌∷◌, ◌++◌, length, take, Ok, Err, refl, sym, ap, subst, arith}
 use Rattle.std.specs.Int.{Width, w32, w64, byte_len, from_be_bytes, to_be_bytes}
-use Rattle.std.proofs.lemmas.Bool.{ltb-false, le-ltb, eqb-true}
+use Rattle.std.proofs.lemmas.Bool.{ltb-false, le-ltb, eqb-true, eq-eqb}
 use Rattle.std.proofs.lemmas.List.{take_at, drop_at, take-append-drop, length-append, length-take}
 use Rattle.std.proofs.lemmas.Nat.{be_bytes_4, be_bytes_8, from_be_bytes-to_be_bytes_4, from_be_bytes-to_be_bytes_8}
 use Rattle.px_tag.specs.declared.fault.TagFault.TheVariants.{Short, WrongTag}
 use Rattle.px_tag.specs.Place.{Place, past, offset_of}
 use Rattle.px_tag.specs.Law.{AreBytes, Stands}
-use Rattle.px_tag.specs.Reading.{tag_of, tagged_at, field_at, bytes_at}
-use Rattle.px_tag.proofs.Steps.{AreBytes-drop, AreBytes-take, AreBytes-rest, guard_ok, check_ok}
+use Rattle.px_tag.specs.Reading.{next_of, next_at, tagged_at, field_at, bytes_at}
+use Rattle.px_tag.proofs.Steps.{AreBytes-drop, AreBytes-take, AreBytes-rest, guard_ok, check_ok, bind_ok, ok_is, pair_is}
 
 -- ---- a tag byte
 
-tag_found : (bytes : List ℕ) (tag : ℕ) (place after : Place) → AreBytes bytes → tag_of bytes tag place ≡ Ok after → (bytes ≡ tag ∷ after.rest) × (after.size ≡ place.size) × AreBytes after.rest
-tag_found [] tag place after fits e = absurd cc
-tag_found (byte ∷ rest) tag place after fits e =
+next_of_found : (bytes : List ℕ) (place : Place) (b : ℕ) (after : Place) → AreBytes bytes → next_of bytes place ≡ Ok (b, after) → (bytes ≡ b ∷ after.rest) × (after.size ≡ place.size) × AreBytes after.rest × (b < 2 ^ 8)
+next_of_found [] place b after fits e = absurd cc
+next_of_found (first ∷ rest) place b after fits e =
     let made : Place = record { size = place.size; rest = rest } in
-    let g = check_ok (eqb byte tag) (WrongTag (offset_of place)) made after e in
-    let byte-is : byte ≡ tag = eqb-true _ _ g.0 in
-    subst (λ (p : Place). (byte ∷ rest ≡ tag ∷ p.rest) × (p.size ≡ place.size) × AreBytes p.rest) g.1 (ap (λ (b : ℕ). b ∷ rest) byte-is, refl, AreBytes-rest byte rest fits)
+    let low : first < 2 ^ 8 = fits 0 in
+    subst (λ (p : ℕ × Place). (first ∷ rest ≡ p.0 ∷ p.1.rest) × (p.1.size ≡ place.size) × AreBytes p.1.rest × (p.0 < 2 ^ 8)) (ok_is (first, made) (b, after) e) (refl, refl, AreBytes-rest first rest fits, low)
+
+pub next_found : (place : Place) (b : ℕ) (after : Place) → AreBytes place.rest → next_at place ≡ Ok (b, after) → Stands (b ∷ []) place after × (b < 2 ^ 8)
+unfolding next_at
+next_found place b after fits e =
+    let t = next_of_found place.rest place b after fits e in
+    (record { bytes = t.0; size = t.1; are_bytes = t.2 }, t.3)
+
+pub next_again : (b size : ℕ) (behind : List ℕ) → next_at (record { size = size; rest = b ∷ behind }) ≡ Ok (b, record { size = size; rest = behind })
+unfolding next_at
+next_again b size behind = refl
 
 pub tagged_found : (tag : ℕ) (place after : Place) → AreBytes place.rest → tagged_at tag place ≡ Ok after → Stands (tag ∷ []) place after
 unfolding tagged_at
 tagged_found tag place after fits e =
-    let t = tag_found place.rest tag place after fits e in
-    record { bytes = t.0; size = t.1; are_bytes = t.2 }
+    let a = bind_ok (next_at place) (λ b. cond (eqb b.0 tag) (Ok b.1) (Err (WrongTag (offset_of place)))) after e in
+    let n = next_found place a.0.0 a.0.1 fits a.1 in
+    let g = check_ok (eqb a.0.0 tag) (WrongTag (offset_of place)) a.0.1 after a.2 in
+    subst (λ (p : ℕ × Place). Stands (p.0 ∷ []) place p.1) (pair_is a.0.0 tag a.0.1 after (eqb-true _ _ g.0) g.1) n.0
+
+pub tagged_again : (tag size : ℕ) (behind : List ℕ) → tagged_at tag (record { size = size; rest = tag ∷ behind }) ≡ Ok (record { size = size; rest = behind })
+unfolding tagged_at next_at
+tagged_again tag size behind =
+    let same : eqb tag tag ≡ true = eq-eqb tag tag refl in
+    rw same refl
 
 -- ---- numbers
 

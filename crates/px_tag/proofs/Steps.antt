@@ -34,11 +34,24 @@ pub check_ok : {A : Type 0} (b : Bool) (d : TagFault) (x y : A) → cond b (Ok x
 check_ok true d x y e = (refl, cc)
 check_ok false d x y e = absurd cc
 
+-- a step behind a test, where neither failed
+pub checked : {A : Type 0} (b : Bool) (d : TagFault) (r : Result A TagFault) (y : A) → cond b r (Err d) ≡ Ok y → (b ≡ true) × (r ≡ Ok y)
+checked true d r y e = (refl, e)
+checked false d r y e = absurd cc
+
+-- the same, the other way round
+pub unless : {A : Type 0} (b : Bool) (d : TagFault) (r : Result A TagFault) (y : A) → cond b (Err d) r ≡ Ok y → (b ≡ false) × (r ≡ Ok y)
+unless true d r y e = absurd cc
+unless false d r y e = (refl, e)
+
 abbrev done : {A : Type 0} → A → Result A TagFault
 done x = Ok x
 
 pub ok_is : {A : Type 0} (x y : A) → done x ≡ done y → x ≡ y
 ok_is x y e = cc
+
+pub pair_is : {A B : Type 0} (a x : A) (b y : B) → a ≡ x → b ≡ y → (let p : A × B = (a, b) in p) ≡ (x, y)
+pair_is a x b y e f = cc
 
 pub place_is : (size : ℕ) (rest bytes : List ℕ) → rest ≡ bytes → (let p : Place = record { size = size; rest = rest } in p) ≡ record { size = size; rest = bytes }
 place_is size rest bytes e = ap (λ (r : List ℕ). record { size = size; rest = r }) e

@@ -1,4 +1,5 @@
 pub mod Place
+pub mod PropList
 pub mod Item
 pub mod Reading
 pub mod Law

@@ -1,6 +1,8 @@
 -- A place in a packet, and what a reader's call answers from there.
 use Rattle.std.specs.Prelude.{◌≡◌, ℕ, ◌-◌, List, length, drop, Result, Ok, Err}
 use Rattle.px_tag.specs.declared.fault.TagFault.{TagFault}
+use Rattle.px_tag.specs.declared.fault.ListFault.{ListFault}
+use Rattle.px_tag.specs.declared.fault.ListFault.TheVariants.{Tag, NoMemory}
 
 -- how many bytes the packet has, and those of them that are left
 pub record Place : Type 0 where
@@ -38,3 +40,14 @@ Gives view (Err fault) read = read ≡ Err fault
 abbrev pub Reads : {X Y : Type 0} → (X → Y) → Result X TagFault → Place → Place → Result (Y × Place) TagFault → Type 0
 Reads view (Ok x) before after read = read ≡ Ok (view x, after)
 Reads view (Err fault) before after read = (read ≡ Err fault) × (after ≡ before)
+
+-- The same for a call that takes memory: where that ran out, the reader is where it was.
+abbrev pub GivesList : {X Y : Type 0} → (X → Y) → Result X ListFault → Result Y TagFault → Type 0
+GivesList view (Ok x) read = read ≡ Ok (view x)
+GivesList view (Err (Tag fault)) read = read ≡ Err fault
+GivesList view (Err NoMemory) read = Unit {0}
+
+abbrev pub ReadsList : {X Y : Type 0} → (X → Y) → Result X ListFault → Place → Place → Result (Y × Place) TagFault → Type 0
+ReadsList view (Ok x) before after read = read ≡ Ok (view x, after)
+ReadsList view (Err (Tag fault)) before after read = (read ≡ Err fault) × (after ≡ before)
+ReadsList view (Err NoMemory) before after read = after ≡ before

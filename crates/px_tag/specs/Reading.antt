@@ -1,17 +1,28 @@
--- What stands at a place, by the kind of item that is wanted there, and the fault where none stands.
-use Rattle.std.specs.Prelude.{ℕ, List, [], ◌∷◌, length, take, Result, Ok, Err, nat_lt, ◌==◌, if◌then◌else◌}
-use Rattle.std.specs.Int.{Width, w32, byte_len, from_be_bytes}
+-- What stands at a place, by the kind of item that is wanted there, and the first fault where none stands.
+use Rattle.std.specs.Prelude.{ℕ, zero, suc, ◌+◌, ℤ, Bool, true, false, List, [], ◌∷◌, length, take, position, Option, None, Some, Result, Ok, Err, nat_lt, nat_le, ◌&&◌, ◌==◌, if◌then◌else◌}
+use Rattle.std.specs.Int.{Width, w32, w64, byte_len, from_be_bytes, cast_signed}
 use Rattle.px_tag.specs.declared.fault.TagFault.{TagFault}
-use Rattle.px_tag.specs.declared.fault.TagFault.TheVariants.{WrongTag, Short, Left}
+use Rattle.px_tag.specs.declared.fault.TagFault.TheVariants.{WrongTag, Short, BadValue, Left}
+use Rattle.px_tag.specs.declared.raw.RawSpec.{RawSpec}
+use Rattle.px_tag.specs.declared.raw.TimeVal.{TimeVal}
+use Rattle.px_tag.specs.PropList.{Property, is_key, meaning}
 use Rattle.px_tag.specs.Place.{Place, Reading, offset_of, past, ◌>>=◌}
 
--- the place behind the wanted tag byte
-abbrev pub tag_of : List ℕ → ℕ → Place → Result Place TagFault
-tag_of [] tag place = Err (Short place.size)
-tag_of (byte ∷ rest) tag place = if byte == tag then Ok (record { size = place.size; rest = rest }) else Err (WrongTag (offset_of place))
+-- ---- the parts of items
 
+abbrev pub next_of : List ℕ → Reading ℕ
+next_of [] place = Err (Short place.size)
+next_of (b ∷ rest) place = Ok (b, record { size = place.size; rest = rest })
+
+-- one byte
+unfoldable pub next_at : Reading ℕ
+next_at place = next_of place.rest place
+
+-- the place behind the wanted tag byte
 unfoldable pub tagged_at : ℕ → Place → Result Place TagFault
-tagged_at tag place = tag_of place.rest tag place
+tagged_at tag place = do
+  b ← next_at place
+  if b.0 == tag then Ok b.1 else Err (WrongTag (offset_of place))
 
 -- a number without a tag, the highest byte first
 unfoldable pub field_at : Width → Reading ℕ
@@ -21,16 +32,151 @@ field_at w place = if nat_lt (length place.rest) (byte_len w) then Err (Short pl
 unfoldable pub bytes_at : ℕ → Reading (List ℕ)
 bytes_at n place = if nat_lt (length place.rest) n then Err (Short place.size) else Ok (take n place.rest, past n place)
 
+-- the bytes before the first zero byte, and the place behind that
+abbrev pub ended_at : Option ℕ → Reading (List ℕ)
+ended_at None place = Err (Short place.size)
+ended_at (Some zero_byte) place = Ok (take zero_byte place.rest, past (zero_byte + 1) place)
+
+unfoldable pub string_at : Reading (List ℕ)
+string_at place = ended_at (position (λ b. b == 0) place.rest) place
+
+-- so many numbers of four bytes
+unfoldable pub fields_at : ℕ → Reading (List ℕ)
+fields_at zero place = Ok ([], place)
+fields_at (suc n) place = do
+  first ← field_at w32 place
+  others ← fields_at n first.1
+  Ok (first.0 ∷ others.0, others.1)
+
+-- ---- items
+
 unfoldable pub number_at : Reading ℕ
 number_at place = do
   field ← tagged_at 0x4C place
   field_at w32 field
+
+unfoldable pub byte_at : Reading ℕ
+byte_at place = do
+  field ← tagged_at 0x42 place
+  next_at field
+
+unfoldable pub wide_at : Reading ℕ
+wide_at place = do
+  field ← tagged_at 0x52 place
+  field_at w64 field
+
+unfoldable pub signed_at : Reading ℤ
+signed_at place = do
+  field ← tagged_at 0x72 place
+  bits ← field_at w64 field
+  Ok (cast_signed w64 bits.0, bits.1)
+
+unfoldable pub usec_at : Reading ℕ
+usec_at place = do
+  field ← tagged_at 0x55 place
+  field_at w64 field
+
+unfoldable pub flag_at : Reading Bool
+flag_at place = do
+  tag ← next_at place
+  if tag.0 == 0x31 then Ok (true, tag.1) else if tag.0 == 0x30 then Ok (false, tag.1) else Err (WrongTag (offset_of place))
+
+-- a string, or the null string
+unfoldable pub text_at : Reading (Option (List ℕ))
+text_at place = do
+  tag ← next_at place
+  if tag.0 == 0x4E then Ok (None, tag.1) else if tag.0 == 0x74 then (string_at tag.1 >>= λ string. Ok (Some string.0, string.1)) else Err (WrongTag (offset_of place))
 
 unfoldable pub arbitrary_at : Reading (List ℕ)
 arbitrary_at place = do
   field ← tagged_at 0x78 place
   count ← field_at w32 field
   bytes_at count.0 count.1
+
+-- bytes of any kind, of which a rule says how many they are: the count is checked before they are read
+unfoldable pub counted_at : ℕ → Reading (List ℕ)
+counted_at n place = do
+  field ← tagged_at 0x78 place
+  count ← field_at w32 field
+  if count.0 == n then bytes_at n count.1 else Err (BadValue (offset_of place))
+
+-- a sample spec: it is read whole before its channels are checked
+unfoldable pub spec_at : Reading RawSpec
+spec_at place = do
+  field ← tagged_at 0x61 place
+  format ← next_at field
+  channels ← next_at format.1
+  rate ← field_at w32 channels.1
+  if nat_lt 32 channels.0 then Err (BadValue (offset_of place)) else Ok (record { format = format.0; channels = channels.0; rate = rate.0 }, rate.1)
+
+-- a channel map: its count is checked before its positions are read
+unfoldable pub map_at : Reading (List ℕ)
+map_at place = do
+  field ← tagged_at 0x6D place
+  count ← next_at field
+  if nat_lt 32 count.0 then Err (BadValue (offset_of place)) else bytes_at count.0 count.1
+
+-- channel volumes: their count is checked before they are read
+unfoldable pub volumes_at : Reading (List ℕ)
+volumes_at place = do
+  field ← tagged_at 0x76 place
+  count ← next_at field
+  if nat_lt 32 count.0 then Err (BadValue (offset_of place)) else fields_at count.0 count.1
+
+unfoldable pub time_at : Reading TimeVal
+time_at place = do
+  field ← tagged_at 0x54 place
+  seconds ← field_at w32 field
+  micros ← field_at w32 seconds.1
+  Ok (record { seconds = seconds.0; micros = micros.0 }, micros.1)
+
+-- ---- property lists
+
+-- a property's value: how long it is, and then an arbitrary that is as long, 65,536 bytes at the most; both are
+-- checked before its bytes are read
+unfoldable pub value_at : Reading (List ℕ)
+value_at place = do
+  size ← number_at place
+  field ← tagged_at 0x78 size.1
+  count ← field_at w32 field
+  if (count.0 == size.0) && nat_le size.0 65536 then bytes_at size.0 count.1 else Err (BadValue (offset_of size.1))
+
+-- behind a key, which is checked first, its value; the null string ends the list
+abbrev pub keyed_at : Place → Option (List ℕ) → Reading (Option Property)
+keyed_at start None place = Ok (None, place)
+keyed_at start (Some key) place = if is_key key then (value_at place >>= λ value. Ok (Some (key, value.0), value.1)) else Err (BadValue (offset_of start))
+
+-- the next property, or none at the list's end
+unfoldable pub property_at : Reading (Option Property)
+property_at place = do
+  key ← text_at place
+  keyed_at place key.0 key.1
+
+-- a property, and those behind it; or none
+abbrev pub followed_by : Option Property → Place → Result (List Property × Place) TagFault → Result (List Property × Place) TagFault
+followed_by None place others = Ok ([], place)
+followed_by (Some p) place others = others >>= λ list. Ok (p ∷ list.0, list.1)
+
+-- the properties up to the list's end; each has a byte at least, so there are no more of them than bytes
+unfoldable pub properties_at : ℕ → Reading (List Property)
+properties_at zero place = Err (Short place.size)
+properties_at (suc most) place = do
+  first ← property_at place
+  followed_by first.0 first.1 (properties_at most first.1)
+
+-- a property list as it is written
+unfoldable pub written_at : Reading (List Property)
+written_at place = do
+  field ← tagged_at 0x50 place
+  properties_at (length field.rest) field
+
+-- a property list
+unfoldable pub proplist_at : Reading (List Property)
+proplist_at place = do
+  written ← written_at place
+  Ok (meaning written.0, written.1)
+
+-- ---- the end
 
 -- nothing is left
 unfoldable pub end_at : Place → Result Unit TagFault

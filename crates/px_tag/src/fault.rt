@@ -1,5 +1,10 @@
 //! Why an item could not be read.
 
+ghost use Rattle.std.specs.Prelude.{◌≡◌};
+ghost use Rattle.px_tag.specs.declared.fault.ListFault.TheVariants.{Tag, NoMemory as OutOfMemory};
+
+use crate::memory::NoMemory;
+
 /// The first fault in the bytes from left to right, with its offset in bytes from the packet's start.
 /// As the checks of `pulsecore/tagstruct.c`; that a fault has an offset is own.
 #[derive(Clone, Copy, Debug, PartialEq, Eq)]
@@ -12,4 +17,29 @@ pub enum TagFault {
     BadValue { at: usize },
     /// Bytes are left behind the last item; `at` is the first of them.
     Left { at: usize },
+}
+
+/// Why a property list could not be read.
+#[derive(Clone, Copy, Debug, PartialEq, Eq)]
+pub enum ListFault {
+    /// It doesn't stand there.
+    Tag(TagFault),
+    /// Memory ran out.
+    NoMemory,
+}
+
+impl From<TagFault> for ListFault {
+    ghost from_gives = { λ fault e. e ≡ Tag fault };
+
+    fn from(fault: TagFault) -> ListFault {
+        ListFault::Tag(fault)
+    }
+}
+
+impl From<NoMemory> for ListFault {
+    ghost from_gives = { λ _ e. e ≡ OutOfMemory };
+
+    fn from(_error: NoMemory) -> ListFault {
+        ListFault::NoMemory
+    }
 }

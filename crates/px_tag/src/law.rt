@@ -1,13 +1,31 @@
 //! That items are an alphabet.
 
-ghost use Rattle.std.specs.Prelude.{◌<◌, ◌^◌, length};
-ghost use Rattle.px_tag.specs.Item.{number, arbitrary};
-ghost use Rattle.px_tag.specs.Reading.{number_at, arbitrary_at};
+ghost use Rattle.std.specs.Prelude.{◌≡◌, ℕ, ◌<◌, ◌^◌, ◌++◌, List, Ok, FitsSigned};
+ghost use Rattle.std.specs.Int.{w64};
+ghost use Rattle.px_tag.specs.Item.{number, byte, wide, signed, usec, flag, text, arbitrary, spec, channel_map, channel_volumes, time, proplist, AnyFlag, IsText, IsCounted, HasLength, IsSpec, IsMap, IsVolumes, IsTime, AreProperties, IsPropList};
+ghost use Rattle.px_tag.specs.PropList.{Property, meaning};
+ghost use Rattle.px_tag.specs.Reading.{number_at, byte_at, wide_at, signed_at, usec_at, flag_at, text_at, arbitrary_at, counted_at, spec_at, map_at, volumes_at, time_at, written_at, proplist_at};
 ghost use Rattle.px_tag.specs.Law.{HasOneSpelling};
 
-/// Each value has one spelling and is read exactly where that stands, whatever follows; no spelling of a
-/// kind begins another of that kind. It does nothing: its contract is the law.
+/// Each value of a kind has one spelling, and is read exactly where that stands, whatever follows it; no
+/// spelling begins another of its kind. The function does nothing: its contract is the law.
 pub fn one_spelling()
     ensures numbers { HasOneSpelling (λ n. n < 2 ^ 32) number number_at }
-    ensures arbitraries { HasOneSpelling (λ bytes. length bytes < 2 ^ 32) arbitrary arbitrary_at }
+    ensures bytes { HasOneSpelling (λ n. n < 2 ^ 8) byte byte_at }
+    ensures wides { HasOneSpelling (λ n. n < 2 ^ 64) wide wide_at }
+    ensures signeds { HasOneSpelling (FitsSigned w64) signed signed_at }
+    ensures usecs { HasOneSpelling (λ n. n < 2 ^ 64) usec usec_at }
+    ensures flags { HasOneSpelling AnyFlag flag flag_at }
+    ensures texts { HasOneSpelling IsText text text_at }
+    ensures arbitraries { HasOneSpelling IsCounted arbitrary arbitrary_at }
+    ensures counted { (n : ℕ) → n < 2 ^ 32 → HasOneSpelling (HasLength n) arbitrary (counted_at n) }
+    ensures specs { HasOneSpelling IsSpec spec spec_at }
+    ensures maps { HasOneSpelling IsMap channel_map map_at }
+    ensures volumes { HasOneSpelling IsVolumes channel_volumes volumes_at }
+    ensures times { HasOneSpelling IsTime time time_at }
+    ensures proplists { HasOneSpelling AreProperties proplist written_at }
+    // A property list that the code holds is read again as it was.
+    ensures kept { (list : List Property) (size : ℕ) (behind : List ℕ) → IsPropList list → proplist_at (record { size = size; rest = proplist list ++ behind }) ≡ Ok (list, record { size = size; rest = behind }) }
+    // What a written list means is one that the code may hold.
+    ensures meanings { (written : List Property) → AreProperties written → IsPropList (meaning written) }
 {}

@@ -1,20 +1,20 @@
 //! Items, read from a packet one after the other.
 
 ghost use Rattle.std.specs.Prelude.{◌≡◌};
-ghost use Rattle.px_tag.specs.Place.{start_of, Gives, Reads};
-ghost use Rattle.px_tag.specs.Reading.{number_at, arbitrary_at, end_at};
-ghost use Rattle.px_tag.specs.Seen.{place_of};
+ghost use Rattle.std.specs.Option.{option_map};
+ghost use Rattle.px_tag.specs.Place.{start_of, Gives, Reads, ReadsList};
+ghost use Rattle.px_tag.specs.Reading.{number_at, byte_at, wide_at, signed_at, usec_at, flag_at, text_at, arbitrary_at, counted_at, spec_at, map_at, volumes_at, time_at, proplist_at, end_at};
 
-use crate::fault::TagFault;
+use crate::fault::{ListFault, TagFault};
 use crate::place::Place;
+use crate::proplist::PropList;
+use crate::raw::{RawMap, RawSpec, RawVolume, TimeVal};
+use std::alloc::Global;
 use std::marker::Model;
 
-const NUMBER: u8 = b'L';
-
-const ARBITRARY: u8 = b'x';
-
-/// A place in a packet, from which items are read one after the other.
-/// A contract sees how many bytes the packet has, and those of them that are left.
+/// A place in a packet, from which items are read one after the other, as `pulsecore/tagstruct.c` does.
+/// A contract sees how many bytes the packet has, and those of them that are left. What is read borrows
+/// from the packet. After a fault the reader is where it was.
 #[derive(Drop)]
 pub struct TagReader<'a> {
     place: Place<'a>,
@@ -30,21 +30,6 @@ impl<'a> Model for TagReader<'a> {
     ghost view = { λ reader. place_of reader.place };
 }
 
-#[tactic(auto, unfolding(crate::specs::Reading::number_at))]
-fn number(place: Place<'_>) -> Result<(u32, Place<'_>), TagFault>
-    ensures { Gives (λ read. (read.0, place_of read.1)) result (number_at (place_of place.entry)) }
-{
-    place.tagged(NUMBER)?.four()
-}
-
-#[tactic(auto, unfolding(crate::specs::Reading::arbitrary_at))]
-fn arbitrary<'a>(place: Place<'a>) -> Result<(&'a [u8], Place<'a>), TagFault>
-    ensures { Gives (λ read. (read.0.now, place_of read.1)) result (arbitrary_at (place_of place.entry)) }
-{
-    let (count, bytes) = place.tagged(ARBITRARY)?.four()?;
-    bytes.bytes(count as usize)
-}
-
 impl<'a> TagReader<'a> {
     /// A reader before the packet's first byte. Takes no memory.
     pub fn new(bytes: &'a [u8]) -> Self
@@ -58,21 +43,136 @@ impl<'a> TagReader<'a> {
         }
     }
 
-    /// The u32 (tag `L`) that stands here. After a fault the reader is where it was. Takes no memory.
+    /// The u32 (tag `L`) that stands here. Takes no memory.
     pub fn number(&mut self) -> Result<u32, TagFault>
-        ensures { Reads (λ n. n) result self.old self.new (number_at self.old) }
+        ensures { Reads (λ value. value) result self.old self.new (number_at self.old) }
     {
-        let (value, place) = number(self.place)?;
+        let (value, place) = self.place.number()?;
         self.place = place;
         Ok(value)
     }
 
-    /// The bytes (tag `x`, a u32 count, the bytes) that stand here, any bytes. After a fault the reader is
-    /// where it was. Takes no memory.
+    /// The u8 (tag `B`) that stands here. Takes no memory.
+    pub fn byte(&mut self) -> Result<u8, TagFault>
+        ensures { Reads (λ value. value) result self.old self.new (byte_at self.old) }
+    {
+        let (value, place) = self.place.byte()?;
+        self.place = place;
+        Ok(value)
+    }
+
+    /// The u64 (tag `R`) that stands here. Takes no memory.
+    pub fn wide(&mut self) -> Result<u64, TagFault>
+        ensures { Reads (λ value. value) result self.old self.new (wide_at self.old) }
+    {
+        let (value, place) = self.place.wide()?;
+        self.place = place;
+        Ok(value)
+    }
+
+    /// The s64 (tag `r`) that stands here. Takes no memory.
+    pub fn signed(&mut self) -> Result<i64, TagFault>
+        ensures { Reads (λ value. value) result self.old self.new (signed_at self.old) }
+    {
+        let (value, place) = self.place.signed()?;
+        self.place = place;
+        Ok(value)
+    }
+
+    /// The string (tag `t`, its bytes, a zero byte) that stands here, without its zero byte, or `None` for
+    /// the null string (tag `N`). Takes no memory.
+    pub fn text(&mut self) -> Result<Option<&'a [u8]>, TagFault>
+        ensures { Reads (option_map (λ bytes. bytes.now)) result self.old self.new (text_at self.old) }
+    {
+        let (value, place) = self.place.text()?;
+        self.place = place;
+        Ok(value)
+    }
+
+    /// The bytes (tag `x`, a u32 count, the bytes) that stand here, any bytes. Takes no memory.
     pub fn arbitrary(&mut self) -> Result<&'a [u8], TagFault>
         ensures { Reads (λ bytes. bytes.now) result self.old self.new (arbitrary_at self.old) }
     {
-        let (value, place) = arbitrary(self.place)?;
+        let (value, place) = self.place.arbitrary()?;
+        self.place = place;
+        Ok(value)
+    }
+
+    /// The bytes (tag `x`) that stand here, where a rule says how many they are: another count is
+    /// `BadValue`, before the bytes are read. Takes no memory.
+    pub fn arbitrary_of(&mut self, count: u32) -> Result<&'a [u8], TagFault>
+        ensures { Reads (λ bytes. bytes.now) result self.old self.new (counted_at count self.old) }
+    {
+        let (value, place) = self.place.counted(count)?;
+        self.place = place;
+        Ok(value)
+    }
+
+    /// The bool (tag `1` or `0`) that stands here. Takes no memory.
+    pub fn flag(&mut self) -> Result<bool, TagFault>
+        ensures { Reads (λ value. value) result self.old self.new (flag_at self.old) }
+    {
+        let (value, place) = self.place.flag()?;
+        self.place = place;
+        Ok(value)
+    }
+
+    /// The sample spec (tag `a`) that stands here; more than 32 channels are `BadValue` (own: PulseAudio
+    /// leaves that to the command). Takes no memory.
+    pub fn spec(&mut self) -> Result<RawSpec, TagFault>
+        ensures { Reads (λ value. value) result self.old self.new (spec_at self.old) }
+    {
+        let (value, place) = self.place.spec()?;
+        self.place = place;
+        Ok(value)
+    }
+
+    /// The channel map (tag `m`, a u8 count, the positions) that stands here; a count above 32 is
+    /// `BadValue`, before the positions are read. Takes no memory.
+    pub fn map(&mut self) -> Result<RawMap, TagFault>
+        ensures { Reads (λ value. value) result self.old self.new (map_at self.old) }
+    {
+        let (value, place) = self.place.map()?;
+        self.place = place;
+        Ok(value)
+    }
+
+    /// The channel volumes (tag `v`, a u8 count, a u32 each) that stand here; a count above 32 is
+    /// `BadValue`, before the volumes are read. Takes no memory.
+    pub fn cvolume(&mut self) -> Result<RawVolume, TagFault>
+        ensures { Reads (λ value. value) result self.old self.new (volumes_at self.old) }
+    {
+        let (value, place) = self.place.volumes()?;
+        self.place = place;
+        Ok(value)
+    }
+
+    /// The microseconds (tag `U`) that stand here. Takes no memory.
+    pub fn usec(&mut self) -> Result<u64, TagFault>
+        ensures { Reads (λ value. value) result self.old self.new (usec_at self.old) }
+    {
+        let (value, place) = self.place.usec()?;
+        self.place = place;
+        Ok(value)
+    }
+
+    /// The time value (tag `T`, u32 seconds, u32 microseconds) that stands here. Takes no memory.
+    pub fn time(&mut self) -> Result<TimeVal, TagFault>
+        ensures { Reads (λ value. value) result self.old self.new (time_at self.old) }
+    {
+        let (value, place) = self.place.time()?;
+        self.place = place;
+        Ok(value)
+    }
+
+    /// The property list (tag `P`, properties, the null string) that stands here; each property is a string,
+    /// a u32 and an arbitrary of that length. A key that is empty or has a byte above 0x7F, a value above
+    /// 65,536 bytes and two lengths that differ are `BadValue`. A repeated key keeps its first place and
+    /// takes its last value. Takes memory; where that runs out, the reader is where it was.
+    pub fn proplist(&mut self, alloc: Global) -> Result<PropList, ListFault>
+        ensures { ReadsList (λ list. list) result self.old self.new (proplist_at self.old) }
+    {
+        let (value, place) = self.place.proplist(alloc)?;
         self.place = place;
         Ok(value)
     }

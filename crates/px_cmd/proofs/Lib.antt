@@ -1,0 +1,3 @@
+pub mod Sequence
+pub mod KeyList
+pub mod Whole

@@ -1,0 +1,113 @@
+-- Some fields, and then others.
+use Rattle.std.proofs.Common.{◌≡◌, List, [], ◌∷◌, ◌++◌, Result, Ok, Err, refl, sym, ap, ◌∙◌}
+use Rattle.px_tag.specs.declared.fault.TagFault.{TagFault}
+use Rattle.px_tag.specs.Place.{Place, ◌>>=◌}
+use Rattle.px_tag.specs.PropList.{Property}
+use Rattle.px_tag.specs.Reading.{proplist_at}
+use Rattle.px_cmd.specs.declared.fault.CmdFault.{CmdFault}
+use Rattle.px_cmd.specs.declared.fault.CmdFault.TheVariants.{Protocol, Unknown, Unsupported, NoMemory}
+use Rattle.px_cmd.specs.Field.{Kind, Field, Properties, field_at, fields_at, properties}
+use Rattle.px_cmd.specs.Table.{create_kinds}
+use Rattle.px_cmd.specs.Create.{shape_kinds, buffering_kinds, matching_kinds, playing_kinds}
+use Rattle.px_cmd.specs.Packet.{Fails}
+
+abbrev behind : List Field → Result (List Field × Place) TagFault → Result (List Field × Place) TagFault
+behind front read = read >>= λ others. Ok (front ++ others.0, others.1)
+
+-- a field before others
+abbrev cons : Field → Result (List Field × Place) TagFault → Result (List Field × Place) TagFault
+cons first read = read >>= λ rest. Ok (first ∷ rest.0, rest.1)
+
+-- what was read, and then fields of these kinds
+abbrev and_then : List Kind → Result (List Field × Place) TagFault → Result (List Field × Place) TagFault
+and_then others read = read >>= λ a. behind a.0 (fields_at others a.1)
+
+-- a field, and then fields of these kinds
+abbrev first_then : List Kind → Result (Field × Place) TagFault → Result (List Field × Place) TagFault
+first_then kinds read = read >>= λ first. cons first.0 (fields_at kinds first.1)
+
+behind_more : (first : Field) (front : List Field) (read : Result (List Field × Place) TagFault) → cons first (behind front read) ≡ behind (first ∷ front) read
+behind_more first front (Ok others) = refl
+behind_more first front (Err fault) = refl
+
+behind_none : (read : Result (List Field × Place) TagFault) → behind [] read ≡ read
+behind_none (Ok others) = refl
+behind_none (Err fault) = refl
+
+cons_behind : (others : List Kind) (first : Field) (read : Result (List Field × Place) TagFault) → cons first (and_then others read) ≡ and_then others (cons first read)
+cons_behind others first (Ok a) = behind_more first a.0 (fields_at others a.1)
+cons_behind others first (Err fault) = refl
+
+first_append : (kinds others : List Kind) (read : Result (Field × Place) TagFault) → ((mid : Place) → fields_at (kinds ++ others) mid ≡ and_then others (fields_at kinds mid)) → first_then (kinds ++ others) read ≡ and_then others (first_then kinds read)
+first_append kinds others (Ok first) rest = ap (cons first.0) (rest first.1) ∙ cons_behind others first.0 (fields_at kinds first.1)
+first_append kinds others (Err fault) rest = refl
+
+-- fields of these kinds and then of others
+fields_append : (kinds others : List Kind) (place : Place) → fields_at (kinds ++ others) place ≡ and_then others (fields_at kinds place)
+fields_append [] others place = sym (behind_none (fields_at others place))
+fields_append (kind ∷ kinds) others place = first_append kinds others (field_at kind place) (λ mid. fields_append kinds others mid)
+
+fields_then : (kinds others : List Kind) (place : Place) (front : List Field) (mid : Place) → fields_at kinds place ≡ Ok (front, mid) → fields_at (kinds ++ others) place ≡ behind front (fields_at others mid)
+fields_then kinds others place front mid e = fields_append kinds others place ∙ ap (and_then others) e
+
+-- a fault in the first fields
+fails_first : (kinds others : List Kind) (place : Place) (fault : CmdFault) → Fails fault (fields_at kinds place) → Fails fault (fields_at (kinds ++ others) place)
+fails_first kinds others place (Protocol fault) e = fields_append kinds others place ∙ ap (and_then others) e
+fails_first kinds others place (Unknown command) e = e
+fails_first kinds others place (Unsupported command) e = e
+fails_first kinds others place NoMemory e = tt
+
+-- a fault behind them
+fails_then : (kinds others : List Kind) (place : Place) (front : List Field) (mid : Place) (fault : CmdFault) → fields_at kinds place ≡ Ok (front, mid) → Fails fault (fields_at others mid) → Fails fault (fields_at (kinds ++ others) place)
+fails_then kinds others place front mid (Protocol fault) e f = fields_then kinds others place front mid e ∙ ap (behind front) f
+fails_then kinds others place front mid (Unknown command) e f = f
+fails_then kinds others place front mid (Unsupported command) e f = f
+fails_then kinds others place front mid NoMemory e f = tt
+
+-- ---- CREATE_PLAYBACK_STREAM, part by part
+
+abbrev last_kinds : List Kind
+last_kinds = properties ∷ []
+
+abbrev from_playing : List Kind
+from_playing = playing_kinds ++ last_kinds
+
+abbrev from_matching : List Kind
+from_matching = matching_kinds ++ from_playing
+
+abbrev from_buffering : List Kind
+from_buffering = buffering_kinds ++ from_matching
+
+module _ (place : Place) where
+  pub create_fails_1 : (fault : CmdFault) → Fails fault (fields_at shape_kinds place) → Fails fault (fields_at create_kinds place)
+  create_fails_1 fault e = fails_first shape_kinds from_buffering place fault e
+
+  module _ (shape : List Field) (a : Place) (one : fields_at shape_kinds place ≡ Ok (shape, a)) where
+    pub create_fails_2 : (fault : CmdFault) → Fails fault (fields_at buffering_kinds a) → Fails fault (fields_at create_kinds place)
+    create_fails_2 fault e = fails_then shape_kinds from_buffering place shape a fault one (fails_first buffering_kinds from_matching a fault e)
+
+    module _ (buffering : List Field) (b : Place) (two : fields_at buffering_kinds a ≡ Ok (buffering, b)) where
+      pub create_fails_3 : (fault : CmdFault) → Fails fault (fields_at matching_kinds b) → Fails fault (fields_at create_kinds place)
+      create_fails_3 fault e = fails_then shape_kinds from_buffering place shape a fault one (fails_then buffering_kinds from_matching a buffering b fault two (fails_first matching_kinds from_playing b fault e))
+
+      module _ (matching : List Field) (c : Place) (three : fields_at matching_kinds b ≡ Ok (matching, c)) where
+        pub create_fails_4 : (fault : CmdFault) → Fails fault (fields_at playing_kinds c) → Fails fault (fields_at create_kinds place)
+        create_fails_4 fault e = fails_then shape_kinds from_buffering place shape a fault one (fails_then buffering_kinds from_matching a buffering b fault two (fails_then matching_kinds from_playing b matching c fault three (fails_first playing_kinds last_kinds c fault e)))
+
+        module _ (playing : List Field) (d : Place) (four : fields_at playing_kinds c ≡ Ok (playing, d)) where
+          pub create_fails_5 : (fault : CmdFault) → Fails fault (proplist_at d) → Fails fault (fields_at create_kinds place)
+          create_fails_5 fault e = fails_then shape_kinds from_buffering place shape a fault one (fails_then buffering_kinds from_matching a buffering b fault two (fails_then matching_kinds from_playing b matching c fault three (fails_then playing_kinds last_kinds c playing d fault four (list_fails d fault e))))
+            where
+              list_fails : (d : Place) (fault : CmdFault) → Fails fault (proplist_at d) → Fails fault (fields_at last_kinds d)
+              list_fails d (Protocol fault) e = rw e refl
+              list_fails d (Unknown command) e = e
+              list_fails d (Unsupported command) e = e
+              list_fails d NoMemory e = tt
+
+          pub create_reads : (list : List Property) (e : Place) → proplist_at d ≡ Ok (list, e) → fields_at create_kinds place ≡ Ok (shape ++ (buffering ++ (matching ++ (playing ++ Properties list ∷ []))), e)
+          create_reads list e five =
+              let last : fields_at last_kinds d ≡ Ok (Properties list ∷ [], e) = rw five refl in
+              fields_then shape_kinds from_buffering place shape a one
+              ∙ ap (behind shape) (fields_then buffering_kinds from_matching a buffering b two
+              ∙ ap (behind buffering) (fields_then matching_kinds from_playing b matching c three
+              ∙ ap (behind matching) (fields_then playing_kinds last_kinds c playing d four ∙ ap (behind playing) last)))

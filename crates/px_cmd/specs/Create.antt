@@ -1,0 +1,34 @@
+-- The parts of CREATE_PLAYBACK_STREAM's fields, in the order of the packet.
+use Rattle.std.specs.Prelude.{List, [], ◌∷◌, slice_index}
+use Rattle.px_cmd.specs.declared.create.Shape.{Shape}
+use Rattle.px_cmd.specs.declared.create.Buffering.{Buffering}
+use Rattle.px_cmd.specs.declared.create.Matching.{Matching}
+use Rattle.px_cmd.specs.declared.create.Playing.{Playing}
+use Rattle.px_cmd.specs.Command.{sink_fields}
+use Rattle.px_cmd.specs.Field.{Kind, u32, bool, string, sample_spec, positions, volumes, Field, Number, Flag, SampleSpec, Positions, Volumes}
+
+abbrev pub shape_kinds : List Kind
+shape_kinds = sample_spec ∷ positions ∷ u32 ∷ string ∷ []
+
+abbrev pub shape_fields : Shape → List Field
+shape_fields s = SampleSpec s.spec ∷ Positions s.map ∷ sink_fields s.sink
+
+abbrev pub buffering_kinds : List Kind
+buffering_kinds = u32 ∷ bool ∷ u32 ∷ u32 ∷ u32 ∷ u32 ∷ volumes ∷ []
+
+abbrev pub buffering_fields : Buffering → List Field
+buffering_fields b =
+    Number (slice_index b.asked 0) ∷ Flag b.corked ∷ Number (slice_index b.asked 1) ∷ Number (slice_index b.asked 2) ∷ Number (slice_index b.asked 3)
+    ∷ Number b.syncid ∷ Volumes b.volume ∷ []
+
+abbrev pub matching_kinds : List Kind
+matching_kinds = bool ∷ bool ∷ bool ∷ bool ∷ bool ∷ []
+
+abbrev pub matching_fields : Matching → List Field
+matching_fields m = Flag m.no_remap ∷ Flag m.no_remix ∷ Flag m.fix_format ∷ Flag m.fix_rate ∷ Flag m.fix_channels ∷ []
+
+abbrev pub playing_kinds : List Kind
+playing_kinds = bool ∷ bool ∷ bool ∷ bool ∷ []
+
+abbrev pub playing_fields : Playing → List Field
+playing_fields p = Flag p.no_move ∷ Flag p.variable_rate ∷ Flag p.muted ∷ Flag p.adjust_latency ∷ []

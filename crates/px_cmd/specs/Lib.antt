@@ -1,0 +1,5 @@
+pub mod Field
+pub mod Table
+pub mod Command
+pub mod Packet
+pub mod Create

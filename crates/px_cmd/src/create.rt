@@ -1,0 +1,146 @@
+//! The fields of CREATE_PLAYBACK_STREAM.
+
+ghost use Rattle.px_cmd.specs.Command.{create_fields};
+ghost use Rattle.px_cmd.specs.Create.{shape_kinds, shape_fields, buffering_kinds, buffering_fields, matching_kinds, matching_fields, playing_kinds, playing_fields};
+ghost use Rattle.px_cmd.specs.Field.{fields_at};
+ghost use Rattle.px_cmd.specs.Packet.{Takes};
+ghost use Rattle.px_cmd.specs.Table.{create_kinds};
+
+use crate::command::{CreateFields, SinkRef};
+use crate::fault::CmdFault;
+use crate::fields::{properties, sink};
+use px_tag::{RawMap, RawSpec, RawVolume, TagReader};
+use std::alloc::Global;
+
+// What the stream is to be, and where.
+#[derive(Drop)]
+struct Shape {
+    spec: RawSpec,
+    map: RawMap,
+    sink: SinkRef,
+}
+
+// How it is buffered, and how loud it is.
+#[derive(Drop)]
+struct Buffering {
+    asked: [u32; 4],
+    corked: bool,
+    syncid: u32,
+    volume: RawVolume,
+}
+
+// How its channels and its format are matched to the sink's.
+#[derive(Clone, Copy)]
+struct Matching {
+    no_remap: bool,
+    no_remix: bool,
+    fix_format: bool,
+    fix_rate: bool,
+    fix_channels: bool,
+}
+
+// What may happen to it while it plays.
+#[derive(Clone, Copy)]
+struct Playing {
+    no_move: bool,
+    variable_rate: bool,
+    muted: bool,
+    adjust_latency: bool,
+}
+
+fn read_shape(alloc: Global, reader: &mut TagReader) -> Result<Shape, CmdFault>
+    ensures { Takes shape_fields result reader.new (fields_at shape_kinds reader.old) }
+{
+    let spec = reader.spec()?;
+    let map = reader.map()?;
+    let sink = sink(alloc, reader)?;
+    Ok(Shape { spec, map, sink })
+}
+
+fn read_buffering(reader: &mut TagReader) -> Result<Buffering, CmdFault>
+    ensures { Takes buffering_fields result reader.new (fields_at buffering_kinds reader.old) }
+{
+    let maxlength = reader.number()?;
+    let corked = reader.flag()?;
+    let tlength = reader.number()?;
+    let prebuf = reader.number()?;
+    let minreq = reader.number()?;
+    let syncid = reader.number()?;
+    let volume = reader.cvolume()?;
+    Ok(Buffering {
+        asked: [maxlength, tlength, prebuf, minreq],
+        corked,
+        syncid,
+        volume,
+    })
+}
+
+fn read_matching(reader: &mut TagReader) -> Result<Matching, CmdFault>
+    ensures { Takes matching_fields result reader.new (fields_at matching_kinds reader.old) }
+{
+    let no_remap = reader.flag()?;
+    let no_remix = reader.flag()?;
+    let fix_format = reader.flag()?;
+    let fix_rate = reader.flag()?;
+    let fix_channels = reader.flag()?;
+    Ok(Matching {
+        no_remap,
+        no_remix,
+        fix_format,
+        fix_rate,
+        fix_channels,
+    })
+}
+
+fn read_playing(reader: &mut TagReader) -> Result<Playing, CmdFault>
+    ensures { Takes playing_fields result reader.new (fields_at playing_kinds reader.old) }
+{
+    let no_move = reader.flag()?;
+    let variable_rate = reader.flag()?;
+    let muted = reader.flag()?;
+    let adjust_latency = reader.flag()?;
+    Ok(Playing {
+        no_move,
+        variable_rate,
+        muted,
+        adjust_latency,
+    })
+}
+
+/// The fields of CREATE_PLAYBACK_STREAM at version 13.
+pub(crate) fn create(alloc: Global, reader: &mut TagReader) -> Result<CreateFields, CmdFault>
+    ensures { Takes create_fields result reader.new (fields_at create_kinds reader.old) }
+{
+    let shape = read_shape(alloc, reader)?;
+    let buffering = read_buffering(reader)?;
+    let matching = read_matching(reader)?;
+    let playing = read_playing(reader)?;
+    let list = properties(alloc, reader)?;
+    let asked = buffering.asked;
+    Ok(CreateFields {
+        spec: shape.spec,
+        map: shape.map,
+        sink: shape.sink,
+        asked,
+        corked: buffering.corked,
+        syncid: buffering.syncid,
+        volume: buffering.volume,
+        no_remap: matching.no_remap,
+        no_remix: matching.no_remix,
+        fix_format: matching.fix_format,
+        fix_rate: matching.fix_rate,
+        fix_channels: matching.fix_channels,
+        no_move: playing.no_move,
+        variable_rate: playing.variable_rate,
+        muted: playing.muted,
+        adjust_latency: playing.adjust_latency,
+        list,
+        volume_set: None,
+        early_requests: None,
+        muted_set: None,
+        dont_inhibit_auto_suspend: None,
+        fail_on_suspend: None,
+        relative_volume: None,
+        passthrough: None,
+    })
+}

@@ -1,0 +1,61 @@
+//! Fields, read one after the other.
+
+ghost use Rattle.std.specs.Prelude.{◌≡◌, length, ◌∷◌, []};
+ghost use Rattle.std.specs.Option.{option_map};
+ghost use Rattle.px_tag.specs.Reading.{text_at, counted_at, proplist_at};
+ghost use Rattle.px_cmd.specs.Field.{fields_at, keys_at, u32, bool, string, cookie, sample_spec, positions, volumes, time_value, properties, keys};
+ghost use Rattle.px_cmd.specs.Command.{sink_fields};
+ghost use Rattle.px_cmd.specs.Packet.{Takes};
+
+use crate::command::SinkRef;
+use crate::fault::CmdFault;
+use crate::text::{Keys, Text};
+use px_tag::{ListFault, PropList, TagReader};
+use std::alloc::Global;
+
+pub(crate) fn text(alloc: Global, reader: &mut TagReader) -> Result<Option<Text>, CmdFault>
+    ensures { Takes (λ text. text) result reader.new (text_at reader.old) }
+{
+    match reader.text()? {
+        None => Ok(None),
+        Some(bytes) => Ok(Some(Text::new(alloc, bytes)?)),
+    }
+}
+
+pub(crate) fn cookie(alloc: Global, reader: &mut TagReader) -> Result<Text, CmdFault>
+    ensures { Takes (λ text. text) result reader.new (counted_at 256 reader.old) }
+{
+    let bytes = reader.arbitrary_of(256)?;
+    Ok(Text::new(alloc, bytes)?)
+}
+
+pub(crate) fn properties(alloc: Global, reader: &mut TagReader) -> Result<PropList, CmdFault>
+    ensures { Takes (λ list. list) result reader.new (proplist_at reader.old) }
+{
+    match reader.proplist(alloc) {
+        Ok(list) => Ok(list),
+        Err(ListFault::Tag(fault)) => Err(CmdFault::Protocol(fault)),
+        Err(ListFault::NoMemory) => Err(CmdFault::NoMemory),
+    }
+}
+
+pub(crate) fn sink(alloc: Global, reader: &mut TagReader) -> Result<SinkRef, CmdFault>
+    ensures { Takes sink_fields result reader.new (fields_at (u32 ∷ string ∷ []) reader.old) }
+{
+    let index = reader.number()?;
+    let name = text(alloc, reader)?;
+    Ok(SinkRef { index, name })
+}
+
+/// Keys, up to the null string.
+pub(crate) fn keys(alloc: Global, reader: &mut TagReader) -> Result<Keys, CmdFault>
+    ensures { Takes (λ keys. keys) result reader.new (keys_at (length reader.old.rest) reader.old) }
+{
+    let mut keys = Keys::new(alloc);
+    loop {
+        match text(alloc, reader)? {
+            None => return Ok(keys),
+            Some(key) => keys.push(key)?,
+        }
+    }
+}

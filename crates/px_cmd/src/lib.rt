@@ -1,0 +1,20 @@
+//! The commands of PulseAudio's native protocol at version 13: a packet means a command exactly where its
+//! bytes are the command's number, a tag and the command's fields in their spelling, and nothing more.
+#![tactic(auto)]
+
+mod command;
+mod create;
+mod fault;
+mod fields;
+mod head;
+mod packet;
+mod text;
+
+pub use command::{Command, CreateFields, SinkRef};
+pub use fault::CmdFault;
+pub use head::{Head, read_head};
+pub use packet::read_command;
+pub use text::{Keys, Text};
+
+#[cfg(test)]
+mod tests;

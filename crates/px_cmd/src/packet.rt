@@ -1,0 +1,202 @@
+//! Commands, read from packets.
+
+ghost use Rattle.std.specs.Prelude.{◌≡◌, ◌≤◌};
+ghost use Rattle.px_cmd.specs.Command.{fields_of, number_of};
+ghost use Rattle.px_cmd.specs.Packet.{taken, meaning, Reaches, Answers};
+ghost use Rattle.px_cmd.specs.Table.{kinds_of};
+
+use crate::command::Command;
+use crate::create::create;
+use crate::fault::CmdFault;
+use crate::fields::{cookie, keys, properties, sink, text};
+use crate::head::front;
+use px_tag::TagReader;
+use std::alloc::Global;
+
+/// The greatest number of a command that the protocol knows: `PA_COMMAND_MAX` of version 13.
+const LAST_COMMAND: u32 = 104;
+
+// The fields of SET_PLAYBACK_STREAM_BUFFER_ATTR.
+fn attributes(reader: &mut TagReader) -> Result<Command, CmdFault>
+    ensures { Reaches result 72 reader.new (taken (kinds_of 72) 72 reader.old) }
+{
+    let stream = reader.number()?;
+    let maxlength = reader.number()?;
+    let tlength = reader.number()?;
+    let prebuf = reader.number()?;
+    let minreq = reader.number()?;
+    let adjust_latency = reader.flag()?;
+    Ok(Command::Attributes {
+        stream,
+        asked: [maxlength, tlength, prebuf, minreq],
+        adjust_latency,
+        early_requests: None,
+    })
+}
+
+// The fields of a command whose number is 36 at least.
+fn later_fields(alloc: Global, number: u32, reader: &mut TagReader) -> Result<Command, CmdFault>
+    requires { 36 ≤ number }
+    ensures { Reaches result number reader.new (taken (kinds_of number) number reader.old) }
+{
+    match number {
+        36 => {
+            let sink = sink(alloc, reader)?;
+            let volume = reader.cvolume()?;
+            Ok(Command::SinkVolume { sink, volume })
+        }
+        37 => {
+            let input = reader.number()?;
+            let volume = reader.cvolume()?;
+            Ok(Command::InputVolume { input, volume })
+        }
+        39 => {
+            let sink = sink(alloc, reader)?;
+            let on = reader.flag()?;
+            Ok(Command::SinkMute { sink, on })
+        }
+        41 => {
+            let stream = reader.number()?;
+            let on = reader.flag()?;
+            Ok(Command::Cork { stream, on })
+        }
+        42 => {
+            let stream = reader.number()?;
+            Ok(Command::Flush { stream })
+        }
+        43 => {
+            let stream = reader.number()?;
+            Ok(Command::Trigger { stream })
+        }
+        44 => {
+            let name = text(alloc, reader)?;
+            Ok(Command::DefaultSink { name })
+        }
+        46 => {
+            let stream = reader.number()?;
+            let name = text(alloc, reader)?;
+            Ok(Command::StreamName { stream, name })
+        }
+        48 => {
+            let client = reader.number()?;
+            Ok(Command::KillClient { client })
+        }
+        49 => {
+            let input = reader.number()?;
+            Ok(Command::KillInput { input })
+        }
+        60 => {
+            let stream = reader.number()?;
+            Ok(Command::Prebuf { stream })
+        }
+        67 => {
+            let input = reader.number()?;
+            let sink = sink(alloc, reader)?;
+            Ok(Command::Move { input, sink })
+        }
+        69 => {
+            let input = reader.number()?;
+            let on = reader.flag()?;
+            Ok(Command::InputMute { input, on })
+        }
+        72 => attributes(reader),
+        81 => {
+            let stream = reader.number()?;
+            let mode = reader.number()?;
+            let list = properties(alloc, reader)?;
+            Ok(Command::UpdateStream { stream, mode, list })
+        }
+        82 => {
+            let mode = reader.number()?;
+            let list = properties(alloc, reader)?;
+            Ok(Command::UpdateClient { mode, list })
+        }
+        84 => {
+            let stream = reader.number()?;
+            let keys = keys(alloc, reader)?;
+            Ok(Command::RemoveStream { stream, keys })
+        }
+        85 => {
+            let keys = keys(alloc, reader)?;
+            Ok(Command::RemoveClient { keys })
+        }
+        89 => Ok(Command::EmptyList { number }),
+        _ => Err(CmdFault::Unsupported(number)),
+    }
+}
+
+// The fields of the command with this number.
+fn fields(alloc: Global, number: u32, reader: &mut TagReader) -> Result<Command, CmdFault>
+    ensures { Reaches result number reader.new (taken (kinds_of number) number reader.old) }
+{
+    match number {
+        3 => {
+            let fields = create(alloc, reader)?;
+            Ok(Command::Create(fields))
+        }
+        4 => {
+            let stream = reader.number()?;
+            Ok(Command::Delete { stream })
+        }
+        8 => {
+            let version = reader.number()?;
+            let cookie = cookie(alloc, reader)?;
+            Ok(Command::Auth { version, cookie })
+        }
+        9 => {
+            let list = properties(alloc, reader)?;
+            Ok(Command::SetClientName { list })
+        }
+        10 => {
+            let name = text(alloc, reader)?;
+            Ok(Command::LookupSink { name })
+        }
+        12 => {
+            let stream = reader.number()?;
+            Ok(Command::Drain { stream })
+        }
+        14 => {
+            let stream = reader.number()?;
+            let time = reader.time()?;
+            Ok(Command::Latency { stream, time })
+        }
+        20 => Ok(Command::ServerInfo),
+        21 => {
+            let sink = sink(alloc, reader)?;
+            Ok(Command::SinkInfo { sink })
+        }
+        22 => Ok(Command::SinkInfoList),
+        27 => {
+            let client = reader.number()?;
+            Ok(Command::ClientInfo { client })
+        }
+        28 => Ok(Command::ClientInfoList),
+        29 => {
+            let input = reader.number()?;
+            Ok(Command::InputInfo { input })
+        }
+        30 => Ok(Command::InputInfoList),
+        24 | 26 | 32 | 34 => Ok(Command::EmptyList { number }),
+        35 => {
+            let mask = reader.number()?;
+            Ok(Command::Subscribe { mask })
+        }
+        0..=35 => Err(CmdFault::Unsupported(number)),
+        _ => later_fields(alloc, number, reader),
+    }
+}
+
+/// The command that a packet means, with its fields by the connection's version; every version is read as
+/// 13. Takes memory for what the command keeps: names, keys, a cookie, property lists.
+pub fn read_command(alloc: Global, packet: &[u8], _version: u16) -> Result<Command, CmdFault>
+    ensures { Answers (λ command. (number_of command, fields_of command)) result (meaning packet.now) }
+{
+    let mut reader = TagReader::new(packet);
+    let head = front(&mut reader)?;
+    if head.command > LAST_COMMAND {
+        return Err(CmdFault::Unknown(head.command));
+    }
+    let command = fields(alloc, head.command, &mut reader)?;
+    reader.end()?;
+    Ok(command)
+}
