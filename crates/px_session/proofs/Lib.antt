@@ -1,1 +1,11 @@
 pub mod Added
+pub mod Buffer
+pub mod More
+pub mod Steps
+pub mod Steady
+pub mod SteadySession
+pub mod LastByte
+pub mod FieldLaws
+pub mod HeaderLaws
+pub mod SinkLaws
+pub mod MapLemmas

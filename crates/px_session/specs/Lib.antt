@@ -1,2 +1,13 @@
+pub mod Place
+pub mod Field
+pub mod HeaderRules
+pub mod HeaderReading
+pub mod EventReading
+pub mod Session
+pub mod Held
+pub mod Found
+pub mod Law
+pub mod Seen
+pub mod Reader
 pub mod Spelling
 pub mod Writing

@@ -2,6 +2,7 @@
 
 use px_ends::WriteFailed;
 use px_types::NoMemory;
+use std::alloc::{AllocError, AllocFailed};
 
 /// Why a session is refused: the first rule that its bytes break, from left to right. Own: PulseAudio records no sessions.
 #[derive(Clone, Copy, Debug, PartialEq, Eq)]
@@ -53,6 +54,28 @@ impl From<NoMemory> for ReadError {
     ghost from_gives = { λ _ e. e ≡ error.NoMemory };
 
     fn from(_: NoMemory) -> Self {
+        ReadError::NoMemory
+    }
+}
+
+impl From<AllocError> for ReadError {
+    ghost use Rattle.std.specs.Prelude.{◌≡◌};
+    ghost use Rattle.px_session.specs.declared.fault.ReadError.TheVariants as error;
+
+    ghost from_gives = { λ _ e. e ≡ error.NoMemory };
+
+    fn from(_: AllocError) -> Self {
+        ReadError::NoMemory
+    }
+}
+
+impl<T: Drop> From<AllocFailed<T>> for ReadError {
+    ghost use Rattle.std.specs.Prelude.{◌≡◌};
+    ghost use Rattle.px_session.specs.declared.fault.ReadError.TheVariants as error;
+
+    ghost from_gives = { λ _ e. e ≡ error.NoMemory };
+
+    fn from(_: AllocFailed<T>) -> Self {
         ReadError::NoMemory
     }
 }

@@ -4,13 +4,21 @@
 #![tactic(auto)]
 
 mod event;
+mod event_reading;
 mod fault;
+mod found;
 mod header;
+mod header_reading;
+mod held;
 mod output;
+mod place;
+mod reader;
+mod waiting;
 mod writer;
 
 pub use event::{Event, Step};
 pub use fault::{Cause, ReadError, WriteError};
 pub use header::{Header, SinkSpec, SinkSpecs};
 pub use output::OutRecord;
+pub use reader::Reader;
 pub use writer::{write_effect, write_event, write_header};
