@@ -86,6 +86,73 @@ event_at_last place x e ends =
     let s = go_on_ok (byte_at place) (fields_at place.at) x e in
     fields_last place.at s.0.0 s.0.1 x s.2 ends
 
+-- ---- no event is a header
+
+abbrev NoHeader : Reading Step → Type 0
+NoHeader read = (place : Place) (x : Step × Place) (h : Header) → read place ≡ Ok x → x.0 ≡ step.Header h → ⊥
+
+then_no_header : {A : Type 0} (first : Reading A) (next : A → Reading Step) → ((x : A) → NoHeader (next x)) → NoHeader (and_then first next)
+then_no_header first next n place x h e is = let s = then_ok first next place x e in n s.0.0 s.0.1 x h s.2 is
+
+event_is_no_header : (e : Event) (h : Header) → step.Event e ≡ step.Header h → ⊥
+event_is_no_header e h same = cc
+
+end_is_no_header : (h : Header) → step.End ≡ step.Header h → ⊥
+end_is_no_header h same = cc
+
+event_header : (e : Event) → NoHeader (done (step.Event e))
+event_header e place x h read is = event_is_no_header e h (ap (λ (z : Step × Place). z.0) (ok_is (step.Event e, place) x read) ∙ is)
+
+choose_header : (b : Bool) (x y : Reading Step) → NoHeader x → NoHeader y → NoHeader (cond b x y)
+choose_header true x y hx hy = hx
+choose_header false x y hx hy = hy
+
+ended_header : (rest : List ℕ) → NoHeader (ended_by rest)
+ended_header [] place x h e is = end_is_no_header h (ap (λ (z : Step × Place). z.0) (ok_is (step.End, place) x e) ∙ is)
+ended_header (byte ∷ rest) place x h e is = absurd cc
+
+end_header : NoHeader end_at
+unfolding end_at
+end_header place x h e is = ended_header place.rest place x h e is
+
+conn_header : (made : ConnId → Event) → NoHeader (conn_at made)
+unfolding conn_at
+conn_header made = then_no_header _ _ (λ conn. event_header _)
+
+data_header : (kind_at : ℕ) → NoHeader (data_at kind_at)
+unfolding data_at
+data_header kind_at = then_no_header _ _ (λ conn. then_no_header _ _ (λ size. then_no_header _ _ (λ bytes. event_header _)))
+
+turn_header : NoHeader turn_at
+unfolding turn_at
+turn_header = then_no_header _ _ (λ sink. then_no_header _ _ (λ frames. then_no_header _ _ (λ messages. event_header _)))
+
+collect_header : NoHeader collect_at
+unfolding collect_at
+collect_header = then_no_header _ _ (λ sink. then_no_header _ _ (λ notices. event_header _))
+
+no_event_header : (kind_at kind : ℕ) → NoHeader (no_event_at kind_at kind)
+no_event_header kind_at kind place x h e is = absurd cc
+
+fields_header : (kind_at kind : ℕ) → NoHeader (fields_at kind_at kind)
+unfolding fields_at
+fields_header kind_at kind =
+    choose_header (kind == 0) _ _ end_header
+    (choose_header (kind == 1) _ _ (conn_header event.Connect)
+    (choose_header (kind == 2) _ _ (data_header kind_at)
+    (choose_header (kind == 3) _ _ (conn_header event.Close)
+    (choose_header (kind == 4) _ _ (conn_header event.Cut)
+    (choose_header (kind == 5) _ _ turn_header
+    (choose_header (kind == 6) _ _ collect_header (no_event_header kind_at kind)))))))
+
+pub event_no_header : (place : Place) (x : Step × Place) (h : Header) → event_at place ≡ Ok x → x.0 ≡ step.Header h → ⊥
+unfolding event_at
+event_no_header place x h e is =
+    let s = go_on_ok (byte_at place) (fields_at place.at) x e in
+    fields_header place.at s.0.0 s.0.1 x h s.2 is
+
+-- ---- what more bytes may change
+
 step_last : (begun : Bool) → IsLast (step_at begun)
 unfolding first_at
 step_last false place x e ends =

@@ -9,3 +9,5 @@ pub mod FieldLaws
 pub mod HeaderLaws
 pub mod SinkLaws
 pub mod MapLemmas
+pub mod EventLaws
+pub mod SessionLaws

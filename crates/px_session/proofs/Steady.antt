@@ -23,12 +23,16 @@ pub record IsBehind (place after : Place) : Type 0 where
 abbrev pub IsEarlyEnd : Refusal → Type 0
 IsEarlyEnd f = f.cause ≡ cause.Truncated
 
+abbrev pub IsEndless : Refusal → Type 0
+IsEndless f = f.cause ≡ cause.Endless
+
 -- closed are the values that stay so whatever follows
 pub record IsSteady {A : Type 0} (closed : A → Type 0) (read : Reading A) : Type 0 where
   pub ok : (place : Place) (x : A × Place) (behind : List ℕ) → read place ≡ Ok x → closed x.0 → read (more place behind) ≡ Ok (x.0, more x.1 behind)
   pub final : (place : Place) (f : Refusal) (behind : List ℕ) → read place ≡ Err f → (IsEarlyEnd f → ⊥) → read (more place behind) ≡ Err f
   pub kept : (place : Place) (x : A × Place) → read place ≡ Ok x → IsBehind place x.1
   pub short : (place : Place) (f : Refusal) → read place ≡ Err f → IsEarlyEnd f → (f.at ≡ end_of place) × (f.at < limit)
+  pub endless : (place : Place) (f : Refusal) → read place ≡ Err f → IsEndless f → (f.at ≡ limit) × (limit ≤ end_of place)
 
 abbrev pub any : {A : Type 0} → A → Type 0
 any x = Unit {0}
@@ -85,15 +89,17 @@ done_steady closed x = record {
   final = λ place f behind e late. absurd cc;
   kept = λ place y e. subst (λ (z : Place). IsBehind place z) (ap (λ z. z.1) (ok_is (x, place) y e)) (behind_self place);
   short = λ place f e early. absurd cc;
+  endless = λ place f e goes. absurd cc;
 }
 
 -- a refusal for another cause
-pub refuse_steady : {A : Type 0} (closed : A → Type 0) (f : Refusal) → (IsEarlyEnd f → ⊥) → IsSteady closed (λ place. refused {A = A} f)
-refuse_steady closed f other = record {
+pub refuse_steady : {A : Type 0} (closed : A → Type 0) (f : Refusal) → (IsEarlyEnd f → ⊥) → (IsEndless f → ⊥) → IsSteady closed (λ place. refused {A = A} f)
+refuse_steady closed f other finite = record {
   ok = λ place y behind e c. absurd cc;
   final = λ place h behind e late. e;
   kept = λ place y e. absurd cc;
   short = λ place h e early. absurd (other (ap (λ r. r.cause) (err_is f h e) ∙ early));
+  endless = λ place h e goes. absurd (finite (ap (λ r. r.cause) (err_is f h e) ∙ goes));
 }
 
 pub choice_steady : {A : Type 0} (closed : A → Type 0) (b : Bool) (x y : Reading A) → IsSteady closed x → IsSteady closed y → IsSteady closed (λ place. cond b (x place) (y place))
@@ -121,6 +127,11 @@ go_on_steady {A} {B} closed first next hf hn same = record {
         | inl h ↦ hf.short place f h early
         | inr s ↦ (let r = (hn place s.0.0).short s.0.1 f s.2 early in (r.0 ∙ behind_end place s.0.1 (hf.kept place s.0 s.1), r.1))
       ]);
+  endless = λ place f e goes.
+      (elim (go_on_err (first place) (next place) f e) [
+        | inl h ↦ hf.endless place f h goes
+        | inr s ↦ (let r = (hn place s.0.0).endless s.0.1 f s.2 goes in let same = behind_end place s.0.1 (hf.kept place s.0 s.1) in (r.0, omega (arith, r.1, same)))
+      ]);
 }
 
 pub then_steady : {A B : Type 0} (closed : B → Type 0) (first : Reading A) (next : A → Reading B) → IsSteady any first → ((x : A) → IsSteady closed (next x)) → IsSteady closed (and_then first next)
@@ -139,6 +150,9 @@ short_by false end h l = inr (l refl, refl)
 
 ok_no_err : {A : Type 0} (x : A × Place) (f : Refusal) → answer x ≡ refused f → ⊥
 ok_no_err x f e = cc
+
+early_no_endless : cause.Truncated ≡ cause.Endless → ⊥
+early_no_endless e = cc
 
 endless_no_early : cause.Endless ≡ cause.Truncated → ⊥
 endless_no_early e = cc
@@ -176,6 +190,14 @@ bytes_steady n = record {
         | inl g ↦ (elim (short_cases place) [
           | inl s ↦ absurd (endless_no_early (sym (ap (λ (h : Refusal). h.cause) (sym g.1 ∙ s.1)) ∙ early))
           | inr s ↦ (let at : f.at ≡ end_of place = ap (λ (h : Refusal). h.at) (sym g.1 ∙ s.1) in (at, omega (arith, at, s.0)))
+        ])
+        | inr g ↦ absurd (ok_no_err _ f g.1)
+      ]);
+  endless = λ place f e goes.
+      (elim (guard_err (ltb (available place) n) (short_at place) (answer (take n place.rest, past n place)) f e) [
+        | inl g ↦ (elim (short_cases place) [
+          | inl s ↦ (ap (λ (h : Refusal). h.at) (sym g.1 ∙ s.1), s.0)
+          | inr s ↦ absurd (early_no_endless (sym (ap (λ (h : Refusal). h.cause) (sym g.1 ∙ s.1)) ∙ goes))
         ])
         | inr g ↦ absurd (ok_no_err _ f g.1)
       ]);

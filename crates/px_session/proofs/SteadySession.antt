@@ -17,9 +17,9 @@ use Rattle.px_session.specs.HeaderReading.{no_magic, compared, letter_at, letter
 use Rattle.px_session.specs.EventReading.{ended_by, end_at, conn_at, sized_at, data_at, turn_at, collect_at, fields_at, event_at}
 use Rattle.px_session.specs.Session.{first_at, step_at}
 use Rattle.px_session.specs.Writing.{most_bytes}
-use Rattle.px_session.proofs.Steady.{more, IsBehind, behind_self, any, refused, ok_is, err_is, IsEarlyEnd, IsSteady, done_steady, refuse_steady, choice_steady, go_on_steady, then_steady, bytes_steady}
+use Rattle.px_session.proofs.Steady.{more, IsBehind, behind_self, any, refused, ok_is, err_is, IsEarlyEnd, IsEndless, IsSteady, done_steady, refuse_steady, choice_steady, go_on_steady, then_steady, bytes_steady}
 
-byte_steady : IsSteady any byte_at
+pub byte_steady : IsSteady any byte_at
 unfolding byte_at
 byte_steady = then_steady any (bytes_at 1) (λ bytes. done (slice_index bytes 0)) (bytes_steady 1) (λ bytes. done_steady any (slice_index bytes 0))
 
@@ -31,7 +31,7 @@ ruled_steady : {A : Type 0} (rule : A → Bool) (read : Reading A) → IsSteady 
 unfolding ruled
 ruled_steady rule read h =
     go_on_steady any read (checked rule) h
-    (λ place x. choice_steady any (rule x) (done x) (λ after. refused (broken_at place)) (done_steady any x) (refuse_steady any (broken_at place) (λ e. cc)))
+    (λ place x. choice_steady any (rule x) (done x) (λ after. refused (broken_at place)) (done_steady any x) (refuse_steady any (broken_at place) (λ e. cc) (λ e. cc)))
     (λ place behind x after. refl)
 
 at_steady : {A : Type 0} (closed : A → Type 0) (read : ℕ → Reading A) → ((at : ℕ) → IsSteady closed (read at)) → IsSteady closed (λ place. read place.at place)
@@ -40,13 +40,14 @@ at_steady closed read h = record {
   final = λ place f behind e late. (h place.at).final place f behind e late;
   kept = λ place x e. (h place.at).kept place x e;
   short = λ place f e early. (h place.at).short place f e early;
+  endless = λ place f e goes. (h place.at).endless place f e goes;
 }
 
 letter_steady : (start letter : ℕ) → IsSteady any (letter_at start letter)
 unfolding letter_at
 letter_steady start letter =
     go_on_steady any byte_at (λ place. compared start letter) byte_steady
-    (λ place x. choice_steady any (x == letter) (done x) (λ after. refused (no_magic start)) (done_steady any x) (refuse_steady any (no_magic start) (λ e. cc)))
+    (λ place x. choice_steady any (x == letter) (done x) (λ after. refused (no_magic start)) (done_steady any x) (refuse_steady any (no_magic start) (λ e. cc) (λ e. cc)))
     (λ place behind x after. refl)
 
 letters_steady : (start : ℕ) → IsSteady any (letters_at start)
@@ -63,7 +64,7 @@ unfolding name_at
 name_steady earlier = then_steady any _ _ (ruled_steady (is_from_to 1 64) byte_at byte_steady) (λ size. ruled_steady (λ name. is_name name && is_new earlier name) (bytes_at size) (bytes_steady size))
 
 known_steady : (place : Place) (found : Option Format) → IsSteady any (known place found)
-known_steady place None = refuse_steady any (broken_at place) (λ e. cc)
+known_steady place None = refuse_steady any (broken_at place) (λ e. cc) (λ e. cc)
 known_steady place (Some format) = done_steady any format
 
 known_same : (place : Place) (behind : List ℕ) (found : Option Format) (after : Place) → known (more place behind) found after ≡ known place found after
@@ -101,7 +102,7 @@ sink_steady earlier =
     then_steady any _ _ (more_steady position_at (λ ps. ruled_steady (λ p. nat_le p 50) byte_at byte_steady) [] spec.channels) (λ map.
     then_steady any _ _ room_steady (λ room. done_steady any _))))
 
-header_steady : IsSteady any header_at
+pub header_steady : IsSteady any header_at
 unfolding header_at
 header_steady =
     then_steady any _ _ magic_steady (λ last.
@@ -143,6 +144,13 @@ end_is_late : (rest : List ℕ) (place : Place) (f : Refusal) → ended_by rest 
 end_is_late [] place f e early = absurd cc
 end_is_late (byte ∷ rest) place f e early = trailing_is_late (ap (λ (h : Refusal). h.cause) (err_is {A = Step} (trailing place) f e) ∙ early)
 
+trailing_is_finite : cause.Trailing ≡ cause.Endless → ⊥
+trailing_is_finite e = cc
+
+end_is_finite : (rest : List ℕ) (place : Place) (f : Refusal) → ended_by rest place ≡ Err f → IsEndless f → ⊥
+end_is_finite [] place f e goes = absurd cc
+end_is_finite (byte ∷ rest) place f e goes = trailing_is_finite (ap (λ (h : Refusal). h.cause) (err_is {A = Step} (trailing place) f e) ∙ goes)
+
 end_steady : IsSteady Closed end_at
 unfolding end_at
 end_steady = record {
@@ -150,6 +158,7 @@ end_steady = record {
   final = λ place f behind e late. end_is_final place.rest place behind f e;
   kept = λ place x e. end_is_kept place.rest place x e;
   short = λ place f e early. absurd (end_is_late place.rest place f e early);
+  endless = λ place f e goes. absurd (end_is_finite place.rest place f e goes);
 }
 
 conn_steady : (made : ConnId → Event) → IsSteady Closed (conn_at made)
@@ -158,7 +167,7 @@ conn_steady made = then_steady Closed _ _ word_steady (λ conn. done_steady Clos
 
 sized_steady : (kind_at size : ℕ) → IsSteady any (sized_at kind_at size)
 unfolding sized_at
-sized_steady kind_at size = choice_steady any (nat_lt most_bytes size) (λ place. refused (record { at = kind_at; cause = cause.TooLong size })) (bytes_at size) (refuse_steady any _ (λ e. cc)) (bytes_steady size)
+sized_steady kind_at size = choice_steady any (nat_lt most_bytes size) (λ place. refused (record { at = kind_at; cause = cause.TooLong size })) (bytes_at size) (refuse_steady any _ (λ e. cc) (λ e. cc)) (bytes_steady size)
 
 data_steady : (kind_at : ℕ) → IsSteady Closed (data_at kind_at)
 unfolding data_at
@@ -173,7 +182,7 @@ collect_steady : IsSteady Closed collect_at
 unfolding collect_at
 collect_steady = then_steady Closed _ _ byte_steady (λ sink. then_steady Closed _ _ word_steady (λ notices. done_steady Closed _))
 
-fields_steady : (kind_at kind : ℕ) → IsSteady Closed (fields_at kind_at kind)
+pub fields_steady : (kind_at kind : ℕ) → IsSteady Closed (fields_at kind_at kind)
 unfolding fields_at
 fields_steady kind_at kind =
     choose_steady Closed (kind == 0) _ _ end_steady
@@ -183,9 +192,9 @@ fields_steady kind_at kind =
     (choose_steady Closed (kind == 4) _ _ (conn_steady event.Cut)
     (choose_steady Closed (kind == 5) _ _ turn_steady
     (choose_steady Closed (kind == 6) _ _ collect_steady
-    (refuse_steady Closed _ (λ e. cc))))))))
+    (refuse_steady Closed _ (λ e. cc) (λ e. cc))))))))
 
-event_steady : IsSteady Closed event_at
+pub event_steady : IsSteady Closed event_at
 unfolding event_at
 event_steady = go_on_steady Closed byte_at (λ place. fields_at place.at) byte_steady (λ place kind. fields_steady place.at kind) (λ place behind kind after. refl)
 
