@@ -11,3 +11,4 @@ pub mod SinkLaws
 pub mod MapLemmas
 pub mod EventLaws
 pub mod SessionLaws
+pub mod Answered

@@ -2,6 +2,7 @@
 
 ghost use Rattle.std.specs.Prelude.{◌≡◌, [], false, IfOk};
 ghost use Rattle.px_session.specs.Reader.{all_ahead, Takes, Gives};
+ghost use Rattle.px_session.specs.EventRules.{IsStep};
 ghost use Rattle.px_session.specs.Held.{ReadCounts};
 
 use crate::event::Step;
@@ -48,13 +49,10 @@ impl Reader {
         })
     }
 
-    /// What stands next: first the header, then events, then the end. `Refused` gives the first rule that the bytes break,
-    /// and the offset. After `End` or an `Err` it isn't called again. It takes the memory of what it gives, and more than the
-    /// buffer's where an event is longer than that.
-    pub fn next<S: Source>(&mut self, input: &mut S) -> Result<Step, ReadError>
-        // The bytes that it took from the source spell what it gives, told or not.
+    // What stands next in the bytes that it took from the source.
+    fn advance<S: Source>(&mut self, input: &mut S) -> Result<Step, ReadError>
         ensures takes { Takes result self.old self.new (S.left input.old) (S.left input.new) }
-        // A read that failed, and nothing else, counts as a fault of the source.
+        ensures lawful { IfOk result IsStep }
         ensures counts { ReadCounts result (S.faults input.old) (S.faults input.new) }
     {
         let found = await_step(self.alloc, self.begun, self.at, &mut self.held, input)?;
@@ -62,5 +60,21 @@ impl Reader {
         self.at = found.at;
         self.begun = true;
         Ok(found.step)
+    }
+
+    /// What stands next: first the header, then events, then the end. `Refused` gives the first rule that the bytes break, and
+    /// the offset. `Failed` comes only where a read of the source failed. After `End` or an `Err` it isn't called again. It
+    /// takes the memory of what it gives, and a few KiB beside its buffer where an event is longer than that.
+    pub fn next<S: Source>(&mut self, input: &mut S) -> Result<Step, ReadError>
+        // Where the source tells, the answer is what stands next in all bytes ahead, whatever the pieces.
+        ensures gives { Gives result self.old self.new (all_ahead self.old (S.left input.old)) (all_ahead self.new (S.left input.new)) }
+        // Told or not, the bytes that it took from the source spell it.
+        ensures takes { Takes result self.old self.new (S.left input.old) (S.left input.new) }
+        // Told or not, a header and an event keep their rules.
+        ensures lawful { IfOk result IsStep }
+        // The source's count of faults rises exactly in an answer of `Failed`.
+        ensures counts { ReadCounts result (S.faults input.old) (S.faults input.new) }
+    {
+        self.advance(input)
     }
 }

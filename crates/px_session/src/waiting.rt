@@ -4,6 +4,7 @@ ghost use Rattle.std.specs.Prelude.{◌≡◌, ◌≤◌, ◌^◌, length, IfOk,
 ghost use Rattle.px_session.specs.Place.{Reads};
 ghost use Rattle.px_session.specs.Session.{step_at};
 ghost use Rattle.px_session.specs.Found.{place_at, Finds, IsOpen, IsClosed, Awaits, NeverFails};
+ghost use Rattle.px_session.specs.EventRules.{IsStep};
 ghost use Rattle.px_session.specs.Held.{ReadCounts};
 ghost use Rattle.px_session.specs.Seen.{place_of};
 
@@ -33,6 +34,7 @@ fn look(alloc: Global, begun: bool, at: u64, bytes: &[u8]) -> Result<Found, Read
     requires { at ≤ 2 ^ 40 }
     ensures finds { Finds result bytes.now (step_at begun (place_at at bytes.now)) }
     ensures within { IfOk result (λ found. found.at ≤ 2 ^ 40) }
+    ensures lawful { IfOk result (λ found. IsStep found.step) }
     ensures never { NeverFails result }
 {
     let mut place = Place { at, rest: bytes };
@@ -67,6 +69,7 @@ pub(crate) fn await_step<S: Source>(
     ensures awaits { Awaits result begun at held.old held.new (S.left input.old) (S.left input.new) }
     ensures counts { ReadCounts result (S.faults input.old) (S.faults input.new) }
     ensures within { IfOk result (λ found. found.at ≤ 2 ^ 40) }
+    ensures lawful { IfOk result (λ found. IsStep found.step) }
 {
     loop {
         let read = look(alloc, begun, at, held.as_slice());

@@ -1,0 +1,5 @@
+use Rattle.px_session.proofs.Answered.{gives_all}
+use Rattle.px_session.proofs.reader.Reader.next.Goals as goal
+
+pub returns-clause-gives : goal.returns-clause-gives
+returns-clause-gives g c = gives_all c.advance.result c.args.self.now c.advance.new.self (g.S.Source.left c.args.input.now) (g.S.Source.left c.advance.new.input) c.advance.ensures.takes
