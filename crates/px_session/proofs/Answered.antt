@@ -1,5 +1,5 @@
 -- What a reader's answer over the bytes that it took says of all bytes that were ahead of it.
-use Rattle.std.proofs.Common.{◌≡◌, ℕ, Bool, true, false, List, [], ◌++◌, Option, None, Some, Result, Ok, Err, refl, sym, ap, subst, ◌∙◌, append_assoc}
+use Rattle.std.proofs.Common.{◌≡◌, ℕ, Bool, true, false, List, [], ◌∷◌, ◌++◌, arith, Option, None, Some, Result, Ok, Err, refl, sym, ap, subst, ◌∙◌, append_assoc}
 use Rattle.std.proofs.lemmas.List.{append-nil}
 use Rattle.px_session.specs.declared.event.Step.{Step}
 use Rattle.px_session.specs.declared.event.Step.TheVariants as step
@@ -9,8 +9,13 @@ use Rattle.px_session.specs.declared.fault.ReadError.{ReadError}
 use Rattle.px_session.specs.declared.fault.ReadError.TheVariants as error
 use Rattle.px_session.specs.Place.{Place, done}
 use Rattle.px_session.specs.EventReading.{event_at}
-use Rattle.px_session.specs.EventRules.{IsStep}
-use Rattle.px_session.specs.HeaderRules.{IsHeader}
+use Rattle.std.specs.List.{AllByRecursion}
+use Rattle.px_session.specs.declared.event.Event.{Event}
+use Rattle.px_session.specs.declared.event.Event.TheVariants as event
+use Rattle.px_session.specs.declared.header.SinkSpec.{SinkSpec}
+use Rattle.px_session.specs.EventRules.{IsEvent, IsStep}
+use Rattle.px_session.specs.Writing.{FitsSink, FitsEvent, FitsStep}
+use Rattle.px_session.specs.HeaderRules.{AreSinks, IsHeader}
 use Rattle.px_session.specs.Law.{AreBytes}
 use Rattle.px_session.specs.Session.{first_at, step_at}
 use Rattle.px_session.specs.Reader.{Reader, place_with, all_ahead, Stepped, EndsWith, Takes, Gives}
@@ -36,6 +41,25 @@ step_lawful false place s after fits e =
     let lawful : IsHeader h.0.0 = (header_law.found place h.0 fits h.1).1.0 in
     subst (λ (z : Step × Place). IsStep z.0) (ok_is (step.Header h.0.0, h.0.1) (s, after) h.2) lawful
 step_lawful true place s after fits e = event_lawful place s after fits e
+
+-- ---- what is lawful can be written
+
+sinks_fit : (earlier sinks : List SinkSpec) → AreSinks earlier sinks → AllByRecursion FitsSink sinks
+sinks_fit earlier [] lawful = tt
+sinks_fit earlier (s ∷ sinks) lawful = (omega (arith, lawful.0.name_size.1), sinks_fit (earlier ++ s ∷ []) sinks lawful.1)
+
+event_fits : (e : Event) → IsEvent e → FitsEvent e
+event_fits (event.Connect conn) h = tt
+event_fits (event.Bytes conn bytes) h = h.1
+event_fits (event.Close conn) h = tt
+event_fits (event.Cut conn) h = tt
+event_fits (event.Turn sink frames messages) h = tt
+event_fits (event.Collect sink notices) h = tt
+
+pub step_fits : (s : Step) → IsStep s → FitsStep s
+step_fits (step.Header h) lawful = record { count = omega (arith, lawful.count.1); names = sinks_fit [] h.sinks lawful.sinks }
+step_fits (step.Event e) lawful = event_fits e lawful
+step_fits step.End lawful = tt
 
 -- ---- the bytes that were taken, and those that follow
 

@@ -5,6 +5,8 @@ use Rattle.px_session.specs.declared.header.SinkSpec.{SinkSpec}
 use Rattle.px_session.specs.declared.header.Header.{Header}
 use Rattle.px_session.specs.declared.event.Event.{Event}
 use Rattle.px_session.specs.declared.event.Event.TheVariants.{Bytes}
+use Rattle.px_session.specs.declared.event.Step.{Step}
+use Rattle.px_session.specs.declared.event.Step.TheVariants as step
 use Rattle.px_session.specs.declared.output.OutRecord.{OutRecord}
 use Rattle.px_session.specs.declared.output.OutRecord.TheVariants.{Sent}
 
@@ -29,3 +31,9 @@ FitsEvent _ = Unit {0}
 abbrev pub FitsRecord : OutRecord → Type 0
 FitsRecord (Sent conn bytes) = length bytes.now < 2 ^ 32
 FitsRecord _ = Unit {0}
+
+-- a step that a writer can write
+abbrev pub FitsStep : Step → Type 0
+FitsStep (step.Header h) = FitsHeader h
+FitsStep (step.Event e) = FitsEvent e
+FitsStep step.End = Unit {0}

@@ -44,7 +44,9 @@ fn move_to_front(buffer: &mut [u8], from: usize, to: usize)
     requires inside { to ≤ length buffer.old }
     ensures { take (to - from) buffer.new ≡ take (to - from) (drop from buffer.old) }
 {
-    buffer.copy_within(from..to, 0);
+    if from > 0 {
+        buffer.copy_within(from..to, 0);
+    }
 }
 
 // Makes room behind the first bytes, which stay.

@@ -3,6 +3,7 @@
 ghost use Rattle.std.specs.Prelude.{◌≡◌, [], false, IfOk};
 ghost use Rattle.px_session.specs.Reader.{all_ahead, Takes, Gives};
 ghost use Rattle.px_session.specs.EventRules.{IsStep};
+ghost use Rattle.px_session.specs.Writing.{FitsStep};
 ghost use Rattle.px_session.specs.Held.{ReadCounts};
 
 use crate::event::Step;
@@ -72,6 +73,8 @@ impl Reader {
         ensures takes { Takes result self.old self.new (S.left input.old) (S.left input.new) }
         // Told or not, a header and an event keep their rules.
         ensures lawful { IfOk result IsStep }
+        // What it gives can be written.
+        ensures writable { IfOk result FitsStep }
         // The source's count of faults rises exactly in an answer of `Failed`.
         ensures counts { ReadCounts result (S.faults input.old) (S.faults input.new) }
     {
