@@ -163,62 +163,50 @@ fn longest(alloc: Global) -> Mem<Text> {
     Ok(Text::from_vec(bytes))
 }
 
-fn reads_as(alloc: Global, bytes: Mem<Text>, wanted: Result<usize, ReadError>) -> Mem<bool> {
-    Ok(in_any_pieces(alloc, bytes?.as_slice())? == Some(wanted))
+fn reads_as(alloc: Global, bytes: Mem<Text>, wanted: Result<usize, ReadError>) -> bool {
+    match bytes {
+        Ok(bytes) =>
+            matches!(in_any_pieces(alloc, bytes.as_slice()), Ok(Some(got)) if got == wanted),
+        Err(_) => false,
+    }
 }
 
 #[test]
 fn sessions_end_or_are_refused(rt: HostRuntime) {
     let alloc = rt.alloc();
-    let cases = [
-        reads_as(alloc, with_events(alloc, &[0]), Ok(1)),
-        reads_as(alloc, with_events(alloc, &EVENTS), Ok(8)),
-        reads_as(alloc, longest(alloc), Ok(2)),
-        reads_as(alloc, two_sinks(alloc, b"two", 1), Ok(1)),
-        reads_as(
-            alloc,
-            two_sinks(alloc, b"out", 1),
-            refused(281, Cause::Header),
-        ),
-        reads_as(
-            alloc,
-            two_sinks(alloc, b"two", 0),
-            refused(286, Cause::Header),
-        ),
-        reads_as(
-            alloc,
-            with_events(alloc, &[1, 0, 0]),
-            refused(283, Cause::Truncated),
-        ),
-        reads_as(
-            alloc,
-            with_events(alloc, &[0, 5]),
-            refused(281, Cause::Trailing),
-        ),
-        reads_as(
-            alloc,
-            with_events(alloc, &[7]),
-            refused(280, Cause::Kind(7)),
-        ),
-        reads_as(
-            alloc,
-            with_events(alloc, &[1, 0, 0, 0, 1, 255, 0]),
-            refused(285, Cause::Kind(255)),
-        ),
-        reads_as(
-            alloc,
-            with_events(alloc, &[2, 0, 0, 0, 1, 0, 1, 0, 1]),
+    // The events behind the header, and what the whole is read as.
+    let tails: [(&[u8], Result<usize, ReadError>); 9] = [
+        (&[0], Ok(1)),
+        (&EVENTS, Ok(8)),
+        (&[1, 0, 0], refused(283, Cause::Truncated)),
+        (&[0, 5], refused(281, Cause::Trailing)),
+        (&[7], refused(280, Cause::Kind(7))),
+        (&[1, 0, 0, 0, 1, 255, 0], refused(285, Cause::Kind(255))),
+        (
+            &[2, 0, 0, 0, 1, 0, 1, 0, 1],
             refused(280, Cause::TooLong(65_537)),
         ),
-        reads_as(
-            alloc,
-            with_events(alloc, &[2, 0, 0, 0, 1, 0, 1, 0, 0, 9]),
+        (
+            &[2, 0, 0, 0, 1, 0, 1, 0, 0, 9],
             refused(290, Cause::Truncated),
         ),
+        (&[], refused(280, Cause::Truncated)),
     ];
-    for (number, held) in cases.iter().enumerate() {
-        assert!(rt; matches!(held, Ok(true)), "case {number}");
+    for (tail, wanted) in tails {
+        let bytes = with_events(alloc, tail);
+        assert!(rt; reads_as(alloc, bytes, wanted), "events {tail:?}");
     }
+    let sinks = [
+        (b"two", 1, Ok(1)),
+        (b"out", 1, refused(281, Cause::Header)),
+        (b"two", 0, refused(286, Cause::Header)),
+    ];
+    for (name, rate, wanted) in sinks {
+        let bytes = two_sinks(alloc, name, rate);
+        assert!(rt; reads_as(alloc, bytes, wanted), "rate {rate}");
+    }
+    let bytes = longest(alloc);
+    assert!(rt; reads_as(alloc, bytes, Ok(2)));
 }
 
 // Each front of a session is refused at its length.
