@@ -1,6 +1,7 @@
 -- What a reader's answer over the bytes that it took says of all bytes that were ahead of it.
-use Rattle.std.proofs.Common.{◌≡◌, ℕ, Bool, true, false, List, [], ◌∷◌, ◌++◌, arith, Option, None, Some, Result, Ok, Err, refl, sym, ap, subst, ◌∙◌, append_assoc}
+use Rattle.std.proofs.Common.{◌≡◌, ◌<◌, ◌≤◌, ℕ, length, Bool, true, false, List, [], ◌∷◌, ◌++◌, arith, Option, None, Some, Result, Ok, Err, refl, sym, ap, subst, ◌∙◌, append_assoc}
 use Rattle.std.proofs.lemmas.List.{append-nil}
+use Rattle.px_session.specs.declared.header.Header.{Header}
 use Rattle.px_session.specs.declared.event.Step.{Step}
 use Rattle.px_session.specs.declared.event.Step.TheVariants as step
 use Rattle.px_session.specs.declared.fault.Cause.{Cause}
@@ -20,8 +21,10 @@ use Rattle.px_session.specs.Law.{AreBytes}
 use Rattle.px_session.specs.Session.{first_at, step_at}
 use Rattle.px_session.specs.Reader.{Reader, place_with, all_ahead, Stepped, EndsWith, Takes, Gives}
 use Rattle.px_session.proofs.Steps.{then_ok}
-use Rattle.px_session.proofs.Steady.{more, answer, ok_is}
+use Rattle.px_session.proofs.Steady.{more, answer, ok_is, behind_end}
 use Rattle.px_session.proofs.SteadySession.{Closed, step_steady}
+use Rattle.px_session.proofs.SessionLaws.{event_shorter}
+use Rattle.px_session.specs.Spelling.{header}
 use Rattle.px_session.proofs.LastByte.{event_no_header}
 use Rattle.px_session.proofs.SinkLaws.{header_law}
 use Rattle.px_session.proofs.EventLaws.{event_found}
@@ -41,6 +44,25 @@ step_lawful false place s after fits e =
     let lawful : IsHeader h.0.0 = (header_law.found place h.0 fits h.1).1.0 in
     subst (λ (z : Step × Place). IsStep z.0) (ok_is (step.Header h.0.0, h.0.1) (s, after) h.2) lawful
 step_lawful true place s after fits e = event_lawful place s after fits e
+
+-- ---- each step has a byte
+
+header_long : (h : Header) → 1 ≤ length (header h)
+unfolding header
+header_long h = omega arith
+
+event_forward : (place : Place) (x : Step × Place) → event_at place ≡ Ok x → place.at < x.1.at
+event_forward place x e =
+    omega (arith, event_shorter place x e, behind_end place x.1 ((step_steady true).kept place x e))
+
+pub step_forward : (begun : Bool) (place : Place) (s : Step) (after : Place) → AreBytes place.rest → step_at begun place ≡ Ok (s, after) → place.at < after.at
+unfolding first_at
+step_forward false place s after fits e =
+    let h = then_ok header_at (λ header. done (step.Header header)) place (s, after) e in
+    let found = header_law.found place h.0 fits h.1 in
+    let same : h.0.1 ≡ after = ap (λ (z : Step × Place). z.1) (ok_is (step.Header h.0.0, h.0.1) (s, after) h.2) in
+    omega (arith, found.2.at, ap (length {A = ℕ}) found.1.1, header_long h.0.0, ap (λ (z : Place). z.at) same)
+step_forward true place s after fits e = event_forward place (s, after) e
 
 -- ---- what is lawful can be written
 

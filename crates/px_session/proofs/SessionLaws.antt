@@ -93,7 +93,7 @@ byte_shorter place x e =
     let last : s.0.1 ≡ x.1 = ap (λ (z : ℕ × Place). z.1) (ok_is (get_or s.0.0 0 0, s.0.1) x s.2) in
     omega (arith, there, ap (λ (z : Place). length z.rest) (mid ∙ last), length-drop 1 place.rest)
 
-event_shorter : (place : Place) (x : Step × Place) → event_at place ≡ Ok x → length x.1.rest < length place.rest
+pub event_shorter : (place : Place) (x : Step × Place) → event_at place ≡ Ok x → length x.1.rest < length place.rest
 unfolding event_at
 event_shorter place x e =
     let s = go_on_ok (byte_at place) (fields_at place.at) x e in

@@ -1,6 +1,6 @@
 //! The reader of sessions.
 
-ghost use Rattle.std.specs.Prelude.{◌≡◌, [], false, IfOk};
+ghost use Rattle.std.specs.Prelude.{◌≡◌, ◌<◌, ◌≤◌, ◌^◌, [], false, IfOk, OnOk};
 ghost use Rattle.px_session.specs.Reader.{all_ahead, Takes, Gives};
 ghost use Rattle.px_session.specs.EventRules.{IsStep};
 ghost use Rattle.px_session.specs.Writing.{FitsStep};
@@ -54,6 +54,7 @@ impl Reader {
     fn advance<S: Source>(&mut self, input: &mut S) -> Result<Step, ReadError>
         ensures takes { Takes result self.old self.new (S.left input.old) (S.left input.new) }
         ensures lawful { IfOk result IsStep }
+        ensures forward { OnOk result ((self.old.at < self.new.at) × (self.new.at ≤ 2 ^ 40)) }
         ensures counts { ReadCounts result (S.faults input.old) (S.faults input.new) }
     {
         let found = await_step(self.alloc, self.begun, self.at, &mut self.held, input)?;
@@ -75,6 +76,8 @@ impl Reader {
         ensures lawful { IfOk result IsStep }
         // What it gives can be written.
         ensures writable { IfOk result FitsStep }
+        // Each step has a byte, and a session at most 2^40.
+        ensures forward { OnOk result ((self.old.at < self.new.at) × (self.new.at ≤ 2 ^ 40)) }
         // The source's count of faults rises exactly in an answer of `Failed`.
         ensures counts { ReadCounts result (S.faults input.old) (S.faults input.new) }
     {

@@ -1,6 +1,6 @@
 //! What stands next in the bytes at hand, and the wait for enough of them.
 
-ghost use Rattle.std.specs.Prelude.{◌≡◌, ◌≤◌, ◌^◌, length, IfOk, MatchBool};
+ghost use Rattle.std.specs.Prelude.{◌≡◌, ◌<◌, ◌≤◌, ◌^◌, length, IfOk, MatchBool};
 ghost use Rattle.px_session.specs.Place.{Reads};
 ghost use Rattle.px_session.specs.Session.{step_at};
 ghost use Rattle.px_session.specs.Found.{place_at, Finds, IsOpen, IsClosed, Awaits, NeverFails};
@@ -34,6 +34,7 @@ fn look(alloc: Global, begun: bool, at: u64, bytes: &[u8]) -> Result<Found, Read
     requires { at ≤ 2 ^ 40 }
     ensures finds { Finds result bytes.now (step_at begun (place_at at bytes.now)) }
     ensures within { IfOk result (λ found. found.at ≤ 2 ^ 40) }
+    ensures forward { IfOk result (λ found. at < found.at) }
     ensures lawful { IfOk result (λ found. IsStep found.step) }
     ensures never { NeverFails result }
 {
@@ -69,6 +70,7 @@ pub(crate) fn await_step<S: Source>(
     ensures awaits { Awaits result begun at held.old held.new (S.left input.old) (S.left input.new) }
     ensures counts { ReadCounts result (S.faults input.old) (S.faults input.new) }
     ensures within { IfOk result (λ found. found.at ≤ 2 ^ 40) }
+    ensures forward { IfOk result (λ found. at < found.at) }
     ensures lawful { IfOk result (λ found. IsStep found.step) }
 {
     loop {

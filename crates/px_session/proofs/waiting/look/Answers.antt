@@ -3,7 +3,7 @@ use Rattle.px_session.specs.Found.{place_at}
 use Rattle.px_session.specs.Seen.{place_of}
 use Rattle.px_session.proofs.Steady.{behind_rest, behind_fewer, answer}
 use Rattle.px_session.proofs.SteadySession.{step_steady}
-use Rattle.px_session.proofs.Answered.{step_lawful}
+use Rattle.px_session.proofs.Answered.{step_lawful, step_forward}
 use Rattle.px_session.proofs.waiting.look.Goals as goal
 
 pub overflow_sub-result : goal.overflow_sub-result
@@ -23,3 +23,8 @@ pub returns-clause-lawful : goal.returns-clause-lawful
 returns-clause-lawful c =
     let start = place_at c.args.at c.args.bytes.now in
     step_lawful c.args.begun start c.in_ok-step.step (place_of c.step.new.place) (λ i. omega (arith, c.type_inv.bytes i)) c.in_ok-step.ensures
+
+pub returns-clause-forward : goal.returns-clause-forward
+returns-clause-forward c =
+    let start = place_at c.args.at c.args.bytes.now in
+    step_forward c.args.begun start c.in_ok-step.step (place_of c.step.new.place) (λ i. omega (arith, c.type_inv.bytes i)) c.in_ok-step.ensures
