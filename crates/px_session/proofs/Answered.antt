@@ -1,0 +1,145 @@
+-- What a reader's answer over the bytes that it took says of all bytes that were ahead of it.
+use Rattle.std.proofs.Common.{◌≡◌, ◌<◌, ◌≤◌, ℕ, length, Bool, true, false, List, [], ◌∷◌, ◌++◌, arith, Option, None, Some, Result, Ok, Err, refl, sym, ap, subst, ◌∙◌, append_assoc}
+use Rattle.std.proofs.lemmas.List.{append-nil}
+use Rattle.px_session.specs.declared.header.Header.{Header}
+use Rattle.px_session.specs.declared.event.Step.{Step}
+use Rattle.px_session.specs.declared.event.Step.TheVariants as step
+use Rattle.px_session.specs.declared.fault.Cause.{Cause}
+use Rattle.px_session.specs.declared.fault.Cause.TheVariants as cause
+use Rattle.px_session.specs.declared.fault.ReadError.{ReadError}
+use Rattle.px_session.specs.declared.fault.ReadError.TheVariants as error
+use Rattle.px_session.specs.Place.{Place, done}
+use Rattle.px_session.specs.EventReading.{event_at}
+use Rattle.std.specs.List.{AllByRecursion}
+use Rattle.px_session.specs.declared.event.Event.{Event}
+use Rattle.px_session.specs.declared.event.Event.TheVariants as event
+use Rattle.px_session.specs.declared.header.SinkSpec.{SinkSpec}
+use Rattle.px_session.specs.EventRules.{IsEvent, IsStep}
+use Rattle.px_session.specs.Writing.{FitsSink, FitsEvent, FitsStep}
+use Rattle.px_session.specs.HeaderRules.{AreSinks, IsHeader}
+use Rattle.px_session.specs.Law.{AreBytes}
+use Rattle.px_session.specs.Session.{first_at, step_at}
+use Rattle.px_session.specs.Reader.{Reader, place_with, all_ahead, Stepped, EndsWith, Takes, Gives}
+use Rattle.px_session.proofs.Steps.{then_ok}
+use Rattle.px_session.proofs.Steady.{more, answer, ok_is, behind_end}
+use Rattle.px_session.proofs.SteadySession.{Closed, step_steady}
+use Rattle.px_session.proofs.SessionLaws.{event_shorter}
+use Rattle.px_session.specs.Spelling.{header}
+use Rattle.px_session.proofs.LastByte.{event_no_header}
+use Rattle.px_session.proofs.SinkLaws.{header_law}
+use Rattle.px_session.proofs.EventLaws.{event_found}
+use Rattle.px_session.specs.HeaderReading.{header_at}
+
+-- ---- what a reader gives is lawful
+
+event_lawful : (place : Place) (s : Step) (after : Place) → AreBytes place.rest → event_at place ≡ Ok (s, after) → IsStep s
+event_lawful place (step.Header h) after fits e = absurd (event_no_header place (step.Header h, after) h e refl)
+event_lawful place (step.Event d) after fits e = (event_found place d after fits e).0
+event_lawful place step.End after fits e = tt
+
+pub step_lawful : (begun : Bool) (place : Place) (s : Step) (after : Place) → AreBytes place.rest → step_at begun place ≡ Ok (s, after) → IsStep s
+unfolding first_at
+step_lawful false place s after fits e =
+    let h = then_ok header_at (λ header. done (step.Header header)) place (s, after) e in
+    let lawful : IsHeader h.0.0 = (header_law.found place h.0 fits h.1).1.0 in
+    subst (λ (z : Step × Place). IsStep z.0) (ok_is (step.Header h.0.0, h.0.1) (s, after) h.2) lawful
+step_lawful true place s after fits e = event_lawful place s after fits e
+
+-- ---- each step has a byte
+
+header_long : (h : Header) → 1 ≤ length (header h)
+unfolding header
+header_long h = omega arith
+
+event_forward : (place : Place) (x : Step × Place) → event_at place ≡ Ok x → place.at < x.1.at
+event_forward place x e =
+    omega (arith, event_shorter place x e, behind_end place x.1 ((step_steady true).kept place x e))
+
+pub step_forward : (begun : Bool) (place : Place) (s : Step) (after : Place) → AreBytes place.rest → step_at begun place ≡ Ok (s, after) → place.at < after.at
+unfolding first_at
+step_forward false place s after fits e =
+    let h = then_ok header_at (λ header. done (step.Header header)) place (s, after) e in
+    let found = header_law.found place h.0 fits h.1 in
+    let same : h.0.1 ≡ after = ap (λ (z : Step × Place). z.1) (ok_is (step.Header h.0.0, h.0.1) (s, after) h.2) in
+    omega (arith, found.2.at, ap (length {A = ℕ}) found.1.1, header_long h.0.0, ap (λ (z : Place). z.at) same)
+step_forward true place s after fits e = event_forward place (s, after) e
+
+-- ---- what is lawful can be written
+
+sinks_fit : (earlier sinks : List SinkSpec) → AreSinks earlier sinks → AllByRecursion FitsSink sinks
+sinks_fit earlier [] lawful = tt
+sinks_fit earlier (s ∷ sinks) lawful = (omega (arith, lawful.0.name_size.1), sinks_fit (earlier ++ s ∷ []) sinks lawful.1)
+
+event_fits : (e : Event) → IsEvent e → FitsEvent e
+event_fits (event.Connect conn) h = tt
+event_fits (event.Bytes conn bytes) h = h.1
+event_fits (event.Close conn) h = tt
+event_fits (event.Cut conn) h = tt
+event_fits (event.Turn sink frames messages) h = tt
+event_fits (event.Collect sink notices) h = tt
+
+pub step_fits : (s : Step) → IsStep s → FitsStep s
+step_fits (step.Header h) lawful = record { count = omega (arith, lawful.count.1); names = sinks_fit [] h.sinks lawful.sinks }
+step_fits (step.Event e) lawful = event_fits e lawful
+step_fits step.End lawful = tt
+
+-- ---- the bytes that were taken, and those that follow
+
+-- all bytes that were ahead are those that were seen, and more behind them
+whole_is : (old : Reader) (taken left : List ℕ) → more (place_with old (old.ahead ++ taken)) left ≡ place_with old (old.ahead ++ (taken ++ left))
+whole_is old taken left = ap (λ (bytes : List ℕ). place_with old bytes) (append_assoc old.ahead taken left)
+
+-- nothing follows
+whole_at_end : (old : Reader) (taken left : List ℕ) → left ≡ [] → place_with old (old.ahead ++ taken) ≡ place_with old (old.ahead ++ (taken ++ left))
+whole_at_end old taken left end =
+    ap (λ (bytes : List ℕ). place_with old (old.ahead ++ bytes)) (sym (append-nil taken))
+    ∙ ap (λ (bytes : List ℕ). place_with old (old.ahead ++ (taken ++ bytes))) (sym end)
+
+behind_at_end : (new : Reader) (left : List ℕ) → left ≡ [] → place_with new new.ahead ≡ place_with new (new.ahead ++ left)
+behind_at_end new left end =
+    ap (λ (bytes : List ℕ). place_with new bytes) (sym (append-nil new.ahead))
+    ∙ ap (λ (bytes : List ℕ). place_with new (new.ahead ++ bytes)) (sym end)
+
+closed_step : (old new : Reader) (taken left : List ℕ) (s : Step) → Closed s → Stepped (Ok s) new new.ahead (step_at old.begun (place_with old (old.ahead ++ taken))) → Stepped (Ok s) new (new.ahead ++ left) (step_at old.begun (place_with old (old.ahead ++ (taken ++ left))))
+closed_step old new taken left s closed stepped =
+    (ap (step_at old.begun) (sym (whole_is old taken left)) ∙ (step_steady old.begun).ok (place_with old (old.ahead ++ taken)) (s, place_with new new.ahead) left stepped.0 closed, stepped.1)
+
+given : (old new : Reader) (taken left : List ℕ) (s : Step) → Stepped (Ok s) new new.ahead (step_at old.begun (place_with old (old.ahead ++ taken))) → EndsWith (Ok s) (Some left) → Stepped (Ok s) new (new.ahead ++ left) (step_at old.begun (place_with old (old.ahead ++ (taken ++ left))))
+given old new taken left (step.Header h) stepped ends = closed_step old new taken left (step.Header h) tt stepped
+given old new taken left (step.Event e) stepped ends = closed_step old new taken left (step.Event e) tt stepped
+given old new taken left step.End stepped ends =
+    (ap (step_at old.begun) (sym (whole_at_end old taken left ends)) ∙ stepped.0 ∙ ap (λ (z : Place). answer (step.End, z)) (behind_at_end new left ends), stepped.1)
+
+refused_late : (old : Reader) (taken left : List ℕ) (at : ℕ) (c : Cause) → (c ≡ cause.Truncated → ⊥) → step_at old.begun (place_with old (old.ahead ++ taken)) ≡ Err (record { at = at; cause = c }) → step_at old.begun (place_with old (old.ahead ++ (taken ++ left))) ≡ Err (record { at = at; cause = c })
+refused_late old taken left at c late e =
+    ap (step_at old.begun) (sym (whole_is old taken left)) ∙ (step_steady old.begun).final (place_with old (old.ahead ++ taken)) (record { at = at; cause = c }) left e late
+
+refused : (old : Reader) (taken left : List ℕ) (at : ℕ) (c : Cause) → step_at old.begun (place_with old (old.ahead ++ taken)) ≡ Err (record { at = at; cause = c }) → EndsWith (Err (error.Refused at c)) (Some left) → step_at old.begun (place_with old (old.ahead ++ (taken ++ left))) ≡ Err (record { at = at; cause = c })
+refused old taken left at cause.Magic e ends = refused_late old taken left at cause.Magic (λ same. cc) e
+refused old taken left at cause.Header e ends = refused_late old taken left at cause.Header (λ same. cc) e
+refused old taken left at cause.Truncated e ends = ap (step_at old.begun) (sym (whole_at_end old taken left ends)) ∙ e
+refused old taken left at cause.Endless e ends = refused_late old taken left at cause.Endless (λ same. cc) e
+refused old taken left at cause.Trailing e ends = refused_late old taken left at cause.Trailing (λ same. cc) e
+refused old taken left at (cause.Kind k) e ends = refused_late old taken left at (cause.Kind k) (λ same. cc) e
+refused old taken left at (cause.TooLong n) e ends = refused_late old taken left at (cause.TooLong n) (λ same. cc) e
+refused old taken left at cause.NotBuilt e ends = refused_late old taken left at cause.NotBuilt (λ same. cc) e
+
+stepped_on : (old new : Reader) (taken left : List ℕ) (r : Result Step ReadError) → Stepped r new new.ahead (step_at old.begun (place_with old (old.ahead ++ taken))) → EndsWith r (Some left) → Stepped r new (new.ahead ++ left) (step_at old.begun (place_with old (old.ahead ++ (taken ++ left))))
+stepped_on old new taken left (Ok s) stepped ends = given old new taken left s stepped ends
+stepped_on old new taken left (Err (error.Refused at c)) stepped ends = refused old taken left at c stepped ends
+stepped_on old new taken left (Err error.Failed) stepped ends = tt
+stepped_on old new taken left (Err error.NoMemory) stepped ends = tt
+
+told_is : (x y : List ℕ) → (let o : Option (List ℕ) = Some x in o) ≡ Some y → x ≡ y
+told_is x y e = cc
+
+-- the answer over the bytes that were taken is the answer over all bytes that were ahead
+pub gives_all : (r : Result Step ReadError) (old new : Reader) (before after : Option (List ℕ)) → Takes r old new before after → Gives r old new (all_ahead old before) (all_ahead new after)
+gives_all r old new None after t = tt
+gives_all r old new (Some bytes) None t = absurd (untold t.departed)
+  where
+    untold : (let o : Option (List ℕ) = Some bytes in o) ≡ None → ⊥
+    untold e = cc
+gives_all r old new (Some bytes) (Some left) t =
+    let same : bytes ≡ t.taken ++ left = told_is bytes (t.taken ++ left) t.departed in
+    (new.ahead ++ left, refl, subst (λ (b : List ℕ). Stepped r new (new.ahead ++ left) (step_at old.begun (place_with old (old.ahead ++ b)))) (sym same) (stepped_on old new t.taken left r t.stepped t.ended))

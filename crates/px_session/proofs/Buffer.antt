@@ -1,0 +1,33 @@
+-- A buffer whose bytes are moved to the front, and filled behind them.
+use Rattle.std.proofs.Common.{◌≡◌, ℕ, ◌+◌, ◌-◌, ◌≤◌, List, [], ◌++◌, length, take, drop, ap, sym, ◌∙◌, arith}
+use Rattle.std.proofs.Math.ListN.{drop_of_length-le}
+use Rattle.std.proofs.lemmas.List.{append-nil, take_all, drop-drop, drop-take}
+use borrow.Rule.Slice.PartMut.{put_mid, mid_of, same_len_mid}
+use Rattle.px_ends.proofs.Filling.{front_of_filled}
+
+-- a vector that was written as a slice of its own length has what was written
+pub vec_whole : (len : ℕ) (written items : List ℕ) → length written ≡ length items → len ≡ length items → take len (written ++ drop (length written) items) ≡ written
+vec_whole len written items same size =
+    let none_left : drop (length written) items ≡ [] = drop_of_length-le items (omega (arith, same)) in
+    ap (λ (rest : List ℕ). take len (written ++ rest)) none_left
+    ∙ ap (take len) (append-nil written)
+    ∙ take_all len written (omega (arith, same, size))
+
+-- so many bytes came behind the first k
+pub came : (k n len : ℕ) (items buffer part : List ℕ) → k ≤ length buffer → n ≤ length part → length part ≡ length (mid_of k (length buffer - k) buffer) → buffer ≡ items → len ≡ length items
+    → take ((k + n) - 0) (drop 0 (take len (put_mid k (length buffer - k) buffer part ++ drop (length (put_mid k (length buffer - k) buffer part)) items))) ≡ take k buffer ++ take n part
+came k n len items buffer part inside few size same long =
+    let put = put_mid k (length buffer - k) buffer part in
+    let whole : take len (put ++ drop (length put) items) ≡ put = vec_whole len put items (same_len_mid k (length buffer - k) buffer part size ∙ ap (length {A = ℕ}) same) long in
+    let count : (k + n) - 0 ≡ k + n = omega arith in
+    ap (λ (bytes : List ℕ). take ((k + n) - 0) bytes) whole
+    ∙ ap (λ (m : ℕ). take m put) count
+    ∙ front_of_filled buffer part k n inside few
+
+-- what is left behind the first n of the bytes between two places
+pub used : (from to n : ℕ) (items : List ℕ) → n ≤ to - from → take (to - (from + n)) (drop (from + n) items) ≡ drop n (take (to - from) (drop from items))
+used from to n items few =
+    let count : to - from ≡ n + (to - (from + n)) = omega arith in
+    ap (take (to - (from + n))) (sym (drop-drop n from items))
+    ∙ sym (drop-take n (to - (from + n)) (drop from items))
+    ∙ ap (λ (m : ℕ). drop n (take m (drop from items))) (sym count)

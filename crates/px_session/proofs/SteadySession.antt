@@ -1,0 +1,208 @@
+-- The fields, the header and the events stay so whatever follows the bytes, but the end byte.
+use Rattle.std.proofs.Common.{◌≡◌, ℕ, zero, suc, Bool, true, false, cond, List, [], ◌∷◌, ◌++◌, Option, Some, None, Err, Ok, refl, sym, ap, subst, ◌∙◌, nat_lt, nat_le, slice_index}
+use Rattle.std.specs.Prelude.{◌&&◌, ◌==◌}
+use Rattle.std.specs.Int.{w32, from_be_bytes}
+use Rattle.px_types.specs.declared.ids.ConnId.{ConnId}
+use Rattle.px_sample.specs.declared.format.Format.{Format}
+use Rattle.px_session.specs.declared.header.SinkSpec.{SinkSpec}
+use Rattle.px_session.specs.declared.event.Event.{Event}
+use Rattle.px_session.specs.declared.event.Event.TheVariants as event
+use Rattle.px_session.specs.declared.event.Step.{Step}
+use Rattle.px_session.specs.declared.event.Step.TheVariants as step
+use Rattle.px_session.specs.declared.fault.Cause.TheVariants as cause
+use Rattle.px_session.specs.Place.{Place, Reading, Refusal, bytes_at, done}
+use Rattle.px_session.specs.Field.{byte_at, word_at, broken_at, checked, ruled}
+use Rattle.px_session.specs.HeaderRules.{is_from_to, is_name, is_new, format_of, is_depth}
+use Rattle.px_session.specs.HeaderReading.{no_magic, compared, letter_at, letters_at, magic_at, name_at, known, format_at, spec_at, more_at, position_at, room_at, sink_at, header_at}
+use Rattle.px_session.specs.EventReading.{ended_by, end_at, conn_at, sized_at, data_at, turn_at, collect_at, fields_at, event_at}
+use Rattle.px_session.specs.Session.{first_at, step_at}
+use Rattle.px_session.specs.Writing.{most_bytes}
+use Rattle.px_session.proofs.Steady.{more, IsBehind, behind_self, any, refused, ok_is, err_is, IsEarlyEnd, IsEndless, IsSteady, done_steady, refuse_steady, choice_steady, go_on_steady, then_steady, bytes_steady}
+
+pub byte_steady : IsSteady any byte_at
+unfolding byte_at
+byte_steady = then_steady any (bytes_at 1) (λ bytes. done (slice_index bytes 0)) (bytes_steady 1) (λ bytes. done_steady any (slice_index bytes 0))
+
+word_steady : IsSteady any word_at
+unfolding word_at
+word_steady = then_steady any (bytes_at 4) (λ bytes. done (from_be_bytes w32 bytes)) (bytes_steady 4) (λ bytes. done_steady any (from_be_bytes w32 bytes))
+
+ruled_steady : {A : Type 0} (rule : A → Bool) (read : Reading A) → IsSteady any read → IsSteady any (ruled rule read)
+unfolding ruled
+ruled_steady rule read h =
+    go_on_steady any read (checked rule) h
+    (λ place x. choice_steady any (rule x) (done x) (λ after. refused (broken_at place)) (done_steady any x) (refuse_steady any (broken_at place) (λ e. cc) (λ e. cc)))
+    (λ place behind x after. refl)
+
+at_steady : {A : Type 0} (closed : A → Type 0) (read : ℕ → Reading A) → ((at : ℕ) → IsSteady closed (read at)) → IsSteady closed (λ place. read place.at place)
+at_steady closed read h = record {
+  ok = λ place x behind e c. (h place.at).ok place x behind e c;
+  final = λ place f behind e late. (h place.at).final place f behind e late;
+  kept = λ place x e. (h place.at).kept place x e;
+  short = λ place f e early. (h place.at).short place f e early;
+  endless = λ place f e goes. (h place.at).endless place f e goes;
+}
+
+letter_steady : (start letter : ℕ) → IsSteady any (letter_at start letter)
+unfolding letter_at
+letter_steady start letter =
+    go_on_steady any byte_at (λ place. compared start letter) byte_steady
+    (λ place x. choice_steady any (x == letter) (done x) (λ after. refused (no_magic start)) (done_steady any x) (refuse_steady any (no_magic start) (λ e. cc) (λ e. cc)))
+    (λ place behind x after. refl)
+
+letters_steady : (start : ℕ) → IsSteady any (letters_at start)
+unfolding letters_at
+letters_steady start =
+    then_steady any _ _ (letter_steady start 0x50) (λ p. then_steady any _ _ (letter_steady start 0x52) (λ r. then_steady any _ _ (letter_steady start 0x53) (λ s. letter_steady start 0x31)))
+
+magic_steady : IsSteady any magic_at
+unfolding magic_at
+magic_steady = at_steady any letters_at letters_steady
+
+name_steady : (earlier : List SinkSpec) → IsSteady any (name_at earlier)
+unfolding name_at
+name_steady earlier = then_steady any _ _ (ruled_steady (is_from_to 1 64) byte_at byte_steady) (λ size. ruled_steady (λ name. is_name name && is_new earlier name) (bytes_at size) (bytes_steady size))
+
+known_steady : (place : Place) (found : Option Format) → IsSteady any (known place found)
+known_steady place None = refuse_steady any (broken_at place) (λ e. cc) (λ e. cc)
+known_steady place (Some format) = done_steady any format
+
+known_same : (place : Place) (behind : List ℕ) (found : Option Format) (after : Place) → known (more place behind) found after ≡ known place found after
+known_same place behind None after = refl
+known_same place behind (Some format) after = refl
+
+format_steady : IsSteady any format_at
+unfolding format_at
+format_steady =
+    go_on_steady any byte_at (λ place code. known place (format_of code)) byte_steady
+    (λ place code. known_steady place (format_of code))
+    (λ place behind code after. known_same place behind (format_of code) after)
+
+spec_steady : IsSteady any spec_at
+unfolding spec_at
+spec_steady =
+    then_steady any _ _ format_steady (λ format.
+    then_steady any _ _ (ruled_steady (is_from_to 1 32) byte_at byte_steady) (λ channels.
+    then_steady any _ _ (ruled_steady (is_from_to 1 192000) word_at word_steady) (λ rate. done_steady any _)))
+
+more_steady : {A : Type 0} (item_at : List A → Reading A) → ((earlier : List A) → IsSteady any (item_at earlier)) → (earlier : List A) (n : ℕ) → IsSteady any (more_at item_at earlier n)
+unfolding more_at
+more_steady item_at h earlier zero = done_steady any earlier
+more_steady item_at h earlier (suc n) = then_steady any _ _ (h earlier) (λ item. more_steady item_at h (earlier ++ item ∷ []) n)
+
+room_steady : IsSteady any room_at
+unfolding room_at
+room_steady = then_steady any _ _ word_steady (λ guard. then_steady any _ _ (ruled_steady (is_depth guard) word_at word_steady) (λ depth. done_steady any _))
+
+sink_steady : (earlier : List SinkSpec) → IsSteady any (sink_at earlier)
+unfolding sink_at
+sink_steady earlier =
+    then_steady any _ _ (name_steady earlier) (λ name.
+    then_steady any _ _ spec_steady (λ spec.
+    then_steady any _ _ (more_steady position_at (λ ps. ruled_steady (λ p. nat_le p 50) byte_at byte_steady) [] spec.channels) (λ map.
+    then_steady any _ _ room_steady (λ room. done_steady any _))))
+
+pub header_steady : IsSteady any header_at
+unfolding header_at
+header_steady =
+    then_steady any _ _ magic_steady (λ last.
+    then_steady any _ _ (bytes_steady 256) (λ cookie.
+    then_steady any _ _ (ruled_steady (is_from_to 1 16) byte_at byte_steady) (λ count.
+    then_steady any _ _ (more_steady sink_at sink_steady [] count) (λ sinks. done_steady any _))))
+
+-- ---- events
+
+-- more bytes may yet follow the end byte
+abbrev pub Closed : Step → Type 0
+Closed (step.Header h) = Unit {0}
+Closed (step.Event e) = Unit {0}
+Closed step.End = ⊥
+
+choose_steady : {A : Type 0} (closed : A → Type 0) (b : Bool) (x y : Reading A) → IsSteady closed x → IsSteady closed y → IsSteady closed (cond b x y)
+choose_steady closed true x y hx hy = hx
+choose_steady closed false x y hx hy = hy
+
+abbrev trailing : Place → Refusal
+trailing place = record { at = place.at; cause = cause.Trailing }
+
+end_is_open : (rest : List ℕ) (place : Place) (x : Step × Place) → ended_by rest place ≡ Ok x → Closed x.0 → ⊥
+end_is_open [] place x e c = subst (λ (z : Step × Place). Closed z.0) (sym (ok_is (step.End, place) x e)) c
+end_is_open (byte ∷ rest) place x e c = absurd cc
+
+end_is_kept : (rest : List ℕ) (place : Place) (x : Step × Place) → ended_by rest place ≡ Ok x → IsBehind place x.1
+end_is_kept [] place x e = subst (λ (z : Place). IsBehind place z) (ap (λ (z : Step × Place). z.1) (ok_is (step.End, place) x e)) (behind_self place)
+end_is_kept (byte ∷ rest) place x e = absurd cc
+
+end_is_final : (rest : List ℕ) (place : Place) (behind : List ℕ) (f : Refusal) → ended_by rest place ≡ Err f → ended_by (rest ++ behind) (more place behind) ≡ Err f
+end_is_final [] place behind f e = absurd cc
+end_is_final (byte ∷ rest) place behind f e = e
+
+trailing_is_late : cause.Trailing ≡ cause.Truncated → ⊥
+trailing_is_late e = cc
+
+end_is_late : (rest : List ℕ) (place : Place) (f : Refusal) → ended_by rest place ≡ Err f → IsEarlyEnd f → ⊥
+end_is_late [] place f e early = absurd cc
+end_is_late (byte ∷ rest) place f e early = trailing_is_late (ap (λ (h : Refusal). h.cause) (err_is {A = Step} (trailing place) f e) ∙ early)
+
+trailing_is_finite : cause.Trailing ≡ cause.Endless → ⊥
+trailing_is_finite e = cc
+
+end_is_finite : (rest : List ℕ) (place : Place) (f : Refusal) → ended_by rest place ≡ Err f → IsEndless f → ⊥
+end_is_finite [] place f e goes = absurd cc
+end_is_finite (byte ∷ rest) place f e goes = trailing_is_finite (ap (λ (h : Refusal). h.cause) (err_is {A = Step} (trailing place) f e) ∙ goes)
+
+end_steady : IsSteady Closed end_at
+unfolding end_at
+end_steady = record {
+  ok = λ place x behind e c. absurd (end_is_open place.rest place x e c);
+  final = λ place f behind e late. end_is_final place.rest place behind f e;
+  kept = λ place x e. end_is_kept place.rest place x e;
+  short = λ place f e early. absurd (end_is_late place.rest place f e early);
+  endless = λ place f e goes. absurd (end_is_finite place.rest place f e goes);
+}
+
+conn_steady : (made : ConnId → Event) → IsSteady Closed (conn_at made)
+unfolding conn_at
+conn_steady made = then_steady Closed _ _ word_steady (λ conn. done_steady Closed _)
+
+sized_steady : (kind_at size : ℕ) → IsSteady any (sized_at kind_at size)
+unfolding sized_at
+sized_steady kind_at size = choice_steady any (nat_lt most_bytes size) (λ place. refused (record { at = kind_at; cause = cause.TooLong size })) (bytes_at size) (refuse_steady any _ (λ e. cc) (λ e. cc)) (bytes_steady size)
+
+data_steady : (kind_at : ℕ) → IsSteady Closed (data_at kind_at)
+unfolding data_at
+data_steady kind_at =
+    then_steady Closed _ _ word_steady (λ conn. then_steady Closed _ _ word_steady (λ size. then_steady Closed _ _ (sized_steady kind_at size) (λ bytes. done_steady Closed _)))
+
+turn_steady : IsSteady Closed turn_at
+unfolding turn_at
+turn_steady = then_steady Closed _ _ byte_steady (λ sink. then_steady Closed _ _ word_steady (λ frames. then_steady Closed _ _ word_steady (λ messages. done_steady Closed _)))
+
+collect_steady : IsSteady Closed collect_at
+unfolding collect_at
+collect_steady = then_steady Closed _ _ byte_steady (λ sink. then_steady Closed _ _ word_steady (λ notices. done_steady Closed _))
+
+pub fields_steady : (kind_at kind : ℕ) → IsSteady Closed (fields_at kind_at kind)
+unfolding fields_at
+fields_steady kind_at kind =
+    choose_steady Closed (kind == 0) _ _ end_steady
+    (choose_steady Closed (kind == 1) _ _ (conn_steady event.Connect)
+    (choose_steady Closed (kind == 2) _ _ (data_steady kind_at)
+    (choose_steady Closed (kind == 3) _ _ (conn_steady event.Close)
+    (choose_steady Closed (kind == 4) _ _ (conn_steady event.Cut)
+    (choose_steady Closed (kind == 5) _ _ turn_steady
+    (choose_steady Closed (kind == 6) _ _ collect_steady
+    (refuse_steady Closed _ (λ e. cc) (λ e. cc))))))))
+
+pub event_steady : IsSteady Closed event_at
+unfolding event_at
+event_steady = go_on_steady Closed byte_at (λ place. fields_at place.at) byte_steady (λ place kind. fields_steady place.at kind) (λ place behind kind after. refl)
+
+first_steady : IsSteady Closed first_at
+unfolding first_at
+first_steady = then_steady Closed _ _ header_steady (λ header. done_steady Closed _)
+
+-- what stands next stays so whatever follows, but the end and an early end
+pub step_steady : (begun : Bool) → IsSteady Closed (step_at begun)
+step_steady false = first_steady
+step_steady true = event_steady

@@ -1,0 +1,8 @@
+use Rattle.std.proofs.Common.{◌≡◌, ◌-◌, []}
+use Rattle.px_session.specs.HeaderReading.{more_at, sink_at}
+use Rattle.px_session.specs.Seen.{place_of}
+use Rattle.px_session.proofs.header_reading.sinks.Given as goal
+
+-- what is left behind the sinks so far gives what was to be read at first
+abbrev pub invariant-loop : goal.invariant-loop
+invariant-loop l = more_at sink_at l.sinks.items (l.count - l.counter) (place_of l.place) ≡ more_at sink_at [] l.count (place_of l.fn.place)

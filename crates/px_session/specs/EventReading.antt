@@ -1,0 +1,73 @@
+-- The reading of an event or of the end byte: the kind, and its fields in order.
+use Rattle.std.specs.Prelude.{ℕ, List, [], ◌∷◌, Ok, Err, nat_lt, ◌==◌, if◌then◌else◌}
+use Rattle.px_types.specs.declared.ids.ConnId.{ConnId}
+use Rattle.px_session.specs.declared.event.Event.{Event}
+use Rattle.px_session.specs.declared.event.Event.TheVariants as event
+use Rattle.px_session.specs.declared.event.Step.{Step}
+use Rattle.px_session.specs.declared.event.Step.TheVariants as step
+use Rattle.px_session.specs.declared.fault.Cause.TheVariants as cause
+use Rattle.px_session.specs.Place.{Reading, bytes_at, done, go_on, ◌>>=◌}
+use Rattle.px_session.specs.Field.{byte_at, word_at}
+use Rattle.px_session.specs.Writing.{most_bytes}
+
+abbrev pub ended_by : List ℕ → Reading Step
+ended_by [] place = Ok (step.End, place)
+ended_by (byte ∷ rest) place = Err (record { at = place.at; cause = cause.Trailing })
+
+-- behind the end byte nothing follows
+unfoldable pub end_at : Reading Step
+end_at place = ended_by place.rest place
+
+abbrev pub conn_of : ℕ → ConnId
+conn_of n = record { 0 = n }
+
+-- an event that names a connection and nothing more
+unfoldable pub conn_at : (ConnId → Event) → Reading Step
+conn_at made = do
+  conn ← word_at
+  done (step.Event (made (conn_of conn)))
+
+-- the length is checked before the bytes are read; a refusal of it is at the kind byte, whose offset is given
+unfoldable pub sized_at : ℕ → ℕ → Reading (List ℕ)
+sized_at kind_at size place =
+    if nat_lt most_bytes size
+    then Err (record { at = kind_at; cause = cause.TooLong size })
+    else bytes_at size place
+
+unfoldable pub data_at : ℕ → Reading Step
+data_at kind_at = do
+  conn ← word_at
+  size ← word_at
+  bytes ← sized_at kind_at size
+  done (step.Event (event.Bytes (conn_of conn) bytes))
+
+unfoldable pub turn_at : Reading Step
+turn_at = do
+  sink ← byte_at
+  frames ← word_at
+  messages ← word_at
+  done (step.Event (event.Turn sink frames messages))
+
+unfoldable pub collect_at : Reading Step
+collect_at = do
+  sink ← byte_at
+  notices ← word_at
+  done (step.Event (event.Collect sink notices))
+
+abbrev pub no_event_at : ℕ → ℕ → Reading Step
+no_event_at kind_at kind place = Err (record { at = kind_at; cause = cause.Kind kind })
+
+-- the fields behind the kind byte at an offset
+unfoldable pub fields_at : ℕ → ℕ → Reading Step
+fields_at kind_at kind =
+    if kind == 0 then end_at
+    else if kind == 1 then conn_at event.Connect
+    else if kind == 2 then data_at kind_at
+    else if kind == 3 then conn_at event.Close
+    else if kind == 4 then conn_at event.Cut
+    else if kind == 5 then turn_at
+    else if kind == 6 then collect_at
+    else no_event_at kind_at kind
+
+unfoldable pub event_at : Reading Step
+event_at place = go_on (byte_at place) (fields_at place.at)

@@ -1,0 +1,15 @@
+pub mod Place
+pub mod Field
+pub mod HeaderRules
+pub mod HeaderReading
+pub mod EventReading
+pub mod Session
+pub mod Held
+pub mod Found
+pub mod EventRules
+pub mod Law
+pub mod Seen
+pub mod Reader
+pub mod Spelling
+pub mod SessionLaw
+pub mod Writing

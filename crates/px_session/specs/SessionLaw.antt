@@ -1,0 +1,33 @@
+-- The laws of whole sessions.
+use Rattle.std.specs.Prelude.{◌≡◌, ℕ, ◌+◌, List, [], ◌∷◌, ◌++◌, length, Ok}
+use Rattle.std.specs.List.{flat_map, AllByRecursion}
+use Rattle.px_session.specs.declared.header.Header.{Header}
+use Rattle.px_session.specs.declared.event.Event.{Event}
+use Rattle.px_session.specs.declared.event.Step.TheVariants as step
+use Rattle.px_session.specs.Place.{Place, Refusal}
+use Rattle.px_session.specs.EventReading.{event_at}
+use Rattle.px_session.specs.HeaderRules.{IsHeader}
+use Rattle.px_session.specs.EventRules.{IsEvent}
+use Rattle.px_session.specs.Session.{Ending, Ended, Broken, EndsSo, Session, NoHeader, Events}
+use Rattle.px_session.specs.Spelling as spelling
+
+-- what was read: a lawful header and lawful events, whose spellings stand at the front, and the ending behind them
+pub record IsSpelled (bytes : List ℕ) (header : Header) (events : List Event) (ending : Ending) : Type 0 where
+  pub header_lawful : IsHeader header
+  pub events_lawful : AllByRecursion IsEvent events
+  pub rest : List ℕ
+  pub at : ℕ
+  pub joined : bytes ≡ spelling.header header ++ (flat_map spelling.event events ++ rest)
+  pub place : at + length rest ≡ length bytes
+  pub ends : EndsSo ending (record { at = at; rest = rest })
+
+-- the refusal of a session, if it is refused
+abbrev pub IsRefusedBy : Session → Refusal → Type 0
+IsRefusedBy (NoHeader refusal) f = refusal ≡ f
+IsRefusedBy (Events header events (Broken refusal)) f = refusal ≡ f
+IsRefusedBy (Events header events Ended) f = ⊥
+
+-- from the one place to the other these events were read
+abbrev pub Lead : List Event → Place → Place → Type 0
+Lead [] place after = after ≡ place
+Lead (event ∷ events) place after = (mid : Place) × (event_at place ≡ Ok (step.Event event, mid)) × Lead events mid after

@@ -1,0 +1,44 @@
+//! The events of a session, and what a reader gives.
+
+use crate::header::Header;
+use px_types::{ConnId, Text};
+
+/// An event of a session. A connection is named from its Connect to its Close. Own: PulseAudio records no sessions.
+#[derive(Debug, Drop)]
+pub enum Event {
+    /// A client connects.
+    Connect(ConnId),
+    /// Up to 65,536 bytes come from a client.
+    Bytes(ConnId, Text),
+    /// A client has closed its connection.
+    Close(ConnId),
+    /// The server ends a connection for want of memory.
+    Cut(ConnId),
+    /// A render cycle of a sink.
+    Turn {
+        /// The sink's index in the header.
+        sink: u8,
+        /// How many frames its device consumes.
+        frames: u32,
+        /// How many of the waiting messages it takes.
+        take: u32,
+    },
+    /// The core takes notices of a sink.
+    Collect {
+        /// The sink's index in the header.
+        sink: u8,
+        /// How many of the waiting notices it takes.
+        take: u32,
+    },
+}
+
+/// What a reader gives next.
+#[derive(Debug, Drop)]
+pub enum Step {
+    /// The header, before all events.
+    Header(Header),
+    /// The next event.
+    Event(Event),
+    /// The end byte was read, and nothing follows it.
+    End,
+}

@@ -1,0 +1,116 @@
+//! The fields of an event, read from left to right.
+
+ghost use Rattle.std.specs.Prelude.{◌≡◌};
+ghost use Rattle.px_session.specs.Place.{Gives, Reads};
+ghost use Rattle.px_session.specs.Field.{word_at};
+ghost use Rattle.px_session.specs.EventReading.{end_at, sized_at, data_at, turn_at, collect_at, fields_at, event_at};
+ghost use Rattle.px_session.specs.Seen.{place_of};
+
+use crate::event::{Event, Step};
+use crate::fault::{Cause, ReadError};
+use crate::place::Place;
+use px_types::{ConnId, Text};
+use std::alloc::Global;
+
+/// The most bytes of a Bytes event.
+const MOST_BYTES: u32 = 65_536;
+
+// Nothing follows the end byte.
+#[tactic(auto, unfolding(crate::specs::EventReading::end_at))]
+fn end(place: &Place<'_>) -> Result<Step, ReadError>
+    ensures { Reads (λ step. step) result (place_of place.now) (end_at (place_of place.now)) }
+{
+    match place.rest {
+        [] => Ok(Step::End),
+        [_, ..] => Err(ReadError::Refused {
+            at: place.at,
+            cause: Cause::Trailing,
+        }),
+    }
+}
+
+#[tactic(auto, unfolding(crate::specs::EventReading::sized_at))]
+fn sized(kind_at: u64, size: u32, place: Place<'_>) -> Result<(&[u8], Place<'_>), ReadError>
+    ensures { Gives (λ read. (read.0.now, place_of read.1)) result (sized_at kind_at size (place_of place.entry)) }
+{
+    if MOST_BYTES < size {
+        return Err(ReadError::Refused {
+            at: kind_at,
+            cause: Cause::TooLong(u64::from(size)),
+        });
+    }
+    place.bytes(size as usize)
+}
+
+#[tactic(auto, unfolding(crate::specs::EventReading::data_at, crate::specs::Place::and_then))]
+fn data(alloc: Global, kind_at: u64, place: &mut Place<'_>) -> Result<Step, ReadError>
+    ensures { Reads (λ step. step) result (place_of place.new) (data_at kind_at (place_of place.old)) }
+{
+    let (conn, rest) = place.word()?;
+    let (size, rest) = rest.word()?;
+    let (bytes, rest) = sized(kind_at, size, rest)?;
+    let bytes = Text::copied(alloc, bytes)?;
+    *place = rest;
+    Ok(Step::Event(Event::Bytes(ConnId(conn), bytes)))
+}
+
+#[tactic(auto, unfolding(crate::specs::EventReading::turn_at, crate::specs::Place::and_then))]
+fn turn(place: &mut Place<'_>) -> Result<Step, ReadError>
+    ensures { Reads (λ step. step) result (place_of place.new) (turn_at (place_of place.old)) }
+{
+    let (sink, rest) = place.byte()?;
+    let (frames, rest) = rest.word()?;
+    let (take, rest) = rest.word()?;
+    *place = rest;
+    Ok(Step::Event(Event::Turn { sink, frames, take }))
+}
+
+#[tactic(auto, unfolding(crate::specs::EventReading::collect_at, crate::specs::Place::and_then))]
+fn collect(place: &mut Place<'_>) -> Result<Step, ReadError>
+    ensures { Reads (λ step. step) result (place_of place.new) (collect_at (place_of place.old)) }
+{
+    let (sink, rest) = place.byte()?;
+    let (take, rest) = rest.word()?;
+    *place = rest;
+    Ok(Step::Event(Event::Collect { sink, take }))
+}
+
+// A connection's number, and nothing more.
+#[tactic(auto, unfolding(crate::specs::Field::word_at))]
+fn conn(place: &mut Place<'_>) -> Result<ConnId, ReadError>
+    ensures { Reads (λ conn. conn.0) result (place_of place.new) (word_at (place_of place.old)) }
+{
+    let (conn, rest) = place.word()?;
+    *place = rest;
+    Ok(ConnId(conn))
+}
+
+#[tactic(auto, unfolding(crate::specs::EventReading::fields_at, crate::specs::EventReading::conn_at, crate::specs::Place::and_then))]
+fn fields(alloc: Global, kind_at: u64, kind: u8, place: &mut Place<'_>) -> Result<Step, ReadError>
+    ensures { Reads (λ step. step) result (place_of place.new) (fields_at kind_at kind (place_of place.old)) }
+{
+    match kind {
+        0 => end(place),
+        1 => Ok(Step::Event(Event::Connect(conn(place)?))),
+        2 => data(alloc, kind_at, place),
+        3 => Ok(Step::Event(Event::Close(conn(place)?))),
+        4 => Ok(Step::Event(Event::Cut(conn(place)?))),
+        5 => turn(place),
+        6 => collect(place),
+        _ => Err(ReadError::Refused {
+            at: kind_at,
+            cause: Cause::Kind(kind),
+        }),
+    }
+}
+
+/// The event or the end that stands at the place, which is then behind it.
+#[tactic(auto, unfolding(crate::specs::EventReading::event_at))]
+pub(crate) fn event(alloc: Global, place: &mut Place<'_>) -> Result<Step, ReadError>
+    ensures { Reads (λ step. step) result (place_of place.new) (event_at (place_of place.old)) }
+{
+    let kind_at = place.at;
+    let (kind, rest) = place.byte()?;
+    *place = rest;
+    fields(alloc, kind_at, kind, place)
+}

@@ -1,0 +1,92 @@
+//! Why a session is refused, and why it could not be read or written.
+
+use px_ends::WriteFailed;
+use px_types::NoMemory;
+use std::alloc::{AllocError, AllocFailed};
+
+/// Why a session is refused: the first rule that its bytes break, from left to right. Own: PulseAudio records no sessions.
+#[derive(Clone, Copy, Debug, PartialEq, Eq)]
+pub enum Cause {
+    /// The first four bytes, or all of a shorter input, are no front of `PRS1`. At byte 0.
+    Magic,
+    /// A field of the header breaks its rule. At the field's first byte.
+    Header,
+    /// The input ends inside the session. At the input's length.
+    Truncated,
+    /// 2^40 bytes were read and the session goes on. At byte 2^40.
+    Endless,
+    /// A byte follows the end byte. At that byte.
+    Trailing,
+    /// No event has this kind. At its kind byte.
+    Kind(u8),
+    /// A Bytes event has this length, which is above 65,536. At its kind byte.
+    TooLong(u64),
+    /// The session is lawful, and the server can't play it yet. Given by the top call, never by a reader.
+    NotBuilt,
+}
+
+/// Why a reader gives nothing more.
+#[derive(Clone, Copy, Debug, PartialEq, Eq)]
+pub enum ReadError {
+    /// The bytes are no session.
+    Refused {
+        /// The offset from the session's first byte.
+        at: u64,
+        cause: Cause,
+    },
+    /// A read of the source failed.
+    Failed,
+    /// Want of memory.
+    NoMemory,
+}
+
+/// Why a writer stopped.
+#[derive(Clone, Copy, Debug, PartialEq, Eq)]
+pub enum WriteError {
+    /// A write of the sink failed. The sink took a front of what was to be written, maybe nothing.
+    Failed,
+}
+
+impl From<NoMemory> for ReadError {
+    ghost use Rattle.std.specs.Prelude.{◌≡◌};
+    ghost use Rattle.px_session.specs.declared.fault.ReadError.TheVariants as error;
+
+    ghost from_gives = { λ _ e. e ≡ error.NoMemory };
+
+    fn from(_: NoMemory) -> Self {
+        ReadError::NoMemory
+    }
+}
+
+impl From<AllocError> for ReadError {
+    ghost use Rattle.std.specs.Prelude.{◌≡◌};
+    ghost use Rattle.px_session.specs.declared.fault.ReadError.TheVariants as error;
+
+    ghost from_gives = { λ _ e. e ≡ error.NoMemory };
+
+    fn from(_: AllocError) -> Self {
+        ReadError::NoMemory
+    }
+}
+
+impl<T: Drop> From<AllocFailed<T>> for ReadError {
+    ghost use Rattle.std.specs.Prelude.{◌≡◌};
+    ghost use Rattle.px_session.specs.declared.fault.ReadError.TheVariants as error;
+
+    ghost from_gives = { λ _ e. e ≡ error.NoMemory };
+
+    fn from(_: AllocFailed<T>) -> Self {
+        ReadError::NoMemory
+    }
+}
+
+impl From<WriteFailed> for WriteError {
+    ghost use Rattle.std.specs.Prelude.{◌≡◌};
+    ghost use Rattle.px_session.specs.declared.fault.WriteError.TheVariants as error;
+
+    ghost from_gives = { λ _ e. e ≡ error.Failed };
+
+    fn from(_: WriteFailed) -> Self {
+        WriteError::Failed
+    }
+}

@@ -1,0 +1,13 @@
+//! A step that was found in the bytes at hand.
+
+use crate::event::Step;
+
+/// A step that stands in the bytes at hand.
+#[derive(Debug, Drop)]
+pub(crate) struct Found {
+    pub(crate) step: Step,
+    /// How many of the bytes it takes.
+    pub(crate) used: usize,
+    /// The offset behind it.
+    pub(crate) at: u64,
+}

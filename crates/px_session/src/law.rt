@@ -1,0 +1,48 @@
+//! That sessions have one reading and one spelling.
+
+ghost use Rattle.std.specs.Prelude.{◌≡◌, ◌≤◌, ◌<◌, ℕ, List, ◌++◌, length};
+ghost use Rattle.std.specs.List.{AllByRecursion};
+ghost use Rattle.px_session.specs.declared.header.Header.{Header};
+ghost use Rattle.px_session.specs.declared.event.Event.{Event};
+ghost use Rattle.px_session.specs.declared.fault.Cause.TheVariants as cause;
+ghost use Rattle.px_session.specs.Place.{Place, Refusal, limit};
+ghost use Rattle.px_session.specs.HeaderRules.{IsHeader};
+ghost use Rattle.px_session.specs.EventRules.{IsEvent};
+ghost use Rattle.px_session.specs.Law.{AreBytes};
+ghost use Rattle.px_session.specs.Session.{Ending, Ended, Stand, Session, Events, IsSession};
+ghost use Rattle.px_session.specs.SessionLaw.{IsSpelled, IsRefusedBy, Lead};
+ghost use Rattle.px_session.specs.Spelling as spelling;
+
+/// Each list of bytes is exactly one session, or is refused once. What is spelled is read, and what is read is spelled so. It
+/// does nothing: its contract is the law.
+pub fn one_reading()
+    ensures some { (bytes : List ℕ) → (s : Session) × IsSession bytes s }
+    ensures one { (bytes : List ℕ) (a b : Session) → IsSession bytes a → IsSession bytes b → a ≡ b }
+    // What is spelled is read to its end, if it is within the limit.
+    ensures again { (h : Header) (events : List Event) → IsHeader h → AllByRecursion IsEvent events
+        → length (spelling.session h events) ≤ limit → IsSession (spelling.session h events) (Events h events Ended) }
+    // What is read is lawful, and its spelling stands there; behind it the session ends, or is refused.
+    ensures found { (bytes : List ℕ) (h : Header) (events : List Event) (ending : Ending) → AreBytes bytes
+        → IsSession bytes (Events h events ending) → IsSpelled bytes h events ending }
+    // What is read to its end is the one spelling of it.
+    ensures whole { (bytes : List ℕ) (h : Header) (events : List Event) → AreBytes bytes
+        → IsSession bytes (Events h events Ended) → bytes ≡ spelling.session h events }
+{}
+
+/// Where an early end and an endless session are refused: at the length of the bytes, which is below 2^40, and at 2^40, which
+/// is no more than their length. It does nothing: its contract is the law.
+pub fn refusals_at_the_end()
+    ensures truncated { (bytes : List ℕ) (s : Session) (f : Refusal) → IsSession bytes s → IsRefusedBy s f
+        → f.cause ≡ cause.Truncated → (f.at ≡ length bytes) × (length bytes < limit) }
+    ensures endless { (bytes : List ℕ) (s : Session) (f : Refusal) → IsSession bytes s → IsRefusedBy s f
+        → f.cause ≡ cause.Endless → (f.at ≡ limit) × (limit ≤ length bytes) }
+{}
+
+/// Events that were read one behind the other are the first of those that stand there. It does nothing: its contract is the
+/// law.
+pub fn reading_in_steps()
+    ensures joined { (given rest : List Event) (ending : Ending) (place after : Place) → Lead given place after
+        → Stand rest ending after → Stand (given ++ rest) ending place }
+    ensures first { (given whole : List Event) (ending : Ending) (place after : Place) → Lead given place after
+        → Stand whole ending place → (rest : List Event) × (whole ≡ given ++ rest) × Stand rest ending after }
+{}

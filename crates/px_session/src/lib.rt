@@ -1,0 +1,29 @@
+//! Recorded sessions and output records: which bytes are a session, which are not, at which byte and for which cause, read from
+//! any source in any pieces and written in their one spelling. It exports `Reader`, `Header`, `Event` and what they are made
+//! of, `OutRecord`, and the writers.
+#![tactic(auto)]
+
+mod event;
+mod event_reading;
+mod fault;
+mod found;
+mod header;
+mod header_reading;
+mod held;
+mod law;
+mod output;
+mod place;
+mod reader;
+mod waiting;
+mod writer;
+
+pub use event::{Event, Step};
+pub use fault::{Cause, ReadError, WriteError};
+pub use header::{Header, SinkSpec, SinkSpecs};
+pub use law::{one_reading, reading_in_steps, refusals_at_the_end};
+pub use output::OutRecord;
+pub use reader::Reader;
+pub use writer::{write_effect, write_event, write_header};
+
+#[cfg(test)]
+mod tests;

@@ -1,0 +1,97 @@
+//! A place in a session, and the fields that stand there.
+
+ghost use Rattle.std.specs.Prelude.{◌≡◌, ◌≤◌, ◌^◌, length, IfOk};
+
+use crate::fault::{Cause, ReadError};
+
+/// The most bytes of a session.
+pub(crate) const LIMIT: u64 = 1 << 40;
+
+/// The bytes of a session that are there, from an offset on.
+#[derive(Clone, Copy)]
+pub(crate) struct Place<'a> {
+    pub(crate) at: u64,
+    pub(crate) rest: &'a [u8],
+    ghost within: { at ≤ 2 ^ 40 },
+}
+
+impl<'a> Place<'a> {
+    ghost use Rattle.px_session.specs.Place.{available, short_at, bytes_at, no_field, Fails, Gives};
+    ghost use Rattle.px_session.specs.Field.{byte_at, word_at, broken_at};
+    ghost use Rattle.px_session.specs.Seen.{place_of};
+
+    /// How many of the bytes that are left lie within the limit.
+    fn available(self) -> usize
+        ensures { result ≡ available (place_of self.entry) }
+    {
+        self.rest.len().min((LIMIT - self.at) as usize)
+    }
+
+    /// The refusal where more is wanted than is available.
+    fn short(self) -> ReadError
+        ensures { Fails result (no_field (short_at (place_of self.entry))) }
+    {
+        let end = self.at + self.rest.len() as u64;
+        if LIMIT <= end {
+            ReadError::Refused {
+                at: LIMIT,
+                cause: Cause::Endless,
+            }
+        } else {
+            ReadError::Refused {
+                at: end,
+                cause: Cause::Truncated,
+            }
+        }
+    }
+
+    /// The refusal of a header's field that begins here.
+    pub(crate) fn broken(self) -> ReadError
+        ensures { Fails result (no_field (broken_at (place_of self.entry))) }
+    {
+        ReadError::Refused {
+            at: self.at,
+            cause: Cause::Header,
+        }
+    }
+
+    /// The next `count` bytes, and the place behind them.
+    #[tactic(auto, unfolding(crate::specs::Place::bytes_at))]
+    pub(crate) fn bytes(self, count: usize) -> Result<(&'a [u8], Place<'a>), ReadError>
+        ensures gives { Gives (λ read. (read.0.now, place_of read.1)) result (bytes_at count (place_of self.entry)) }
+        ensures length { IfOk result (λ read. length read.0.now ≡ count) }
+    {
+        if self.available() < count {
+            return Err(self.short());
+        }
+        let (bytes, rest) = self.rest.split_at(count);
+        Ok((
+            bytes,
+            Place {
+                at: self.at + count as u64,
+                rest,
+            },
+        ))
+    }
+
+    /// A byte.
+    #[tactic(auto, unfolding(crate::specs::Field::byte_at, crate::specs::Place::and_then))]
+    pub(crate) fn byte(self) -> Result<(u8, Place<'a>), ReadError>
+        ensures { Gives (λ read. (read.0, place_of read.1)) result (byte_at (place_of self.entry)) }
+    {
+        let (bytes, after) = self.bytes(1)?;
+        Ok((bytes[0], after))
+    }
+
+    /// A number of four bytes.
+    #[tactic(auto, unfolding(crate::specs::Field::word_at, crate::specs::Place::and_then))]
+    pub(crate) fn word(self) -> Result<(u32, Place<'a>), ReadError>
+        ensures { Gives (λ read. (read.0, place_of read.1)) result (word_at (place_of self.entry)) }
+    {
+        let (bytes, after) = self.bytes(4)?;
+        Ok((
+            u32::from_be_bytes([bytes[0], bytes[1], bytes[2], bytes[3]]),
+            after,
+        ))
+    }
+}

@@ -1,0 +1,86 @@
+//! What stands next in the bytes at hand, and the wait for enough of them.
+
+ghost use Rattle.std.specs.Prelude.{◌≡◌, ◌<◌, ◌≤◌, ◌^◌, length, IfOk, MatchBool};
+ghost use Rattle.px_session.specs.Place.{Reads};
+ghost use Rattle.px_session.specs.Session.{step_at};
+ghost use Rattle.px_session.specs.Found.{place_at, Finds, IsOpen, IsClosed, Awaits, NeverFails};
+ghost use Rattle.px_session.specs.EventRules.{IsStep};
+ghost use Rattle.px_session.specs.Held.{ReadCounts};
+ghost use Rattle.px_session.specs.Seen.{place_of};
+
+use crate::event::Step;
+use crate::event_reading::event;
+use crate::fault::{Cause, ReadError};
+use crate::found::Found;
+use crate::header_reading::header;
+use crate::held::{Held, More};
+use crate::place::Place;
+use px_ends::Source;
+use std::alloc::Global;
+
+// The header, or where it was read an event or the end.
+#[tactic(auto, unfolding(crate::specs::Session::first_at, crate::specs::Place::and_then))]
+fn step(alloc: Global, begun: bool, place: &mut Place<'_>) -> Result<Step, ReadError>
+    ensures { Reads (λ step. step) result (place_of place.new) (step_at begun (place_of place.old)) }
+{
+    if begun {
+        event(alloc, place)
+    } else {
+        Ok(Step::Header(header(alloc, place)?))
+    }
+}
+
+fn look(alloc: Global, begun: bool, at: u64, bytes: &[u8]) -> Result<Found, ReadError>
+    requires { at ≤ 2 ^ 40 }
+    ensures finds { Finds result bytes.now (step_at begun (place_at at bytes.now)) }
+    ensures within { IfOk result (λ found. found.at ≤ 2 ^ 40) }
+    ensures forward { IfOk result (λ found. at < found.at) }
+    ensures lawful { IfOk result (λ found. IsStep found.step) }
+    ensures never { NeverFails result }
+{
+    let mut place = Place { at, rest: bytes };
+    let step = step(alloc, begun, &mut place)?;
+    Ok(Found {
+        step,
+        used: bytes.len() - place.rest.len(),
+        at: place.at,
+    })
+}
+
+// More bytes may change the answer.
+fn is_open(read: &Result<Found, ReadError>) -> bool
+    ensures { MatchBool result (IsOpen read.now) (IsClosed read.now) }
+{
+    match read {
+        Ok(found) => matches!(found.step, Step::End),
+        Err(ReadError::Refused { cause, .. }) => matches!(cause, Cause::Truncated),
+        Err(_) => false,
+    }
+}
+
+/// What stands next, in the bytes that are held and as many more of the source's as that takes.
+pub(crate) fn await_step<S: Source>(
+    alloc: Global,
+    begun: bool,
+    at: u64,
+    held: &mut Held,
+    input: &mut S,
+) -> Result<Found, ReadError>
+    requires { at ≤ 2 ^ 40 }
+    ensures awaits { Awaits result begun at held.old held.new (S.left input.old) (S.left input.new) }
+    ensures counts { ReadCounts result (S.faults input.old) (S.faults input.new) }
+    ensures within { IfOk result (λ found. found.at ≤ 2 ^ 40) }
+    ensures forward { IfOk result (λ found. at < found.at) }
+    ensures lawful { IfOk result (λ found. IsStep found.step) }
+{
+    loop {
+        let read = look(alloc, begun, at, held.as_slice());
+        if !is_open(&read) {
+            return read;
+        }
+        match held.more(input)? {
+            More::Came => {}
+            More::Ended => return read,
+        }
+    }
+}

@@ -1,0 +1,147 @@
+//! Headers, events and output records, written in their one spelling.
+
+ghost use Rattle.std.specs.Prelude.{◌≡◌, OnOk, OnErr};
+ghost use Rattle.std.specs.List.{flat_map, AllByRecursion};
+ghost use Rattle.px_ends.specs.Told.{after_adding};
+ghost use Rattle.px_ends.specs.Faults.{Rose};
+ghost use Rattle.px_ends.specs.Whole.{AddsFront};
+ghost use Rattle.px_session.specs.Spelling.{sink, event, record_of};
+ghost use Rattle.px_session.specs.Spelling as spelling;
+ghost use Rattle.px_session.specs.Writing.{FitsSink, FitsHeader, FitsEvent, FitsRecord};
+
+use crate::event::Event;
+use crate::fault::WriteError;
+use crate::header::{Header, SinkSpec};
+use crate::output::OutRecord;
+use px_ends::{Sink, write_all};
+
+// Writes the pieces in order.
+fn write_pieces<K: Sink>(out: &mut K, pieces: &[&[u8]]) -> Result<(), WriteError>
+    ensures ok { OnOk result (K.held out.new ≡ after_adding (K.held out.old) (flat_map (λ piece. piece.now) pieces.now)) }
+    ensures ok_count { OnOk result (K.faults out.new ≡ K.faults out.old) }
+    ensures err { OnErr result (AddsFront (flat_map (λ piece. piece.now) pieces.now) (K.held out.old) (K.held out.new)) }
+    ensures err_count { OnErr result (Rose (K.faults out.old) (K.faults out.new)) }
+{
+    for piece in pieces {
+        write_all(out, piece)?;
+    }
+    Ok(())
+}
+
+#[tactic(auto, unfolding(crate::specs::Spelling::sink))]
+fn write_sink<K: Sink>(out: &mut K, s: &SinkSpec) -> Result<(), WriteError>
+    requires { FitsSink s.now }
+    ensures ok { OnOk result (K.held out.new ≡ after_adding (K.held out.old) (sink s.now)) }
+    ensures ok_count { OnOk result (K.faults out.new ≡ K.faults out.old) }
+    ensures err { OnErr result (AddsFront (sink s.now) (K.held out.old) (K.held out.new)) }
+    ensures err_count { OnErr result (Rose (K.faults out.old) (K.faults out.new)) }
+{
+    let name = s.name.as_slice();
+    let [a, b, c, d] = s.spec.rate.to_be_bytes();
+    write_pieces(
+        out,
+        &[
+            &[name.len() as u8],
+            name,
+            &[s.spec.format.code(), s.spec.channels, a, b, c, d],
+            s.map.positions(),
+            &s.guard.to_be_bytes(),
+            &s.depth.to_be_bytes(),
+        ],
+    )
+}
+
+fn write_sinks<K: Sink>(out: &mut K, sinks: &[SinkSpec]) -> Result<(), WriteError>
+    requires { AllByRecursion FitsSink sinks.now }
+    ensures ok { OnOk result (K.held out.new ≡ after_adding (K.held out.old) (flat_map sink sinks.now)) }
+    ensures ok_count { OnOk result (K.faults out.new ≡ K.faults out.old) }
+    ensures err { OnErr result (AddsFront (flat_map sink sinks.now) (K.held out.old) (K.held out.new)) }
+    ensures err_count { OnErr result (Rose (K.faults out.old) (K.faults out.new)) }
+{
+    for s in sinks {
+        write_sink(out, s)?;
+    }
+    Ok(())
+}
+
+/// Writes the spelling of a header, whose cookie is written whole. After `Failed` the sink took a front of the spelling.
+/// Takes no memory.
+pub fn write_header<K: Sink>(out: &mut K, header: &Header) -> Result<(), WriteError>
+    requires { FitsHeader header.now }
+    ensures ok { OnOk result (K.held out.new ≡ after_adding (K.held out.old) (spelling.header header.now)) }
+    ensures ok_count { OnOk result (K.faults out.new ≡ K.faults out.old) }
+    ensures err { OnErr result (AddsFront (spelling.header header.now) (K.held out.old) (K.held out.new)) }
+    ensures err_count { OnErr result (Rose (K.faults out.old) (K.faults out.new)) }
+{
+    let count = header.sinks.len() as u8;
+    write_pieces(out, &[b"PRS1", header.cookie.as_slice(), &[count]])?;
+    write_sinks(out, header.sinks.as_slice())
+}
+
+/// Writes the spelling of an event. After `Failed` the sink took a front of it. Takes no memory.
+#[tactic(auto, unfolding(crate::specs::Spelling::event))]
+pub fn write_event<K: Sink>(out: &mut K, e: &Event) -> Result<(), WriteError>
+    requires { FitsEvent e.now }
+    ensures ok { OnOk result (K.held out.new ≡ after_adding (K.held out.old) (event e.now)) }
+    ensures ok_count { OnOk result (K.faults out.new ≡ K.faults out.old) }
+    ensures err { OnErr result (AddsFront (event e.now) (K.held out.old) (K.held out.new)) }
+    ensures err_count { OnErr result (Rose (K.faults out.old) (K.faults out.new)) }
+{
+    match e {
+        Event::Connect(conn) => write_pieces(out, &[&[1], &conn.0.to_be_bytes()]),
+        Event::Bytes(conn, bytes) => {
+            let bytes = bytes.as_slice();
+            let length = bytes.len() as u32;
+            write_pieces(
+                out,
+                &[&[2], &conn.0.to_be_bytes(), &length.to_be_bytes(), bytes],
+            )
+        }
+        Event::Close(conn) => write_pieces(out, &[&[3], &conn.0.to_be_bytes()]),
+        Event::Cut(conn) => write_pieces(out, &[&[4], &conn.0.to_be_bytes()]),
+        Event::Turn { sink, frames, take } => write_pieces(
+            out,
+            &[&[5, *sink], &frames.to_be_bytes(), &take.to_be_bytes()],
+        ),
+        Event::Collect { sink, take } => { write_pieces(out, &[&[6, *sink], &take.to_be_bytes()]) }
+    }
+}
+
+/// Writes the spelling of an output record. After `Failed` the sink took a front of it. Takes no memory.
+#[tactic(auto, unfolding(crate::specs::Spelling::record_of))]
+pub fn write_effect<K: Sink>(out: &mut K, effect: &OutRecord) -> Result<(), WriteError>
+    requires { FitsRecord effect.now }
+    ensures ok { OnOk result (K.held out.new ≡ after_adding (K.held out.old) (record_of effect.now)) }
+    ensures ok_count { OnOk result (K.faults out.new ≡ K.faults out.old) }
+    ensures err { OnErr result (AddsFront (record_of effect.now) (K.held out.old) (K.held out.new)) }
+    ensures err_count { OnErr result (Rose (K.faults out.old) (K.faults out.new)) }
+{
+    match effect {
+        OutRecord::Sent { conn, bytes } => {
+            let length = bytes.len() as u32;
+            write_pieces(
+                out,
+                &[&[1], &conn.0.to_be_bytes(), &length.to_be_bytes(), bytes],
+            )
+        }
+        OutRecord::Closed {
+            conn,
+            reason,
+            fault,
+            at,
+        } => write_pieces(
+            out,
+            &[
+                &[2],
+                &conn.0.to_be_bytes(),
+                &[*reason, *fault],
+                &at.to_be_bytes(),
+            ],
+        ),
+        OutRecord::Played {
+            sink,
+            frames,
+            bytes,
+        } => { write_pieces(out, &[&[3, *sink], &frames.to_be_bytes(), bytes]) }
+    }
+}
