@@ -1,0 +1,35 @@
+//! The program: it makes the real ends over standard input, output and error, runs the words of its command line, and exits
+//! with the status's code.
+#![tactic(auto)]
+
+mod standard;
+
+use crate::standard::{Reading, Writing};
+use px_app::{report, run};
+use px_ends::NoHost;
+use px_types::Status;
+use std::alloc::{AllocError, Global};
+use std::env;
+use std::process::ExitCode;
+
+// The words behind the program's own name. Words that aren't text are wrong words, as none are.
+fn words(rt: &HostRuntime, alloc: Global) -> Result<Vec<String>, AllocError> {
+    let mut words = Vec::new(alloc);
+    if let Ok(args) = env::args(rt) {
+        for word in args.skip(1) {
+            words.push(word)?;
+        }
+    }
+    Ok(words)
+}
+
+fn main(rt: HostRuntime) -> ExitCode {
+    let mut input = Reading::new(rt.stdin());
+    let mut output = Writing::new(rt.stdout());
+    let mut log = Writing::new(rt.stderr());
+    let status = match words(&rt, rt.alloc()) {
+        Ok(words) => run(&rt, &words, &mut input, &mut output, &mut log, &mut NoHost),
+        Err(_) => report(Status::Memory, &mut log),
+    };
+    ExitCode::from(status.code())
+}

@@ -1,0 +1,65 @@
+// The ends of the real program: thin adapters over a reader and a writer of std, which tell nothing of content.
+ghost use Rattle.std.specs.Prelude.{None};
+
+use px_ends::{Got, Sink, Source, Took};
+use std::io::{Read, Write};
+
+/// A source of bytes over a reader.
+#[derive(Drop)]
+pub struct Reading<R: Read> {
+    inner: R,
+    faults: u64,
+}
+
+impl<R: Read> Reading<R> {
+    pub fn new(inner: R) -> Self {
+        Reading { inner, faults: 0 }
+    }
+}
+
+impl<R: Read> Source for Reading<R> {
+    ghost left = { λ _. None };
+
+    ghost faults = { λ s. s.faults };
+
+    fn read(&mut self, buffer: &mut [u8]) -> Got {
+        match self.inner.read(buffer) {
+            Ok(0) => Got::End,
+            Ok(count) => Got::Bytes(count),
+            Err(_) => {
+                self.faults = self.faults.saturating_add(1);
+                Got::Failed
+            }
+        }
+    }
+}
+
+/// A sink of bytes over a writer.
+#[derive(Drop)]
+pub struct Writing<W: Write> {
+    inner: W,
+    faults: u64,
+}
+
+impl<W: Write> Writing<W> {
+    pub fn new(inner: W) -> Self {
+        Writing { inner, faults: 0 }
+    }
+}
+
+impl<W: Write> Sink for Writing<W> {
+    ghost held = { λ _. None };
+
+    ghost faults = { λ s. s.faults };
+
+    // A writer that takes nothing of some bytes has failed.
+    fn write(&mut self, bytes: &[u8]) -> Took {
+        match self.inner.write(bytes) {
+            Ok(count) if count > 0 => Took::Bytes(count),
+            Ok(_) | Err(_) => {
+                self.faults = self.faults.saturating_add(1);
+                Took::Failed
+            }
+        }
+    }
+}

@@ -1,0 +1,11 @@
+pub mod PieceLaws
+pub mod HeaderLaws
+pub mod PacketLaws
+pub mod EventLaws
+pub mod RollLaws
+pub mod OutputLaws
+pub mod SessionLaws
+pub mod LengthLaws
+pub mod TooLong
+pub mod ReportLaws
+pub mod WordLaws

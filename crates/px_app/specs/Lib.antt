@@ -1,0 +1,10 @@
+pub mod Frame
+pub mod Session
+pub mod Roll
+pub mod Handshake
+pub mod Reading
+pub mod Seen
+pub mod Output
+pub mod Replay
+pub mod Events
+pub mod Words

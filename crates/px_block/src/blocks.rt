@@ -1,0 +1,101 @@
+// A run of bytes that lies in blocks.
+
+ghost use Rattle.std.specs.Prelude.{◌≡◌, ℕ, ◌+◌, ◌*◌, ◌-◌, ◌/◌, ◌%◌, ◌<◌, ◌++◌, [], length, take, drop, min, vec_len, vec_capacity, IfOk, OnOk, OnErr, MatchOption};
+ghost use Rattle.std.specs.List.{concat};
+ghost use Rattle.px_block.specs.Packed.{IsPacked, AreFull};
+
+use crate::block::{BLOCK_SIZE, Block, Mem, NoMemory};
+use crate::source::BlockSource;
+use std::alloc::Global;
+use std::marker::Model;
+
+/// Bytes in blocks, one block after the other (`pa_memchunk`s of one write): each block but the last is
+/// full, and none is empty.
+#[derive(Debug, Drop)]
+pub struct Blocks {
+    blocks: Vec<Block>,
+}
+
+impl Model for Blocks {
+    ghost use Rattle.std.specs.Prelude.{ℕ, List};
+    ghost use Rattle.std.specs.List.{concat};
+    ghost use Rattle.px_block.specs.Packed.{IsPacked};
+
+    ghost Value = { List ℕ };
+
+    ghost view = { λ b. concat b.blocks.items };
+
+    ghost invariant = { λ b. IsPacked b.blocks.items };
+}
+
+impl Blocks {
+    /// No bytes. Takes no memory.
+    pub fn new(alloc: Global) -> Blocks
+        ensures { result ≡ [] }
+    {
+        Blocks {
+            blocks: Vec::new(alloc),
+        }
+    }
+
+    /// Appends the first of these bytes to the last block, or to one that it takes where that is full, and
+    /// answers how many went in: none only where there are none. After an `Err` nothing has changed.
+    pub fn put<B: BlockSource>(&mut self, source: &mut B, bytes: &[u8]) -> Mem<usize>
+        ensures count { IfOk result (λ count.
+            count ≡ min (length bytes.now) (BLOCK_SIZE - length self.old % BLOCK_SIZE)) }
+        ensures bytes { IfOk result (λ count. self.new ≡ self.old ++ take count bytes.now) }
+        ensures err { OnErr result (self.new ≡ self.old) }
+    {
+        if bytes.is_empty() {
+            return Ok(0);
+        }
+        let mut last = take_open(&mut self.blocks, source)?;
+        let count = last.put(bytes);
+        self.blocks.push_reserved(last);
+        Ok(count)
+    }
+
+    /// How many blocks there are. Takes no memory.
+    pub fn count(&self) -> usize
+        ensures { result ≡ (length self.now + (BLOCK_SIZE - 1)) / BLOCK_SIZE }
+    {
+        self.blocks.len()
+    }
+
+    /// The blocks, in order. Takes no memory.
+    pub fn as_slice(&self) -> &[Block]
+        ensures bytes { concat result.now ≡ self.now }
+        ensures packed { IsPacked result.now }
+    {
+        self.blocks.as_slice()
+    }
+
+    /// The blocks themselves, in order, as to give each back to its source. Takes no memory.
+    pub fn into_vec(self) -> Vec<Block>
+        ensures bytes { concat result.items ≡ self }
+        ensures packed { IsPacked result.items }
+    {
+        self.blocks
+    }
+}
+
+// Takes the last block out where it has room, else a new one from the source, so that only full ones are left
+// and there is room to push it. After an `Err` nothing has changed.
+fn take_open<B: BlockSource>(blocks: &mut Vec<Block>, source: &mut B) -> Mem<Block>
+    requires { IsPacked blocks.old.items }
+    ensures bytes { IfOk result (λ last. concat blocks.new.items ++ last ≡ concat blocks.old.items) }
+    ensures open { IfOk result (λ last. length last < BLOCK_SIZE) }
+    ensures full { OnOk result (AreFull blocks.new.items) }
+    ensures room { OnOk result (vec_len blocks.new < vec_capacity blocks.new) }
+    ensures err { OnErr result (blocks.new.items ≡ blocks.old.items) }
+{
+    if !blocks.is_empty() {
+        let last = blocks.take_last();
+        if last.bytes().len() < BLOCK_SIZE {
+            return Ok(last);
+        }
+        blocks.push_reserved(last);
+    }
+    blocks.reserve(1)?;
+    source.take()
+}

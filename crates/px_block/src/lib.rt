@@ -1,0 +1,13 @@
+//! Blocks of bytes, of one size each, and the sources that hand them out and take them back.
+//! A stream's written bytes lie in blocks from the moment they come off the wire until they are mixed.
+#![tactic(auto)]
+
+mod block;
+mod blocks;
+mod source;
+#[cfg(test)]
+mod tests;
+
+pub use block::{BLOCK_SIZE, Block, Mem, NoMemory};
+pub use blocks::Blocks;
+pub use source::{BlockSource, Fresh};

@@ -1,0 +1,3 @@
+pub mod ChannelMap
+pub mod Held
+pub mod Plan

@@ -1,0 +1,41 @@
+-- What the answers of the calls on bytes say of what departs and of what is taken, and of the counts.
+use Rattle.std.specs.Prelude.{◌≡◌, ℕ, ◌≤◌, List, length, take, Option}
+use Rattle.px_ends.specs.declared.bytes.Got.{Got}
+use Rattle.px_ends.specs.declared.bytes.Got.TheVariants as got
+use Rattle.px_ends.specs.declared.bytes.Took.{Took}
+use Rattle.px_ends.specs.declared.bytes.Took.TheVariants as took
+use Rattle.px_ends.specs.Told.{before_taking, after_adding, IsAtEnd}
+use Rattle.px_ends.specs.Faults.{Rose}
+
+-- n bytes departed from what was left, the first n that the buffer now has
+pub record Departs (n : ℕ) (buffer : List ℕ) (old new : Option (List ℕ)) : Type 0 where
+  pub some : 1 ≤ n
+  pub fit : n ≤ length buffer
+  pub left : old ≡ before_taking (take n buffer) new
+
+-- a read that answers so: the bytes, the end only where nothing is left, or nothing at all
+abbrev pub ReadGives : Got → List ℕ → Option (List ℕ) → Option (List ℕ) → Type 0
+ReadGives (got.Bytes n) buffer old new = Departs n buffer old new
+ReadGives got.End buffer old new = IsAtEnd old × (new ≡ old)
+ReadGives got.Failed buffer old new = new ≡ old
+
+-- the count of faults rises in a read that failed, and in no other
+abbrev pub ReadCounts : Got → ℕ → ℕ → Type 0
+ReadCounts (got.Bytes n) before now = now ≡ before
+ReadCounts got.End before now = now ≡ before
+ReadCounts got.Failed before now = Rose before now
+
+-- the first n of these bytes were added to what is held
+pub record Adds (n : ℕ) (bytes : List ℕ) (old new : Option (List ℕ)) : Type 0 where
+  pub some : 1 ≤ n
+  pub fit : n ≤ length bytes
+  pub held : new ≡ after_adding old (take n bytes)
+
+-- a write that answers so
+abbrev pub WriteTakes : Took → List ℕ → Option (List ℕ) → Option (List ℕ) → Type 0
+WriteTakes (took.Bytes n) bytes old new = Adds n bytes old new
+WriteTakes took.Failed bytes old new = new ≡ old
+
+abbrev pub WriteCounts : Took → ℕ → ℕ → Type 0
+WriteCounts (took.Bytes n) before now = now ≡ before
+WriteCounts took.Failed before now = Rose before now

@@ -1,0 +1,6 @@
+pub mod Told
+pub mod Faults
+pub mod Bytes
+pub mod Links
+pub mod Whole
+pub mod Memory

@@ -1,0 +1,53 @@
+// Both directions at once: a client's connection.
+ghost use Rattle.std.specs.Prelude.{◌≡◌, ℕ, ◌<◌, List, Option, length};
+ghost use Rattle.px_ends.specs.Links.{LinkCounts, RecvGives, RecvCounts, SendTakes, SendCounts};
+
+/// What a receive answers.
+#[derive(Clone, Copy, Debug, PartialEq, Eq)]
+pub enum Recv {
+    /// So many bytes, at least one, moved into the front of the buffer.
+    Bytes(usize),
+    /// The peer has closed, and nothing is left.
+    End,
+    /// The link isn't ready. Nothing moved.
+    NotYet,
+    /// The receive failed. Nothing moved.
+    Failed,
+}
+
+/// What a send answers.
+#[derive(Clone, Copy, Debug, PartialEq, Eq)]
+pub enum Sent {
+    /// So many of the bytes, at least one, from their front.
+    Bytes(usize),
+    /// The link isn't ready. Nothing was taken.
+    NotYet,
+    /// The send failed, or there is no room. Nothing was taken.
+    Failed,
+}
+
+/// A connection to a client.
+pub trait Link {
+    /// The bytes that are still to be received, where it tells.
+    ghost left: { Self → Option (List ℕ) };
+
+    /// The bytes that were sent, where it tells.
+    ghost sent: { Self → Option (List ℕ) };
+
+    /// How often its calls failed, told the end, or weren't ready. No count falls.
+    ghost counts: { Self → LinkCounts };
+
+    /// Moves the first bytes that are there into the front of the buffer.
+    fn recv(&mut self, buffer: &mut [u8]) -> Recv
+        requires { 0 < length buffer.old }
+        ensures bytes { RecvGives result buffer.new (left self.old) (left self.new) }
+        ensures other { sent self.new ≡ sent self.old }
+        ensures count { RecvCounts result (counts self.old) (counts self.new) };
+
+    /// Takes the first of these bytes.
+    fn send(&mut self, bytes: &[u8]) -> Sent
+        requires { 0 < length bytes.now }
+        ensures bytes { SendTakes result bytes.now (sent self.old) (sent self.new) }
+        ensures other { left self.new ≡ left self.old }
+        ensures count { SendCounts result (counts self.old) (counts self.new) };
+}

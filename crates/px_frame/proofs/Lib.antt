@@ -1,0 +1,7 @@
+pub mod DescriptorLemmas
+pub mod ReadingLemmas
+pub mod FeedingLemmas
+pub mod DecoderLemmas
+pub mod WriteLemmas
+pub mod PiecesLemmas
+pub mod BodyLemmas

@@ -1,0 +1,34 @@
+-- Where the decoder's fields say that it stands, and what its inner calls bring.
+use Rattle.std.specs.Prelude.{◌≡◌, ℕ, List, [], ◌++◌, ◌⊎◌}
+use Rattle.px_frame.specs.declared.decoder.Run.{Run}
+use Rattle.px_frame.specs.declared.decoder.Run.TheVariants.{Fed, Broken}
+use Rattle.px_frame.specs.declared.decoder.Stage.{Stage}
+use Rattle.px_frame.specs.declared.decoder.Stage.TheVariants.{Within as within, Failed as failed, Lost as lost}
+use Rattle.px_frame.specs.declared.fault.FrameError.{FrameError}
+use Rattle.px_frame.specs.declared.fault.FrameError.TheVariants.{Fault, Failed, NoMemory}
+use Rattle.px_frame.specs.declared.frame.Frame.{Frame}
+use Rattle.px_frame.specs.Feeding.{Feeds, Breaks}
+use Rattle.px_frame.specs.Progress.{Progress, Within, Stopped, Lost}
+use Rattle.px_frame.specs.Stage.{IsPart, held_of}
+
+-- what the decoder's fields stand for, and what holds of them
+abbrev pub progress_of : ℕ → Stage → Progress
+progress_of start (within part) = Within start (held_of part)
+progress_of start (failed fault at) = Stopped fault at
+progress_of start lost = Lost
+
+abbrev pub IsStage : Stage → Type 0
+IsStage (within part) = IsPart part
+IsStage (failed fault at) = Unit {0}
+IsStage lost = Unit {0}
+
+-- what a piece brings behind the bytes held
+abbrev pub IsRun : ℕ → List ℕ → List ℕ → Run → Type 0
+IsRun start held piece (Fed frames part start') = Feeds start held piece frames start' (held_of part) [] × IsPart part
+IsRun start held piece (Broken frames fault at) = Breaks start held piece frames fault at
+
+-- the error behind frames that came before it, for which there may be no memory
+abbrev pub IsBehind : List Frame → FrameError → FrameError → Type 0
+IsBehind all (Fault frames fault at) error = (error ≡ Fault (all ++ frames) fault at) ⊎ (error ≡ NoMemory)
+IsBehind all (Failed fault at) error = error ≡ Failed fault at
+IsBehind all NoMemory error = error ≡ NoMemory

@@ -1,0 +1,17 @@
+pub mod Index
+pub mod Frame
+pub mod Held
+pub mod Queue
+pub mod Stream
+pub mod Going
+pub mod Write
+pub mod Control
+pub mod Message
+pub mod Notice
+pub mod Orderly
+pub mod Mix
+pub mod Sink
+pub mod Turn
+pub mod Deciding
+pub mod Track
+pub mod Rows

@@ -1,0 +1,60 @@
+-- A queue of frames: what is held, its two indices, and prebuffering (PulseAudio: pulsecore/memblockq.c). All counts are frames.
+use Rattle.std.specs.Prelude.{ℕ, ◌<◌, max, ℤ, ◌≤ℤ◌, Bool, IsTrue, ◌&&◌, List, length, Option, Some, None, nat_lt, ◌==◌, if◌then◌else◌}
+use Rattle.std.specs.Int.{int_max}
+use Rattle.px_model.specs.Index.{above, onward, IsIndex, LAST}
+use Rattle.px_model.specs.Frame.{Frame}
+use Rattle.px_model.specs.Held.{place, IsTrimmed, frame_of}
+
+pub record Queue : Type 0 where
+  -- the places from the read index on
+  pub held : List (Option Frame)
+  -- the next frame to read, and the next to write
+  pub read : ℤ
+  pub write : ℤ
+  -- it waits for prebuf frames before it plays (`in_prebuf`)
+  pub hold : Bool
+  pub prebuf : ℕ
+
+-- the frame held at index i
+abbrev pub frame_held : Queue → ℤ → Option Frame
+frame_held q i = frame_of q.read q.held i
+
+-- one past the last frame held, and the read index where none is held
+abbrev pub end_of : Queue → ℤ
+end_of q = onward q.read (length q.held)
+
+-- where the queue ends: the greater of the write index and the end, and the write index where nothing is held
+abbrev pub edge_of : Queue → ℤ
+edge_of q = if length q.held == 0 then q.write else int_max q.write (end_of q)
+
+-- the frames from the read index to that edge, none where it lies below
+abbrev pub left_of : Queue → ℕ
+left_of q = max (above q.write q.read) (length q.held)
+
+-- it holds, and fewer than prebuf frames wait
+abbrev pub is_held_short : Queue → Bool
+is_held_short q = q.hold && nat_lt (above q.write q.read) q.prebuf
+
+-- what stands at a place ahead
+pub data Ahead : Type 0 where
+  nothing : Ahead
+  silence : Ahead
+  sound : Frame → Ahead
+
+-- a place's frame, or silence in a hole
+abbrev pub sound_of : Option Frame → Ahead
+sound_of None = silence
+sound_of (Some frame) = sound frame
+
+-- the frame k ahead of the read index: nothing where it is held short, or past the edge
+abbrev pub queue_frame : Queue → ℕ → Ahead
+queue_frame q k = if is_held_short q then nothing else (if nat_lt k (left_of q) then sound_of (place q.held k) else nothing)
+
+-- what a queue keeps
+pub record IsQueue (q : Queue) : Type 0 where
+  pub trimmed : IsTrimmed q.held
+  pub read_in_range : IsIndex q.read
+  pub write_in_range : IsIndex q.write
+  pub held_in_range : end_of q ≤ℤ LAST
+  -- it holds only with prebuffering
+  pub hold_has_prebuf : IsTrue q.hold → 0 < q.prebuf

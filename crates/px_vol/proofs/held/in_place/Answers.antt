@@ -1,0 +1,5 @@
+use Rattle.px_vol.proofs.HeldLemmas.{is_held}
+use Rattle.px_vol.proofs.held.in_place.Goals as goal
+
+pub returns-clause-held : goal.returns-clause-held
+returns-clause-held c = rw c.copy_from_slice.ensures.after (is_held c.args.numbers.now c.requires)

@@ -1,0 +1,12 @@
+-- Up to 32 numbers that are held in place.
+use Rattle.std.specs.Prelude.{ℕ, List, ◌≡◌, ◌-◌, ◌++◌, ◌≤◌, length, take, replicate}
+
+-- the list with zeros after it, up to 32 numbers
+abbrev pub padded : List ℕ → List ℕ
+padded numbers = numbers ++ replicate (32 - length numbers) 0
+
+-- the first `count` of 32 numbers are held, and the others are zeros
+pub record IsHeld (count : ℕ) (numbers : List ℕ) : Type 0 where
+  pub room : count ≤ 32
+  pub held : length (take count numbers) ≡ count
+  pub rest : padded (take count numbers) ≡ numbers
