@@ -1,3 +1,5 @@
 pub mod Sequence
 pub mod KeyList
 pub mod Whole
+pub mod Again
+pub mod Found

@@ -3,3 +3,4 @@ pub mod Table
 pub mod Command
 pub mod Packet
 pub mod Create
+pub mod Law

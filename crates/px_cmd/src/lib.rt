@@ -7,12 +7,14 @@ mod create;
 mod fault;
 mod fields;
 mod head;
+mod law;
 mod packet;
 mod text;
 
 pub use command::{Command, CreateFields, SinkRef};
 pub use fault::CmdFault;
 pub use head::{Head, read_head};
+pub use law::spelled_commands;
 pub use packet::read_command;
 pub use text::{Keys, Text};
 

@@ -1,5 +1,5 @@
 use super::*;
-use px_tag::{NoMemory, TagFault, TimeVal};
+use px_tag::{NoMemory, TagFault};
 use std::alloc::Global;
 use std::process::Abort;
 use std::test::*;
@@ -84,20 +84,23 @@ fn check_packet(rt: &impl Abort, alloc: Global, packet: &mut Vec<u8>) -> Result<
     Ok(())
 }
 
-#[test]
-fn each_command(rt: HostRuntime) -> Result<(), NoMemory> {
-    for (number, fields) in ROWS {
-        let mut packet = packet_of(rt.alloc(), number, fields)?;
-        assert_eq!(rt;
-            read_head(&packet),
-            Ok(Head {
-                command: number as u32,
-                tag: 7
-            })
-        );
-        check_packet(&rt, rt.alloc(), &mut packet)?;
+fn check_rows(rt: &impl Abort, alloc: Global, rows: &[(u8, &[u8])]) -> Result<(), NoMemory> {
+    for (number, fields) in rows {
+        let mut packet = packet_of(alloc, *number, fields)?;
+        let head = Head {
+            command: *number as u32,
+            tag: 7,
+        };
+        assert_eq!(rt; read_head(&packet), Ok(head));
+        check_packet(rt, alloc, &mut packet)?;
     }
     Ok(())
+}
+
+#[test]
+fn each_command(rt: HostRuntime) -> Result<(), NoMemory> {
+    spelled_commands();
+    check_rows(&rt, rt.alloc(), &ROWS)
 }
 
 // AUTH with a cookie of so many bytes.
@@ -141,32 +144,23 @@ fn check_create(rt: &impl Abort, fields: &CreateFields) {
     assert_eq!(rt; fields.list.len(), 0);
 }
 
+// CREATE with one-channel spec, map and volume, null name and empty list has 69 bytes.
+fn check_first(rt: &impl Abort, alloc: Global, rows: &[(u8, &[u8])]) -> Result<(), NoMemory> {
+    let Some((number, fields)) = rows.first() else {
+        return Err(NoMemory);
+    };
+    let packet = packet_of(alloc, *number, fields)?;
+    assert_eq!(rt; packet.len(), 69);
+    match read_command(alloc, &packet, 13) {
+        Ok(Command::Create(fields)) => check_create(rt, &fields),
+        _ => return Err(NoMemory),
+    }
+    Ok(())
+}
+
 #[test]
 fn contents(rt: HostRuntime) -> Result<(), NoMemory> {
-    let packet = packet_of(rt.alloc(), ROWS[0].0, ROWS[0].1)?;
-    assert_eq!(rt; packet.len(), 69);
-    match read_command(rt.alloc(), &packet, 13) {
-        Ok(Command::Create(fields)) => check_create(&rt, &fields),
-        _ => return Err(NoMemory),
-    }
-    let packet = packet_of(
-        rt.alloc(),
-        14,
-        b"L\x00\x00\x00\x05T\x00\x00\x00\x01\x00\x00\x00\x02",
-    )?;
-    let time = TimeVal {
-        seconds: 1,
-        micros: 2,
-    };
-    match read_command(rt.alloc(), &packet, 13) {
-        Ok(
-            Command::Latency {
-                stream: 5,
-                time: read,
-            },
-        ) => assert_eq!(rt; read, time),
-        _ => return Err(NoMemory),
-    }
+    check_first(&rt, rt.alloc(), &ROWS)?;
     let packet = packet_of(rt.alloc(), 85, b"ta\x00tb\x00N")?;
     match read_command(rt.alloc(), &packet, 13) {
         Ok(Command::RemoveClient { keys }) => assert!(rt;

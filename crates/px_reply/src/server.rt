@@ -1,0 +1,177 @@
+//! Replies to the commands that ask what there is.
+
+ghost use Rattle.std.specs.Prelude.{◌≡◌, ◌++◌, ◌≤◌, All, IsTrue, IfOk, OnOk};
+ghost use Rattle.px_tag.specs.Item.{text, is_text, IsText};
+ghost use Rattle.px_reply.specs.Front.{reply_to, driver};
+ghost use Rattle.px_reply.specs.Info.{server_reply, with_sink, with_input, with_client, sinks_reply, inputs_reply, clients_reply};
+
+use crate::info::{ClientInfo, InputInfo, ServerInfo, SinkInfo};
+use crate::reply::reply;
+use px_tag::{Mem, Packet, PropList, TagWriter};
+use px_types::Text;
+use std::alloc::Global;
+
+/// An index that names nothing.
+const NOTHING: u32 = 0xFFFF_FFFF;
+
+/// What a sink can do: its latency is known, and its volume is in decibels (`PA_SINK_LATENCY`,
+/// `PA_SINK_DECIBEL_VOLUME` of `pulse/def.h`).
+const SINK_FLAGS: u32 = 0x0060;
+
+fn put_driver(writer: &mut TagWriter) -> Mem<()>
+    ensures { OnOk result (writer.new ≡ writer.old ++ driver) }
+{
+    writer.text(Some(b"pulse_rw"))
+}
+
+fn put_name(writer: &mut TagWriter, name: &Option<Text>) -> Mem<()>
+    requires { IsText name.now }
+    ensures { OnOk result (writer.new ≡ writer.old ++ text name.now) }
+{
+    match name {
+        None => writer.text(None),
+        Some(name) => writer.text(Some(name.as_slice())),
+    }
+}
+
+/// The reply to GET_SERVER_INFO.
+pub fn server_info(alloc: Global, tag: u32, _version: u16, info: &ServerInfo) -> Mem<Packet>
+    requires name { IsTrue (is_text info.now.name) }
+    requires channels { info.now.spec.channels ≤ 32 }
+    ensures { IfOk result (λ packet. packet ≡ server_reply tag info.now) }
+{
+    let mut writer = reply(alloc, tag)?;
+    put_driver(&mut writer)?;
+    writer.text(Some(b"1"))?;
+    writer.text(Some(b"pulse"))?;
+    writer.text(Some(b"localhost"))?;
+    writer.spec(&info.spec)?;
+    writer.text(Some(info.name.as_slice()))?;
+    writer.text(None)?;
+    writer.number(0)?;
+    Ok(writer.finish())
+}
+
+fn put_sink(alloc: Global, writer: &mut TagWriter, info: &SinkInfo) -> Mem<()>
+    requires name { IsTrue (is_text info.now.name) }
+    requires channels { info.now.spec.channels ≤ 32 }
+    ensures { OnOk result (writer.new ≡ with_sink writer.old info.now) }
+{
+    writer.number(info.index)?;
+    writer.text(Some(info.name.as_slice()))?;
+    writer.text(Some(info.name.as_slice()))?;
+    writer.spec(&info.spec)?;
+    writer.map(&info.map)?;
+    writer.number(NOTHING)?;
+    writer.cvolume(&info.volume)?;
+    writer.flag(info.mute)?;
+    writer.number(NOTHING)?;
+    writer.text(None)?;
+    writer.usec(0)?;
+    put_driver(writer)?;
+    writer.number(SINK_FLAGS)?;
+    writer.proplist(&PropList::new(alloc))?;
+    writer.usec(0)
+}
+
+fn put_input(writer: &mut TagWriter, info: &InputInfo) -> Mem<()>
+    requires name { IsText info.now.name }
+    requires channels { info.now.spec.channels ≤ 32 }
+    ensures { OnOk result (writer.new ≡ with_input writer.old info.now) }
+{
+    writer.number(info.index)?;
+    put_name(writer, &info.name)?;
+    writer.number(NOTHING)?;
+    writer.number(info.client)?;
+    writer.number(info.sink)?;
+    writer.spec(&info.spec)?;
+    writer.map(&info.map)?;
+    writer.cvolume(&info.volume)?;
+    writer.usec(0)?;
+    writer.usec(0)?;
+    writer.text(None)?;
+    put_driver(writer)?;
+    writer.flag(info.mute)?;
+    writer.proplist(&info.list)
+}
+
+fn put_client(writer: &mut TagWriter, info: &ClientInfo) -> Mem<()>
+    requires { IsText info.now.name }
+    ensures { OnOk result (writer.new ≡ with_client writer.old info.now) }
+{
+    writer.number(info.index)?;
+    put_name(writer, &info.name)?;
+    writer.number(NOTHING)?;
+    put_driver(writer)?;
+    writer.proplist(&info.list)
+}
+
+/// The reply to GET_SINK_INFO.
+pub fn sink_info(alloc: Global, tag: u32, _version: u16, info: &SinkInfo) -> Mem<Packet>
+    requires name { IsTrue (is_text info.now.name) }
+    requires channels { info.now.spec.channels ≤ 32 }
+    ensures { IfOk result (λ packet. packet ≡ with_sink (reply_to tag) info.now) }
+{
+    let mut writer = reply(alloc, tag)?;
+    put_sink(alloc, &mut writer, info)?;
+    Ok(writer.finish())
+}
+
+/// The reply to GET_SINK_INFO_LIST.
+pub fn sink_infos(alloc: Global, tag: u32, _version: u16, infos: &[SinkInfo]) -> Mem<Packet>
+    requires names { All (λ info. IsTrue (is_text info.name)) infos.now }
+    requires channels { All (λ info. info.spec.channels ≤ 32) infos.now }
+    ensures { IfOk result (λ packet. packet ≡ sinks_reply tag infos.now) }
+{
+    let mut writer = reply(alloc, tag)?;
+    for info in infos {
+        put_sink(alloc, &mut writer, info)?;
+    }
+    Ok(writer.finish())
+}
+
+/// The reply to GET_SINK_INPUT_INFO.
+pub fn input_info(alloc: Global, tag: u32, info: &InputInfo) -> Mem<Packet>
+    requires name { IsText info.now.name }
+    requires channels { info.now.spec.channels ≤ 32 }
+    ensures { IfOk result (λ packet. packet ≡ with_input (reply_to tag) info.now) }
+{
+    let mut writer = reply(alloc, tag)?;
+    put_input(&mut writer, info)?;
+    Ok(writer.finish())
+}
+
+/// The reply to GET_SINK_INPUT_INFO_LIST.
+pub fn input_infos(alloc: Global, tag: u32, infos: &[InputInfo]) -> Mem<Packet>
+    requires names { All (λ info. IsText info.name) infos.now }
+    requires channels { All (λ info. info.spec.channels ≤ 32) infos.now }
+    ensures { IfOk result (λ packet. packet ≡ inputs_reply tag infos.now) }
+{
+    let mut writer = reply(alloc, tag)?;
+    for info in infos {
+        put_input(&mut writer, info)?;
+    }
+    Ok(writer.finish())
+}
+
+/// The reply to GET_CLIENT_INFO.
+pub fn client_info(alloc: Global, tag: u32, info: &ClientInfo) -> Mem<Packet>
+    requires { IsText info.now.name }
+    ensures { IfOk result (λ packet. packet ≡ with_client (reply_to tag) info.now) }
+{
+    let mut writer = reply(alloc, tag)?;
+    put_client(&mut writer, info)?;
+    Ok(writer.finish())
+}
+
+/// The reply to GET_CLIENT_INFO_LIST.
+pub fn client_infos(alloc: Global, tag: u32, infos: &[ClientInfo]) -> Mem<Packet>
+    requires { All (λ info. IsText info.name) infos.now }
+    ensures { IfOk result (λ packet. packet ≡ clients_reply tag infos.now) }
+{
+    let mut writer = reply(alloc, tag)?;
+    for info in infos {
+        put_client(&mut writer, info)?;
+    }
+    Ok(writer.finish())
+}
