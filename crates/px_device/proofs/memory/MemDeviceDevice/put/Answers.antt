@@ -1,0 +1,37 @@
+use Rattle.std.proofs.Common.{◌-◌, ◌/◌, ◌≤◌, length, subst, sym, arith}
+use Rattle.px_device.specs.Device.{IsPut}
+use Rattle.px_device.specs.Memory.{state_of}
+use Rattle.px_device.proofs.Frames.{frames_inside, frames_put, frames_fit}
+use Rattle.px_device.proofs.memory.MemDeviceDevice.put.Goals as goal
+
+pub put_behind-requires-clause-inside : goal.put_behind-requires-clause-inside
+put_behind-requires-clause-inside c =
+    let d = c.self.inside in
+    let h = c.self.invariant in
+    let r = subst (λ v. IsPut (state_of v) c.args.at c.args.bytes.now) (sym c.self.view_is) c.requires in
+    rw c.bytes_of-from.ensures (frames_inside (length d.buffer.items) (c.args.at - d.consumed) d.consumed d.filled d.frame h.6 (omega (arith, h.3, r.not_near, r.no_gap)))
+
+pub put_behind-requires-clause-fits : goal.put_behind-requires-clause-fits
+put_behind-requires-clause-fits c =
+    let d = c.self.inside in
+    let h = c.self.invariant in
+    let r = subst (λ v. IsPut (state_of v) c.args.at c.args.bytes.now) (sym c.self.view_is) c.requires in
+    rw c.bytes_of-from.ensures (frames_fit (length c.args.bytes.now) c.args.at (length c.args.bytes.now / d.frame) d.consumed d.depth d.frame _ (omega (arith, h.3, r.not_near)) r.fit r.whole h.7)
+
+pub invariant_of-self : goal.invariant_of-self
+invariant_of-self c =
+    let d = c.self.inside in
+    let h = c.self.invariant in
+    let r = subst (λ v. IsPut (state_of v) c.args.at c.args.bytes.now) (sym c.self.view_is) c.requires in
+    let late : d.consumed ≤ c.args.at = omega (arith, h.3, r.not_near) in
+    let e = c.put_behind.ensures in (
+      h.0,
+      h.1,
+      h.2,
+      omega (arith, late),
+      r.fit,
+      r.countable,
+      rw (e.bytes, c.bytes_of-from.ensures) (frames_put d.buffer.items c.args.bytes.now c.args.at (length c.args.bytes.now / d.frame) d.consumed d.filled d.frame h.6 late r.no_gap r.whole),
+      omega (arith, h.7, e.room),
+      h.8,
+    )

@@ -1,0 +1,43 @@
+use Rattle.std.proofs.Common.{◌+◌, ◌-◌, ◌*◌, ◌≤◌, ℕ, length, take, ap, arith, length-append}
+use Rattle.std.proofs.lemmas.List.{length-take-le}
+use Rattle.px_device.specs.Memory.{left_after}
+use Rattle.px_device.proofs.Frames.{frames_inside, frames_left, due_waits, room_left}
+use Rattle.px_device.proofs.memory.MemDeviceDevice.sync.Goals as goal
+
+pub play_front-requires-clause-inside : goal.play_front-requires-clause-inside
+play_front-requires-clause-inside c =
+    let d = c.self.inside in
+    let there = due_waits d.armed d.each d.left (d.filled - d.consumed) in
+    let h = c.self.invariant in
+    rw c.bytes_of.ensures (frames_inside (length d.buffer.items) c.due-frames.result d.consumed d.filled d.frame h.6 (omega (arith, c.due-frames.ensures, there, h.3)))
+
+pub invariant_of-self-2 : goal.invariant_of-self-2
+invariant_of-self-2 c =
+    let d = c.self.inside in
+    let h = c.self.invariant in
+    let there = due_waits d.armed d.each d.left (d.filled - d.consumed) in
+    let fit : c.due-frames.result + d.consumed ≤ d.filled = omega (arith, c.due-frames.ensures, there, h.3) in
+    let inside = frames_inside (length d.buffer.items) c.due-frames.result d.consumed d.filled d.frame h.6 fit in
+    let room = room_left d.armed d.each d.left (d.filled - d.consumed) (length d.played.items) d.frame _ h.8 in
+    let e = c.play_front.ensures in (
+      h.0,
+      h.1,
+      h.2,
+      omega (arith, fit),
+      omega (arith, h.4),
+      h.5,
+      rw (e.rest, c.bytes_of.ensures) (frames_left d.buffer.items c.due-frames.result d.consumed d.filled d.frame h.6 fit),
+      omega (arith, h.7, e.room),
+      omega (
+        arith,
+        ap (length {A = ℕ}) e.played,
+        length-append d.played.items (take c.bytes_of.result d.buffer.items),
+        length-take-le c.bytes_of.result d.buffer.items (rw c.bytes_of.ensures inside),
+        c.bytes_of.ensures,
+        ap (λ (n : ℕ). n * d.frame) c.due-frames.ensures,
+        ap (λ (n : ℕ). (0 + n) * d.frame) c.left_of-self-inside.ensures,
+        ap (λ (n : ℕ). (0 + left_after d.armed d.left n) * d.frame) c.due-frames.ensures,
+        room,
+        e.played_room,
+      ),
+    )

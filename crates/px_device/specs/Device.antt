@@ -1,0 +1,95 @@
+-- A device: it plays the frames that were put ahead, and they may be put anew as long as they aren't too near (PulseAudio: the
+-- device's buffer of `pa_sink` in pulsecore/sink.h). Own: one record of all its numbers, with its bytes where it tells them.
+use Rattle.std.specs.Prelude.{◌≡◌, ℕ, ◌+◌, ◌-◌, ◌*◌, ◌/◌, ◌^◌, ◌≤◌, min, Bool, true, IsFalse, List, ◌++◌, length, take, drop, Option, None, Some}
+use Rattle.px_device.specs.declared.device.DeviceShape.{DeviceShape}
+use Rattle.px_ends.specs.Faults.{Rose}
+use Rattle.px_ends.specs.Told.{after_adding}
+
+pub record DeviceState : Type 0 where
+  -- the bytes of a frame
+  pub frame : ℕ
+  -- frames past consumed that aren't put anew, and the most that wait in the buffer
+  pub guard : ℕ
+  pub depth : ℕ
+  -- frames consumed, and frames put
+  pub consumed : ℕ
+  pub filled : ℕ
+  -- the bytes of the frames from consumed to filled, and all that were played, each where it is told
+  pub buffer : Option (List ℕ)
+  pub played : Option (List ℕ)
+  -- how many syncs failed, and whether one did: then all later ones do
+  pub faults : ℕ
+  pub failed : Bool
+
+-- the numbers that a shape may have: bytes of a frame, frames a second, guard and depth
+pub record IsShape (shape : DeviceShape) : Type 0 where
+  pub some_bytes : 1 ≤ shape.frame
+  pub few_bytes : shape.frame ≤ 128
+  pub some_rate : 1 ≤ shape.rate
+  pub high_rate : shape.rate ≤ 192000
+  pub some_depth : 1 ≤ shape.depth
+  pub low_depth : shape.depth ≤ 65536
+  pub guard_within : shape.guard ≤ shape.depth
+
+-- ---- a sync
+
+-- the bytes without the first n, where they are told
+abbrev pub without_front : ℕ → Option (List ℕ) → Option (List ℕ)
+without_front n None = None
+without_front n (Some bytes) = Some (drop n bytes)
+
+-- what was played once the first n bytes of a buffer were too; one that doesn't tell its buffer doesn't tell what it played
+abbrev pub with_front : ℕ → Option (List ℕ) → Option (List ℕ) → Option (List ℕ)
+with_front n None played = None
+with_front n (Some bytes) played = after_adding played (take n bytes)
+
+-- n frames on
+abbrev pub played_on : ℕ → DeviceState → DeviceState
+played_on n d = record d {
+  consumed = d.consumed + n;
+  buffer = without_front (n * d.frame) d.buffer;
+  played = with_front (n * d.frame) d.buffer d.played;
+}
+
+-- a sync that answers this count of frames consumed
+pub record Plays (consumed : ℕ) (before after : DeviceState) : Type 0 where
+  pub going : IsFalse before.failed
+  pub forward : before.consumed ≤ consumed
+  pub within : consumed ≤ before.filled
+  pub state : after ≡ played_on (consumed - before.consumed) before
+
+-- after a sync that failed when it had played n more bytes, with so many faults
+abbrev pub failed_at : ℕ → ℕ → DeviceState → DeviceState
+failed_at n faults d = record d { played = with_front n d.buffer d.played; faults = faults; failed = true }
+
+pub record Fails (before after : DeviceState) : Type 0 where
+  pub bytes : ℕ
+  pub faults : ℕ
+  pub counted : Rose before.faults faults
+  pub state : after ≡ failed_at bytes faults before
+
+-- ---- a put
+
+-- how many frames these bytes are
+abbrev pub frames_in : DeviceState → List ℕ → ℕ
+frames_in d bytes = length bytes / d.frame
+
+-- frames may be put at this place: not too near, with no gap, whole, and no more than fit
+pub record IsPut (d : DeviceState) (at : ℕ) (bytes : List ℕ) : Type 0 where
+  pub whole : length bytes ≡ frames_in d bytes * d.frame
+  pub not_near : min d.filled (d.consumed + d.guard) ≤ at
+  pub no_gap : at ≤ d.filled
+  pub fit : at + frames_in d bytes ≤ d.consumed + d.depth
+  pub countable : at + frames_in d bytes ≤ 2 ^ 61
+
+-- the bytes from place n on were put anew, where they are told
+abbrev pub put_from : ℕ → List ℕ → Option (List ℕ) → Option (List ℕ)
+put_from n more None = None
+put_from n more (Some bytes) = Some (take n bytes ++ more)
+
+-- the frames from this one on were put anew
+abbrev pub put_at : ℕ → List ℕ → DeviceState → DeviceState
+put_at at bytes d = record d {
+  filled = at + frames_in d bytes;
+  buffer = put_from ((at - d.consumed) * d.frame) bytes d.buffer;
+}
