@@ -1,10 +1,10 @@
 -- Messages and notices of the code as those of the definitions: numbers for their types, and a parcel as what a function gives of it.
-use Rattle.std.specs.Prelude.{ℕ, List, map}
+use Rattle.std.specs.Prelude.{map}
 use Rattle.px_sample.specs.declared.spec.Spec.{Spec}
 use Rattle.px_sample.specs.Format.{code_of}
 use Rattle.px_model.specs.Frame.{SampleSpec}
-use Rattle.px_model.specs.Message.{Message, NewStream as Opened, FrameWrite, InputFactors as Gains}
-use Rattle.px_model.specs.Notice.{Notice as Told, Latency as Where}
+use Rattle.px_model.specs.Message.{Message, NewStream as Opened, InputFactors as Gains}
+use Rattle.px_model.specs.Notice.{Notice as Told}
 use Rattle.px_msg.specs.declared.message.Msg.{Msg}
 use Rattle.px_msg.specs.declared.message.Msg.TheVariants.{New, Attach, Detach, Write, Cork, Flush, Trigger, Prebuf, Drain, Attr, Factors, Query}
 use Rattle.px_msg.specs.declared.message.NewStream.{NewStream}
