@@ -1,5 +1,5 @@
 -- How a server repairs the buffer attributes that a client asks for (PulseAudio: `fix_playback_buffer_attr` of pulsecore/protocol-native.c). What is asked is in bytes, in the order maxlength, tlength, prebuf, minreq; what is answered is in frames. Own: the numbers of step 1 to 4.
-use Rattle.std.specs.Prelude.{ℕ, ◌+◌, ◌-◌, ◌*◌, ◌/◌, cond, nat_eq, min, max, List, slice_index}
+use Rattle.std.specs.Prelude.{ℕ, ◌+◌, ◌-◌, ◌*◌, ◌/◌, cond, nat_eq, min, max, ◌≤◌, List, [], ◌∷◌, slice_index}
 use Rattle.px_model.specs.declared.data.Attr.{Attr}
 use Rattle.px_sample.specs.declared.spec.Spec.{Spec}
 use Rattle.px_sample.specs.Format.{frame_size_of}
@@ -53,3 +53,12 @@ with_tlength_of spec maxlength asked = with_minreq_of spec maxlength (tlength_of
 -- the attributes as repaired, each step from those before it
 abbrev pub repaired : Spec → List ℕ → Attr
 repaired spec asked = with_tlength_of spec (maxlength_of (frame_size_of spec) (slice_index asked 0)) asked
+
+-- what waits ahead at the most is at most MAXLENGTH bytes, and so is every other attribute
+abbrev pub IsWithinBytes : Spec → Attr → Type 0
+IsWithinBytes spec attr = attr.maxlength * frame_size_of spec ≤ MAXLENGTH
+
+-- the attributes in bytes, in the order in which they are asked
+abbrev pub bytes_of : Spec → Attr → List ℕ
+bytes_of spec attr =
+    attr.maxlength * frame_size_of spec ∷ attr.tlength * frame_size_of spec ∷ attr.prebuf * frame_size_of spec ∷ attr.minreq * frame_size_of spec ∷ []

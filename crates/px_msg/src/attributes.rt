@@ -1,9 +1,9 @@
 //! The repair of buffer attributes.
 
-ghost use Rattle.std.specs.Prelude.{◌≡◌, ◌≤◌, ◌<◌};
+ghost use Rattle.std.specs.Prelude.{◌≡◌, ◌≤◌, ◌*◌};
 ghost use Rattle.px_sample.specs.Format.{size_of, frame_size_of};
 ghost use Rattle.px_model.specs.Orderly.{IsRepaired};
-ghost use Rattle.px_msg.specs.Repair.{repaired, frames_asked, between_one_and, maxlength_of, tlength_of, minreq_of, prebuf_of};
+ghost use Rattle.px_msg.specs.Repair.{repaired, frames_asked, between_one_and, maxlength_of, tlength_of, minreq_of, prebuf_of, bytes_of, IsWithinBytes};
 
 use px_model::Attr;
 use px_sample::{Format, Spec};
@@ -29,6 +29,7 @@ fn frame_size(spec: &Spec) -> u32
     requires { 1 ≤ spec.now.channels }
     ensures value { result ≡ frame_size_of spec.now }
     ensures some { 1 ≤ result }
+    ensures few { result ≤ 1020 }
 {
     sample_size(spec.format) * u32::from(spec.channels)
 }
@@ -53,10 +54,12 @@ fn between_one_and(most: u32, frames: u64) -> u32
 }
 
 fn maxlength_of(size: u32, asked: u32) -> u32
-    requires { 1 ≤ size }
+    requires some { 1 ≤ size }
+    requires small { size ≤ 1020 }
     ensures value { result ≡ maxlength_of size asked }
     ensures some { 1 ≤ result }
     ensures few { result ≤ 4194304 }
+    ensures bytes { result * size ≤ 4194304 }
 {
     (asked.min(MAXLENGTH) / size).max(1)
 }
@@ -85,6 +88,7 @@ pub fn repair(spec: &Spec, asked: [u32; 4]) -> Attr
     requires { 1 ≤ spec.now.channels }
     ensures value { result ≡ repaired spec.now asked }
     ensures fits { IsRepaired result }
+    ensures bytes { IsWithinBytes spec.now result }
 {
     let size = frame_size(spec);
     let [maxlength, tlength, prebuf, minreq] = asked;
@@ -99,4 +103,30 @@ pub fn repair(spec: &Spec, asked: [u32; 4]) -> Attr
         prebuf,
         minreq,
     }
+}
+
+// So many frames in bytes, where that many at the most are within the bound.
+fn bytes_in(size: u32, most: u32, frames: u32) -> u32
+    requires within { frames ≤ most }
+    requires bytes { most * size ≤ 4194304 }
+    ensures { result ≡ frames * size }
+{
+    frames * size
+}
+
+/// Repaired attributes in bytes, in the order maxlength, tlength, prebuf, minreq, as replies carry them. Takes no
+/// memory.
+pub fn in_bytes(spec: &Spec, attr: &Attr) -> [u32; 4]
+    requires channels { 1 ≤ spec.now.channels }
+    requires repaired { IsRepaired attr.now }
+    requires bytes { IsWithinBytes spec.now attr.now }
+    ensures { result ≡ bytes_of spec.now attr.now }
+{
+    let size = frame_size(spec);
+    let most = attr.maxlength;
+    let maxlength = bytes_in(size, most, most);
+    let tlength = bytes_in(size, most, attr.tlength);
+    let prebuf = bytes_in(size, most, attr.prebuf);
+    let minreq = bytes_in(size, most, attr.minreq);
+    [maxlength, tlength, prebuf, minreq]
 }

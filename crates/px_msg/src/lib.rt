@@ -10,7 +10,7 @@ mod message;
 mod notice;
 mod parcel;
 
-pub use attributes::repair;
+pub use attributes::{in_bytes, repair};
 pub use factors::{FactorList, InputFactors};
 pub use law::views_agree;
 pub use message::{Msg, NewStream};

@@ -1,4 +1,4 @@
-use crate::{FactorList, InputFactors, Msg, NewStream, Notice, Parcel, Run, repair};
+use crate::{FactorList, InputFactors, Msg, NewStream, Notice, Parcel, Run, in_bytes, repair};
 use px_block::Blocks;
 use px_chmap::Feed;
 use px_sample::{Format, Spec};
@@ -69,13 +69,9 @@ fn attributes_are_repaired(rt: HostRuntime) {
             channels,
             rate,
         };
-        let size = spec.frame_size() as u64;
         if channels > 0 {
             let attr = repair(&spec, asked);
-            assert_eq!(rt; u64::from(attr.maxlength) * size, u64::from(repaired[0]));
-            assert_eq!(rt; u64::from(attr.tlength) * size, u64::from(repaired[1]));
-            assert_eq!(rt; u64::from(attr.prebuf) * size, u64::from(repaired[2]));
-            assert_eq!(rt; u64::from(attr.minreq) * size, u64::from(repaired[3]));
+            assert!(rt; in_bytes(&spec, &attr) == repaired);
         }
     }
 }
