@@ -1,0 +1,22 @@
+//! What goes between the core and a sink's mixer: messages one way, notices the other. `message` and `notice` have
+//! them, `factors` the factors of several inputs, `attributes` the repair of buffer attributes, and `parcel` what the
+//! core asks of a stream on its way from one sink to another.
+#![tactic(auto)]
+
+mod attributes;
+mod factors;
+mod law;
+mod message;
+mod notice;
+mod parcel;
+
+pub use attributes::{in_bytes, repair};
+pub use factors::{FactorList, InputFactors};
+pub use law::views_agree;
+pub use message::{Msg, NewStream};
+pub use notice::Notice;
+pub use parcel::Parcel;
+pub use px_model::{Attr, Run};
+
+#[cfg(test)]
+mod tests;

@@ -1,0 +1,88 @@
+//! Messages from the core to a sink.
+
+use crate::factors::FactorList;
+use px_block::Blocks;
+use px_chmap::Feed;
+use px_model::Attr;
+use px_sample::Spec;
+use px_types::InputId;
+use px_vol::Factors;
+
+/// What a new stream begins with.
+#[derive(Debug, Drop)]
+pub struct NewStream {
+    /// Its index as a sink input.
+    pub input: InputId,
+    /// The sample spec of what is written to it.
+    pub spec: Spec,
+    /// The stream channel that feeds each channel of the sink.
+    pub feed: Feed,
+    /// The factor for each channel of the sink.
+    pub factors: Factors,
+    /// Its buffer attributes, in frames, repaired.
+    pub attr: Attr,
+    /// Whether it begins corked.
+    pub corked: bool,
+}
+
+/// What the core tells a sink (PulseAudio: the messages of `pa_sink_input` and of the playback stream,
+/// `pulsecore/protocol-native.c`). `P` is the type of a parcel: a stream on its way from one sink to another.
+#[derive(Debug, Drop)]
+pub enum Msg<P> {
+    /// A new stream.
+    New(NewStream),
+    /// A stream comes from another sink, and has this feed and these factors from then on.
+    Attach {
+        input: InputId,
+        parcel: P,
+        feed: Feed,
+        factors: Factors,
+    },
+    /// A stream leaves.
+    Detach {
+        input: InputId,
+    },
+    /// Frames for a stream: the mode of the seek as on the wire, 0 to 3, its offset in frames, how many frames they
+    /// are, and their bytes.
+    Write {
+        input: InputId,
+        seek: u8,
+        offset: i64,
+        frames: u32,
+        bytes: Blocks,
+    },
+    /// A stream is corked or goes on.
+    Cork {
+        input: InputId,
+        on: bool,
+    },
+    /// What a stream holds is dropped.
+    Flush {
+        input: InputId,
+    },
+    /// A stream plays without waiting.
+    Trigger {
+        input: InputId,
+    },
+    /// A stream waits again.
+    Prebuf {
+        input: InputId,
+    },
+    /// The tag is answered once all is played.
+    Drain {
+        input: InputId,
+        tag: u32,
+    },
+    /// New buffer attributes, in frames, repaired.
+    Attr {
+        input: InputId,
+        attr: Attr,
+    },
+    /// New factors for some inputs.
+    Factors(FactorList),
+    /// The tag is answered with where the stream stands.
+    Query {
+        input: InputId,
+        tag: u32,
+    },
+}

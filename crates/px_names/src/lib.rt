@@ -1,0 +1,14 @@
+//! The names that a server keeps: its cookie, its sinks and its clients. `sinks` has the sinks' names, `client`
+//! a client with its mask and property list, and `names` all of them, and how a packet names a sink.
+#![tactic(auto)]
+
+mod client;
+mod names;
+mod sinks;
+
+pub use client::Client;
+pub use names::Names;
+pub use sinks::SinkNames;
+
+#[cfg(test)]
+mod tests;

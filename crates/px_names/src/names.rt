@@ -1,0 +1,212 @@
+//! All names of a server.
+
+ghost use Rattle.std.specs.Prelude.{◌≡◌, ◌↔◌, ◌<◌, ◌++◌, ◌∷◌, [], length, IsNone, IsTrue, IfOk, OnOk, OnErr};
+ghost use Rattle.std.specs.Option.{option_map};
+ghost use Rattle.px_names.specs.Clients.{is_on, has_index, client_on, client_numbered, change_first, mask_of, new_client, without_first, with_mask, with_update};
+ghost use Rattle.px_names.specs.Names.{Naming, sink_at, sink_called, sink_unnamed, sink_named};
+
+use crate::client::{Client, forget, set_mask, update};
+use crate::sinks::SinkNames;
+use px_tag::{Mode, PropList};
+use px_types::{ConnId, ErrorCode, Mem, SinkId, Text};
+use std::alloc::Global;
+use std::marker::Model;
+
+/// The index that names no sink (`PA_INVALID_INDEX`).
+pub const NO_INDEX: u32 = 0xFFFF_FFFF;
+
+/// The name that always names the default sink (`pulse/def.h`).
+pub const DEFAULT_NAME: &[u8] = b"@DEFAULT_SINK@";
+
+/// The names that a server keeps: its cookie, its sinks' names with the default sink, and its clients in order of
+/// connecting. A contract sees them as a record of these four.
+#[derive(Drop)]
+pub struct Names {
+    cookie: Text,
+    sinks: SinkNames,
+    fallback: SinkId,
+    clients: Vec<Client>,
+    alloc: Global,
+}
+
+impl Model for Names {
+    ghost use Rattle.std.specs.Prelude.{◌<◌, length};
+    ghost use Rattle.px_names.specs.Names.{Naming};
+
+    ghost Value = { Naming };
+
+    ghost view = { λ n. record { cookie = n.cookie; sinks = n.sinks; fallback = n.fallback; clients = n.clients.items } };
+
+    ghost invariant = { λ n. n.fallback.0 < length n.sinks };
+}
+
+impl Names {
+    /// A server with this cookie and these sinks, the first of them the default sink, and no client.
+    pub fn new(alloc: Global, cookie: &[u8], sinks: &SinkNames) -> Mem<Names>
+        ensures { IfOk result (λ made. made ≡ record { cookie = cookie.now; sinks = sinks.now; fallback = record { 0 = 0 }; clients = [] }) }
+    {
+        let cookie = Text::copied(alloc, cookie)?;
+        let _count = sinks.as_slice().len();
+        let sinks = sinks.copy(alloc)?;
+        Ok(Names {
+            cookie,
+            sinks,
+            fallback: SinkId(0),
+            clients: Vec::new(alloc),
+            alloc,
+        })
+    }
+
+    /// Whether this is the server's cookie, byte for byte. Takes no memory.
+    pub fn cookie_fits(&self, cookie: &[u8]) -> bool
+        ensures { IsTrue result ↔ (cookie.now ≡ self.now.cookie) }
+    {
+        self.cookie.as_slice() == cookie
+    }
+
+    // The sink with an index.
+    fn sink_at(&self, index: u32) -> Result<SinkId, ErrorCode>
+        ensures { result ≡ sink_at self.now index }
+    {
+        let count = self.sinks.as_slice().len();
+        if (index as usize) < count {
+            Ok(SinkId(index as u8))
+        } else {
+            Err(ErrorCode::NoEntity)
+        }
+    }
+
+    // The sink with a name.
+    fn sink_called(&self, name: &[u8]) -> Result<SinkId, ErrorCode>
+        ensures { result ≡ sink_called self.now name.now }
+    {
+        if name == DEFAULT_NAME {
+            return Ok(self.fallback);
+        }
+        let _count = self.sinks.as_slice().len();
+        match self.sinks.place_of(name) {
+            Some(place) => Ok(SinkId(place as u8)),
+            None => Err(ErrorCode::NoEntity),
+        }
+    }
+
+    // The sink where none is named.
+    fn sink_unnamed(&self, fallback: bool) -> Result<SinkId, ErrorCode>
+        ensures { result ≡ sink_unnamed self.now fallback }
+    {
+        if fallback {
+            Ok(self.fallback)
+        } else {
+            Err(ErrorCode::Invalid)
+        }
+    }
+
+    /// The sink that a packet names by an index, where that isn't `NO_INDEX`, or by a name, where there is one;
+    /// the name `DEFAULT_NAME` is the default sink's, and so is neither where `fallback` is set. `Invalid` exactly
+    /// where both are given, or neither and `fallback` isn't set; else `NoEntity` exactly where no sink has the
+    /// index or the name. Takes no memory. Source: `pulsecore/protocol-native.c`; own: that both are refused.
+    pub fn sink(&self, index: u32, name: Option<&[u8]>, fallback: bool) -> Result<SinkId, ErrorCode>
+        ensures { result ≡ sink_named self.now index (option_map (λ text. text.now) name.entry) fallback }
+    {
+        match name {
+            None if index == NO_INDEX => self.sink_unnamed(fallback),
+            None => self.sink_at(index),
+            Some(name) if index == NO_INDEX => self.sink_called(name),
+            Some(_) => Err(ErrorCode::Invalid),
+        }
+    }
+
+    /// The default sink. Takes no memory.
+    pub fn default(&self) -> SinkId
+        ensures value { result ≡ self.now.fallback }
+        ensures there { result.0 < length self.now.sinks }
+    {
+        self.fallback
+    }
+
+    /// Makes a sink that is there the default one. Takes no memory.
+    pub fn set_default(&mut self, sink: SinkId)
+        requires { sink.0 < length self.old.sinks }
+        ensures { self.new ≡ record self.old { fallback = sink } }
+    {
+        self.fallback = sink;
+    }
+
+    /// The sinks' names, in order. Takes no memory.
+    pub fn sinks(&self) -> &SinkNames
+        ensures { result.now ≡ self.now.sinks }
+    {
+        &self.sinks
+    }
+
+    /// The clients, in order of connecting. Takes no memory.
+    pub fn clients(&self) -> &[Client]
+        ensures { result.now ≡ self.now.clients }
+    {
+        self.clients.as_slice()
+    }
+
+    /// The client of a connection, where it has one. Takes no memory.
+    pub fn client_on(&self, conn: ConnId) -> Option<&Client>
+        ensures { option_map (λ client. client.now) result ≡ client_on self.now.clients conn }
+    {
+        self.clients.iter().find(|client| client.conn.0 == conn.0)
+    }
+
+    /// The client with an index, where there is one. Takes no memory.
+    pub fn client_numbered(&self, index: u32) -> Option<&Client>
+        ensures { option_map (λ client. client.now) result ≡ client_numbered self.now.clients index }
+    {
+        self.clients.iter().find(|client| client.index == index)
+    }
+
+    /// The facilities that a connection hears events of, a bit each; 0 where it has no client. Takes no memory.
+    pub fn mask(&self, conn: ConnId) -> u32
+        ensures { result ≡ mask_of (client_on self.now.clients conn) }
+    {
+        match self.client_on(conn) {
+            Some(client) => client.mask,
+            None => 0,
+        }
+    }
+
+    /// Sets the facilities that a connection hears events of. Takes no memory.
+    pub fn set_mask(&mut self, conn: ConnId, mask: u32)
+        ensures { self.new ≡ record self.old { clients = change_first (is_on conn) (with_mask mask) self.old.clients } }
+    {
+        set_mask(&mut self.clients, conn, mask);
+    }
+
+    /// Adds the client of a connection, with an index of its own, no facility and an empty property list. Where
+    /// memory runs out, nothing has changed.
+    pub fn admit(&mut self, conn: ConnId, index: u32) -> Mem<()>
+        requires connection { IsNone (client_on self.old.clients conn) }
+        requires index { IsNone (client_numbered self.old.clients index) }
+        ensures admitted { OnOk result (self.new ≡ record self.old { clients = self.old.clients ++ new_client conn index ∷ [] }) }
+        ensures unchanged { OnErr result (self.new ≡ self.old) }
+    {
+        let client = Client {
+            conn,
+            index,
+            mask: 0,
+            list: PropList::new(self.alloc),
+        };
+        self.clients.push(client)?;
+        Ok(())
+    }
+
+    /// Removes the client of a connection. Takes no memory.
+    pub fn forget(&mut self, conn: ConnId)
+        ensures { self.new ≡ record self.old { clients = without_first (is_on conn) self.old.clients } }
+    {
+        forget(&mut self.clients, conn);
+    }
+
+    /// Updates the property list of the client with an index. Where memory runs out, nothing has changed.
+    pub fn update(&mut self, index: u32, mode: Mode, list: &PropList) -> Mem<()>
+        ensures updated { OnOk result (self.new ≡ record self.old { clients = change_first (has_index index) (with_update mode list.now) self.old.clients }) }
+        ensures unchanged { OnErr result (self.new ≡ self.old) }
+    {
+        update(&mut self.clients, index, mode, list)
+    }
+}
