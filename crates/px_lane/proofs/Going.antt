@@ -1,12 +1,12 @@
 -- A queue of writes going forward.
-use Rattle.std.proofs.Common.{◌≡◌, ℕ, ◌+◌, ◌-◌, ◌<◌, ◌≤◌, min, List, length, drop, Bool, false, true, refl, ap, sym, ◌∙◌, subst, arith, cond, Option, length-drop}
-use Rattle.std.specs.Prelude.{ℤ, ◌==◌, nat_lt, ◌&&◌}
+use Rattle.std.proofs.Common.{◌≡◌, ℕ, ◌-◌, ◌<◌, ◌≤◌, min, List, length, drop, Bool, false, true, refl, ap, sym, ◌∙◌, arith, cond, Option, length-drop}
+use Rattle.std.specs.Prelude.{ℤ, ◌==◌}
 use Rattle.std.proofs.lemmas.Int.{ints}
 use Rattle.px_model.specs.Index.{onward, above, LAST, IsIndex}
 use Rattle.px_model.specs.Frame.{Frame}
 use Rattle.px_model.specs.Queue.{Queue, IsQueue, left_of, is_held_short}
-use Rattle.px_model.specs.Going.{queue_after, queue_on}
-use Rattle.px_model.proofs.Forward.{moved, moved_same, step_of, runs_out, on_step, after_on, after_short, left_fits, queue_after_keeps}
+use Rattle.px_model.specs.Going.{queue_after}
+use Rattle.px_model.proofs.Forward.{moved, moved_same, step_of, runs_out, on_step, after_on, left_fits}
 use Rattle.px_lane.specs.Written.{Written, held_of, queue_of, step_by}
 use Rattle.px_lane.proofs.Log.{held_onward}
 

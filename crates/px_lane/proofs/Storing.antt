@@ -1,16 +1,16 @@
 -- Frames are held over what is held, and the newest write that has an index is found.
-use Rattle.std.proofs.Common.{◌≡◌, ℕ, suc, zero, ◌+◌, ◌-◌, ◌<◌, ◌≤◌, max, List, [], ◌∷◌, ◌++◌, length, take, get_or, Bool, false, true, refl, ap, sym, ◌∙◌, subst, arith, cond, rules, Option, Some, None, inl, inr, ⊎_elim}
-use Rattle.std.specs.Prelude.{ℤ, ◌==◌, nat_lt, ◌&&◌, int_lt, ◌≤ℤ◌, ◌<ℤ◌, slice_get, IsSome}
+use Rattle.std.proofs.Common.{◌≡◌, ℕ, suc, ◌<◌, ◌≤◌, max, List, [], ◌∷◌, ◌++◌, length, take, get_or, Bool, false, true, refl, ap, sym, ◌∙◌, subst, arith, cond, rules, Option, Some, None, inl, inr, ⊎_elim}
+use Rattle.std.specs.Prelude.{ℤ, nat_lt, not, ◌&&◌, int_lt, ◌≤ℤ◌, slice_get, IsSome}
 use Rattle.std.proofs.lemmas.Int.{ints, by_lt_z}
-use Rattle.std.proofs.lemmas.Bool.{cases_lt, cond-true, cond-false}
+use Rattle.std.proofs.lemmas.Bool.{cases_lt}
 use Rattle.std.proofs.lemmas.Bool.Decides.{nat_tests}
 use Rattle.std.proofs.lemmas.Option.{slice_get_past}
 use Rattle.std.proofs.Math.Seq.{take-suc}
-use Rattle.px_model.specs.Index.{onward, above, LAST, IsIndex}
+use Rattle.px_model.specs.Index.{onward, above, LAST, IsIndex, is_index}
 use Rattle.px_model.specs.Frame.{Frame}
 use Rattle.px_model.specs.Held.{frame_of}
-use Rattle.px_model.specs.Queue.{Queue, IsQueue}
-use Rattle.px_model.specs.Write.{queue_with, stored}
+use Rattle.px_model.specs.Queue.{Queue, IsQueue, end_of as queue_end}
+use Rattle.px_model.specs.Write.{Outcome, queue_with, outcome_of, stored, overflow, outside}
 use Rattle.px_model.proofs.Places.{got_some}
 use Rattle.px_lane.specs.Written.{Written, end_of, frame_in, over, held_of, queue_of, reach_of}
 use Rattle.px_lane.proofs.Log.{held_more, held_trimmed, length_over, length_over_none, found_in, not_found_in, frame_there}
@@ -91,3 +91,28 @@ newer read ws j n w i f e fits is from some =
     ap (λ (x : List Written). frame_of read (held_of read x) i) (take_more ws j n w e fits is)
     ∙ ap (λ (h : List (Option Frame)). frame_of read h i) (held_more read (take j ws) w)
     ∙ over_some read (held_of read (take j ws)) w i f from some
+
+-- ---- the outcome
+
+index_shown : (i : ℤ) → IsIndex i → is_index i ≡ true
+index_shown i range = grind (arith, ints, range.0, range.1)
+
+-- frames in the range of indices are held, unless they go past the end and the limit
+pub outcome_in : (q : Queue) (limit : ℕ) (w : Written) (ahead : ℤ) → IsIndex w.at → IsIndex (end_of w)
+    → outcome_of q limit w.at (length w.frames) ahead ≡ cond (int_lt (queue_end q) (end_of w) && nat_lt limit (above (end_of w) ahead)) overflow stored
+outcome_in q limit w ahead first last =
+    ap (λ (b : Bool). cond (not (b && is_index (end_of w))) outside (cond (int_lt (queue_end q) (end_of w) && nat_lt limit (above (end_of w) ahead)) overflow stored)) (index_shown w.at first)
+    ∙ ap (λ (b : Bool). cond (not (true && b)) outside (cond (int_lt (queue_end q) (end_of w) && nat_lt limit (above (end_of w) ahead)) overflow stored)) (index_shown (end_of w) last)
+
+pub overflows_in : (q : Queue) (limit : ℕ) (w : Written) (ahead : ℤ) → IsIndex w.at → IsIndex (end_of w) → (int_lt (queue_end q) (end_of w) && nat_lt limit (above (end_of w) ahead)) ≡ true
+    → outcome_of q limit w.at (length w.frames) ahead ≡ overflow
+overflows_in q limit w ahead first last e = outcome_in q limit w ahead first last ∙ ap (λ (b : Bool). cond b overflow stored) e
+
+pub stores_in : (q : Queue) (limit : ℕ) (w : Written) (ahead : ℤ) → IsIndex w.at → IsIndex (end_of w) → (int_lt (queue_end q) (end_of w) && nat_lt limit (above (end_of w) ahead)) ≡ false
+    → outcome_of q limit w.at (length w.frames) ahead ≡ stored
+stores_in q limit w ahead first last e = outcome_in q limit w ahead first last ∙ ap (λ (b : Bool). cond b overflow stored) e
+
+pub same_prebuf : (o : Outcome) (q : Queue) (p : ℤ) (frames : List Frame) → q.prebuf ≡ Queue.prebuf (queue_with o q p frames)
+same_prebuf stored q p frames = refl
+same_prebuf overflow q p frames = refl
+same_prebuf outside q p frames = refl

@@ -26,7 +26,7 @@ impl Model for Chunk {
 
     ghost view = { λ c. record { at = c.at; frames = frames_of c.size c.count c.bytes.items } };
 
-    ghost invariant = { λ c. (length c.bytes.items ≡ c.count * c.size) × IsIndex (onward c.at c.count) };
+    ghost invariant = { λ c. (length c.bytes.items ≡ c.count * c.size) × IsIndex (onward c.at c.count) × IsIndex c.at };
 }
 
 // Frame k of these bytes.
@@ -58,7 +58,8 @@ impl Chunk {
 
     /// The index of its first frame.
     pub fn at(&self) -> Index
-        ensures { result ≡ self.now.at }
+        ensures value { result ≡ self.now.at }
+        ensures in_range { IsIndex self.now.at }
     {
         self.at
     }

@@ -76,6 +76,7 @@ impl Index {
     pub fn after(self, frames: u64) -> Option<Index>
         ensures some { IsSome result ↔ IsTrue (is_index (onward self frames)) }
         ensures value { IfSome result (λ index. index ≡ onward self frames) }
+        ensures from { IsIndex self }
     {
         let frame = self.frame as i128 + frames as i128;
         if frame > GREATEST as i128 {

@@ -5,7 +5,10 @@
 mod chunk;
 mod index;
 mod queue;
+mod run;
+mod stream;
 
 pub use chunk::Chunk;
 pub use index::Index;
-pub use queue::FrameQueue;
+pub use queue::{FrameQueue, Stored};
+pub use stream::Stream;

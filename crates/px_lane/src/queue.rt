@@ -1,17 +1,27 @@
 // The frames of a stream that wait to be played.
-ghost use Rattle.std.specs.Prelude.{◌≡◌, ◌≤ℤ◌, ◌&&◌, int_lt, nat_lt, IsTrue, IfOk, OnOk, OnErr, MatchOption, None, Some, true, false};
+ghost use Rattle.std.specs.Prelude.{◌≡◌, ◌≤ℤ◌, ◌&&◌, int_lt, nat_lt, length, IsTrue, IfOk, OnOk, OnErr, MatchOption, None, Some, true, false};
 ghost use Rattle.px_model.specs.Index.{above, onward, LAST};
 ghost use Rattle.px_model.specs.Held.{place, frame_of};
 ghost use Rattle.px_model.specs.Queue.{Queue, end_of, left_of, is_held_short};
 ghost use Rattle.px_model.specs.Going.{queue_given, queue_after};
 ghost use Rattle.px_model.specs.Write.{outcome_of, queue_with, stored, overflow};
 ghost use Rattle.px_model.specs.Control.{new_queue, not_held, held_again, emptied, with_prebuf};
+ghost use Rattle.px_lane.specs.Outcomes.{outcome_for};
 ghost use Rattle.px_lane.specs.Written.{Written, held_of, queue_of, step_by};
 
 use crate::{Chunk, Index};
 use px_types::{Mem, NoMemory};
 use std::alloc::Global;
 use std::marker::Model;
+
+/// How a write ended whose frames are in the range of indices.
+#[derive(Clone, Copy, Debug, PartialEq, Eq)]
+pub enum Stored {
+    /// The frames are held.
+    Whole,
+    /// They would wait past the limit, and aren't held.
+    Overflow,
+}
 
 /// A queue of frames (PulseAudio: `pa_memblockq`): the writes that stand from the read index on, the newest over the others.
 #[derive(Debug, Drop)]
@@ -107,6 +117,22 @@ impl FrameQueue {
         newest(self.writes.as_slice(), self.read, self.read.onward(ahead))
     }
 
+    /// Its read index so many frames of the sink on.
+    pub fn ahead(&self, frames: u64) -> Index
+        ensures { result ≡ (queue_after self.now frames).read }
+    {
+        if frames == 0 || self.is_held_short() {
+            return self.read;
+        }
+        let step = step(
+            self.prebuf,
+            frames,
+            Index::last().above(self.read),
+            self.left(),
+        );
+        self.read.onward(step)
+    }
+
     /// Goes so many frames of the sink forward.
     pub fn go(&mut self, frames: u64)
         ensures { self.new ≡ queue_after self.old frames }
@@ -151,6 +177,23 @@ impl FrameQueue {
     {
         self.hold = self.hold && prebuf > 0;
         self.prebuf = prebuf;
+    }
+
+    /// Writes frames, where at most `limit` frames may wait past the ahead index. The write index goes behind them also where they
+    /// aren't held. Without memory nothing changes. (Own: PulseAudio counts from the read index.)
+    pub fn write(&mut self, chunk: Chunk, limit: u64, ahead: Index) -> Mem<Stored>
+        ensures outcome { IfOk result (λ how. outcome_of self.old limit chunk.at (length chunk.frames) ahead ≡ outcome_for how) }
+        ensures after { IfOk result (λ how. self.new ≡ queue_with (outcome_for how) self.old chunk.at chunk.frames) }
+        ensures err { OnErr result (self.new ≡ self.old) }
+    {
+        let end = chunk.end();
+        chunk.at();
+        if self.overflows(end, limit, ahead) {
+            self.write = end;
+            return Ok(Stored::Overflow);
+        }
+        self.store(chunk)?;
+        Ok(Stored::Whole)
     }
 
     // Whether frames that end there go past the end of what is held and past the limit.

@@ -1,4 +1,4 @@
-use Rattle.std.proofs.Common.{◌≡◌, ◌-◌, suc, arith, ◌∙◌, sym, rules}
+use Rattle.std.proofs.Common.{◌-◌, arith, ◌∙◌}
 use Rattle.px_lane.proofs.Storing.{older, newer}
 use Rattle.px_lane.proofs.queue.newest.Goals as goal
 

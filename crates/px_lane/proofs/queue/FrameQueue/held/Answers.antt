@@ -1,4 +1,4 @@
-use Rattle.std.proofs.Common.{◌≡◌, None, subst, arith, rules}
+use Rattle.std.proofs.Common.{◌≡◌, None, subst, arith}
 use Rattle.px_model.specs.Held.{place}
 use Rattle.px_model.specs.Queue.{Queue}
 use Rattle.px_model.proofs.Places.{place_past}
