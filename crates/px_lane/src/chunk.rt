@@ -58,8 +58,7 @@ impl Chunk {
 
     /// The index of its first frame.
     pub fn at(&self) -> Index
-        ensures value { result ≡ self.now.at }
-        ensures in_range { IsIndex self.now.at }
+        ensures { result ≡ self.now.at }
     {
         self.at
     }
@@ -75,6 +74,7 @@ impl Chunk {
     pub fn end(&self) -> Index
         ensures value { result ≡ end_of self.now }
         ensures in_range { IsIndex (end_of self.now) }
+        ensures first_in_range { IsIndex self.now.at }
     {
         self.at.onward(self.count as u64)
     }

@@ -12,3 +12,6 @@ pub use chunk::Chunk;
 pub use index::Index;
 pub use queue::{FrameQueue, Stored};
 pub use stream::Stream;
+
+#[cfg(test)]
+mod tests;

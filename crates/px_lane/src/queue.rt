@@ -147,6 +147,13 @@ impl FrameQueue {
         self.read = self.read.onward(step);
     }
 
+    /// Lets go of the oldest writes that lie wholly before the read index. The queue stays what it is; only memory is given back.
+    pub fn forget(&mut self)
+        ensures { self.new ≡ self.old }
+    {
+        forget_past(&mut self.writes, self.read);
+    }
+
     /// Plays without waiting (PulseAudio: `pa_memblockq_prebuf_disable`).
     pub fn play_now(&mut self)
         ensures { self.new ≡ not_held self.old }
@@ -187,7 +194,6 @@ impl FrameQueue {
         ensures err { OnErr result (self.new ≡ self.old) }
     {
         let end = chunk.end();
-        chunk.at();
         if self.overflows(end, limit, ahead) {
             self.write = end;
             return Ok(Stored::Overflow);
@@ -249,4 +255,13 @@ fn newest<'a>(writes: &'a [Chunk], read: Index, index: Index) -> Option<&'a [u8]
         count -= 1;
     }
     None
+}
+
+// Removes the oldest writes while they end at or before the read index.
+fn forget_past(writes: &mut Vec<Chunk>, read: Index)
+    ensures { held_of read writes.new.items ≡ held_of read writes.old.items }
+{
+    while !writes.is_empty() && writes[0].end().above(read) == 0 {
+        writes.remove(0);
+    }
 }
