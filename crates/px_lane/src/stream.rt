@@ -1,0 +1,165 @@
+// A stream of a sink.
+ghost use Rattle.std.specs.Prelude.{◌≡◌, ◌≤◌, ◌-◌, length, IfOk, OnOk, OnErr};
+ghost use Rattle.px_model.specs.Going.{after, given_of, ahead_of};
+ghost use Rattle.px_model.specs.Control.{new_stream, corked_to, flushed, triggered, prebuffered, with_attr, with_factors};
+ghost use Rattle.px_model.specs.Orderly.{IsRepaired};
+ghost use Rattle.px_model.specs.Write.{outcome_of, written};
+ghost use Rattle.px_lane.specs.Outcomes.{outcome_for};
+ghost use Rattle.px_lane.specs.Streams.{sample_spec};
+
+use crate::run::run_after;
+use crate::{Chunk, FrameQueue, Index, Stored};
+use px_model::{Attr, Run};
+use px_sample::Spec;
+use px_types::{Mem, NoMemory};
+use std::alloc::Global;
+use std::marker::Model;
+
+/// A stream (PulseAudio: `pa_sink_input` with its playback stream): a queue of frames with what a client and the core set.
+#[derive(Debug, Drop)]
+pub struct Stream {
+    queue: FrameQueue,
+    corked: bool,
+    maxlength: u32,
+    tlength: u32,
+    minreq: u32,
+    requested: u32,
+    draining: Vec<u32>,
+    run: Run,
+    spec: Spec,
+    feed: Vec<u8>,
+    factors: Vec<u32>,
+}
+
+impl Model for Stream {
+    ghost use Rattle.px_model.specs.Stream.{Stream, IsStream};
+    ghost use Rattle.px_lane.specs.Streams.{sample_spec, stream_of};
+
+    ghost Value = { Stream };
+
+    ghost view = { λ s. stream_of s.queue s.corked s.maxlength s.tlength s.minreq s.requested s.draining.items s.run (sample_spec s.spec) s.feed.items s.factors.items };
+
+    ghost invariant = { λ s. IsStream (stream_of s.queue s.corked s.maxlength s.tlength s.minreq s.requested s.draining.items s.run (sample_spec s.spec) s.feed.items s.factors.items) };
+}
+
+impl Stream {
+    /// A new stream, with nothing written and `tlength` frames asked for. `feed` has a stream channel, and `factors` a factor in
+    /// 65536ths, for each channel of the sink. Takes no memory.
+    pub fn new(
+        alloc: Global,
+        spec: Spec,
+        feed: Vec<u8>,
+        factors: Vec<u32>,
+        attr: &Attr,
+        corked: bool,
+    ) -> Stream
+        requires { IsRepaired attr.now }
+        ensures { result ≡ new_stream (sample_spec spec) feed.items factors.items attr.now corked }
+    {
+        Stream {
+            queue: FrameQueue::new(alloc, attr.prebuf),
+            corked,
+            maxlength: attr.maxlength,
+            tlength: attr.tlength,
+            minreq: attr.minreq,
+            requested: attr.tlength,
+            draining: Vec::new(alloc),
+            run: Run::Quiet(0),
+            spec,
+            feed,
+            factors,
+        }
+    }
+
+    /// How many of the next frames it gives, the first of them.
+    pub fn given(&self, frames: u64) -> u64
+        ensures { result ≡ given_of self.now frames }
+    {
+        if self.corked {
+            0
+        } else {
+            self.queue.given(frames)
+        }
+    }
+
+    /// Goes so many frames of its sink forward.
+    pub fn go(&mut self, frames: u64)
+        ensures { self.new ≡ after self.old frames }
+    {
+        if frames == 0 || self.corked {
+            return;
+        }
+        self.run = run_after(self.run, self.queue.given(frames), frames);
+        self.queue.go(frames);
+    }
+
+    /// The ahead index: its read index once so many frames more of the sink are given.
+    pub fn ahead(&self, frames: u64) -> Index
+        ensures { result ≡ ahead_of self.now frames }
+    {
+        if self.corked {
+            self.queue.read_index()
+        } else {
+            self.queue.ahead(frames)
+        }
+    }
+
+    /// Writes frames, where so many frames of the sink are mixed ahead of its read index. Without memory nothing changes.
+    pub fn write(&mut self, chunk: Chunk, mixed: u64) -> Mem<Stored>
+        ensures outcome { IfOk result (λ how. outcome_of self.old.queue self.old.maxlength chunk.at (length chunk.frames) (ahead_of self.old mixed) ≡ outcome_for how) }
+        ensures after { OnOk result (self.new ≡ written self.old chunk.at chunk.frames (ahead_of self.old mixed)) }
+        ensures err { OnErr result (self.new ≡ self.old) }
+    {
+        let ahead = self.ahead(mixed);
+        let count = chunk.len();
+        let how = self.queue.write(chunk, self.maxlength as u64, ahead)?;
+        self.requested = less(self.requested, count);
+        Ok(how)
+    }
+
+    /// Corks it, or lets it play again.
+    pub fn cork(&mut self, on: bool)
+        ensures { self.new ≡ corked_to self.old on }
+    {
+        self.corked = on;
+    }
+
+    /// Drops all that is held, and waits again.
+    pub fn flush(&mut self)
+        ensures { self.new ≡ flushed self.old }
+    {
+        self.queue.flush();
+    }
+
+    /// Plays without waiting.
+    pub fn trigger(&mut self)
+        ensures { self.new ≡ triggered self.old }
+    {
+        self.queue.play_now();
+    }
+
+    /// Waits again, where it has prebuffering.
+    pub fn wait_again(&mut self)
+        ensures { self.new ≡ prebuffered self.old }
+    {
+        self.queue.wait_again();
+    }
+
+    /// Replaces the factors, one for each channel of the sink.
+    pub fn set_factors(&mut self, factors: Vec<u32>)
+        ensures { self.new ≡ with_factors self.old factors.items }
+    {
+        self.factors = factors;
+    }
+}
+
+// What is left of the frames asked for once so many were written.
+fn less(requested: u32, count: u64) -> u32
+    ensures { result ≡ requested - count }
+{
+    if count >= requested as u64 {
+        0
+    } else {
+        requested - count as u32
+    }
+}
