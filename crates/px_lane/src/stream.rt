@@ -1,10 +1,12 @@
 // A stream of a sink.
-ghost use Rattle.std.specs.Prelude.{◌≡◌, ◌≤◌, ◌-◌, length, IfOk, OnOk, OnErr};
+ghost use Rattle.std.specs.Prelude.{◌≡◌, ◌≤◌, ◌-◌, length, IfOk, OnOk, OnErr, MatchOption, None, Some};
 ghost use Rattle.px_model.specs.Going.{after, given_of, ahead_of};
 ghost use Rattle.px_model.specs.Control.{new_stream, attached, drained_by, corked_to, flushed, triggered, prebuffered, with_attr, with_factors};
 ghost use Rattle.px_model.specs.Orderly.{IsRepaired};
 ghost use Rattle.px_model.specs.Turn.{is_playing, has_ended, has_started, has_run_out, request_of, asked_stream};
 ghost use Rattle.px_model.specs.Write.{outcome_of, written};
+ghost use Rattle.px_model.specs.Stream.{frame_at};
+ghost use Rattle.px_lane.specs.Heard.{heard};
 ghost use Rattle.px_lane.specs.Outcomes.{outcome_for};
 ghost use Rattle.px_lane.specs.Streams.{sample_spec};
 
@@ -92,6 +94,16 @@ impl Stream {
         }
         self.run = run_after(self.run, self.queue.given(frames), frames);
         self.queue.go(frames);
+    }
+
+    /// The frame so many places ahead, as bytes; `None` where it gives none or silence there.
+    pub fn frame(&self, ahead: u64) -> Option<&[u8]>
+        ensures { MatchOption result (heard (frame_at self.now ahead) ≡ None) (λ frame. heard (frame_at self.now ahead) ≡ Some frame.now) }
+    {
+        if self.corked {
+            return None;
+        }
+        self.queue.frame(ahead)
     }
 
     /// The ahead index: its read index once so many frames more of the sink are given.
