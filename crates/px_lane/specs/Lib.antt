@@ -1,3 +1,4 @@
 pub mod Written
 pub mod Outcomes
 pub mod Streams
+pub mod Heard

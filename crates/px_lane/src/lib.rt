@@ -1,16 +1,18 @@
-//! A sink's streams as lists of writes, each looked up from its newest write back. It exports `Index` and the queue of frames,
-//! whose state is that of the definitions.
+//! The streams of a sink's mixer: each keeps a list of its writes, and a frame is looked up from the newest write back. It exports
+//! `Stream`, its `FrameQueue` with `Chunk`, `Stored` and `Index`, each with the state of the definitions, and `scaled`.
 #![tactic(auto)]
 
 mod chunk;
 mod index;
 mod queue;
 mod run;
+mod share;
 mod stream;
 
 pub use chunk::Chunk;
 pub use index::Index;
 pub use queue::{FrameQueue, Stored};
+pub use share::scaled;
 pub use stream::Stream;
 
 #[cfg(test)]

@@ -2,10 +2,11 @@
 ghost use Rattle.std.specs.Prelude.{◌≡◌, ◌≤ℤ◌, ◌&&◌, int_lt, nat_lt, length, IsTrue, IfOk, OnOk, OnErr, MatchOption, None, Some, true, false};
 ghost use Rattle.px_model.specs.Index.{above, onward, LAST};
 ghost use Rattle.px_model.specs.Held.{place, frame_of};
-ghost use Rattle.px_model.specs.Queue.{Queue, end_of, left_of, is_held_short};
+ghost use Rattle.px_model.specs.Queue.{Queue, end_of, left_of, is_held_short, queue_frame};
 ghost use Rattle.px_model.specs.Going.{queue_given, queue_after};
 ghost use Rattle.px_model.specs.Write.{outcome_of, queue_with, stored, overflow};
 ghost use Rattle.px_model.specs.Control.{new_queue, not_held, held_again, emptied, with_prebuf};
+ghost use Rattle.px_lane.specs.Heard.{heard};
 ghost use Rattle.px_lane.specs.Outcomes.{outcome_for};
 ghost use Rattle.px_lane.specs.Written.{Written, held_of, queue_of, step_by};
 
@@ -131,6 +132,20 @@ impl FrameQueue {
             self.left(),
         );
         self.read.onward(step)
+    }
+
+    /// The frame so many places ahead, as bytes; `None` where it gives none or silence there.
+    pub fn frame(&self, ahead: u64) -> Option<&[u8]>
+        ensures { MatchOption result (heard (queue_frame self.now ahead) ≡ None) (λ frame. heard (queue_frame self.now ahead) ≡ Some frame.now) }
+    {
+        if self.is_held_short() {
+            return None;
+        }
+        let left = self.left();
+        if ahead >= left {
+            return None;
+        }
+        self.held(ahead)
     }
 
     /// Goes so many frames of the sink forward.

@@ -1,9 +1,12 @@
 // A stream of a sink.
-ghost use Rattle.std.specs.Prelude.{◌≡◌, ◌≤◌, ◌-◌, length, IfOk, OnOk, OnErr};
+ghost use Rattle.std.specs.Prelude.{◌≡◌, ◌≤◌, ◌-◌, length, IfOk, OnOk, OnErr, MatchOption, None, Some};
 ghost use Rattle.px_model.specs.Going.{after, given_of, ahead_of};
-ghost use Rattle.px_model.specs.Control.{new_stream, corked_to, flushed, triggered, prebuffered, with_attr, with_factors};
+ghost use Rattle.px_model.specs.Control.{new_stream, attached, drained_by, corked_to, flushed, triggered, prebuffered, with_attr, with_factors};
 ghost use Rattle.px_model.specs.Orderly.{IsRepaired};
+ghost use Rattle.px_model.specs.Turn.{is_playing, has_ended, has_started, has_run_out, request_of, asked_stream};
 ghost use Rattle.px_model.specs.Write.{outcome_of, written};
+ghost use Rattle.px_model.specs.Stream.{frame_at};
+ghost use Rattle.px_lane.specs.Heard.{heard};
 ghost use Rattle.px_lane.specs.Outcomes.{outcome_for};
 ghost use Rattle.px_lane.specs.Streams.{sample_spec};
 
@@ -93,6 +96,16 @@ impl Stream {
         self.queue.go(frames);
     }
 
+    /// The frame so many places ahead, as bytes; `None` where it gives none or silence there.
+    pub fn frame(&self, ahead: u64) -> Option<&[u8]>
+        ensures { MatchOption result (heard (frame_at self.now ahead) ≡ None) (λ frame. heard (frame_at self.now ahead) ≡ Some frame.now) }
+    {
+        if self.corked {
+            return None;
+        }
+        self.queue.frame(ahead)
+    }
+
     /// The ahead index: its read index once so many frames more of the sink are given.
     pub fn ahead(&self, frames: u64) -> Index
         ensures { result ≡ ahead_of self.now frames }
@@ -115,6 +128,90 @@ impl Stream {
         let how = self.queue.write(chunk, self.maxlength as u64, ahead)?;
         self.requested = less(self.requested, count);
         Ok(how)
+    }
+
+    /// Whether nothing is left to play.
+    pub fn has_ended(&self) -> bool
+        ensures { result ≡ has_ended self.now }
+    {
+        self.queue.left() == 0
+    }
+
+    /// Whether it was silent and gives a frame of the next so many.
+    pub fn starts(&self, frames: u64) -> bool
+        ensures { result ≡ has_started self.now frames }
+    {
+        !is_playing(self.run) && self.given(frames) > 0
+    }
+
+    /// The frames that it asks for where so many are mixed ahead of its read index: all that are missing of `tlength`, where they are
+    /// at least `minreq`, else 0.
+    pub fn request(&self, mixed: u64) -> u32
+        ensures { result ≡ request_of self.now mixed }
+    {
+        let waiting = self.queue.write_index().above(self.ahead(mixed));
+        let missing = less(less(self.tlength, waiting), self.requested as u64);
+        if self.minreq <= missing { missing } else { 0 }
+    }
+
+    /// Asks for those frames; a stream that has ended has answered all its drains.
+    pub fn ask(&mut self, mixed: u64)
+        ensures { self.new ≡ asked_stream mixed self.old }
+    {
+        let request = self.request(mixed);
+        if self.has_ended() {
+            self.draining.clear();
+        }
+        self.requested += request;
+    }
+
+    /// Whether it is silent after the next so many frames, played or gave a frame, and has no drain to answer: an underrun.
+    pub fn runs_out(&self, frames: u64) -> bool
+        ensures { result ≡ has_run_out self.now frames }
+    {
+        let given = self.given(frames);
+        let later = if self.corked || frames == 0 {
+            self.run
+        } else {
+            run_after(self.run, given, frames)
+        };
+        !is_playing(later) && (is_playing(self.run) || given > 0) && self.draining.is_empty()
+    }
+
+    /// The tags of the drains that wait for an answer, in order.
+    pub fn draining(&self) -> &[u32]
+        ensures { result.now ≡ self.now.draining }
+    {
+        self.draining.as_slice()
+    }
+
+    /// Plays what is there without waiting, and keeps the tag until that has ended. Without memory nothing changes.
+    pub fn drain(&mut self, tag: u32) -> Mem<()>
+        ensures ok { OnOk result (self.new ≡ drained_by self.old tag) }
+        ensures err { OnErr result (self.new ≡ self.old) }
+    {
+        self.draining.push(tag)?;
+        self.queue.play_now();
+        Ok(())
+    }
+
+    /// Replaces the four buffer attributes.
+    pub fn set_attr(&mut self, attr: &Attr)
+        requires { IsRepaired attr.now }
+        ensures { self.new ≡ with_attr self.old attr.now }
+    {
+        self.queue.set_prebuf(attr.prebuf);
+        self.maxlength = attr.maxlength;
+        self.tlength = attr.tlength;
+        self.minreq = attr.minreq;
+    }
+
+    /// Goes on in another sink, with a feed and factors for its channels.
+    pub fn attach(&mut self, feed: Vec<u8>, factors: Vec<u32>)
+        ensures { self.new ≡ attached self.old feed.items factors.items }
+    {
+        self.feed = feed;
+        self.factors = factors;
     }
 
     /// Corks it, or lets it play again.
@@ -151,6 +248,13 @@ impl Stream {
     {
         self.factors = factors;
     }
+}
+
+// Whether a run is one of playing.
+fn is_playing(run: Run) -> bool
+    ensures { result ≡ is_playing run }
+{
+    matches!(run, Run::Playing(_))
 }
 
 // What is left of the frames asked for once so many were written.
