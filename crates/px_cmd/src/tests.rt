@@ -59,27 +59,30 @@ fn packet_of(alloc: Global, number: u8, fields: &[u8]) -> Result<Vec<u8>, NoMemo
     Ok(packet)
 }
 
+// Why a packet means no command, or `None` where it means one.
+fn fault_of(alloc: Global, packet: &[u8]) -> Option<CmdFault> {
+    match read_command(alloc, packet, 13) {
+        Ok(_) => None,
+        Err(fault) => Some(fault),
+    }
+}
+
 // The packet is read; each front of it is too short at its end; a byte behind it is left; and where it has a
 // field, another tag than the field's is wrong.
 fn check_packet(rt: &impl Abort, alloc: Global, packet: &mut Vec<u8>) -> Result<(), NoMemory> {
-    assert!(rt; read_command(alloc, packet, 13).is_ok());
-    for size in 0..packet.len() {
-        let short = read_command(alloc, &packet[..size], 13);
-        assert!(rt; matches!(short, Err(CmdFault::Protocol(TagFault::Short { at })) if at == size));
+    assert_eq!(rt; fault_of(alloc, packet), None);
+    for at in 0..packet.len() {
+        let short = CmdFault::Protocol(TagFault::Short { at });
+        assert_eq!(rt; fault_of(alloc, &packet[..at]), Some(short));
     }
-    let size = packet.len();
+    let at = packet.len();
     packet.push(b'N')?;
-    let left = read_command(alloc, packet, 13);
-    assert!(rt; matches!(left, Err(CmdFault::Protocol(TagFault::Left { at })) if at == size));
-    if size > 10 {
+    let left = CmdFault::Protocol(TagFault::Left { at });
+    assert_eq!(rt; fault_of(alloc, packet), Some(left));
+    if at > 10 {
         packet[10] = b'Z';
-        let wrong = read_command(alloc, packet, 13);
-        assert!(rt;
-            matches!(
-                wrong,
-                Err(CmdFault::Protocol(TagFault::WrongTag { at: 10 }))
-            )
-        );
+        let wrong = CmdFault::Protocol(TagFault::WrongTag { at: 10 });
+        assert_eq!(rt; fault_of(alloc, packet), Some(wrong));
     }
     Ok(())
 }
@@ -104,10 +107,10 @@ fn each_command(rt: HostRuntime) -> Result<(), NoMemory> {
 }
 
 // AUTH with a cookie of so many bytes.
-fn auth(alloc: Global, size: usize) -> Result<Vec<u8>, NoMemory> {
+fn auth(alloc: Global, size: u16) -> Result<Vec<u8>, NoMemory> {
     let mut packet = packet_of(alloc, 8, b"L\x00\x00\x00\x0dx\x00\x00")?;
-    packet.extend_from_slice(&(size as u16).to_be_bytes())?;
-    packet.resize(packet.len() + size % 0x10000, 1)?;
+    packet.extend_from_slice(&size.to_be_bytes())?;
+    packet.resize(packet.len() + usize::from(size), 1)?;
     Ok(packet)
 }
 
@@ -117,15 +120,16 @@ fn refusals(rt: HostRuntime) -> Result<(), NoMemory> {
     check_packet(&rt, rt.alloc(), &mut packet)?;
     let packet = auth(rt.alloc(), 255)?;
     assert_eq!(rt; packet.len(), 275);
-    let bad = read_command(rt.alloc(), &packet, 13);
-    assert!(rt; matches!(bad, Err(CmdFault::Protocol(TagFault::BadValue { at: 15 }))));
-    for (number, known) in [(5, true), (104, true), (105, false)] {
+    let bad = CmdFault::Protocol(TagFault::BadValue { at: 15 });
+    assert_eq!(rt; fault_of(rt.alloc(), &packet), Some(bad));
+    let rows = [
+        (5, CmdFault::Unsupported(5)),
+        (104, CmdFault::Unsupported(104)),
+        (105, CmdFault::Unknown(105)),
+    ];
+    for (number, fault) in rows {
         let packet = packet_of(rt.alloc(), number, b"Z")?;
-        match read_command(rt.alloc(), &packet, 13) {
-            Err(CmdFault::Unsupported(n)) => assert!(rt; known && n == number as u32),
-            Err(CmdFault::Unknown(n)) => assert!(rt; !known && n == number as u32),
-            _ => return Err(NoMemory),
-        }
+        assert_eq!(rt; fault_of(rt.alloc(), &packet), Some(fault));
     }
     Ok(())
 }
