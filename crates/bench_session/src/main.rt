@@ -1,0 +1,76 @@
+//! Reads a session of as many Bytes events of 64 KiB as its first word says, and prints the events and their bytes.
+//! `bench/session.sh` times it.
+#![tactic(auto)]
+
+use px_ends::{Calls, MemSource, Source};
+use px_session::{Event, ReadError, Reader, Step};
+use px_types::Text;
+use std::alloc::{AllocError, Global};
+use std::{env, io};
+
+/// The bytes of an event.
+const PAYLOAD: usize = 65_536;
+
+/// A header, a connection that sends so many events, and the end byte.
+fn session(alloc: Global, events: u32) -> Result<Vec<u8>, AllocError> {
+    let payload = vec![in alloc; 7u8; PAYLOAD]?;
+    let mut bytes = Vec::new(alloc);
+    bytes.extend_from_slice(b"PRS1")?;
+    bytes.extend_from_slice(&[0u8; 256])?;
+    bytes.extend_from_slice(
+        b"\x01\x03out\x03\x01\x00\x00\xbb\x80\x00\x00\x00\x00\x0a\x00\x00\x00\x64",
+    )?;
+    bytes.extend_from_slice(b"\x01\x00\x00\x00\x01")?;
+    for _ in 0..events {
+        bytes.extend_from_slice(b"\x02\x00\x00\x00\x01\x00\x01\x00\x00")?;
+        bytes.extend_from_slice(&payload)?;
+    }
+    bytes.push(0)?;
+    Ok(bytes)
+}
+
+/// How many events there are, and how many bytes they have.
+#[derive(Clone, Copy)]
+struct Count {
+    events: u64,
+    bytes: u64,
+}
+
+/// The count with an event.
+fn counted(before: Count, event: &Event) -> Count {
+    let mut count = before;
+    count.events = count.events.wrapping_add(1);
+    if let Event::Bytes(_, bytes) = event {
+        count.bytes = count.bytes.wrapping_add(bytes.len() as u64);
+    }
+    count
+}
+
+/// What is read of the session, up to its end.
+fn read<S: Source>(alloc: Global, source: &mut S) -> Result<Count, ReadError> {
+    let mut reader = Reader::new(alloc)?;
+    let mut count = Count {
+        events: 0,
+        bytes: 0,
+    };
+    for _ in 0..u64::MAX {
+        match reader.next(source)? {
+            Step::Header(_) => {}
+            Step::Event(event) => count = counted(count, &event),
+            Step::End => break,
+        }
+    }
+    Ok(count)
+}
+
+fn main(rt: HostRuntime) -> io::Result<()> {
+    let events: u32 = env::args(&rt)?
+        .nth(1)
+        .map_or(1, |word| word.as_str().parse().unwrap_or(1));
+    let session = session(rt.alloc(), events)?;
+    let mut source = MemSource::new(Text::from_vec(session), Calls::none(rt.alloc()));
+    match read(rt.alloc(), &mut source) {
+        Ok(count) => println!(rt; "{} events, {} bytes", count.events, count.bytes),
+        Err(_) => Err(io::Error::from(io::ErrorKind::InvalidData)),
+    }
+}
