@@ -3,7 +3,6 @@ use Rattle.std.specs.Prelude.{◌≡◌, ℕ, ◌<◌, ◌≤◌, Bool, true, fa
 use Rattle.std.specs.List.{AllByRecursion}
 use Rattle.std.specs.FinMap as finite
 use Rattle.px_types.specs.declared.ids.SinkId.{SinkId}
-use Rattle.px_sample.specs.declared.spec.Spec.{Spec}
 use Rattle.px_session.specs.declared.header.SinkSpec.{SinkSpec}
 use Rattle.px_model.specs.Frame.{SampleSpec}
 use Rattle.px_model.specs.Orderly.{Inputs, IsOrderly}
@@ -28,10 +27,10 @@ abbrev pub inputs_there : {P : Type 0} → State P → SinkId → Inputs
 inputs_there state sink = finite.from_entries (map (λ x. (x.index.0, sample_spec (Input.spec x))) (filter (is_held_by sink) state.inputs))
 
 -- the messages that wait for a sink are orderly from them, where spec_of reads a parcel's sample spec
-abbrev pub IsOrderlyFor : {P : Type 0} → (P → Spec) → State P → SinkId → SinkSpec → Type 0
+abbrev pub IsOrderlyFor : {P : Type 0} → (P → SampleSpec) → State P → SinkId → SinkSpec → Type 0
 IsOrderlyFor spec_of state sink s =
-    IsOrderly (λ p. sample_spec (spec_of p)) (sample_spec s.spec) (inputs_there state sink) (map (message_of (λ p. p)) (waiting_for state sink))
+    IsOrderly spec_of (sample_spec s.spec) (inputs_there state sink) (map (message_of (λ p. p)) (waiting_for state sink))
 
 -- for every sink
-abbrev pub IsOrderlyState : {P : Type 0} → (P → Spec) → State P → Type 0
+abbrev pub IsOrderlyState : {P : Type 0} → (P → SampleSpec) → State P → Type 0
 IsOrderlyState spec_of state = (index : ℕ) (s : SinkSpec) → slice_get state.sinks index ≡ Some s → IsOrderlyFor spec_of state (record { 0 = index }) s

@@ -3,7 +3,7 @@ use Rattle.std.specs.Prelude.{ℕ, List, [], ◌∷◌, ◌++◌, Option, None, 
 use Rattle.std.specs.List.{fold}
 use Rattle.px_types.specs.declared.ids.ConnId.{ConnId}
 use Rattle.px_types.specs.declared.ids.SinkId.{SinkId}
-use Rattle.px_sample.specs.declared.spec.Spec.{Spec}
+use Rattle.px_model.specs.Frame.{SampleSpec}
 use Rattle.px_frame.specs.declared.fault.FrameFault.{FrameFault}
 use Rattle.px_frame.specs.declared.frame.Frame.{Frame}
 use Rattle.px_frame.specs.declared.frame.Body.{Body}
@@ -56,7 +56,7 @@ pub data Step (P : Type 0) : Type 0 where
   out : SinkId → Step P
 
 -- what a step is answered, where spec_of reads a parcel's sample spec; a client that connects and a message that is handed out have no answer of this kind
-abbrev pub answer_of : {P : Type 0} → (P → Spec) → State P → Step P → Answer P
+abbrev pub answer_of : {P : Type 0} → (P → SampleSpec) → State P → Step P → Answer P
 answer_of spec_of state (connect conn) = ignored
 answer_of spec_of state (frame conn f) = frame_answer state conn f
 answer_of spec_of state (broken conn fault at) = ended (going_on state.connections conn) (broken_effects fault at)
@@ -67,7 +67,7 @@ answer_of spec_of state (notice sink n) = notice_answer spec_of state sink n
 answer_of spec_of state (out sink) = ignored
 
 -- the state after a step
-abbrev pub stepped : {P : Type 0} → (P → Spec) → State P → Step P → State P
+abbrev pub stepped : {P : Type 0} → (P → SampleSpec) → State P → Step P → State P
 stepped spec_of state (connect conn) = connected (connection_of state.connections conn) conn (kept state)
 stepped spec_of state (frame conn f) = answered state (answer_of spec_of state (frame conn f))
 stepped spec_of state (broken conn fault at) = answered state (answer_of spec_of state (broken conn fault at))
@@ -78,7 +78,7 @@ stepped spec_of state (notice sink n) = answered state (answer_of spec_of state 
 stepped spec_of state (out sink) = handed_out sink state
 
 -- its effects, in order
-abbrev pub effects_of : {P : Type 0} → (P → Spec) → State P → Step P → List Effect
+abbrev pub effects_of : {P : Type 0} → (P → SampleSpec) → State P → Step P → List Effect
 effects_of spec_of state (connect conn) = connect_effects (connection_of state.connections conn) conn state
 effects_of spec_of state (frame conn f) = (answer_of spec_of state (frame conn f)).effects
 effects_of spec_of state (broken conn fault at) = (answer_of spec_of state (broken conn fault at)).effects
@@ -89,9 +89,9 @@ effects_of spec_of state (notice sink n) = (answer_of spec_of state (notice sink
 effects_of spec_of state (out sink) = []
 
 -- all of them, one after the other
-abbrev pub stepped_by : {P : Type 0} → (P → Spec) → State P → List (Step P) → State P
+abbrev pub stepped_by : {P : Type 0} → (P → SampleSpec) → State P → List (Step P) → State P
 stepped_by spec_of state steps = fold (stepped spec_of) state steps
 
-abbrev pub effects_by : {P : Type 0} → (P → Spec) → State P → List (Step P) → List Effect
+abbrev pub effects_by : {P : Type 0} → (P → SampleSpec) → State P → List (Step P) → List Effect
 effects_by spec_of state [] = []
 effects_by spec_of state (s ∷ steps) = effects_of spec_of state s ++ effects_by spec_of (stepped spec_of state s) steps

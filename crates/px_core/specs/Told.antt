@@ -4,8 +4,9 @@ use Rattle.std.specs.List.{find, slice_get}
 use Rattle.px_types.specs.declared.ids.InputId.{InputId}
 use Rattle.px_types.specs.declared.ids.SinkId.{SinkId}
 use Rattle.px_tag.specs.Item.{number}
-use Rattle.px_sample.specs.declared.spec.Spec.{Spec}
-use Rattle.px_sample.specs.Format.{code_of, frame_size_of}
+use Rattle.px_sample.specs.Format.{frame_size_of}
+use Rattle.px_model.specs.Frame.{SampleSpec}
+use Rattle.px_msg.specs.View.{sample_spec}
 use Rattle.px_session.specs.declared.header.SinkSpec.{SinkSpec}
 use Rattle.px_msg.specs.declared.notice.Notice.{Notice}
 use Rattle.px_msg.specs.declared.notice.Notice.TheVariants.{Request, Overflow, Underflow, Started, Drained, Detached, Latency}
@@ -30,8 +31,8 @@ has_left Coming = false
 has_left There = false
 has_left Left = true
 
-abbrev pub same_spec : Spec → Spec → Bool
-same_spec a b = nat_eq (code_of a.format) (code_of b.format) && nat_eq a.channels b.channels && nat_eq a.rate b.rate
+abbrev pub same_spec : SampleSpec → SampleSpec → Bool
+same_spec a b = nat_eq a.format b.format && nat_eq a.channels b.channels && nat_eq a.rate b.rate
 
 -- the input with an index, where it is on the sink
 abbrev pub is_on : SinkId → InputId → Input → Bool
@@ -70,8 +71,8 @@ started_message x = message 86 ++ number x.stream
 -- ---- a sink has given up a stream
 
 -- it fits where the sink was told to, and the parcel is of the input
-abbrev pub gives_up : Spec → Input → Bool
-gives_up spec x = x.leaving && has_left x.way && same_spec spec x.spec
+abbrev pub gives_up : SampleSpec → Input → Bool
+gives_up spec x = x.leaving && has_left x.way && same_spec spec (sample_spec x.spec)
 
 abbrev pub given_up_on : {P : Type 0} → State P → Option SinkSpec → Input → Answer P
 given_up_on state None x = ignored
@@ -80,13 +81,13 @@ given_up_on state (Some sink) x = record {
   effects = [];
 }
 
-abbrev pub given_up : {P : Type 0} → State P → Option Input → Spec → Answer P
+abbrev pub given_up : {P : Type 0} → State P → Option Input → SampleSpec → Answer P
 given_up state None spec = ignored
 given_up state (Some x) spec = cond (gives_up spec x) (given_up_on state (slice_get state.sinks x.sink.0) x) ignored
 
 -- ---- the answer to a notice. No drain and no question waits yet, so what answers one has no effect.
 
-abbrev pub notice_answer : {P : Type 0} → (P → Spec) → State P → SinkId → Notice P → Answer P
+abbrev pub notice_answer : {P : Type 0} → (P → SampleSpec) → State P → SinkId → Notice P → Answer P
 notice_answer spec_of state sink (Request input frames) = told_of state.connections (input_on state.inputs sink input) (request_message frames)
 notice_answer spec_of state sink (Overflow input) = told_of state.connections (input_on state.inputs sink input) overflow_message
 notice_answer spec_of state sink (Underflow input) = told_of state.connections (input_on state.inputs sink input) underflow_message
