@@ -8,6 +8,7 @@ mod change;
 mod effect;
 mod effects;
 mod input;
+mod tables;
 
 pub use answer::Answer;
 pub use change::Change;
