@@ -7,6 +7,7 @@ mod answer;
 mod change;
 mod effect;
 mod effects;
+mod factors;
 mod found;
 mod input;
 mod tables;
