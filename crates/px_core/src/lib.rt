@@ -11,6 +11,7 @@ mod factors;
 mod found;
 mod input;
 mod tables;
+mod verbs;
 
 pub use answer::Answer;
 pub use change::Change;
