@@ -159,8 +159,9 @@ def wav(data, session, name):
     size, padding = len(samples), b"\0" * (len(samples) % 2)
     if size > 0xFFFFFF00:
         raise Wrong(f"a WAV file can't hold {size} bytes of sound")
-    fields = [(16, 4), (1, 2), (channels, 2), (rate, 4), (rate * channels * width, 4), (channels * width, 2), (8 * width, 2)]
-    form = b"".join(value.to_bytes(bytes_, "little") for value, bytes_ in fields)
+    frame = channels * width
+    fields = [(16, 4), (1, 2), (channels, 2), (rate, 4), (rate * frame, 4), (frame, 2), (8 * width, 2)]
+    form = b"".join(value.to_bytes(length, "little") for value, length in fields)
     body = b"WAVEfmt " + form + b"data" + size.to_bytes(4, "little") + samples + padding
     return b"RIFF" + len(body).to_bytes(4, "little") + body
 
