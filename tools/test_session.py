@@ -217,8 +217,9 @@ class Shown(unittest.TestCase):
                 self.again(session + b"\0")
 
     def test_fixed_format(self):
-        front = "create 1 tag 1 u8 2 44100 map 1,2 fix_format fix_channels fix_rate\n"
-        self.assertEqual(frame_of("data 1 stream 0 1", AUTH_TEXT + front)[20:], b"\1\0")
+        for flags, frame in (("", "8181"), ("fix_format", "01000100"), ("fix_channels", "81"), ("fix_rate", "8181")):
+            front = AUTH_TEXT + f"create 1 tag 1 u8 2 44100 map 1,2 {flags}\n"
+            self.assertEqual(frame_of("data 1 stream 0 1", front)[20:].hex(), frame)
 
     def test_every_cutting(self):
         frames = frame_of("name 1 tag 1 a=b") + frame_of(CREATE_TEXT) + wire.frame_of(0, 0, 0, b"\1\0" * 5)
