@@ -10,6 +10,7 @@ mod effects;
 mod factors;
 mod found;
 mod input;
+mod queues;
 mod tables;
 mod verbs;
 
