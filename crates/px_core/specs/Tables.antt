@@ -1,5 +1,5 @@
 -- The tables that the core keeps its state in, as the state, and the room that they have.
-use Rattle.std.specs.Prelude.{ℕ, ◌+◌, ◌≤◌, List, map, length, vec_len, vec_capacity}
+use Rattle.std.specs.Prelude.{ℕ, zero, suc, ◌+◌, ◌≤◌, List, [], ◌∷◌, map, length, vec_len, vec_capacity}
 use Rattle.std.specs.List.{AllByRecursion}
 use Rattle.std.specs.VecDeque.{deque_len, deque_capacity}
 use Rattle.std.specs.declared.collections.VecDeque.{VecDeque}
@@ -27,6 +27,12 @@ state_of t = record {
 
 abbrev pub HasPlaces : {P Z : Type 0} → ℕ → VecDeque (Msg P) Z → Type 0
 HasPlaces n q = deque_len q + n ≤ deque_capacity q
+
+-- in the queue at a place, where there is one
+abbrev pub HasPlacesAt : {P Z : Type 0} → ℕ → ℕ → List (VecDeque (Msg P) Z) → Type 0
+HasPlacesAt n place [] = Unit {0}
+HasPlacesAt n zero (q ∷ queues) = HasPlaces n q
+HasPlacesAt n (suc place) (q ∷ queues) = HasPlacesAt n place queues
 
 -- in each queue
 abbrev pub HavePlaces : {P Z : Type 0} → ℕ → List (VecDeque (Msg P) Z) → Type 0
