@@ -1,5 +1,5 @@
 -- A queue of several takes the place of another.
-use Rattle.std.proofs.Common.{arith, rules, ◌≡◌, ℕ, ◌+◌, ◌<◌, ◌≤◌, List, [], ◌∷◌, ◌++◌, suc, zero, length, get_or, slice_set, drop, map, Option, None, Some, IsNone, IsSome, refl, sym, ap}
+use Rattle.std.proofs.Common.{arith, rules, ◌≡◌, ℕ, ◌+◌, ◌<◌, ◌≤◌, List, [], ◌∷◌, ◌++◌, suc, zero, length, get_or, slice_set, drop, map, Option, None, Some, IsNone, IsSome, refl, sym, ap, ◌∙◌}
 use Rattle.std.specs.Option.{option_to_list}
 use Rattle.std.specs.VecDeque.{deque_len, deque_capacity}
 use Rattle.std.specs.declared.collections.VecDeque.{VecDeque}
@@ -16,6 +16,9 @@ pub get_lists : {P Z : Type 0} (queues : List (VecDeque (Msg P) Z)) (i : ℕ) (d
 get_lists [] i d within = absurd (omega arith)
 get_lists (x ∷ queues) zero d within = refl
 get_lists (x ∷ queues) (suc i) d within = get_lists queues i d (omega arith)
+
+pub set_lists_to : {P Z : Type 0} (queues : List (VecDeque (Msg P) Z)) (i : ℕ) (q : VecDeque (Msg P) Z) (ms : List (Msg P)) → q.items ≡ ms → lists_of (slice_set queues i q) ≡ slice_set (lists_of queues) i ms
+set_lists_to queues i q ms same = set_lists queues i q ∙ ap (slice_set (lists_of queues) i) same
 
 -- what isn't there isn't set
 pub set_past : {A : Type 0} (xs : List A) (i : ℕ) (a : A) → length xs ≤ i → slice_set xs i a ≡ xs

@@ -5,6 +5,7 @@
 
 mod answer;
 mod change;
+mod commit;
 mod effect;
 mod effects;
 mod factors;

@@ -2,7 +2,7 @@ use Rattle.std.proofs.Common.{arith, ◌+◌, ◌≤◌, ◌∷◌, [], get_or, 
 use Rattle.std.specs.VecDeque.{deque_len, deque_capacity}
 use Rattle.px_core.specs.Out.{rest_of}
 use Rattle.px_core.specs.Tables.{lists_of, HasPlaces}
-use Rattle.px_core.proofs.Waiting.{set_lists, get_lists, same_lists, set_places_at, rest_is_dropped, none_left, one_less}
+use Rattle.px_core.proofs.Waiting.{set_lists_to, get_lists, same_lists, set_places_at, rest_is_dropped, none_left, one_less}
 use Rattle.px_core.proofs.queues.take_first.Goals as goal
 
 pub returns-then-place-queues-clause-rest : goal.returns-then-place-queues-clause-rest
@@ -11,8 +11,7 @@ returns-then-place-queues-clause-rest g c = λ _.
     let i = c.args.sink.0 in
     let d = c.index-queues-place.result in
     let q = get_or xs i d in
-    set_lists xs i c.pop_front.new.self
-    ∙ ap (slice_set (lists_of xs) i) (c.pop_front.ensures.rest ∙ rest_is_dropped q.items ∙ ap rest_of (sym (get_lists xs i d c.if-place-queues.true)))
+    set_lists_to xs i c.pop_front.new.self (rest_of (get_or (lists_of xs) i [])) (rw (get_lists xs i d c.if-place-queues.true, ← rest_is_dropped q.items) c.pop_front.ensures.rest)
 
 pub returns-then-place-queues-clause-none : goal.returns-then-place-queues-clause-none
 returns-then-place-queues-clause-none g c = λ none.
