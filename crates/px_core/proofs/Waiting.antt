@@ -72,6 +72,14 @@ same_lists [] i d q same = refl
 same_lists (x ∷ queues) zero d q same = ap (λ ms. ms ∷ lists_of queues) same
 same_lists (x ∷ queues) (suc i) d q same = ap (λ lists. x.items ∷ lists) (same_lists queues i d q same)
 
+-- a queue with no less room takes the place of another
+pub kept_places : {P Z : Type 0} (n i k : ℕ) (queues : List (VecDeque (Msg P) Z)) (d q : VecDeque (Msg P) Z) → deque_len q ≡ deque_len (get_or queues k d) → deque_capacity (get_or queues k d) ≤ deque_capacity q → HasPlacesAt n i queues → HasPlacesAt n i (slice_set queues k q)
+kept_places n i k [] d q same more has = tt
+kept_places n zero zero (x ∷ queues) d q same more has = omega (arith, same, more, has)
+kept_places n (suc i) zero (x ∷ queues) d q same more has = has
+kept_places n zero (suc k) (x ∷ queues) d q same more has = has
+kept_places n (suc i) (suc k) (x ∷ queues) d q same more has = kept_places n i k queues d q same more has
+
 -- ---- the first of a list
 
 pub rest_is_dropped : {A : Type 0} (xs : List A) → drop 1 xs ≡ rest_of xs

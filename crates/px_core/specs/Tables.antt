@@ -1,5 +1,5 @@
 -- The tables that the core keeps its state in, as the state, and the room that they have.
-use Rattle.std.specs.Prelude.{ℕ, zero, suc, ◌+◌, ◌≤◌, List, [], ◌∷◌, map, length, vec_len, vec_capacity}
+use Rattle.std.specs.Prelude.{ℕ, zero, suc, ◌+◌, ◌≤◌, List, [], ◌∷◌, map, length, vec_len, vec_capacity, IfSome}
 use Rattle.std.specs.List.{AllByRecursion}
 use Rattle.std.specs.VecDeque.{deque_len, deque_capacity}
 use Rattle.std.specs.declared.collections.VecDeque.{VecDeque}
@@ -42,3 +42,7 @@ HavePlaces n queues = AllByRecursion (HasPlaces n) queues
 pub record HasRoom {P : Type 0} (n : ℕ) (t : Tables P) : Type 0 where
   pub inputs : vec_len t.inputs + n ≤ vec_capacity t.inputs
   pub posted : HavePlaces n t.posted.items
+
+-- the sink whose first message was handed out has room to take it back
+abbrev pub HasLent : {P : Type 0} → Tables P → Type 0
+HasLent t = IfSome t.lent (λ sink. HasPlacesAt 1 sink.0 t.posted.items)

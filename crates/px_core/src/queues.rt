@@ -63,6 +63,7 @@ pub(crate) fn put_first<P: Drop>(queues: &mut [VecDeque<Msg<P>>], sink: SinkId, 
 pub(crate) fn reserve<P>(queues: &mut [VecDeque<Msg<P>>], more: usize) -> Mem<()>
     ensures lists { lists_of queues.new ≡ lists_of queues.old }
     ensures room { OnOk result (HavePlaces more queues.new) }
+    ensures kept { (n i : ℕ) → HasPlacesAt n i queues.old → HasPlacesAt n i queues.new }
 {
     for place in 0..queues.len() {
         queues[place].reserve(more)?;
