@@ -1,0 +1,5 @@
+pub mod World
+pub mod Admission
+pub mod Event
+pub mod Output
+pub mod History
