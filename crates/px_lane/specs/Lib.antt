@@ -1,4 +1,5 @@
 pub mod Written
 pub mod Outcomes
+pub mod Room
 pub mod Streams
 pub mod Heard
