@@ -3,3 +3,5 @@ pub mod Outcomes
 pub mod Room
 pub mod Streams
 pub mod Heard
+pub mod Inputs
+pub mod Lists

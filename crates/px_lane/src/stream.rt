@@ -1,9 +1,9 @@
 // A stream of a sink.
-ghost use Rattle.std.specs.Prelude.{◌≡◌, ◌≤◌, ◌+◌, ◌-◌, length, OnOk, MatchOption, None, Some};
+ghost use Rattle.std.specs.Prelude.{◌≡◌, ◌≤◌, ◌+◌, ◌-◌, length, nat_le, OnOk, MatchOption, None, Some};
 ghost use Rattle.px_model.specs.Going.{after, given_of, ahead_of};
 ghost use Rattle.px_model.specs.Control.{new_stream, attached, drained_by, corked_to, flushed, triggered, prebuffered, with_attr, with_factors};
 ghost use Rattle.px_model.specs.Orderly.{IsRepaired};
-ghost use Rattle.px_model.specs.Turn.{is_playing, has_ended, has_started, has_run_out, request_of, asked_stream};
+ghost use Rattle.px_model.specs.Turn.{is_playing, has_ended, has_started, has_run_out, missing_of, request_of, asked_stream};
 ghost use Rattle.px_model.specs.Write.{outcome_of, written};
 ghost use Rattle.px_model.specs.Stream.{frame_at};
 ghost use Rattle.px_lane.specs.Heard.{heard};
@@ -167,14 +167,28 @@ impl Stream {
         !is_playing(self.run) && self.given(frames) > 0
     }
 
+    /// The frames of `tlength` that neither wait nor are asked for already, where so many are mixed ahead of its read index.
+    pub fn missing(&self, mixed: u64) -> u32
+        ensures { result ≡ missing_of self.now.stream mixed }
+    {
+        let waiting = self.queue.write_index().above(self.ahead(mixed));
+        less(less(self.tlength, waiting), self.requested as u64)
+    }
+
+    /// Whether so many frames are enough to be asked for at once.
+    pub fn asks_for(&self, missing: u32) -> bool
+        ensures { result ≡ nat_le self.now.stream.minreq missing }
+    {
+        self.minreq <= missing
+    }
+
     /// The frames that it asks for where so many are mixed ahead of its read index: all that are missing of `tlength`, where they are
     /// at least `minreq`, else 0.
     pub fn request(&self, mixed: u64) -> u32
         ensures { result ≡ request_of self.now.stream mixed }
     {
-        let waiting = self.queue.write_index().above(self.ahead(mixed));
-        let missing = less(less(self.tlength, waiting), self.requested as u64);
-        if self.minreq <= missing { missing } else { 0 }
+        let missing = self.missing(mixed);
+        if self.asks_for(missing) { missing } else { 0 }
     }
 
     /// Asks for those frames; a stream that has ended has answered all its drains.
