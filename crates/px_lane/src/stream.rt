@@ -296,9 +296,7 @@ impl Stream {
 }
 
 impl Parcel for Stream {
-    ghost use Rattle.px_lane.specs.Streams.{spec_of as coded};
-
-    ghost spec_of = { λ s. coded s.stream.spec };
+    ghost spec_of = { λ s. s.stream.spec };
 
     fn spec(&self) -> Spec {
         self.spec
