@@ -3,3 +3,4 @@ pub mod Admission
 pub mod Event
 pub mod Output
 pub mod History
+pub mod Running
