@@ -3,10 +3,15 @@
 //! made of.
 #![tactic(auto)]
 
+mod answer;
 mod change;
 mod effect;
+mod effects;
 mod input;
+mod tables;
 
+pub use answer::Answer;
 pub use change::Change;
 pub use effect::{Effect, Reason};
+pub use effects::Effects;
 pub use input::{Connection, Input, Way};
