@@ -5,9 +5,13 @@
 
 mod answer;
 mod change;
+mod client;
+mod delete;
 mod effect;
 mod effects;
 mod input;
+mod reply;
+mod streams;
 mod tables;
 
 pub use answer::Answer;
