@@ -4,12 +4,14 @@
 #![tactic(auto)]
 
 mod answer;
+mod asked;
 mod change;
 mod client;
 mod delete;
 mod effect;
 mod effects;
 mod input;
+mod refusals;
 mod reply;
 mod streams;
 mod tables;
