@@ -10,6 +10,8 @@ mod client;
 mod delete;
 mod effect;
 mod effects;
+mod factors;
+mod found;
 mod input;
 mod refusals;
 mod reply;
