@@ -4,12 +4,18 @@
 #![tactic(auto)]
 
 mod answer;
+mod asked;
 mod change;
+mod client;
+mod delete;
 mod effect;
 mod effects;
 mod factors;
 mod found;
 mod input;
+mod refusals;
+mod reply;
+mod streams;
 mod tables;
 mod verbs;
 
