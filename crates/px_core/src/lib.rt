@@ -4,14 +4,20 @@
 #![tactic(auto)]
 
 mod answer;
+mod asked;
 mod change;
+mod client;
 mod commit;
+mod delete;
 mod effect;
 mod effects;
 mod factors;
 mod found;
 mod input;
 mod queues;
+mod refusals;
+mod reply;
+mod streams;
 mod tables;
 mod verbs;
 

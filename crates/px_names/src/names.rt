@@ -3,7 +3,7 @@
 ghost use Rattle.std.specs.Prelude.{◌≡◌, ◌↔◌, ◌<◌, ◌++◌, ◌∷◌, [], length, IsTrue, IfOk, OnOk, OnErr};
 ghost use Rattle.std.specs.Option.{option_map};
 ghost use Rattle.px_names.specs.Clients.{is_on, has_index, client_on, client_numbered, change_first, mask_of, new_client, without_first, with_list, with_mask, with_update};
-ghost use Rattle.px_names.specs.Names.{Naming, sink_at, sink_called, sink_unnamed, sink_named};
+ghost use Rattle.px_names.specs.Names.{Naming, same_text, sink_at, sink_called, sink_unnamed, sink_named};
 
 use crate::client::{Client, forget, set_list, set_mask, update};
 use crate::sinks::SinkNames;
@@ -59,7 +59,8 @@ impl Names {
 
     /// Whether this is the server's cookie, byte for byte. Takes no memory.
     pub fn cookie_fits(&self, cookie: &[u8]) -> bool
-        ensures { IsTrue result ↔ (cookie.now ≡ self.now.cookie) }
+        ensures fits { IsTrue result ↔ (cookie.now ≡ self.now.cookie) }
+        ensures value { result ≡ same_text cookie.now self.now.cookie }
     {
         self.cookie.as_slice() == cookie
     }
