@@ -1,9 +1,7 @@
 -- The state after each change. A step is a list of changes, made one after the other.
-use Rattle.std.specs.Prelude.{ℕ, Bool, true, cond, List, [], ◌∷◌, ◌++◌, Option, None, Some, set, get_or}
+use Rattle.std.specs.Prelude.{ℕ, Bool, true, cond, List, [], ◌∷◌, ◌++◌, None, Some, set, get_or}
 use Rattle.std.specs.List.{fold}
 use Rattle.px_types.specs.declared.ids.ConnId.{ConnId}
-use Rattle.px_types.specs.declared.ids.InputId.{InputId}
-use Rattle.px_types.specs.declared.ids.SinkId.{SinkId}
 use Rattle.px_tag.specs.PropList.{Property}
 use Rattle.px_names.specs.declared.client.Client.{Client}
 use Rattle.px_names.specs.Clients.{is_on, change_first as change_client, without_first as without_client}

@@ -7,6 +7,8 @@ mod answer;
 mod asked;
 mod change;
 mod client;
+mod create;
+mod created;
 mod delete;
 mod effect;
 mod effects;
@@ -15,7 +17,6 @@ mod found;
 mod input;
 mod refusals;
 mod reply;
-mod streams;
 mod tables;
 
 pub use answer::Answer;
