@@ -1,3 +1,5 @@
+pub mod First
 pub mod Lengths
 pub mod Sinks
 pub mod Straight
+pub mod Waiting

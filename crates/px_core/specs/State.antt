@@ -1,5 +1,5 @@
 -- The state of the core: the names, the sinks, the connections with their streams, and the messages that wait for each sink (PulseAudio: `pa_core`, and `pa_native_connection` of pulsecore/protocol-native.c; that messages wait as data is own).
-use Rattle.std.specs.Prelude.{ℕ, Bool, not, ◌&&◌, nat_eq, List, [], map, filter, length, replicate, Option, None}
+use Rattle.std.specs.Prelude.{ℕ, Bool, false, not, cond, ◌&&◌, nat_eq, List, [], ◌∷◌, map, filter, length, replicate, Option, None, Some}
 use Rattle.std.specs.List.{find}
 use Rattle.px_types.specs.declared.ids.ConnId.{ConnId}
 use Rattle.px_types.specs.declared.ids.InputId.{InputId}

@@ -15,9 +15,11 @@ mod effects;
 mod factors;
 mod found;
 mod input;
+mod queues;
 mod refusals;
 mod reply;
 mod tables;
+mod verbs;
 
 pub use answer::Answer;
 pub use change::Change;
