@@ -8,6 +8,8 @@ mod asked;
 mod change;
 mod client;
 mod commit;
+mod create;
+mod created;
 mod delete;
 mod effect;
 mod effects;
