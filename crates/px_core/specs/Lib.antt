@@ -12,3 +12,4 @@ pub mod Told
 pub mod Out
 pub mod Step
 pub mod Orderly
+pub mod Keeps
