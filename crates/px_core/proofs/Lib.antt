@@ -1,3 +1,5 @@
 pub mod Firsts
 pub mod Entries
 pub mod InStep
+pub mod Verbs
+pub mod Handing
