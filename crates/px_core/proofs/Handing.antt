@@ -8,7 +8,6 @@ use Rattle.std.proofs.lemmas.List.{length-set, get_or_past, get_or-set_same, get
 use Rattle.std.proofs.lemmas.Option.{same_Some}
 use Rattle.px_types.specs.declared.ids.InputId.{InputId}
 use Rattle.px_types.specs.declared.ids.SinkId.{SinkId}
-use Rattle.px_sample.specs.declared.spec.Spec.{Spec}
 use Rattle.px_session.specs.declared.header.SinkSpec.{SinkSpec}
 use Rattle.px_model.specs.Frame.{SampleSpec}
 use Rattle.px_model.specs.Orderly.{Inputs, inputs_left, inputs_left_by}
@@ -25,15 +24,15 @@ use Rattle.px_core.specs.Out.{waiting_for, first_of, rest_of, next_for, on_way, 
 use Rattle.px_core.specs.Keeps.{AreInStep, AreAllInStep, IsInput, IsKept, IsRising, is_coming_to, is_coming, brought_by}
 use Rattle.px_core.proofs.Firsts.{no_cons, same_passed, all_change, found_test}
 use Rattle.px_core.proofs.Entries.{FirstGone, first_gone, Found, found_in, get_in, spec_in, removed, inserted, rising_change}
-use Rattle.px_core.proofs.InStep.{view, spec_by, unmoved, handed}
+use Rattle.px_core.proofs.InStep.{view, unmoved, handed}
 use Rattle.px_core.proofs.Verbs.{sink_at, set_in_step}
 
 -- ---- the inputs once a message was handed out
 
-pub record Past {P : Type 0} (spec_of : P → Spec) (k : ℕ) (inputs later : List Input) (m : Msg P) (rest : List (Msg P)) : Type 0 where
+pub record Past {P : Type 0} (spec_of : P → SampleSpec) (k : ℕ) (inputs later : List Input) (m : Msg P) (rest : List (Msg P)) : Type 0 where
   pub rising : IsRising later
   pub each : (sinks : List SinkSpec) (made : ℕ) → AllByRecursion (IsInput sinks made) inputs → AllByRecursion (IsInput sinks made) later
-  pub left : inputs_left (spec_by spec_of) (specs_of (filter (is_held_by (sink_at k)) inputs)) (view m) ≡ specs_of (filter (is_held_by (sink_at k)) later)
+  pub left : inputs_left spec_of (specs_of (filter (is_held_by (sink_at k)) inputs)) (view m) ≡ specs_of (filter (is_held_by (sink_at k)) later)
   pub settled : (index : ℕ) → map entry_of (settled_on later (sink_at index)) ≡ map entry_of (settled_on inputs (sink_at index))
   pub bring : flat_map (brought_by spec_of) rest ≡ map entry_of (filter (is_coming_to (sink_at k)) later)
   pub others_held : (index : ℕ) → (index ≡ k → ⊥) → map entry_of (filter (is_held_by (sink_at index)) later) ≡ map entry_of (filter (is_held_by (sink_at index)) inputs)
@@ -57,8 +56,8 @@ way_other p j way inputs y here k index on apart =
     (λ z. refl)
 
 -- a stream arrives
-arrived : {P : Type 0} (spec_of : P → Spec) (k : ℕ) (inputs : List Input) (m : Msg P) (rest : List (Msg P)) (j : InputId) (s : SampleSpec) → IsRising inputs
-    → inputs_left (spec_by spec_of) (specs_of (filter (is_held_by (sink_at k)) inputs)) (view m) ≡ finite.insert (specs_of (filter (is_held_by (sink_at k)) inputs)) j.0 s
+arrived : {P : Type 0} (spec_of : P → SampleSpec) (k : ℕ) (inputs : List Input) (m : Msg P) (rest : List (Msg P)) (j : InputId) (s : SampleSpec) → IsRising inputs
+    → inputs_left spec_of (specs_of (filter (is_held_by (sink_at k)) inputs)) (view m) ≡ finite.insert (specs_of (filter (is_held_by (sink_at k)) inputs)) j.0 s
     → FirstGone (is_coming_to (sink_at k)) (on_way There) j s (flat_map (brought_by spec_of) rest) inputs
     → Past spec_of k inputs (with_way j There inputs) m rest
 arrived spec_of k inputs m rest j s r puts it =
@@ -86,7 +85,7 @@ some_of None e = absurd (false≢true e)
 some_of (Some s) e = (s, refl)
 
 -- a stream leaves
-departed : {P : Type 0} (spec_of : P → Spec) (k : ℕ) (inputs : List Input) (rest : List (Msg P)) (j : InputId) → IsRising inputs
+departed : {P : Type 0} (spec_of : P → SampleSpec) (k : ℕ) (inputs : List Input) (rest : List (Msg P)) (j : InputId) → IsRising inputs
     → IsSome (finite.get (specs_of (filter (is_held_by (sink_at k)) inputs)) j.0)
     → flat_map (brought_by spec_of) rest ≡ map entry_of (filter (is_coming_to (sink_at k)) inputs)
     → Past spec_of k inputs (with_way j Left inputs) (Detach j) rest
@@ -111,8 +110,8 @@ departed spec_of k inputs rest j r names bring =
     }
 
 -- nothing moves
-stayed : {P : Type 0} (spec_of : P → Spec) (k : ℕ) (inputs : List Input) (m : Msg P) (rest : List (Msg P)) → IsRising inputs
-    → inputs_left (spec_by spec_of) (specs_of (filter (is_held_by (sink_at k)) inputs)) (view m) ≡ specs_of (filter (is_held_by (sink_at k)) inputs)
+stayed : {P : Type 0} (spec_of : P → SampleSpec) (k : ℕ) (inputs : List Input) (m : Msg P) (rest : List (Msg P)) → IsRising inputs
+    → inputs_left spec_of (specs_of (filter (is_held_by (sink_at k)) inputs)) (view m) ≡ specs_of (filter (is_held_by (sink_at k)) inputs)
     → flat_map (brought_by spec_of) rest ≡ map entry_of (filter (is_coming_to (sink_at k)) inputs)
     → Past spec_of k inputs inputs m rest
 stayed spec_of k inputs m rest r left bring = record {
@@ -125,11 +124,11 @@ stayed spec_of k inputs m rest r left bring = record {
   others_coming = λ index apart. refl;
 }
 
-pub past_by : {P : Type 0} (spec_of : P → Spec) (k : ℕ) (s : SinkSpec) (inputs : List Input) (m : Msg P) (rest : List (Msg P)) → IsRising inputs → AreInStep spec_of (sink_at k) s inputs (m ∷ rest) → Past spec_of k inputs (inputs_past m inputs) m rest
+pub past_by : {P : Type 0} (spec_of : P → SampleSpec) (k : ℕ) (s : SinkSpec) (inputs : List Input) (m : Msg P) (rest : List (Msg P)) → IsRising inputs → AreInStep spec_of (sink_at k) s inputs (m ∷ rest) → Past spec_of k inputs (inputs_past m inputs) m rest
 past_by spec_of k s inputs (New n) rest r h =
     arrived spec_of k inputs (New n) rest n.input (sample_spec n.spec) r refl (first_gone (is_coming_to (sink_at k)) (on_way There) (λ x. and_right (nat_eq x.sink.0 k) false refl) n.input (sample_spec n.spec) (flat_map (brought_by spec_of) rest) inputs r h.bring)
 past_by spec_of k s inputs (Attach j parcel feed factors) rest r h =
-    arrived spec_of k inputs (Attach j parcel feed factors) rest j (sample_spec (spec_of parcel)) r refl (first_gone (is_coming_to (sink_at k)) (on_way There) (λ x. and_right (nat_eq x.sink.0 k) false refl) j (sample_spec (spec_of parcel)) (flat_map (brought_by spec_of) rest) inputs r h.bring)
+    arrived spec_of k inputs (Attach j parcel feed factors) rest j (spec_of parcel) r refl (first_gone (is_coming_to (sink_at k)) (on_way There) (λ x. and_right (nat_eq x.sink.0 k) false refl) j (spec_of parcel) (flat_map (brought_by spec_of) rest) inputs r h.bring)
 past_by spec_of k s inputs (Detach j) rest r h = departed spec_of k inputs rest j r h.orderly.0 h.bring
 past_by spec_of k s inputs (Write input seek offset frames bytes) rest r h = stayed spec_of k inputs (Write input seek offset frames bytes) rest r refl h.bring
 past_by spec_of k s inputs (Cork input on) rest r h = stayed spec_of k inputs (Cork input on) rest r refl h.bring
@@ -155,7 +154,7 @@ list_there lists k x xs e =
     (λ (l : length lists ≤ k). absurd (no_cons x xs (sym e ∙ get_or_past lists k [] l)))
     (cases_lt k (length lists))
 
-past_keeps : {P : Type 0} (spec_of : P → Spec) (state : State P) (sink : SinkId) → IsKept spec_of state → (waiting : List (Msg P)) → get_or state.posted sink.0 [] ≡ waiting → IsKept spec_of (past (first_of waiting) sink state)
+past_keeps : {P : Type 0} (spec_of : P → SampleSpec) (state : State P) (sink : SinkId) → IsKept spec_of state → (waiting : List (Msg P)) → get_or state.posted sink.0 [] ≡ waiting → IsKept spec_of (past (first_of waiting) sink state)
 past_keeps spec_of state sink h [] e = h
 past_keeps spec_of state sink h (m ∷ rest) e =
     let l = list_there state.posted sink.0 m rest e in
@@ -178,5 +177,5 @@ past_keeps spec_of state sink h (m ∷ rest) e =
           (h.in_step index s g));
     }
 
-pub out_keeps : {P : Type 0} (spec_of : P → Spec) (state : State P) (sink : SinkId) → IsKept spec_of state → IsKept spec_of (handed_out sink state)
+pub out_keeps : {P : Type 0} (spec_of : P → SampleSpec) (state : State P) (sink : SinkId) → IsKept spec_of state → IsKept spec_of (handed_out sink state)
 out_keeps spec_of state sink h = past_keeps spec_of state sink h (get_or state.posted sink.0 []) refl

@@ -5,7 +5,6 @@ use Rattle.std.specs.FinMap as finite
 use Rattle.std.proofs.lemmas.List.{map-append, length-map, append-nil}
 use Rattle.std.proofs.lemmas.Grind.{flat_map-append}
 use Rattle.px_types.specs.declared.ids.SinkId.{SinkId}
-use Rattle.px_sample.specs.declared.spec.Spec.{Spec}
 use Rattle.px_session.specs.declared.header.SinkSpec.{SinkSpec}
 use Rattle.px_model.specs.Frame.{SampleSpec}
 use Rattle.px_model.specs.Message.{Message}
@@ -19,10 +18,7 @@ use Rattle.px_core.specs.Create.{MOST_ON_SINK}
 use Rattle.px_core.specs.Orderly.{entry_of, specs_of, is_held_by}
 use Rattle.px_core.specs.Keeps.{AreInStep, is_coming_to, brought_by}
 
--- a parcel's sample spec, and a message, as the definitions of sinks have them
-abbrev pub spec_by : {P : Type 0} → (P → Spec) → P → SampleSpec
-spec_by spec_of p = sample_spec (spec_of p)
-
+-- a message, as the definitions of sinks have it
 abbrev pub view : {P : Type 0} → Msg P → Message P
 view m = message_of (λ p. p) m
 
@@ -37,7 +33,7 @@ posted_orderly spec_of s there settled waiting m o e n f =
     orderly_joins spec_of s there waiting (m ∷ []) o
     (subst (λ inputs. NamesInput inputs m) (sym e) n, subst (λ inputs. Fits spec_of s inputs m) (sym e) f, tt)
 
-module _ {P : Type 0} (spec_of : P → Spec) (sink : SinkId) (s : SinkSpec) (inputs later : List Input) where
+module _ {P : Type 0} (spec_of : P → SampleSpec) (sink : SinkId) (s : SinkSpec) (inputs later : List Input) where
   abbrev there : List Input → Inputs
   there xs = specs_of (filter (is_held_by sink) xs)
 
@@ -58,8 +54,8 @@ module _ {P : Type 0} (spec_of : P → Spec) (sink : SinkId) (s : SinkSpec) (inp
   -- nothing changes for this sink
   pub unmoved : (waiting : List (Msg P)) → Held → Settled → Coming → AreInStep spec_of sink s inputs waiting → AreInStep spec_of sink s later waiting
   unmoved waiting held settled coming h = record {
-    orderly = subst (λ es. IsOrderly (spec_by spec_of) (sample_spec s.spec) (finite.from_entries es) (map view waiting)) (sym held) h.orderly;
-    leaves = subst (λ es. inputs_left_by (spec_by spec_of) (finite.from_entries es) (map view waiting) ≡ specs_of (settled_on later sink)) (sym held)
+    orderly = subst (λ es. IsOrderly spec_of (sample_spec s.spec) (finite.from_entries es) (map view waiting)) (sym held) h.orderly;
+    leaves = subst (λ es. inputs_left_by spec_of (finite.from_entries es) (map view waiting) ≡ specs_of (settled_on later sink)) (sym held)
         (h.leaves ∙ ap finite.from_entries (sym settled));
     bring = h.bring ∙ sym coming;
     few = same_few settled h.few;
@@ -69,18 +65,18 @@ module _ {P : Type 0} (spec_of : P → Spec) (sink : SinkId) (s : SinkSpec) (inp
   pub posted : (waiting : List (Msg P)) (m : Msg P) → Held
       → map entry_of (filter (is_coming_to sink) later) ≡ map entry_of (filter (is_coming_to sink) inputs) ++ brought_by spec_of m
       → NamesInput (specs_of (settled_on inputs sink)) (view m)
-      → Fits (spec_by spec_of) (sample_spec s.spec) (specs_of (settled_on inputs sink)) (view m)
-      → inputs_left (spec_by spec_of) (specs_of (settled_on inputs sink)) (view m) ≡ specs_of (settled_on later sink)
+      → Fits spec_of (sample_spec s.spec) (specs_of (settled_on inputs sink)) (view m)
+      → inputs_left spec_of (specs_of (settled_on inputs sink)) (view m) ≡ specs_of (settled_on later sink)
       → length (settled_on later sink) ≤ MOST_ON_SINK
       → AreInStep spec_of sink s inputs waiting → AreInStep spec_of sink s later (waiting ++ m ∷ [])
   posted waiting m held coming names fits settled few h = record {
-    orderly = subst (λ ms. IsOrderly (spec_by spec_of) (sample_spec s.spec) (there later) ms) (sym (map-append view waiting (m ∷ [])))
-        (subst (λ es. IsOrderly (spec_by spec_of) (sample_spec s.spec) (finite.from_entries es) (map view waiting ++ view m ∷ [])) (sym held)
-        (posted_orderly (spec_by spec_of) (sample_spec s.spec) (there inputs) (specs_of (settled_on inputs sink)) (map view waiting) (view m) h.orderly h.leaves names fits));
-    leaves = ap (inputs_left_by (spec_by spec_of) (there later)) (map-append view waiting (m ∷ []))
-        ∙ left_by_joined (spec_by spec_of) (there later) (map view waiting) (view m ∷ [])
-        ∙ ap (λ es. inputs_left (spec_by spec_of) (inputs_left_by (spec_by spec_of) (finite.from_entries es) (map view waiting)) (view m)) held
-        ∙ ap (λ left. inputs_left (spec_by spec_of) left (view m)) h.leaves
+    orderly = subst (λ ms. IsOrderly spec_of (sample_spec s.spec) (there later) ms) (sym (map-append view waiting (m ∷ [])))
+        (subst (λ es. IsOrderly spec_of (sample_spec s.spec) (finite.from_entries es) (map view waiting ++ view m ∷ [])) (sym held)
+        (posted_orderly spec_of (sample_spec s.spec) (there inputs) (specs_of (settled_on inputs sink)) (map view waiting) (view m) h.orderly h.leaves names fits));
+    leaves = ap (inputs_left_by spec_of (there later)) (map-append view waiting (m ∷ []))
+        ∙ left_by_joined spec_of (there later) (map view waiting) (view m ∷ [])
+        ∙ ap (λ es. inputs_left spec_of (inputs_left_by spec_of (finite.from_entries es) (map view waiting)) (view m)) held
+        ∙ ap (λ left. inputs_left spec_of left (view m)) h.leaves
         ∙ settled;
     bring = flat_map-append (brought_by spec_of) waiting (m ∷ [])
         ∙ (λ i. h.bring i ++ append-nil (brought_by spec_of m) i)
@@ -90,13 +86,13 @@ module _ {P : Type 0} (spec_of : P → Spec) (sink : SinkId) (s : SinkSpec) (inp
 
   -- the first message is handed out
   pub handed : (waiting : List (Msg P)) (m : Msg P)
-      → inputs_left (spec_by spec_of) (there inputs) (view m) ≡ there later
+      → inputs_left spec_of (there inputs) (view m) ≡ there later
       → Settled
       → flat_map (brought_by spec_of) waiting ≡ map entry_of (filter (is_coming_to sink) later)
       → AreInStep spec_of sink s inputs (m ∷ waiting) → AreInStep spec_of sink s later waiting
   handed waiting m left settled bring h = record {
-    orderly = subst (λ inputs. IsOrderly (spec_by spec_of) (sample_spec s.spec) inputs (map view waiting)) left h.orderly.2;
-    leaves = ap (λ left. inputs_left_by (spec_by spec_of) left (map view waiting)) (sym left) ∙ h.leaves ∙ ap finite.from_entries (sym settled);
+    orderly = subst (λ inputs. IsOrderly spec_of (sample_spec s.spec) inputs (map view waiting)) left h.orderly.2;
+    leaves = ap (λ left. inputs_left_by spec_of left (map view waiting)) (sym left) ∙ h.leaves ∙ ap finite.from_entries (sym settled);
     bring = bring;
     few = same_few settled h.few;
   }

@@ -3,3 +3,4 @@ pub mod Entries
 pub mod InStep
 pub mod Verbs
 pub mod Handing
+pub mod Rows

@@ -9,8 +9,8 @@ use Rattle.std.proofs.lemmas.List.Elements.{filter-append}
 use Rattle.std.proofs.lemmas.Option.{same_Some}
 use Rattle.px_types.specs.declared.ids.InputId.{InputId}
 use Rattle.px_types.specs.declared.ids.SinkId.{SinkId}
-use Rattle.px_sample.specs.declared.spec.Spec.{Spec}
 use Rattle.px_session.specs.declared.header.SinkSpec.{SinkSpec}
+use Rattle.px_model.specs.Frame.{SampleSpec}
 use Rattle.px_model.specs.Orderly.{Inputs, NamesInput, Fits, inputs_left, IsWhole, IsNewStream, AreFactors}
 use Rattle.px_model.specs.Message.{Message, InputFactors as Gains, FrameWrite}
 use Rattle.px_msg.specs.declared.message.Msg.{Msg}
@@ -29,14 +29,14 @@ use Rattle.px_core.specs.Orderly.{entry_of, specs_of, is_held_by, is_there}
 use Rattle.px_core.specs.Keeps.{AreInStep, AreAllInStep, IsInput, IsKept, IsRising, is_coming_to, is_coming, brought_by}
 use Rattle.px_core.proofs.Firsts.{same_passed, same_left, no_more_pass, all_change, all_drop, all_push, all_weaken, found_all, found_test}
 use Rattle.px_core.proofs.Entries.{spec_in, get_in, here_in, removed, inserted, pushed, none_below, few_specs, rising_change, rising_drop, rising_push}
-use Rattle.px_core.proofs.InStep.{view, spec_by, unmoved, posted}
+use Rattle.px_core.proofs.InStep.{view, unmoved, posted}
 
 abbrev pub sink_at : ℕ → SinkId
 sink_at k = record { 0 = k }
 
 -- ---- one list of messages is another
 
-pub set_in_step : {P : Type 0} (spec_of : P → Spec) (sinks : List SinkSpec) (inputs : List Input) (lists : List (List (Msg P))) (k : ℕ) (w : List (Msg P)) → k < length lists
+pub set_in_step : {P : Type 0} (spec_of : P → SampleSpec) (sinks : List SinkSpec) (inputs : List Input) (lists : List (List (Msg P))) (k : ℕ) (w : List (Msg P)) → k < length lists
     → ((s : SinkSpec) → slice_get sinks k ≡ Some s → AreInStep spec_of (sink_at k) s inputs w)
     → ((index : ℕ) (s : SinkSpec) → (index ≡ k → ⊥) → slice_get sinks index ≡ Some s → AreInStep spec_of (sink_at index) s inputs (get_or lists index []))
     → AreAllInStep spec_of sinks inputs (set lists k w)
@@ -58,19 +58,19 @@ settled_spec inputs r k x here settled =
     ∙ here_in (is_settled (sink_at k)) x.index inputs x here
     ∙ ap (λ b. cond b (Some (sample_spec x.spec)) None) settled
 
-on_own : (x : Input) → x.leaving ≡ false → is_settled (sink_at x.sink.0) x ≡ true
+pub on_own : (x : Input) → x.leaving ≡ false → is_settled (sink_at x.sink.0) x ≡ true
 on_own x goes = and_from (nat_eq x.sink.0 x.sink.0) (not x.leaving) (eq-eqb x.sink.0 x.sink.0 refl) (ap not goes)
 
-on_other : (k : ℕ) (x : Input) (b : Bool) → (k ≡ x.sink.0 → ⊥) → (nat_eq x.sink.0 k && b) ≡ false
+pub on_other : (k : ℕ) (x : Input) (b : Bool) → (k ≡ x.sink.0 → ⊥) → (nat_eq x.sink.0 k && b) ≡ false
 on_other k x b h = and_left (nat_eq x.sink.0 k) b (ne_eqb x.sink.0 k (λ (e : x.sink.0 ≡ k). h (sym e)))
 
 -- ---- a message that leaves the inputs as they are
 
-pub same_inputs_keep : {P : Type 0} (spec_of : P → Spec) (state : State P) (sink : SinkId) (m : Msg P) → IsKept spec_of state → sink.0 < length state.sinks
+pub same_inputs_keep : {P : Type 0} (spec_of : P → SampleSpec) (state : State P) (sink : SinkId) (m : Msg P) → IsKept spec_of state → sink.0 < length state.sinks
     → brought_by spec_of m ≡ []
     → NamesInput (specs_of (settled_on state.inputs sink)) (view m)
-    → ((s : SinkSpec) → slice_get state.sinks sink.0 ≡ Some s → Fits (spec_by spec_of) (sample_spec s.spec) (specs_of (settled_on state.inputs sink)) (view m))
-    → ((inputs : Inputs) → inputs_left (spec_by spec_of) inputs (view m) ≡ inputs)
+    → ((s : SinkSpec) → slice_get state.sinks sink.0 ≡ Some s → Fits spec_of (sample_spec s.spec) (specs_of (settled_on state.inputs sink)) (view m))
+    → ((inputs : Inputs) → inputs_left spec_of inputs (view m) ≡ inputs)
     → IsKept spec_of (changed state (Posted sink m))
 same_inputs_keep spec_of state sink m h there brings names fits left = record {
   sinks = h.sinks;
@@ -87,7 +87,7 @@ same_inputs_keep spec_of state sink m h there brings names fits left = record {
 
 -- ---- an input ends
 
-pub leaves_keep : {P : Type 0} (spec_of : P → Spec) (state : State P) (x : Input) → IsKept spec_of state → input_of state.inputs x.index ≡ Some x → x.leaving ≡ false → IsKept spec_of (changed (changed state (Leaves x.index)) (Posted x.sink (Detach x.index)))
+pub leaves_keep : {P : Type 0} (spec_of : P → SampleSpec) (state : State P) (x : Input) → IsKept spec_of state → input_of state.inputs x.index ≡ Some x → x.leaving ≡ false → IsKept spec_of (changed (changed state (Leaves x.index)) (Posted x.sink (Detach x.index)))
 leaves_keep {P} spec_of state x h here goes = record {
   sinks = h.sinks;
   distinct = h.distinct;
@@ -123,7 +123,7 @@ leaves_keep {P} spec_of state x h here goes = record {
 
 -- ---- an input goes, that has ended and left its sink
 
-pub gone_keeps : {P : Type 0} (spec_of : P → Spec) (state : State P) (x : Input) → IsKept spec_of state → input_of state.inputs x.index ≡ Some x → x.leaving ≡ true → is_there x.way ≡ false → is_coming x.way ≡ false → IsKept spec_of (changed state (Gone x.index))
+pub gone_keeps : {P : Type 0} (spec_of : P → SampleSpec) (state : State P) (x : Input) → IsKept spec_of state → input_of state.inputs x.index ≡ Some x → x.leaving ≡ true → is_there x.way ≡ false → is_coming x.way ≡ false → IsKept spec_of (changed state (Gone x.index))
 gone_keeps {P} spec_of state x h here leaves away past = record {
   sinks = h.sinks;
   distinct = h.distinct;
@@ -157,13 +157,13 @@ pushed_own p inputs x e = filter-append p inputs (x ∷ []) ∙ ap (λ b. filter
 abbrev pub with_input : {P : Type 0} → Input → State P → State P
 with_input x state = record state { inputs = state.inputs ++ x ∷ []; inputs_made = state.inputs_made + 1 }
 
-pub new_keeps : {P : Type 0} (spec_of : P → Spec) (state : State P) (x : Input) (n : NewStream) → IsKept spec_of state
+pub new_keeps : {P : Type 0} (spec_of : P → SampleSpec) (state : State P) (x : Input) (n : NewStream) → IsKept spec_of state
     → x.index.0 ≡ state.inputs_made
     → x.way ≡ Coming → x.leaving ≡ false
     → IsInput state.sinks (state.inputs_made + 1) x
     → n.input.0 ≡ x.index.0 → n.spec ≡ x.spec
     → length (settled_on state.inputs (sink_at x.sink.0)) < MOST_ON_SINK
-    → ((s : SinkSpec) → slice_get state.sinks x.sink.0 ≡ Some s → Fits (spec_by spec_of) (sample_spec s.spec) (specs_of (settled_on state.inputs (sink_at x.sink.0))) (view (New n)))
+    → ((s : SinkSpec) → slice_get state.sinks x.sink.0 ≡ Some s → Fits spec_of (sample_spec s.spec) (specs_of (settled_on state.inputs (sink_at x.sink.0))) (view (New n)))
     → IsKept spec_of (changed (with_input x state) (Posted x.sink (New n)))
 new_keeps {P} spec_of state x n h fresh coming goes is same_index same_spec room fits = record {
   sinks = h.sinks;

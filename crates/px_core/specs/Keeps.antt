@@ -2,7 +2,6 @@
 use Rattle.std.specs.Prelude.{◌≡◌, ℕ, ◌<◌, ◌≤◌, ◌≢◌, Bool, true, false, ◌&&◌, nat_eq, List, [], ◌∷◌, map, filter, length, flat_map, slice_get, get_or, Some, ⊤}
 use Rattle.std.specs.List.{AllByRecursion}
 use Rattle.px_types.specs.declared.ids.SinkId.{SinkId}
-use Rattle.px_sample.specs.declared.spec.Spec.{Spec}
 use Rattle.px_session.specs.declared.header.SinkSpec.{SinkSpec}
 use Rattle.px_session.specs.HeaderRules.{AreSinks}
 use Rattle.px_model.specs.Frame.{SampleSpec}
@@ -54,9 +53,9 @@ abbrev pub is_coming_to : SinkId → Input → Bool
 is_coming_to sink x = nat_eq x.sink.0 sink.0 && is_coming x.way
 
 -- the input that a message brings, where spec_of reads a parcel's sample spec
-abbrev pub brought_by : {P : Type 0} → (P → Spec) → Msg P → List (ℕ × SampleSpec)
+abbrev pub brought_by : {P : Type 0} → (P → SampleSpec) → Msg P → List (ℕ × SampleSpec)
 brought_by spec_of (New n) = (n.input.0, sample_spec n.spec) ∷ []
-brought_by spec_of (Attach input parcel feed factors) = (input.0, sample_spec (spec_of parcel)) ∷ []
+brought_by spec_of (Attach input parcel feed factors) = (input.0, spec_of parcel) ∷ []
 brought_by spec_of (Detach input) = []
 brought_by spec_of (Write input seek offset frames bytes) = []
 brought_by spec_of (Cork input on) = []
@@ -70,20 +69,20 @@ brought_by spec_of (Query input tag) = []
 
 -- the messages that wait for a sink are orderly from the inputs that it has, and leave there exactly those that are settled on it, no more
 -- than a sink can have; and they bring, in order, those that are on their way to it
-pub record AreInStep {P : Type 0} (spec_of : P → Spec) (sink : SinkId) (s : SinkSpec) (inputs : List Input) (waiting : List (Msg P)) : Type 0 where
-  pub orderly : IsOrderly (λ p. sample_spec (spec_of p)) (sample_spec s.spec) (specs_of (filter (is_held_by sink) inputs)) (map (message_of (λ p. p)) waiting)
-  pub leaves : inputs_left_by (λ p. sample_spec (spec_of p)) (specs_of (filter (is_held_by sink) inputs)) (map (message_of (λ p. p)) waiting) ≡ specs_of (settled_on inputs sink)
+pub record AreInStep {P : Type 0} (spec_of : P → SampleSpec) (sink : SinkId) (s : SinkSpec) (inputs : List Input) (waiting : List (Msg P)) : Type 0 where
+  pub orderly : IsOrderly spec_of (sample_spec s.spec) (specs_of (filter (is_held_by sink) inputs)) (map (message_of (λ p. p)) waiting)
+  pub leaves : inputs_left_by spec_of (specs_of (filter (is_held_by sink) inputs)) (map (message_of (λ p. p)) waiting) ≡ specs_of (settled_on inputs sink)
   pub bring : flat_map (brought_by spec_of) waiting ≡ map entry_of (filter (is_coming_to sink) inputs)
   pub few : length (settled_on inputs sink) ≤ MOST_ON_SINK
 
 -- for every sink
-abbrev pub AreAllInStep : {P : Type 0} → (P → Spec) → List SinkSpec → List Input → List (List (Msg P)) → Type 0
+abbrev pub AreAllInStep : {P : Type 0} → (P → SampleSpec) → List SinkSpec → List Input → List (List (Msg P)) → Type 0
 AreAllInStep spec_of sinks inputs posted =
     (index : ℕ) (s : SinkSpec) → slice_get sinks index ≡ Some s → AreInStep spec_of (record { 0 = index }) s inputs (get_or posted index [])
 
 -- ---- the state
 
-pub record IsKept {P : Type 0} (spec_of : P → Spec) (state : State P) : Type 0 where
+pub record IsKept {P : Type 0} (spec_of : P → SampleSpec) (state : State P) : Type 0 where
   pub sinks : AreSinks [] state.sinks
   pub distinct : AreDistinct state.connections
   pub rising : IsRising state.inputs
