@@ -4,3 +4,4 @@ pub mod InStep
 pub mod Verbs
 pub mod Handing
 pub mod Rows
+pub mod Sweeping

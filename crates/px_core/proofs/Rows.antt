@@ -184,7 +184,7 @@ found_other a b f keeps apart (x ∷ xs) = step (found_other a b f keeps apart x
         ∙ sym (cond-false (nat_eq x.index.0 a.0) (Some x) (find (has_index a) xs) (ne_eqb x.index.0 a.0 (λ (g : x.index.0 ≡ a.0). apart (sym same ∙ g))))
     step later false e = ap (cond (nat_eq x.index.0 a.0) (Some x)) later
 
-abbrev Goes : List Input → Input → Type 0
+abbrev pub Goes : List Input → Input → Type 0
 Goes inputs x = (input_of inputs x.index ≡ Some x) × (x.leaving ≡ false)
 
 goes_on : (inputs : List Input) (x : Input) (xs : List Input) → AllAbove x.index.0 xs → AllByRecursion (Goes inputs) xs → AllByRecursion (Goes (change_first (has_index x.index) leaving inputs)) xs
@@ -199,19 +199,19 @@ all_end spec_of (x ∷ xs) r state h g =
     all_end spec_of xs r.1 (committed state (ends x)) (leaves_keep spec_of state x h g.0.0 g.0.1) (goes_on state.inputs x xs r.0 g.1)
 
 -- and the others are there as before
-others_there : {P : Type 0} (y : Input) (xs : List Input) → AllByRecursion (λ x. (Input.index x).0 ≡ y.index.0 → ⊥) xs → (state : State P) → input_of (committed state (flat_map ends xs)).inputs y.index ≡ input_of state.inputs y.index
+pub others_there : {P : Type 0} (y : Input) (xs : List Input) → AllByRecursion (λ x. (Input.index x).0 ≡ y.index.0 → ⊥) xs → (state : State P) → input_of (committed state (flat_map ends xs)).inputs y.index ≡ input_of state.inputs y.index
 others_there y [] a state = refl
 others_there y (x ∷ xs) a state = others_there y xs a.1 (committed state (ends x)) ∙ found_other y.index x.index leaving (λ z. refl) a.0 state.inputs
 
 above_filter : (p : Input → Bool) (i : ℕ) (xs : List Input) → AllAbove i xs → AllAbove i (filter p xs)
 above_filter p i xs a = all_filter (λ x. i < (Input.index x).0) p xs a
 
-rising_filter : (p : Input → Bool) (xs : List Input) → IsRising xs → IsRising (filter p xs)
+pub rising_filter : (p : Input → Bool) (xs : List Input) → IsRising xs → IsRising (filter p xs)
 rising_filter p [] r = tt
 rising_filter p (x ∷ xs) r = cond_both (p x) (x ∷ filter p xs) (filter p xs) IsRising (λ e. (above_filter p x.index.0 xs r.0, rising_filter p xs r.1)) (λ e. rising_filter p xs r.1)
 
 -- each input of a rising list is found by its index, and those that pass a test pass it
-found_each : (inputs : List Input) → IsRising inputs → AllByRecursion (λ x. input_of inputs x.index ≡ Some x) inputs
+pub found_each : (inputs : List Input) → IsRising inputs → AllByRecursion (λ x. input_of inputs x.index ≡ Some x) inputs
 found_each [] r = tt
 found_each (x ∷ xs) r =
     (ap (λ b. cond b (Some x) (find (has_index x.index) xs)) (eq-eqb x.index.0 x.index.0 refl), later xs r.0 (found_each xs r.1))
@@ -221,7 +221,7 @@ found_each (x ∷ xs) r =
     later (y ∷ ys) a h =
         (cond-false (nat_eq x.index.0 y.index.0) (Some x) (find (has_index y.index) xs) (ne_eqb x.index.0 y.index.0 (λ (e : x.index.0 ≡ y.index.0). absurd (omega (arith, a.0, e)))) ∙ h.0, later ys a.1 h.1)
 
-filter_each : {A : Type 0} (Q : A → Type 0) (p : A → Bool) (xs : List A) → AllByRecursion Q xs → AllByRecursion (λ x. Q x × (p x ≡ true)) (filter p xs)
+pub filter_each : {A : Type 0} (Q : A → Type 0) (p : A → Bool) (xs : List A) → AllByRecursion Q xs → AllByRecursion (λ x. Q x × (p x ≡ true)) (filter p xs)
 filter_each Q p [] h = tt
 filter_each Q p (x ∷ xs) h =
     cond_both (p x) (x ∷ filter p xs) (filter p xs) (AllByRecursion (λ y. Q y × (p y ≡ true))) (λ e. ((h.0, e), filter_each Q p xs h.1)) (λ e. filter_each Q p xs h.1)
