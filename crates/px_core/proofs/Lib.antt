@@ -5,3 +5,4 @@ pub mod Verbs
 pub mod Handing
 pub mod Rows
 pub mod Sweeping
+pub mod Creating

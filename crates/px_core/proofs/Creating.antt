@@ -1,0 +1,141 @@
+-- CREATE keeps what the state keeps.
+use Rattle.std.proofs.Common.{◌≡◌, ℕ, zero, suc, ◌<◌, ◌≤◌, List, [], ◌∷◌, ◌++◌, map, length, min, max, Option, Some, None, Bool, true, false, refl, ap, sym, subst, ◌∙◌, arith, cond, ⊎_elim}
+use Rattle.std.specs.Prelude.{◌+◌, ◌-◌, ◌*◌, ◌/◌, ◌≢◌, ◌&&◌, ◌||◌, not, nat_eq, nat_lt, nat_le, replicate, slice_get, slice_index, Result, Ok, Err}
+use Rattle.std.specs.List.{All, list_all, range_with_len}
+use Rattle.std.specs.Cmp.Lexicographic.{pointwise}
+use Rattle.std.proofs.lemmas.Bool.{cond_both, eqb-true, eqb-false, ltb-true, leb-true, leb-false, false≢true, cases_Bool, and_parts, or_parts, not-false, agree_below_at}
+use Rattle.std.proofs.lemmas.List.{length-replicate}
+use Rattle.std.proofs.lemmas.List.FromFn.{length-range_with_len, get_or-range_with_len}
+use Rattle.std.proofs.lemmas.Option.{none-some, same_Some, slice_get_within}
+use Rattle.px_types.specs.declared.ids.SinkId.{SinkId}
+use Rattle.px_types.specs.declared.error_code.ErrorCode.{ErrorCode}
+use Rattle.px_cmd.specs.declared.command.CreateFields.{CreateFields}
+use Rattle.px_sample.specs.declared.format.Format.{Format}
+use Rattle.px_sample.specs.declared.format.Format.TheVariants.{U8, Alaw, Ulaw, S16Le, S16Be, Float32Le, Float32Be, S32Le, S32Be, S24Le, S24Be, S24In32Le, S24In32Be}
+use Rattle.px_sample.specs.declared.spec.Spec.{Spec}
+use Rattle.px_sample.specs.Format.{code_of, frame_size_of}
+use Rattle.px_session.specs.declared.header.SinkSpec.{SinkSpec}
+use Rattle.px_session.specs.HeaderRules.{IsSink, AreSinks}
+use Rattle.px_model.specs.declared.data.Attr.{Attr}
+use Rattle.px_model.specs.Frame.{SampleSpec}
+use Rattle.px_model.specs.Orderly.{IsPlayable, IsFeed, IsRepaired, IsNewStream}
+use Rattle.px_msg.specs.Repair.{UNSET, MAXLENGTH, repaired, frames_asked, between_one_and, maxlength_of, tlength_of, minreq_of, prebuf_of}
+use Rattle.px_msg.specs.View.{sample_spec, opened}
+use Rattle.px_vol.specs.Volume.{norm}
+use Rattle.px_core.specs.declared.input.Connection.{Connection}
+use Rattle.px_core.specs.declared.input.Input.{Input}
+use Rattle.px_core.specs.State.{State, has_number, settled_on}
+use Rattle.px_core.specs.Change.{with_streams, with_connection, changed}
+use Rattle.px_core.specs.declared.change.Change.TheVariants.{Made, Posted}
+use Rattle.px_core.specs.Create.{is_spec, is_map, are_volumes, format_on, channels_on, positions_on, rate_on, same_positions, format_with, spec_on, attr_on, is_unsupported, has_no_room, is_not_built, refusal_on, input_made, created, created_or, create_on, create_there, create_named, create, MOST_ON_SINK}
+use Rattle.px_core.specs.Keeps.{IsInput, IsKept}
+use Rattle.px_core.proofs.Verbs.{sink_at, new_keeps}
+use Rattle.px_core.proofs.Rows.{Keeps, connection_keeps, factors_keep}
+
+-- ---- attributes as repaired
+
+prebuf_bound : (size tlength minreq asked : ℕ) → prebuf_of size tlength minreq asked ≤ tlength + 1 - minreq
+prebuf_bound size tlength minreq asked =
+    cond_both (nat_eq asked UNSET) (tlength + 1 - minreq) (min ((asked + (size - 1)) / size) (tlength + 1 - minreq)) (λ n. n ≤ tlength + 1 - minreq) (λ e. omega arith) (λ e. omega arith)
+
+between_one : (most frames : ℕ) → 1 ≤ most → (1 ≤ between_one_and most frames) × (between_one_and most frames ≤ most)
+between_one most frames l = (omega arith, omega arith)
+
+maxlength_bound : (size asked : ℕ) → (1 ≤ maxlength_of size asked) × (maxlength_of size asked ≤ 4194304)
+maxlength_bound size asked = (omega arith, bound (min asked MAXLENGTH) (omega arith))
+  where
+    bound : (n : ℕ) → n ≤ 4194304 → max (n / size) 1 ≤ 4194304
+    bound n l = omega (arith, l)
+
+pub repaired_fits : (spec : Spec) (asked : List ℕ) → IsRepaired (repaired spec asked)
+repaired_fits spec asked =
+    let m = maxlength_bound (frame_size_of spec) (slice_index asked 0) in
+    let t = between_one (maxlength_of (frame_size_of spec) (slice_index asked 0)) (frames_asked (frame_size_of spec) (2 * spec.rate) (slice_index asked 1)) m.0 in
+    let q = between_one (tlength_of spec (maxlength_of (frame_size_of spec) (slice_index asked 0)) (slice_index asked 1)) (frames_asked (frame_size_of spec) (spec.rate * 20 / 1000) (slice_index asked 3)) t.0 in
+    record {
+      minreq_positive = q.0;
+      minreq_bounded = q.1;
+      tlength_bounded = t.1;
+      maxlength_bounded = m.1;
+      prebuf_bounded = prebuf_bound (frame_size_of spec) (tlength_of spec (maxlength_of (frame_size_of spec) (slice_index asked 0)) (slice_index asked 1))
+          (minreq_of spec (tlength_of spec (maxlength_of (frame_size_of spec) (slice_index asked 0)) (slice_index asked 1)) (slice_index asked 3)) (slice_index asked 2);
+    }
+
+-- ---- the format
+
+same_code : (code : ℕ) → code ≤ 12 → code_of (format_with code) ≡ code
+same_code code l = eqb-true (code_of (format_with code)) code (agree_below_at (λ n. nat_eq (code_of (format_with n)) n) (λ n. true) 13 code refl (omega (arith, l)))
+
+few_codes : (format : Format) → code_of format ≤ 12
+few_codes U8 = omega arith
+few_codes Alaw = omega arith
+few_codes Ulaw = omega arith
+few_codes S16Le = omega arith
+few_codes S16Be = omega arith
+few_codes Float32Le = omega arith
+few_codes Float32Be = omega arith
+few_codes S32Le = omega arith
+few_codes S32Be = omega arith
+few_codes S24Le = omega arith
+few_codes S24Be = omega arith
+few_codes S24In32Le = omega arith
+few_codes S24In32Be = omega arith
+
+-- ---- the sinks
+
+sink_rules : (earlier sinks : List SinkSpec) (k : ℕ) (s : SinkSpec) → AreSinks earlier sinks → slice_get sinks k ≡ Some s → (before : List SinkSpec) × IsSink before s
+sink_rules earlier [] k s h e = absurd (none-some s e)
+sink_rules earlier (x ∷ sinks) zero s h e = (earlier, subst (IsSink earlier) (same_Some x s e) h.0)
+sink_rules earlier (x ∷ sinks) (suc k) s h e = sink_rules (earlier ++ x ∷ []) sinks k s h.1 e
+
+same_lengths : (a b : List ℕ) → pointwise nat_eq a b ≡ true → length a ≡ length b
+same_lengths [] [] e = refl
+same_lengths [] (y ∷ ys) e = absurd (false≢true e)
+same_lengths (x ∷ xs) [] e = absurd (false≢true e)
+same_lengths (x ∷ xs) (y ∷ ys) e = ap suc (same_lengths xs ys (and_parts (nat_eq x y) (pointwise nat_eq xs ys) e).1)
+
+-- ---- what is asked fits
+
+-- on a sink's own map there are as many channels
+abbrev own_channels : Bool → SinkSpec → CreateFields → ℕ
+own_channels fix sink a = cond fix sink.spec.channels a.spec.channels
+
+channels_fit : (fix : Bool) (sink : SinkSpec) (a : CreateFields) → length sink.map ≡ sink.spec.channels → length a.map ≡ a.spec.channels → length (cond fix sink.map a.map) ≡ length sink.map → own_channels fix sink a ≡ sink.spec.channels
+channels_fit true sink a own asked same = refl
+channels_fit false sink a own asked same = sym asked ∙ same ∙ own
+
+formats_fit : (fix : Bool) (sink : SinkSpec) (a : CreateFields) → a.spec.format ≤ 12 → cond fix (code_of sink.spec.format) a.spec.format ≤ 12
+formats_fit true sink a l = few_codes sink.spec.format
+formats_fit false sink a l = l
+
+own_positions : (sink : SinkSpec) (a : CreateFields) → is_not_built sink a ≡ false → same_positions (positions_on sink a) sink.map ≡ true
+own_positions sink a built =
+    let parts = or_parts (a.corked || nat_lt 0 (attr_on sink a).prebuf || not (nat_eq (format_on sink a) 3) || not (same_positions (positions_on sink a) sink.map) || a.muted) (not (list_all (λ v. nat_eq v norm) a.volume)) built in
+    let more = or_parts (a.corked || nat_lt 0 (attr_on sink a).prebuf || not (nat_eq (format_on sink a) 3) || not (same_positions (positions_on sink a) sink.map)) a.muted parts.0 in
+    let last = or_parts (a.corked || nat_lt 0 (attr_on sink a).prebuf || not (nat_eq (format_on sink a) 3)) (not (same_positions (positions_on sink a) sink.map)) more.0 in
+    not-false (same_positions (positions_on sink a) sink.map) last.1
+
+-- what is asked of a sink was tested
+pub record Asked (sink : SinkSpec) (a : CreateFields) : Type 0 where
+  pub format : format_on sink a ≤ 12
+  pub no_float_le : format_on sink a ≢ 5
+  pub no_float_be : format_on sink a ≢ 6
+  pub channels : channels_on sink a ≡ sink.spec.channels
+
+pub asked_by : (sink : SinkSpec) (a : CreateFields) → length sink.map ≡ sink.spec.channels → (is_spec a.spec && is_map a.spec a.map && are_volumes a.spec a.volume) ≡ true → is_unsupported sink a ≡ false → is_not_built sink a ≡ false → Asked sink a
+asked_by sink a own can supported built =
+    let first = and_parts (is_spec a.spec && is_map a.spec a.map) (are_volumes a.spec a.volume) can in
+    let spec_map = and_parts (is_spec a.spec) (is_map a.spec a.map) first.0 in
+    let spec_3 = and_parts (nat_le a.spec.format 12 && nat_lt 0 a.spec.channels && nat_lt 0 a.spec.rate) (nat_le a.spec.rate 192000) spec_map.0 in
+    let spec_2 = and_parts (nat_le a.spec.format 12 && nat_lt 0 a.spec.channels) (nat_lt 0 a.spec.rate) spec_3.0 in
+    let spec_1 = and_parts (nat_le a.spec.format 12) (nat_lt 0 a.spec.channels) spec_2.0 in
+    let positions = and_parts (nat_eq (length a.map) a.spec.channels) (list_all (λ p. nat_le p 50) a.map) spec_map.1 in
+    let float_3 = or_parts (nat_eq (format_on sink a) 5 || nat_eq (format_on sink a) 6 || a.variable_rate) (not (nat_eq (rate_on sink a) sink.spec.rate)) supported in
+    let float_2 = or_parts (nat_eq (format_on sink a) 5 || nat_eq (format_on sink a) 6) a.variable_rate float_3.0 in
+    let float_1 = or_parts (nat_eq (format_on sink a) 5) (nat_eq (format_on sink a) 6) float_2.0 in
+    record {
+      format = formats_fit a.fix_format sink a (leb-true a.spec.format 12 spec_1.0);
+      no_float_le = eqb-false (format_on sink a) 5 float_1.0;
+      no_float_be = eqb-false (format_on sink a) 6 float_1.1;
+      channels = channels_fit a.fix_channels sink a own (eqb-true (length a.map) a.spec.channels positions.0) (same_lengths (positions_on sink a) sink.map (own_positions sink a built));
+    }
