@@ -4,7 +4,7 @@ use Rattle.std.specs.Int.{to_be_bytes, from_be_bytes, w32}
 use Rattle.std.proofs.lemmas.Nat.{from_be_bytes-to_be_bytes_4, be_bytes_4}
 use Rattle.std.proofs.lemmas.List.{get_or-drop, take_all, take-append-drop, drop-drop}
 use Rattle.px_frame.specs.declared.descriptor.Descriptor.{Descriptor}
-use Rattle.px_frame.specs.Descriptor.{descriptor_bytes, HasWords, AreBytes}
+use Rattle.px_frame.specs.Descriptor.{descriptor_bytes, HasWords, AreBytes, word_at, descriptor_in}
 
 pub length-descriptor_bytes : (d : Descriptor) → length (descriptor_bytes d) ≡ 20
 unfolding descriptor_bytes
@@ -57,9 +57,13 @@ descriptor-unique d e x y p q same =
     let g = word-unique d.flags e.flags _ _ p.flags q.flags f.1 in
     (same-five a.0 b.0 c.0 f.0 g.0, g.1)
 
--- four bytes from there on, as a number
-abbrev pub word_at : ℕ → List ℕ → ℕ
-word_at k b = from_be_bytes w32 (take 4 (drop k b))
+-- the twenty bytes that a descriptor is spelled by are read as it
+pub descriptor_in-bytes : (d : Descriptor) → HasWords d → descriptor_in (descriptor_bytes d) ≡ d
+unfolding descriptor_bytes descriptor_in
+descriptor_in-bytes d h =
+    same-five (from_be_bytes-to_be_bytes_4 d.length h.length) (from_be_bytes-to_be_bytes_4 d.channel h.channel)
+    (from_be_bytes-to_be_bytes_4 d.offset_high h.offset_high) (from_be_bytes-to_be_bytes_4 d.offset_low h.offset_low)
+    (from_be_bytes-to_be_bytes_4 d.flags h.flags)
 
 -- what is taken of bytes are bytes
 pub take-bytes : (n : ℕ) (b : List ℕ) → AreBytes b → AreBytes (take n b)
@@ -83,13 +87,9 @@ word-spelled : (k : ℕ) (b : List ℕ) → AreBytes b → k + 4 ≤ length b �
 word-spelled k b fits n =
     be_bytes_4 (take 4 (drop k b)) (word_at k b) (omega (arith, length-take 4 (drop k b), length-drop k b)) (part-bytes k b fits) refl
 
--- the descriptor that twenty bytes spell
-pub descriptor_of : List ℕ → Descriptor
-descriptor_of b = record { length = word_at 0 b; channel = word_at 4 b; offset_high = word_at 8 b; offset_low = word_at 12 b; flags = word_at 16 b }
-
-pub words-descriptor_of : (b : List ℕ) → AreBytes b → HasWords (descriptor_of b)
-unfolding descriptor_of
-words-descriptor_of b fits = record {
+pub words-descriptor_in : (b : List ℕ) → AreBytes b → HasWords (descriptor_in b)
+unfolding descriptor_in
+words-descriptor_in b fits = record {
   length = word-below 0 b fits;
   channel = word-below 4 b fits;
   offset_high = word-below 8 b fits;
@@ -97,8 +97,8 @@ words-descriptor_of b fits = record {
   flags = word-below 16 b fits;
 }
 
-pub bytes-descriptor_of : (b : List ℕ) → AreBytes b → length b ≡ 20 → descriptor_bytes (descriptor_of b) ≡ b
-unfolding descriptor_of
-bytes-descriptor_of b fits n =
+pub bytes-descriptor_in : (b : List ℕ) → AreBytes b → length b ≡ 20 → descriptor_bytes (descriptor_in b) ≡ b
+unfolding descriptor_in
+bytes-descriptor_in b fits n =
     spelled _ b n (word-spelled 0 b fits (omega arith)) (word-spelled 4 b fits (omega arith)) (word-spelled 8 b fits (omega arith))
     (word-spelled 12 b fits (omega arith)) (word-spelled 16 b fits (omega arith))

@@ -1,5 +1,6 @@
 pub mod DescriptorLemmas
 pub mod ReadingLemmas
+pub mod MeaningLemmas
 pub mod FeedingLemmas
 pub mod DecoderLemmas
 pub mod WriteLemmas

@@ -6,10 +6,10 @@ use Rattle.std.proofs.lemmas.List.Concat.{flat_map-append}
 use Rattle.px_frame.specs.declared.descriptor.Descriptor.{Descriptor}
 use Rattle.px_frame.specs.declared.fault.FrameFault.{FrameFault}
 use Rattle.px_frame.specs.declared.frame.Frame.{Frame}
-use Rattle.px_frame.specs.Descriptor.{descriptor_bytes, HasWords, broken_rule, AreBytes}
+use Rattle.px_frame.specs.Descriptor.{descriptor_bytes, HasWords, broken_rule, AreBytes, descriptor_in}
 use Rattle.px_frame.specs.Frame.{Wire, wire_bytes, IsFrame, offset_at, body_of, frame_of}
 use Rattle.px_frame.specs.Reading.{frames_from, Splits, IsBegun, IsBroken, Ending, Unfinished, Broken, IsEnding, IsRead, HasOneReading}
-use Rattle.px_frame.proofs.DescriptorLemmas.{length-descriptor_bytes, descriptor-unique, take-bytes, drop-bytes, descriptor_of, words-descriptor_of, bytes-descriptor_of}
+use Rattle.px_frame.proofs.DescriptorLemmas.{length-descriptor_bytes, descriptor-unique, take-bytes, drop-bytes, words-descriptor_in, bytes-descriptor_in}
 
 -- offsets that are kept as one number count on as one
 offset_at-add : (a b n : ℕ) → offset_at a ≡ offset_at b → offset_at (a + n) ≡ offset_at (b + n)
@@ -281,11 +281,11 @@ found (suc fuel) start bytes short fits =
       | inl few ↦ found-here start bytes Unfinished (inl few)
       | inr many ↦
           let head = take-bytes 20 bytes fits in
-          let d = descriptor_of (take 20 bytes) in
+          let d = descriptor_in (take 20 bytes) in
           let twenty : length (take 20 bytes) ≡ 20 = omega (arith, length-take 20 bytes) in
           let cut : bytes ≡ descriptor_bytes d ++ drop 20 bytes =
-          sym (take-append-drop 20 bytes) ∙ ap (λ b. b ++ drop 20 bytes) (sym (bytes-descriptor_of (take 20 bytes) head twenty)) in
-          found-descriptor fuel (found fuel) start d (drop 20 bytes) bytes (words-descriptor_of (take 20 bytes) head) (drop-bytes 20 bytes fits) cut (omega arith)
+          sym (take-append-drop 20 bytes) ∙ ap (λ b. b ++ drop 20 bytes) (sym (bytes-descriptor_in (take 20 bytes) head twenty)) in
+          found-descriptor fuel (found fuel) start d (drop 20 bytes) bytes (words-descriptor_in (take 20 bytes) head) (drop-bytes 20 bytes fits) cut (omega arith)
           (broken_rule d) refl
     ]
 

@@ -1,6 +1,6 @@
 -- The descriptor before a frame's payload: how it is spelled, and which rules it keeps.
-use Rattle.std.specs.Prelude.{ℕ, ◌+◌, ◌*◌, ◌/◌, ◌%◌, ◌^◌, ◌<◌, List, ◌++◌, if◌then◌else◌, ◌==◌, nat_lt, nat_le, Option, Some, None, ℤ, slice_index}
-use Rattle.std.specs.Int.{to_be_bytes, cast_signed, cast_unsigned, w32, w64}
+use Rattle.std.specs.Prelude.{ℕ, ◌+◌, ◌*◌, ◌/◌, ◌%◌, ◌^◌, ◌<◌, List, ◌++◌, if◌then◌else◌, ◌==◌, nat_lt, nat_le, take, drop, Option, Some, None, ℤ, slice_index}
+use Rattle.std.specs.Int.{to_be_bytes, from_be_bytes, cast_signed, cast_unsigned, w32, w64}
 use Rattle.px_frame.specs.declared.descriptor.Descriptor.{Descriptor}
 use Rattle.px_frame.specs.declared.descriptor.TheConstants.{MAX_PAYLOAD, CONTROL_CHANNEL}
 use Rattle.px_frame.specs.declared.fault.FrameFault.{FrameFault}
@@ -51,3 +51,17 @@ data_descriptor n stream offset seek =
 -- each is a byte
 abbrev pub AreBytes : List ℕ → Type 0
 AreBytes bytes = (i : ℕ) → slice_index bytes i < 256
+
+-- the number in the four bytes from a place on
+abbrev pub word_at : ℕ → List ℕ → ℕ
+word_at k bytes = from_be_bytes w32 (take 4 (drop k bytes))
+
+-- the descriptor that twenty bytes are
+unfoldable pub descriptor_in : List ℕ → Descriptor
+descriptor_in bytes = record {
+  length = word_at 0 bytes;
+  channel = word_at 4 bytes;
+  offset_high = word_at 8 bytes;
+  offset_low = word_at 12 bytes;
+  flags = word_at 16 bytes;
+}

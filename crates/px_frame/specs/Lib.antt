@@ -2,6 +2,7 @@ pub mod Descriptor
 pub mod Fault
 pub mod Frame
 pub mod Reading
+pub mod Meaning
 pub mod Feeding
 pub mod Stage
 pub mod Progress

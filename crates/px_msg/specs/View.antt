@@ -48,3 +48,14 @@ notice_of parcel_of (Drained input tag) = Told.drained input.0 tag
 notice_of parcel_of (Detached input parcel) = Told.detached input.0 (parcel_of parcel)
 notice_of parcel_of (Latency input tag write read buffered playing run) =
     Told.latency input.0 tag (record { write = write; read = read; buffered = buffered; playing = playing; run = run })
+
+-- the notice of the code that is seen so
+abbrev pub notice_for : {P : Type 0} → Told P → Notice P
+notice_for (Told.request input frames) = Request (record { 0 = input }) frames
+notice_for (Told.overflow input) = Overflow (record { 0 = input })
+notice_for (Told.underflow input) = Underflow (record { 0 = input })
+notice_for (Told.started input) = Started (record { 0 = input })
+notice_for (Told.drained input tag) = Drained (record { 0 = input }) tag
+notice_for (Told.detached input parcel) = Detached (record { 0 = input }) parcel
+notice_for (Told.latency input tag answer) =
+    Latency (record { 0 = input }) tag answer.write answer.read answer.buffered answer.playing answer.run

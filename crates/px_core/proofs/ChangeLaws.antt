@@ -27,9 +27,9 @@ use Rattle.px_core.specs.declared.change.Change.TheVariants.{Leaves, Gone, Poste
 use Rattle.px_core.specs.Create.{MOST_ON_SINK}
 use Rattle.px_core.specs.Orderly.{entry_of, specs_of, is_held_by, is_there}
 use Rattle.px_core.specs.Keeps.{AreInStep, AreAllInStep, IsInput, IsKept, IsRising, is_coming_to, is_coming, brought_by}
-use Rattle.px_core.proofs.Firsts.{same_passed, same_left, no_more_pass, all_change, all_drop, all_push, all_weaken, found_all, found_test}
-use Rattle.px_core.proofs.Entries.{spec_in, get_in, here_in, removed, inserted, pushed, none_below, few_specs, rising_change, rising_drop, rising_push}
-use Rattle.px_core.proofs.InStep.{view, unmoved, posted}
+use Rattle.px_core.proofs.ListLaws.{same_passed, same_left, no_more_pass, all_change, all_drop, all_push, all_weaken, found_all, found_test}
+use Rattle.px_core.proofs.EntryLaws.{spec_in, get_in, here_in, removed, inserted, pushed, none_below, few_specs, rising_change, rising_drop, rising_push}
+use Rattle.px_core.proofs.InStepLaws.{view, unmoved, posted}
 
 abbrev pub sink_at : ℕ → SinkId
 sink_at k = record { 0 = k }

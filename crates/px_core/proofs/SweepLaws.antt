@@ -16,8 +16,8 @@ use Rattle.px_core.specs.Change.{changed, committed}
 use Rattle.px_core.specs.Delete.{ends}
 use Rattle.px_core.specs.Connecting.{swept, sweep_of}
 use Rattle.px_core.specs.Keeps.{AreDistinct, IsKept, IsRising}
-use Rattle.px_core.proofs.Firsts.{all_weaken}
-use Rattle.px_core.proofs.Rows.{Keeps, Goes, all_end, others_there, rising_filter, found_each, filter_each, distinct_filter, forgotten_keeps}
+use Rattle.px_core.proofs.ListLaws.{all_weaken}
+use Rattle.px_core.proofs.AnswerLaws.{Keeps, Goes, all_end, others_there, rising_filter, found_each, filter_each, distinct_filter, forgotten_keeps}
 
 -- each of the connection's inputs that went on before any was swept away is there
 abbrev Remains : List Input → List Input → Connection → Type 0

@@ -29,8 +29,8 @@ use Rattle.px_core.specs.Change.{with_streams, with_connection, changed}
 use Rattle.px_core.specs.declared.change.Change.TheVariants.{Made, Posted}
 use Rattle.px_core.specs.Create.{is_spec, is_map, are_volumes, format_on, channels_on, positions_on, rate_on, same_positions, format_with, spec_on, attr_on, is_unsupported, has_no_room, is_not_built, refusal_on, input_made, created, created_or, create_on, create_there, create_named, create, MOST_ON_SINK}
 use Rattle.px_core.specs.Keeps.{IsInput, IsKept}
-use Rattle.px_core.proofs.Verbs.{sink_at, new_keeps}
-use Rattle.px_core.proofs.Rows.{Keeps, connection_keeps, factors_keep}
+use Rattle.px_core.proofs.ChangeLaws.{sink_at, new_keeps}
+use Rattle.px_core.proofs.AnswerLaws.{Keeps, connection_keeps, factors_keep}
 
 -- ---- attributes as repaired
 

@@ -22,10 +22,10 @@ use Rattle.px_core.specs.Change.{change_first}
 use Rattle.px_core.specs.Orderly.{entry_of, specs_of, is_held_by, is_there, inputs_there}
 use Rattle.px_core.specs.Out.{waiting_for, first_of, rest_of, next_for, on_way, with_way, inputs_past, without_next, past, handed_out}
 use Rattle.px_core.specs.Keeps.{AreInStep, AreAllInStep, IsInput, IsKept, IsRising, is_coming_to, is_coming, brought_by}
-use Rattle.px_core.proofs.Firsts.{no_cons, same_passed, all_change, found_test}
-use Rattle.px_core.proofs.Entries.{FirstGone, first_gone, Found, found_in, get_in, spec_in, removed, inserted, rising_change}
-use Rattle.px_core.proofs.InStep.{view, unmoved, handed}
-use Rattle.px_core.proofs.Verbs.{sink_at, set_in_step}
+use Rattle.px_core.proofs.ListLaws.{no_cons, same_passed, all_change, found_test}
+use Rattle.px_core.proofs.EntryLaws.{FirstGone, first_gone, Found, found_in, get_in, spec_in, removed, inserted, rising_change}
+use Rattle.px_core.proofs.InStepLaws.{view, unmoved, handed}
+use Rattle.px_core.proofs.ChangeLaws.{sink_at, set_in_step}
 
 -- ---- the inputs once a message was handed out
 

@@ -17,7 +17,7 @@ use Rattle.px_core.specs.State.{has_index}
 use Rattle.px_core.specs.Change.{change_first, drop_first}
 use Rattle.px_core.specs.Orderly.{entry_of, specs_of}
 use Rattle.px_core.specs.Keeps.{AllAbove, IsRising}
-use Rattle.px_core.proofs.Firsts.{heads, tails, no_cons, found_test, found_all, all_change, all_drop, all_push}
+use Rattle.px_core.proofs.ListLaws.{heads, tails, no_cons, found_test, found_all, all_change, all_drop, all_push}
 
 -- the sample spec of the input with an index, where it passes
 abbrev pub spec_in : (Input → Bool) → ℕ → List Input → Option SampleSpec

@@ -37,10 +37,10 @@ use Rattle.px_core.specs.Delete.{ends, delete_of}
 use Rattle.px_core.specs.Data.{are_frames, write_of, data_for, data_of}
 use Rattle.px_core.specs.Connecting.{swept, sweep_of}
 use Rattle.px_core.specs.Told.{has_left, same_spec, is_on, input_on, gives_up, given_up_on, given_up}
-use Rattle.px_core.proofs.Firsts.{all_change, all_drop, all_push, all_weaken, found_all, found_test}
-use Rattle.px_core.proofs.Entries.{found_by_index}
-use Rattle.px_core.proofs.InStep.{view}
-use Rattle.px_core.proofs.Verbs.{sink_at, settled_spec, on_own, same_inputs_keep, leaves_keep, gone_keeps}
+use Rattle.px_core.proofs.ListLaws.{all_change, all_drop, all_push, all_weaken, found_all, found_test}
+use Rattle.px_core.proofs.EntryLaws.{found_by_index}
+use Rattle.px_core.proofs.InStepLaws.{view}
+use Rattle.px_core.proofs.ChangeLaws.{sink_at, settled_spec, on_own, same_inputs_keep, leaves_keep, gone_keeps}
 
 -- ---- connections
 
