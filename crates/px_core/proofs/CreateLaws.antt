@@ -9,6 +9,8 @@ use Rattle.std.proofs.lemmas.List.FromFn.{length-range_with_len, get_or-range_wi
 use Rattle.std.proofs.lemmas.Option.{none-some, same_Some, slice_get_within}
 use Rattle.px_types.specs.declared.ids.SinkId.{SinkId}
 use Rattle.px_types.specs.declared.error_code.ErrorCode.{ErrorCode}
+use Rattle.px_types.specs.declared.error_code.ErrorCode.TheVariants.{Invalid, TooLarge, NotSupported, NotImplemented}
+use Rattle.px_names.specs.Names.{sink_named}
 use Rattle.px_cmd.specs.declared.command.CreateFields.{CreateFields}
 use Rattle.px_sample.specs.declared.format.Format.{Format}
 use Rattle.px_sample.specs.declared.format.Format.TheVariants.{U8, Alaw, Ulaw, S16Le, S16Be, Float32Le, Float32Be, S32Le, S32Be, S24Le, S24Be, S24In32Le, S24In32Be}
@@ -24,12 +26,13 @@ use Rattle.px_msg.specs.View.{sample_spec, opened}
 use Rattle.px_vol.specs.Volume.{norm}
 use Rattle.px_core.specs.declared.input.Connection.{Connection}
 use Rattle.px_core.specs.declared.input.Input.{Input}
-use Rattle.px_core.specs.State.{State, has_number, settled_on}
+use Rattle.px_core.specs.State.{State, has_number, settled_on, going_of}
 use Rattle.px_core.specs.Change.{with_streams, with_connection, changed}
 use Rattle.px_core.specs.declared.change.Change.TheVariants.{Made, Posted}
-use Rattle.px_core.specs.Create.{is_spec, is_map, are_volumes, format_on, channels_on, positions_on, rate_on, same_positions, format_with, spec_on, attr_on, is_unsupported, has_no_room, is_not_built, refusal_on, input_made, created, created_or, create_on, create_there, create_named, create, MOST_ON_SINK}
+use Rattle.px_core.specs.Create.{is_spec, is_map, are_volumes, format_on, channels_on, positions_on, rate_on, same_positions, format_with, spec_on, attr_on, is_unsupported, has_no_room, is_not_built, refusal_on, input_made, created, created_or, create_on, create_there, create_named, create, is_lawful, straight, unity_on, new_of, UNITY, MOST_ON_SINK, MOST_IN_ALL, LAST_INDEX}
+use Rattle.px_core.specs.Reply.{Answer, refused}
 use Rattle.px_core.specs.Keeps.{IsInput, IsKept}
-use Rattle.px_core.proofs.ChangeLaws.{sink_at, new_keeps}
+use Rattle.px_core.proofs.ChangeLaws.{sink_at, with_input, new_keeps}
 use Rattle.px_core.proofs.AnswerLaws.{Keeps, connection_keeps, factors_keep}
 
 -- ---- attributes as repaired
@@ -122,7 +125,7 @@ pub record Asked (sink : SinkSpec) (a : CreateFields) : Type 0 where
   pub no_float_be : format_on sink a ≢ 6
   pub channels : channels_on sink a ≡ sink.spec.channels
 
-pub asked_by : (sink : SinkSpec) (a : CreateFields) → length sink.map ≡ sink.spec.channels → (is_spec a.spec && is_map a.spec a.map && are_volumes a.spec a.volume) ≡ true → is_unsupported sink a ≡ false → is_not_built sink a ≡ false → Asked sink a
+pub asked_by : (sink : SinkSpec) (a : CreateFields) → length sink.map ≡ sink.spec.channels → is_lawful a ≡ true → is_unsupported sink a ≡ false → is_not_built sink a ≡ false → Asked sink a
 asked_by sink a own can supported built =
     let first = and_parts (is_spec a.spec && is_map a.spec a.map) (are_volumes a.spec a.volume) can in
     let spec_map = and_parts (is_spec a.spec) (is_map a.spec a.map) first.0 in
@@ -139,3 +142,95 @@ asked_by sink a own can supported built =
       no_float_be = eqb-false (format_on sink a) 6 float_1.1;
       channels = channels_fit a.fix_channels sink a own (eqb-true (length a.map) a.spec.channels positions.0) (same_lengths (positions_on sink a) sink.map (own_positions sink a built));
     }
+
+-- ---- the new input fits
+
+all_range : (n : ℕ) → All (λ channel. channel < n) (range_with_len 0 n)
+all_range n k d high =
+    let l : k < n = omega (arith, high, length-range_with_len 0 n) in
+    omega (arith, get_or-range_with_len 0 n k d l, l)
+
+playable : (sink : SinkSpec) (a : CreateFields) → (1 ≤ sink.spec.channels) × (sink.spec.channels ≤ 32) → Asked sink a → IsPlayable (sample_spec (spec_on sink a))
+playable sink a few asked =
+    let code : code_of (format_with (format_on sink a)) ≡ format_on sink a = same_code (format_on sink a) asked.format in
+    record {
+      known = subst (λ n. n ≤ 12) (sym code) asked.format;
+      no_float_le = λ e. asked.no_float_le (sym code ∙ e);
+      no_float_be = λ e. asked.no_float_be (sym code ∙ e);
+      some_channels = subst (λ n. 1 ≤ n) (sym asked.channels) few.0;
+      few_channels = subst (λ n. n ≤ 32) (sym asked.channels) few.1;
+    }
+
+new_fits : (sink s : SinkSpec) → sink ≡ s → (a : CreateFields) → (1 ≤ sink.spec.channels) × (sink.spec.channels ≤ 32) → Asked sink a → (input : ℕ) → IsNewStream (sample_spec s.spec) (record { input = input; spec = sample_spec (spec_on sink a); feed = straight sink.spec.channels; factors = unity_on sink; attr = attr_on sink a; corked = false })
+new_fits sink s e a few asked input = record {
+  playable = playable sink a few asked;
+  feed_fits = record {
+    places = length-range_with_len 0 sink.spec.channels ∙ ap (λ (z : SinkSpec). z.spec.channels) e;
+    channels = subst (λ n. All (λ channel. channel < n) (range_with_len 0 sink.spec.channels)) (sym asked.channels) (all_range sink.spec.channels);
+  };
+  factors_fit = length-replicate sink.spec.channels UNITY ∙ ap (λ (z : SinkSpec). z.spec.channels) e;
+  attr_repaired = repaired_fits (spec_on sink a) a.asked;
+}
+
+room_on : (inputs : List Input) (made : ℕ) (c : Connection) (sink : SinkId) → has_no_room inputs made c sink ≡ false → length (settled_on inputs sink) < MOST_ON_SINK
+room_on inputs made c sink e =
+    let parts = or_parts (nat_le MOST_ON_SINK (length (settled_on inputs sink)) || nat_le MOST_IN_ALL (length (going_of inputs)) || nat_le LAST_INDEX made) (nat_le LAST_INDEX c.streams) e in
+    let more = or_parts (nat_le MOST_ON_SINK (length (settled_on inputs sink)) || nat_le MOST_IN_ALL (length (going_of inputs))) (nat_le LAST_INDEX made) parts.0 in
+    let last = or_parts (nat_le MOST_ON_SINK (length (settled_on inputs sink))) (nat_le MOST_IN_ALL (length (going_of inputs))) more.0 in
+    leb-false MOST_ON_SINK (length (settled_on inputs sink)) last.0
+
+-- ---- the row
+
+created_keeps : {P : Type 0} (spec_of : P → SampleSpec) (state : State P) → IsKept spec_of state → (c : Connection) (tag : ℕ) (index : SinkId) (sink : SinkSpec) (a : CreateFields) → slice_get state.sinks index.0 ≡ Some sink → is_lawful a ≡ true → is_unsupported sink a ≡ false → has_no_room state.inputs state.inputs_made c index ≡ false → is_not_built sink a ≡ false
+    → Keeps spec_of state (created state.inputs state.inputs_made c tag sink a (input_made state.inputs_made c index sink a))
+created_keeps {P} spec_of state h c tag index sink a there lawful supported room built =
+    factors_keep spec_of (changed (with_input x (with_connection c.conn (with_streams (c.streams + 1)) state)) (Posted index (new_of sink x)))
+    (new_keeps spec_of (with_connection c.conn (with_streams (c.streams + 1)) state) x (record { input = x.index; spec = x.spec; feed = straight sink.spec.channels; factors = unity_on sink; attr = x.attr; corked = false })
+    (connection_keeps spec_of state h c.conn (with_streams (c.streams + 1)) (λ d. refl))
+    refl refl refl
+    (record {
+      given = omega arith;
+      sink_there = slice_get_within state.sinks index.0 sink there;
+      playable = playable sink a rules.1.channels asked;
+      repaired = repaired_fits (spec_on sink a) a.asked;
+    })
+    refl refl
+    (room_on state.inputs state.inputs_made c index room)
+    (λ s e. new_fits sink s (same_Some sink s (sym there ∙ e)) a rules.1.channels asked state.inputs_made))
+    index sink there (settled_on state.inputs index ++ x ∷ [])
+  where
+    x : Input
+    x = input_made state.inputs_made c index sink a
+
+    rules : (before : List SinkSpec) × IsSink before sink
+    rules = sink_rules [] state.sinks index.0 sink h.sinks there
+
+    asked : Asked sink a
+    asked = asked_by sink a rules.1.map_size lawful supported built
+
+created_or_keeps : {P : Type 0} (spec_of : P → SampleSpec) (state : State P) → IsKept spec_of state → (c : Connection) (tag : ℕ) (index : SinkId) (sink : SinkSpec) (a : CreateFields) → slice_get state.sinks index.0 ≡ Some sink → is_lawful a ≡ true
+    → Keeps spec_of state (create_on state.inputs state.inputs_made c tag index sink a)
+created_or_keeps {P} spec_of state h c tag index sink a there lawful =
+    cond_both (is_unsupported sink a) (Some NotSupported) (cond (has_no_room state.inputs state.inputs_made c index) (Some TooLarge) (cond (is_not_built sink a) (Some NotImplemented) None)) (λ o. Keeps spec_of state (created_or o state.inputs state.inputs_made c tag index sink a))
+    (λ e. h)
+    (λ supported.
+    cond_both (has_no_room state.inputs state.inputs_made c index) (Some TooLarge) (cond (is_not_built sink a) (Some NotImplemented) None) (λ o. Keeps spec_of state (created_or o state.inputs state.inputs_made c tag index sink a))
+    (λ e. h)
+    (λ room.
+    cond_both (is_not_built sink a) (Some NotImplemented) None (λ o. Keeps spec_of state (created_or o state.inputs state.inputs_made c tag index sink a))
+    (λ e. h)
+    (λ built. created_keeps spec_of state h c tag index sink a there lawful supported room built)))
+
+create_there_keeps : {P : Type 0} (spec_of : P → SampleSpec) (state : State P) → IsKept spec_of state → (c : Connection) (tag : ℕ) (index : SinkId) (a : CreateFields) → is_lawful a ≡ true → (o : Option SinkSpec) → slice_get state.sinks index.0 ≡ o → Keeps spec_of state (create_there state.inputs state.inputs_made c tag index o a)
+create_there_keeps spec_of state h c tag index a lawful None e = h
+create_there_keeps spec_of state h c tag index a lawful (Some sink) e = created_or_keeps spec_of state h c tag index sink a e lawful
+
+create_named_keeps : {P : Type 0} (spec_of : P → SampleSpec) (state : State P) → IsKept spec_of state → (c : Connection) (tag : ℕ) (a : CreateFields) → is_lawful a ≡ true → (r : Result SinkId ErrorCode) → Keeps spec_of state (create_named state.sinks state.inputs state.inputs_made c tag r a)
+create_named_keeps spec_of state h c tag a lawful (Err code) = h
+create_named_keeps spec_of state h c tag a lawful (Ok index) = create_there_keeps spec_of state h c tag index a lawful (slice_get state.sinks index.0) refl
+
+pub create_keeps : {P : Type 0} (spec_of : P → SampleSpec) (state : State P) → IsKept spec_of state → (c : Connection) (tag : ℕ) (a : CreateFields) → Keeps spec_of state (create state.names state.sinks state.inputs state.inputs_made c tag a)
+create_keeps spec_of state h c tag a =
+    cond_both (is_lawful a) (create_named state.sinks state.inputs state.inputs_made c tag (sink_named state.names a.sink.index a.sink.name true) a) (refused c.conn tag Invalid) (Keeps spec_of state)
+    (λ lawful. create_named_keeps spec_of state h c tag a lawful (sink_named state.names a.sink.index a.sink.name true))
+    (λ e. h)
