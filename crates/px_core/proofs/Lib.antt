@@ -8,3 +8,4 @@ pub mod HandingLaws
 pub mod AnswerLaws
 pub mod SweepLaws
 pub mod CreateLaws
+pub mod StepLaws
