@@ -40,7 +40,7 @@ use Rattle.px_core.specs.Told.{has_left, same_spec, is_on, input_on, gives_up, g
 use Rattle.px_core.proofs.ListLaws.{all_change, all_drop, all_push, all_weaken, found_all, found_test}
 use Rattle.px_core.proofs.EntryLaws.{found_by_index}
 use Rattle.px_core.proofs.InStepLaws.{view}
-use Rattle.px_core.proofs.ChangeLaws.{sink_at, settled_spec, on_own, same_inputs_keep, leaves_keep, gone_keeps}
+use Rattle.px_core.proofs.ChangeLaws.{sink_at, held_on, settled_spec, on_own, same_inputs_keep, leaves_keep, leaves_held, gone_keeps, gone_held}
 
 -- ---- connections
 
@@ -93,8 +93,19 @@ kept_keeps spec_of state h = others_keep spec_of state h state.connections h.dis
 
 -- ---- answers
 
+-- the state is kept, and each sink has the inputs that it had
+pub record Follows {P : Type 0} (spec_of : P → SampleSpec) (before after : State P) : Type 0 where
+  pub keeps : IsKept spec_of after
+  pub held : (k : ℕ) → held_on k after.inputs ≡ held_on k before.inputs
+
 abbrev pub Keeps : {P : Type 0} → (P → SampleSpec) → State P → Answer P → Type 0
-Keeps spec_of state answer = IsKept spec_of (committed state answer.changes)
+Keeps spec_of state answer = Follows spec_of state (committed state answer.changes)
+
+pub same_held : {P : Type 0} (spec_of : P → SampleSpec) (before after : State P) → after.inputs ≡ before.inputs → IsKept spec_of after → Follows spec_of before after
+same_held spec_of before after e h = record { keeps = h; held = λ k. ap (held_on k) e }
+
+pub unchanged : {P : Type 0} {spec_of : P → SampleSpec} {state : State P} → IsKept spec_of state → Follows spec_of state state
+unchanged h = record { keeps = h; held = λ k. refl }
 
 not_leaving : (a b : Bool) (x : Input) → (a && b && not x.leaving) ≡ true → x.leaving ≡ false
 not_leaving a b x e = not-true x.leaving (and_parts (a && b) (not x.leaving) e).1
@@ -102,10 +113,13 @@ not_leaving a b x e = not-true x.leaving (and_parts (a && b) (not x.leaving) e).
 -- ---- DELETE
 
 pub delete_keeps : {P : Type 0} (spec_of : P → SampleSpec) (state : State P) → IsKept spec_of state → (conn : ConnId) (stream : ℕ) (c : Connection) (tag : ℕ) (o : Option Input) → stream_of state.inputs conn stream ≡ o → Keeps spec_of state (delete_of o c tag)
-delete_keeps spec_of state h conn stream c tag None e = h
+delete_keeps spec_of state h conn stream c tag None e = unchanged h
 delete_keeps spec_of state h conn stream c tag (Some x) e =
-    leaves_keep spec_of state x h (found_by_index (is_stream conn stream) state.inputs h.rising x e)
-    (not_leaving (nat_eq x.conn.0 conn.0) (nat_eq x.stream stream) x (found_test (is_stream conn stream) state.inputs x e))
+    record {
+      keeps = leaves_keep spec_of state x h (found_by_index (is_stream conn stream) state.inputs h.rising x e)
+          (not_leaving (nat_eq x.conn.0 conn.0) (nat_eq x.stream stream) x (found_test (is_stream conn stream) state.inputs x e));
+      held = leaves_held state x;
+    }
 
 -- ---- data
 
@@ -122,19 +136,19 @@ data_fits x offset seek bytes few e =
     }
 
 pub data_keeps : {P : Type 0} (spec_of : P → SampleSpec) (state : State P) → IsKept spec_of state → (conn : ConnId) (stream : ℕ) (offset : ℤ) (seek : ℕ) (bytes : List ℕ) → seek ≤ 3 → (o : Option Input) → stream_of state.inputs conn stream ≡ o → Keeps spec_of state (data_for o offset seek bytes)
-data_keeps spec_of state h conn stream offset seek bytes few None e = h
+data_keeps spec_of state h conn stream offset seek bytes few None e = unchanged h
 data_keeps spec_of state h conn stream offset seek bytes few (Some x) e =
     cond_both (are_frames (frame_size_of x.spec) offset (length bytes)) (record { changes = Posted x.sink (write_of x offset seek bytes) ∷ []; effects = [] }) ignored (Keeps spec_of state)
     (λ t.
     let here = found_by_index (is_stream conn stream) state.inputs h.rising x e in
     let goes = not_leaving (nat_eq x.conn.0 conn.0) (nat_eq x.stream stream) x (found_test (is_stream conn stream) state.inputs x e) in
     let there = settled_spec state.inputs h.rising x.sink.0 x here (on_own x goes) in
-    same_inputs_keep spec_of state x.sink (write_of x offset seek bytes) h (found_all (IsInput state.sinks state.inputs_made) (is_stream conn stream) state.inputs x h.inputs e).sink_there refl
+    same_held spec_of state (changed state (Posted x.sink (write_of x offset seek bytes))) refl (same_inputs_keep spec_of state x.sink (write_of x offset seek bytes) h (found_all (IsInput state.sinks state.inputs_made) (is_stream conn stream) state.inputs x h.inputs e).sink_there refl
     (subst IsSome (sym there) refl)
     (λ s g. subst (λ o. MatchOption o ⊤ (λ spec. IsWhole spec (record { input = x.index.0; seek = seek; offset = int_div_euclid offset (pos (frame_size_of x.spec)); frames = length bytes / frame_size_of x.spec; bytes = bytes }))) (sym there)
     (data_fits x offset seek bytes few t))
-    (λ inputs. refl))
-    (λ t. h)
+    (λ inputs. refl)))
+    (λ t. unchanged h)
 
 -- ---- Factors of a sink
 
@@ -156,19 +170,22 @@ away There e = absurd (false≢true e)
 away Left e = (refl, refl)
 
 given_up_on_keeps : {P : Type 0} (spec_of : P → SampleSpec) (state : State P) → IsKept spec_of state → (x : Input) → input_of state.inputs x.index ≡ Some x → x.leaving ≡ true → has_left x.way ≡ true → (o : Option SinkSpec) → slice_get state.sinks x.sink.0 ≡ o → Keeps spec_of state (given_up_on state o x)
-given_up_on_keeps spec_of state h x here leaves left None e = h
+given_up_on_keeps spec_of state h x here leaves left None e = unchanged h
 given_up_on_keeps spec_of state h x here leaves left (Some sink) e =
-    factors_keep spec_of (changed state (Gone x.index)) (gone_keeps spec_of state x h here leaves (away x.way left).0 (away x.way left).1) x.sink sink e (settled_on state.inputs x.sink)
+    record {
+      keeps = factors_keep spec_of (changed state (Gone x.index)) (gone_keeps spec_of state x h here leaves (away x.way left).0 (away x.way left).1) x.sink sink e (settled_on state.inputs x.sink);
+      held = gone_held state x here (away x.way left).0;
+    }
 
 pub given_up_keeps : {P : Type 0} (spec_of : P → SampleSpec) (state : State P) → IsKept spec_of state → (sink : SinkId) (input : InputId) (spec : SampleSpec) (o : Option Input) → input_on state.inputs sink input ≡ o → Keeps spec_of state (given_up state o spec)
-given_up_keeps spec_of state h sink input spec None e = h
+given_up_keeps spec_of state h sink input spec None e = unchanged h
 given_up_keeps spec_of state h sink input spec (Some x) e =
     cond_both (gives_up spec x) (given_up_on state (slice_get state.sinks x.sink.0) x) ignored (Keeps spec_of state)
     (λ t.
     let parts = and_parts (x.leaving && has_left x.way) (same_spec spec (sample_spec x.spec)) t in
     let first = and_parts x.leaving (has_left x.way) parts.0 in
     given_up_on_keeps spec_of state h x (found_by_index (is_on sink input) state.inputs h.rising x e) first.0 first.1 (slice_get state.sinks x.sink.0) refl)
-    (λ t. h)
+    (λ t. unchanged h)
 
 -- ---- connections are swept away
 
@@ -197,6 +214,10 @@ pub all_end : {P : Type 0} (spec_of : P → SampleSpec) (xs : List Input) → Is
 all_end spec_of [] r state h g = h
 all_end spec_of (x ∷ xs) r state h g =
     all_end spec_of xs r.1 (committed state (ends x)) (leaves_keep spec_of state x h g.0.0 g.0.1) (goes_on state.inputs x xs r.0 g.1)
+
+pub all_end_held : {P : Type 0} (xs : List Input) (state : State P) (k : ℕ) → held_on k (committed state (flat_map ends xs)).inputs ≡ held_on k state.inputs
+all_end_held [] state k = refl
+all_end_held (x ∷ xs) state k = all_end_held xs (committed state (ends x)) k ∙ leaves_held state x k
 
 -- and the others are there as before
 pub others_there : {P : Type 0} (y : Input) (xs : List Input) → AllByRecursion (λ x. (Input.index x).0 ≡ y.index.0 → ⊥) xs → (state : State P) → input_of (committed state (flat_map ends xs)).inputs y.index ≡ input_of state.inputs y.index

@@ -34,6 +34,10 @@ use Rattle.px_core.proofs.InStepLaws.{view, unmoved, posted}
 abbrev pub sink_at : ℕ → SinkId
 sink_at k = record { 0 = k }
 
+-- the inputs that a sink has
+abbrev pub held_on : ℕ → List Input → List (ℕ × SampleSpec)
+held_on k inputs = map entry_of (filter (is_held_by (sink_at k)) inputs)
+
 -- ---- one list of messages is another
 
 pub set_in_step : {P : Type 0} (spec_of : P → SampleSpec) (sinks : List SinkSpec) (inputs : List Input) (lists : List (List (Msg P))) (k : ℕ) (w : List (Msg P)) → k < length lists
@@ -121,6 +125,9 @@ leaves_keep {P} spec_of state x h here goes = record {
     gone : (k : ℕ) (y : Input) → is_settled (sink_at k) (leaving y) ≡ false
     gone k y = and_right (nat_eq y.sink.0 k) false refl
 
+pub leaves_held : {P : Type 0} (state : State P) (x : Input) (k : ℕ) → held_on k (changed (changed state (Leaves x.index)) (Posted x.sink (Detach x.index))).inputs ≡ held_on k state.inputs
+leaves_held state x k = same_passed (is_held_by (sink_at k)) (has_index x.index) leaving entry_of state.inputs (λ y found. refl) (λ y. refl)
+
 -- ---- an input goes, that has ended and left its sink
 
 pub gone_keeps : {P : Type 0} (spec_of : P → SampleSpec) (state : State P) (x : Input) → IsKept spec_of state → input_of state.inputs x.index ≡ Some x → x.leaving ≡ true → is_there x.way ≡ false → is_coming x.way ≡ false → IsKept spec_of (changed state (Gone x.index))
@@ -139,6 +146,11 @@ gone_keeps {P} spec_of state x h here leaves away past = record {
   where
     without : (p : Input → Bool) → p x ≡ false → filter p (drop_first (has_index x.index) state.inputs) ≡ filter p state.inputs
     without p e = same_left p (has_index x.index) state.inputs (λ y found. subst (λ z. p z ≡ false) (same_Some x y (sym here ∙ found)) e)
+
+pub gone_held : {P : Type 0} (state : State P) (x : Input) → input_of state.inputs x.index ≡ Some x → is_there x.way ≡ false → (k : ℕ) → held_on k (changed state (Gone x.index)).inputs ≡ held_on k state.inputs
+gone_held state x here away k =
+    ap (map entry_of)
+    (same_left (is_held_by (sink_at k)) (has_index x.index) state.inputs (λ y found. subst (λ z. is_held_by (sink_at k) z ≡ false) (same_Some x y (sym here ∙ found)) (and_right (nat_eq x.sink.0 k) (is_there x.way) away)))
 
 -- ---- an input is made, and its stream is posted
 
@@ -202,3 +214,6 @@ new_keeps {P} spec_of state x n h fresh coming goes is same_index same_spec room
 
     comes : (k : ℕ) → x.sink.0 ≡ k → is_coming_to (sink_at k) x ≡ true
     comes k e = and_from (nat_eq x.sink.0 k) (is_coming x.way) (eq-eqb x.sink.0 k e) (ap is_coming coming)
+
+pub new_held : (inputs : List Input) (x : Input) → x.way ≡ Coming → (k : ℕ) → held_on k (inputs ++ x ∷ []) ≡ held_on k inputs
+new_held inputs x coming k = ap (map entry_of) (pushed_other (is_held_by (sink_at k)) inputs x (and_right (nat_eq x.sink.0 k) (is_there x.way) (ap is_there coming)))

@@ -27,13 +27,13 @@ use Rattle.px_vol.specs.Volume.{norm}
 use Rattle.px_core.specs.declared.input.Connection.{Connection}
 use Rattle.px_core.specs.declared.input.Input.{Input}
 use Rattle.px_core.specs.State.{State, has_number, settled_on, going_of}
-use Rattle.px_core.specs.Change.{with_streams, with_connection, changed}
+use Rattle.px_core.specs.Change.{with_streams, with_connection, changed, committed}
 use Rattle.px_core.specs.declared.change.Change.TheVariants.{Made, Posted}
 use Rattle.px_core.specs.Create.{is_spec, is_map, are_volumes, format_on, channels_on, positions_on, rate_on, same_positions, format_with, spec_on, attr_on, is_unsupported, has_no_room, is_not_built, refusal_on, input_made, created, created_or, create_on, create_there, create_named, create, is_lawful, straight, unity_on, new_of, UNITY, MOST_ON_SINK, MOST_IN_ALL, LAST_INDEX}
 use Rattle.px_core.specs.Reply.{Answer, refused}
 use Rattle.px_core.specs.Keeps.{IsInput, IsKept}
-use Rattle.px_core.proofs.ChangeLaws.{sink_at, with_input, new_keeps}
-use Rattle.px_core.proofs.AnswerLaws.{Keeps, connection_keeps, factors_keep}
+use Rattle.px_core.proofs.ChangeLaws.{sink_at, with_input, new_keeps, new_held}
+use Rattle.px_core.proofs.AnswerLaws.{Keeps, unchanged, connection_keeps, factors_keep}
 
 -- ---- attributes as repaired
 
@@ -184,20 +184,10 @@ room_on inputs made c sink e =
 created_keeps : {P : Type 0} (spec_of : P → SampleSpec) (state : State P) → IsKept spec_of state → (c : Connection) (tag : ℕ) (index : SinkId) (sink : SinkSpec) (a : CreateFields) → slice_get state.sinks index.0 ≡ Some sink → is_lawful a ≡ true → is_unsupported sink a ≡ false → has_no_room state.inputs state.inputs_made c index ≡ false → is_not_built sink a ≡ false
     → Keeps spec_of state (created state.inputs state.inputs_made c tag sink a (input_made state.inputs_made c index sink a))
 created_keeps {P} spec_of state h c tag index sink a there lawful supported room built =
-    factors_keep spec_of (changed (with_input x (with_connection c.conn (with_streams (c.streams + 1)) state)) (Posted index (new_of sink x)))
-    (new_keeps spec_of (with_connection c.conn (with_streams (c.streams + 1)) state) x (record { input = x.index; spec = x.spec; feed = straight sink.spec.channels; factors = unity_on sink; attr = x.attr; corked = false })
-    (connection_keeps spec_of state h c.conn (with_streams (c.streams + 1)) (λ d. refl))
-    refl refl refl
-    (record {
-      given = omega arith;
-      sink_there = slice_get_within state.sinks index.0 sink there;
-      playable = playable sink a rules.1.channels asked;
-      repaired = repaired_fits (spec_on sink a) a.asked;
-    })
-    refl refl
-    (room_on state.inputs state.inputs_made c index room)
-    (λ s e. new_fits sink s (same_Some sink s (sym there ∙ e)) a rules.1.channels asked state.inputs_made))
-    index sink there (settled_on state.inputs index ++ x ∷ [])
+    record {
+      keeps = made;
+      held = new_held state.inputs (input_made state.inputs_made c index sink a) refl;
+    }
   where
     x : Input
     x = input_made state.inputs_made c index sink a
@@ -208,29 +198,46 @@ created_keeps {P} spec_of state h c tag index sink a there lawful supported room
     asked : Asked sink a
     asked = asked_by sink a rules.1.map_size lawful supported built
 
+    made : IsKept spec_of (committed state (created {P = P} state.inputs state.inputs_made c tag sink a (input_made state.inputs_made c index sink a)).changes)
+    made =
+        factors_keep spec_of (changed (with_input x (with_connection c.conn (with_streams (c.streams + 1)) state)) (Posted index (new_of sink x)))
+        (new_keeps spec_of (with_connection c.conn (with_streams (c.streams + 1)) state) x (record { input = x.index; spec = x.spec; feed = straight sink.spec.channels; factors = unity_on sink; attr = x.attr; corked = false })
+        (connection_keeps spec_of state h c.conn (with_streams (c.streams + 1)) (λ d. refl))
+        refl refl refl
+        (record {
+          given = omega arith;
+          sink_there = slice_get_within state.sinks index.0 sink there;
+          playable = playable sink a rules.1.channels asked;
+          repaired = repaired_fits (spec_on sink a) a.asked;
+        })
+        refl refl
+        (room_on state.inputs state.inputs_made c index room)
+        (λ s e. new_fits sink s (same_Some sink s (sym there ∙ e)) a rules.1.channels asked state.inputs_made))
+        index sink there (settled_on state.inputs index ++ x ∷ [])
+
 created_or_keeps : {P : Type 0} (spec_of : P → SampleSpec) (state : State P) → IsKept spec_of state → (c : Connection) (tag : ℕ) (index : SinkId) (sink : SinkSpec) (a : CreateFields) → slice_get state.sinks index.0 ≡ Some sink → is_lawful a ≡ true
     → Keeps spec_of state (create_on state.inputs state.inputs_made c tag index sink a)
 created_or_keeps {P} spec_of state h c tag index sink a there lawful =
     cond_both (is_unsupported sink a) (Some NotSupported) (cond (has_no_room state.inputs state.inputs_made c index) (Some TooLarge) (cond (is_not_built sink a) (Some NotImplemented) None)) (λ o. Keeps spec_of state (created_or o state.inputs state.inputs_made c tag index sink a))
-    (λ e. h)
+    (λ e. unchanged h)
     (λ supported.
     cond_both (has_no_room state.inputs state.inputs_made c index) (Some TooLarge) (cond (is_not_built sink a) (Some NotImplemented) None) (λ o. Keeps spec_of state (created_or o state.inputs state.inputs_made c tag index sink a))
-    (λ e. h)
+    (λ e. unchanged h)
     (λ room.
     cond_both (is_not_built sink a) (Some NotImplemented) None (λ o. Keeps spec_of state (created_or o state.inputs state.inputs_made c tag index sink a))
-    (λ e. h)
+    (λ e. unchanged h)
     (λ built. created_keeps spec_of state h c tag index sink a there lawful supported room built)))
 
 create_there_keeps : {P : Type 0} (spec_of : P → SampleSpec) (state : State P) → IsKept spec_of state → (c : Connection) (tag : ℕ) (index : SinkId) (a : CreateFields) → is_lawful a ≡ true → (o : Option SinkSpec) → slice_get state.sinks index.0 ≡ o → Keeps spec_of state (create_there state.inputs state.inputs_made c tag index o a)
-create_there_keeps spec_of state h c tag index a lawful None e = h
+create_there_keeps spec_of state h c tag index a lawful None e = unchanged h
 create_there_keeps spec_of state h c tag index a lawful (Some sink) e = created_or_keeps spec_of state h c tag index sink a e lawful
 
 create_named_keeps : {P : Type 0} (spec_of : P → SampleSpec) (state : State P) → IsKept spec_of state → (c : Connection) (tag : ℕ) (a : CreateFields) → is_lawful a ≡ true → (r : Result SinkId ErrorCode) → Keeps spec_of state (create_named state.sinks state.inputs state.inputs_made c tag r a)
-create_named_keeps spec_of state h c tag a lawful (Err code) = h
+create_named_keeps spec_of state h c tag a lawful (Err code) = unchanged h
 create_named_keeps spec_of state h c tag a lawful (Ok index) = create_there_keeps spec_of state h c tag index a lawful (slice_get state.sinks index.0) refl
 
 pub create_keeps : {P : Type 0} (spec_of : P → SampleSpec) (state : State P) → IsKept spec_of state → (c : Connection) (tag : ℕ) (a : CreateFields) → Keeps spec_of state (create state.names state.sinks state.inputs state.inputs_made c tag a)
 create_keeps spec_of state h c tag a =
     cond_both (is_lawful a) (create_named state.sinks state.inputs state.inputs_made c tag (sink_named state.names a.sink.index a.sink.name true) a) (refused c.conn tag Invalid) (Keeps spec_of state)
     (λ lawful. create_named_keeps spec_of state h c tag a lawful (sink_named state.names a.sink.index a.sink.name true))
-    (λ e. h)
+    (λ e. unchanged h)

@@ -1,5 +1,5 @@
 -- Sweeping ended connections away keeps what the state keeps.
-use Rattle.std.proofs.Common.{◌≡◌, ℕ, List, [], ◌∷◌, ◌++◌, Option, Some, None, Bool, true, false, refl, ap, sym, subst, ◌∙◌}
+use Rattle.std.proofs.Common.{◌≡◌, ℕ, List, [], ◌∷◌, ◌++◌, map, Option, Some, None, Bool, true, false, refl, ap, sym, subst, ◌∙◌}
 use Rattle.std.specs.Prelude.{not, filter, flat_map, nat_eq}
 use Rattle.std.specs.List.{AllByRecursion, fold}
 use Rattle.std.proofs.lemmas.Bool.{eqb-true, not-true, and_parts}
@@ -17,7 +17,8 @@ use Rattle.px_core.specs.Delete.{ends}
 use Rattle.px_core.specs.Connecting.{swept, sweep_of}
 use Rattle.px_core.specs.Keeps.{AreDistinct, IsKept, IsRising}
 use Rattle.px_core.proofs.ListLaws.{all_weaken}
-use Rattle.px_core.proofs.AnswerLaws.{Keeps, Goes, all_end, others_there, rising_filter, found_each, filter_each, distinct_filter, forgotten_keeps}
+use Rattle.px_core.proofs.ChangeLaws.{held_on}
+use Rattle.px_core.proofs.AnswerLaws.{Keeps, Goes, all_end, all_end_held, others_there, rising_filter, found_each, filter_each, distinct_filter, forgotten_keeps}
 
 -- each of the connection's inputs that went on before any was swept away is there
 abbrev Remains : List Input → List Input → Connection → Type 0
@@ -73,6 +74,17 @@ all_remain : (before : List Input) (cs : List Connection) → AllByRecursion (Re
 all_remain before [] = tt
 all_remain before (c ∷ cs) = ((λ y here goes on. here), all_remain before cs)
 
+all_go_held : {P : Type 0} (before : List Input) (cs : List Connection) (state : State P) (k : ℕ) → held_on k (committed state (flat_map (swept before) cs)).inputs ≡ held_on k state.inputs
+all_go_held before [] state k = refl
+all_go_held {P} before (c ∷ cs) state k =
+    ap (λ (s : State P). held_on k s.inputs)
+    (fold-append changed state (flat_map ends (filter (is_from c.conn) before) ++ Forgotten c.conn ∷ []) (flat_map (swept before) cs)
+    ∙ ap (λ (s : State P). committed s (flat_map (swept before) cs)) (fold-append changed state (flat_map ends (filter (is_from c.conn) before)) (Forgotten c.conn ∷ [])))
+    ∙ all_go_held before cs (changed (committed state (flat_map ends (filter (is_from c.conn) before))) (Forgotten c.conn)) k
+    ∙ all_end_held (filter (is_from c.conn) before) state k
+
 pub sweep_keeps : {P : Type 0} (spec_of : P → SampleSpec) (state : State P) → IsKept spec_of state → Keeps spec_of state (sweep_of state)
-sweep_keeps spec_of state h =
-    all_go spec_of state.inputs h.rising (marked_of state.connections) (distinct_filter (λ c. Connection.marked c) state.connections h.distinct) state h (all_remain state.inputs (marked_of state.connections))
+sweep_keeps spec_of state h = record {
+  keeps = all_go spec_of state.inputs h.rising (marked_of state.connections) (distinct_filter (λ c. Connection.marked c) state.connections h.distinct) state h (all_remain state.inputs (marked_of state.connections));
+  held = all_go_held state.inputs (marked_of state.connections) state;
+}

@@ -1,6 +1,7 @@
 -- What the state of the core keeps from step to step.
-use Rattle.std.specs.Prelude.{◌≡◌, ℕ, ◌<◌, ◌≤◌, ◌≢◌, Bool, true, false, ◌&&◌, nat_eq, List, [], ◌∷◌, map, filter, length, flat_map, slice_get, get_or, Some, ⊤}
+use Rattle.std.specs.Prelude.{◌≡◌, ℕ, zero, suc, ◌<◌, ◌≤◌, ◌≢◌, Bool, true, false, ◌&&◌, nat_eq, List, [], ◌∷◌, ◌++◌, map, filter, length, flat_map, slice_get, get_or, Some, ⊤}
 use Rattle.std.specs.List.{AllByRecursion}
+use Rattle.std.specs.Option.{option_to_list}
 use Rattle.px_types.specs.declared.ids.SinkId.{SinkId}
 use Rattle.px_session.specs.declared.header.SinkSpec.{SinkSpec}
 use Rattle.px_session.specs.HeaderRules.{AreSinks}
@@ -17,7 +18,7 @@ use Rattle.px_core.specs.declared.input.Way.TheVariants.{Coming, There, Left}
 use Rattle.px_core.specs.State.{State, settled_on}
 use Rattle.px_core.specs.Create.{MOST_ON_SINK}
 use Rattle.px_core.specs.Orderly.{entry_of, specs_of, is_held_by}
-use Rattle.px_core.specs.Out.{waiting_for}
+use Rattle.px_core.specs.Out.{next_for, handed_out}
 use Rattle.px_core.specs.Step.{Step, connect, frame, broken, close, cut, sweep, notice, out}
 
 -- ---- connections and inputs
@@ -101,3 +102,25 @@ IsStep (cut conn) = ⊤
 IsStep sweep = ⊤
 IsStep (notice sink n) = ⊤
 IsStep (out sink) = ⊤
+
+-- a step that hands out no message to the sink
+abbrev pub Spares : {P : Type 0} → SinkId → Step P → Type 0
+Spares sink (connect conn) = ⊤
+Spares sink (frame conn f) = ⊤
+Spares sink (broken conn fault at) = ⊤
+Spares sink (close conn) = ⊤
+Spares sink (cut conn) = ⊤
+Spares sink sweep = ⊤
+Spares sink (notice from n) = ⊤
+Spares sink (out to) = to.0 ≢ sink.0
+
+-- ---- so many messages handed out to a sink, one after the other
+
+abbrev pub handed_out_by : {P : Type 0} → ℕ → SinkId → State P → State P
+handed_out_by zero sink state = state
+handed_out_by (suc n) sink state = handed_out_by n sink (handed_out sink state)
+
+-- these messages, in order; none where none waits any more
+abbrev pub messages_out : {P : Type 0} → ℕ → SinkId → State P → List (Msg P)
+messages_out zero sink state = []
+messages_out (suc n) sink state = option_to_list (next_for state sink) ++ messages_out n sink (handed_out sink state)
