@@ -1,1 +1,4 @@
 pub mod Feeding
+pub mod Runs
+pub mod Histories
+pub mod Decided
