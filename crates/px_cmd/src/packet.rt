@@ -1,6 +1,6 @@
 //! Commands, read from packets.
 
-ghost use Rattle.std.specs.Prelude.{◌≡◌, ◌≤◌};
+ghost use Rattle.std.specs.Prelude.{◌≡◌, ◌≤◌, is_some};
 ghost use Rattle.px_cmd.specs.Command.{fields_of, number_of};
 ghost use Rattle.px_cmd.specs.Packet.{taken, meaning, Reaches, Answers};
 ghost use Rattle.px_cmd.specs.Table.{kinds_of};
@@ -184,6 +184,38 @@ fn fields(alloc: Global, number: u32, reader: &mut TagReader) -> Result<Command,
         0..=35 => Err(CmdFault::Unsupported(number)),
         _ => later_fields(alloc, number, reader),
     }
+}
+
+/// Whether the table has a command of this number. Takes no memory.
+pub fn is_command(number: u32) -> bool
+    ensures { result ≡ is_some (kinds_of number) }
+{
+    matches!(
+        number,
+        3 | 4
+            | 8..=10
+            | 12
+            | 14
+            | 20..=22
+            | 24
+            | 26..=30
+            | 32
+            | 34..=37
+            | 39
+            | 41..=44
+            | 46
+            | 48
+            | 49
+            | 60
+            | 67
+            | 69
+            | 72
+            | 81
+            | 82
+            | 84
+            | 85
+            | 89
+    )
 }
 
 /// The command that a packet means, with its fields by the connection's version; every version is read as

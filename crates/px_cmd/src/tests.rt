@@ -106,6 +106,16 @@ fn each_command(rt: HostRuntime) -> Result<(), NoMemory> {
     check_rows(&rt, rt.alloc(), &ROWS)
 }
 
+#[test]
+fn numbers_of_commands(rt: HostRuntime) {
+    for number in [3, 4, 8, 9, 10, 89] {
+        assert!(rt; is_command(number));
+    }
+    for number in [0, 1, 5, 11, 38, 90, 104, 105, 1000] {
+        assert!(rt; !is_command(number));
+    }
+}
+
 // AUTH with a cookie of so many bytes.
 fn auth(alloc: Global, size: u16) -> Result<Vec<u8>, NoMemory> {
     let mut packet = packet_of(alloc, 8, b"L\x00\x00\x00\x0dx\x00\x00")?;

@@ -5,8 +5,7 @@ use Rattle.px_types.specs.declared.ids.ConnId.{ConnId}
 use Rattle.px_types.specs.declared.ids.InputId.{InputId}
 use Rattle.px_types.specs.declared.ids.SinkId.{SinkId}
 use Rattle.px_tag.specs.PropList.{Property}
-use Rattle.px_names.specs.declared.client.Client.{Client}
-use Rattle.px_names.specs.Clients.{is_on, change_first as change_client, without_first as without_client}
+use Rattle.px_names.specs.Clients.{is_on, change_first as change_client, without_first as without_client, with_list}
 use Rattle.px_names.specs.Names.{Naming}
 use Rattle.px_msg.specs.declared.message.Msg.{Msg}
 use Rattle.px_core.specs.declared.input.Connection.{Connection}
@@ -26,9 +25,6 @@ drop_first is [] = []
 drop_first is (x ∷ xs) = cond (is x) xs (x ∷ drop_first is xs)
 
 -- ---- names
-
-abbrev pub with_list : List Property → Client → Client
-with_list list client = record client { list = list }
 
 abbrev pub renamed : ConnId → List Property → Naming → Naming
 renamed conn list names = record names { clients = change_client (is_on conn) (with_list list) names.clients }

@@ -105,7 +105,7 @@ abbrev pub row : {P : Type 0} → State P → Connection → ℕ → ℕ → Lis
 row state c tag command fields =
     cond (nat_eq command 8) (auth state.names c tag (number_in fields 0) (as_bytes (field fields 1)))
     (cond (nat_eq command 9) (set_name state.names c tag (as_properties (field fields 0)))
-    (cond (nat_eq command 3) (create state c tag (create_in fields))
+    (cond (nat_eq command 3) (create state.names state.sinks state.inputs state.inputs_made c tag (create_in fields))
     (cond (nat_eq command 4) (delete state.inputs c tag (number_in fields 0))
     (done c.conn (reply_to tag) []))))
 

@@ -29,7 +29,7 @@ use Rattle.px_core.specs.declared.change.Change.TheVariants.{Made, Posted}
 use Rattle.px_core.specs.declared.input.Connection.{Connection}
 use Rattle.px_core.specs.declared.input.Input.{Input}
 use Rattle.px_core.specs.declared.input.Way.TheVariants.{Coming}
-use Rattle.px_core.specs.State.{State, settled_on, going_of}
+use Rattle.px_core.specs.State.{settled_on, going_of}
 use Rattle.px_core.specs.Reply.{Answer, refused, done}
 
 -- ---- what is asked
@@ -93,11 +93,11 @@ is_unsupported sink a =
     nat_eq (format_on sink a) 5 || nat_eq (format_on sink a) 6 || a.variable_rate || not (nat_eq (rate_on sink a) sink.spec.rate)
 
 -- too many inputs on the sink or in all, or no number is left that none has had; a connection has no more streams than there were inputs
-abbrev pub has_no_room : {P : Type 0} → State P → Connection → SinkId → Bool
-has_no_room state c sink =
-    nat_le MOST_ON_SINK (length (settled_on state.inputs sink))
-    || nat_le MOST_IN_ALL (length (going_of state.inputs))
-    || nat_le LAST_INDEX state.inputs_made || nat_le LAST_INDEX c.streams
+abbrev pub has_no_room : List Input → ℕ → Connection → SinkId → Bool
+has_no_room inputs inputs_made c sink =
+    nat_le MOST_ON_SINK (length (settled_on inputs sink))
+    || nat_le MOST_IN_ALL (length (going_of inputs))
+    || nat_le LAST_INDEX inputs_made || nat_le LAST_INDEX c.streams
 
 -- one that begins corked or with prebuffering, that isn't S16LE on the sink's own map, or is muted or of another volume
 abbrev pub is_not_built : SinkSpec → CreateFields → Bool
@@ -106,10 +106,10 @@ is_not_built sink a =
     || not (nat_eq (format_on sink a) 3) || not (same_positions (positions_on sink a) sink.map)
     || a.muted || not (list_all (λ v. nat_eq v norm) a.volume)
 
-abbrev pub refusal_on : {P : Type 0} → State P → Connection → SinkId → SinkSpec → CreateFields → Option ErrorCode
-refusal_on state c index sink a =
+abbrev pub refusal_on : List Input → ℕ → Connection → SinkId → SinkSpec → CreateFields → Option ErrorCode
+refusal_on inputs inputs_made c index sink a =
     cond (is_unsupported sink a) (Some NotSupported)
-    (cond (has_no_room state c index) (Some TooLarge)
+    (cond (has_no_room inputs inputs_made c index) (Some TooLarge)
     (cond (is_not_built sink a) (Some NotImplemented) None))
 
 -- ---- the new input
@@ -125,9 +125,9 @@ straight channels = range_with_len 0 channels
 abbrev pub unity_on : SinkSpec → List ℕ
 unity_on sink = replicate sink.spec.channels UNITY
 
-abbrev pub input_made : {P : Type 0} → State P → Connection → SinkId → SinkSpec → CreateFields → Input
-input_made state c index sink a = record {
-  index = record { 0 = state.inputs_made };
+abbrev pub input_made : ℕ → Connection → SinkId → SinkSpec → CreateFields → Input
+input_made inputs_made c index sink a = record {
+  index = record { 0 = inputs_made };
   conn = c.conn;
   stream = c.streams;
   sink = index;
@@ -175,29 +175,32 @@ created_of sink a x = record {
 
 -- ---- the command
 
-abbrev pub created : {P : Type 0} → State P → Connection → ℕ → SinkSpec → CreateFields → Input → Answer P
-created state c tag sink a x =
+abbrev pub created : {P : Type 0} → List Input → ℕ → Connection → ℕ → SinkSpec → CreateFields → Input → Answer P
+created inputs inputs_made c tag sink a x =
     done c.conn (created_reply tag (created_of sink a x))
-    (Made x (c.streams + 1) (state.inputs_made + 1) ∷ Posted x.sink (new_of sink x) ∷ Posted x.sink (factors_for sink (settled_on state.inputs x.sink ++ x ∷ [])) ∷ [])
+    (Made x (c.streams + 1) (inputs_made + 1) ∷ Posted x.sink (new_of sink x) ∷ Posted x.sink (factors_for sink (settled_on inputs x.sink ++ x ∷ [])) ∷ [])
 
-abbrev pub created_or : {P : Type 0} → Option ErrorCode → State P → Connection → ℕ → SinkId → SinkSpec → CreateFields → Answer P
-created_or (Some code) state c tag index sink a = refused c.conn tag code
-created_or None state c tag index sink a = created state c tag sink a (input_made state c index sink a)
+abbrev pub created_or : {P : Type 0} → Option ErrorCode → List Input → ℕ → Connection → ℕ → SinkId → SinkSpec → CreateFields → Answer P
+created_or (Some code) inputs inputs_made c tag index sink a = refused c.conn tag code
+created_or None inputs inputs_made c tag index sink a = created inputs inputs_made c tag sink a (input_made inputs_made c index sink a)
 
-abbrev pub create_on : {P : Type 0} → State P → Connection → ℕ → SinkId → SinkSpec → CreateFields → Answer P
-create_on state c tag index sink a = created_or (refusal_on state c index sink a) state c tag index sink a
+abbrev pub create_on : {P : Type 0} → List Input → ℕ → Connection → ℕ → SinkId → SinkSpec → CreateFields → Answer P
+create_on inputs inputs_made c tag index sink a = created_or (refusal_on inputs inputs_made c index sink a) inputs inputs_made c tag index sink a
 
-abbrev pub create_there : {P : Type 0} → State P → Connection → ℕ → SinkId → Option SinkSpec → CreateFields → Answer P
-create_there state c tag index None a = refused c.conn tag Invalid
-create_there state c tag index (Some sink) a = create_on state c tag index sink a
+abbrev pub create_there : {P : Type 0} → List Input → ℕ → Connection → ℕ → SinkId → Option SinkSpec → CreateFields → Answer P
+create_there inputs inputs_made c tag index None a = refused c.conn tag Invalid
+create_there inputs inputs_made c tag index (Some sink) a = create_on inputs inputs_made c tag index sink a
 
-abbrev pub create_named : {P : Type 0} → State P → Connection → ℕ → Result SinkId ErrorCode → CreateFields → Answer P
-create_named state c tag (Err code) a = refused c.conn tag code
-create_named state c tag (Ok index) a = create_there state c tag index (slice_get state.sinks index.0) a
+abbrev pub create_named : {P : Type 0} → List SinkSpec → List Input → ℕ → Connection → ℕ → Result SinkId ErrorCode → CreateFields → Answer P
+create_named sinks inputs inputs_made c tag (Err code) a = refused c.conn tag code
+create_named sinks inputs inputs_made c tag (Ok index) a = create_there inputs inputs_made c tag index (slice_get sinks index.0) a
+
+abbrev pub is_lawful : CreateFields → Bool
+is_lawful a = is_spec a.spec && is_map a.spec a.map && are_volumes a.spec a.volume
 
 -- what can't be, then the sink that is named, then what that sink can't play or has no room for
-abbrev pub create : {P : Type 0} → State P → Connection → ℕ → CreateFields → Answer P
-create state c tag a =
-    cond (is_spec a.spec && is_map a.spec a.map && are_volumes a.spec a.volume)
-    (create_named state c tag (sink_named state.names a.sink.index a.sink.name true) a)
+abbrev pub create : {P : Type 0} → Naming → List SinkSpec → List Input → ℕ → Connection → ℕ → CreateFields → Answer P
+create names sinks inputs inputs_made c tag a =
+    cond (is_lawful a)
+    (create_named sinks inputs inputs_made c tag (sink_named names a.sink.index a.sink.name true) a)
     (refused c.conn tag Invalid)

@@ -1,5 +1,6 @@
 pub mod Effect
 pub mod State
+pub mod Tables
 pub mod Change
 pub mod Reply
 pub mod Client

@@ -1,10 +1,11 @@
 //! What a step does to the outside.
 
-ghost use Rattle.std.specs.Prelude.{◌≡◌};
-ghost use Rattle.px_core.specs.Effect.{reason_code};
+ghost use Rattle.std.specs.Prelude.{◌≡◌, ◌<◌, ◌≤◌, length, IfOk};
+ghost use Rattle.px_core.specs.Effect.{reason_code, framed, sent};
 
-use px_frame::Packet;
-use px_types::ConnId;
+use px_frame::{Packet, write_packet};
+use px_types::{ConnId, Mem, NoMemory};
+use std::alloc::Global;
 
 /// Why the server has ended a connection.
 #[derive(Clone, Copy, Debug, PartialEq, Eq)]
@@ -49,4 +50,17 @@ pub enum Effect {
         fault: u8,
         at: u64,
     },
+}
+
+// The effect that a packet of 1 to 16,777,216 bytes goes to a client, as a whole frame.
+#[tactic(auto, unfolding(crate::specs::Effect::framed))]
+pub(crate) fn sent(alloc: Global, conn: ConnId, packet: &[u8]) -> Mem<Effect>
+    requires some { 0 < length packet.now }
+    requires few { length packet.now ≤ 16777216 }
+    ensures { IfOk result (λ effect. effect ≡ sent conn packet.now) }
+{
+    match write_packet(alloc, packet) {
+        Ok(packet) => Ok(Effect::Sent { conn, packet }),
+        Err(_) => Err(NoMemory),
+    }
 }

@@ -3,10 +3,24 @@
 //! made of.
 #![tactic(auto)]
 
+mod answer;
+mod asked;
 mod change;
+mod client;
+mod delete;
 mod effect;
+mod effects;
+mod factors;
+mod found;
 mod input;
+mod refusals;
+mod reply;
+mod streams;
+mod tables;
+mod verbs;
 
+pub use answer::Answer;
 pub use change::Change;
 pub use effect::{Effect, Reason};
+pub use effects::Effects;
 pub use input::{Connection, Input, Way};

@@ -36,6 +36,9 @@ without_first is (c ∷ clients) = cond (is c) clients (c ∷ without_first is c
 abbrev pub with_mask : ℕ → Client → Client
 with_mask mask client = record client { mask = mask }
 
+abbrev pub with_list : List Property → Client → Client
+with_list list client = record client { list = list }
+
 abbrev pub with_update : Mode → List Property → Client → Client
 with_update mode list client = record client { list = updated mode client.list list }
 

@@ -2,7 +2,7 @@
 
 ghost use Rattle.std.specs.Prelude.{◌≡◌, OnOk, OnErr};
 ghost use Rattle.std.specs.List.{position};
-ghost use Rattle.px_names.specs.Clients.{is_on, has_index, change_first, with_mask, with_update, without_first};
+ghost use Rattle.px_names.specs.Clients.{is_on, has_index, change_first, with_mask, with_list, with_update, without_first};
 
 use px_tag::{Mode, PropList};
 use px_types::{ConnId, Mem, NoMemory};
@@ -40,6 +40,15 @@ pub fn set_mask(clients: &mut [Client], conn: ConnId, mask: u32)
 {
     if let Some(place) = place_on(clients, conn) {
         clients[place].mask = mask;
+    }
+}
+
+/// Gives a connection's client another property list. Takes no memory.
+pub fn set_list(clients: &mut [Client], conn: ConnId, list: PropList)
+    ensures { clients.new ≡ change_first (is_on conn) (with_list list) clients.old }
+{
+    if let Some(place) = place_on(clients, conn) {
+        clients[place].list = list;
     }
 }
 

@@ -1,11 +1,11 @@
 //! All names of a server.
 
-ghost use Rattle.std.specs.Prelude.{◌≡◌, ◌↔◌, ◌<◌, ◌++◌, ◌∷◌, [], length, IsNone, IsTrue, IfOk, OnOk, OnErr};
+ghost use Rattle.std.specs.Prelude.{◌≡◌, ◌↔◌, ◌<◌, ◌++◌, ◌∷◌, [], length, IsTrue, IfOk, OnOk, OnErr};
 ghost use Rattle.std.specs.Option.{option_map};
-ghost use Rattle.px_names.specs.Clients.{is_on, has_index, client_on, client_numbered, change_first, mask_of, new_client, without_first, with_mask, with_update};
-ghost use Rattle.px_names.specs.Names.{Naming, sink_at, sink_called, sink_unnamed, sink_named};
+ghost use Rattle.px_names.specs.Clients.{is_on, has_index, client_on, client_numbered, change_first, mask_of, new_client, without_first, with_list, with_mask, with_update};
+ghost use Rattle.px_names.specs.Names.{Naming, same_text, sink_at, sink_called, sink_unnamed, sink_named};
 
-use crate::client::{Client, forget, set_mask, update};
+use crate::client::{Client, forget, set_list, set_mask, update};
 use crate::sinks::SinkNames;
 use px_tag::{Mode, PropList};
 use px_types::{ConnId, ErrorCode, Mem, SinkId, Text};
@@ -59,7 +59,8 @@ impl Names {
 
     /// Whether this is the server's cookie, byte for byte. Takes no memory.
     pub fn cookie_fits(&self, cookie: &[u8]) -> bool
-        ensures { IsTrue result ↔ (cookie.now ≡ self.now.cookie) }
+        ensures fits { IsTrue result ↔ (cookie.now ≡ self.now.cookie) }
+        ensures value { result ≡ same_text cookie.now self.now.cookie }
     {
         self.cookie.as_slice() == cookie
     }
@@ -177,11 +178,10 @@ impl Names {
         set_mask(&mut self.clients, conn, mask);
     }
 
-    /// Adds the client of a connection, with an index of its own, no facility and an empty property list. Where
-    /// memory runs out, nothing has changed.
+    /// Adds the client of a connection, with an index of its own, no facility and an empty property list. It is for the caller to
+    /// see that no other client has the connection or the index: the look-ups find the first that has. Where memory runs out,
+    /// nothing has changed.
     pub fn admit(&mut self, conn: ConnId, index: u32) -> Mem<()>
-        requires connection { IsNone (client_on self.old.clients conn) }
-        requires index { IsNone (client_numbered self.old.clients index) }
         ensures admitted { OnOk result (self.new ≡ record self.old { clients = self.old.clients ++ new_client conn index ∷ [] }) }
         ensures unchanged { OnErr result (self.new ≡ self.old) }
     {
@@ -208,5 +208,12 @@ impl Names {
         ensures unchanged { OnErr result (self.new ≡ self.old) }
     {
         update(&mut self.clients, index, mode, list)
+    }
+
+    /// Gives a connection's client another property list. Takes no memory.
+    pub fn set_list(&mut self, conn: ConnId, list: PropList)
+        ensures { self.new ≡ record self.old { clients = change_first (is_on conn) (with_list list) self.old.clients } }
+    {
+        set_list(&mut self.clients, conn, list);
     }
 }

@@ -84,12 +84,8 @@ fn said(client: Option<&Client>) -> Option<(u32, u32, usize)> {
 
 fn clients_come_and_go(alloc: Global) -> Mem<Names> {
     let mut names = server(alloc)?;
-    if names.client_on(ConnId(9)).is_none() && names.client_numbered(0).is_none() {
-        names.admit(ConnId(9), 0)?;
-    }
-    if names.client_on(ConnId(4)).is_none() && names.client_numbered(1).is_none() {
-        names.admit(ConnId(4), 1)?;
-    }
+    names.admit(ConnId(9), 0)?;
+    names.admit(ConnId(4), 1)?;
     let mut list = PropList::new(alloc);
     if list.set(b"application.name", b"paplay\0").is_err() {
         return Err(NoMemory);
@@ -109,6 +105,8 @@ fn clients_are_kept_by_connection(rt: HostRuntime) {
     assert!(rt; said(names.client_on(ConnId(4))) == Some((1, 0x24, 1)));
     assert!(rt; said(names.client_numbered(1)) == Some((1, 0x24, 1)));
     assert_eq!(rt; names.mask(ConnId(4)), 0x24);
+    names.set_list(ConnId(4), PropList::new(rt.alloc()));
+    assert!(rt; said(names.client_on(ConnId(4))) == Some((1, 0x24, 0)));
     names.forget(ConnId(9));
     names.forget(ConnId(8));
     assert_eq!(rt; names.clients().len(), 1);

@@ -1,0 +1,66 @@
+//! The effects of a step, in order.
+
+ghost use Rattle.std.specs.Prelude.{◌≡◌, ◌++◌, ◌∷◌, [], OnOk, OnErr, IfOk};
+
+use crate::effect::Effect;
+use px_types::Mem;
+use std::alloc::Global;
+use std::marker::Model;
+
+/// Effects in order. Contracts see them as a list.
+#[derive(Debug, Drop)]
+pub struct Effects {
+    effects: Vec<Effect>,
+}
+
+impl Model for Effects {
+    ghost use Rattle.std.specs.Prelude.{List};
+    ghost use Rattle.px_core.specs.declared.effect.Effect.{Effect};
+
+    ghost Value = { List Effect };
+
+    ghost view = { λ e. e.effects.items };
+}
+
+impl Effects {
+    /// No effects. Takes no memory.
+    pub fn new(alloc: Global) -> Effects
+        ensures { result ≡ [] }
+    {
+        Effects {
+            effects: Vec::new(alloc),
+        }
+    }
+
+    /// This effect alone.
+    pub fn of(alloc: Global, effect: Effect) -> Mem<Effects>
+        ensures { IfOk result (λ effects. effects ≡ effect ∷ []) }
+    {
+        let mut effects = Effects::new(alloc);
+        effects.push(effect)?;
+        Ok(effects)
+    }
+
+    /// Appends an effect. After an `Err` the effect is dropped, and no other is.
+    pub fn push(&mut self, effect: Effect) -> Mem<()>
+        ensures ok { OnOk result (self.new ≡ self.old ++ effect ∷ []) }
+        ensures err { OnErr result (self.new ≡ self.old) }
+    {
+        self.effects.push(effect)?;
+        Ok(())
+    }
+
+    /// The effects, in order. Takes no memory.
+    pub fn as_slice(&self) -> &[Effect]
+        ensures { result.now ≡ self.now }
+    {
+        self.effects.as_slice()
+    }
+
+    /// The effects themselves, in order. Takes no memory.
+    pub fn into_vec(self) -> Vec<Effect>
+        ensures { result.items ≡ self }
+    {
+        self.effects
+    }
+}

@@ -1,0 +1,46 @@
+//! Connections and inputs by their numbers.
+
+ghost use Rattle.std.specs.Prelude.{◌≡◌};
+ghost use Rattle.std.specs.Option.{option_map};
+ghost use Rattle.px_core.specs.State.{connection_of, stream_of};
+ghost use Rattle.px_core.specs.Connecting.{going_on};
+ghost use Rattle.px_core.specs.Told.{input_on};
+
+use crate::input::{Connection, Input};
+use px_types::{ConnId, InputId, SinkId};
+
+/// The connection with a number. Takes no memory.
+pub(crate) fn connection_of(connections: &[Connection], conn: ConnId) -> Option<&Connection>
+    ensures { option_map (λ c. c.now) result ≡ connection_of connections.now conn }
+{
+    connections.iter().find(|c| c.conn.0 == conn.0)
+}
+
+/// The connection with a number, where it goes on. Takes no memory.
+pub(crate) fn going_on(connections: &[Connection], conn: ConnId) -> Option<Connection>
+    ensures { result ≡ going_on connections.now conn }
+{
+    match connection_of(connections, conn) {
+        Some(c) if c.marked => None,
+        Some(c) => Some(*c),
+        None => None,
+    }
+}
+
+/// The input of a connection's stream. Takes no memory.
+pub(crate) fn stream_of(inputs: &[Input], conn: ConnId, stream: u32) -> Option<&Input>
+    ensures { option_map (λ x. x.now) result ≡ stream_of inputs.now conn stream }
+{
+    inputs
+        .iter()
+        .find(|x| x.conn.0 == conn.0 && x.stream == stream && !x.leaving)
+}
+
+/// The input with an index, where it is on the sink. Takes no memory.
+pub(crate) fn input_on(inputs: &[Input], sink: SinkId, index: InputId) -> Option<&Input>
+    ensures { option_map (λ x. x.now) result ≡ input_on inputs.now sink index }
+{
+    inputs
+        .iter()
+        .find(|x| x.index.0 == index.0 && x.sink.0 == sink.0)
+}

@@ -1,0 +1,27 @@
+//! The tables that the core keeps its state in.
+
+use crate::input::{Connection, Input};
+use px_msg::Msg;
+use px_names::Names;
+use px_session::SinkSpecs;
+use px_types::SinkId;
+use std::collections::VecDeque;
+
+/// The state of the core. `P` is the type of a parcel: a stream on its way from one sink to another.
+#[derive(Drop)]
+pub(crate) struct Tables<P> {
+    pub(crate) names: Names,
+    /// In order of index.
+    pub(crate) sinks: SinkSpecs,
+    /// In order of connecting.
+    pub(crate) connections: Vec<Connection>,
+    /// In rising index.
+    pub(crate) inputs: Vec<Input>,
+    /// The messages that wait for each sink, in order.
+    pub(crate) posted: Vec<VecDeque<Msg<P>>>,
+    /// How many clients were ever made, and how many inputs.
+    pub(crate) clients_made: u32,
+    pub(crate) inputs_made: u32,
+    /// The sink whose first message was just handed out, so that it can be put back.
+    pub(crate) lent: Option<SinkId>,
+}
