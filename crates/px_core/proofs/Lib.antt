@@ -3,7 +3,6 @@ pub mod Lengths
 pub mod Sinks
 pub mod Straight
 pub mod Waiting
-pub mod Lengths
 pub mod ListLaws
 pub mod EntryLaws
 pub mod InStepLaws

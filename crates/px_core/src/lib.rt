@@ -19,7 +19,6 @@ mod input;
 mod queues;
 mod refusals;
 mod reply;
-mod streams;
 mod tables;
 mod verbs;
 
