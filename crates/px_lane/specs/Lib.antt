@@ -2,3 +2,4 @@ pub mod Written
 pub mod Outcomes
 pub mod Streams
 pub mod Heard
+pub mod Inputs

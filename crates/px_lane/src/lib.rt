@@ -4,6 +4,7 @@
 
 mod chunk;
 mod index;
+mod input;
 mod queue;
 mod run;
 mod share;
@@ -11,6 +12,7 @@ mod stream;
 
 pub use chunk::Chunk;
 pub use index::Index;
+pub use input::Input;
 pub use queue::{FrameQueue, Stored};
 pub use share::scaled;
 pub use stream::Stream;
