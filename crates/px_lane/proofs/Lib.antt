@@ -1,3 +1,6 @@
 pub mod Log
 pub mod Going
 pub mod Storing
+pub mod Mixing
+pub mod Shares
+pub mod Summed

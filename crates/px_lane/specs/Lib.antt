@@ -3,3 +3,4 @@ pub mod Outcomes
 pub mod Streams
 pub mod Heard
 pub mod Inputs
+pub mod Samples

@@ -5,6 +5,7 @@
 mod chunk;
 mod index;
 mod input;
+mod mix;
 mod queue;
 mod run;
 mod share;

@@ -248,6 +248,27 @@ impl Stream {
     {
         self.factors = factors;
     }
+
+    /// Its sample spec.
+    pub fn spec(&self) -> Spec
+        ensures { sample_spec result ≡ self.now.spec }
+    {
+        self.spec
+    }
+
+    /// For each channel of the sink the channel of the stream that feeds it.
+    pub fn feed(&self) -> &[u8]
+        ensures { result.now ≡ self.now.feed }
+    {
+        self.feed.as_slice()
+    }
+
+    /// For each channel of the sink the factor of the stream there, in 65536ths.
+    pub fn factors(&self) -> &[u32]
+        ensures { result.now ≡ self.now.factors }
+    {
+        self.factors.as_slice()
+    }
 }
 
 // Whether a run is one of playing.
