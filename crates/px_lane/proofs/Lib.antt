@@ -4,3 +4,4 @@ pub mod Storing
 pub mod Mixing
 pub mod Shares
 pub mod Summed
+pub mod Each

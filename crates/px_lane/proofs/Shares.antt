@@ -20,7 +20,7 @@ use Rattle.px_model.specs.Queue.{Ahead, nothing, silence, sound, sound_of, is_he
 use Rattle.px_model.specs.Stream.{Stream, frame_at}
 use Rattle.px_model.specs.Mix.{Samples, value_of, scaled, share_of}
 use Rattle.px_lane.specs.Heard.{heard}
-use Rattle.px_lane.specs.Streams.{sample_spec}
+use Rattle.px_msg.specs.View.{sample_spec}
 use Rattle.px_lane.specs.Samples.{samples, format_with, bit_width, work_width, IsPlaceOf, HoldsWholeFrames}
 use Rattle.std.specs.Prelude.{nat_lt}
 

@@ -17,14 +17,15 @@ use Rattle.px_model.specs.Stream.{Stream, frame_at}
 use Rattle.px_model.specs.Mix.{share_of, mix_of}
 use Rattle.px_model.specs.Sink.{streams_of}
 use Rattle.px_lane.specs.declared.input.Input.{Input}
+use Rattle.px_lane.specs.Room.{RoomyStream}
 use Rattle.px_lane.specs.Inputs.{input_of, inputs_of}
 use Rattle.px_lane.specs.Samples.{samples, sum_of, format_with, bit_width}
-use Rattle.px_lane.specs.Streams.{sample_spec}
+use Rattle.px_msg.specs.View.{sample_spec}
 use Rattle.px_lane.proofs.Shares.{format_known}
 
 -- a fact of all streams is one of the stream of input i
 pub stream_of_input : (P : Stream → Type 0) (inputs : List Input) (i : ℕ) (d : Input) → AllByRecursion P (streams_of (inputs_of inputs)) → i < length inputs
-    → P (Input.stream (get_or inputs i d))
+    → P (RoomyStream.stream (Input.stream (get_or inputs i d)))
 stream_of_input P [] i d all less = absurd (omega (arith, less))
 stream_of_input P (x ∷ inputs) zero d all less = all.0
 stream_of_input P (x ∷ inputs) (suc i) d all less = stream_of_input P inputs i d all.1 (omega (arith, less))
@@ -35,14 +36,14 @@ shares sink k c streams = map (λ s. share_of samples sink s c (frame_at s k)) s
 -- one more input adds what its stream gives
 pub sum_more : (sink : SampleSpec) (inputs : List Input) (i : ℕ) (x : Input) (k c : ℕ) → i < length inputs → x ≡ get_or inputs i x
     → sum_of sink (streams_of (inputs_of (take (i + 1) inputs))) k c
-    ≡ sum_of sink (streams_of (inputs_of (take i inputs))) k c +ℤ share_of samples sink x.stream c (frame_at x.stream k)
+    ≡ sum_of sink (streams_of (inputs_of (take i inputs))) k c +ℤ share_of samples sink x.stream.stream c (frame_at x.stream.stream k)
 sum_more sink inputs i x k c less is =
     ap (λ (xs : List Input). sum_of sink (streams_of (inputs_of xs)) k c)
     (take_more inputs i x less ∙ ap (λ (y : Input). take i inputs ++ y ∷ []) (sym is))
     ∙ ap (λ (xs : List Stream). sum_of sink xs k c)
     (ap streams_of (map-append input_of (take i inputs) (x ∷ [])) ∙ map-append (λ y. y.stream) (inputs_of (take i inputs)) (input_of x ∷ []))
-    ∙ ap (λ (xs : List ℤ). fold ◌+ℤ◌ (pos 0) xs) (map-append (λ s. share_of samples sink s c (frame_at s k)) (streams_of (inputs_of (take i inputs))) (x.stream ∷ []))
-    ∙ fold-append ◌+ℤ◌ (pos 0) (shares sink k c (streams_of (inputs_of (take i inputs)))) (shares sink k c (x.stream ∷ []))
+    ∙ ap (λ (xs : List ℤ). fold ◌+ℤ◌ (pos 0) xs) (map-append (λ s. share_of samples sink s c (frame_at s k)) (streams_of (inputs_of (take i inputs))) (x.stream.stream ∷ []))
+    ∙ fold-append ◌+ℤ◌ (pos 0) (shares sink k c (streams_of (inputs_of (take i inputs)))) (shares sink k c (x.stream.stream ∷ []))
 
 -- the list of the sums, by its places
 pub sums_listed : (f : ℕ → ℤ) (sums : List ℤ) (n : ℕ) → length sums ≡ n → ((c : ℕ) → c < n → get_or sums c (pos 0) ≡ f c) → sums ≡ map f (range_with_len 0 n)

@@ -1,6 +1,7 @@
 //! An input of a sink.
 use crate::Stream;
 use px_types::InputId;
+
 /// A stream with its index as a sink input.
 #[derive(Debug, Drop)]
 pub struct Input {

@@ -5,6 +5,8 @@
 mod chunk;
 mod index;
 mod input;
+mod inputs;
+mod lists;
 mod mix;
 mod queue;
 mod run;
@@ -14,6 +16,8 @@ mod stream;
 pub use chunk::Chunk;
 pub use index::Index;
 pub use input::Input;
+pub use inputs::Inputs;
+pub use lists::{MsgList, NoticeList};
 pub use queue::{FrameQueue, Stored};
 pub use share::scaled;
 pub use stream::Stream;

@@ -7,12 +7,13 @@ ghost use Rattle.px_sample.specs.WorkValue.{work_values_of, at_width, IsWithin};
 ghost use Rattle.px_model.specs.Stream.{frame_at};
 ghost use Rattle.px_model.specs.Mix.{mix_of, share_of, scaled};
 ghost use Rattle.px_model.specs.Sink.{streams_of};
-ghost use Rattle.px_lane.specs.Streams.{sample_spec};
+ghost use Rattle.px_msg.specs.View.{sample_spec};
 ghost use Rattle.px_lane.specs.Inputs.{inputs_of};
 ghost use Rattle.px_lane.specs.Samples.{samples, bit_width, IsMixable, IsSumOf, sum_of};
 
 use crate::share::scaled;
 use crate::{Input, Stream};
+use px_msg::Parcel;
 use px_sample::{Spec, Width, pack, to_work, unpack};
 
 /// The most channels of a sink or a stream.
@@ -99,10 +100,10 @@ fn add_all(sink: &Spec, inputs: &[Input], ahead: u64, sums: &mut [i64])
 
 // Adds what a stream gives there.
 fn add_stream(sink: &Spec, stream: &Stream, ahead: u64, sums: &mut [i64])
-    requires mixable { IsMixable (sample_spec sink.now) stream.now }
+    requires mixable { IsMixable (sample_spec sink.now) stream.now.stream }
     requires places { length sums.old ≡ sink.now.channels }
     requires room { All (IsSumOf 255) sums.old }
-    ensures sums { (c : ℕ) → c < sink.now.channels → slice_index_or sums.new c (pos 0) ≡ slice_index_or sums.old c (pos 0) +ℤ share_of samples (sample_spec sink.now) stream.now c (frame_at stream.now ahead) }
+    ensures sums { (c : ℕ) → c < sink.now.channels → slice_index_or sums.new c (pos 0) ≡ slice_index_or sums.old c (pos 0) +ℤ share_of samples (sample_spec sink.now) stream.now.stream c (frame_at stream.now.stream ahead) }
     ensures bounds { (n : ℕ) → All (IsSumOf n) sums.old → All (IsSumOf (n + 1)) sums.new }
 {
     let spec = stream.spec();

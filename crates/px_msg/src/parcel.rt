@@ -1,16 +1,17 @@
 //! What the core asks of a parcel.
 
 ghost use Rattle.std.specs.Prelude.{◌≡◌};
-ghost use Rattle.px_sample.specs.declared.spec.Spec.{Spec};
+ghost use Rattle.px_model.specs.Frame.{SampleSpec};
+ghost use Rattle.px_msg.specs.View.{sample_spec};
 
 use px_sample::Spec;
 
 /// A stream on its way from one sink to another. Of such a stream the core asks its sample spec alone.
 pub trait Parcel {
     /// The sample spec of what was written to it.
-    ghost spec_of: { Self → Spec };
+    ghost spec_of: { Self → SampleSpec };
 
     /// Its sample spec. Takes no memory.
     fn spec(&self) -> Spec
-        ensures { result ≡ spec_of self.now };
+        ensures { sample_spec result ≡ spec_of self.now };
 }

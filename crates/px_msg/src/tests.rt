@@ -1,3 +1,5 @@
+ghost use Rattle.px_msg.specs.View.{sample_spec};
+
 use crate::{FactorList, InputFactors, Msg, NewStream, Notice, Parcel, Run, in_bytes, repair};
 use px_block::Blocks;
 use px_chmap::Feed;
@@ -83,7 +85,7 @@ struct Stub {
 }
 
 impl Parcel for Stub {
-    ghost spec_of = { λ stub. stub.spec };
+    ghost spec_of = { λ stub. sample_spec stub.spec };
 
     fn spec(&self) -> Spec {
         self.spec

@@ -1,6 +1,6 @@
 use Rattle.std.proofs.Common.{◌≡◌, ℕ, ◌<◌, pos, get_or, take, All}
 use Rattle.px_model.specs.Sink.{streams_of}
-use Rattle.px_lane.specs.Streams.{sample_spec}
+use Rattle.px_msg.specs.View.{sample_spec}
 use Rattle.px_lane.specs.Inputs.{inputs_of}
 use Rattle.px_lane.specs.Samples.{IsSumOf, sum_of}
 use Rattle.px_lane.proofs.mix.add_all.Given as goal

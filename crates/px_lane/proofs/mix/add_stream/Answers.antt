@@ -12,13 +12,13 @@ use Rattle.px_lane.proofs.mix.add_stream.Goals as goal
 
 pub read_frame-requires-clause-size : goal.read_frame-requires-clause-size
 read_frame-requires-clause-size c =
-    heard_whole c.args.stream.now c.args.ahead c.in-Some.frame.now c.requires.mixable.whole c.in-Some.ensures
+    heard_whole c.args.stream.now.stream c.args.ahead c.in-Some.frame.now c.requires.mixable.whole c.in-Some.ensures
     ∙ ap (λ (t : SampleSpec). frame_size t) (sym c.spec-spec.ensures)
     ∙ frame_size_known c.spec-spec.result
 
 pub returns-in-Some-clause-sums : goal.returns-in-Some-clause-sums
 returns-in-Some-clause-sums c =
-    let s = c.args.stream.now in
+    let s = c.args.stream.now.stream in
     let spec = c.spec-spec.result in
     let sink = c.args.sink.now in
     let size = heard_whole s c.args.ahead c.in-Some.frame.now c.requires.mixable.whole c.in-Some.ensures

@@ -3,7 +3,7 @@ use Rattle.std.proofs.Math.Nat.{add-mul}
 use Rattle.px_model.specs.Mix.{mix_of}
 use Rattle.px_model.specs.Sink.{streams_of}
 use Rattle.px_sample.proofs.RunLemmas.{next_fits, length_part}
-use Rattle.px_lane.specs.Streams.{sample_spec}
+use Rattle.px_msg.specs.View.{sample_spec}
 use Rattle.px_lane.specs.Inputs.{inputs_of}
 use Rattle.px_lane.specs.Samples.{samples}
 use Rattle.px_lane.proofs.Summed.{frames_more}

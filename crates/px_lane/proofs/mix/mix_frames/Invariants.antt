@@ -2,7 +2,7 @@ use Rattle.std.proofs.Common.{◌≡◌, ◌*◌, map, take}
 use Rattle.std.specs.List.{concat, range_with_len}
 use Rattle.px_model.specs.Mix.{mix_of}
 use Rattle.px_model.specs.Sink.{streams_of}
-use Rattle.px_lane.specs.Streams.{sample_spec}
+use Rattle.px_msg.specs.View.{sample_spec}
 use Rattle.px_lane.specs.Inputs.{inputs_of}
 use Rattle.px_lane.specs.Samples.{samples}
 use Rattle.px_lane.proofs.mix.mix_frames.Given as goal

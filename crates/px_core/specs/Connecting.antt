@@ -1,0 +1,83 @@
+-- Connections begin and end (PulseAudio: `pa_native_protocol_connect` and `native_connection_unlink` of pulsecore/protocol-native.c; that an ended connection is swept away in a step of its own is own).
+use Rattle.std.specs.Prelude.{ℕ, ◌+◌, Bool, false, cond, ◌||◌, nat_le, List, [], ◌∷◌, ◌++◌, map, filter, length, flat_map, Option, None, Some}
+use Rattle.px_types.specs.declared.ids.ConnId.{ConnId}
+use Rattle.px_frame.specs.declared.fault.FrameFault.{FrameFault}
+use Rattle.px_frame.specs.Fault.{code_of}
+use Rattle.px_names.specs.Clients.{new_client}
+use Rattle.px_core.specs.declared.change.Change.{Change}
+use Rattle.px_core.specs.declared.change.Change.TheVariants.{Marked, Forgotten}
+use Rattle.px_core.specs.declared.effect.Effect.{Effect}
+use Rattle.px_core.specs.declared.effect.Reason.TheVariants.{Limit, Cut as ForMemory}
+use Rattle.px_core.specs.declared.input.Connection.{Connection}
+use Rattle.px_core.specs.declared.input.Input.{Input}
+use Rattle.px_core.specs.Effect.{closed_at, closed_for}
+use Rattle.px_core.specs.State.{State, connection_of, marked_of, is_from}
+use Rattle.px_core.specs.Reply.{Answer, ignored}
+use Rattle.px_core.specs.Delete.{ends}
+
+-- ---- a connection begins
+
+abbrev pub MOST_CONNECTIONS : ℕ
+MOST_CONNECTIONS = 64
+
+-- the index that no client has
+abbrev pub LAST_CLIENT : ℕ
+LAST_CLIENT = 0xFFFFFFFF
+
+abbrev pub is_full : {P : Type 0} → State P → Bool
+is_full state = nat_le MOST_CONNECTIONS (length state.connections) || nat_le LAST_CLIENT state.clients_made
+
+abbrev pub new_connection : ConnId → ℕ → Connection
+new_connection conn client = record { conn = conn; client = client; version = None; streams = 0; marked = false }
+
+-- the state with one more connection, and its client
+abbrev pub joined : {P : Type 0} → ConnId → State P → State P
+joined conn state = record state {
+  connections = state.connections ++ new_connection conn state.clients_made ∷ [];
+  names = record state.names { clients = state.names.clients ++ new_client conn state.clients_made ∷ [] };
+  clients_made = state.clients_made + 1;
+}
+
+-- one that is there already changes nothing; where there is no room for more the server ends it
+abbrev pub connected : {P : Type 0} → Option Connection → ConnId → State P → State P
+connected (Some c) conn state = state
+connected None conn state = cond (is_full state) state (joined conn state)
+
+abbrev pub connect_effects : {P : Type 0} → Option Connection → ConnId → State P → List Effect
+connect_effects (Some c) conn state = []
+connect_effects None conn state = cond (is_full state) (closed_for conn Limit ∷ []) []
+
+-- ---- it ends: it is marked, once
+
+-- the connection with a number, where it goes on
+abbrev pub unmarked : Option Connection → Option Connection
+unmarked None = None
+unmarked (Some c) = cond c.marked None (Some c)
+
+abbrev pub going_on : List Connection → ConnId → Option Connection
+going_on connections conn = unmarked (connection_of connections conn)
+
+-- where it goes on it is marked, and that is told
+abbrev pub ended : {P : Type 0} → Option Connection → (ConnId → List Effect) → Answer P
+ended None effects = ignored
+ended (Some c) effects = record { changes = Marked c.conn ∷ []; effects = effects c.conn }
+
+-- for a fault in its frames, at an offset of its bytes
+abbrev pub broken_effects : FrameFault → ℕ → ConnId → List Effect
+broken_effects fault at conn = closed_at conn (code_of fault) at ∷ []
+
+-- the peer has closed it
+abbrev pub close_effects : ConnId → List Effect
+close_effects conn = []
+
+-- the server ends it for want of memory
+abbrev pub cut_effects : ConnId → List Effect
+cut_effects conn = closed_for conn ForMemory ∷ []
+
+-- ---- it is swept away: its streams end, in their order, and its client goes
+
+abbrev pub swept : {P : Type 0} → List Input → Connection → List (Change P)
+swept inputs c = flat_map ends (filter (is_from c.conn) inputs) ++ Forgotten c.conn ∷ []
+
+abbrev pub sweep_of : {P : Type 0} → State P → Answer P
+sweep_of state = record { changes = flat_map (swept state.inputs) (marked_of state.connections); effects = [] }

@@ -1,0 +1,51 @@
+-- What a step does to the outside.
+use Rattle.std.specs.Prelude.{ℕ, ◌+◌, ◌-◌, ◌^◌, min, List, ◌++◌, length}
+use Rattle.px_types.specs.declared.ids.ConnId.{ConnId}
+use Rattle.px_tag.specs.declared.fault.TagFault.{TagFault}
+use Rattle.px_tag.specs.declared.fault.TagFault.TheVariants.{WrongTag, Short, BadValue, Left}
+use Rattle.px_frame.specs.Descriptor.{descriptor_bytes, control_descriptor}
+use Rattle.px_core.specs.declared.effect.Reason.{Reason}
+use Rattle.px_core.specs.declared.effect.Reason.TheVariants.{Protocol, Limit, Killed, Cut}
+use Rattle.px_core.specs.declared.effect.Effect.{Effect}
+use Rattle.px_core.specs.declared.effect.Effect.TheVariants.{Sent, Closed}
+
+-- the number of a reason in recorded sessions
+abbrev pub reason_code : Reason → ℕ
+reason_code Protocol = 1
+reason_code Limit = 2
+reason_code Killed = 3
+reason_code Cut = 4
+
+-- a packet as a whole frame: its descriptor and its bytes
+unfoldable pub framed : List ℕ → List ℕ
+framed packet = descriptor_bytes (control_descriptor (length packet)) ++ packet
+
+-- a packet goes to a connection
+abbrev pub sent : ConnId → List ℕ → Effect
+sent conn packet = Sent conn (framed packet)
+
+-- the number of a fault in a packet, behind the five of frames
+abbrev pub fault_code : TagFault → ℕ
+fault_code (WrongTag at) = 6
+fault_code (Short at) = 7
+fault_code (BadValue at) = 8
+fault_code (Left at) = 9
+
+-- and its place in the packet
+abbrev pub fault_place : TagFault → ℕ
+fault_place (WrongTag at) = at
+fault_place (Short at) = at
+fault_place (BadValue at) = at
+fault_place (Left at) = at
+
+-- an offset in a connection's bytes stays at the last number of 64 bits once it is there
+abbrev pub offset_behind : ℕ → ℕ → ℕ
+offset_behind at place = min (at + place) (2 ^ 64 - 1)
+
+-- a connection is ended for a fault at an offset of its bytes
+abbrev pub closed_at : ConnId → ℕ → ℕ → Effect
+closed_at conn fault at = Closed conn Protocol fault at
+
+-- a connection is ended for another reason
+abbrev pub closed_for : ConnId → Reason → Effect
+closed_for conn reason = Closed conn reason 0 0

@@ -1,0 +1,14 @@
+pub mod Effect
+pub mod State
+pub mod Change
+pub mod Reply
+pub mod Client
+pub mod Create
+pub mod Delete
+pub mod Data
+pub mod Command
+pub mod Connecting
+pub mod Told
+pub mod Out
+pub mod Step
+pub mod Orderly

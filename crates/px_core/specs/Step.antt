@@ -1,0 +1,97 @@
+-- The steps of the core, each with the state after it and its effects.
+use Rattle.std.specs.Prelude.{ℕ, List, [], ◌∷◌, ◌++◌, Option, None, Some}
+use Rattle.std.specs.List.{fold}
+use Rattle.px_types.specs.declared.ids.ConnId.{ConnId}
+use Rattle.px_types.specs.declared.ids.SinkId.{SinkId}
+use Rattle.px_model.specs.Frame.{SampleSpec}
+use Rattle.px_frame.specs.declared.fault.FrameFault.{FrameFault}
+use Rattle.px_frame.specs.declared.frame.Frame.{Frame}
+use Rattle.px_frame.specs.declared.frame.Body.{Body}
+use Rattle.px_frame.specs.declared.frame.Body.TheVariants.{Control, Write}
+use Rattle.px_msg.specs.declared.notice.Notice.{Notice}
+use Rattle.px_core.specs.declared.effect.Effect.{Effect}
+use Rattle.px_core.specs.declared.input.Connection.{Connection}
+use Rattle.px_core.specs.State.{State, connection_of}
+use Rattle.px_core.specs.Change.{committed, kept}
+use Rattle.px_core.specs.Reply.{Answer, ignored}
+use Rattle.px_core.specs.Command.{packet_answer}
+use Rattle.px_core.specs.Data.{data_of}
+use Rattle.px_core.specs.Connecting.{connected, connect_effects, going_on, ended, broken_effects, close_effects, cut_effects, sweep_of}
+use Rattle.px_core.specs.Told.{notice_answer}
+use Rattle.px_core.specs.Out.{handed_out}
+
+-- one frame of a connection that goes on
+abbrev pub body_answer : {P : Type 0} → State P → Connection → ℕ → Body → Answer P
+body_answer state c at (Control packet) = packet_answer state c at packet
+body_answer state c at (Write stream offset seek bytes) = data_of state.inputs c.conn stream offset seek bytes
+
+abbrev pub frame_of : {P : Type 0} → State P → Option Connection → Frame → Answer P
+frame_of state None frame = ignored
+frame_of state (Some c) frame = body_answer state c frame.at frame.body
+
+-- a frame; those of a connection that isn't there, or has ended, are ignored
+abbrev pub frame_answer : {P : Type 0} → State P → ConnId → Frame → Answer P
+frame_answer state conn frame = frame_of state (going_on state.connections conn) frame
+
+-- the state after an answer
+abbrev pub answered : {P : Type 0} → State P → Answer P → State P
+answered state answer = kept (committed state answer.changes)
+
+pub data Step (P : Type 0) : Type 0 where
+  -- a client connects
+  connect : ConnId → Step P
+  -- a frame of a connection
+  frame : ConnId → Frame → Step P
+  -- a fault in a connection's bytes, at an offset
+  broken : ConnId → FrameFault → ℕ → Step P
+  -- a client has closed its connection
+  close : ConnId → Step P
+  -- the server ends a connection for want of memory
+  cut : ConnId → Step P
+  -- the connections that have ended are swept away
+  sweep : Step P
+  -- a notice of a sink
+  notice : SinkId → Notice P → Step P
+  -- the first message that waits for a sink is handed out
+  out : SinkId → Step P
+
+-- what a step is answered, where spec_of reads a parcel's sample spec; a client that connects and a message that is handed out have no answer of this kind
+abbrev pub answer_of : {P : Type 0} → (P → SampleSpec) → State P → Step P → Answer P
+answer_of spec_of state (connect conn) = ignored
+answer_of spec_of state (frame conn f) = frame_answer state conn f
+answer_of spec_of state (broken conn fault at) = ended (going_on state.connections conn) (broken_effects fault at)
+answer_of spec_of state (close conn) = ended (going_on state.connections conn) close_effects
+answer_of spec_of state (cut conn) = ended (going_on state.connections conn) cut_effects
+answer_of spec_of state sweep = sweep_of state
+answer_of spec_of state (notice sink n) = notice_answer spec_of state sink n
+answer_of spec_of state (out sink) = ignored
+
+-- the state after a step
+abbrev pub stepped : {P : Type 0} → (P → SampleSpec) → State P → Step P → State P
+stepped spec_of state (connect conn) = connected (connection_of state.connections conn) conn (kept state)
+stepped spec_of state (frame conn f) = answered state (answer_of spec_of state (frame conn f))
+stepped spec_of state (broken conn fault at) = answered state (answer_of spec_of state (broken conn fault at))
+stepped spec_of state (close conn) = answered state (answer_of spec_of state (close conn))
+stepped spec_of state (cut conn) = answered state (answer_of spec_of state (cut conn))
+stepped spec_of state sweep = answered state (answer_of spec_of state sweep)
+stepped spec_of state (notice sink n) = answered state (answer_of spec_of state (notice sink n))
+stepped spec_of state (out sink) = handed_out sink state
+
+-- its effects, in order
+abbrev pub effects_of : {P : Type 0} → (P → SampleSpec) → State P → Step P → List Effect
+effects_of spec_of state (connect conn) = connect_effects (connection_of state.connections conn) conn state
+effects_of spec_of state (frame conn f) = (answer_of spec_of state (frame conn f)).effects
+effects_of spec_of state (broken conn fault at) = (answer_of spec_of state (broken conn fault at)).effects
+effects_of spec_of state (close conn) = (answer_of spec_of state (close conn)).effects
+effects_of spec_of state (cut conn) = (answer_of spec_of state (cut conn)).effects
+effects_of spec_of state sweep = (answer_of spec_of state sweep).effects
+effects_of spec_of state (notice sink n) = (answer_of spec_of state (notice sink n)).effects
+effects_of spec_of state (out sink) = []
+
+-- all of them, one after the other
+abbrev pub stepped_by : {P : Type 0} → (P → SampleSpec) → State P → List (Step P) → State P
+stepped_by spec_of state steps = fold (stepped spec_of) state steps
+
+abbrev pub effects_by : {P : Type 0} → (P → SampleSpec) → State P → List (Step P) → List Effect
+effects_by spec_of state [] = []
+effects_by spec_of state (s ∷ steps) = effects_of spec_of state s ++ effects_by spec_of (stepped spec_of state s) steps

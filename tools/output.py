@@ -1,0 +1,206 @@
+#!/usr/bin/env python3
+"""What `pulse_rw replay` writes, as readable text or as sound.
+
+  tools/output.py show FILE [--session FILE.prs]
+  tools/output.py wav FILE --session FILE.prs --sink NAME > out.wav
+
+show prints a line for each packet sent, each connection ended and each stretch of sound played. It wants the
+session that was replayed where sound was played, since the session has the sinks' formats.
+wav writes what one sink played, as a WAV file."""
+
+import sys
+
+import wire
+from packets import read_packet
+from recording import Place, read_session
+from replies import sent_words
+from words import Wrong, hex_words, line_of, quoted
+
+REASONS = {1: "protocol fault", 2: "over a limit", 3: "killed by a client", 4: "cut for want of memory"}
+FAULTS = {
+    1: "zero length", 2: "too long", 3: "packet flags", 4: "shared memory", 5: "seek mode", 6: "wrong tag",
+    7: "too short", 8: "bad value", 9: "bytes left over",
+}
+
+
+class Asked:
+    """The commands of each connection by their tags, from the session that was replayed."""
+
+    def __init__(self, events):
+        self.commands = {}
+        held = {}
+        for event in events:
+            if event[0] == 1:
+                held[event[1]] = bytearray()
+            elif event[0] == 2:
+                data = held.setdefault(event[1], bytearray())
+                data += event[2]
+                del data[: self.frames(event[1], data)]
+
+    def frames(self, conn, data):
+        """Notes the whole frames at the front, and answers how many bytes they have."""
+        at = 0
+        while len(data) - at >= 20:
+            descriptor = wire.Descriptor(data[at : at + 20])
+            end = at + 20 + descriptor.length
+            if descriptor.fault() or end > len(data):
+                break
+            read = read_packet(bytes(data[at + 20 : end])) if descriptor.channel == wire.CONTROL else None
+            if read:
+                commands = self.commands.setdefault((conn, read[1]), [])
+                commands += [] if read[0] in commands else [read[0]]
+            at = end
+        return at
+
+    def of(self, conn):
+        return lambda tag: self.commands.get((conn, tag), [])
+
+
+class Records:
+    """An output's records, one behind the other."""
+
+    def __init__(self, data, sinks):
+        self.place = Place(data)
+        self.sinks = sinks
+        self.ended = False
+
+    def __iter__(self):
+        try:
+            while self.place.at < len(self.place.data):
+                start = self.place.at
+                record = self.record(start)
+                if record is None:
+                    self.end()
+                    return
+                yield record
+        except Wrong as wrong:
+            if "truncated" not in str(wrong):
+                raise
+            raise Wrong(f"the output ends within the record that begins at {start}") from None
+
+    def end(self):
+        self.ended = True
+        if self.place.at < len(self.place.data):
+            raise Wrong(f"bytes follow the end byte, from {self.place.at} on")
+
+    def record(self, start):
+        """(kind, connection or sink, fields ..) of the record that begins here, or None at the end byte."""
+        place, kind = self.place, self.place.number(1)
+        if kind == 0:
+            return None
+        if kind == 1:
+            conn = place.number()
+            return 1, conn, place.take(place.number())
+        if kind == 2:
+            return 2, place.number(), place.number(1), place.number(1), place.number(8)
+        if kind != 3:
+            raise Wrong(f"no record begins with {kind}, at {start}")
+        sink, frames = place.number(1), place.number()
+        if self.sinks is None:
+            raise Wrong(f"sound was played at {start}: say the session that was replayed, with --session")
+        if sink >= len(self.sinks):
+            raise Wrong(f"the session has no sink {sink}, at {start}")
+        return 3, sink, frames, place.take(frames * wire.frame_size(self.sinks[sink].spec))
+
+
+def told(record, sinks, asked):
+    """The line of a record."""
+    if record[0] == 1:
+        conn, frame = record[1:]
+        whole = len(frame) >= 20 and frame[:4] == (len(frame) - 20).to_bytes(4, "big")
+        said = sent_words(frame[20:], asked.of(conn)) if whole else ["bytes", "hex", *hex_words(frame)]
+        return line_of(["sent", str(conn), *said])
+    if record[0] == 2:
+        conn, reason, fault, at = record[1:]
+        said = [REASONS.get(reason, f"reason {reason}")]
+        if reason == 1:
+            said.append(f"{FAULTS.get(fault, f'fault {fault}')} at byte {at} of what it sent")
+        return f"closed {conn}: {', '.join(said)}\n"
+    sink, frames, sound = record[1:]
+    samples = wire.samples_words(sinks[sink].spec, sound)
+    return line_of(["played", quoted(sinks[sink].name), str(frames), "frames:", *samples])
+
+
+def show(data, session=None):
+    """The lines of an output, and what ended it early, or None."""
+    sinks, events = session[1:] if session else (None, [])
+    records, asked, said = Records(data, sinks), Asked(events), []
+    try:
+        for record in records:
+            said.append(told(record, sinks, asked))
+    except Wrong as wrong:
+        return "".join(said), str(wrong)
+    said.append("end\n" if records.ended else "no end byte: the run ended before its session's end\n")
+    return "".join(said), None
+
+
+def wav_samples(code, sound):
+    """Samples as WAV files have them: 8 bits without sign, or 16, 24 or 32 bits little-endian."""
+    size = wire.SIZES[code]
+    if code in (0, 3, 7, 9):
+        return sound
+    pieces = bytearray(len(sound) // size * (3 if code in (11, 12) else size))
+    order = {4: (1, 0), 8: (3, 2, 1, 0), 10: (2, 1, 0), 11: (0, 1, 2), 12: (3, 2, 1)}[code]
+    for at, byte in enumerate(order):
+        pieces[at :: len(order)] = sound[byte::size]
+    return bytes(pieces)
+
+
+def wav(data, session, name):
+    """The WAV file of what the sink of that name played."""
+    sinks = session[1]
+    at = next((at for at, sink in enumerate(sinks) if sink.name == name.encode()), None)
+    if at is None:
+        raise Wrong(f"the session has no sink {name}")
+    code, channels, rate = sinks[at].spec
+    sound = b"".join(record[3] for record in Records(data, sinks) if record[0] == 3 and record[1] == at)
+    samples = wav_samples(code, sound)
+    width = 3 if code in (11, 12) else wire.SIZES[code]
+    size, padding = len(samples), b"\0" * (len(samples) % 2)
+    if size > 0xFFFFFF00:
+        raise Wrong(f"a WAV file can't hold {size} bytes of sound")
+    frame = channels * width
+    fields = [(16, 4), (1, 2), (channels, 2), (rate, 4), (rate * frame, 4), (frame, 2), (8 * width, 2)]
+    form = b"".join(value.to_bytes(length, "little") for value, length in fields)
+    body = b"WAVEfmt " + form + b"data" + size.to_bytes(4, "little") + samples + padding
+    return b"RIFF" + len(body).to_bytes(4, "little") + body
+
+
+def contents(name):
+    with open(name, "rb") as file:
+        return file.read()
+
+
+def options_of(words):
+    """The options of the command line, or None where they aren't as they should be."""
+    if len(words) % 2:
+        return None
+    given = dict(zip(words[::2], words[1::2]))
+    return given if set(given) <= {"--session", "--sink"} else None
+
+
+def main(words):
+    given = options_of(words[2:])
+    needed = {"show": set(), "wav": {"--session", "--sink"}}.get(words[0] if words else "")
+    if len(words) < 2 or given is None or needed is None or not needed <= set(given):
+        print(__doc__, file=sys.stderr)
+        return 2
+    try:
+        session = read_session(contents(given["--session"])) if "--session" in given else None
+        data = contents(words[1])
+        if words[0] == "wav":
+            sys.stdout.buffer.write(wav(data, session, given["--sink"]))
+            return 0
+        text, fault = show(data, session)
+        sys.stdout.write(text)
+        sys.stdout.flush()
+        if fault:
+            raise Wrong(fault)
+    except (Wrong, OSError) as wrong:
+        print(f"{words[1]}: {wrong}", file=sys.stderr)
+        return 1
+    return 0
+
+
+if __name__ == "__main__":
+    sys.exit(main(sys.argv[1:]))

@@ -1,0 +1,275 @@
+"""The commands that clients send, as packets and as words."""
+
+import wire
+from words import (
+    NONE, PROPERTY, Words, Wrong, hex_of, hex_words, number_of, number_word, quoted, unquoted,
+)
+from wire import FORMATS, Items, Unread
+
+SHM, MEMFD = 0x80000000, 0x40000000
+
+
+class Kind:
+    """A kind of field: its bytes, its reading, its words, and how they are heard."""
+
+    def __init__(self, spell, read, say, hear, fits=None, what=None):
+        self.spell = spell
+        self.read = read
+        self.say = say
+        self.hear = hear
+        self.fits = fits  # for a field without a name: whether a word begins it
+        self.what = what  # and what stands for its name where it is missing
+
+
+def hear_list(words, what, most):
+    values = [number_of(part, what, 0, most) for part in words.take(what).split(",")]
+    if len(values) > 255:
+        raise Wrong(f"{what} has at most 255 numbers")
+    return values
+
+
+def hear_text(words, what="a string"):
+    said = unquoted(words.take(what))
+    if b"\0" in said:
+        raise Wrong(f"{what} can't hold a zero byte")
+    return said
+
+
+def format_of(word):
+    code = FORMATS.index(word) if word in FORMATS else None
+    return number_of(word, "a format", 0, 255) if code is None else code
+
+
+def hear_spec(words):
+    return (
+        format_of(words.take("a format")),
+        number_of(words.take("the channels"), "the count of channels", 0, 255),
+        number_of(words.take("the rate"), "the rate"),
+    )
+
+
+def say_spec(spec):
+    return [wire.format_word(spec[0]), str(spec[1]), str(spec[2])]
+
+
+def hear_version(words):
+    version = number_of(words.take("the version"), "a version")
+    for word, bit in (("shm", SHM), ("memfd", MEMFD)):
+        version |= bit if words.takes(word) else 0
+    return version
+
+
+def say_version(version):
+    low = version & ~(SHM | MEMFD)
+    said = [str(low) if low < 0x10000 else hex(low)]
+    return said + [word for word, bit in (("shm", SHM), ("memfd", MEMFD)) if version & bit]
+
+
+def hear_time(words):
+    parts = words.take("a time").split(":")
+    if len(parts) != 2:
+        raise Wrong("a time is SECONDS:MICROSECONDS")
+    return tuple(number_of(part, "a time's number") for part in parts)
+
+
+def hear_switch(words):
+    word = words.take("on or off")
+    if word not in ("on", "off"):
+        raise Wrong(f"on or off should stand where {word} does")
+    return word == "on"
+
+
+def hear_texts(words):
+    said = []
+    while words.peek() is not None:
+        said.append(hear_text(words))
+    return said
+
+
+def is_property(word):
+    return PROPERTY.fullmatch(word) is not None
+
+
+def hear_properties(words):
+    pairs = []
+    while words.peek() is not None and is_property(words.peek()):
+        key, mark, value = PROPERTY.fullmatch(words.take("a property")).groups()
+        if mark == "=":
+            data = unquoted(value) + b"\0"
+        elif value:
+            data = bytes_of_word(value)
+        else:
+            data = b""
+        if b"\0" in unquoted(key):
+            raise Wrong("a key can't hold a zero byte")
+        pairs.append((unquoted(key), data))
+    return pairs
+
+
+def bytes_of_word(word):
+    """The bytes of pieces in hexadecimal, with commas between them."""
+    pieces = Words(word.split(","))
+    data = hex_of(pieces)
+    if pieces.peek() is not None:
+        raise Wrong(f"{pieces.peek()} isn't hexadecimal")
+    return data
+
+
+def say_properties(pairs):
+    said = []
+    for key, value in pairs:
+        if value.endswith(b"\0") and b"\0" not in value[:-1]:
+            said.append(quoted(key) + "=" + (quoted(value[:-1]) if value[:-1] else ""))
+        else:
+            said.append(quoted(key) + ":" + ",".join(hex_words(value)))
+    return said
+
+
+def commas(values):
+    return [",".join(map(number_word, values))]
+
+
+NUMBER = Kind(
+    wire.number, Items.number, lambda v: [number_word(v)],
+    lambda words: number_of(words.take("a number"), "the field"),
+)
+VERSION = Kind(wire.number, Items.number, say_version, hear_version)
+COOKIE = Kind(wire.arbitrary, Items.arbitrary, hex_words, hex_of)
+TEXT = Kind(wire.text, Items.text, lambda v: [quoted(v)], hear_text)
+TEXTS = Kind(wire.texts, Items.texts, lambda v: list(map(quoted, v)), hear_texts)
+SPEC = Kind(wire.spec, Items.spec, say_spec, hear_spec, lambda w: w in FORMATS or w.isdecimal(), "the format")
+MAP = Kind(wire.channel_map, Items.map, commas, lambda words: hear_list(words, "a map", 255))
+VOLUME = Kind(wire.volume, Items.volume, commas, lambda words: hear_list(words, "a volume", NONE))
+TIME = Kind(wire.time, Items.time, lambda v: [f"{v[0]}:{v[1]}"], hear_time)
+FLAG = Kind(wire.flag, Items.flag, lambda v: [], lambda words: True)
+SWITCH = Kind(
+    wire.flag, Items.flag, lambda v: ["on" if v else "off"], hear_switch,
+    lambda word: word in ("on", "off"), "on or off",
+)
+PROPERTIES = Kind(wire.properties, Items.properties, say_properties, hear_properties, is_property)
+
+NEEDED = object()  # the default of a field that must be said
+
+
+def number(name, default=NEEDED):
+    return (name, NUMBER, default)
+
+
+def flags(names):
+    return [(name, FLAG, False) for name in names.split()]
+
+
+LIST = (None, PROPERTIES, [])
+STREAM = number("stream")
+SINK = [number("index", NONE), ("sink", TEXT, None)]
+REMIXING = "no_remap no_remix fix_format fix_rate fix_channels no_move variable_rate muted adjust_latency"
+
+# Each command's word with its number and its fields: the field's name, its kind and what it is where it isn't said.
+COMMANDS = {
+    "create": (3, [
+        (None, SPEC, NEEDED), ("map", MAP, NEEDED), *SINK, number("maxlength", NONE), *flags("corked"),
+        number("tlength", NONE), number("prebuf", NONE), number("minreq", NONE), number("syncid", NONE),
+        ("volume", VOLUME, [65536]), *flags(REMIXING), LIST,
+    ]),
+    "delete": (4, [STREAM]),
+    "auth": (8, [("version", VERSION, NEEDED), ("cookie", COOKIE, lambda scene: scene.cookie)]),
+    "name": (9, [LIST]),
+    "lookup-sink": (10, [("sink", TEXT, None)]),
+    "drain": (12, [STREAM]),
+    "latency": (14, [STREAM, ("time", TIME, (0, 0))]),
+    "server-info": (20, []),
+    "sink-info": (21, SINK),
+    "sink-infos": (22, []),
+    "source-infos": (24, []),
+    "module-infos": (26, []),
+    "client-info": (27, [number("client")]),
+    "client-infos": (28, []),
+    "input-info": (29, [number("input")]),
+    "input-infos": (30, []),
+    "source-output-infos": (32, []),
+    "sample-infos": (34, []),
+    "subscribe": (35, [number("mask")]),
+    "sink-volume": (36, [*SINK, ("volume", VOLUME, NEEDED)]),
+    "volume": (37, [number("input"), ("volume", VOLUME, NEEDED)]),
+    "sink-mute": (39, [*SINK, (None, SWITCH, NEEDED)]),
+    "cork": (41, [STREAM, (None, SWITCH, NEEDED)]),
+    "flush": (42, [STREAM]),
+    "trigger": (43, [STREAM]),
+    "default-sink": (44, [("sink", TEXT, None)]),
+    "stream-name": (46, [STREAM, ("name", TEXT, None)]),
+    "kill-client": (48, [number("client")]),
+    "kill-input": (49, [number("input")]),
+    "prebuf": (60, [STREAM]),
+    "move": (67, [number("input"), *SINK]),
+    "mute": (69, [number("input"), (None, SWITCH, NEEDED)]),
+    "attributes": (72, [
+        STREAM, number("maxlength", NONE), number("tlength", NONE), number("prebuf", NONE),
+        number("minreq", NONE), *flags("adjust_latency"),
+    ]),
+    "update-stream": (81, [STREAM, number("mode"), LIST]),
+    "update-client": (82, [number("mode"), LIST]),
+    "remove-stream": (84, [STREAM, ("keys", TEXTS, [])]),
+    "remove-client": (85, [("keys", TEXTS, [])]),
+    "card-infos": (89, []),
+}
+NUMBERS = {code: word for word, (code, _) in COMMANDS.items()}
+
+
+def field_for(fields, given, word):
+    """The field that a word begins: by its name, else the first without a name that the word fits."""
+    for at, (name, kind, _) in enumerate(fields):
+        if name == word:
+            if at in given:
+                raise Wrong(f"{word} is said twice")
+            return at, True
+    for at, (name, kind, _) in enumerate(fields):
+        if name is None and at not in given and kind.fits(word):
+            return at, False
+    raise Wrong(f"{word} is no field of this command")
+
+
+def hear_command(word, words, scene, conn):
+    """The packet of a line: the command's word was taken, and the connection behind it."""
+    code, fields = COMMANDS[word]
+    tag, given = None, {}
+    while words.peek() is not None:
+        if words.takes("tag"):
+            if tag is not None:
+                raise Wrong("tag is said twice")
+            tag = number_of(words.take("the tag"), "a tag")
+            continue
+        at, named = field_for(fields, given, words.peek())
+        words.at += 1 if named else 0
+        given[at] = fields[at][1].hear(words)
+    packet = wire.number(code) + wire.number(scene.tag(conn) if tag is None else tag)
+    for at, (name, kind, default) in enumerate(fields):
+        if at not in given and default is NEEDED:
+            raise Wrong(f"{name or kind.what} is missing")
+        value = given.get(at, default)
+        packet += kind.spell(value(scene) if callable(value) else value)
+    return packet
+
+
+def read_packet(packet):
+    """The command's word, the tag and the values of the fields, or None where the table hasn't such a packet."""
+    items = Items(packet)
+    try:
+        word, tag = NUMBERS[items.number()], items.number()
+        values = [kind.read(items) for _, kind, _ in COMMANDS[word][1]]
+    except (Unread, KeyError):
+        return None
+    return None if items.left() else (word, tag, values)
+
+
+def say_packet(packet, scene, conn):
+    """The words of a packet, or None where it has none."""
+    read = read_packet(packet)
+    if read is None:
+        return None
+    word, tag, values = read
+    said = [word, str(conn), "tag", str(tag)]
+    for (name, kind, default), value in zip(COMMANDS[word][1], values):
+        if value == (default(scene) if callable(default) else default):
+            continue
+        said += ([name] if name else []) + kind.say(value)
+    return said
