@@ -5,3 +5,4 @@ pub mod Mixing
 pub mod Shares
 pub mod Summed
 pub mod Each
+pub mod Whole

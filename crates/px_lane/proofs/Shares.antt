@@ -1,9 +1,8 @@
 -- What a stream adds to a mix, by the bytes of the frame that it gives.
-use Rattle.std.proofs.Common.{◌≡◌, ℕ, zero, suc, ◌+◌, ◌*◌, ◌/◌, ◌<◌, List, [], ◌∷◌, length, map, take, drop, get_or, Bool, true, false, cond, Option, Some, None, refl, ap, sym, ◌∙◌, subst, arith, ℤ, pos, drop-drop, mul_comm}
+use Rattle.std.proofs.Common.{◌≡◌, ℕ, zero, suc, ◌+◌, ◌*◌, ◌/◌, ◌<◌, List, [], length, map, take, drop, get_or, Some, None, refl, ap, sym, ◌∙◌, arith, ℤ, pos, drop-drop, mul_comm}
 use Rattle.std.proofs.Math.Nat.{add-mul}
 use Rattle.std.proofs.lemmas.List.{get_or-map, length-map}
 use Rattle.std.specs.Prelude.{slice_index}
-use Rattle.std.specs.List.{AllByRecursion}
 use Rattle.std.specs.Simd.{first_chunks}
 use Rattle.px_sample.specs.declared.format.Format.{Format}
 use Rattle.px_sample.specs.declared.format.Format.TheVariants.{U8, Alaw, Ulaw, S16Le, S16Be, Float32Le, Float32Be, S32Le, S32Be, S24Le, S24Be, S24In32Le, S24In32Be}
@@ -15,14 +14,12 @@ use Rattle.px_sample.specs.WorkValue.{work_value_of, work_values_of, at_width}
 use Rattle.px_sample.proofs.FormatLemmas.{size_of-some}
 use Rattle.px_sample.proofs.RunLemmas.{whole_samples}
 use Rattle.px_model.specs.Frame.{Frame, SampleSpec, frame_size, sample_size, sample_of}
-use Rattle.px_model.specs.Held.{place}
-use Rattle.px_model.specs.Queue.{Ahead, nothing, silence, sound, sound_of, is_held_short, left_of}
-use Rattle.px_model.specs.Stream.{Stream, frame_at}
+use Rattle.px_model.specs.Queue.{Ahead, nothing, silence, sound}
+use Rattle.px_model.specs.Stream.{Stream}
 use Rattle.px_model.specs.Mix.{Samples, value_of, scaled, share_of}
 use Rattle.px_lane.specs.Heard.{heard}
 use Rattle.px_msg.specs.View.{sample_spec}
-use Rattle.px_lane.specs.Samples.{samples, format_with, bit_width, work_width, IsPlaceOf, HoldsWholeFrames}
-use Rattle.std.specs.Prelude.{nat_lt}
+use Rattle.px_lane.specs.Samples.{samples, format_with, bit_width, work_width}
 
 -- ---- formats and their codes
 
@@ -65,24 +62,6 @@ pub frame_size_known : (spec : Spec) → frame_size (sample_spec spec) ≡ frame
 frame_size_known spec = ap (λ (n : ℕ). spec.channels * n) (size_known spec.format) ∙ mul_comm spec.channels (size_of spec.format)
 
 -- ---- the frame that is heard
-
-place_whole : (size : ℕ) (held : List (Option Frame)) (k : ℕ) (f : Frame) → AllByRecursion (IsPlaceOf size) held → place held k ≡ Some f → length f ≡ size
-place_whole size [] k f all is = cc
-place_whole size (o ∷ held) zero f all is = subst (IsPlaceOf size) is all.0
-place_whole size (o ∷ held) (suc k) f all is = place_whole size held k f all.1 is
-
-heard_place : (corked short within : Bool) (o : Option Frame) (f : Frame)
-    → heard (cond corked nothing (cond short nothing (cond within (sound_of o) nothing))) ≡ Some f → o ≡ Some f
-heard_place true short within o f is = cc
-heard_place false true within o f is = cc
-heard_place false false false o f is = cc
-heard_place false false true None f is = is
-heard_place false false true (Some g) f is = is
-
-pub heard_whole : (s : Stream) (k : ℕ) (f : Frame) → HoldsWholeFrames s → heard (frame_at s k) ≡ Some f → length f ≡ frame_size s.spec
-heard_whole s k f all is =
-    place_whole (frame_size s.spec) s.queue.held k f all
-    (heard_place s.corked (is_held_short s.queue) (nat_lt k (left_of s.queue)) (place s.queue.held k) f is)
 
 pub share_none : (m : Samples) (sink : SampleSpec) (s : Stream) (c : ℕ) (a : Ahead) → heard a ≡ None → share_of m sink s c a ≡ pos 0
 share_none m sink s c nothing is = refl

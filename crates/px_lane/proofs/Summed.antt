@@ -15,7 +15,7 @@ use Rattle.px_sample.specs.WorkValue.{sample_of, packed_of}
 use Rattle.px_model.specs.Frame.{SampleSpec}
 use Rattle.px_model.specs.Stream.{Stream, frame_at}
 use Rattle.px_model.specs.Mix.{share_of, mix_of}
-use Rattle.px_model.specs.Sink.{streams_of}
+use Rattle.px_model.specs.Sink.{Input as Stands, streams_of}
 use Rattle.px_lane.specs.declared.input.Input.{Input}
 use Rattle.px_lane.specs.Room.{RoomyStream}
 use Rattle.px_lane.specs.Inputs.{input_of, inputs_of}
@@ -24,7 +24,7 @@ use Rattle.px_msg.specs.View.{sample_spec}
 use Rattle.px_lane.proofs.Shares.{format_known}
 
 -- a fact of all streams is one of the stream of input i
-pub stream_of_input : (P : Stream → Type 0) (inputs : List Input) (i : ℕ) (d : Input) → AllByRecursion P (streams_of (inputs_of inputs)) → i < length inputs
+pub stream_of_input : (P : Stream → Type 0) (inputs : List Input) (i : ℕ) (d : Input) → AllByRecursion (λ x. P (Stands.stream x)) (inputs_of inputs) → i < length inputs
     → P (RoomyStream.stream (Input.stream (get_or inputs i d)))
 stream_of_input P [] i d all less = absurd (omega (arith, less))
 stream_of_input P (x ∷ inputs) zero d all less = all.0

@@ -6,10 +6,10 @@ ghost use Rattle.px_sample.specs.Format.{width_of, size_of, frame_size_of, IsWho
 ghost use Rattle.px_sample.specs.WorkValue.{work_values_of, at_width, IsWithin};
 ghost use Rattle.px_model.specs.Stream.{frame_at};
 ghost use Rattle.px_model.specs.Mix.{mix_of, share_of, scaled};
-ghost use Rattle.px_model.specs.Sink.{streams_of};
+ghost use Rattle.px_model.specs.Sink.{Input as Stands, IsStreamOf, streams_of};
 ghost use Rattle.px_msg.specs.View.{sample_spec};
 ghost use Rattle.px_lane.specs.Inputs.{inputs_of};
-ghost use Rattle.px_lane.specs.Samples.{samples, bit_width, IsMixable, IsSumOf, sum_of};
+ghost use Rattle.px_lane.specs.Samples.{samples, bit_width, IsSumOf, sum_of};
 
 use crate::share::scaled;
 use crate::{Input, Stream};
@@ -26,7 +26,7 @@ pub fn mix_frames(sink: &Spec, inputs: &[Input], ahead: u64, frames: usize, out:
     requires some_channels { 1 ≤ sink.now.channels }
     requires few_channels { sink.now.channels ≤ 32 }
     requires few_inputs { length inputs.now ≤ 256 }
-    requires mixable { AllByRecursion (λ s. IsMixable (sample_spec sink.now) s) (streams_of (inputs_of inputs.now)) }
+    requires mixable { AllByRecursion (λ x. IsStreamOf (sample_spec sink.now) (Stands.stream x)) (inputs_of inputs.now) }
     requires near { ahead + frames < 2 ^ 64 }
     requires whole { length out.old ≡ frames * frame_size_of sink.now }
     ensures { out.new ≡ concat (map (mix_of samples (sample_spec sink.now) (streams_of (inputs_of inputs.now))) (range_with_len ahead frames)) }
@@ -43,7 +43,7 @@ fn mix_frame(sink: &Spec, inputs: &[Input], ahead: u64, out: &mut [u8])
     requires linear { IsLinear sink.now.format }
     requires few_channels { sink.now.channels ≤ 32 }
     requires few_inputs { length inputs.now ≤ 256 }
-    requires mixable { AllByRecursion (λ s. IsMixable (sample_spec sink.now) s) (streams_of (inputs_of inputs.now)) }
+    requires mixable { AllByRecursion (λ x. IsStreamOf (sample_spec sink.now) (Stands.stream x)) (inputs_of inputs.now) }
     requires whole { length out.old ≡ frame_size_of sink.now }
     ensures { out.new ≡ mix_of samples (sample_spec sink.now) (streams_of (inputs_of inputs.now)) ahead }
 {
@@ -72,7 +72,7 @@ fn pack_sums(
     requires linear { IsLinear sink.now.format }
     requires few_channels { sink.now.channels ≤ 32 }
     requires few_inputs { length inputs.now ≤ 256 }
-    requires mixable { AllByRecursion (λ s. IsMixable (sample_spec sink.now) s) (streams_of (inputs_of inputs.now)) }
+    requires mixable { AllByRecursion (λ x. IsStreamOf (sample_spec sink.now) (Stands.stream x)) (inputs_of inputs.now) }
     requires sums { length sums.old ≡ sink.now.channels }
     requires values { length values.old ≡ sink.now.channels }
     requires whole { length out.old ≡ frame_size_of sink.now }
@@ -87,7 +87,7 @@ fn pack_sums(
 fn add_all(sink: &Spec, inputs: &[Input], ahead: u64, sums: &mut [i64])
     requires few_channels { sink.now.channels ≤ 32 }
     requires few_inputs { length inputs.now ≤ 256 }
-    requires mixable { AllByRecursion (λ s. IsMixable (sample_spec sink.now) s) (streams_of (inputs_of inputs.now)) }
+    requires mixable { AllByRecursion (λ x. IsStreamOf (sample_spec sink.now) (Stands.stream x)) (inputs_of inputs.now) }
     requires places { length sums.old ≡ sink.now.channels }
     ensures bounds { All (IsSumOf 256) sums.new }
     ensures sums { sums.new ≡ map (sum_of (sample_spec sink.now) (streams_of (inputs_of inputs.now)) ahead) (range_with_len 0 sink.now.channels) }
@@ -100,7 +100,7 @@ fn add_all(sink: &Spec, inputs: &[Input], ahead: u64, sums: &mut [i64])
 
 // Adds what a stream gives there.
 fn add_stream(sink: &Spec, stream: &Stream, ahead: u64, sums: &mut [i64])
-    requires mixable { IsMixable (sample_spec sink.now) stream.now.stream }
+    requires mixable { IsStreamOf (sample_spec sink.now) stream.now.stream }
     requires places { length sums.old ≡ sink.now.channels }
     requires room { All (IsSumOf 255) sums.old }
     ensures sums { (c : ℕ) → c < sink.now.channels → slice_index_or sums.new c (pos 0) ≡ slice_index_or sums.old c (pos 0) +ℤ share_of samples (sample_spec sink.now) stream.now.stream c (frame_at stream.now.stream ahead) }

@@ -1,5 +1,5 @@
 // A stream of a sink.
-ghost use Rattle.std.specs.Prelude.{◌≡◌, ◌≤◌, ◌+◌, ◌-◌, length, nat_le, OnOk, MatchOption, None, Some};
+ghost use Rattle.std.specs.Prelude.{◌≡◌, ◌≤◌, ◌+◌, ◌-◌, length, nat_le, OnOk, IfSome, MatchOption, None, Some};
 ghost use Rattle.px_model.specs.Going.{after, given_of, ahead_of};
 ghost use Rattle.px_model.specs.Control.{new_stream, attached, drained_by, corked_to, flushed, triggered, prebuffered, with_attr, with_factors};
 ghost use Rattle.px_model.specs.Orderly.{IsRepaired};
@@ -8,6 +8,8 @@ ghost use Rattle.px_model.specs.Write.{outcome_of, written};
 ghost use Rattle.px_model.specs.Stream.{frame_at};
 ghost use Rattle.px_lane.specs.Heard.{heard};
 ghost use Rattle.px_lane.specs.Outcomes.{outcome_for};
+ghost use Rattle.px_lane.specs.Whole.{AreFramesOf};
+ghost use Rattle.px_model.specs.Frame.{frame_size};
 ghost use Rattle.px_msg.specs.View.{sample_spec};
 
 use crate::run::run_after;
@@ -43,6 +45,8 @@ impl Model for Stream {
     ghost use Rattle.px_msg.specs.View.{sample_spec};
     ghost use Rattle.px_lane.specs.Room.{RoomyStream};
     ghost use Rattle.px_lane.specs.Streams.{stream_of};
+    ghost use Rattle.px_lane.specs.Whole.{HoldFramesOf};
+    ghost use Rattle.px_model.specs.Frame.{frame_size};
 
     ghost Value = { RoomyStream };
 
@@ -51,7 +55,8 @@ impl Model for Stream {
       room = min s.queue.room (vec_capacity s.draining - vec_len s.draining);
     } };
 
-    ghost invariant = { λ s. IsStream (stream_of s.queue.queue s.corked s.maxlength s.tlength s.minreq s.requested s.draining.items s.run (sample_spec s.spec) s.feed s.factors) };
+    ghost invariant = { λ s. IsStream (stream_of s.queue.queue s.corked s.maxlength s.tlength s.minreq s.requested s.draining.items s.run (sample_spec s.spec) s.feed s.factors)
+        × HoldFramesOf (frame_size (sample_spec s.spec)) s.queue.queue.held };
 }
 
 impl Stream {
@@ -109,7 +114,8 @@ impl Stream {
 
     /// The frame so many places ahead, as bytes; `None` where it gives none or silence there.
     pub fn frame(&self, ahead: u64) -> Option<&[u8]>
-        ensures { MatchOption result (heard (frame_at self.now.stream ahead) ≡ None) (λ frame. heard (frame_at self.now.stream ahead) ≡ Some frame.now) }
+        ensures value { MatchOption result (heard (frame_at self.now.stream ahead) ≡ None) (λ frame. heard (frame_at self.now.stream ahead) ≡ Some frame.now) }
+        ensures whole { IfSome result (λ frame. length frame.now ≡ frame_size self.now.stream.spec) }
     {
         if self.corked {
             return None;
@@ -139,9 +145,10 @@ impl Stream {
         Ok(())
     }
 
-    /// Writes frames, where so many frames of the sink are mixed ahead of its read index. Takes room for one message, and no memory.
+    /// Writes whole frames, where so many frames of the sink are mixed ahead of its read index. Takes room for one message, and no memory.
     pub fn write(&mut self, chunk: Chunk, mixed: u64) -> Stored
-        requires { 1 ≤ self.old.room }
+        requires room { 1 ≤ self.old.room }
+        requires whole { AreFramesOf (frame_size self.old.stream.spec) chunk.frames }
         ensures outcome { outcome_of self.old.stream.queue self.old.stream.maxlength chunk.at (length chunk.frames) (ahead_of self.old.stream mixed) ≡ outcome_for result }
         ensures after { self.new.stream ≡ written self.old.stream chunk.at chunk.frames (ahead_of self.old.stream mixed) }
         ensures room { self.old.room ≤ self.new.room + 1 }

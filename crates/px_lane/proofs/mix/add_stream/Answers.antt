@@ -7,12 +7,12 @@ use Rattle.px_model.specs.Frame.{SampleSpec, frame_size}
 use Rattle.px_model.specs.Stream.{frame_at}
 use Rattle.px_model.specs.Mix.{scaled}
 use Rattle.px_lane.proofs.Mixing.{more_fits}
-use Rattle.px_lane.proofs.Shares.{heard_whole, frame_size_known, share_by_values}
+use Rattle.px_lane.proofs.Shares.{frame_size_known, share_by_values}
 use Rattle.px_lane.proofs.mix.add_stream.Goals as goal
 
 pub read_frame-requires-clause-size : goal.read_frame-requires-clause-size
 read_frame-requires-clause-size c =
-    heard_whole c.args.stream.now.stream c.args.ahead c.in-Some.frame.now c.requires.mixable.whole c.in-Some.ensures
+    c.in-Some.ensures.whole
     ∙ ap (λ (t : SampleSpec). frame_size t) (sym c.spec-spec.ensures)
     ∙ frame_size_known c.spec-spec.result
 
@@ -21,10 +21,10 @@ returns-in-Some-clause-sums c =
     let s = c.args.stream.now.stream in
     let spec = c.spec-spec.result in
     let sink = c.args.sink.now in
-    let size = heard_whole s c.args.ahead c.in-Some.frame.now c.requires.mixable.whole c.in-Some.ensures
+    let size = c.in-Some.ensures.whole
     ∙ ap (λ (t : SampleSpec). frame_size t) (sym c.spec-spec.ensures)
     ∙ frame_size_known spec in
-    let fits = c.requires.mixable.of_the_sink.feed_fits in
+    let fits = c.requires.mixable.feed_fits in
     let fed : (k : ℕ) → k < sink.channels → slice_index s.feed k < spec.channels = λ k less.
     subst (λ (t : SampleSpec). slice_index s.feed k < t.channels) (sym c.spec-spec.ensures) (fits.channels k 0 (omega (arith, fits.places, less))) in
     let values = c.read_frame.ensures.values
@@ -34,7 +34,7 @@ returns-in-Some-clause-sums c =
     ∙ ap (λ (feed : List ℕ). get_or c.args.sums.now k (pos 0) +ℤ scaled (get_or c.read_frame.new.values (slice_index feed k) (pos 0)) (slice_index c.factors.result.now k)) c.feed.ensures
     ∙ ap (λ (factors : List ℕ). get_or c.args.sums.now k (pos 0) +ℤ scaled (get_or c.read_frame.new.values (slice_index s.feed k) (pos 0)) (slice_index factors k)) c.factors.ensures
     ∙ ap (λ (x : ℤ). get_or c.args.sums.now k (pos 0) +ℤ x)
-    (share_by_values sink spec s k (frame_at s c.args.ahead) c.in-Some.frame.now c.read_frame.new.values c.spec-spec.ensures c.in-Some.ensures size (fed k less) values)
+    (share_by_values sink spec s k (frame_at s c.args.ahead) c.in-Some.frame.now c.read_frame.new.values c.spec-spec.ensures c.in-Some.ensures.value size (fed k less) values)
 
 pub returns-in_default-clause-bounds : goal.returns-in_default-clause-bounds
 returns-in_default-clause-bounds c = λ n all k d less. more_fits n _ (all k d less)
