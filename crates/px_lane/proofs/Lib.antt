@@ -6,3 +6,4 @@ pub mod Shares
 pub mod Summed
 pub mod Each
 pub mod Whole
+pub mod Buffers

@@ -1,5 +1,5 @@
 -- What a stream adds to a mix, by the bytes of the frame that it gives.
-use Rattle.std.proofs.Common.{◌≡◌, ℕ, zero, suc, ◌+◌, ◌*◌, ◌/◌, ◌<◌, List, [], length, map, take, drop, get_or, Some, None, refl, ap, sym, ◌∙◌, arith, ℤ, pos, drop-drop, mul_comm}
+use Rattle.std.proofs.Common.{◌≡◌, ℕ, zero, suc, ◌+◌, ◌*◌, ◌/◌, ◌<◌, List, [], length, map, take, drop, get_or, Some, None, refl, ap, sym, ◌∙◌, arith, ℤ, pos, ◌+ℤ◌, drop-drop, mul_comm}
 use Rattle.std.proofs.Math.Nat.{add-mul}
 use Rattle.std.proofs.lemmas.List.{get_or-map, length-map}
 use Rattle.std.specs.Prelude.{slice_index}
@@ -11,6 +11,15 @@ use Rattle.px_sample.specs.declared.format.Width.TheVariants.{W8, W16, W32}
 use Rattle.px_sample.specs.declared.spec.Spec.{Spec}
 use Rattle.px_sample.specs.Format.{code_of, size_of, width_of, frame_size_of}
 use Rattle.px_sample.specs.WorkValue.{work_value_of, work_values_of, at_width}
+use Rattle.px_sample.specs.Bytes.{little_bytes, big_bytes, unsigned_of}
+use Rattle.px_sample.specs.WorkValue.{sample_of as packed_sample}
+use Rattle.px_sample.specs.Format.{IsLinear}
+use Rattle.std.specs.Int.{int_div_euclid}
+use Rattle.std.specs.List.{range_with_len}
+use Rattle.std.proofs.lemmas.List.{length-reverse}
+use Rattle.px_model.specs.Mix.{mix_of}
+use Rattle.px_model.proofs.Replays.{mix_whole}
+use Rattle.px_lane.specs.Whole.{AreFramesOf}
 use Rattle.px_sample.proofs.FormatLemmas.{size_of-some}
 use Rattle.px_sample.proofs.RunLemmas.{whole_samples}
 use Rattle.px_model.specs.Frame.{Frame, SampleSpec, frame_size, sample_size, sample_of}
@@ -133,3 +142,38 @@ share_by_values sink spec s c a frame values is gives size there all =
     ∙ sym (value_known sink spec (slice_index s.feed c) frame)
     ∙ ap (λ (t : SampleSpec). samples.to (samples.width t.format) (samples.width (code_of sink.format)) (samples.work t.format (sample_of t frame (slice_index s.feed c)))) is)
     ∙ sym (share_heard samples (sample_spec sink) s c a frame gives)
+
+-- ---- the bytes of a sample
+
+length_little : (k n : ℕ) → length (little_bytes k n) ≡ k
+length_little zero n = refl
+length_little (suc k) n = ap suc (length_little k (n / 256))
+
+length_big : (k n : ℕ) → length (big_bytes k n) ≡ k
+length_big k n = length-reverse (little_bytes k n) ∙ length_little k n
+
+pub length_sample : (format : Format) → IsLinear format → (value : ℤ) → length (packed_sample format value) ≡ size_of format
+length_sample U8 linear value = length_little 1 (unsigned_of 8 (value +ℤ pos 128))
+length_sample Alaw linear value = absurd linear
+length_sample Ulaw linear value = absurd linear
+length_sample S16Le linear value = length_little 2 (unsigned_of 16 value)
+length_sample S16Be linear value = length_big 2 (unsigned_of 16 value)
+length_sample Float32Le linear value = absurd linear
+length_sample Float32Be linear value = absurd linear
+length_sample S32Le linear value = length_little 4 (unsigned_of 32 value)
+length_sample S32Be linear value = length_big 4 (unsigned_of 32 value)
+length_sample S24Le linear value = length_little 3 (unsigned_of 24 (int_div_euclid value (pos 256)))
+length_sample S24Be linear value = length_big 3 (unsigned_of 24 (int_div_euclid value (pos 256)))
+length_sample S24In32Le linear value = length_little 4 (unsigned_of 24 (int_div_euclid value (pos 256)))
+length_sample S24In32Be linear value = length_big 4 (unsigned_of 24 (int_div_euclid value (pos 256)))
+
+-- a frame of a mix has the bytes of the sink's spec
+pub mix_sized : (sink : Spec) → IsLinear sink.format → (streams : List Stream) (k : ℕ) → length (mix_of samples (sample_spec sink) streams k) ≡ frame_size_of sink
+mix_sized sink linear streams k =
+    mix_whole samples (sample_spec sink) (size_of sink.format)
+    (λ x. ap (λ (g : Format). length (packed_sample g x)) (format_known sink.format) ∙ length_sample sink.format linear x) streams k
+    ∙ mul_comm sink.channels (size_of sink.format)
+
+pub mixes_sized : (sink : Spec) → IsLinear sink.format → (streams : List Stream) (a n : ℕ) → AreFramesOf (frame_size_of sink) (map (mix_of samples (sample_spec sink) streams) (range_with_len a n))
+mixes_sized sink linear streams a zero = tt
+mixes_sized sink linear streams a (suc n) = (mix_sized sink linear streams a, mixes_sized sink linear streams (a + 1) n)

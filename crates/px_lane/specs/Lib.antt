@@ -7,3 +7,4 @@ pub mod Inputs
 pub mod Samples
 pub mod Lists
 pub mod Whole
+pub mod Mixing
