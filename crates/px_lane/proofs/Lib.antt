@@ -2,3 +2,4 @@ pub mod Log
 pub mod Going
 pub mod Storing
 pub mod Each
+pub mod Bytes

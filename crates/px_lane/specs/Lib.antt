@@ -5,3 +5,4 @@ pub mod Streams
 pub mod Heard
 pub mod Inputs
 pub mod Lists
+pub mod Changes

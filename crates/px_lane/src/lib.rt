@@ -2,6 +2,7 @@
 //! `Stream`, its `FrameQueue` with `Chunk`, `Stored` and `Index`, each with the state of the definitions, and `scaled`.
 #![tactic(auto)]
 
+mod change;
 mod chunk;
 mod index;
 mod input;
@@ -12,6 +13,7 @@ mod run;
 mod share;
 mod stream;
 
+pub use change::Change;
 pub use chunk::Chunk;
 pub use index::Index;
 pub use input::Input;

@@ -1,10 +1,11 @@
 // A stream of a sink.
-ghost use Rattle.std.specs.Prelude.{◌≡◌, ◌≤◌, ◌+◌, ◌-◌, length, nat_le, OnOk, MatchOption, None, Some};
+ghost use Rattle.std.specs.Prelude.{◌≡◌, ◌≤◌, ◌+◌, ◌-◌, length, nat_le, IsTrue, IsSome, IfSome, ◌↔◌, OnOk, MatchOption, None, Some};
 ghost use Rattle.px_model.specs.Going.{after, given_of, ahead_of};
 ghost use Rattle.px_model.specs.Control.{new_stream, attached, drained_by, corked_to, flushed, triggered, prebuffered, with_attr, with_factors};
 ghost use Rattle.px_model.specs.Orderly.{IsRepaired};
 ghost use Rattle.px_model.specs.Turn.{is_playing, has_ended, has_started, has_run_out, missing_of, request_of, asked_stream};
-ghost use Rattle.px_model.specs.Write.{outcome_of, written};
+ghost use Rattle.px_model.specs.Write.{seek_of, target_of, outcome_of, written};
+ghost use Rattle.px_model.specs.Index.{is_index};
 ghost use Rattle.px_model.specs.Stream.{frame_at};
 ghost use Rattle.px_lane.specs.Heard.{heard};
 ghost use Rattle.px_lane.specs.Outcomes.{outcome_for};
@@ -126,6 +127,14 @@ impl Stream {
         } else {
             self.queue.ahead(frames)
         }
+    }
+
+    /// The index that a seek goes to: its mode as on the wire, 0 to 3, and its offset in frames. `None` where that is no index.
+    pub fn target(&self, seek: u8, offset: i64) -> Option<Index>
+        ensures some { IsSome result ↔ IsTrue (is_index (target_of self.now.stream.queue (seek_of seek) offset)) }
+        ensures value { IfSome result (λ index. index ≡ target_of self.now.stream.queue (seek_of seek) offset) }
+    {
+        self.queue.target(seek, offset)
     }
 
     /// Makes room for so many more writes, and as many drains. Without memory the stream stays what it is.
