@@ -1,5 +1,5 @@
 -- A write whose frames come as bytes.
-use Rattle.std.proofs.Common.{◌≡◌, ℕ, List, length, Bool, true, false, refl, ap, sym, ◌∙◌, cond, subst}
+use Rattle.std.proofs.Common.{◌≡◌, ℕ, length, Bool, true, false, refl, ap, sym, ◌∙◌, cond, subst}
 use Rattle.std.specs.Prelude.{ℤ, IsTrue, not, ◌&&◌, int_lt, nat_lt}
 use Rattle.std.proofs.lemmas.Bool.{cond-true}
 use Rattle.px_sample.specs.declared.spec.Spec.{Spec}
@@ -7,8 +7,8 @@ use Rattle.px_sample.specs.Format.{frame_size_of}
 use Rattle.px_msg.specs.View.{sample_spec}
 use Rattle.px_msg.proofs.Sizes.{same_frame_size}
 use Rattle.px_model.specs.Index.{above, onward, is_index}
-use Rattle.px_model.specs.Frame.{SampleSpec, frame_size, frames_of}
-use Rattle.px_model.specs.Queue.{Queue, end_of}
+use Rattle.px_model.specs.Frame.{frame_size, frames_of}
+use Rattle.px_model.specs.Queue.{end_of}
 use Rattle.px_model.specs.Stream.{Stream}
 use Rattle.px_model.specs.Going.{ahead_of}
 use Rattle.px_model.specs.Write.{Outcome, stored, overflow, outside, outcome_of, target_of, seek_of, written, queue_with, requested_with}

@@ -3,3 +3,5 @@ pub mod Going
 pub mod Storing
 pub mod Each
 pub mod Bytes
+pub mod Places
+pub mod Rising

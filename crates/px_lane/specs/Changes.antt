@@ -1,10 +1,11 @@
 -- What a message does to the stream that it names.
-use Rattle.std.specs.Prelude.{◌≡◌, ℕ, ◌*◌, ℤ, Bool, true, false, List, length, ⊤}
+use Rattle.std.specs.Prelude.{◌≡◌, ℕ, ◌*◌, ℤ, Bool, true, false, List, [], ◌∷◌, length, Option, Some, None, if◌then◌else◌, ⊤}
 use Rattle.px_model.specs.Frame.{frame_size}
 use Rattle.px_model.specs.Stream.{Stream}
 use Rattle.px_model.specs.Write.{Outcome, stored, overflow, outside}
 use Rattle.px_model.specs.Control.{corked_to, triggered, prebuffered, flushed, drained_by, with_attr, with_factors}
 use Rattle.px_model.specs.Message.{FrameWrite}
+use Rattle.px_model.specs.Notice.{Notice}
 use Rattle.px_model.specs.Orderly.{IsRepaired}
 use Rattle.px_model.specs.Turn.{written_by, write_outcome}
 use Rattle.px_lane.specs.declared.change.Change.{Change}
@@ -24,6 +25,17 @@ changed_by Prebuf mixed s = prebuffered s
 changed_by (Drain tag) mixed s = drained_by s tag
 changed_by (Attr attr) mixed s = with_attr s attr
 changed_by (Factors factors) mixed s = with_factors s factors
+
+-- the room that it takes
+abbrev pub cost_of : Change → ℕ
+cost_of (Write seek offset frames bytes) = 1
+cost_of (Cork on) = 0
+cost_of Flush = 0
+cost_of Trigger = 0
+cost_of Prebuf = 0
+cost_of (Drain tag) = 1
+cost_of (Attr attr) = 0
+cost_of (Factors factors) = 0
 
 -- whether frames that are written so aren't held
 abbrev pub is_refused : Outcome → Bool
@@ -51,3 +63,16 @@ Suits Prebuf s = ⊤
 Suits (Drain tag) s = ⊤
 Suits (Attr attr) s = IsRepaired attr
 Suits (Factors factors) s = ⊤
+
+-- the same of the stream of an input, if that is there
+abbrev pub refused_at : Option Stream → Change → ℕ → Bool
+refused_at None change mixed = false
+refused_at (Some s) change mixed = refuses change mixed s
+
+abbrev pub SuitsAt : Option Stream → Change → Type 0
+SuitsAt None change = ⊤
+SuitsAt (Some s) change = Suits change s
+
+-- what is told of input i: frames that aren't held
+abbrev pub overflow_if : ℕ → Bool → List (Notice Stream)
+overflow_if i refused = if refused then Notice.overflow i ∷ [] else []

@@ -6,3 +6,4 @@ pub mod Heard
 pub mod Inputs
 pub mod Lists
 pub mod Changes
+pub mod Places

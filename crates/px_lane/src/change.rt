@@ -2,7 +2,7 @@
 ghost use Rattle.std.specs.Prelude.{◌≡◌, ◌≤◌, ◌+◌, ◌*◌, length};
 ghost use Rattle.px_model.specs.Frame.{frame_size};
 ghost use Rattle.px_model.specs.Turn.{written_by, write_outcome};
-ghost use Rattle.px_lane.specs.Changes.{changed_by, refuses, is_refused, frame_write, Suits};
+ghost use Rattle.px_lane.specs.Changes.{changed_by, cost_of, refuses, is_refused, frame_write, Suits};
 
 use crate::{Chunk, Stored, Stream};
 use px_model::Attr;
@@ -37,13 +37,13 @@ pub enum Change {
 
 impl Stream {
     /// Changes the stream, where so many frames of its sink are mixed ahead, and answers whether frames were written that aren't held.
-    /// Takes room for one message, and no memory.
+    /// A write and a drain take room for one message. Takes no memory.
     pub fn change(&mut self, change: Change, mixed: u64) -> bool
-        requires room { 1 ≤ self.old.room }
+        requires room { cost_of change ≤ self.old.room }
         requires suits { Suits change self.old.stream }
         ensures after { self.new.stream ≡ changed_by change mixed self.old.stream }
         ensures refused { result ≡ refuses change mixed self.old.stream }
-        ensures room { self.old.room ≤ self.new.room + 1 }
+        ensures room { self.old.room ≤ self.new.room + cost_of change }
     {
         match change {
             Change::Write {

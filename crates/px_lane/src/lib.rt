@@ -4,6 +4,7 @@
 
 mod change;
 mod chunk;
+mod finding;
 mod index;
 mod input;
 mod inputs;
