@@ -102,10 +102,16 @@ all_of_it items new n e l =
     ∙ take-append-le n new [] (omega (arith, e, l))
     ∙ take_all n new (omega (arith, e, l))
 
+pub in_place : (items new : List Input) (n room left capacity : ℕ) → length items ≡ n → length new ≡ length items
+    → IsRising (inputs_of new) → AllByRecursion (HasRoom left) new → left ≤ room → n + room ≤ capacity
+    → IsRising (inputs_of (take n (new ++ drop (length new) items))) × AllByRecursion (HasRoom left) (take n (new ++ drop (length new) items)) × (n + left ≤ capacity)
+in_place items new n room left capacity e l rising rooms less fits =
+    subst (λ (xs : List Input). IsRising (inputs_of xs) × AllByRecursion (HasRoom left) xs × (n + left ≤ capacity)) (sym (all_of_it items new n e l))
+    (rising, rooms, omega (arith, less, fits))
+
 pub kept_in_place : (f : Stream → Stream) (items new : List Input) (n room capacity : ℕ) → length items ≡ n → length new ≡ length items
     → inputs_of new ≡ map (with_stream f) (inputs_of items) → ((r : ℕ) → AllByRecursion (HasRoom r) items → AllByRecursion (HasRoom r) new)
     → IsRising (inputs_of items) × AllByRecursion (HasRoom room) items × (n + room ≤ capacity)
     → IsRising (inputs_of (take n (new ++ drop (length new) items))) × AllByRecursion (HasRoom room) (take n (new ++ drop (length new) items)) × (n + room ≤ capacity)
 kept_in_place f items new n room capacity e l changed rooms keeps =
-    subst (λ (xs : List Input). IsRising (inputs_of xs) × AllByRecursion (HasRoom room) xs × (n + room ≤ capacity)) (sym (all_of_it items new n e l))
-    (subst IsRising (sym changed) (rising_each f (inputs_of items) keeps.0), rooms room keeps.1, keeps.2)
+    in_place items new n room room capacity e l (subst IsRising (sym changed) (rising_each f (inputs_of items) keeps.0)) (rooms room keeps.1) (omega arith) keeps.2

@@ -6,6 +6,9 @@ use Rattle.std.proofs.lemmas.Bool.{cond-true, cond-false, eq-eqb, ne_eqb, lt-ltb
 use Rattle.px_model.specs.Stream.{Stream}
 use Rattle.px_model.specs.Sink.{Input as Stands, AllAbove, IsRising, stream_at, with_input, without_input, with_stream, with_change}
 use Rattle.px_lane.specs.declared.input.Input.{Input}
+use Rattle.px_lane.specs.declared.change.Change.{Change}
+use Rattle.px_lane.specs.declared.change.Change.TheVariants.{Write, Cork, Flush, Trigger, Prebuf, Drain, Attr, Factors}
+use Rattle.px_lane.specs.Changes.{cost_of}
 use Rattle.px_lane.specs.Inputs.{input_of, inputs_of, HasRoom}
 use Rattle.px_lane.specs.Places.{AreBelow, IsAt, IsGap}
 
@@ -172,3 +175,13 @@ all_remove r zero [] h = tt
 all_remove r (suc k) [] h = tt
 all_remove r zero (x ∷ items) h = h.1
 all_remove r (suc k) (x ∷ items) h = (h.0, all_remove r k items h.1)
+
+pub cost_small : (change : Change) → cost_of change ≤ 1
+cost_small (Write seek offset frames bytes) = omega arith
+cost_small (Cork on) = omega arith
+cost_small Flush = omega arith
+cost_small Trigger = omega arith
+cost_small Prebuf = omega arith
+cost_small (Drain tag) = omega arith
+cost_small (Attr attr) = omega arith
+cost_small (Factors factors) = omega arith

@@ -1,15 +1,16 @@
 // Inputs of rising index with the one of an index changed, put in or left out.
-ghost use Rattle.std.specs.Prelude.{ℕ, ◌≡◌, ◌≤◌, ◌<◌, ◌+◌, length, map, slice_index_or, vec_len, vec_capacity, IfOk, IfErr, MatchOption, None, Some};
+ghost use Rattle.std.specs.Prelude.{ℕ, ◌≡◌, ◌≤◌, ◌<◌, ◌+◌, ◌++◌, length, map, slice_index_or, vec_len, vec_capacity, IfOk, IfErr, MatchOption, None, Some};
 ghost use Rattle.std.specs.List.{AllByRecursion};
+ghost use Rattle.px_model.specs.Message.{Message};
 ghost use Rattle.px_model.specs.Sink.{IsRising, stream_at, with_change, with_input, without_input};
-ghost use Rattle.px_model.specs.Turn.{with_each_factors};
+ghost use Rattle.px_model.specs.Turn.{with_each_factors, message_notices};
 ghost use Rattle.px_msg.specs.View.{gains};
 ghost use Rattle.px_lane.specs.Changes.{changed_by, cost_of, refused_at, SuitsAt};
 ghost use Rattle.px_lane.specs.Inputs.{inputs_of, HasRoom};
 ghost use Rattle.px_lane.specs.Places.{AreBelow, IsAt, IsGap};
 ghost use Rattle.px_lane.specs.declared.input.Input.{Input as DeclaredInput};
 
-use crate::{Change, Input, Stream};
+use crate::{Change, Input, NoticeList, Stream};
 use px_msg::InputFactors;
 use px_types::InputId;
 
@@ -103,5 +104,25 @@ pub fn close_at(items: &mut Vec<Input>, index: InputId) -> Option<Stream>
             let Input { index: _, stream } = items.remove(place);
             Some(stream)
         }
+    }
+}
+
+/// Tells where the stream of this index stands, if it is there.
+pub fn answer_at(
+    inputs: &[Input],
+    index: InputId,
+    tag: u32,
+    mixed: u64,
+    buffered: u32,
+    out: &mut NoticeList,
+)
+    requires rising { IsRising (inputs_of inputs.now) }
+    requires capacity { length out.old.notices + length (message_notices mixed buffered (Message.query index.0 tag) (inputs_of inputs.now)) ≤ out.old.capacity }
+    ensures notices { out.new.notices ≡ out.old.notices ++ message_notices mixed buffered (Message.query index.0 tag) (inputs_of inputs.now) }
+    ensures capacity { out.new.capacity ≡ out.old.capacity }
+{
+    match find(inputs, index) {
+        Err(_) => {}
+        Ok(place) => out.push(inputs[place].stream.latency(index, tag, mixed, buffered)),
     }
 }
