@@ -5,3 +5,4 @@ pub mod Each
 pub mod Bytes
 pub mod Places
 pub mod Rising
+pub mod Readied

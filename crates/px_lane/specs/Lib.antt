@@ -7,3 +7,4 @@ pub mod Inputs
 pub mod Lists
 pub mod Changes
 pub mod Places
+pub mod Taking
