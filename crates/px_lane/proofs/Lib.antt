@@ -7,3 +7,7 @@ pub mod Summed
 pub mod Each
 pub mod Whole
 pub mod Buffers
+pub mod Bytes
+pub mod Places
+pub mod Rising
+pub mod Readied

@@ -8,3 +8,6 @@ pub mod Samples
 pub mod Lists
 pub mod Whole
 pub mod Mixing
+pub mod Changes
+pub mod Places
+pub mod Taking

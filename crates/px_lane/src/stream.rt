@@ -1,10 +1,13 @@
 // A stream of a sink.
-ghost use Rattle.std.specs.Prelude.{◌≡◌, ◌≤◌, ◌+◌, ◌-◌, length, nat_le, OnOk, IfSome, MatchOption, None, Some};
+ghost use Rattle.std.specs.Prelude.{◌≡◌, ◌≤◌, ◌+◌, ◌-◌, length, nat_le, IsTrue, IsSome, IfSome, ◌↔◌, OnOk, MatchOption, None, Some};
 ghost use Rattle.px_model.specs.Going.{after, given_of, ahead_of};
 ghost use Rattle.px_model.specs.Control.{new_stream, attached, drained_by, corked_to, flushed, triggered, prebuffered, with_attr, with_factors};
 ghost use Rattle.px_model.specs.Orderly.{IsRepaired};
-ghost use Rattle.px_model.specs.Turn.{is_playing, has_ended, has_started, has_run_out, missing_of, request_of, asked_stream};
-ghost use Rattle.px_model.specs.Write.{outcome_of, written};
+ghost use Rattle.px_model.specs.Turn.{is_playing, has_ended, has_started, has_run_out, missing_of, request_of, asked_stream, latency_of};
+ghost use Rattle.px_model.specs.Notice.{Notice as Told};
+ghost use Rattle.px_lane.specs.Lists.{plain_notice};
+ghost use Rattle.px_model.specs.Write.{seek_of, target_of, outcome_of, written};
+ghost use Rattle.px_model.specs.Index.{is_index};
 ghost use Rattle.px_model.specs.Stream.{frame_at};
 ghost use Rattle.px_lane.specs.Heard.{heard};
 ghost use Rattle.px_lane.specs.Outcomes.{outcome_for};
@@ -16,9 +19,9 @@ use crate::run::run_after;
 use crate::{Chunk, FrameQueue, Index, Stored};
 use px_chmap::Feed;
 use px_model::{Attr, Run};
-use px_msg::Parcel;
+use px_msg::{Notice, Parcel};
 use px_sample::Spec;
-use px_types::{Mem, NoMemory};
+use px_types::{InputId, Mem, NoMemory};
 use px_vol::Factors;
 use std::alloc::Global;
 use std::marker::Model;
@@ -134,6 +137,14 @@ impl Stream {
         }
     }
 
+    /// The index that a seek goes to: its mode as on the wire, 0 to 3, and its offset in frames. `None` where that is no index.
+    pub fn target(&self, seek: u8, offset: i64) -> Option<Index>
+        ensures some { IsSome result ↔ IsTrue (is_index (target_of self.now.stream.queue (seek_of seek) offset)) }
+        ensures value { IfSome result (λ index. index ≡ target_of self.now.stream.queue (seek_of seek) offset) }
+    {
+        self.queue.target(seek, offset)
+    }
+
     /// Makes room for so many more writes, and as many drains. Without memory the stream stays what it is.
     pub fn reserve(&mut self, messages: usize) -> Mem<()>
         ensures value { self.new.stream ≡ self.old.stream }
@@ -210,17 +221,42 @@ impl Stream {
         self.requested += request;
     }
 
+    /// How long it has played or been silent after the next so many frames.
+    pub fn run_after(&self, frames: u64) -> Run
+        ensures { result ≡ (after self.now.stream frames).run }
+    {
+        if self.corked || frames == 0 {
+            self.run
+        } else {
+            run_after(self.run, self.given(frames), frames)
+        }
+    }
+
+    /// Where it stands, with so many frames mixed past the horizon and so many in the sink's buffer, as the answer to a tag of input
+    /// `index`.
+    pub fn latency(&self, input: InputId, tag: u32, mixed: u64, buffered: u32) -> Notice<Stream>
+        ensures { plain_notice result ≡ Told.latency input.0 tag (latency_of mixed buffered self.now.stream) }
+    {
+        let run = self.run_after(mixed);
+        Notice::Latency {
+            input,
+            tag,
+            write: self.queue.write_index().number(),
+            read: self.ahead(mixed).number(),
+            buffered,
+            playing: !self.corked && is_playing(run),
+            run,
+        }
+    }
+
     /// Whether it is silent after the next so many frames, played or gave a frame, and has no drain to answer: an underrun.
     pub fn runs_out(&self, frames: u64) -> bool
         ensures { result ≡ has_run_out self.now.stream frames }
     {
-        let given = self.given(frames);
-        let later = if self.corked || frames == 0 {
-            self.run
-        } else {
-            run_after(self.run, given, frames)
-        };
-        !is_playing(later) && (is_playing(self.run) || given > 0) && self.draining.is_empty()
+        let later = self.run_after(frames);
+        !is_playing(later)
+            && (is_playing(self.run) || self.given(frames) > 0)
+            && self.draining.is_empty()
     }
 
     /// The tags of the drains that wait for an answer, in order.
