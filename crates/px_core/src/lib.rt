@@ -9,6 +9,7 @@ mod change;
 mod client;
 mod commit;
 mod connecting;
+mod data;
 mod delete;
 mod effect;
 mod effects;
