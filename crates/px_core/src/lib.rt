@@ -7,6 +7,7 @@ mod answer;
 mod asked;
 mod change;
 mod client;
+mod command;
 mod create;
 mod created;
 mod delete;
