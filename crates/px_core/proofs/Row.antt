@@ -1,5 +1,5 @@
 -- A command's row is the one that its number and its fields name.
-use Rattle.std.proofs.Common.{◌≡◌, ℕ, Bool, true, false, cond, ◌||◌, nat_eq, List, [], ◌∷◌, slice_get, Option, None, Some, Result, Ok, Err, refl, sym, ap, ◌∙◌, arith, IfOk}
+use Rattle.std.proofs.Common.{◌≡◌, ℕ, true, false, cond, nat_eq, List, [], slice_get, Option, None, Some, Result, Ok, Err, refl, sym, ap, ◌∙◌, arith, IfOk}
 use Rattle.std.proofs.lemmas.Bool.Decides.{nat_tests}
 use Rattle.px_types.specs.declared.ids.SinkId.{SinkId}
 use Rattle.px_types.specs.declared.error_code.ErrorCode.{ErrorCode}
@@ -18,7 +18,7 @@ use Rattle.px_core.specs.declared.input.Connection.{Connection}
 use Rattle.px_core.specs.declared.input.Input.{Input}
 use Rattle.px_core.specs.State.{State}
 use Rattle.px_core.specs.Reply.{Answer, refused, done}
-use Rattle.px_core.specs.Create.{is_lawful, refusal_on, input_made, created, created_or, create_on, create_there, create_named, create}
+use Rattle.px_core.specs.Create.{is_lawful, refusal_on, created_or, create_on, create_there, create_named, create}
 use Rattle.px_core.specs.Command.{create_in, row}
 
 -- ---- CREATE reads only what stands in a packet of version 13
