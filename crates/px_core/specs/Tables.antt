@@ -1,5 +1,5 @@
 -- The tables that the core keeps its state in, as the state, and the room that they have.
-use Rattle.std.specs.Prelude.{ℕ, ◌+◌, ◌≤◌, List, map, length, vec_len, vec_capacity}
+use Rattle.std.specs.Prelude.{ℕ, zero, suc, ◌+◌, ◌≤◌, List, [], ◌∷◌, map, length, vec_len, vec_capacity, IfSome}
 use Rattle.std.specs.List.{AllByRecursion}
 use Rattle.std.specs.VecDeque.{deque_len, deque_capacity}
 use Rattle.std.specs.declared.collections.VecDeque.{VecDeque}
@@ -28,6 +28,12 @@ state_of t = record {
 abbrev pub HasPlaces : {P Z : Type 0} → ℕ → VecDeque (Msg P) Z → Type 0
 HasPlaces n q = deque_len q + n ≤ deque_capacity q
 
+-- in the queue at a place, where there is one
+abbrev pub HasPlacesAt : {P Z : Type 0} → ℕ → ℕ → List (VecDeque (Msg P) Z) → Type 0
+HasPlacesAt n place [] = Unit {0}
+HasPlacesAt n zero (q ∷ queues) = HasPlaces n q
+HasPlacesAt n (suc place) (q ∷ queues) = HasPlacesAt n place queues
+
 -- in each queue
 abbrev pub HavePlaces : {P Z : Type 0} → ℕ → List (VecDeque (Msg P) Z) → Type 0
 HavePlaces n queues = AllByRecursion (HasPlaces n) queues
@@ -36,3 +42,7 @@ HavePlaces n queues = AllByRecursion (HasPlaces n) queues
 pub record HasRoom {P : Type 0} (n : ℕ) (t : Tables P) : Type 0 where
   pub inputs : vec_len t.inputs + n ≤ vec_capacity t.inputs
   pub posted : HavePlaces n t.posted.items
+
+-- the sink whose first message was handed out has room to take it back
+abbrev pub HasLent : {P : Type 0} → Tables P → Type 0
+HasLent t = IfSome t.lent (λ sink. HasPlacesAt 1 sink.0 t.posted.items)

@@ -8,6 +8,7 @@ mod asked;
 mod change;
 mod client;
 mod command;
+mod commit;
 mod create;
 mod created;
 mod delete;

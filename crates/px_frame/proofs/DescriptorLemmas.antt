@@ -57,6 +57,14 @@ descriptor-unique d e x y p q same =
     let g = word-unique d.flags e.flags _ _ p.flags q.flags f.1 in
     (same-five a.0 b.0 c.0 f.0 g.0, g.1)
 
+-- the twenty bytes that a descriptor is spelled by are read as it
+pub descriptor_in-bytes : (d : Descriptor) → HasWords d → descriptor_in (descriptor_bytes d) ≡ d
+unfolding descriptor_bytes descriptor_in
+descriptor_in-bytes d h =
+    same-five (from_be_bytes-to_be_bytes_4 d.length h.length) (from_be_bytes-to_be_bytes_4 d.channel h.channel)
+    (from_be_bytes-to_be_bytes_4 d.offset_high h.offset_high) (from_be_bytes-to_be_bytes_4 d.offset_low h.offset_low)
+    (from_be_bytes-to_be_bytes_4 d.flags h.flags)
+
 -- what is taken of bytes are bytes
 pub take-bytes : (n : ℕ) (b : List ℕ) → AreBytes b → AreBytes (take n b)
 take-bytes zero b fits i = lit< tt

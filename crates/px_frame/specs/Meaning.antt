@@ -1,6 +1,5 @@
 -- What a whole list of bytes is read as, frame by frame from its front: the only frames and the only ending that it has.
 use Rattle.std.specs.Prelude.{ℕ, zero, suc, ◌+◌, cond, nat_lt, List, [], ◌∷◌, length, take, drop, Option, Some, None}
-use Rattle.std.specs.Int.{from_be_bytes, w32}
 use Rattle.px_frame.specs.declared.descriptor.Descriptor.{Descriptor}
 use Rattle.px_frame.specs.declared.fault.FrameFault.{FrameFault}
 use Rattle.px_frame.specs.declared.frame.Frame.{Frame}

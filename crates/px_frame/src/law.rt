@@ -12,9 +12,10 @@ pub fn one_reading()
     ensures { (bytes : List ℕ) → AreBytes bytes → HasOneReading bytes }
 {}
 
-/// Reading a list of bytes frame by frame from its front gives that one reading.
+/// Reading a list of bytes frame by frame from its front gives that one reading. Whatever a list of numbers is read
+/// as is this, also where one is no byte.
 pub fn reading_from_the_front()
     ensures found { (bytes : List ℕ) → AreBytes bytes → IsRead bytes (frames_in bytes) (ending_in bytes) }
-    ensures only { (bytes : List ℕ) (frames : List Frame) (ending : Ending) → AreBytes bytes
-        → IsRead bytes frames ending → (frames ≡ frames_in bytes) × (ending ≡ ending_in bytes) }
+    ensures only { (bytes : List ℕ) (frames : List Frame) (ending : Ending) → IsRead bytes frames ending
+        → (frames ≡ frames_in bytes) × (ending ≡ ending_in bytes) }
 {}

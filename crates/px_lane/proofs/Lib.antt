@@ -1,3 +1,4 @@
 pub mod Log
 pub mod Going
 pub mod Storing
+pub mod Each

@@ -1,15 +1,9 @@
 -- A stream of the code as the stream of the definitions.
 use Rattle.std.specs.Prelude.{ℕ, Bool, List}
-use Rattle.px_sample.specs.declared.spec.Spec.{Spec}
-use Rattle.px_sample.specs.Format.{code_of}
 use Rattle.px_model.specs.declared.data.Run.{Run}
 use Rattle.px_model.specs.Frame.{SampleSpec}
 use Rattle.px_model.specs.Queue.{Queue}
 use Rattle.px_model.specs.Stream.{Stream}
-
--- a sample spec by the code of its format
-abbrev pub sample_spec : Spec → SampleSpec
-sample_spec spec = record { format = code_of spec.format; channels = spec.channels; rate = spec.rate }
 
 abbrev pub stream_of : Queue → Bool → ℕ → ℕ → ℕ → ℕ → List ℕ → Run → SampleSpec → List ℕ → List ℕ → Stream
 stream_of queue corked maxlength tlength minreq requested draining run spec feed factors = record {

@@ -4,6 +4,9 @@
 
 mod chunk;
 mod index;
+mod input;
+mod inputs;
+mod lists;
 mod queue;
 mod run;
 mod share;
@@ -11,6 +14,9 @@ mod stream;
 
 pub use chunk::Chunk;
 pub use index::Index;
+pub use input::Input;
+pub use inputs::Inputs;
+pub use lists::{MsgList, NoticeList};
 pub use queue::{FrameQueue, Stored};
 pub use share::scaled;
 pub use stream::Stream;

@@ -1,5 +1,5 @@
 // The frames of a stream that wait to be played.
-ghost use Rattle.std.specs.Prelude.{◌≡◌, ◌≤ℤ◌, ◌&&◌, int_lt, nat_lt, length, IsTrue, IfOk, OnOk, OnErr, MatchOption, None, Some, true, false};
+ghost use Rattle.std.specs.Prelude.{◌≡◌, ◌≤◌, ◌+◌, ◌-◌, ◌≤ℤ◌, ◌&&◌, vec_len, vec_capacity, int_lt, nat_lt, length, IsTrue, OnOk, MatchOption, None, Some, true, false};
 ghost use Rattle.px_model.specs.Index.{above, onward, LAST};
 ghost use Rattle.px_model.specs.Held.{place, frame_of};
 ghost use Rattle.px_model.specs.Queue.{Queue, end_of, left_of, is_held_short, queue_frame};
@@ -36,13 +36,14 @@ pub struct FrameQueue {
 }
 
 impl Model for FrameQueue {
-    ghost use Rattle.std.specs.Prelude.{◌≡◌, length};
-    ghost use Rattle.px_model.specs.Queue.{Queue, IsQueue};
+    ghost use Rattle.std.specs.Prelude.{◌≡◌, ◌-◌, length, vec_len, vec_capacity};
+    ghost use Rattle.px_model.specs.Queue.{IsQueue};
+    ghost use Rattle.px_lane.specs.Room.{RoomyQueue};
     ghost use Rattle.px_lane.specs.Written.{held_of, queue_of};
 
-    ghost Value = { Queue };
+    ghost Value = { RoomyQueue };
 
-    ghost view = { λ q. queue_of q.writes.items q.read q.write q.hold q.prebuf };
+    ghost view = { λ q. record { queue = queue_of q.writes.items q.read q.write q.hold q.prebuf; room = vec_capacity q.writes - vec_len q.writes } };
 
     ghost invariant = { λ q. (q.held ≡ length (held_of q.read q.writes.items)) × IsQueue (queue_of q.writes.items q.read q.write q.hold q.prebuf) };
 }
@@ -50,7 +51,7 @@ impl Model for FrameQueue {
 impl FrameQueue {
     /// An empty queue, which waits for `prebuf` frames before it plays. Takes no memory.
     pub fn new(alloc: Global, prebuf: u32) -> FrameQueue
-        ensures { result ≡ new_queue prebuf }
+        ensures { result.queue ≡ new_queue prebuf }
     {
         FrameQueue {
             writes: Vec::new(alloc),
@@ -64,42 +65,42 @@ impl FrameQueue {
 
     /// The next frame to read.
     pub fn read_index(&self) -> Index
-        ensures { result ≡ self.now.read }
+        ensures { result ≡ self.now.queue.read }
     {
         self.read
     }
 
     /// The next frame to write.
     pub fn write_index(&self) -> Index
-        ensures { result ≡ self.now.write }
+        ensures { result ≡ self.now.queue.write }
     {
         self.write
     }
 
     /// One past the last frame held, and the read index where none is held.
     pub fn end(&self) -> Index
-        ensures { result ≡ end_of self.now }
+        ensures { result ≡ end_of self.now.queue }
     {
         self.read.onward(self.held)
     }
 
     /// How many frames wait, up to the write index or the last one held.
     pub fn left(&self) -> u64
-        ensures { result ≡ left_of self.now }
+        ensures { result ≡ left_of self.now.queue }
     {
         self.write.above(self.read).max(self.held)
     }
 
     /// Whether it waits for more frames before it plays.
     pub fn is_held_short(&self) -> bool
-        ensures { result ≡ is_held_short self.now }
+        ensures { result ≡ is_held_short self.now.queue }
     {
         self.hold && self.write.above(self.read) < self.prebuf as u64
     }
 
     /// How many of the next frames it gives, the first of them.
     pub fn given(&self, frames: u64) -> u64
-        ensures { result ≡ queue_given self.now frames }
+        ensures { result ≡ queue_given self.now.queue frames }
     {
         if self.is_held_short() {
             0
@@ -110,7 +111,7 @@ impl FrameQueue {
 
     /// The frame held so many places past the read index, as bytes, if one is: the newest write that has it.
     pub fn held(&self, ahead: u64) -> Option<&[u8]>
-        ensures { MatchOption result (place self.now.held ahead ≡ None) (λ frame. place self.now.held ahead ≡ Some frame.now) }
+        ensures { MatchOption result (place self.now.queue.held ahead ≡ None) (λ frame. place self.now.queue.held ahead ≡ Some frame.now) }
     {
         if ahead >= self.held {
             return None;
@@ -120,7 +121,7 @@ impl FrameQueue {
 
     /// Its read index so many frames of the sink on.
     pub fn ahead(&self, frames: u64) -> Index
-        ensures { result ≡ (queue_after self.now frames).read }
+        ensures { result ≡ (queue_after self.now.queue frames).read }
     {
         if frames == 0 || self.is_held_short() {
             return self.read;
@@ -136,7 +137,7 @@ impl FrameQueue {
 
     /// The frame so many places ahead, as bytes; `None` where it gives none or silence there.
     pub fn frame(&self, ahead: u64) -> Option<&[u8]>
-        ensures { MatchOption result (heard (queue_frame self.now ahead) ≡ None) (λ frame. heard (queue_frame self.now ahead) ≡ Some frame.now) }
+        ensures { MatchOption result (heard (queue_frame self.now.queue ahead) ≡ None) (λ frame. heard (queue_frame self.now.queue ahead) ≡ Some frame.now) }
     {
         if self.is_held_short() {
             return None;
@@ -150,7 +151,8 @@ impl FrameQueue {
 
     /// Goes so many frames of the sink forward.
     pub fn go(&mut self, frames: u64)
-        ensures { self.new ≡ queue_after self.old frames }
+        ensures value { self.new.queue ≡ queue_after self.old.queue frames }
+        ensures room { self.new.room ≡ self.old.room }
     {
         if frames == 0 || self.is_held_short() {
             return;
@@ -164,28 +166,32 @@ impl FrameQueue {
 
     /// Lets go of the oldest writes that lie wholly before the read index. The queue stays what it is; only memory is given back.
     pub fn forget(&mut self)
-        ensures { self.new ≡ self.old }
+        ensures value { self.new.queue ≡ self.old.queue }
+        ensures room { self.old.room ≤ self.new.room }
     {
         forget_past(&mut self.writes, self.read);
     }
 
     /// Plays without waiting (PulseAudio: `pa_memblockq_prebuf_disable`).
     pub fn play_now(&mut self)
-        ensures { self.new ≡ not_held self.old }
+        ensures value { self.new.queue ≡ not_held self.old.queue }
+        ensures room { self.new.room ≡ self.old.room }
     {
         self.hold = false;
     }
 
     /// Waits again, where it has prebuffering (PulseAudio: `pa_memblockq_prebuf_force`).
     pub fn wait_again(&mut self)
-        ensures { self.new ≡ held_again self.old }
+        ensures value { self.new.queue ≡ held_again self.old.queue }
+        ensures room { self.new.room ≡ self.old.room }
     {
         self.hold = self.prebuf > 0;
     }
 
     /// Drops all that is held, and waits again (PulseAudio: `pa_memblockq_flush_write`).
     pub fn flush(&mut self)
-        ensures { self.new ≡ emptied self.old }
+        ensures value { self.new.queue ≡ emptied self.old.queue }
+        ensures room { self.old.room ≤ self.new.room }
     {
         self.writes.clear();
         self.held = 0;
@@ -195,46 +201,58 @@ impl FrameQueue {
 
     /// Waits for so many frames from now on; without prebuffering for none.
     pub fn set_prebuf(&mut self, prebuf: u32)
-        ensures { self.new ≡ with_prebuf self.old prebuf }
+        ensures value { self.new.queue ≡ with_prebuf self.old.queue prebuf }
+        ensures room { self.new.room ≡ self.old.room }
     {
         self.hold = self.hold && prebuf > 0;
         self.prebuf = prebuf;
     }
 
+    /// Makes room for so many more writes. Without memory nothing changes.
+    pub fn reserve(&mut self, writes: usize) -> Mem<()>
+        ensures value { self.new.queue ≡ self.old.queue }
+        ensures ok { OnOk result (writes ≤ self.new.room) }
+        ensures room { self.old.room ≤ self.new.room }
+    {
+        self.writes.reserve(writes)?;
+        Ok(())
+    }
+
     /// Writes frames, where at most `limit` frames may wait past the ahead index. The write index goes behind them also where they
-    /// aren't held. Without memory nothing changes. (Own: PulseAudio counts from the read index.)
-    pub fn write(&mut self, chunk: Chunk, limit: u64, ahead: Index) -> Mem<Stored>
-        ensures outcome { IfOk result (λ how. outcome_of self.old limit chunk.at (length chunk.frames) ahead ≡ outcome_for how) }
-        ensures after { IfOk result (λ how. self.new ≡ queue_with (outcome_for how) self.old chunk.at chunk.frames) }
-        ensures err { OnErr result (self.new ≡ self.old) }
+    /// aren't held. Takes room for one write, and no memory. (Own: PulseAudio counts from the read index.)
+    pub fn write(&mut self, chunk: Chunk, limit: u64, ahead: Index) -> Stored
+        requires { 1 ≤ self.old.room }
+        ensures outcome { outcome_of self.old.queue limit chunk.at (length chunk.frames) ahead ≡ outcome_for result }
+        ensures after { self.new.queue ≡ queue_with (outcome_for result) self.old.queue chunk.at chunk.frames }
+        ensures room { self.old.room ≤ self.new.room + 1 }
     {
         let end = chunk.end();
         if self.overflows(end, limit, ahead) {
             self.write = end;
-            return Ok(Stored::Overflow);
+            return Stored::Overflow;
         }
-        self.store(chunk)?;
-        Ok(Stored::Whole)
+        self.store(chunk);
+        Stored::Whole
     }
 
     // Whether frames that end there go past the end of what is held and past the limit.
     fn overflows(&self, end: Index, limit: u64, ahead: Index) -> bool
-        ensures { result ≡ (int_lt (end_of self.now) end && nat_lt limit (above end ahead)) }
+        ensures { result ≡ (int_lt (end_of self.now.queue) end && nat_lt limit (above end ahead)) }
     {
         self.end().is_below(end) && end.above(ahead) > limit
     }
 
     // Holds frames over what is held, and goes on writing behind them.
-    fn store(&mut self, chunk: Chunk) -> Mem<()>
-        ensures ok { OnOk result (self.new ≡ queue_with stored self.old chunk.at chunk.frames) }
-        ensures err { OnErr result (self.new ≡ self.old) }
+    fn store(&mut self, chunk: Chunk)
+        requires { 1 ≤ self.old.room }
+        ensures after { self.new.queue ≡ queue_with stored self.old.queue chunk.at chunk.frames }
+        ensures room { self.old.room ≤ self.new.room + 1 }
     {
         let end = chunk.end();
         let reach = chunk.reach(self.read);
-        self.writes.push(chunk)?;
+        self.writes.push_reserved(chunk);
         self.held = self.held.max(reach);
         self.write = end;
-        Ok(())
     }
 }
 
@@ -274,7 +292,8 @@ fn newest<'a>(writes: &'a [Chunk], read: Index, index: Index) -> Option<&'a [u8]
 
 // Removes the oldest writes while they end at or before the read index.
 fn forget_past(writes: &mut Vec<Chunk>, read: Index)
-    ensures { held_of read writes.new.items ≡ held_of read writes.old.items }
+    ensures held { held_of read writes.new.items ≡ held_of read writes.old.items }
+    ensures room { vec_capacity writes.old - vec_len writes.old ≤ vec_capacity writes.new - vec_len writes.new }
 {
     while !writes.is_empty() && writes[0].end().above(read) == 0 {
         writes.remove(0);

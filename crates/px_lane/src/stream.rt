@@ -1,20 +1,23 @@
 // A stream of a sink.
-ghost use Rattle.std.specs.Prelude.{◌≡◌, ◌≤◌, ◌-◌, length, IfOk, OnOk, OnErr, MatchOption, None, Some};
+ghost use Rattle.std.specs.Prelude.{◌≡◌, ◌≤◌, ◌+◌, ◌-◌, length, nat_le, OnOk, MatchOption, None, Some};
 ghost use Rattle.px_model.specs.Going.{after, given_of, ahead_of};
 ghost use Rattle.px_model.specs.Control.{new_stream, attached, drained_by, corked_to, flushed, triggered, prebuffered, with_attr, with_factors};
 ghost use Rattle.px_model.specs.Orderly.{IsRepaired};
-ghost use Rattle.px_model.specs.Turn.{is_playing, has_ended, has_started, has_run_out, request_of, asked_stream};
+ghost use Rattle.px_model.specs.Turn.{is_playing, has_ended, has_started, has_run_out, missing_of, request_of, asked_stream};
 ghost use Rattle.px_model.specs.Write.{outcome_of, written};
 ghost use Rattle.px_model.specs.Stream.{frame_at};
 ghost use Rattle.px_lane.specs.Heard.{heard};
 ghost use Rattle.px_lane.specs.Outcomes.{outcome_for};
-ghost use Rattle.px_lane.specs.Streams.{sample_spec};
+ghost use Rattle.px_msg.specs.View.{sample_spec};
 
 use crate::run::run_after;
 use crate::{Chunk, FrameQueue, Index, Stored};
+use px_chmap::Feed;
 use px_model::{Attr, Run};
+use px_msg::Parcel;
 use px_sample::Spec;
 use px_types::{Mem, NoMemory};
+use px_vol::Factors;
 use std::alloc::Global;
 use std::marker::Model;
 
@@ -30,19 +33,25 @@ pub struct Stream {
     draining: Vec<u32>,
     run: Run,
     spec: Spec,
-    feed: Vec<u8>,
-    factors: Vec<u32>,
+    feed: Feed,
+    factors: Factors,
 }
 
 impl Model for Stream {
-    ghost use Rattle.px_model.specs.Stream.{Stream, IsStream};
-    ghost use Rattle.px_lane.specs.Streams.{sample_spec, stream_of};
+    ghost use Rattle.std.specs.Prelude.{◌-◌, min, vec_len, vec_capacity};
+    ghost use Rattle.px_model.specs.Stream.{IsStream};
+    ghost use Rattle.px_msg.specs.View.{sample_spec};
+    ghost use Rattle.px_lane.specs.Room.{RoomyStream};
+    ghost use Rattle.px_lane.specs.Streams.{stream_of};
 
-    ghost Value = { Stream };
+    ghost Value = { RoomyStream };
 
-    ghost view = { λ s. stream_of s.queue s.corked s.maxlength s.tlength s.minreq s.requested s.draining.items s.run (sample_spec s.spec) s.feed.items s.factors.items };
+    ghost view = { λ s. record {
+      stream = stream_of s.queue.queue s.corked s.maxlength s.tlength s.minreq s.requested s.draining.items s.run (sample_spec s.spec) s.feed s.factors;
+      room = min s.queue.room (vec_capacity s.draining - vec_len s.draining);
+    } };
 
-    ghost invariant = { λ s. IsStream (stream_of s.queue s.corked s.maxlength s.tlength s.minreq s.requested s.draining.items s.run (sample_spec s.spec) s.feed.items s.factors.items) };
+    ghost invariant = { λ s. IsStream (stream_of s.queue.queue s.corked s.maxlength s.tlength s.minreq s.requested s.draining.items s.run (sample_spec s.spec) s.feed s.factors) };
 }
 
 impl Stream {
@@ -51,13 +60,13 @@ impl Stream {
     pub fn new(
         alloc: Global,
         spec: Spec,
-        feed: Vec<u8>,
-        factors: Vec<u32>,
+        feed: Feed,
+        factors: Factors,
         attr: &Attr,
         corked: bool,
     ) -> Stream
         requires { IsRepaired attr.now }
-        ensures { result ≡ new_stream (sample_spec spec) feed.items factors.items attr.now corked }
+        ensures { result.stream ≡ new_stream (sample_spec spec) feed factors attr.now corked }
     {
         Stream {
             queue: FrameQueue::new(alloc, attr.prebuf),
@@ -76,7 +85,7 @@ impl Stream {
 
     /// How many of the next frames it gives, the first of them.
     pub fn given(&self, frames: u64) -> u64
-        ensures { result ≡ given_of self.now frames }
+        ensures { result ≡ given_of self.now.stream frames }
     {
         if self.corked {
             0
@@ -87,18 +96,20 @@ impl Stream {
 
     /// Goes so many frames of its sink forward.
     pub fn go(&mut self, frames: u64)
-        ensures { self.new ≡ after self.old frames }
+        ensures value { self.new.stream ≡ after self.old.stream frames }
+        ensures room { self.old.room ≤ self.new.room }
     {
         if frames == 0 || self.corked {
             return;
         }
         self.run = run_after(self.run, self.queue.given(frames), frames);
         self.queue.go(frames);
+        self.queue.forget();
     }
 
     /// The frame so many places ahead, as bytes; `None` where it gives none or silence there.
     pub fn frame(&self, ahead: u64) -> Option<&[u8]>
-        ensures { MatchOption result (heard (frame_at self.now ahead) ≡ None) (λ frame. heard (frame_at self.now ahead) ≡ Some frame.now) }
+        ensures { MatchOption result (heard (frame_at self.now.stream ahead) ≡ None) (λ frame. heard (frame_at self.now.stream ahead) ≡ Some frame.now) }
     {
         if self.corked {
             return None;
@@ -108,7 +119,7 @@ impl Stream {
 
     /// The ahead index: its read index once so many frames more of the sink are given.
     pub fn ahead(&self, frames: u64) -> Index
-        ensures { result ≡ ahead_of self.now frames }
+        ensures { result ≡ ahead_of self.now.stream frames }
     {
         if self.corked {
             self.queue.read_index()
@@ -117,46 +128,73 @@ impl Stream {
         }
     }
 
-    /// Writes frames, where so many frames of the sink are mixed ahead of its read index. Without memory nothing changes.
-    pub fn write(&mut self, chunk: Chunk, mixed: u64) -> Mem<Stored>
-        ensures outcome { IfOk result (λ how. outcome_of self.old.queue self.old.maxlength chunk.at (length chunk.frames) (ahead_of self.old mixed) ≡ outcome_for how) }
-        ensures after { OnOk result (self.new ≡ written self.old chunk.at chunk.frames (ahead_of self.old mixed)) }
-        ensures err { OnErr result (self.new ≡ self.old) }
+    /// Makes room for so many more writes, and as many drains. Without memory the stream stays what it is.
+    pub fn reserve(&mut self, messages: usize) -> Mem<()>
+        ensures value { self.new.stream ≡ self.old.stream }
+        ensures ok { OnOk result (messages ≤ self.new.room) }
+        ensures room { self.old.room ≤ self.new.room }
+    {
+        self.queue.reserve(messages)?;
+        self.draining.reserve(messages)?;
+        Ok(())
+    }
+
+    /// Writes frames, where so many frames of the sink are mixed ahead of its read index. Takes room for one message, and no memory.
+    pub fn write(&mut self, chunk: Chunk, mixed: u64) -> Stored
+        requires { 1 ≤ self.old.room }
+        ensures outcome { outcome_of self.old.stream.queue self.old.stream.maxlength chunk.at (length chunk.frames) (ahead_of self.old.stream mixed) ≡ outcome_for result }
+        ensures after { self.new.stream ≡ written self.old.stream chunk.at chunk.frames (ahead_of self.old.stream mixed) }
+        ensures room { self.old.room ≤ self.new.room + 1 }
     {
         let ahead = self.ahead(mixed);
         let count = chunk.len();
-        let how = self.queue.write(chunk, self.maxlength as u64, ahead)?;
+        let how = self.queue.write(chunk, self.maxlength as u64, ahead);
         self.requested = less(self.requested, count);
-        Ok(how)
+        how
     }
 
     /// Whether nothing is left to play.
     pub fn has_ended(&self) -> bool
-        ensures { result ≡ has_ended self.now }
+        ensures { result ≡ has_ended self.now.stream }
     {
         self.queue.left() == 0
     }
 
     /// Whether it was silent and gives a frame of the next so many.
     pub fn starts(&self, frames: u64) -> bool
-        ensures { result ≡ has_started self.now frames }
+        ensures { result ≡ has_started self.now.stream frames }
     {
         !is_playing(self.run) && self.given(frames) > 0
+    }
+
+    /// The frames of `tlength` that neither wait nor are asked for already, where so many are mixed ahead of its read index.
+    pub fn missing(&self, mixed: u64) -> u32
+        ensures { result ≡ missing_of self.now.stream mixed }
+    {
+        let waiting = self.queue.write_index().above(self.ahead(mixed));
+        less(less(self.tlength, waiting), self.requested as u64)
+    }
+
+    /// Whether so many frames are enough to be asked for at once.
+    pub fn asks_for(&self, missing: u32) -> bool
+        ensures { result ≡ nat_le self.now.stream.minreq missing }
+    {
+        self.minreq <= missing
     }
 
     /// The frames that it asks for where so many are mixed ahead of its read index: all that are missing of `tlength`, where they are
     /// at least `minreq`, else 0.
     pub fn request(&self, mixed: u64) -> u32
-        ensures { result ≡ request_of self.now mixed }
+        ensures { result ≡ request_of self.now.stream mixed }
     {
-        let waiting = self.queue.write_index().above(self.ahead(mixed));
-        let missing = less(less(self.tlength, waiting), self.requested as u64);
-        if self.minreq <= missing { missing } else { 0 }
+        let missing = self.missing(mixed);
+        if self.asks_for(missing) { missing } else { 0 }
     }
 
     /// Asks for those frames; a stream that has ended has answered all its drains.
     pub fn ask(&mut self, mixed: u64)
-        ensures { self.new ≡ asked_stream mixed self.old }
+        ensures value { self.new.stream ≡ asked_stream mixed self.old.stream }
+        ensures room { self.old.room ≤ self.new.room }
     {
         let request = self.request(mixed);
         if self.has_ended() {
@@ -167,7 +205,7 @@ impl Stream {
 
     /// Whether it is silent after the next so many frames, played or gave a frame, and has no drain to answer: an underrun.
     pub fn runs_out(&self, frames: u64) -> bool
-        ensures { result ≡ has_run_out self.now frames }
+        ensures { result ≡ has_run_out self.now.stream frames }
     {
         let given = self.given(frames);
         let later = if self.corked || frames == 0 {
@@ -180,25 +218,26 @@ impl Stream {
 
     /// The tags of the drains that wait for an answer, in order.
     pub fn draining(&self) -> &[u32]
-        ensures { result.now ≡ self.now.draining }
+        ensures { result.now ≡ self.now.stream.draining }
     {
         self.draining.as_slice()
     }
 
-    /// Plays what is there without waiting, and keeps the tag until that has ended. Without memory nothing changes.
-    pub fn drain(&mut self, tag: u32) -> Mem<()>
-        ensures ok { OnOk result (self.new ≡ drained_by self.old tag) }
-        ensures err { OnErr result (self.new ≡ self.old) }
+    /// Plays what is there without waiting, and keeps the tag until that has ended. Takes room for one message, and no memory.
+    pub fn drain(&mut self, tag: u32)
+        requires { 1 ≤ self.old.room }
+        ensures value { self.new.stream ≡ drained_by self.old.stream tag }
+        ensures room { self.old.room ≤ self.new.room + 1 }
     {
-        self.draining.push(tag)?;
+        self.draining.push_reserved(tag);
         self.queue.play_now();
-        Ok(())
     }
 
     /// Replaces the four buffer attributes.
     pub fn set_attr(&mut self, attr: &Attr)
         requires { IsRepaired attr.now }
-        ensures { self.new ≡ with_attr self.old attr.now }
+        ensures value { self.new.stream ≡ with_attr self.old.stream attr.now }
+        ensures room { self.new.room ≡ self.old.room }
     {
         self.queue.set_prebuf(attr.prebuf);
         self.maxlength = attr.maxlength;
@@ -207,8 +246,9 @@ impl Stream {
     }
 
     /// Goes on in another sink, with a feed and factors for its channels.
-    pub fn attach(&mut self, feed: Vec<u8>, factors: Vec<u32>)
-        ensures { self.new ≡ attached self.old feed.items factors.items }
+    pub fn attach(&mut self, feed: Feed, factors: Factors)
+        ensures value { self.new.stream ≡ attached self.old.stream feed factors }
+        ensures room { self.new.room ≡ self.old.room }
     {
         self.feed = feed;
         self.factors = factors;
@@ -216,37 +256,50 @@ impl Stream {
 
     /// Corks it, or lets it play again.
     pub fn cork(&mut self, on: bool)
-        ensures { self.new ≡ corked_to self.old on }
+        ensures value { self.new.stream ≡ corked_to self.old.stream on }
+        ensures room { self.new.room ≡ self.old.room }
     {
         self.corked = on;
     }
 
     /// Drops all that is held, and waits again.
     pub fn flush(&mut self)
-        ensures { self.new ≡ flushed self.old }
+        ensures value { self.new.stream ≡ flushed self.old.stream }
+        ensures room { self.old.room ≤ self.new.room }
     {
         self.queue.flush();
     }
 
     /// Plays without waiting.
     pub fn trigger(&mut self)
-        ensures { self.new ≡ triggered self.old }
+        ensures value { self.new.stream ≡ triggered self.old.stream }
+        ensures room { self.new.room ≡ self.old.room }
     {
         self.queue.play_now();
     }
 
     /// Waits again, where it has prebuffering.
     pub fn wait_again(&mut self)
-        ensures { self.new ≡ prebuffered self.old }
+        ensures value { self.new.stream ≡ prebuffered self.old.stream }
+        ensures room { self.new.room ≡ self.old.room }
     {
         self.queue.wait_again();
     }
 
     /// Replaces the factors, one for each channel of the sink.
-    pub fn set_factors(&mut self, factors: Vec<u32>)
-        ensures { self.new ≡ with_factors self.old factors.items }
+    pub fn set_factors(&mut self, factors: Factors)
+        ensures value { self.new.stream ≡ with_factors self.old.stream factors }
+        ensures room { self.new.room ≡ self.old.room }
     {
         self.factors = factors;
+    }
+}
+
+impl Parcel for Stream {
+    ghost spec_of = { λ s. s.stream.spec };
+
+    fn spec(&self) -> Spec {
+        self.spec
     }
 }
 

@@ -1,7 +1,9 @@
 use crate::{Chunk, FrameQueue, Index, Stored, Stream};
+use px_chmap::Feed;
 use px_model::Attr;
 use px_sample::{Format, Spec};
 use px_types::{Mem, NoMemory};
+use px_vol::Factors;
 use std::alloc::Global;
 
 // Frames of one byte, so many past index 0.
@@ -21,9 +23,10 @@ fn chunk(alloc: Global, at: i64, bytes: &[u8]) -> Mem<Chunk> {
 // Later frames stand over earlier ones, and a hole is a hole; what is past is dropped.
 fn the_newest_write_stands(alloc: Global) -> Mem<bool> {
     let mut queue = FrameQueue::new(alloc, 0);
-    let a = queue.write(chunk(alloc, 0, b"aaaaaa")?, 20, Index::zero())?;
-    let b = queue.write(chunk(alloc, 2, b"bb")?, 20, Index::zero())?;
-    let c = queue.write(chunk(alloc, 8, b"cc")?, 20, Index::zero())?;
+    queue.reserve(4)?;
+    let a = queue.write(chunk(alloc, 0, b"aaaaaa")?, 20, Index::zero());
+    let b = queue.write(chunk(alloc, 2, b"bb")?, 20, Index::zero());
+    let c = queue.write(chunk(alloc, 8, b"cc")?, 20, Index::zero());
     let over = queue.held(1) == Some(b"a".as_slice())
         && queue.held(3) == Some(b"b".as_slice())
         && queue.held(4) == Some(b"a".as_slice())
@@ -33,7 +36,7 @@ fn the_newest_write_stands(alloc: Global) -> Mem<bool> {
     queue.go(3);
     queue.forget();
     let moved = queue.held(0) == Some(b"b".as_slice()) && queue.left() == 7;
-    let d = queue.write(chunk(alloc, 20, b"d")?, 10, queue.read_index())?;
+    let d = queue.write(chunk(alloc, 20, b"d")?, 10, queue.read_index());
     let beyond = queue.held(17).is_none() && queue.write_index().above(Index::zero()) == 21;
     queue.flush();
     Ok(
@@ -61,13 +64,17 @@ fn a_stream_runs_out(alloc: Global) -> Mem<bool> {
         channels: 1,
         rate: 48_000,
     };
-    let mut stream = Stream::new(alloc, spec, Vec::new(alloc), Vec::new(alloc), &attr, false);
-    stream.write(chunk(alloc, 0, b"x")?, 0)?;
+    let (Some(feed), Some(factors)) = (Feed::new(&[0]), Factors::new(&[65_536])) else {
+        return Err(NoMemory);
+    };
+    let mut stream = Stream::new(alloc, spec, feed, factors, &attr, false);
+    stream.reserve(3)?;
+    stream.write(chunk(alloc, 0, b"x")?, 0);
     let waits = stream.given(30) == 0;
-    stream.write(chunk(alloc, 1, b"xxxxxxxxxxxxxxxxxxx")?, 0)?;
+    stream.write(chunk(alloc, 1, b"xxxxxxxxxxxxxxxxxxx")?, 0);
     let gives = stream.given(30) == 20 && stream.ahead(30).above(Index::zero()) == 20;
     stream.go(30);
-    stream.write(chunk(alloc, 20, b"yyyyy")?, 0)?;
+    stream.write(chunk(alloc, 20, b"yyyyy")?, 0);
     let again = stream.given(7) == 5;
     stream.cork(true);
     Ok(waits && gives && again && stream.given(7) == 0)

@@ -4,6 +4,7 @@ use Rattle.px_model.specs.Index.{onward, above}
 use Rattle.px_model.specs.Queue.{Queue, left_of, is_held_short}
 use Rattle.px_model.specs.Going.{queue_after}
 use Rattle.px_model.proofs.Forward.{step_of, on_step, after_on}
+use Rattle.px_lane.specs.Room.{RoomyQueue}
 use Rattle.px_lane.specs.Written.{queue_of, step_by}
 use Rattle.px_lane.proofs.Going.{step_is}
 use Rattle.px_lane.proofs.queue.FrameQueue.ahead.Goals as goal
@@ -12,8 +13,8 @@ pub returns : goal.returns
 returns c =
     let d = c.self.inside in
     let q : Queue = queue_of d.writes.items d.read d.write d.hold d.prebuf in
-    let left : c.left.result ≡ left_of q = c.left.ensures ∙ sym (ap left_of c.self.view_is) in
-    let long : is_held_short q ≡ false = ap is_held_short c.self.view_is ∙ sym c.is_held_short.ensures ∙ c.if-is_held_short.false in
+    let left : c.left.result ≡ left_of q = c.left.ensures ∙ sym (ap (λ (v : RoomyQueue). left_of v.queue) c.self.view_is) in
+    let long : is_held_short q ≡ false = ap (λ (v : RoomyQueue). is_held_short v.queue) c.self.view_is ∙ sym c.is_held_short.ensures ∙ c.if-is_held_short.false in
     let some : 0 < c.args.frames = omega (arith, c.if-frames-eq0.false) in
     let step : c.step-step.result ≡ step_of q c.args.frames =
     c.step-step.ensures
@@ -22,4 +23,4 @@ returns c =
     c.onward.ensures
     ∙ ap (λ (n : ℕ). onward d.read n) step
     ∙ ap (λ (v : Queue). v.read) (sym (on_step q c.self.invariant.1 c.args.frames) ∙ sym (after_on q c.args.frames long some))
-    ∙ ap (λ (v : Queue). Queue.read (queue_after v c.args.frames)) c.self.view_is
+    ∙ ap (λ (v : RoomyQueue). Queue.read (queue_after v.queue c.args.frames)) c.self.view_is

@@ -4,16 +4,17 @@ use Rattle.px_model.specs.Index.{above}
 use Rattle.px_model.specs.Queue.{Queue, IsQueue, left_of, is_held_short}
 use Rattle.px_model.specs.Going.{queue_after}
 use Rattle.px_model.proofs.Forward.{step_of, runs_out, queue_after_keeps}
+use Rattle.px_lane.specs.Room.{RoomyQueue}
 use Rattle.px_lane.specs.Written.{held_of, queue_of, step_by}
 use Rattle.px_lane.proofs.Going.{gone, held_less, step_is}
 use Rattle.px_lane.proofs.queue.FrameQueue.go.Goals as goal
 
-pub returns : goal.returns
-returns c =
+pub returns-clause-value : goal.returns-clause-value
+returns-clause-value c =
     let d = c.self.inside in
     let q : Queue = queue_of d.writes.items d.read d.write d.hold d.prebuf in
-    let left : c.left-left.result ≡ left_of q = c.left-left.ensures ∙ sym (ap left_of c.self.view_is) in
-    let long : is_held_short q ≡ false = ap is_held_short c.self.view_is ∙ sym c.is_held_short.ensures ∙ c.if-is_held_short.false in
+    let left : c.left-left.result ≡ left_of q = c.left-left.ensures ∙ sym (ap (λ (v : RoomyQueue). left_of v.queue) c.self.view_is) in
+    let long : is_held_short q ≡ false = ap (λ (v : RoomyQueue). is_held_short v.queue) c.self.view_is ∙ sym c.is_held_short.ensures ∙ c.if-is_held_short.false in
     let some : 0 < c.args.frames = omega (arith, c.if-frames-eq0.false) in
     let step : c.step-step.result ≡ step_of q c.args.frames =
     c.step-step.ensures
@@ -23,13 +24,13 @@ returns c =
     c.runs_out-self-inside.ensures ∙ ap (λ (n : ℕ). nat_lt 0 d.prebuf && nat_lt n c.args.frames) left in
     ap (λ (i : ℤ). queue_of d.writes.items i d.write c.runs_out-self-inside.result d.prebuf) c.onward-self-inside.ensures
     ∙ gone d.writes.items d.read d.write d.hold d.prebuf c.args.frames c.step-step.result c.runs_out-self-inside.result c.self.invariant.1 long some step on
-    ∙ ap (λ (v : Queue). queue_after v c.args.frames) c.self.view_is
+    ∙ ap (λ (v : RoomyQueue). queue_after v.queue c.args.frames) c.self.view_is
 
 pub invariant_of-self : goal.invariant_of-self
 invariant_of-self c =
     let d = c.self.inside in
     let q : Queue = queue_of d.writes.items d.read d.write d.hold d.prebuf in
-    let same = returns c ∙ sym (ap (λ (v : Queue). queue_after v c.args.frames) c.self.view_is) in (
+    let same = returns-clause-value c ∙ sym (ap (λ (v : RoomyQueue). queue_after v.queue c.args.frames) c.self.view_is) in (
       c.saturating_sub-self-inside.ensures
           ∙ ap (λ (n : ℕ). n - c.step-step.result) c.self.invariant.0
           ∙ sym (held_less d.writes.items d.read c.step-step.result)

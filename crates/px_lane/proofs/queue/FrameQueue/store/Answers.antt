@@ -5,16 +5,16 @@ use Rattle.px_lane.specs.Written.{Written, end_of, held_of, queue_of}
 use Rattle.px_lane.proofs.Storing.{reached, stored_keeps}
 use Rattle.px_lane.proofs.queue.FrameQueue.store.Goals as goal
 
-pub invariant_of-self-2 : goal.invariant_of-self-2
-invariant_of-self-2 c =
+pub invariant_of-self : goal.invariant_of-self
+invariant_of-self c =
     let d = c.self.inside in
-    let items : c.push.new.self.items ≡ d.writes.items ++ c.args.chunk ∷ [] = c.in_ok-push.ensures.items in (
+    let items : c.push_reserved.new.self.items ≡ d.writes.items ++ c.args.chunk ∷ [] = c.push_reserved.ensures.items in (
       c.max-self-inside.ensures
           ∙ ap (λ (n : ℕ). max n c.reach-reach.result) c.self.invariant.0
           ∙ ap (λ (n : ℕ). max (length (held_of d.read d.writes.items)) n) c.reach-reach.ensures
           ∙ reached d.read d.writes.items c.args.chunk
           ∙ ap (λ (ws : List Written). length (held_of d.read ws)) (sym items),
-      subst (λ (i : ℤ). IsQueue (queue_of c.push.new.self.items d.read i d.hold d.prebuf)) (sym c.end-end.ensures.value)
+      subst (λ (i : ℤ). IsQueue (queue_of c.push_reserved.new.self.items d.read i d.hold d.prebuf)) (sym c.end-end.ensures.value)
           (subst (λ (ws : List Written). IsQueue (queue_of ws d.read (end_of c.args.chunk) d.hold d.prebuf)) (sym items)
           (stored_keeps d.writes.items d.read d.write d.hold d.prebuf c.args.chunk c.self.invariant.1 c.end-end.ensures.in_range)),
     )

@@ -6,17 +6,17 @@ use Rattle.px_lane.specs.Outcomes.{outcome_for}
 use Rattle.px_lane.proofs.Storing.{same_prebuf}
 use Rattle.px_lane.proofs.stream.Stream.write.Goals as goal
 
-pub invariant_of-self-2 : goal.invariant_of-self-2
-invariant_of-self-2 c =
+pub invariant_of-self : goal.invariant_of-self
+invariant_of-self c =
     let d = c.self.inside in
     let h = c.self.invariant in
     let w = c.args.chunk in
     record {
-      queue_kept = subst (λ (v : Queue). IsQueue v) (sym c.in_ok-how.ensures.after)
-          (subst (λ (o : Outcome). IsQueue (queue_with o d.queue w.at w.frames)) c.in_ok-how.ensures.outcome
-          (queue_written_keeps d.queue h.queue_kept d.maxlength w.at w.frames c.ahead-ahead.result));
-      prebuf_bounded = subst (λ (v : Queue). v.prebuf ≤ d.tlength) (sym c.in_ok-how.ensures.after)
-          (subst (λ (n : ℕ). n ≤ d.tlength) (same_prebuf (outcome_for c.in_ok-how.how) d.queue w.at w.frames) h.prebuf_bounded);
+      queue_kept = subst (λ (v : Queue). IsQueue v) (sym c.write-how.ensures.after)
+          (subst (λ (o : Outcome). IsQueue (queue_with o d.queue.queue w.at w.frames)) c.write-how.ensures.outcome
+          (queue_written_keeps d.queue.queue h.queue_kept d.maxlength w.at w.frames c.ahead-ahead.result));
+      prebuf_bounded = subst (λ (v : Queue). v.prebuf ≤ d.tlength) (sym c.write-how.ensures.after)
+          (subst (λ (n : ℕ). n ≤ d.tlength) (same_prebuf (outcome_for c.write-how.result) d.queue.queue w.at w.frames) h.prebuf_bounded);
       tlength_bounded = h.tlength_bounded;
       maxlength_bounded = h.maxlength_bounded;
       minreq_positive = h.minreq_positive;

@@ -1,0 +1,17 @@
+-- A queue, a stream and the inputs of a sink, each with its room: how many more messages it takes without memory.
+use Rattle.std.specs.Prelude.{ℕ, List}
+use Rattle.px_model.specs.Queue.{Queue}
+use Rattle.px_model.specs.Stream.{Stream}
+use Rattle.px_model.specs.Sink.{Input}
+
+pub record RoomyQueue : Type 0 where
+  pub queue : Queue
+  pub room : ℕ
+
+pub record RoomyStream : Type 0 where
+  pub stream : Stream
+  pub room : ℕ
+
+pub record RoomyInputs : Type 0 where
+  pub inputs : List Input
+  pub room : ℕ

@@ -1,0 +1,63 @@
+-- What a mix asks of the sample formats, out of the formats' own definitions.
+use Rattle.std.specs.Prelude.{◌≡◌, ℕ, ◌*◌, ◌^◌, List, [], ◌∷◌, slice_index_or, length, map, Option, Some, None, ⊤, ℤ, pos, ◌+ℤ◌, ◌≤ℤ◌, neg_ℤ}
+use Rattle.std.specs.Int.{Width as BitWidth, w8, w16, w32}
+use Rattle.std.specs.List.{fold, AllByRecursion}
+use Rattle.px_sample.specs.declared.format.Format.{Format}
+use Rattle.px_sample.specs.declared.format.Format.TheVariants.{U8, Alaw, Ulaw, S16Le, S16Be, Float32Le, Float32Be, S32Le, S32Be, S24Le, S24Be, S24In32Le, S24In32Be}
+use Rattle.px_sample.specs.declared.format.Width.{Width}
+use Rattle.px_sample.specs.declared.format.Width.TheVariants.{W8, W16, W32}
+use Rattle.px_sample.specs.Format.{width_of}
+use Rattle.px_sample.specs.WorkValue.{work_value_of, at_width, sample_of}
+use Rattle.px_model.specs.Frame.{Frame, SampleSpec, frame_size}
+use Rattle.px_model.specs.Stream.{Stream, frame_at}
+use Rattle.px_model.specs.Mix.{Samples, share_of}
+use Rattle.px_model.specs.Sink.{IsStreamOf}
+
+-- the formats in the order of their codes, and the format with a code
+abbrev pub formats : List Format
+formats = U8 ∷ Alaw ∷ Ulaw ∷ S16Le ∷ S16Be ∷ Float32Le ∷ Float32Be ∷ S32Le ∷ S32Be ∷ S24Le ∷ S24Be ∷ S24In32Le ∷ S24In32Be ∷ []
+
+abbrev pub format_with : ℕ → Format
+format_with code = slice_index_or formats code U8
+
+-- a width of work values as a width of numbers, and the other way
+abbrev pub bit_width : Width → BitWidth
+bit_width W8 = w8
+bit_width W16 = w16
+bit_width W32 = w32
+
+abbrev pub work_width : BitWidth → Width
+work_width w8 = W8
+work_width w16 = W16
+work_width _ = W32
+
+abbrev pub samples : Samples
+samples = record {
+  width = λ code. bit_width (width_of (format_with code));
+  work = λ code bytes. work_value_of (format_with code) bytes;
+  to = λ from to value. at_width (work_width from) (work_width to) value;
+  packed = λ code value. sample_of (format_with code) value;
+}
+
+-- a place that has so many bytes, or a hole
+abbrev pub IsPlaceOf : ℕ → Option Frame → Type 0
+IsPlaceOf size None = ⊤
+IsPlaceOf size (Some frame) = length frame ≡ size
+
+-- each frame that a stream holds has the bytes of its spec
+abbrev pub HoldsWholeFrames : Stream → Type 0
+HoldsWholeFrames s = AllByRecursion (IsPlaceOf (frame_size s.spec)) s.queue.held
+
+-- a stream that a sink can mix
+pub record IsMixable (sink : SampleSpec) (s : Stream) : Type 0 where
+  pub of_the_sink : IsStreamOf sink s
+  pub whole : HoldsWholeFrames s
+
+-- what the streams add to a sink channel k frames ahead, before it is clipped
+abbrev pub sum_of : SampleSpec → List Stream → ℕ → ℕ → ℤ
+sum_of sink streams k channel = fold ◌+ℤ◌ (pos 0) (map (λ s. share_of samples sink s channel (frame_at s k)) streams)
+
+-- the range of a sum of n shares: a work value has 32 bits, and so has a factor, of which 16 are a fraction
+pub record IsSumOf (n : ℕ) (sum : ℤ) : Type 0 where
+  pub low : neg_ℤ (pos (n * 2 ^ 47)) ≤ℤ sum
+  pub high : sum ≤ℤ pos (n * 2 ^ 47)

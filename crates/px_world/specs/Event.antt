@@ -1,0 +1,129 @@
+-- What an event does to a world: it is a list of steps of the core with a sweep behind them, and a turn of a sink, or none.
+use Rattle.std.specs.Prelude.{◌≡◌, ℕ, ◌*◌, Bool, cond, ◌||◌, List, [], ◌∷◌, ◌++◌, map, filter, not, length, take, drop, replicate, set, Option, None, Some}
+use Rattle.std.specs.List.{concat, slice_get, fold}
+use Rattle.px_types.specs.declared.ids.ConnId.{ConnId}
+use Rattle.px_types.specs.declared.ids.SinkId.{SinkId}
+use Rattle.px_frame.specs.declared.frame.Frame.{Frame}
+use Rattle.px_frame.specs.Reading.{Ending, Unfinished, Broken}
+use Rattle.px_frame.specs.Meaning.{frames_in, ending_in}
+use Rattle.px_session.specs.declared.event.Event.{Event}
+use Rattle.px_session.specs.declared.event.Event.TheVariants.{Connect, Bytes, Close, Cut, Turn, Collect}
+use Rattle.px_model.specs.Stream.{Stream}
+use Rattle.px_model.specs.Message.{Message}
+use Rattle.px_model.specs.Sink.{Sink}
+use Rattle.px_model.specs.Turn.{turned, turn_notices, stopped_turn, stopped_notices, played_by}
+use Rattle.px_lane.specs.Samples.{samples}
+use Rattle.px_msg.specs.declared.message.Msg.{Msg}
+use Rattle.px_model.specs.Notice.{Notice}
+use Rattle.px_msg.specs.View.{message_of, notice_for}
+use Rattle.px_core.specs.declared.effect.Effect.{Effect}
+use Rattle.px_core.specs.Out.{waiting_for}
+use Rattle.px_core.specs.Step.{Step, connect, frame, broken, close, cut, sweep, notice, out, stepped_by, effects_by}
+use Rattle.px_world.specs.World.{World, Link, Mixer, is_of, link_of, received_of}
+
+
+-- ---- the steps of the core
+
+-- the frames that a link's bytes newly have, once more came
+abbrev pub new_frames : List ℕ → List ℕ → List Frame
+new_frames received bytes = drop (length (frames_in received)) (frames_in (received ++ bytes))
+
+-- and the fault that they newly have, if they have one
+abbrev pub fault_steps : ConnId → Ending → List (Step Stream)
+fault_steps conn Unfinished = []
+fault_steps conn (Broken fault at) = broken conn fault at ∷ []
+
+abbrev pub new_fault : ConnId → Ending → Ending → List (Step Stream)
+new_fault conn Unfinished now = fault_steps conn now
+new_fault conn (Broken fault at) now = []
+
+abbrev pub bytes_steps : ConnId → List ℕ → List ℕ → List (Step Stream)
+bytes_steps conn received bytes =
+    map (frame conn) (new_frames received bytes) ++ new_fault conn (ending_in received) (ending_in (received ++ bytes))
+
+-- the notices that a sink's mixer has given, if it is there
+abbrev pub notices_of : Option Mixer → List (Notice Stream)
+notices_of None = []
+notices_of (Some m) = m.notices
+
+abbrev pub steps_of : World → Event → List (Step Stream)
+steps_of w (Connect conn) = connect conn ∷ []
+steps_of w (Bytes conn bytes) = bytes_steps conn (received_of (link_of w.links conn)) bytes
+steps_of w (Close conn) = close conn ∷ []
+steps_of w (Cut conn) = cut conn ∷ []
+steps_of w (Turn sink frames take_messages) = replicate take_messages (out (record { 0 = sink }))
+steps_of w (Collect sink take_notices) =
+    map (λ n. notice (record { 0 = sink }) (notice_for n)) (take take_notices (notices_of (slice_get w.mixers sink)))
+
+-- after each event the connections that have ended are swept away
+abbrev pub all_steps : World → Event → List (Step Stream)
+all_steps w e = steps_of w e ++ sweep ∷ []
+
+-- ---- the links
+
+abbrev pub with_bytes : ConnId → List ℕ → Link → Link
+with_bytes conn bytes link = cond (is_of conn link) (record link { received = link.received ++ bytes }) link
+
+abbrev pub links_after : List Link → Event → List Link
+links_after links (Connect conn) = links ++ record { conn = conn; received = [] } ∷ []
+links_after links (Bytes conn bytes) = map (with_bytes conn bytes) links
+links_after links (Close conn) = filter (λ link. not (is_of conn link)) links
+links_after links (Cut conn) = links
+links_after links (Turn sink frames take_messages) = links
+links_after links (Collect sink take_notices) = links
+
+-- ---- the mixers
+
+-- the first messages that wait for a sink, which a turn of it takes
+abbrev pub messages_taken : World → ℕ → ℕ → List (Message Stream)
+messages_taken w sink n = map (message_of (λ p. p)) (take n (waiting_for w.core (record { 0 = sink })))
+
+-- a turn; where the device fails, or has failed before, the sink is stopped
+abbrev pub is_to_stop : Mixer → Bool
+is_to_stop m = m.sink.stopped || m.failing
+
+abbrev pub mixer_turned : Mixer → ℕ → List (Message Stream) → Mixer
+mixer_turned m frames messages = cond (is_to_stop m)
+    (record m { sink = stopped_turn m.sink messages; notices = m.notices ++ stopped_notices m.sink messages })
+    (record m { sink = turned samples m.sink frames messages; notices = m.notices ++ turn_notices samples m.sink frames messages })
+
+abbrev pub mixer_collected : Mixer → ℕ → Mixer
+mixer_collected m n = record m { notices = drop n m.notices }
+
+abbrev pub change_at : List Mixer → ℕ → Option Mixer → (Mixer → Mixer) → List Mixer
+change_at mixers sink None change = mixers
+change_at mixers sink (Some m) change = set mixers sink (change m)
+
+abbrev pub mixers_after : World → Event → List Mixer
+mixers_after w (Connect conn) = w.mixers
+mixers_after w (Bytes conn bytes) = w.mixers
+mixers_after w (Close conn) = w.mixers
+mixers_after w (Cut conn) = w.mixers
+mixers_after w (Turn sink frames n) = change_at w.mixers sink (slice_get w.mixers sink) (λ m. mixer_turned m frames (messages_taken w sink n))
+mixers_after w (Collect sink n) = change_at w.mixers sink (slice_get w.mixers sink) (λ m. mixer_collected m n)
+
+-- ---- the event
+
+-- how the core reads a parcel's sample spec
+abbrev pub world_after : World → Event → World
+world_after w e = record {
+  core = stepped_by Stream.spec w.core (all_steps w e);
+  links = links_after w.links e;
+  mixers = mixers_after w e;
+}
+
+abbrev pub effects_after : World → Event → List Effect
+effects_after w e = effects_by Stream.spec w.core (all_steps w e)
+
+-- the frames that a turn's device consumes of the buffer: none where it fails
+abbrev pub played_of : Option Mixer → ℕ → List (List ℕ)
+played_of None frames = []
+played_of (Some m) frames = cond (is_to_stop m) [] (played_by m.sink frames)
+
+abbrev pub frames_played : World → Event → List (List ℕ)
+frames_played w (Connect conn) = []
+frames_played w (Bytes conn bytes) = []
+frames_played w (Close conn) = []
+frames_played w (Cut conn) = []
+frames_played w (Turn sink frames n) = played_of (slice_get w.mixers sink) frames
+frames_played w (Collect sink n) = []

@@ -1,0 +1,6 @@
+pub mod World
+pub mod Admission
+pub mod Event
+pub mod Output
+pub mod History
+pub mod Running

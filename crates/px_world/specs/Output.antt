@@ -1,0 +1,63 @@
+-- What a replay writes: the records of each event's effects and of the frames that it played, in order, and then the end byte.
+use Rattle.std.specs.Prelude.{◌≡◌, ℕ, cond, nat_eq, List, [], ◌∷◌, ◌++◌, length, Option, None, Some}
+use Rattle.std.specs.List.{concat, flat_map}
+use Rattle.std.specs.Int.{w64, to_be_bytes}
+use Rattle.px_types.specs.declared.ids.ConnId.{ConnId}
+use Rattle.px_session.specs.declared.header.Header.{Header}
+use Rattle.px_session.specs.declared.event.Event.{Event}
+use Rattle.px_session.specs.declared.event.Event.TheVariants.{Connect, Bytes, Close, Cut, Turn, Collect}
+use Rattle.px_session.specs.Spelling.{word, end_byte}
+use Rattle.px_core.specs.declared.effect.Effect.{Effect}
+use Rattle.px_core.specs.declared.effect.Effect.TheVariants.{Sent, Closed}
+use Rattle.px_core.specs.Effect.{reason_code}
+use Rattle.px_world.specs.declared.fault.WorldFault.{WorldFault}
+use Rattle.px_world.specs.World.{World, new_world}
+use Rattle.px_world.specs.Admission.{refusal_of}
+use Rattle.px_world.specs.Event.{world_after, effects_after, frames_played}
+
+-- ---- records
+
+-- a frame was sent to a connection, or the server has ended one
+unfoldable pub effect_record : Effect → List ℕ
+effect_record (Sent conn packet) = 1 ∷ word conn.0 ++ word (length packet) ++ packet
+effect_record (Closed conn reason fault at) = 2 ∷ word conn.0 ++ (reason_code reason ∷ fault ∷ to_be_bytes w64 at)
+
+-- a sink's device has consumed frames
+unfoldable pub played_record : ℕ → List (List ℕ) → List ℕ
+played_record sink frames = 3 ∷ sink ∷ word (length frames) ++ concat frames
+
+-- one for a turn that consumed a frame at least
+abbrev pub if_played : ℕ → List (List ℕ) → List ℕ
+if_played sink frames = cond (nat_eq (length frames) 0) [] (played_record sink frames)
+
+abbrev pub turn_record : World → Event → List ℕ
+turn_record w (Connect conn) = []
+turn_record w (Bytes conn bytes) = []
+turn_record w (Close conn) = []
+turn_record w (Cut conn) = []
+turn_record w (Turn sink frames n) = if_played sink (frames_played w (Turn sink frames n))
+turn_record w (Collect sink n) = []
+
+abbrev pub records_of : World → Event → List ℕ
+records_of w e = flat_map effect_record (effects_after w e) ++ turn_record w e
+
+-- ---- a run
+
+-- the world after the events, one after the other
+abbrev pub world_by : World → List Event → World
+world_by w [] = w
+world_by w (e ∷ events) = world_by (world_after w e) events
+
+-- and the records of all of them
+abbrev pub records_by : World → List Event → List ℕ
+records_by w [] = []
+records_by w (e ∷ events) = records_of w e ++ records_by (world_after w e) events
+
+-- each event is admitted by the world that those before it left
+abbrev pub AreAdmitted : World → List Event → Type 0
+AreAdmitted w [] = Unit {0}
+AreAdmitted w (e ∷ events) = (refusal_of w e ≡ None) × AreAdmitted (world_after w e) events
+
+-- what a session of admitted events gives
+abbrev pub output_of : Header → List Event → List ℕ
+output_of header events = records_by (new_world header) events ++ end_byte ∷ []
