@@ -1,8 +1,9 @@
 -- A queue of several takes the place of another.
-use Rattle.std.proofs.Common.{arith, rules, ◌≡◌, ℕ, ◌+◌, ◌<◌, ◌≤◌, List, [], ◌∷◌, ◌++◌, suc, zero, length, get_or, slice_set, drop, map, Option, None, Some, IsNone, IsSome, refl, sym, ap, ◌∙◌}
+use Rattle.std.proofs.Common.{arith, rules, ◌≡◌, ℕ, ◌+◌, ◌<◌, ◌≤◌, List, [], ◌∷◌, ◌++◌, suc, zero, length, get_or, slice_set, drop, map, Option, None, Some, IsNone, IsSome, IfSome, refl, sym, ap, ◌∙◌}
 use Rattle.std.specs.Option.{option_to_list}
 use Rattle.std.specs.VecDeque.{deque_len, deque_capacity}
 use Rattle.std.specs.declared.collections.VecDeque.{VecDeque}
+use Rattle.px_types.specs.declared.ids.SinkId.{SinkId}
 use Rattle.px_msg.specs.declared.message.Msg.{Msg}
 use Rattle.px_core.specs.Out.{rest_of}
 use Rattle.px_core.specs.Tables.{lists_of, HasPlaces, HasPlacesAt, HavePlaces}
@@ -73,12 +74,17 @@ same_lists (x ∷ queues) zero d q same = ap (λ ms. ms ∷ lists_of queues) sam
 same_lists (x ∷ queues) (suc i) d q same = ap (λ lists. x.items ∷ lists) (same_lists queues i d q same)
 
 -- a queue with no less room takes the place of another
-pub kept_places : {P Z : Type 0} (n i k : ℕ) (queues : List (VecDeque (Msg P) Z)) (d q : VecDeque (Msg P) Z) → deque_len q ≡ deque_len (get_or queues k d) → deque_capacity (get_or queues k d) ≤ deque_capacity q → HasPlacesAt n i queues → HasPlacesAt n i (slice_set queues k q)
+pub kept_places : {P Z : Type 0} (n i k : ℕ) (queues : List (VecDeque (Msg P) Z)) (d q : VecDeque (Msg P) Z) → deque_len q ≤ deque_len (get_or queues k d) → deque_capacity (get_or queues k d) ≤ deque_capacity q → HasPlacesAt n i queues → HasPlacesAt n i (slice_set queues k q)
 kept_places n i k [] d q same more has = tt
 kept_places n zero zero (x ∷ queues) d q same more has = omega (arith, same, more, has)
 kept_places n (suc i) zero (x ∷ queues) d q same more has = has
 kept_places n zero (suc k) (x ∷ queues) d q same more has = has
 kept_places n (suc i) (suc k) (x ∷ queues) d q same more has = kept_places n i k queues d q same more has
+
+-- no queue has less room than before, so the one that has lent a message has room still
+pub lent_kept : {P Z : Type 0} (lent : Option SinkId) (old new : List (VecDeque (Msg P) Z)) → ((n i : ℕ) → HasPlacesAt n i old → HasPlacesAt n i new) → IfSome lent (λ sink. HasPlacesAt 1 sink.0 old) → IfSome lent (λ sink. HasPlacesAt 1 sink.0 new)
+lent_kept None old new kept had = tt
+lent_kept (Some sink) old new kept had = kept 1 sink.0 had
 
 -- ---- the first of a list
 

@@ -39,6 +39,7 @@ pub(crate) fn take_first<P>(queues: &mut [VecDeque<Msg<P>>], sink: SinkId) -> Op
     ensures rest { IsSome result → lists_of queues.new ≡ set (lists_of queues.old) sink.0 (rest_of (get_or (lists_of queues.old) sink.0 [])) }
     ensures none { IsNone result → lists_of queues.new ≡ lists_of queues.old }
     ensures room { IsSome result → HasPlacesAt 1 sink.0 queues.new }
+    ensures kept { (n i : ℕ) → HasPlacesAt n i queues.old → HasPlacesAt n i queues.new }
 {
     let place = sink.0 as usize;
     if place < queues.len() {

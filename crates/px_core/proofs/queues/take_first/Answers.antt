@@ -2,7 +2,7 @@ use Rattle.std.proofs.Common.{arith, ◌+◌, ◌≤◌, ◌∷◌, [], get_or, 
 use Rattle.std.specs.VecDeque.{deque_len, deque_capacity}
 use Rattle.px_core.specs.Out.{rest_of}
 use Rattle.px_core.specs.Tables.{lists_of, HasPlaces}
-use Rattle.px_core.proofs.Waiting.{set_lists_to, get_lists, same_lists, set_places_at, rest_is_dropped, none_left, one_less}
+use Rattle.px_core.proofs.Waiting.{kept_places, set_lists_to, get_lists, same_lists, set_places_at, rest_is_dropped, none_left, one_less}
 use Rattle.px_core.proofs.queues.take_first.Goals as goal
 
 pub returns-then-place-queues-clause-rest : goal.returns-then-place-queues-clause-rest
@@ -29,3 +29,9 @@ returns-then-place-queues-clause-room g c = λ some.
     let less = one_less c.pop_front.result (deque_len q) (deque_len c.pop_front.new.self) c.pop_front.ensures.len some in
     let has : HasPlaces 1 c.pop_front.new.self = omega (arith, less, q.small.1, c.pop_front.ensures.capacity) in
     set_places_at 1 xs i c.pop_front.new.self has
+
+pub returns-then-place-queues-clause-kept : goal.returns-then-place-queues-clause-kept
+returns-then-place-queues-clause-kept g c = λ n i had.
+    let xs = c.args.queues.now in
+    let d = c.index-queues-place.result in
+    kept_places n i c.args.sink.0 xs d c.pop_front.new.self (omega (arith, c.pop_front.ensures.len)) (omega (arith, c.pop_front.ensures.capacity)) had
