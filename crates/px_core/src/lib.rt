@@ -12,6 +12,7 @@ mod create;
 mod created;
 mod connecting;
 mod data;
+mod command;
 mod delete;
 mod effect;
 mod effects;
