@@ -10,3 +10,4 @@ pub mod SweepLaws
 pub mod CreateLaws
 pub mod StepLaws
 pub mod BackLaws
+pub mod EndLaws
