@@ -11,3 +11,4 @@ pub mod CreateLaws
 pub mod StepLaws
 pub mod BackLaws
 pub mod EndLaws
+pub mod RefusalLaws

@@ -1,5 +1,5 @@
 -- How often the server ends a connection, and how often it begins.
-use Rattle.std.specs.Prelude.{ℕ, Bool, false, cond, nat_eq, ◌+◌, List, [], ◌∷◌, filter, length, is_some}
+use Rattle.std.specs.Prelude.{ℕ, Bool, false, cond, nat_eq, ◌+◌, List, [], ◌∷◌, filter, length, is_some, Option, Some, None}
 use Rattle.px_types.specs.declared.ids.ConnId.{ConnId}
 use Rattle.px_core.specs.declared.effect.Effect.{Effect}
 use Rattle.px_core.specs.declared.effect.Effect.TheVariants.{Sent, Closed}
@@ -33,3 +33,16 @@ begins_of conn (out sink) = 0
 abbrev pub begins_by : {P : Type 0} → ConnId → List (Step P) → ℕ
 begins_by conn [] = 0
 begins_by conn (s ∷ steps) = begins_of conn s + begins_by conn steps
+
+-- ---- steps of a connection
+
+-- the connection that a step is of, where it is of one that is there already
+abbrev pub sender_of : {P : Type 0} → Step P → Option ConnId
+sender_of (connect conn) = None
+sender_of (frame conn f) = Some conn
+sender_of (broken conn fault at) = Some conn
+sender_of (close conn) = Some conn
+sender_of (cut conn) = Some conn
+sender_of sweep = None
+sender_of (notice sink n) = None
+sender_of (out sink) = None
