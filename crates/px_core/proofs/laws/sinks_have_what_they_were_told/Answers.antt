@@ -1,5 +1,6 @@
 use Rattle.std.proofs.Common.{refl}
 use Rattle.px_core.specs.Out.{waiting_for}
+use Rattle.px_core.proofs.BackLaws as back
 use Rattle.px_core.proofs.HandingLaws as handing
 use Rattle.px_core.proofs.StepLaws as steps
 use Rattle.px_core.proofs.laws.sinks_have_what_they_were_told.Goals as goal
@@ -18,3 +19,6 @@ returns-clause-kept g c = λ spec_of state sink n h. (handing.all_out spec_of st
 
 pub returns-clause-spared : goal.returns-clause-spared
 returns-clause-spared g c = steps.step_spares
+
+pub returns-clause-put_back : goal.returns-clause-put_back
+returns-clause-put_back g c = back.back_as_before
