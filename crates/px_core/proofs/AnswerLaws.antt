@@ -27,11 +27,11 @@ use Rattle.px_core.specs.declared.input.Way.{Way}
 use Rattle.px_core.specs.declared.input.Way.TheVariants.{Coming, There, Left}
 use Rattle.px_core.specs.declared.change.Change.{Change}
 use Rattle.px_core.specs.declared.change.Change.TheVariants.{Gone, Posted, Forgotten}
-use Rattle.px_core.specs.State.{State, has_index, has_number, input_of, connection_of, marked_of, is_stream, stream_of, is_from, settled_on}
+use Rattle.px_core.specs.State.{State, has_index, has_number, input_of, connection_of, marked_of, is_stream, stream_of, is_from, is_settled, settled_on}
 use Rattle.px_core.specs.Change.{change_first, drop_first, changed, committed, leaving, forgotten, kept}
 use Rattle.px_core.specs.Create.{UNITY, unity_on, factors_of, factors_for}
 use Rattle.px_core.specs.Orderly.{is_there}
-use Rattle.px_core.specs.Keeps.{AreDistinct, IsInput, IsKept, IsRising, AllAbove, is_coming}
+use Rattle.px_core.specs.Keeps.{AreDistinct, IsInput, IsKept, IsRising, IsIncreasing, AllAbove, is_coming}
 use Rattle.px_core.specs.Reply.{Answer, ignored}
 use Rattle.px_core.specs.Delete.{ends, delete_of}
 use Rattle.px_core.specs.Data.{are_frames, write_of, data_for, data_of}
@@ -147,8 +147,15 @@ data_keeps spec_of state h conn stream offset seek bytes few (Some x) e =
     (subst IsSome (sym there) refl)
     (λ s g. subst (λ o. MatchOption o ⊤ (λ spec. IsWhole spec (record { input = x.index.0; seek = seek; offset = int_div_euclid offset (pos (frame_size_of x.spec)); frames = length bytes / frame_size_of x.spec; bytes = bytes }))) (sym there)
     (data_fits x offset seek bytes few t))
-    (λ inputs. refl)))
+    (λ inputs. refl) tt))
     (λ t. unchanged h)
+
+above_filter : (p : Input → Bool) (i : ℕ) (xs : List Input) → AllAbove i xs → AllAbove i (filter p xs)
+above_filter p i xs a = all_filter (λ x. i < (Input.index x).0) p xs a
+
+pub rising_filter : (p : Input → Bool) (xs : List Input) → IsRising xs → IsRising (filter p xs)
+rising_filter p [] r = tt
+rising_filter p (x ∷ xs) r = cond_both (p x) (x ∷ filter p xs) (filter p xs) IsRising (λ e. (above_filter p x.index.0 xs r.0, rising_filter p xs r.1)) (λ e. rising_filter p xs r.1)
 
 -- ---- Factors of a sink
 
@@ -156,11 +163,20 @@ factors_fit : (sink s : SinkSpec) → sink ≡ s → (settled : List Input) → 
 factors_fit sink s e [] = tt
 factors_fit sink s e (x ∷ settled) = (length-replicate sink.spec.channels UNITY ∙ ap (λ (z : SinkSpec). z.spec.channels) e, factors_fit sink s e settled)
 
-pub factors_keep : {P : Type 0} (spec_of : P → SampleSpec) (state : State P) → IsKept spec_of state → (index : SinkId) (sink : SinkSpec) → slice_get state.sinks index.0 ≡ Some sink → (settled : List Input) → IsKept spec_of (changed state (Posted index (factors_for sink settled)))
-factors_keep spec_of state h index sink e settled =
+factors_above : (sink : SinkSpec) (i : ℕ) (settled : List Input) → AllAbove i settled → AllByRecursion (λ j. i < j) (map (λ f. (InputFactors.input f).0) (factors_of sink settled))
+factors_above sink i [] a = tt
+factors_above sink i (x ∷ settled) a = (a.0, factors_above sink i settled a.1)
+
+factors_in_order : (sink : SinkSpec) (settled : List Input) → IsRising settled → IsIncreasing (map (λ f. (InputFactors.input f).0) (factors_of sink settled))
+factors_in_order sink [] r = tt
+factors_in_order sink (x ∷ settled) r = (factors_above sink x.index.0 settled r.0, factors_in_order sink settled r.1)
+
+pub factors_keep : {P : Type 0} (spec_of : P → SampleSpec) (state : State P) → IsKept spec_of state → (index : SinkId) (sink : SinkSpec) → slice_get state.sinks index.0 ≡ Some sink → (settled : List Input) → IsRising settled → IsKept spec_of (changed state (Posted index (factors_for sink settled)))
+factors_keep spec_of state h index sink e settled r =
     same_inputs_keep spec_of state index (factors_for sink settled) h (slice_get_within state.sinks index.0 sink e) refl tt
     (λ s g. factors_fit sink s (same_Some sink s (sym e ∙ g)) settled)
     (λ inputs. refl)
+    (factors_in_order sink settled r)
 
 -- ---- a sink has given up a stream
 
@@ -173,7 +189,7 @@ given_up_on_keeps : {P : Type 0} (spec_of : P → SampleSpec) (state : State P) 
 given_up_on_keeps spec_of state h x here leaves left None e = unchanged h
 given_up_on_keeps spec_of state h x here leaves left (Some sink) e =
     record {
-      keeps = factors_keep spec_of (changed state (Gone x.index)) (gone_keeps spec_of state x h here leaves (away x.way left).0 (away x.way left).1) x.sink sink e (settled_on state.inputs x.sink);
+      keeps = factors_keep spec_of (changed state (Gone x.index)) (gone_keeps spec_of state x h here leaves (away x.way left).0 (away x.way left).1) x.sink sink e (settled_on state.inputs x.sink) (rising_filter (is_settled x.sink) state.inputs h.rising);
       held = gone_held state x here (away x.way left).0;
     }
 
@@ -223,13 +239,6 @@ all_end_held (x ∷ xs) state k = all_end_held xs (committed state (ends x)) k �
 pub others_there : {P : Type 0} (y : Input) (xs : List Input) → AllByRecursion (λ x. (Input.index x).0 ≡ y.index.0 → ⊥) xs → (state : State P) → input_of (committed state (flat_map ends xs)).inputs y.index ≡ input_of state.inputs y.index
 others_there y [] a state = refl
 others_there y (x ∷ xs) a state = others_there y xs a.1 (committed state (ends x)) ∙ found_other y.index x.index leaving (λ z. refl) a.0 state.inputs
-
-above_filter : (p : Input → Bool) (i : ℕ) (xs : List Input) → AllAbove i xs → AllAbove i (filter p xs)
-above_filter p i xs a = all_filter (λ x. i < (Input.index x).0) p xs a
-
-pub rising_filter : (p : Input → Bool) (xs : List Input) → IsRising xs → IsRising (filter p xs)
-rising_filter p [] r = tt
-rising_filter p (x ∷ xs) r = cond_both (p x) (x ∷ filter p xs) (filter p xs) IsRising (λ e. (above_filter p x.index.0 xs r.0, rising_filter p xs r.1)) (λ e. rising_filter p xs r.1)
 
 -- each input of a rising list is found by its index, and those that pass a test pass it
 pub found_each : (inputs : List Input) → IsRising inputs → AllByRecursion (λ x. input_of inputs x.index ≡ Some x) inputs

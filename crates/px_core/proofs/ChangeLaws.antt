@@ -26,7 +26,7 @@ use Rattle.px_core.specs.Change.{change_first, drop_first, leaving, posted_to, c
 use Rattle.px_core.specs.declared.change.Change.TheVariants.{Leaves, Gone, Posted}
 use Rattle.px_core.specs.Create.{MOST_ON_SINK}
 use Rattle.px_core.specs.Orderly.{entry_of, specs_of, is_held_by, is_there}
-use Rattle.px_core.specs.Keeps.{AreInStep, AreAllInStep, IsInput, IsKept, IsRising, is_coming_to, is_coming, brought_by}
+use Rattle.px_core.specs.Keeps.{AreInStep, AreAllInStep, IsInput, IsKept, IsRising, NamesInOrder, is_coming_to, is_coming, brought_by}
 use Rattle.px_core.proofs.ListLaws.{same_passed, same_left, no_more_pass, all_change, all_drop, all_push, all_weaken, found_all, found_test}
 use Rattle.px_core.proofs.EntryLaws.{spec_in, get_in, here_in, removed, inserted, pushed, none_below, few_specs, rising_change, rising_drop, rising_push}
 use Rattle.px_core.proofs.InStepLaws.{view, unmoved, posted}
@@ -75,8 +75,9 @@ pub same_inputs_keep : {P : Type 0} (spec_of : P → SampleSpec) (state : State 
     → NamesInput (specs_of (settled_on state.inputs sink)) (view m)
     → ((s : SinkSpec) → slice_get state.sinks sink.0 ≡ Some s → Fits spec_of (sample_spec s.spec) (specs_of (settled_on state.inputs sink)) (view m))
     → ((inputs : Inputs) → inputs_left spec_of inputs (view m) ≡ inputs)
+    → NamesInOrder m
     → IsKept spec_of (changed state (Posted sink m))
-same_inputs_keep spec_of state sink m h there brings names fits left = record {
+same_inputs_keep spec_of state sink m h there brings names fits left in_order = record {
   sinks = h.sinks;
   distinct = h.distinct;
   rising = h.rising;
@@ -85,7 +86,7 @@ same_inputs_keep spec_of state sink m h there brings names fits left = record {
   in_step = set_in_step spec_of state.sinks state.inputs state.posted sink.0 (get_or state.posted sink.0 [] ++ m ∷ []) (subst (λ n. sink.0 < n) (sym h.lists) there)
       (λ s e. posted spec_of (sink_at sink.0) s state.inputs state.inputs (get_or state.posted sink.0 []) m refl
       (sym (append-nil (map entry_of (filter (is_coming_to (sink_at sink.0)) state.inputs))) ∙ ap (λ more. map entry_of (filter (is_coming_to (sink_at sink.0)) state.inputs) ++ more) (sym brings))
-      names (fits s e) (left (specs_of (settled_on state.inputs sink))) (h.in_step sink.0 s e).few (h.in_step sink.0 s e))
+      names (fits s e) (left (specs_of (settled_on state.inputs sink))) in_order (h.in_step sink.0 s e).few (h.in_step sink.0 s e))
       (λ index s apart e. h.in_step index s e);
 }
 
@@ -104,6 +105,7 @@ leaves_keep {P} spec_of state x h here goes = record {
       (subst IsSome (sym (settled_spec state.inputs h.rising x.sink.0 x here (on_own x goes))) refl)
       tt
       (removed (is_settled (sink_at x.sink.0)) x.index leaving (λ y. refl) state.inputs h.rising x here (gone x.sink.0 x))
+      tt
       (omega (arith, no_more_pass (is_settled (sink_at x.sink.0)) (has_index x.index) leaving (λ y t. absurd (false≢true (sym (gone x.sink.0 y) ∙ t))) state.inputs, (h.in_step x.sink.0 s e).few))
       (h.in_step x.sink.0 s e))
       (λ index s apart e. unmoved spec_of (sink_at index) s state.inputs later (get_or state.posted index []) (held index)
@@ -196,6 +198,7 @@ new_keeps {P} spec_of state x n h fresh coming goes is same_index same_spec room
       (fits s e)
       ((λ i. finite.insert (specs_of (settled_on state.inputs (sink_at x.sink.0))) (same_index i) (sample_spec (same_spec i)))
       ∙ pushed (is_settled (sink_at x.sink.0)) state.inputs h.rising x below (on_own x goes))
+      tt
       (subst (λ xs. length xs ≤ MOST_ON_SINK) (sym (pushed_own (is_settled (sink_at x.sink.0)) state.inputs x (on_own x goes)))
       (omega (arith, length-append (settled_on state.inputs (sink_at x.sink.0)) (x ∷ []), room)))
       (h.in_step x.sink.0 s e))

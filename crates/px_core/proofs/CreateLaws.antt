@@ -1,7 +1,7 @@
 -- CREATE keeps what the state keeps.
 use Rattle.std.proofs.Common.{◌≡◌, ℕ, zero, suc, ◌<◌, ◌≤◌, List, [], ◌∷◌, ◌++◌, map, length, min, max, Option, Some, None, Bool, true, false, refl, ap, sym, subst, ◌∙◌, arith, cond, ⊎_elim}
 use Rattle.std.specs.Prelude.{◌+◌, ◌-◌, ◌*◌, ◌/◌, ◌≢◌, ◌&&◌, ◌||◌, not, nat_eq, nat_lt, nat_le, replicate, slice_get, slice_index, Result, Ok, Err}
-use Rattle.std.specs.List.{All, list_all, range_with_len}
+use Rattle.std.specs.List.{All, AllByRecursion, list_all, range_with_len}
 use Rattle.std.specs.Cmp.Lexicographic.{pointwise}
 use Rattle.std.proofs.lemmas.Bool.{cond_both, eqb-true, eqb-false, ltb-true, leb-true, leb-false, false≢true, cases_Bool, and_parts, or_parts, not-false, agree_below_at}
 use Rattle.std.proofs.lemmas.List.{length-replicate}
@@ -26,14 +26,16 @@ use Rattle.px_msg.specs.View.{sample_spec, opened}
 use Rattle.px_vol.specs.Volume.{norm}
 use Rattle.px_core.specs.declared.input.Connection.{Connection}
 use Rattle.px_core.specs.declared.input.Input.{Input}
-use Rattle.px_core.specs.State.{State, has_number, settled_on, going_of}
+use Rattle.px_core.specs.State.{State, has_number, is_settled, settled_on, going_of}
 use Rattle.px_core.specs.Change.{with_streams, with_connection, changed, committed}
 use Rattle.px_core.specs.declared.change.Change.TheVariants.{Made, Posted}
 use Rattle.px_core.specs.Create.{is_spec, is_map, are_volumes, format_on, channels_on, positions_on, rate_on, same_positions, format_with, spec_on, attr_on, is_unsupported, has_no_room, is_not_built, refusal_on, input_made, created, created_or, create_on, create_there, create_named, create, is_lawful, straight, unity_on, new_of, UNITY, MOST_ON_SINK, MOST_IN_ALL, LAST_INDEX}
 use Rattle.px_core.specs.Reply.{Answer, refused}
 use Rattle.px_core.specs.Keeps.{IsInput, IsKept}
+use Rattle.px_core.proofs.ListLaws.{all_weaken}
+use Rattle.px_core.proofs.EntryLaws.{rising_push}
 use Rattle.px_core.proofs.ChangeLaws.{sink_at, with_input, new_keeps, new_held}
-use Rattle.px_core.proofs.AnswerLaws.{Keeps, unchanged, connection_keeps, factors_keep}
+use Rattle.px_core.proofs.AnswerLaws.{Keeps, unchanged, connection_keeps, factors_keep, rising_filter, all_filter}
 
 -- ---- attributes as repaired
 
@@ -214,6 +216,8 @@ created_keeps {P} spec_of state h c tag index sink a there lawful supported room
         (room_on state.inputs state.inputs_made c index room)
         (λ s e. new_fits sink s (same_Some sink s (sym there ∙ e)) a rules.1.channels asked state.inputs_made))
         index sink there (settled_on state.inputs index ++ x ∷ [])
+        (rising_push (settled_on state.inputs index) x (rising_filter (is_settled index) state.inputs h.rising) (all_filter (λ y. (Input.index y).0 < state.inputs_made) (is_settled index) state.inputs
+        (all_weaken (IsInput state.sinks state.inputs_made) (λ y. (Input.index y).0 < state.inputs_made) (λ y i. i.given) state.inputs h.inputs)))
 
 created_or_keeps : {P : Type 0} (spec_of : P → SampleSpec) (state : State P) → IsKept spec_of state → (c : Connection) (tag : ℕ) (index : SinkId) (sink : SinkSpec) (a : CreateFields) → slice_get state.sinks index.0 ≡ Some sink → is_lawful a ≡ true
     → Keeps spec_of state (create_on state.inputs state.inputs_made c tag index sink a)

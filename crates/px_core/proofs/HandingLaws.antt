@@ -81,7 +81,7 @@ there_no_more_comes Coming e = absurd (false≢true e)
 there_no_more_comes There e = refl
 there_no_more_comes Left e = refl
 
-some_of : (o : Option SampleSpec) → IsSome o → (s : SampleSpec) × (o ≡ Some s)
+pub some_of : (o : Option SampleSpec) → IsSome o → (s : SampleSpec) × (o ≡ Some s)
 some_of None e = absurd (false≢true e)
 some_of (Some s) e = (s, refl)
 
@@ -143,12 +143,12 @@ past_by spec_of k s inputs (Query input tag) rest r h = stayed spec_of k inputs 
 
 -- ---- the state
 
-sink_there : (sinks : List SinkSpec) (k : ℕ) → k < length sinks → (s : SinkSpec) × (slice_get sinks k ≡ Some s)
+pub sink_there : (sinks : List SinkSpec) (k : ℕ) → k < length sinks → (s : SinkSpec) × (slice_get sinks k ≡ Some s)
 sink_there [] k l = absurd (omega arith)
 sink_there (s ∷ sinks) zero l = (s, refl)
 sink_there (s ∷ sinks) (suc k) l = sink_there sinks k (omega (arith, l))
 
-list_there : {A : Type 0} (lists : List (List A)) (k : ℕ) (x : A) (xs : List A) → get_or lists k [] ≡ x ∷ xs → k < length lists
+pub list_there : {A : Type 0} (lists : List (List A)) (k : ℕ) (x : A) (xs : List A) → get_or lists k [] ≡ x ∷ xs → k < length lists
 list_there lists k x xs e =
     ⊎_elim
     (λ (l : k < length lists). l)

@@ -13,3 +13,6 @@ pub mod AnswerLaws
 pub mod SweepLaws
 pub mod CreateLaws
 pub mod StepLaws
+pub mod BackLaws
+pub mod EndLaws
+pub mod RefusalLaws

@@ -8,6 +8,7 @@ use Rattle.px_session.specs.HeaderRules.{AreSinks}
 use Rattle.px_model.specs.Frame.{SampleSpec}
 use Rattle.px_model.specs.Orderly.{IsOrderly, IsPlayable, IsRepaired, inputs_left_by}
 use Rattle.px_frame.specs.Frame.{IsBody}
+use Rattle.px_msg.specs.declared.factors.InputFactors.{InputFactors}
 use Rattle.px_msg.specs.declared.message.Msg.{Msg}
 use Rattle.px_msg.specs.declared.message.Msg.TheVariants.{New, Attach, Detach, Write, Cork, Flush, Trigger, Prebuf, Drain, Attr, Factors, Query}
 use Rattle.px_msg.specs.View.{sample_spec, message_of}
@@ -68,12 +69,23 @@ brought_by spec_of (Attr input attr) = []
 brought_by spec_of (Factors each) = []
 brought_by spec_of (Query input tag) = []
 
+-- each number lies above those before it
+abbrev pub IsIncreasing : List ℕ → Type 0
+IsIncreasing [] = ⊤
+IsIncreasing (i ∷ indices) = AllByRecursion (λ j. i < j) indices × IsIncreasing indices
+
+-- factors name their inputs in rising index, each once
+abbrev pub NamesInOrder : {P : Type 0} → Msg P → Type 0
+NamesInOrder (Factors each) = IsIncreasing (map (λ f. (InputFactors.input f).0) each)
+NamesInOrder _ = ⊤
+
 -- the messages that wait for a sink are orderly from the inputs that it has, and leave there exactly those that are settled on it, no more
 -- than a sink can have; and they bring, in order, those that are on their way to it
 pub record AreInStep {P : Type 0} (spec_of : P → SampleSpec) (sink : SinkId) (s : SinkSpec) (inputs : List Input) (waiting : List (Msg P)) : Type 0 where
   pub orderly : IsOrderly spec_of (sample_spec s.spec) (specs_of (filter (is_held_by sink) inputs)) (map (message_of (λ p. p)) waiting)
   pub leaves : inputs_left_by spec_of (specs_of (filter (is_held_by sink) inputs)) (map (message_of (λ p. p)) waiting) ≡ specs_of (settled_on inputs sink)
   pub bring : flat_map (brought_by spec_of) waiting ≡ map entry_of (filter (is_coming_to sink) inputs)
+  pub in_order : AllByRecursion NamesInOrder waiting
   pub few : length (settled_on inputs sink) ≤ MOST_ON_SINK
 
 -- for every sink

@@ -14,3 +14,4 @@ pub mod Out
 pub mod Step
 pub mod Orderly
 pub mod Keeps
+pub mod Ending

@@ -1,0 +1,103 @@
+-- A message that is put back leaves the state as it was before it was handed out.
+use Rattle.std.proofs.Common.{◌≡◌, ℕ, ◌<◌, List, [], ◌∷◌, ◌++◌, map, length, Option, Some, None, Bool, true, false, refl, ap, sym, subst, ◌∙◌, cond}
+use Rattle.std.specs.Prelude.{◌&&◌, nat_eq, filter, flat_map, set, get_or, IsSome}
+use Rattle.std.specs.List.{find}
+use Rattle.std.specs.FinMap as finite
+use Rattle.std.proofs.lemmas.Bool.{cond-true, cond-false, and_parts, and_right, eq-eqb, eqb-true, false≢true}
+use Rattle.std.proofs.lemmas.List.{set-set, set-get_or, get_or-set_same}
+use Rattle.std.proofs.lemmas.Option.{none-some, same_Some}
+use Rattle.px_types.specs.declared.ids.InputId.{InputId}
+use Rattle.px_types.specs.declared.ids.SinkId.{SinkId}
+use Rattle.px_session.specs.declared.header.SinkSpec.{SinkSpec}
+use Rattle.px_model.specs.Frame.{SampleSpec}
+use Rattle.px_msg.specs.declared.message.Msg.{Msg}
+use Rattle.px_msg.specs.declared.message.Msg.TheVariants.{New, Attach, Detach, Write, Cork, Flush, Trigger, Prebuf, Drain, Attr, Factors, Query}
+use Rattle.px_msg.specs.View.{sample_spec}
+use Rattle.px_core.specs.declared.input.Input.{Input}
+use Rattle.px_core.specs.declared.input.Way.{Way}
+use Rattle.px_core.specs.declared.input.Way.TheVariants.{Coming, There, Left}
+use Rattle.px_core.specs.State.{State, has_index}
+use Rattle.px_core.specs.Change.{change_first, kept}
+use Rattle.px_core.specs.Orderly.{specs_of, is_held_by, is_there}
+use Rattle.px_core.specs.Out.{waiting_for, first_of, rest_of, next_for, on_way, with_way, inputs_past, inputs_before, past, handed_out, put_back}
+use Rattle.px_core.specs.Keeps.{AreInStep, IsKept, IsRising, is_coming_to, is_coming, brought_by}
+use Rattle.px_core.proofs.EntryLaws.{FirstGone, first_gone, Found, found_in, get_in, spec_in}
+use Rattle.px_core.proofs.ChangeLaws.{sink_at}
+use Rattle.px_core.proofs.HandingLaws.{sink_there, list_there, some_of}
+
+-- a change that is undone
+change_back : (j : InputId) (f g : Input → Input) → ((x : Input) → (g x).index.0 ≡ x.index.0) → (xs : List Input) (y : Input) → find (has_index j) xs ≡ Some y → f (g y) ≡ y → change_first (has_index j) f (change_first (has_index j) g xs) ≡ xs
+change_back j f g keeps [] y e back = refl
+change_back j f g keeps (x ∷ xs) y e back = step (change_back j f g keeps xs y) (nat_eq x.index.0 j.0) refl e
+  where
+    step : (find (has_index j) xs ≡ Some y → f (g y) ≡ y → change_first (has_index j) f (change_first (has_index j) g xs) ≡ xs) → (b : Bool) → nat_eq x.index.0 j.0 ≡ b → cond b (Some x) (find (has_index j) xs) ≡ Some y → change_first (has_index j) f (cond b (g x ∷ xs) (x ∷ change_first (has_index j) g xs)) ≡ x ∷ xs
+    step later true t found =
+        cond-true (nat_eq (g x).index.0 j.0) (f (g x) ∷ xs) (g x ∷ change_first (has_index j) f xs) (eq-eqb (g x).index.0 j.0 (keeps x ∙ eqb-true x.index.0 j.0 t))
+        ∙ ap (λ z. z ∷ xs) (subst (λ z. f (g z) ≡ z) (sym (same_Some x y found)) back)
+    step later false t found =
+        cond-false (nat_eq x.index.0 j.0) (f x ∷ change_first (has_index j) g xs) (x ∷ change_first (has_index j) f (change_first (has_index j) g xs)) t
+        ∙ ap (λ zs. x ∷ zs) (later found back)
+
+way_back : (from to : Way) (x : Input) → x.way ≡ from → on_way from (on_way to x) ≡ x
+way_back from to x e = λ i. record x { way = sym e i }
+
+comes : (way : Way) → is_coming way ≡ true → way ≡ Coming
+comes Coming e = refl
+comes There e = absurd (false≢true e)
+comes Left e = absurd (false≢true e)
+
+stands : (way : Way) → is_there way ≡ true → way ≡ There
+stands Coming e = absurd (false≢true e)
+stands There e = refl
+stands Left e = absurd (false≢true e)
+
+arrival_back : (k : ℕ) (j : InputId) (s : SampleSpec) (rest : List (ℕ × SampleSpec)) (inputs : List Input) → FirstGone (is_coming_to (sink_at k)) (on_way There) j s rest inputs → with_way j Coming (with_way j There inputs) ≡ inputs
+arrival_back k j s rest inputs it =
+    change_back j (on_way Coming) (on_way There) (λ x. refl) inputs it.input it.here
+    (way_back Coming There it.input (comes it.input.way (and_parts (nat_eq it.input.sink.0 k) (is_coming it.input.way) it.passes).1))
+
+departure_back : (k : ℕ) (j : InputId) (inputs : List Input) → IsRising inputs → IsSome (finite.get (specs_of (filter (is_held_by (sink_at k)) inputs)) j.0) → with_way j There (with_way j Left inputs) ≡ inputs
+departure_back k j inputs r names =
+    let some = some_of (spec_in (is_held_by (sink_at k)) j.0 inputs) (subst IsSome (get_in (is_held_by (sink_at k)) inputs r j.0) names) in
+    let it : Found (is_held_by (sink_at k)) j inputs some.0 = found_in (is_held_by (sink_at k)) j inputs some.0 some.1 in
+    change_back j (on_way There) (on_way Left) (λ x. refl) inputs it.input it.here
+    (way_back There Left it.input (stands it.input.way (and_parts (nat_eq it.input.sink.0 k) (is_there it.input.way) it.passes).1))
+
+inputs_back : {P : Type 0} (spec_of : P → SampleSpec) (k : ℕ) (s : SinkSpec) (inputs : List Input) (m : Msg P) (rest : List (Msg P)) → IsRising inputs → AreInStep spec_of (sink_at k) s inputs (m ∷ rest) → inputs_before m (inputs_past m inputs) ≡ inputs
+inputs_back spec_of k s inputs (New n) rest r h =
+    arrival_back k n.input (sample_spec n.spec) (flat_map (brought_by spec_of) rest) inputs
+    (first_gone (is_coming_to (sink_at k)) (on_way There) (λ x. and_right (nat_eq x.sink.0 k) false refl) n.input (sample_spec n.spec) (flat_map (brought_by spec_of) rest) inputs r h.bring)
+inputs_back spec_of k s inputs (Attach j parcel feed factors) rest r h =
+    arrival_back k j (spec_of parcel) (flat_map (brought_by spec_of) rest) inputs
+    (first_gone (is_coming_to (sink_at k)) (on_way There) (λ x. and_right (nat_eq x.sink.0 k) false refl) j (spec_of parcel) (flat_map (brought_by spec_of) rest) inputs r h.bring)
+inputs_back spec_of k s inputs (Detach j) rest r h = departure_back k j inputs r h.orderly.0
+inputs_back spec_of k s inputs (Write input seek offset frames bytes) rest r h = refl
+inputs_back spec_of k s inputs (Cork input on) rest r h = refl
+inputs_back spec_of k s inputs (Flush input) rest r h = refl
+inputs_back spec_of k s inputs (Trigger input) rest r h = refl
+inputs_back spec_of k s inputs (Prebuf input) rest r h = refl
+inputs_back spec_of k s inputs (Drain input tag) rest r h = refl
+inputs_back spec_of k s inputs (Attr input attr) rest r h = refl
+inputs_back spec_of k s inputs (Factors each) rest r h = refl
+inputs_back spec_of k s inputs (Query input tag) rest r h = refl
+
+lists_back : {A : Type 0} (lists : List (List A)) (k : ℕ) (x : A) → k < length lists → get_or lists k [] ≡ x ∷ rest_of (get_or lists k []) → set (set lists k (rest_of (get_or lists k []))) k (x ∷ get_or (set lists k (rest_of (get_or lists k []))) k []) ≡ lists
+lists_back lists k x l e =
+    set-set lists k (rest_of (get_or lists k [])) (x ∷ get_or (set lists k (rest_of (get_or lists k []))) k [])
+    ∙ ap (λ xs. set lists k (x ∷ xs)) (get_or-set_same lists k (rest_of (get_or lists k [])) [] l)
+    ∙ ap (set lists k) (sym e)
+    ∙ set-get_or lists k []
+
+first_is : {A : Type 0} (xs : List A) (x : A) → first_of xs ≡ Some x → xs ≡ x ∷ rest_of xs
+first_is [] x e = absurd (none-some x e)
+first_is (y ∷ ys) x e = ap (λ z. z ∷ ys) (same_Some y x e)
+
+pub back_as_before : {P : Type 0} (spec_of : P → SampleSpec) (state : State P) (sink : SinkId) (m : Msg P) → IsKept spec_of state → next_for state sink ≡ Some m → put_back sink m (handed_out sink state) ≡ kept state
+back_as_before {P} spec_of state sink m h e =
+    let first : get_or state.posted sink.0 [] ≡ m ∷ rest_of (get_or state.posted sink.0 []) = first_is (get_or state.posted sink.0 []) m e in
+    let l = list_there state.posted sink.0 m (rest_of (get_or state.posted sink.0 [])) first in
+    let own = sink_there state.sinks sink.0 (subst (λ n. sink.0 < n) h.lists l) in
+    let inputs = inputs_back spec_of sink.0 own.0 state.inputs m (rest_of (get_or state.posted sink.0 [])) h.rising (subst (λ ms. AreInStep spec_of (sink_at sink.0) own.0 state.inputs ms) first (h.in_step sink.0 own.0 own.1)) in
+    let lists = lists_back state.posted sink.0 m l first in
+    ap (λ o. put_back sink m (past o sink state)) e
+    ∙ (λ i. record state { posted = lists i; inputs = inputs i; lent = None })

@@ -1,0 +1,8 @@
+use Rattle.px_core.proofs.RefusalLaws as refusing
+use Rattle.px_core.proofs.laws.refusals_change_nothing.Goals as goal
+
+pub returns-clause-ended : goal.returns-clause-ended
+returns-clause-ended g c = refusing.ended_is_ignored
+
+pub returns-clause-refused : goal.returns-clause-refused
+returns-clause-refused g c = λ spec_of state s conn tag code e. refusing.refusal_changes_nothing conn tag code spec_of state s e

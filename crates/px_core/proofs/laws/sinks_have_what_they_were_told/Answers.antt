@@ -1,0 +1,24 @@
+use Rattle.std.proofs.Common.{refl}
+use Rattle.px_core.specs.Out.{waiting_for}
+use Rattle.px_core.proofs.BackLaws as back
+use Rattle.px_core.proofs.HandingLaws as handing
+use Rattle.px_core.proofs.StepLaws as steps
+use Rattle.px_core.proofs.laws.sinks_have_what_they_were_told.Goals as goal
+
+pub returns-clause-messages : goal.returns-clause-messages
+returns-clause-messages g c = λ spec_of state sink n h. (handing.all_out spec_of state sink h n (waiting_for state sink) refl).messages
+
+pub returns-clause-others : goal.returns-clause-others
+returns-clause-others g c = λ spec_of state sink n h. (handing.all_out spec_of state sink h n (waiting_for state sink) refl).waits
+
+pub returns-clause-inputs : goal.returns-clause-inputs
+returns-clause-inputs g c = λ spec_of state sink n h. (handing.all_out spec_of state sink h n (waiting_for state sink) refl).leaves
+
+pub returns-clause-kept : goal.returns-clause-kept
+returns-clause-kept g c = λ spec_of state sink n h. (handing.all_out spec_of state sink h n (waiting_for state sink) refl).keeps
+
+pub returns-clause-spared : goal.returns-clause-spared
+returns-clause-spared g c = steps.step_spares
+
+pub returns-clause-put_back : goal.returns-clause-put_back
+returns-clause-put_back g c = back.back_as_before

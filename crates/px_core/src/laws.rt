@@ -1,0 +1,74 @@
+//! Laws of the core's definitions: what its state keeps, and what a sink is handed out.
+ghost use Rattle.std.specs.Prelude.{◌≡◌, ℕ, ◌+◌, ◌≤◌, List, [], ◌∷◌, None, Some, map, take, drop};
+ghost use Rattle.std.specs.List.{AllByRecursion};
+ghost use Rattle.px_types.specs.declared.ids.ConnId.{ConnId};
+ghost use Rattle.px_types.specs.declared.ids.SinkId.{SinkId};
+ghost use Rattle.px_session.specs.declared.header.Header.{Header};
+ghost use Rattle.px_session.specs.HeaderRules.{IsHeader};
+ghost use Rattle.px_model.specs.Frame.{SampleSpec};
+ghost use Rattle.px_model.specs.Orderly.{inputs_left_by};
+ghost use Rattle.px_msg.specs.declared.message.Msg.{Msg};
+ghost use Rattle.px_msg.specs.View.{message_of};
+ghost use Rattle.px_reply.specs.Front.{refusal};
+ghost use Rattle.px_core.specs.Effect.{sent};
+ghost use Rattle.px_core.specs.State.{State, new_state};
+ghost use Rattle.px_core.specs.Change.{kept};
+ghost use Rattle.px_core.specs.Connecting.{going_on};
+ghost use Rattle.px_core.specs.Out.{waiting_for, next_for, handed_out, put_back};
+ghost use Rattle.px_core.specs.Step.{Step, stepped, effects_of, stepped_by, effects_by};
+ghost use Rattle.px_core.specs.Orderly.{inputs_there, IsOrderlyState};
+ghost use Rattle.px_core.specs.Keeps.{IsKept, IsStep, Spares, handed_out_by, messages_out};
+ghost use Rattle.px_core.specs.Ending.{ends_of, goes_on, begins_of, begins_by, sender_of};
+
+/// What the state keeps, a new one has, and it keeps under every step; `spec_of` reads a parcel's sample spec. So the messages
+/// that wait for a sink are always orderly from the inputs that it has. It does nothing: its contract is the law. Source: own.
+pub fn states_are_kept<P>()
+    ensures new { (spec_of : P → SampleSpec) (header : Header) → IsHeader header → IsKept spec_of (new_state header) }
+    ensures step { (spec_of : P → SampleSpec) (state : State P) (s : Step P) → IsStep s → IsKept spec_of state
+        → IsKept spec_of (stepped spec_of state s) }
+    ensures steps { (spec_of : P → SampleSpec) (state : State P) (steps : List (Step P)) → AllByRecursion IsStep steps
+        → IsKept spec_of state → IsKept spec_of (stepped_by spec_of state steps) }
+    ensures orderly { (spec_of : P → SampleSpec) (state : State P) → IsKept spec_of state → IsOrderlyState spec_of state }
+{}
+
+/// A sink has the inputs that the messages handed out to it leave there. Of those that wait, in order, the first are handed
+/// out, the others go on waiting, and nothing else changes what the sink has. It does nothing: its contract is the law.
+/// Source: own.
+pub fn sinks_have_what_they_were_told<P>()
+    ensures messages { (spec_of : P → SampleSpec) (state : State P) (sink : SinkId) (n : ℕ) → IsKept spec_of state
+        → messages_out n sink state ≡ take n (waiting_for state sink) }
+    ensures others { (spec_of : P → SampleSpec) (state : State P) (sink : SinkId) (n : ℕ) → IsKept spec_of state
+        → waiting_for (handed_out_by n sink state) sink ≡ drop n (waiting_for state sink) }
+    ensures inputs { (spec_of : P → SampleSpec) (state : State P) (sink : SinkId) (n : ℕ) → IsKept spec_of state
+        → inputs_there (handed_out_by n sink state) sink
+        ≡ inputs_left_by spec_of (inputs_there state sink) (map (message_of (λ p. p)) (take n (waiting_for state sink))) }
+    ensures kept { (spec_of : P → SampleSpec) (state : State P) (sink : SinkId) (n : ℕ) → IsKept spec_of state
+        → IsKept spec_of (handed_out_by n sink state) }
+    ensures spared { (spec_of : P → SampleSpec) (state : State P) (s : Step P) (sink : SinkId) → IsStep s → Spares sink s
+        → IsKept spec_of state → inputs_there (stepped spec_of state s) sink ≡ inputs_there state sink }
+    ensures put_back { (spec_of : P → SampleSpec) (state : State P) (sink : SinkId) (m : Msg P) → IsKept spec_of state
+        → next_for state sink ≡ Some m → put_back sink m (handed_out sink state) ≡ kept state }
+{}
+
+/// The server ends a connection only where it went on and goes on no more, or where it isn't taken as it connects: so at the
+/// most once each time that its number connects. It does nothing: its contract is the law. Source: own.
+pub fn connections_end_once<P>()
+    ensures step { (spec_of : P → SampleSpec) (state : State P) (s : Step P) (conn : ConnId) → IsKept spec_of state
+        → ends_of conn (effects_of spec_of state s) + goes_on (stepped spec_of state s).connections conn
+        ≤ goes_on state.connections conn + begins_of conn s }
+    ensures steps { (spec_of : P → SampleSpec) (state : State P) (steps : List (Step P)) (conn : ConnId)
+        → AllByRecursion IsStep steps → IsKept spec_of state
+        → ends_of conn (effects_by spec_of state steps) + goes_on (stepped_by spec_of state steps).connections conn
+        ≤ goes_on state.connections conn + begins_by conn steps }
+{}
+
+/// What a connection sends that isn't there, or has ended, has no effect and changes nothing; nor does anything that is
+/// answered by an error. `kept` says that the message handed out last can't be put back any more. It does nothing: its
+/// contract is the law. Source: own.
+pub fn refusals_change_nothing<P>()
+    ensures ended { (spec_of : P → SampleSpec) (state : State P) (s : Step P) (conn : ConnId) → sender_of s ≡ Some conn
+        → going_on state.connections conn ≡ None
+        → (stepped spec_of state s ≡ kept state) × (effects_of spec_of state s ≡ []) }
+    ensures refused { (spec_of : P → SampleSpec) (state : State P) (s : Step P) (conn : ConnId) (tag code : ℕ)
+        → effects_of spec_of state s ≡ sent conn (refusal tag code) ∷ [] → stepped spec_of state s ≡ kept state }
+{}
