@@ -3,3 +3,5 @@ pub mod Runs
 pub mod Steps
 pub mod Histories
 pub mod Decided
+pub mod Doors
+pub mod Standing
