@@ -5,3 +5,4 @@ pub mod Histories
 pub mod Decided
 pub mod Doors
 pub mod Standing
+pub mod Computed
