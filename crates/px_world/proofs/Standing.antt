@@ -1,23 +1,28 @@
 -- A world that runs goes on to stand for a world of the definitions.
-use Rattle.std.proofs.Common.{◌≡◌, ℕ, List, [], ◌∷◌, ◌++◌, get_or, set, map, None, Some, ap, sym, subst, ◌∙◌}
+use Rattle.std.proofs.Common.{◌≡◌, ℕ, List, [], ◌∷◌, ◌++◌, get_or, set, map, None, Some, Result, Ok, Err, ap, sym, subst, ◌∙◌}
 use Rattle.std.specs.List.{position, remove}
 use Rattle.std.proofs.lemmas.Bool.{eqb-true}
 use Rattle.std.proofs.lemmas.Option.{same_Some}
 use Rattle.std.proofs.lemmas.List.Quantifiers.{position-Some}
 use Rattle.px_types.specs.declared.ids.ConnId.{ConnId}
-use Rattle.px_frame.specs.Progress.{HasFed}
+use Rattle.px_frame.specs.declared.fault.FrameError.{FrameError}
+use Rattle.px_frame.specs.declared.fault.FrameError.TheVariants.{Fault, Failed}
+use Rattle.px_frame.specs.declared.fault.FrameFault.{FrameFault}
+use Rattle.px_frame.specs.declared.frame.Frame.{Frame}
+use Rattle.px_frame.specs.Progress.{Progress, HasFed, Answers, Leaves}
 use Rattle.px_frame.specs.Meaning.{frames_in}
 use Rattle.px_session.specs.declared.header.Header.{Header}
 use Rattle.px_session.specs.declared.event.Event.{Event}
 use Rattle.px_session.specs.declared.event.Event.TheVariants.{Connect, Bytes, Close}
 use Rattle.px_model.specs.Stream.{Stream}
 use Rattle.px_core.specs.State.{new_state}
-use Rattle.px_core.specs.Step.{stepped_by}
+use Rattle.px_core.specs.Step.{frame, broken, stepped_by}
+use Rattle.px_world.specs.declared.fault.WorldFault.TheVariants.{Live, NotLive}
 use Rattle.px_world.specs.World.{World, Link, new_mixer, new_world, link_of, received_of}
-use Rattle.px_world.specs.Admission.{refusal_of}
-use Rattle.px_world.specs.Event.{all_steps, links_after, mixers_after, world_after}
+use Rattle.px_world.specs.Admission.{if_new, if_named, refusal_of}
+use Rattle.px_world.specs.Event.{steps_of, all_steps, links_after, mixers_after, world_after}
 use Rattle.px_world.specs.Running.{Door, is_door, Running, Opens, Open, StandsFor}
-use Rattle.px_world.proofs.Feeding.{fed-frames}
+use Rattle.px_world.proofs.Feeding.{fed-frames, steps-given, steps-broken, steps-failed, IsAnswered, fed-more}
 use Rattle.px_world.proofs.Doors.{IsAt, unfound, found-at, fed-at, closed-at, distinct-after}
 
 -- before the first event
@@ -59,12 +64,20 @@ module _ (running : Running) (w : World) (s : StandsFor running w) (conn : ConnI
   pub door-absent : position (is_door conn) running.doors ≡ None → link_of w.links conn ≡ None
   door-absent none = unfound conn running.doors w.links s.doors none
 
+  -- so it may be connected, and nothing else
+  pub refused-absent : position (is_door conn) running.doors ≡ None → (if_new (link_of w.links conn) ≡ None) × (if_named (link_of w.links conn) ≡ Some NotLive)
+  refused-absent none = (ap if_new (door-absent none), ap if_named (door-absent none))
+
   module _ (i : ℕ) (d : Door) (found : position (is_door conn) running.doors ≡ Some i) where
     -- the link that has the number of the door there
     pub door-at : IsAt w.links conn (get_or running.doors i d)
     door-at =
         let p = position-Some (is_door conn) running.doors i d found in
         found-at conn d running.doors w.links i s.doors p.0 p.1 p.2
+
+    -- so it may not be connected again
+    pub refused-there : (if_new (link_of w.links conn) ≡ Some Live) × (if_named (link_of w.links conn) ≡ None)
+    refused-there = (ap if_new door-at.there, ap if_named door-at.there)
 
     pub door-conn : (get_or running.doors i d).conn ≡ conn
     door-conn =
@@ -93,3 +106,32 @@ module _ (running : Running) (w : World) (s : StandsFor running w) (conn : ConnI
     doors-close =
         let p = position-Some (is_door conn) running.doors i d found in
         closed-at conn d running.doors w.links i s.doors s.distinct p.0 p.1 p.2
+
+    -- what a feed of its decoder answers makes the steps of the core
+    module _ (piece : List ℕ) where
+      abbrev received : List ℕ
+      received = received_of (link_of w.links conn)
+
+      abbrev old : Progress
+      old = (get_or running.doors i d).progress
+
+      pub bytes-given : (frames : List Frame) → ((fed : List ℕ) (before : List Frame) → HasFed old fed before → Answers fed before piece (Ok frames))
+          → steps_of w (Bytes conn piece) ≡ map (frame conn) frames
+      bytes-given frames answers = steps-given old received piece door-fed conn frames (answers received (frames_in received) door-fed)
+
+      pub bytes-broken : (frames : List Frame) (fault : FrameFault) (at : ℕ)
+          → ((fed : List ℕ) (before : List Frame) → HasFed old fed before → Answers fed before piece (Err (Fault frames fault at)))
+          → steps_of w (Bytes conn piece) ≡ map (frame conn) frames ++ broken conn fault at ∷ []
+      bytes-broken frames fault at answers = steps-broken old received piece door-fed conn frames fault at (answers received (frames_in received) door-fed)
+
+      pub bytes-failed : (fault : FrameFault) (at : ℕ)
+          → ((fed : List ℕ) (before : List Frame) → HasFed old fed before → Answers fed before piece (Err (Failed fault at)))
+          → steps_of w (Bytes conn piece) ≡ []
+      bytes-failed fault at answers = steps-failed old received piece door-fed conn fault at (answers received (frames_in received) door-fed)
+
+      -- and where it stands then is a door of the link with those bytes
+      pub bytes-opened : (next : Door) → next.conn ≡ conn → (result : Result (List Frame) FrameError) → IsAnswered result
+          → ((fed : List ℕ) (before : List Frame) → HasFed old fed before → Leaves next.progress fed before piece result)
+          → Open (set running.doors i next) (links_after w.links (Bytes conn piece))
+      bytes-opened next same result answered leaves =
+          doors-bytes piece next same (fed-more next.progress received piece result answered (leaves received (frames_in received) door-fed))
