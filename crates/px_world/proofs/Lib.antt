@@ -3,3 +3,6 @@ pub mod Runs
 pub mod Steps
 pub mod Histories
 pub mod Decided
+pub mod Doors
+pub mod Standing
+pub mod Computed

@@ -1,7 +1,7 @@
 -- Steps of the core one after the other, and the messages that they hand out.
-use Rattle.std.proofs.Common.{◌≡◌, ◌≢◌, ℕ, zero, suc, ◌+◌, ◌<◌, ◌≤◌, List, [], ◌∷◌, ◌++◌, length, take, drop, replicate, Some, refl, ap, sym, ◌∙◌, arith, ⊎_elim, append_assoc, append-nil}
+use Rattle.std.proofs.Common.{◌≡◌, ◌≢◌, ℕ, zero, suc, ◌+◌, ◌<◌, ◌≤◌, List, [], ◌∷◌, ◌++◌, length, take, drop, get_or, map, replicate, Some, refl, ap, sym, ◌∙◌, arith, ⊎_elim, append_assoc, append-nil}
 use Rattle.std.proofs.lemmas.Bool.{cases_lt}
-use Rattle.std.proofs.lemmas.List.{get_or_past, get_or-set_same, get_or-set_other, replicate_more}
+use Rattle.std.proofs.lemmas.List.{get_or_past, get_or-set_same, get_or-set_other, replicate_more, map_push, map_more}
 use Rattle.std.proofs.lemmas.Option.{none-some, same_Some}
 use Rattle.px_types.specs.declared.ids.SinkId.{SinkId}
 use Rattle.px_model.specs.Frame.{SampleSpec}
@@ -32,6 +32,25 @@ module _ {P : Type 0} (spec_of : P → SampleSpec) where
   effects-push state steps s =
       effects-join state steps (s ∷ [])
       ∙ ap (λ l. effects_by spec_of state steps ++ l) (append-nil (effects_of spec_of (stepped_by spec_of state steps) s))
+
+  -- the steps of a list, once it has one item more
+  pub steps-map-push : {X : Type 0} (f : X → Step P) (state : State P) (xs : List X) (x : X)
+      → stepped_by spec_of state (map f (xs ++ x ∷ [])) ≡ stepped spec_of (stepped_by spec_of state (map f xs)) (f x)
+  steps-map-push f state xs x = ap (stepped_by spec_of state) (map_push f xs x) ∙ steps-push state (map f xs) (f x)
+
+  pub effects-map-push : {X : Type 0} (f : X → Step P) (state : State P) (xs : List X) (x : X)
+      → effects_by spec_of state (map f (xs ++ x ∷ [])) ≡ effects_by spec_of state (map f xs) ++ effects_of spec_of (stepped_by spec_of state (map f xs)) (f x)
+  effects-map-push f state xs x = ap (effects_by spec_of state) (map_push f xs x) ∙ effects-push state (map f xs) (f x)
+
+  -- or the first n + 1 items
+  pub steps-map-more : {X : Type 0} (f : X → Step P) (state : State P) (xs : List X) (n : ℕ) (d : X) → n < length xs
+      → stepped_by spec_of state (map f (take (n + 1) xs)) ≡ stepped spec_of (stepped_by spec_of state (map f (take n xs))) (f (get_or xs n d))
+  steps-map-more f state xs n d below = ap (stepped_by spec_of state) (map_more f xs n d below) ∙ steps-push state (map f (take n xs)) (f (get_or xs n d))
+
+  pub effects-map-more : {X : Type 0} (f : X → Step P) (state : State P) (xs : List X) (n : ℕ) (d : X) → n < length xs
+      → effects_by spec_of state (map f (take (n + 1) xs))
+      ≡ effects_by spec_of state (map f (take n xs)) ++ effects_of spec_of (stepped_by spec_of state (map f (take n xs))) (f (get_or xs n d))
+  effects-map-more f state xs n d below = ap (effects_by spec_of state) (map_more f xs n d below) ∙ effects-push state (map f (take n xs)) (f (get_or xs n d))
 
 -- ---- one message is handed out
 

@@ -10,8 +10,9 @@ ghost use Rattle.px_lane.specs.Samples.{samples};
 ghost use Rattle.px_world.specs.World.{World, new_world};
 ghost use Rattle.px_world.specs.Admission.{refusal_of};
 ghost use Rattle.px_world.specs.Event.{world_after};
-ghost use Rattle.px_world.specs.Output.{world_by, records_of, records_by, AreAdmitted};
+ghost use Rattle.px_world.specs.Output.{world_by, records_of, records_by, AreAdmitted, output_of};
 ghost use Rattle.px_world.specs.History.{history_by, played_by_run, begun, sink_at, AreDecided};
+ghost use Rattle.px_world.specs.Worked.{small_header, small_events, small_output};
 
 /// In a run of admitted events every frame that a sink plays is what its deciding turn made of it: the mix of the
 /// sink's streams as that turn left them. That turn is the last one of the sink whose horizon is at most the frame,
@@ -50,4 +51,10 @@ pub fn runs_go_on()
         → records_by w (events ++ e ∷ []) ≡ records_by w events ++ records_of (world_by w events) e }
     ensures admitted { (w : World) (events : List Event) (e : Event) → AreAdmitted w events
         → refusal_of (world_by w events) e ≡ None → AreAdmitted w (events ++ e ∷ []) }
+{}
+
+/// The definitions give what a small session writes as it was worked by hand. Source: own.
+pub fn worked_session()
+    ensures admitted { AreAdmitted (new_world small_header) small_events }
+    ensures output { output_of small_header small_events ≡ small_output }
 {}

@@ -7,4 +7,6 @@ mod fault;
 mod law;
 
 pub use fault::WorldFault;
-pub use law::{played_frames_are_decided_by_a_turn, runs_go_on, sinks_replay_their_histories};
+pub use law::{
+    played_frames_are_decided_by_a_turn, runs_go_on, sinks_replay_their_histories, worked_session,
+};
