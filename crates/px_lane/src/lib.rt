@@ -2,6 +2,7 @@
 //! `Stream`, its `FrameQueue` with `Chunk`, `Stored` and `Index`, each with the state of the definitions, and `scaled`.
 #![tactic(auto)]
 
+mod parcel;
 mod change;
 mod chunk;
 mod finding;
@@ -18,6 +19,7 @@ mod run;
 mod share;
 mod stream;
 
+pub use parcel::{Carried, handed_over, taken_over};
 pub use change::Change;
 pub use chunk::Chunk;
 pub use index::Index;
