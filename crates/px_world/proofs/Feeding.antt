@@ -14,6 +14,7 @@ use Rattle.px_frame.proofs.MeaningLemmas.{read-only}
 use Rattle.px_frame.proofs.ReadingLemmas.{reading-unique}
 use Rattle.px_core.specs.Step.{frame, broken}
 use Rattle.px_world.specs.Event.{new_frames, new_fault, fault_steps, bytes_steps}
+use Rattle.px_world.specs.Running.{IsAnswered, steps_given}
 
 -- ---- where a decoder stands
 
@@ -88,14 +89,15 @@ module _ (p : Progress) (received piece : List ℕ) (fed : HasFed p received (fr
       (behind received piece [] (append-nil (frames_in received) ∙ now.0))
       ∙ ap (λ e. new_fault conn e (ending_in (received ++ piece))) (sym (read-only received (frames_in received) (Broken fault at) read).1)
 
--- ---- where it stands then: it has given the frames of all bytes
+  -- whatever it answers
+  pub steps-answered : (conn : ConnId) (result : Result (List Frame) FrameError) → IsAnswered result → Answers received (frames_in received) piece result
+      → bytes_steps conn received piece ≡ steps_given conn result
+  steps-answered conn (Ok frames) some answers = steps-given conn frames answers
+  steps-answered conn (Err (Fault frames fault at)) some answers = steps-broken conn frames fault at answers
+  steps-answered conn (Err (Failed fault at)) some answers = steps-failed conn fault at answers
+  steps-answered conn (Err NoMemory) some answers = absurd some
 
--- a feed had the memory that it took
-abbrev pub IsAnswered : Result (List Frame) FrameError → Type 0
-IsAnswered (Ok frames) = Unit {0}
-IsAnswered (Err (Fault frames fault at)) = Unit {0}
-IsAnswered (Err (Failed fault at)) = Unit {0}
-IsAnswered (Err NoMemory) = ⊥
+-- ---- where it stands then: it has given the frames of all bytes
 
 given-all : (now : Progress) (bytes : List ℕ) (frames : List Frame) → HasFed now bytes frames → HasFed now bytes (frames_in bytes)
 given-all now bytes frames fed = subst (HasFed now bytes) (fed-frames now bytes frames fed) fed

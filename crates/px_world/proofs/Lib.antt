@@ -3,6 +3,7 @@ pub mod Runs
 pub mod Steps
 pub mod Histories
 pub mod Decided
-pub mod Doors
+pub mod Links
+pub mod Openings
 pub mod Standing
 pub mod Computed

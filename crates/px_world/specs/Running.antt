@@ -1,15 +1,16 @@
 -- A world as it runs: of each link it keeps no bytes, only where its decoder stands.
-use Rattle.std.specs.Prelude.{◌≡◌, Bool, nat_eq, List, [], ◌∷◌, None}
+use Rattle.std.specs.Prelude.{◌≡◌, Bool, nat_eq, List, [], ◌∷◌, ◌++◌, map, None, Result, Ok, Err}
 use Rattle.px_types.specs.declared.ids.ConnId.{ConnId}
-use Rattle.px_frame.specs.Progress.{Progress, HasFed}
+use Rattle.px_frame.specs.declared.fault.FrameError.{FrameError}
+use Rattle.px_frame.specs.declared.fault.FrameError.TheVariants.{Fault, Failed, NoMemory}
+use Rattle.px_frame.specs.declared.frame.Frame.{Frame}
+use Rattle.px_frame.specs.Progress.{HasFed}
 use Rattle.px_frame.specs.Meaning.{frames_in}
 use Rattle.px_model.specs.Stream.{Stream}
 use Rattle.px_core.specs.State.{State}
+use Rattle.px_core.specs.Step.{Step, frame, broken}
+use Rattle.px_world.specs.declared.doors.Door.{Door}
 use Rattle.px_world.specs.World.{World, Link, Mixer, link_of}
-
-pub record Door : Type 0 where
-  pub conn : ConnId
-  pub progress : Progress
 
 -- it is the one of a connection's number
 abbrev pub is_door : ConnId → Door → Bool
@@ -23,7 +24,7 @@ pub record Running : Type 0 where
 -- the door's decoder was fed all bytes that the link has received
 pub record Opens (door : Door) (link : Link) : Type 0 where
   pub same : door.conn ≡ link.conn
-  pub fed : HasFed door.progress link.received (frames_in link.received)
+  pub fed : HasFed door.decoder link.received (frames_in link.received)
 
 abbrev pub Open : List Door → List Link → Type 0
 Open [] [] = Unit {0}
@@ -35,6 +36,24 @@ Open (door ∷ doors) (link ∷ links) = Opens door link × Open doors links
 abbrev pub AreDistinct : List Link → Type 0
 AreDistinct [] = Unit {0}
 AreDistinct (link ∷ links) = (link_of links link.conn ≡ None) × AreDistinct links
+
+-- ---- a feed
+
+-- it had the memory that it took
+abbrev pub IsAnswered : Result (List Frame) FrameError → Type 0
+IsAnswered (Ok frames) = Unit {0}
+IsAnswered (Err (Fault frames fault at)) = Unit {0}
+IsAnswered (Err (Failed fault at)) = Unit {0}
+IsAnswered (Err NoMemory) = ⊥
+
+-- the steps of the core that its answer makes: the frames, and the fault where it is new
+abbrev pub steps_given : ConnId → Result (List Frame) FrameError → List (Step Stream)
+steps_given conn (Ok frames) = map (frame conn) frames
+steps_given conn (Err (Fault frames fault at)) = map (frame conn) frames ++ broken conn fault at ∷ []
+steps_given conn (Err (Failed fault at)) = []
+steps_given conn (Err NoMemory) = []
+
+-- ---- the world
 
 -- it is this world
 pub record StandsFor (running : Running) (w : World) : Type 0 where

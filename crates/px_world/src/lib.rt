@@ -3,6 +3,7 @@
 //! and the laws of its definitions.
 #![tactic(auto)]
 
+mod doors;
 mod fault;
 mod law;
 

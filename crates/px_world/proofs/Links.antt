@@ -1,4 +1,4 @@
--- The doors of a world that runs go with the links of the world that it stands for.
+-- The links with one number, and the doors that are open to them.
 use Rattle.std.proofs.Common.{◌≡◌, ℕ, zero, suc, ◌<◌, ◌≤◌, Bool, true, false, cond, not, List, [], ◌∷◌, ◌++◌, length, get_or, set, map, filter, Option, None, Some, refl, ap, sym, subst, ◌∙◌, arith, ⊎_elim}
 use Rattle.std.specs.Prelude.{nat_eq, nat_lt}
 use Rattle.std.specs.List.{find, position, position_or_len, remove}
@@ -12,7 +12,8 @@ use Rattle.px_world.specs.World.{World, Link, is_of, link_of}
 use Rattle.px_world.specs.declared.fault.WorldFault.TheVariants.{Live}
 use Rattle.px_world.specs.Admission.{if_new, refusal_of}
 use Rattle.px_world.specs.Event.{with_bytes, links_after}
-use Rattle.px_world.specs.Running.{Door, is_door, Opens, Open, AreDistinct}
+use Rattle.px_world.specs.declared.doors.Door.{Door}
+use Rattle.px_world.specs.Running.{is_door, Opens, Open, AreDistinct}
 
 -- ---- one number
 

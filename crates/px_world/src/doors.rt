@@ -1,0 +1,76 @@
+//! The doors of a world: each connection's number with the decoder of its client's bytes.
+
+ghost use Rattle.std.specs.Prelude.{◌≡◌, ◌≢◌, ℕ, ◌<◌, List, [], ◌∷◌, ◌++◌, IfOk, OnOk, OnErr, Some, length};
+ghost use Rattle.std.specs.List.{position, remove, slice_get};
+ghost use Rattle.px_types.specs.declared.ids.ConnId.{ConnId};
+ghost use Rattle.px_frame.specs.Progress.{Within, GivesBodies};
+ghost use Rattle.px_session.specs.declared.event.Event.TheVariants.{Connect, Bytes, Close};
+ghost use Rattle.px_world.specs.World.{Link, link_of, received_of};
+ghost use Rattle.px_world.specs.Event.{bytes_steps, links_after};
+ghost use Rattle.px_world.specs.Running.{is_door, Open, AreDistinct, IsAnswered, steps_given};
+
+use px_block::{BlockSource, Mem};
+use px_frame::{Decoder, FrameError, Frames};
+use px_types::ConnId;
+use std::alloc::Global;
+
+/// A connection's number with the decoder of its client's bytes.
+#[derive(Drop)]
+pub(crate) struct Door {
+    pub conn: ConnId,
+    pub decoder: Decoder,
+}
+
+/// The place of the door with a number. Takes no memory.
+pub(crate) fn place_of(doors: &[Door], conn: ConnId) -> Option<usize>
+    ensures { result ≡ position (is_door conn) doors.now }
+{
+    doors.iter().position(|door| door.conn.0 == conn.0)
+}
+
+/// The next bytes of the client behind the door at a place, in whatever pieces they come: the frames that are whole now, or
+/// why there are no more (`Decoder::feed`). For whatever links the doors are open to, what it answers makes the steps of the
+/// core, and the doors are open to the links with these bytes, unless there was no memory.
+pub(crate) fn feed<B: BlockSource>(
+    doors: &mut [Door],
+    place: usize,
+    bytes: &[u8],
+    blocks: &mut B,
+) -> Result<Frames, FrameError>
+    requires { place < length doors.old }
+    ensures steps { (conn : ConnId) (links : List Link)
+        → position (is_door conn) doors.old ≡ Some place → Open doors.old links
+        → IsAnswered result
+        → bytes_steps conn (received_of (link_of links conn)) bytes.now ≡ steps_given conn result }
+    ensures opened { (conn : ConnId) (links : List Link)
+        → position (is_door conn) doors.old ≡ Some place → Open doors.old links → AreDistinct links
+        → IsAnswered result
+        → Open doors.new (links_after links (Bytes conn bytes.now)) }
+    ensures bodies { GivesBodies result }
+    ensures others { (i : ℕ) → i ≢ place → slice_get doors.new i ≡ slice_get doors.old i }
+{
+    doors[place].decoder.feed(bytes, blocks)
+}
+
+/// A door for a client that connects, behind all others. Where there is no memory nothing changes.
+pub(crate) fn add(doors: &mut Vec<Door>, alloc: Global, conn: ConnId) -> Mem<()>
+    ensures after { OnOk result (doors.new.items ≡ doors.old.items ++ record { conn = conn; decoder = Within 0 [] } ∷ []) }
+    ensures opened { IfOk result (λ _. (links : List Link) → Open doors.old.items links
+        → Open doors.new.items (links_after links (Connect conn))) }
+    ensures err { OnErr result (doors.new.items ≡ doors.old.items) }
+{
+    let decoder = Decoder::new(alloc);
+    doors.push(Door { conn, decoder })?;
+    Ok(())
+}
+
+/// The door at a place goes. Takes no memory.
+pub(crate) fn drop_at(doors: &mut Vec<Door>, place: usize)
+    requires { place < length doors.old.items }
+    ensures after { doors.new.items ≡ remove doors.old.items place }
+    ensures opened { (conn : ConnId) (links : List Link)
+        → position (is_door conn) doors.old.items ≡ Some place → Open doors.old.items links → AreDistinct links
+        → Open doors.new.items (links_after links (Close conn)) }
+{
+    doors.remove(place);
+}
