@@ -1,0 +1,14 @@
+//! What an event did.
+
+use px_core::Effects;
+use px_device::Played;
+
+/// What an event did.
+#[derive(Debug, Drop)]
+pub struct Outcome {
+    /// What the core's steps did to the outside, in order.
+    pub effects: Effects,
+    /// The bytes that a sink's device has consumed, and how many frames they are: none but of a turn.
+    pub played: Played,
+    pub frames: u32,
+}
