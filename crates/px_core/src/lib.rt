@@ -9,6 +9,8 @@ mod change;
 mod client;
 mod commit;
 mod connecting;
+mod create;
+mod created;
 mod data;
 mod delete;
 mod effect;
@@ -20,7 +22,6 @@ mod out;
 mod queues;
 mod refusals;
 mod reply;
-mod streams;
 mod tables;
 mod verbs;
 
