@@ -20,9 +20,9 @@ use px_msg::Msg;
 use px_sample::Spec;
 use px_types::ConnId;
 
-// The bytes of a frame.
+/// The bytes of a frame.
 #[tactic(auto, using(px_msg::proofs::Sizes::size_few))]
-fn frame_size(spec: Spec) -> usize
+pub(crate) fn frame_size(spec: Spec) -> usize
     ensures value { result ≡ frame_size_of spec }
     ensures few { result ≤ 1020 }
 {

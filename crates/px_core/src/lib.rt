@@ -23,6 +23,7 @@ mod queues;
 mod refusals;
 mod reply;
 mod tables;
+mod told;
 mod verbs;
 
 pub use answer::Answer;

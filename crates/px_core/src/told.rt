@@ -1,17 +1,19 @@
 //! What a sink tells of a stream (PulseAudio: `sink_input_process_msg` and the callbacks of `pulsecore/protocol-native.c`;
 //! which notices fit is own).
 
-ghost use Rattle.std.specs.Prelude.{◌≡◌, ◌++◌, ◌<◌, ◌≤◌, [], ◌∷◌, length, slice_get, IfOk, IfSome};
+ghost use Rattle.std.specs.Prelude.{◌≡◌, ◌++◌, ◌<◌, ◌≤◌, [], ◌∷◌, length, IfOk, IfSome};
 ghost use Rattle.std.specs.Option.{option_map};
 ghost use Rattle.px_tag.specs.Item.{number};
 ghost use Rattle.px_msg.specs.View.{sample_spec};
 ghost use Rattle.px_reply.specs.Front.{message};
 ghost use Rattle.px_session.specs.HeaderRules.{AreSinks};
+ghost use Rattle.px_core.specs.Create.{IsOfHeader};
 ghost use Rattle.px_core.specs.Told.{told_to, told_of, bytes_asked, request_message, overflow_message, underflow_message, started_message, gives_up, given_up_on, given_up, notice_answer};
 ghost use Rattle.px_core.specs.Tables.{state_of};
 
 use crate::answer::{Answer, ignored};
 use crate::change::Change;
+use crate::create::sink_at;
 use crate::data::frame_size;
 use crate::effect::sent;
 use crate::effects::Effects;
@@ -191,7 +193,7 @@ fn given_up_on<P: Drop>(
     sink: Option<&SinkSpec>,
     x: &Input,
 ) -> Mem<Answer<P>>
-    requires { IfSome sink (λ s. s.now.spec.channels ≤ 32) }
+    requires { IfSome sink (λ s. IsOfHeader s.now) }
     ensures { IfOk result (λ answer. answer ≡ given_up_on (state_of tables.now) (option_map (λ s. s.now) sink.entry) x.now) }
 {
     match sink {
@@ -207,15 +209,6 @@ fn given_up_on<P: Drop>(
             })
         }
     }
-}
-
-// The sink with an index.
-fn sink_at(sinks: &[SinkSpec], index: SinkId) -> Option<&SinkSpec>
-    requires { AreSinks [] sinks.now }
-    ensures value { option_map (λ sink. sink.now) result ≡ slice_get sinks.now index.0 }
-    ensures channels { IfSome result (λ sink. sink.now.spec.channels ≤ 32) }
-{
-    sinks.get(index.0 as usize)
 }
 
 // A stream with this spec was given up by a sink, for an input that was on it.
