@@ -7,6 +7,7 @@ mod answer;
 mod asked;
 mod change;
 mod client;
+mod command;
 mod commit;
 mod connecting;
 mod create;
