@@ -18,6 +18,7 @@ mod effect;
 mod effects;
 mod factors;
 mod found;
+mod frames;
 mod input;
 mod machine;
 mod out;

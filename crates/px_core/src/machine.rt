@@ -13,11 +13,11 @@ use crate::connecting::{break_off, closed_for, connect, end, sweep};
 use crate::effect::{Effect, Reason};
 use crate::effects::Effects;
 use crate::out::{hand_out, put_back};
-use crate::queues;
 use crate::start::new_tables;
 use crate::tables::Tables;
 use crate::told::notice_answer;
-use px_frame::{Body, Frame, FrameFault};
+use crate::{frames, queues};
+use px_frame::{Frame, FrameFault};
 use px_msg::{Msg, Notice, Parcel};
 use px_session::Header;
 use px_types::{ConnId, Mem, SinkId};
@@ -66,6 +66,18 @@ impl<P: Parcel + Drop> Core<P> {
         ensures err { OnErr result (self.new ≡ self.old) }
     {
         connect(self.alloc, &mut self.tables, conn)
+    }
+
+    /// A frame of a connection; one that isn't there or has ended has none. Where there is no memory for it, it is handed back,
+    /// and nothing has changed.
+    pub fn frame(&mut self, conn: ConnId, frame: Frame) -> Result<Effects, Frame>
+        requires { IsBody frame.body }
+        ensures effects { IfOk result (λ effects. effects ≡ effects_of P.spec_of self.old (Step.frame conn frame)) }
+        ensures after { OnOk result (self.new ≡ stepped P.spec_of self.old (Step.frame conn frame)) }
+        ensures back { IfErr result (λ back. back ≡ frame) }
+        ensures err { OnErr result (self.new ≡ self.old) }
+    {
+        frames::take(self.alloc, &mut self.tables, conn, frame)
     }
 
     /// A fault in a connection's bytes, at an offset: it ends. Where there is no memory for the effect nothing has changed.
