@@ -13,3 +13,4 @@ pub mod AnswerLaws
 pub mod SweepLaws
 pub mod CreateLaws
 pub mod StepLaws
+pub mod Undone
