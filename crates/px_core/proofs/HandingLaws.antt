@@ -215,8 +215,7 @@ none_out : {P : Type 0} (spec_of : P → SampleSpec) (state : State P) (sink : S
 none_out spec_of state sink h e zero = (refl, refl)
 none_out {P} spec_of state sink h e (suc n) =
     let same : handed_out sink state ≡ state = ap (λ ms. past (first_of ms) sink state) e in
-    let more = none_out spec_of state sink h e n in
-    (
+    let more = none_out spec_of state sink h e n in (
       ap (handed_out_by n sink) same ∙ more.0,
       (λ i. option_to_list (first_of (e i)) ++ messages_out n sink (same i)) ∙ more.1,
     )

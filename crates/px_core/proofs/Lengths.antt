@@ -3,7 +3,7 @@ use Rattle.std.proofs.Common.{◌≡◌, ℕ, ◌+◌, ◌<◌, ◌≤◌, Bool,
 use Rattle.px_tag.specs.declared.raw.RawSpec.{RawSpec}
 use Rattle.px_tag.specs.Item.{number, text, flag, usec, spec, channel_map}
 use Rattle.px_reply.specs.declared.played.Created.{Created}
-use Rattle.px_reply.specs.Front.{reply_to, refusal}
+use Rattle.px_reply.specs.Front.{reply_to, refusal, message}
 use Rattle.px_reply.specs.Message.{created_reply}
 
 pub number_length : (n : ℕ) → length (number n) ≡ 5
@@ -66,3 +66,21 @@ created_some tag c = omega (arith, created_length tag c)
 
 pub created_few : (tag : ℕ) (c : Created) → length c.map ≤ 32 → length c.name ≤ 64 → length (created_reply tag c) ≤ 16777216
 created_few tag c map name = omega (arith, created_length tag c)
+
+pub number_message_length : (command a : ℕ) → length (message command ++ number a) ≡ 15
+number_message_length command a = simp (length-append, number_length)
+
+pub number_message_some : (command a : ℕ) → 0 < length (message command ++ number a)
+number_message_some command a = omega (arith, number_message_length command a)
+
+pub number_message_few : (command a : ℕ) → length (message command ++ number a) ≤ 16777216
+number_message_few command a = omega (arith, number_message_length command a)
+
+pub numbers_message_length : (command a b : ℕ) → length (message command ++ number a ++ number b) ≡ 20
+numbers_message_length command a b = simp (length-append, number_length)
+
+pub numbers_message_some : (command a b : ℕ) → 0 < length (message command ++ number a ++ number b)
+numbers_message_some command a b = omega (arith, numbers_message_length command a b)
+
+pub numbers_message_few : (command a b : ℕ) → length (message command ++ number a ++ number b) ≤ 16777216
+numbers_message_few command a b = omega (arith, numbers_message_length command a b)

@@ -16,3 +16,4 @@ pub mod StepLaws
 pub mod BackLaws
 pub mod EndLaws
 pub mod RefusalLaws
+pub mod Undone

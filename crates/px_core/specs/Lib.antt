@@ -11,6 +11,7 @@ pub mod Command
 pub mod Connecting
 pub mod Told
 pub mod Out
+pub mod Lending
 pub mod Step
 pub mod Orderly
 pub mod Keeps

@@ -126,9 +126,9 @@ fn create_on<P: Drop>(
     }
 }
 
-// The sink with an index.
+/// The sink with an index. Takes no memory.
 #[tactic(auto, using(crate::proofs::Sinks::is_of_header))]
-fn sink_at(sinks: &[SinkSpec], index: SinkId) -> Option<&SinkSpec>
+pub(crate) fn sink_at(sinks: &[SinkSpec], index: SinkId) -> Option<&SinkSpec>
     requires { AreSinks [] sinks.now }
     ensures value { option_map (λ sink. sink.now) result ≡ slice_get sinks.now index.0 }
     ensures header { IfSome result (λ sink. IsOfHeader sink.now) }

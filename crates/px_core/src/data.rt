@@ -20,9 +20,9 @@ use px_msg::Msg;
 use px_sample::Spec;
 use px_types::ConnId;
 
-// The bytes of a frame.
+/// The bytes of a frame.
 #[tactic(auto, using(px_msg::proofs::Sizes::size_few))]
-fn frame_size(spec: Spec) -> usize
+pub(crate) fn frame_size(spec: Spec) -> usize
     ensures value { result ≡ frame_size_of spec }
     ensures few { result ≤ 1020 }
 {
@@ -114,6 +114,7 @@ fn write_to<P: Drop>(
 ) -> Result<(), Blocks>
     requires { length bytes ≤ 16777216 }
     ensures after { OnOk result (state_of tables.new ≡ answered (state_of tables.old) (data_for (Some input) offset seek bytes)) }
+    ensures effects { OnOk result ((data_for {P = P} (Some input) offset seek bytes).effects ≡ []) }
     ensures back { IfErr result (λ back. back ≡ bytes) }
     ensures err { OnErr result (state_of tables.new ≡ state_of tables.old) }
     ensures sinks { tables.new.sinks ≡ tables.old.sinks }
@@ -141,6 +142,7 @@ pub(crate) fn write<P: Drop>(
 ) -> Result<(), Blocks>
     requires { length bytes ≤ 16777216 }
     ensures after { OnOk result (state_of tables.new ≡ answered (state_of tables.old) (data_of tables.old.inputs.items conn stream offset seek bytes)) }
+    ensures effects { OnOk result ((data_of {P = P} tables.old.inputs.items conn stream offset seek bytes).effects ≡ []) }
     ensures back { IfErr result (λ back. back ≡ bytes) }
     ensures err { OnErr result (state_of tables.new ≡ state_of tables.old) }
     ensures sinks { tables.new.sinks ≡ tables.old.sinks }

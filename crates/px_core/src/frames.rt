@@ -1,0 +1,106 @@
+//! What a frame of a connection is answered.
+
+ghost use Rattle.std.specs.Prelude.{◌≡◌, [], IfOk, IfErr, OnOk, OnErr};
+ghost use Rattle.px_frame.specs.Frame.{IsBody};
+ghost use Rattle.px_session.specs.HeaderRules.{AreSinks};
+ghost use Rattle.px_core.specs.Command.{packet_answer};
+ghost use Rattle.px_core.specs.Step.{answered, body_answer, frame_answer};
+ghost use Rattle.px_core.specs.Tables.{state_of, HasLent};
+
+use crate::command::packet_answer;
+use crate::commit::finish;
+use crate::data::write;
+use crate::effects::Effects;
+use crate::found::going_on;
+use crate::input::Connection;
+use crate::tables::Tables;
+use px_frame::{Body, Frame};
+use px_types::{ConnId, Mem};
+use std::alloc::Global;
+
+// A control packet of a connection that goes on.
+fn control<P: Drop>(
+    alloc: Global,
+    tables: &mut Tables<P>,
+    c: &Connection,
+    at: u64,
+    packet: &[u8],
+) -> Mem<Effects>
+    requires { AreSinks [] tables.old.sinks }
+    ensures effects { IfOk result (λ effects. effects ≡ (packet_answer (state_of tables.old) c.now at packet.now).effects) }
+    ensures after { OnOk result (state_of tables.new ≡ answered (state_of tables.old) (packet_answer (state_of tables.old) c.now at packet.now)) }
+    ensures err { OnErr result (state_of tables.new ≡ state_of tables.old) }
+    ensures sinks { tables.new.sinks ≡ tables.old.sinks }
+    ensures lent { HasLent tables.old → HasLent tables.new }
+{
+    let answer = packet_answer(alloc, tables, c, at, packet)?;
+    finish(tables, answer)
+}
+
+// The body of a frame of a connection that goes on. Where there is no memory for it, it is handed back.
+fn body<P: Drop>(
+    alloc: Global,
+    tables: &mut Tables<P>,
+    c: &Connection,
+    at: u64,
+    body: Body,
+) -> Result<Effects, Body>
+    requires sinks { AreSinks [] tables.old.sinks }
+    requires body { IsBody body }
+    ensures effects { IfOk result (λ effects. effects ≡ (body_answer (state_of tables.old) c.now at body).effects) }
+    ensures after { OnOk result (state_of tables.new ≡ answered (state_of tables.old) (body_answer (state_of tables.old) c.now at body)) }
+    ensures back { IfErr result (λ back. back ≡ body) }
+    ensures err { OnErr result (state_of tables.new ≡ state_of tables.old) }
+    ensures sinks { tables.new.sinks ≡ tables.old.sinks }
+    ensures lent { HasLent tables.old → HasLent tables.new }
+{
+    match body {
+        Body::Control(packet) => match control(alloc, tables, c, at, packet.bytes()) {
+            Ok(effects) => Ok(effects),
+            Err(_) => Err(Body::Control(packet)),
+        },
+        Body::Write {
+            stream,
+            offset,
+            seek,
+            bytes,
+        } => match write(tables, c.conn, stream, offset, seek, bytes) {
+            Ok(()) => Ok(Effects::new(alloc)),
+            Err(bytes) => Err(Body::Write {
+                stream,
+                offset,
+                seek,
+                bytes,
+            }),
+        },
+    }
+}
+
+/// A frame of a connection. One of a connection that isn't there, or has ended, is ignored. Where there is no memory for it, it
+/// is handed back, and nothing has changed.
+pub(crate) fn take<P: Drop>(
+    alloc: Global,
+    tables: &mut Tables<P>,
+    conn: ConnId,
+    frame: Frame,
+) -> Result<Effects, Frame>
+    requires sinks { AreSinks [] tables.old.sinks }
+    requires body { IsBody frame.body }
+    ensures effects { IfOk result (λ effects. effects ≡ (frame_answer (state_of tables.old) conn frame).effects) }
+    ensures after { OnOk result (state_of tables.new ≡ answered (state_of tables.old) (frame_answer (state_of tables.old) conn frame)) }
+    ensures back { IfErr result (λ back. back ≡ frame) }
+    ensures err { OnErr result (state_of tables.new ≡ state_of tables.old) }
+    ensures sinks { tables.new.sinks ≡ tables.old.sinks }
+    ensures lent { HasLent tables.old → HasLent tables.new }
+{
+    match going_on(&tables.connections, conn) {
+        None => {
+            tables.lent = None;
+            Ok(Effects::new(alloc))
+        }
+        Some(c) => match body(alloc, tables, &c, frame.at, frame.body) {
+            Ok(effects) => Ok(effects),
+            Err(body) => Err(Frame { at: frame.at, body }),
+        },
+    }
+}

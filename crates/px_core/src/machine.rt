@@ -1,0 +1,159 @@
+//! The core as a machine.
+
+ghost use Rattle.std.specs.Prelude.{◌≡◌, Some, length, IfOk, IfErr, OnOk, OnErr};
+ghost use Rattle.std.specs.Option.{option_to_list};
+ghost use Rattle.px_frame.specs.Frame.{IsBody};
+ghost use Rattle.px_session.specs.HeaderRules.{IsHeader};
+ghost use Rattle.px_core.specs.State.{new_state};
+ghost use Rattle.px_core.specs.Step.{Step, stepped, effects_of};
+ghost use Rattle.px_core.specs.Out.{waiting_for, next_for, handed_out, put_back};
+
+use crate::commit::finish;
+use crate::connecting::{break_off, closed_for, connect, end, sweep};
+use crate::effect::{Effect, Reason};
+use crate::effects::Effects;
+use crate::out::{hand_out, put_back};
+use crate::start::new_tables;
+use crate::tables::Tables;
+use crate::told::notice_answer;
+use crate::{frames, queues};
+use px_frame::{Frame, FrameFault};
+use px_msg::{Msg, Notice, Parcel};
+use px_session::Header;
+use px_types::{ConnId, Mem, SinkId};
+use std::alloc::Global;
+use std::marker::Model;
+
+/// The control side of the server: connections, their streams, and the messages that wait for each sink (`pa_core`, and
+/// `pulsecore/protocol-native.c`). Each call is one step of the definitions, with its effects. `P` is the type of a parcel: a
+/// stream on its way from one sink to another.
+#[derive(Drop)]
+pub struct Core<P> {
+    alloc: Global,
+    tables: Tables<P>,
+}
+
+impl<P> Model for Core<P> {
+    ghost use Rattle.std.specs.Prelude.{[]};
+    ghost use Rattle.px_session.specs.HeaderRules.{AreSinks};
+    ghost use Rattle.px_core.specs.State.{State};
+    ghost use Rattle.px_core.specs.Tables.{state_of, HasLent};
+
+    ghost Value = { State P };
+
+    ghost view = { λ c. state_of c.tables };
+
+    ghost invariant = { λ c. AreSinks [] c.tables.sinks × HasLent c.tables };
+}
+
+impl<P: Parcel + Drop> Core<P> {
+    /// A core before its first step.
+    pub fn new(alloc: Global, header: &Header) -> Mem<Core<P>>
+        requires { IsHeader header.now }
+        ensures { IfOk result (λ core. core ≡ new_state header.now) }
+    {
+        Ok(Core {
+            alloc,
+            tables: new_tables(alloc, header)?,
+        })
+    }
+
+    /// A client connects. One that is there already changes nothing; where 64 are there the server ends it. Where there is no
+    /// memory for it nothing has changed.
+    pub fn admit(&mut self, conn: ConnId) -> Mem<Effects>
+        ensures effects { IfOk result (λ effects. effects ≡ effects_of P.spec_of self.old (Step.connect conn)) }
+        ensures after { OnOk result (self.new ≡ stepped P.spec_of self.old (Step.connect conn)) }
+        ensures err { OnErr result (self.new ≡ self.old) }
+    {
+        connect(self.alloc, &mut self.tables, conn)
+    }
+
+    /// A frame of a connection; one that isn't there or has ended has none. Where there is no memory for it, it is handed back,
+    /// and nothing has changed.
+    pub fn frame(&mut self, conn: ConnId, frame: Frame) -> Result<Effects, Frame>
+        requires { IsBody frame.body }
+        ensures effects { IfOk result (λ effects. effects ≡ effects_of P.spec_of self.old (Step.frame conn frame)) }
+        ensures after { OnOk result (self.new ≡ stepped P.spec_of self.old (Step.frame conn frame)) }
+        ensures back { IfErr result (λ back. back ≡ frame) }
+        ensures err { OnErr result (self.new ≡ self.old) }
+    {
+        frames::take(self.alloc, &mut self.tables, conn, frame)
+    }
+
+    /// A fault in a connection's bytes, at an offset: it ends. Where there is no memory for the effect nothing has changed.
+    pub fn broken(&mut self, conn: ConnId, fault: FrameFault, at: u64) -> Mem<Effects>
+        ensures effects { IfOk result (λ effects. effects ≡ effects_of P.spec_of self.old (Step.broken conn fault at)) }
+        ensures after { OnOk result (self.new ≡ stepped P.spec_of self.old (Step.broken conn fault at)) }
+        ensures err { OnErr result (self.new ≡ self.old) }
+    {
+        break_off(self.alloc, &mut self.tables, conn, fault, at)
+    }
+
+    /// A client has closed its connection: it ends, with no effect. Takes no memory.
+    pub fn close(&mut self, conn: ConnId)
+        ensures { self.new ≡ stepped P.spec_of self.old (Step.close conn) }
+    {
+        end(&mut self.tables, conn);
+    }
+
+    /// The server ends a connection for want of memory. Takes no memory.
+    pub fn cut(&mut self, conn: ConnId) -> Option<Effect>
+        ensures effect { option_to_list result ≡ effects_of P.spec_of self.old (Step.cut conn) }
+        ensures after { self.new ≡ stepped P.spec_of self.old (Step.cut conn) }
+    {
+        match end(&mut self.tables, conn) {
+            None => None,
+            Some(conn) => Some(closed_for(conn, Reason::Cut)),
+        }
+    }
+
+    /// The connections that have ended are swept away: the streams of each end, and its client goes. Where there is no memory
+    /// for it nothing has changed.
+    pub fn sweep(&mut self) -> Mem<Effects>
+        ensures effects { IfOk result (λ effects. effects ≡ effects_of P.spec_of self.old Step.sweep) }
+        ensures after { OnOk result (self.new ≡ stepped P.spec_of self.old Step.sweep) }
+        ensures err { OnErr result (self.new ≡ self.old) }
+    {
+        let answer = sweep(self.alloc, &self.tables.connections, &self.tables.inputs)?;
+        finish(&mut self.tables, answer)
+    }
+
+    /// A sink's notice. Where there is no memory for it, it is handed back, and nothing has changed.
+    pub fn notice(&mut self, sink: SinkId, notice: Notice<P>) -> Result<Effects, Notice<P>>
+        ensures effects { IfOk result (λ effects. effects ≡ effects_of P.spec_of self.old (Step.notice sink notice)) }
+        ensures after { OnOk result (self.new ≡ stepped P.spec_of self.old (Step.notice sink notice)) }
+        ensures back { IfErr result (λ back. back ≡ notice) }
+        ensures err { OnErr result (self.new ≡ self.old) }
+    {
+        let Ok(answer) = notice_answer(self.alloc, &self.tables, sink, &notice) else {
+            return Err(notice);
+        };
+        match finish(&mut self.tables, answer) {
+            Ok(effects) => Ok(effects),
+            Err(_) => Err(notice),
+        }
+    }
+
+    /// How many messages wait for a sink; 0 for one that isn't there. Takes no memory.
+    pub fn outgoing(&self, sink: SinkId) -> usize
+        ensures { result ≡ length (waiting_for self.now sink) }
+    {
+        queues::count(&self.tables.posted, sink)
+    }
+
+    /// The first message that waits for a sink, handed out. Takes no memory.
+    pub fn sent(&mut self, sink: SinkId) -> Option<Msg<P>>
+        ensures next { result ≡ next_for self.old sink }
+        ensures after { self.new ≡ handed_out sink self.old }
+    {
+        hand_out(&mut self.tables, sink)
+    }
+
+    /// The message that was handed out last waits again, before the others. Takes no memory.
+    pub fn unsent(&mut self, sink: SinkId, msg: Msg<P>)
+        requires { self.old.lent ≡ Some sink }
+        ensures { self.new ≡ put_back sink msg self.old }
+    {
+        put_back(&mut self.tables, sink, msg);
+    }
+}
