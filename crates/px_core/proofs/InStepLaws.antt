@@ -1,5 +1,5 @@
 -- A sink, the inputs and the messages that wait for it stay in step.
-use Rattle.std.proofs.Common.{◌≡◌, ℕ, ◌≤◌, List, [], ◌∷◌, ◌++◌, map, length, refl, ap, sym, subst, ◌∙◌, arith}
+use Rattle.std.proofs.Common.{◌≡◌, ◌≤◌, List, [], ◌∷◌, ◌++◌, map, length, refl, ap, sym, subst, ◌∙◌}
 use Rattle.std.specs.Prelude.{filter, flat_map}
 use Rattle.std.specs.FinMap as finite
 use Rattle.std.proofs.lemmas.List.{map-append, length-map, append-nil}

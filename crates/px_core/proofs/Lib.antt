@@ -12,3 +12,4 @@ pub mod StepLaws
 pub mod BackLaws
 pub mod EndLaws
 pub mod RefusalLaws
+pub mod HearingLaws

@@ -25,4 +25,7 @@ pub use change::Change;
 pub use effect::{Effect, Reason};
 pub use effects::Effects;
 pub use input::{Connection, Input, Way};
-pub use laws::{connections_end_once, refusals_change_nothing, sinks_have_what_they_were_told, states_are_kept};
+pub use laws::{
+    connections_end_once, refusals_change_nothing, sinks_have_what_they_were_told,
+    sinks_hear_what_is_orderly, states_are_kept,
+};
