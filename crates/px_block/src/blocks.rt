@@ -1,6 +1,6 @@
 // A run of bytes that lies in blocks.
 
-ghost use Rattle.std.specs.Prelude.{◌≡◌, ℕ, ◌+◌, ◌*◌, ◌-◌, ◌/◌, ◌%◌, ◌<◌, ◌++◌, [], length, take, drop, min, vec_len, vec_capacity, IfOk, OnOk, OnErr, MatchOption};
+ghost use Rattle.std.specs.Prelude.{◌≡◌, ℕ, ◌+◌, ◌*◌, ◌-◌, ◌/◌, ◌%◌, ◌^◌, ◌<◌, ◌++◌, [], length, take, drop, min, vec_len, vec_capacity, IfOk, OnOk, OnErr, MatchOption};
 ghost use Rattle.std.specs.List.{concat};
 ghost use Rattle.px_block.specs.Packed.{IsPacked, AreFull};
 
@@ -62,6 +62,14 @@ impl Blocks {
         self.blocks.len()
     }
 
+    /// How many bytes there are. Takes no memory.
+    pub fn len(&self) -> usize
+        requires { length self.now < 2 ^ 64 }
+        ensures { result ≡ length self.now }
+    {
+        len_of(&self.blocks)
+    }
+
     /// The blocks, in order. Takes no memory.
     pub fn as_slice(&self) -> &[Block]
         ensures bytes { concat result.now ≡ self.now }
@@ -77,6 +85,18 @@ impl Blocks {
     {
         self.blocks
     }
+}
+
+// How many bytes these blocks have.
+fn len_of(blocks: &[Block]) -> usize
+    requires { length (concat blocks.now) < 2 ^ 64 }
+    ensures { result ≡ length (concat blocks.now) }
+{
+    let mut len = 0;
+    for block in blocks {
+        len += block.bytes().len();
+    }
+    len
 }
 
 // Takes the last block out where it has room, else a new one from the source, so that only full ones are left

@@ -1,5 +1,9 @@
 pub mod First
 pub mod Lengths
+pub mod Row
+pub mod Sinks
+pub mod Straight
+pub mod Waiting
 pub mod ListLaws
 pub mod EntryLaws
 pub mod InStepLaws

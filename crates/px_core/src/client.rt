@@ -18,7 +18,7 @@ use px_types::{ErrorCode, Mem, NoMemory};
 use std::alloc::Global;
 
 /// The version that the server speaks.
-const SERVER_VERSION: u16 = 13;
+pub(crate) const SERVER_VERSION: u16 = 13;
 
 // The packet of the reply to AUTH.
 #[tactic(auto, using(crate::proofs::Lengths::number_reply_some, crate::proofs::Lengths::number_reply_few))]

@@ -1,9 +1,14 @@
 -- A device: it plays the frames that were put ahead, and they may be put anew as long as they aren't too near (PulseAudio: the
 -- device's buffer of `pa_sink` in pulsecore/sink.h). Own: one record of all its numbers, with its bytes where it tells them.
-use Rattle.std.specs.Prelude.{◌≡◌, ℕ, ◌+◌, ◌-◌, ◌*◌, ◌/◌, ◌^◌, ◌≤◌, min, Bool, true, IsFalse, List, ◌++◌, length, take, drop, Option, None, Some}
+use Rattle.std.specs.Prelude.{◌≡◌, ℕ, ◌+◌, ◌-◌, ◌*◌, ◌/◌, ◌^◌, ◌≤◌, min, Bool, true, IsFalse, List, ◌++◌, length, take, drop, Option, None, Some, ⊤}
 use Rattle.px_device.specs.declared.device.DeviceShape.{DeviceShape}
 use Rattle.px_ends.specs.Faults.{Rose}
 use Rattle.px_ends.specs.Told.{after_adding}
+
+-- what a sync does: it consumes so many frames, or all that wait if those are fewer, or it fails
+pub data Next : Type 0 where
+  consume : ℕ → Next
+  fail : Next
 
 pub record DeviceState : Type 0 where
   -- the bytes of a frame
@@ -20,6 +25,8 @@ pub record DeviceState : Type 0 where
   -- how many syncs failed, and whether one did: then all later ones do
   pub faults : ℕ
   pub failed : Bool
+  -- what the next sync does, where that is told
+  pub next : Option Next
 
 -- the numbers that a shape may have: bytes of a frame, frames a second, guard and depth
 pub record IsShape (shape : DeviceShape) : Type 0 where
@@ -51,12 +58,25 @@ played_on n d = record d {
   played = with_front (n * d.frame) d.buffer d.played;
 }
 
--- a sync that answers this count of frames consumed
+-- where it is told what a sync does, that is to consume these n of the frames that wait
+abbrev pub Consumes : Option Next → ℕ → ℕ → Type 0
+Consumes None waiting n = ⊤
+Consumes (Some (consume k)) waiting n = n ≡ min k waiting
+Consumes (Some fail) waiting n = ⊥
+
+-- where it is told what a sync does, that is to fail
+abbrev pub MayFail : Option Next → Type 0
+MayFail None = ⊤
+MayFail (Some (consume k)) = ⊥
+MayFail (Some fail) = ⊤
+
+-- a sync that answers this count of frames consumed; what the next one does is open
 pub record Plays (consumed : ℕ) (before after : DeviceState) : Type 0 where
   pub going : IsFalse before.failed
   pub forward : before.consumed ≤ consumed
   pub within : consumed ≤ before.filled
-  pub state : after ≡ played_on (consumed - before.consumed) before
+  pub told : Consumes before.next (before.filled - before.consumed) (consumed - before.consumed)
+  pub state : after ≡ record (played_on (consumed - before.consumed) before) { next = after.next }
 
 -- after a sync that failed when it had played n more bytes, with so many faults
 abbrev pub failed_at : ℕ → ℕ → DeviceState → DeviceState
@@ -66,7 +86,8 @@ pub record Fails (before after : DeviceState) : Type 0 where
   pub bytes : ℕ
   pub faults : ℕ
   pub counted : Rose before.faults faults
-  pub state : after ≡ failed_at bytes faults before
+  pub told : MayFail before.next
+  pub state : after ≡ record (failed_at bytes faults before) { next = after.next }
 
 -- ---- a put
 

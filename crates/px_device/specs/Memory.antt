@@ -1,8 +1,8 @@
 -- A device in memory, which tells all of its bytes and consumes what it was set to.
-use Rattle.std.specs.Prelude.{ℕ, ◌+◌, ◌-◌, ◌*◌, ◌/◌, min, Bool, true, false, List, [], ◌++◌, length, take, drop, Option, None, Some}
+use Rattle.std.specs.Prelude.{ℕ, ◌+◌, ◌-◌, ◌*◌, ◌/◌, min, Bool, true, false, ◌||◌, List, [], ◌++◌, length, take, drop, Option, None, Some}
 use Rattle.px_ends.specs.Faults.{next_count}
 use Rattle.px_device.specs.declared.device.DeviceShape.{DeviceShape}
-use Rattle.px_device.specs.Device.{DeviceState}
+use Rattle.px_device.specs.Device.{DeviceState, Next, consume, fail}
 
 pub record MemoryDevice : Type 0 where
   -- the bytes of a frame, and guard, depth, consumed and filled in frames
@@ -24,6 +24,16 @@ pub record MemoryDevice : Type 0 where
   pub each : ℕ
   pub left : ℕ
 
+-- the frames that the next sync is to consume, whatever waits
+abbrev pub set_of : Option ℕ → ℕ → ℕ → ℕ
+set_of None each left = min each left
+set_of (Some armed) each left = armed
+
+-- what the next sync does
+abbrev pub next_of : Bool → ℕ → Next
+next_of true set = fail
+next_of false set = consume set
+
 abbrev pub state_of : MemoryDevice → DeviceState
 state_of d = record {
   frame = d.frame;
@@ -35,6 +45,7 @@ state_of d = record {
   played = Some d.played;
   faults = d.faults;
   failed = d.failed;
+  next = Some (next_of (d.stopping || d.failed) (set_of d.armed d.each d.left));
 }
 
 abbrev pub new_memory_device : DeviceShape → MemoryDevice
@@ -56,8 +67,7 @@ new_memory_device shape = record {
 
 -- what the next sync consumes where so many frames wait
 abbrev pub due_of : Option ℕ → ℕ → ℕ → ℕ → ℕ
-due_of None each left waiting = min (min each left) waiting
-due_of (Some armed) each left waiting = min armed waiting
+due_of armed each left waiting = min (set_of armed each left) waiting
 
 abbrev pub due_in : MemoryDevice → ℕ
 due_in d = due_of d.armed d.each d.left (d.filled - d.consumed)

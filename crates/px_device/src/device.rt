@@ -24,8 +24,9 @@ pub trait Device {
     /// All its numbers, and its bytes where it tells them.
     ghost now: { Self → DeviceState };
 
-    /// Consumes some number of frames from the buffer's front, and answers how many were consumed so far. After an Err every later
-    /// call fails too, each time as a fault that counts; a front of the buffer may have been played then.
+    /// Consumes some number of frames from the buffer's front, and answers how many were consumed so far: the number that was told,
+    /// where the device tells it. After an Err every later call fails too, each time as a fault that counts; a front of the buffer
+    /// may have been played then.
     fn sync(&mut self) -> Result<u64, DeviceFault>
         ensures ok { IfOk result (λ consumed. Plays consumed (now self.old) (now self.new)) }
         ensures err { OnErr result (Fails (now self.old) (now self.new)) };

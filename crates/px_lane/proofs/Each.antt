@@ -1,13 +1,13 @@
 -- A loop over the inputs of a sink that changes each and tells notices of it.
 use Rattle.std.proofs.Common.{◌≡◌, ℕ, zero, suc, ◌+◌, ◌<◌, ◌≤◌, List, [], ◌∷◌, ◌++◌, map, length, take, drop, get_or, refl, ap, sym, ◌∙◌, subst, arith, length-append, append_assoc}
-use Rattle.std.specs.Prelude.{flat_map, slice_set, slice_index_or, ⊤}
+use Rattle.std.specs.Prelude.{flat_map, slice_set, slice_index_or}
 use Rattle.std.specs.List.{AllByRecursion}
 use Rattle.std.proofs.lemmas.List.{take_more, take_more_set, drop_more, drop-set-lt, drop-drop, get_or-drop, take-append-drop, take-append-le, take_all, drop_all, map-append}
 use Rattle.std.proofs.lemmas.Grind.{flat_map-append}
 use Rattle.px_model.specs.Stream.{Stream}
 use Rattle.px_model.specs.Notice.{Notice}
 use Rattle.px_model.specs.Sink.{Input as Stands, IsRising, with_stream}
-use Rattle.px_model.proofs.Inputs.{AreInputs, each_keeps}
+use Rattle.px_lane.proofs.Rising.{rising_each}
 use Rattle.px_lane.specs.declared.input.Input.{Input}
 use Rattle.px_lane.specs.Inputs.{input_of, inputs_of, HasRoom}
 
@@ -102,14 +102,16 @@ all_of_it items new n e l =
     ∙ take-append-le n new [] (omega (arith, e, l))
     ∙ take_all n new (omega (arith, e, l))
 
+pub in_place : (items new : List Input) (n room left capacity : ℕ) → length items ≡ n → length new ≡ length items
+    → IsRising (inputs_of new) → AllByRecursion (HasRoom left) new → left ≤ room → n + room ≤ capacity
+    → IsRising (inputs_of (take n (new ++ drop (length new) items))) × AllByRecursion (HasRoom left) (take n (new ++ drop (length new) items)) × (n + left ≤ capacity)
+in_place items new n room left capacity e l rising rooms less fits =
+    subst (λ (xs : List Input). IsRising (inputs_of xs) × AllByRecursion (HasRoom left) xs × (n + left ≤ capacity)) (sym (all_of_it items new n e l))
+    (rising, rooms, omega (arith, less, fits))
+
 pub kept_in_place : (f : Stream → Stream) (items new : List Input) (n room capacity : ℕ) → length items ≡ n → length new ≡ length items
     → inputs_of new ≡ map (with_stream f) (inputs_of items) → ((r : ℕ) → AllByRecursion (HasRoom r) items → AllByRecursion (HasRoom r) new)
     → IsRising (inputs_of items) × AllByRecursion (HasRoom room) items × (n + room ≤ capacity)
     → IsRising (inputs_of (take n (new ++ drop (length new) items))) × AllByRecursion (HasRoom room) (take n (new ++ drop (length new) items)) × (n + room ≤ capacity)
 kept_in_place f items new n room capacity e l changed rooms keeps =
-    subst (λ (xs : List Input). IsRising (inputs_of xs) × AllByRecursion (HasRoom room) xs × (n + room ≤ capacity)) (sym (all_of_it items new n e l))
-    (subst IsRising (sym changed) (AreInputs.rising (each_keeps (λ s. ⊤) f (λ s t. t) (inputs_of items) (record { rising = keeps.0; streams = true_of_all (inputs_of items) }))), rooms room keeps.1, keeps.2)
-  where
-    true_of_all : (xs : List Stands) → AllByRecursion (λ x. ⊤) xs
-    true_of_all [] = tt
-    true_of_all (x ∷ xs) = (tt, true_of_all xs)
+    in_place items new n room room capacity e l (subst IsRising (sym changed) (rising_each f (inputs_of items) keeps.0)) (rooms room keeps.1) (omega arith) keeps.2

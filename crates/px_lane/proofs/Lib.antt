@@ -1,4 +1,13 @@
 pub mod Log
 pub mod Going
 pub mod Storing
+pub mod Mixing
+pub mod Shares
+pub mod Summed
 pub mod Each
+pub mod Whole
+pub mod Buffers
+pub mod Bytes
+pub mod Places
+pub mod Rising
+pub mod Readied

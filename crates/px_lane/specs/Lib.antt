@@ -6,3 +6,8 @@ pub mod Heard
 pub mod Samples
 pub mod Inputs
 pub mod Lists
+pub mod Whole
+pub mod Mixing
+pub mod Changes
+pub mod Places
+pub mod Taking

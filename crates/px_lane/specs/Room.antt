@@ -2,6 +2,7 @@
 use Rattle.std.specs.Prelude.{ℕ, List}
 use Rattle.px_model.specs.Queue.{Queue}
 use Rattle.px_model.specs.Stream.{Stream}
+use Rattle.px_model.specs.Message.{Message}
 use Rattle.px_model.specs.Sink.{Input}
 
 pub record RoomyQueue : Type 0 where
@@ -10,6 +11,11 @@ pub record RoomyQueue : Type 0 where
 
 pub record RoomyStream : Type 0 where
   pub stream : Stream
+  pub room : ℕ
+
+-- messages with all the memory that they take, and the room of each stream that comes by one
+pub record ReadyMessages : Type 0 where
+  pub messages : List (Message Stream)
   pub room : ℕ
 
 pub record RoomyInputs : Type 0 where

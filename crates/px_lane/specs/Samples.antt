@@ -1,17 +1,16 @@
 -- What a mix asks of the sample formats, out of the formats' own definitions.
-use Rattle.std.specs.Prelude.{◌≡◌, ℕ, ◌*◌, ◌^◌, List, [], ◌∷◌, slice_index_or, length, map, Option, Some, None, ⊤, ℤ, pos, ◌+ℤ◌, ◌≤ℤ◌, neg_ℤ}
+use Rattle.std.specs.Prelude.{ℕ, ◌*◌, ◌^◌, List, [], ◌∷◌, slice_index_or, map, ℤ, pos, ◌+ℤ◌, ◌≤ℤ◌, neg_ℤ}
 use Rattle.std.specs.Int.{Width as BitWidth, w8, w16, w32}
-use Rattle.std.specs.List.{fold, AllByRecursion}
+use Rattle.std.specs.List.{fold}
 use Rattle.px_sample.specs.declared.format.Format.{Format}
 use Rattle.px_sample.specs.declared.format.Format.TheVariants.{U8, Alaw, Ulaw, S16Le, S16Be, Float32Le, Float32Be, S32Le, S32Be, S24Le, S24Be, S24In32Le, S24In32Be}
 use Rattle.px_sample.specs.declared.format.Width.{Width}
 use Rattle.px_sample.specs.declared.format.Width.TheVariants.{W8, W16, W32}
 use Rattle.px_sample.specs.Format.{width_of}
 use Rattle.px_sample.specs.WorkValue.{work_value_of, at_width, sample_of}
-use Rattle.px_model.specs.Frame.{Frame, SampleSpec, frame_size}
+use Rattle.px_model.specs.Frame.{SampleSpec}
 use Rattle.px_model.specs.Stream.{Stream, frame_at}
 use Rattle.px_model.specs.Mix.{Samples, share_of}
-use Rattle.px_model.specs.Sink.{IsStreamOf}
 
 -- the formats in the order of their codes, and the format with a code
 abbrev pub formats : List Format
@@ -38,20 +37,6 @@ samples = record {
   to = λ from to value. at_width (work_width from) (work_width to) value;
   packed = λ code value. sample_of (format_with code) value;
 }
-
--- a place that has so many bytes, or a hole
-abbrev pub IsPlaceOf : ℕ → Option Frame → Type 0
-IsPlaceOf size None = ⊤
-IsPlaceOf size (Some frame) = length frame ≡ size
-
--- each frame that a stream holds has the bytes of its spec
-abbrev pub HoldsWholeFrames : Stream → Type 0
-HoldsWholeFrames s = AllByRecursion (IsPlaceOf (frame_size s.spec)) s.queue.held
-
--- a stream that a sink can mix
-pub record IsMixable (sink : SampleSpec) (s : Stream) : Type 0 where
-  pub of_the_sink : IsStreamOf sink s
-  pub whole : HoldsWholeFrames s
 
 -- what the streams add to a sink channel k frames ahead, before it is clipped
 abbrev pub sum_of : SampleSpec → List Stream → ℕ → ℕ → ℤ

@@ -3,6 +3,7 @@ ghost use Rattle.std.specs.Prelude.{◌≡◌, ◌+◌, ◌*◌, ◌<◌, ◌≤
 ghost use Rattle.px_model.specs.Index.{onward, is_index, IsIndex};
 ghost use Rattle.px_model.specs.Frame.{frames_of};
 ghost use Rattle.px_lane.specs.Written.{Written, end_of, frame_in, reach_of};
+ghost use Rattle.px_lane.specs.Whole.{AreFramesOf};
 
 use crate::Index;
 use std::marker::Model;
@@ -46,6 +47,7 @@ impl Chunk {
         requires { length bytes.items ≡ count * size }
         ensures some { IsSome result ↔ IsTrue (is_index (onward at count)) }
         ensures value { IfSome result (λ c. c ≡ record { at = at; frames = frames_of size count bytes.items }) }
+        ensures whole { IfSome result (λ c. AreFramesOf size c.frames) }
     {
         at.after(count as u64)?;
         Some(Chunk {

@@ -40,6 +40,13 @@ impl Index {
         Index { frame: GREATEST }
     }
 
+    /// It as a number.
+    pub fn number(self) -> i64
+        ensures { result ≡ self }
+    {
+        self.frame
+    }
+
     /// How many frames it lies above another, 0 where it doesn't.
     pub fn above(self, other: Index) -> u64
         ensures { result ≡ above self other }

@@ -1,14 +1,19 @@
 // The inputs of a sink.
-ghost use Rattle.std.specs.Prelude.{ℕ, ◌≡◌, ◌≤◌, ◌+◌, ◌++◌, [], length, map, flat_map};
+ghost use Rattle.std.specs.Prelude.{ℕ, ◌≡◌, ◌≤◌, ◌+◌, ◌++◌, [], length, map, flat_map, MatchOption, None, Some};
 ghost use Rattle.std.specs.List.{AllByRecursion};
 ghost use Rattle.px_model.specs.Going.{after};
 ghost use Rattle.px_model.specs.Notice.{Notice as Told};
-ghost use Rattle.px_model.specs.Sink.{with_stream};
-ghost use Rattle.px_model.specs.Turn.{going_notices, asked_stream, asked_notices};
+ghost use Rattle.px_model.specs.Sink.{stream_at, with_input, without_input, with_change, with_stream};
+ghost use Rattle.px_model.specs.Message.{Message};
+ghost use Rattle.px_msg.specs.View.{gains};
+ghost use Rattle.px_lane.specs.Changes.{changed_by, refused_at, SuitsAt};
+ghost use Rattle.px_model.specs.Turn.{going_notices, asked_stream, asked_notices, with_each_factors, message_notices};
 ghost use Rattle.px_lane.specs.Inputs.{input_of, inputs_of, HasRoom};
 
-use crate::{Input, NoticeList};
-use px_msg::Notice;
+use crate::finding::{answer_at, change_at, close_at, open_at, set_each};
+use crate::{Change, Input, NoticeList, Stream};
+use px_msg::{InputFactors, Notice};
+use px_types::InputId;
 use std::alloc::Global;
 use std::marker::Model;
 
@@ -49,6 +54,63 @@ impl Inputs {
         ensures { inputs_of result.now ≡ self.now.inputs }
     {
         self.items.as_slice()
+    }
+
+    /// A stream comes in at its place. It has room for as many messages as the others are to have left.
+    pub fn insert(&mut self, input: InputId, stream: Stream)
+        requires room { 1 ≤ self.old.room }
+        requires stream_room { self.old.room ≤ stream.room + 1 }
+        ensures inputs { self.new.inputs ≡ with_input input.0 stream.stream self.old.inputs }
+        ensures room { self.new.room + 1 ≡ self.old.room }
+    {
+        self.room -= 1;
+        open_at(
+            &mut self.items,
+            Input {
+                index: input,
+                stream,
+            },
+        );
+    }
+
+    /// A stream leaves, if it is there.
+    pub fn remove(&mut self, input: InputId) -> Option<Stream>
+        ensures stream { MatchOption result (stream_at input.0 self.old.inputs ≡ None) (λ s. stream_at input.0 self.old.inputs ≡ Some s.stream) }
+        ensures inputs { self.new.inputs ≡ without_input input.0 self.old.inputs }
+        ensures room { self.new.room ≡ self.old.room }
+    {
+        close_at(&mut self.items, input)
+    }
+
+    /// Changes a stream, if it is there, where so many frames of the sink are mixed ahead, and answers whether frames were written that
+    /// aren't held. Takes room for one message.
+    pub fn change(&mut self, input: InputId, change: Change, mixed: u64) -> bool
+        requires room { 1 ≤ self.old.room }
+        requires suits { SuitsAt (stream_at input.0 self.old.inputs) change }
+        ensures inputs { self.new.inputs ≡ with_change input.0 (changed_by change mixed) self.old.inputs }
+        ensures refused { result ≡ refused_at (stream_at input.0 self.old.inputs) change mixed }
+        ensures room { self.new.room + 1 ≡ self.old.room }
+    {
+        self.room -= 1;
+        change_at(self.items.as_mut_slice(), input, change, mixed)
+    }
+
+    /// Replaces the factors of each of these inputs that is there.
+    pub fn set_factors(&mut self, each: &[InputFactors])
+        ensures inputs { self.new.inputs ≡ with_each_factors (map gains each.now) self.old.inputs }
+        ensures room { self.new.room ≡ self.old.room }
+    {
+        set_each(self.items.as_mut_slice(), each);
+    }
+
+    /// Tells where a stream stands, if it is there, as the answer to a tag, with so many frames mixed past the horizon and so many in the
+    /// sink's buffer.
+    pub fn answer(&self, input: InputId, tag: u32, mixed: u64, buffered: u32, out: &mut NoticeList)
+        requires { length out.old.notices + length (message_notices mixed buffered (Message.query input.0 tag) self.now.inputs) ≤ out.old.capacity }
+        ensures notices { out.new.notices ≡ out.old.notices ++ message_notices mixed buffered (Message.query input.0 tag) self.now.inputs }
+        ensures capacity { out.new.capacity ≡ out.old.capacity }
+    {
+        answer_at(self.items.as_slice(), input, tag, mixed, buffered, out);
     }
 
     /// All go so many frames of their sink forward. Of each it tells that it starts, and that it runs out.

@@ -2,22 +2,32 @@
 //! `Stream`, its `FrameQueue` with `Chunk`, `Stored` and `Index`, each with the state of the definitions, and `scaled`.
 #![tactic(auto)]
 
+mod change;
 mod chunk;
+mod finding;
 mod index;
 mod input;
 mod inputs;
 mod lists;
+mod mix;
+mod mixer;
+mod prepared;
 mod queue;
+mod ready;
 mod run;
 mod share;
 mod stream;
 
+pub use change::Change;
 pub use chunk::Chunk;
 pub use index::Index;
 pub use input::Input;
 pub use inputs::Inputs;
 pub use lists::{MsgList, NoticeList};
+pub use mixer::SinkMixer;
+pub use prepared::Prepared;
 pub use queue::{FrameQueue, Stored};
+pub use ready::Ready;
 pub use share::scaled;
 pub use stream::Stream;
 

@@ -1,10 +1,10 @@
 // The frames of a stream that wait to be played.
-ghost use Rattle.std.specs.Prelude.{◌≡◌, ◌≤◌, ◌+◌, ◌-◌, ◌≤ℤ◌, ◌&&◌, vec_len, vec_capacity, int_lt, nat_lt, length, IsTrue, OnOk, MatchOption, None, Some, true, false};
-ghost use Rattle.px_model.specs.Index.{above, onward, LAST};
+ghost use Rattle.std.specs.Prelude.{◌≡◌, ◌≤◌, ◌+◌, ◌-◌, ◌≤ℤ◌, ◌&&◌, vec_len, vec_capacity, int_lt, nat_lt, length, IsTrue, IsSome, IfSome, ◌↔◌, OnOk, MatchOption, None, Some, true, false};
+ghost use Rattle.px_model.specs.Index.{above, onward, is_index, LAST};
 ghost use Rattle.px_model.specs.Held.{place, frame_of};
 ghost use Rattle.px_model.specs.Queue.{Queue, end_of, left_of, is_held_short, queue_frame};
 ghost use Rattle.px_model.specs.Going.{queue_given, queue_after};
-ghost use Rattle.px_model.specs.Write.{outcome_of, queue_with, stored, overflow};
+ghost use Rattle.px_model.specs.Write.{seek_of, origin_of, target_of, outcome_of, queue_with, stored, overflow};
 ghost use Rattle.px_model.specs.Control.{new_queue, not_held, held_again, emptied, with_prebuf};
 ghost use Rattle.px_lane.specs.Heard.{heard};
 ghost use Rattle.px_lane.specs.Outcomes.{outcome_for};
@@ -89,6 +89,26 @@ impl FrameQueue {
         ensures { result ≡ left_of self.now.queue }
     {
         self.write.above(self.read).max(self.held)
+    }
+
+    /// The index that a seek goes to: its mode as on the wire, 0 to 3, and its offset in frames. `None` where that is no index.
+    pub fn target(&self, seek: u8, offset: i64) -> Option<Index>
+        ensures some { IsSome result ↔ IsTrue (is_index (target_of self.now.queue (seek_of seek) offset)) }
+        ensures value { IfSome result (λ index. index ≡ target_of self.now.queue (seek_of seek) offset) }
+    {
+        self.origin(seek).shifted(offset)
+    }
+
+    // What the offset of a seek of this mode counts from.
+    fn origin(&self, seek: u8) -> Index
+        ensures { result ≡ origin_of self.now.queue (seek_of seek) }
+    {
+        match seek {
+            0 => self.write,
+            1 => Index::zero(),
+            2 => self.read,
+            _ => self.end(),
+        }
     }
 
     /// Whether it waits for more frames before it plays.

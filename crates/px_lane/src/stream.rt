@@ -1,22 +1,27 @@
 // A stream of a sink.
-ghost use Rattle.std.specs.Prelude.{◌≡◌, ◌≤◌, ◌+◌, ◌-◌, length, nat_le, OnOk, MatchOption, None, Some};
+ghost use Rattle.std.specs.Prelude.{◌≡◌, ◌≤◌, ◌+◌, ◌-◌, length, nat_le, IsTrue, IsSome, IfSome, ◌↔◌, OnOk, MatchOption, None, Some};
 ghost use Rattle.px_model.specs.Going.{after, given_of, ahead_of};
 ghost use Rattle.px_model.specs.Control.{new_stream, attached, drained_by, corked_to, flushed, triggered, prebuffered, with_attr, with_factors};
 ghost use Rattle.px_model.specs.Orderly.{IsRepaired};
-ghost use Rattle.px_model.specs.Turn.{is_playing, has_ended, has_started, has_run_out, missing_of, request_of, asked_stream};
-ghost use Rattle.px_model.specs.Write.{outcome_of, written};
+ghost use Rattle.px_model.specs.Turn.{is_playing, has_ended, has_started, has_run_out, missing_of, request_of, asked_stream, latency_of};
+ghost use Rattle.px_model.specs.Notice.{Notice as Told};
+ghost use Rattle.px_lane.specs.Lists.{plain_notice};
+ghost use Rattle.px_model.specs.Write.{seek_of, target_of, outcome_of, written};
+ghost use Rattle.px_model.specs.Index.{is_index};
 ghost use Rattle.px_model.specs.Stream.{frame_at};
 ghost use Rattle.px_lane.specs.Heard.{heard};
 ghost use Rattle.px_lane.specs.Outcomes.{outcome_for};
+ghost use Rattle.px_lane.specs.Whole.{AreFramesOf};
+ghost use Rattle.px_model.specs.Frame.{frame_size};
 ghost use Rattle.px_msg.specs.View.{sample_spec};
 
 use crate::run::run_after;
 use crate::{Chunk, FrameQueue, Index, Stored};
 use px_chmap::Feed;
 use px_model::{Attr, Run};
-use px_msg::Parcel;
+use px_msg::{Notice, Parcel};
 use px_sample::Spec;
-use px_types::{Mem, NoMemory};
+use px_types::{InputId, Mem, NoMemory};
 use px_vol::Factors;
 use std::alloc::Global;
 use std::marker::Model;
@@ -43,6 +48,8 @@ impl Model for Stream {
     ghost use Rattle.px_msg.specs.View.{sample_spec};
     ghost use Rattle.px_lane.specs.Room.{RoomyStream};
     ghost use Rattle.px_lane.specs.Streams.{stream_of};
+    ghost use Rattle.px_lane.specs.Whole.{HoldFramesOf};
+    ghost use Rattle.px_model.specs.Frame.{frame_size};
 
     ghost Value = { RoomyStream };
 
@@ -51,7 +58,8 @@ impl Model for Stream {
       room = min s.queue.room (vec_capacity s.draining - vec_len s.draining);
     } };
 
-    ghost invariant = { λ s. IsStream (stream_of s.queue.queue s.corked s.maxlength s.tlength s.minreq s.requested s.draining.items s.run (sample_spec s.spec) s.feed s.factors) };
+    ghost invariant = { λ s. IsStream (stream_of s.queue.queue s.corked s.maxlength s.tlength s.minreq s.requested s.draining.items s.run (sample_spec s.spec) s.feed s.factors)
+        × HoldFramesOf (frame_size (sample_spec s.spec)) s.queue.queue.held };
 }
 
 impl Stream {
@@ -109,7 +117,8 @@ impl Stream {
 
     /// The frame so many places ahead, as bytes; `None` where it gives none or silence there.
     pub fn frame(&self, ahead: u64) -> Option<&[u8]>
-        ensures { MatchOption result (heard (frame_at self.now.stream ahead) ≡ None) (λ frame. heard (frame_at self.now.stream ahead) ≡ Some frame.now) }
+        ensures value { MatchOption result (heard (frame_at self.now.stream ahead) ≡ None) (λ frame. heard (frame_at self.now.stream ahead) ≡ Some frame.now) }
+        ensures whole { IfSome result (λ frame. length frame.now ≡ frame_size self.now.stream.spec) }
     {
         if self.corked {
             return None;
@@ -128,6 +137,14 @@ impl Stream {
         }
     }
 
+    /// The index that a seek goes to: its mode as on the wire, 0 to 3, and its offset in frames. `None` where that is no index.
+    pub fn target(&self, seek: u8, offset: i64) -> Option<Index>
+        ensures some { IsSome result ↔ IsTrue (is_index (target_of self.now.stream.queue (seek_of seek) offset)) }
+        ensures value { IfSome result (λ index. index ≡ target_of self.now.stream.queue (seek_of seek) offset) }
+    {
+        self.queue.target(seek, offset)
+    }
+
     /// Makes room for so many more writes, and as many drains. Without memory the stream stays what it is.
     pub fn reserve(&mut self, messages: usize) -> Mem<()>
         ensures value { self.new.stream ≡ self.old.stream }
@@ -139,9 +156,10 @@ impl Stream {
         Ok(())
     }
 
-    /// Writes frames, where so many frames of the sink are mixed ahead of its read index. Takes room for one message, and no memory.
+    /// Writes whole frames, where so many frames of the sink are mixed ahead of its read index. Takes room for one message, and no memory.
     pub fn write(&mut self, chunk: Chunk, mixed: u64) -> Stored
-        requires { 1 ≤ self.old.room }
+        requires room { 1 ≤ self.old.room }
+        requires whole { AreFramesOf (frame_size self.old.stream.spec) chunk.frames }
         ensures outcome { outcome_of self.old.stream.queue self.old.stream.maxlength chunk.at (length chunk.frames) (ahead_of self.old.stream mixed) ≡ outcome_for result }
         ensures after { self.new.stream ≡ written self.old.stream chunk.at chunk.frames (ahead_of self.old.stream mixed) }
         ensures room { self.old.room ≤ self.new.room + 1 }
@@ -203,17 +221,42 @@ impl Stream {
         self.requested += request;
     }
 
+    /// How long it has played or been silent after the next so many frames.
+    pub fn run_after(&self, frames: u64) -> Run
+        ensures { result ≡ (after self.now.stream frames).run }
+    {
+        if self.corked || frames == 0 {
+            self.run
+        } else {
+            run_after(self.run, self.given(frames), frames)
+        }
+    }
+
+    /// Where it stands, with so many frames mixed past the horizon and so many in the sink's buffer, as the answer to a tag of input
+    /// `index`.
+    pub fn latency(&self, input: InputId, tag: u32, mixed: u64, buffered: u32) -> Notice<Stream>
+        ensures { plain_notice result ≡ Told.latency input.0 tag (latency_of mixed buffered self.now.stream) }
+    {
+        let run = self.run_after(mixed);
+        Notice::Latency {
+            input,
+            tag,
+            write: self.queue.write_index().number(),
+            read: self.ahead(mixed).number(),
+            buffered,
+            playing: !self.corked && is_playing(run),
+            run,
+        }
+    }
+
     /// Whether it is silent after the next so many frames, played or gave a frame, and has no drain to answer: an underrun.
     pub fn runs_out(&self, frames: u64) -> bool
         ensures { result ≡ has_run_out self.now.stream frames }
     {
-        let given = self.given(frames);
-        let later = if self.corked || frames == 0 {
-            self.run
-        } else {
-            run_after(self.run, given, frames)
-        };
-        !is_playing(later) && (is_playing(self.run) || given > 0) && self.draining.is_empty()
+        let later = self.run_after(frames);
+        !is_playing(later)
+            && (is_playing(self.run) || self.given(frames) > 0)
+            && self.draining.is_empty()
     }
 
     /// The tags of the drains that wait for an answer, in order.
@@ -292,6 +335,20 @@ impl Stream {
         ensures room { self.new.room ≡ self.old.room }
     {
         self.factors = factors;
+    }
+
+    /// For each channel of the sink the channel of the stream that feeds it.
+    pub fn feed(&self) -> &[u8]
+        ensures { result.now ≡ self.now.stream.feed }
+    {
+        self.feed.channels()
+    }
+
+    /// For each channel of the sink the factor of the stream there, in 65536ths.
+    pub fn factors(&self) -> &[u32]
+        ensures { result.now ≡ self.now.stream.factors }
+    {
+        self.factors.values()
     }
 }
 

@@ -1,3 +1,6 @@
+ghost use Rattle.std.specs.Prelude.{IfOk};
+ghost use Rattle.px_lane.specs.Whole.{AreFramesOf};
+
 use crate::{Chunk, FrameQueue, Index, Stored, Stream};
 use px_chmap::Feed;
 use px_model::Attr;
@@ -7,7 +10,9 @@ use px_vol::Factors;
 use std::alloc::Global;
 
 // Frames of one byte, so many past index 0.
-fn chunk(alloc: Global, at: i64, bytes: &[u8]) -> Mem<Chunk> {
+fn chunk(alloc: Global, at: i64, bytes: &[u8]) -> Mem<Chunk>
+    ensures { IfOk result (λ c. AreFramesOf 1 c.frames) }
+{
     let mut frames = Vec::new(alloc);
     frames.extend_from_slice(bytes)?;
     let count = frames.len();

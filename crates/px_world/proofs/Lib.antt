@@ -1,0 +1,8 @@
+pub mod Feeding
+pub mod Runs
+pub mod Steps
+pub mod Histories
+pub mod Decided
+pub mod Doors
+pub mod Standing
+pub mod Computed

@@ -1,0 +1,198 @@
+//! Connections begin and end (PulseAudio: `pa_native_protocol_connect` and `native_connection_unlink` of
+//! `pulsecore/protocol-native.c`; that an ended connection is swept away in a step of its own is own).
+
+ghost use Rattle.std.specs.Prelude.{◌≡◌, ◌<◌, ◌++◌, ◌∷◌, [], List, filter, flat_map, IfOk, OnOk, OnErr};
+ghost use Rattle.std.specs.Option.{option_map};
+ghost use Rattle.px_types.specs.declared.ids.ConnId.{ConnId};
+ghost use Rattle.px_frame.specs.Fault.{code_of};
+ghost use Rattle.px_core.specs.declared.effect.Effect.{Effect};
+ghost use Rattle.px_core.specs.declared.input.Connection.{Connection};
+ghost use Rattle.px_core.specs.declared.input.Input.{Input};
+ghost use Rattle.px_core.specs.State.{connection_of, marked_of, is_from};
+ghost use Rattle.px_core.specs.Change.{kept};
+ghost use Rattle.px_core.specs.Connecting.{is_full, new_connection, joined, connected, connect_effects, going_on, ended, broken_effects, swept, sweep_of};
+ghost use Rattle.px_core.specs.Delete.{ends};
+ghost use Rattle.px_core.specs.Effect.{closed_for};
+ghost use Rattle.px_core.specs.Step.{answered};
+ghost use Rattle.px_core.specs.Tables.{state_of, HasLent};
+
+use crate::answer::Answer;
+use crate::change::Change;
+use crate::effect::{Effect, Reason};
+use crate::effects::Effects;
+use crate::found::{connection_of, going_on};
+use crate::input::{Connection, Input};
+use crate::tables::Tables;
+use crate::verbs::mark;
+use px_frame::FrameFault;
+use px_msg::Msg;
+use px_types::{ConnId, Mem};
+use std::alloc::Global;
+
+/// The most connections that are there at once.
+const MOST_CONNECTIONS: usize = 64;
+
+// Whether no more connections are taken: the most are there, or no index is left that no client had.
+fn is_full<P>(tables: &Tables<P>) -> bool
+    ensures { result ≡ is_full (state_of tables.now) }
+{
+    tables.connections.len() >= MOST_CONNECTIONS || tables.clients_made == u32::MAX
+}
+
+// One more connection, and its client.
+fn join<P>(tables: &mut Tables<P>, conn: ConnId) -> Mem<()>
+    requires { tables.old.clients_made < 4294967295 }
+    ensures after { OnOk result (state_of tables.new ≡ joined conn (kept (state_of tables.old))) }
+    ensures err { OnErr result (state_of tables.new ≡ state_of tables.old) }
+    ensures sinks { tables.new.sinks ≡ tables.old.sinks }
+    ensures lent { HasLent tables.old → HasLent tables.new }
+{
+    let client = tables.clients_made;
+    tables.connections.reserve(1)?;
+    tables.names.admit(conn, client)?;
+    tables.connections.push_reserved(Connection {
+        conn,
+        client,
+        version: None,
+        streams: 0,
+        marked: false,
+    });
+    tables.clients_made = client + 1;
+    tables.lent = None;
+    Ok(())
+}
+
+/// A connection ends where it goes on: it is marked, and its number is given. Takes no memory.
+pub(crate) fn end<P>(tables: &mut Tables<P>, conn: ConnId) -> Option<ConnId>
+    ensures conn { result ≡ option_map (λ c. c.conn) (going_on tables.old.connections.items conn) }
+    ensures after { (effects : ConnId → List Effect) →
+        state_of tables.new ≡ answered (state_of tables.old) (ended (going_on tables.old.connections.items conn) effects) }
+    ensures sinks { tables.new.sinks ≡ tables.old.sinks }
+    ensures lent { HasLent tables.new }
+{
+    tables.lent = None;
+    match going_on(&tables.connections, conn) {
+        None => None,
+        Some(c) => {
+            mark(&mut tables.connections, c.conn);
+            Some(c.conn)
+        }
+    }
+}
+
+// The changes of one more input, where it is the connection's and goes on.
+fn add_ends<P: Drop>(changes: &mut Vec<Change<P>>, conn: ConnId, input: &Input) -> Mem<()>
+    ensures { OnOk result ((more : List Input) →
+        changes.new.items ++ flat_map ends (filter (is_from conn) more) ≡ changes.old.items ++ flat_map ends (filter (is_from conn) (input.now ∷ more))) }
+{
+    if input.conn.0 == conn.0 && !input.leaving {
+        changes.push(Change::Leaves(input.index))?;
+        changes.push(Change::Posted(input.sink, Msg::Detach { input: input.index }))?;
+    }
+    Ok(())
+}
+
+// The changes that end all streams of a connection.
+fn add_streams<P: Drop>(changes: &mut Vec<Change<P>>, conn: ConnId, inputs: &[Input]) -> Mem<()>
+    ensures { OnOk result (changes.new.items ≡ changes.old.items ++ flat_map ends (filter (is_from conn) inputs.now)) }
+{
+    for input in inputs {
+        add_ends(changes, conn, input)?;
+    }
+    Ok(())
+}
+
+// The changes of one more connection, where it has ended.
+fn add_swept<P: Drop>(changes: &mut Vec<Change<P>>, inputs: &[Input], c: &Connection) -> Mem<()>
+    ensures { OnOk result ((more : List Connection) →
+        changes.new.items ++ flat_map (swept inputs.now) (marked_of more) ≡ changes.old.items ++ flat_map (swept inputs.now) (marked_of (c.now ∷ more))) }
+{
+    if c.marked {
+        add_streams(changes, c.conn, inputs)?;
+        changes.push(Change::Forgotten(c.conn))?;
+    }
+    Ok(())
+}
+
+/// The connections that have ended are swept away: the streams of each end, in order, and its client goes.
+pub(crate) fn sweep<P: Drop>(
+    alloc: Global,
+    connections: &[Connection],
+    inputs: &[Input],
+) -> Mem<Answer<P>>
+    ensures { IfOk result (λ answer. answer ≡ record { changes = flat_map (swept inputs.now) (marked_of connections.now); effects = [] }) }
+{
+    let mut changes = Vec::new(alloc);
+    for c in connections {
+        add_swept(&mut changes, inputs, c)?;
+    }
+    Ok(Answer {
+        changes,
+        effects: Effects::new(alloc),
+    })
+}
+
+/// A client connects. One that is there already changes nothing; where no more are taken the server ends it. Where there is no
+/// memory for it nothing has changed.
+pub(crate) fn connect<P>(alloc: Global, tables: &mut Tables<P>, conn: ConnId) -> Mem<Effects>
+    ensures effects { IfOk result (λ effects. effects ≡ connect_effects (connection_of tables.old.connections.items conn) conn (state_of tables.old)) }
+    ensures after { OnOk result (state_of tables.new ≡ connected (connection_of tables.old.connections.items conn) conn (kept (state_of tables.old))) }
+    ensures err { OnErr result (state_of tables.new ≡ state_of tables.old) }
+    ensures sinks { tables.new.sinks ≡ tables.old.sinks }
+    ensures lent { HasLent tables.old → HasLent tables.new }
+{
+    if connection_of(&tables.connections, conn).is_some() {
+        tables.lent = None;
+        return Ok(Effects::new(alloc));
+    }
+    if is_full(tables) {
+        let effects = Effects::of(alloc, closed_for(conn, Reason::Limit))?;
+        tables.lent = None;
+        return Ok(effects);
+    }
+    join(tables, conn)?;
+    Ok(Effects::new(alloc))
+}
+
+/// A connection is ended for a reason that isn't a rule of the protocol. Takes no memory.
+pub(crate) fn closed_for(conn: ConnId, reason: Reason) -> Effect
+    ensures { result ≡ closed_for conn reason }
+{
+    Effect::Closed {
+        conn,
+        reason,
+        fault: 0,
+        at: 0,
+    }
+}
+
+/// A fault in a connection's frames, at an offset of its bytes: it ends, where it goes on. Where there is no memory for the
+/// effect nothing has changed.
+pub(crate) fn break_off<P>(
+    alloc: Global,
+    tables: &mut Tables<P>,
+    conn: ConnId,
+    fault: FrameFault,
+    at: u64,
+) -> Mem<Effects>
+    ensures effects { IfOk result (λ effects. effects ≡ (ended {P = P} (going_on tables.old.connections.items conn) (broken_effects fault at)).effects) }
+    ensures after { OnOk result (state_of tables.new ≡ answered (state_of tables.old) (ended (going_on tables.old.connections.items conn) (broken_effects fault at))) }
+    ensures err { OnErr result (state_of tables.new ≡ state_of tables.old) }
+    ensures sinks { tables.new.sinks ≡ tables.old.sinks }
+    ensures lent { HasLent tables.old → HasLent tables.new }
+{
+    let effects = match going_on(&tables.connections, conn) {
+        None => Effects::new(alloc),
+        Some(c) => Effects::of(
+            alloc,
+            Effect::Closed {
+                conn: c.conn,
+                reason: Reason::Protocol,
+                fault: fault.code(),
+                at,
+            },
+        )?,
+    };
+    end(tables, conn);
+    Ok(effects)
+}

@@ -1,0 +1,66 @@
+//! Messages are handed out to the sinks, and the last one that was is put back. Own: PulseAudio's `pa_asyncmsgq` keeps its
+//! messages itself.
+
+ghost use Rattle.std.specs.Prelude.{◌≡◌, Some};
+ghost use Rattle.px_core.specs.Out.{inputs_past, inputs_before, next_for, handed_out, put_back};
+ghost use Rattle.px_core.specs.Tables.{state_of, HasPlacesAt, HasLent};
+
+use crate::input::{Input, Way};
+use crate::queues;
+use crate::tables::Tables;
+use crate::verbs::set_way;
+use px_msg::Msg;
+use px_types::SinkId;
+
+// The way of the input that a message names, once it was handed out.
+fn pass<P>(inputs: &mut [Input], msg: &Msg<P>)
+    ensures { inputs.new ≡ inputs_past msg.now inputs.old }
+{
+    match msg {
+        Msg::New(stream) => set_way(inputs, stream.input, Way::There),
+        Msg::Attach { input, .. } => set_way(inputs, *input, Way::There),
+        Msg::Detach { input } => set_way(inputs, *input, Way::Left),
+        _ => {}
+    }
+}
+
+// The way of the input that a message names, before it is handed out.
+fn pass_back<P>(inputs: &mut [Input], msg: &Msg<P>)
+    ensures { inputs.new ≡ inputs_before msg.now inputs.old }
+{
+    match msg {
+        Msg::New(stream) => set_way(inputs, stream.input, Way::Coming),
+        Msg::Attach { input, .. } => set_way(inputs, *input, Way::Coming),
+        Msg::Detach { input } => set_way(inputs, *input, Way::There),
+        _ => {}
+    }
+}
+
+/// The first message that waits for a sink is handed out. Takes no memory.
+pub(crate) fn hand_out<P>(tables: &mut Tables<P>, sink: SinkId) -> Option<Msg<P>>
+    ensures next { result ≡ next_for (state_of tables.old) sink }
+    ensures after { state_of tables.new ≡ handed_out sink (state_of tables.old) }
+    ensures sinks { tables.new.sinks ≡ tables.old.sinks }
+    ensures lent { HasLent tables.old → HasLent tables.new }
+{
+    match queues::take_first(&mut tables.posted, sink) {
+        None => None,
+        Some(msg) => {
+            pass(&mut tables.inputs, &msg);
+            tables.lent = Some(sink);
+            Some(msg)
+        }
+    }
+}
+
+/// The message that was handed out last is put back. Takes no memory.
+pub(crate) fn put_back<P: Drop>(tables: &mut Tables<P>, sink: SinkId, msg: Msg<P>)
+    requires { HasPlacesAt 1 sink.0 tables.old.posted.items }
+    ensures after { state_of tables.new ≡ put_back sink msg (state_of tables.old) }
+    ensures sinks { tables.new.sinks ≡ tables.old.sinks }
+    ensures lent { HasLent tables.new }
+{
+    pass_back(&mut tables.inputs, &msg);
+    queues::put_first(&mut tables.posted, sink, msg);
+    tables.lent = None;
+}

@@ -1,0 +1,68 @@
+-- Messages with all the memory that they take.
+use Rattle.std.proofs.Common.{◌≡◌, ℕ, List, [], ◌∷◌, ◌++◌, length, take, drop, ◌+◌, ◌≤◌, arith, length-append, Option, Some, None, refl, ap, sym, ◌∙◌, subst}
+use Rattle.std.specs.Prelude.{ℤ}
+use Rattle.std.specs.Global.{Vec}
+use Rattle.std.proofs.Math.Seq.{drop-append_seam}
+use Rattle.px_types.specs.declared.ids.InputId.{InputId}
+use Rattle.px_model.specs.Stream.{Stream}
+use Rattle.px_model.specs.Message.{Message, FrameWrite}
+use Rattle.px_model.specs.Notice.{Notice}
+use Rattle.px_model.specs.Sink.{Input as Stands, stream_at}
+use Rattle.px_model.specs.Write.{Outcome, stored, overflow, outside}
+use Rattle.px_model.specs.Turn.{write_outcome, refusal_of, notices_from, inputs_with, message_notices, all_message_notices}
+use Rattle.px_lane.specs.declared.change.Change.TheVariants.{Write}
+use Rattle.px_lane.specs.declared.ready.Ready.TheVariants.{Change as Changes}
+use Rattle.px_lane.specs.Changes.{frame_write, is_refused, refused_at, SuitsAt, overflow_if}
+use Rattle.px_lane.specs.declared.ready.Ready.{Ready}
+use Rattle.px_lane.specs.Taking.{AreWhole, IsReadyFor, ready_notices}
+
+refusal : (i : ℕ) (o : Outcome) → overflow_if i (is_refused o) ≡ refusal_of i o
+refusal i stored = refl
+refusal i overflow = refl
+refusal i outside = refl
+
+module _ (input : InputId) (seek : ℕ) (offset : ℤ) (frames : ℕ) (bytes : Vec ℕ) where
+  brings : FrameWrite
+  brings = record { input = input.0; seek = seek; offset = offset; frames = frames; bytes = bytes.items }
+
+  write_notices : (mixed : ℕ) (o : Option Stream) → overflow_if input.0 (refused_at o (Write seek offset frames bytes) mixed) ≡ notices_from o (λ s. refusal_of input.0 (write_outcome s (record { input = input.0; seek = seek; offset = offset; frames = frames; bytes = bytes.items }) mixed))
+  write_notices mixed None = refl
+  write_notices mixed (Some s) = refusal input.0 (write_outcome s (frame_write seek offset frames bytes.items) mixed)
+
+  write_suits : (o : Option Stream) → AreWhole o (record { input = input.0; seek = seek; offset = offset; frames = frames; bytes = bytes.items }) → SuitsAt o (Write seek offset frames bytes)
+  write_suits None h = tt
+  write_suits (Some s) h = h
+
+  write_same : IsReadyFor (Changes input (Write seek offset frames bytes)) (Message.write (record { input = input.0; seek = seek; offset = offset; frames = frames; bytes = bytes.items }))
+  write_same = record {
+    inputs = λ mixed xs. refl;
+    notices = λ mixed buffered xs. write_notices mixed (stream_at input.0 xs);
+    suits = λ xs h. write_suits (stream_at input.0 xs) h;
+  }
+
+pub write_ready : (input : InputId) (seek : ℕ) (offset place : ℤ) (frames : ℕ) (bytes : Vec ℕ) (all : List ℕ) → place ≡ offset → bytes.items ≡ all
+    → IsReadyFor (Changes input (Write seek place frames bytes)) (Message.write (record { input = input.0; seek = seek; offset = offset; frames = frames; bytes = all }))
+write_ready input seek offset place frames bytes all e same =
+    subst (λ (p : ℤ × List ℕ). IsReadyFor (Changes input (Write seek place frames bytes)) (Message.write (record { input = input.0; seek = seek; offset = p.0; frames = frames; bytes = p.1 })))
+    (λ k. (e k, same k)) (write_same input seek place frames bytes)
+
+-- what is left of a list that begins with what a message takes
+pub left_over : {X : Type 0} (all here rest taken : List X) → all ≡ here ++ rest → taken ≡ drop (length here) all → taken ≡ rest
+left_over all here rest taken e t = t ∙ ap (drop (length here)) e ∙ drop-append_seam here rest
+
+pub first_is : {X : Type 0} (all : List X) (x y : X) (rest : List X) → all ≡ x ∷ rest → take 1 all ≡ y ∷ [] → x ≡ y
+first_is all x y rest e f = let h : x ∷ [] ≡ y ∷ [] = sym (ap (take 1) e) ∙ f in cc
+
+-- ---- each in order
+
+pub take_fits : (mixed buffered : ℕ) (ready : Ready) (m : Message Stream) (all rest : List (Message Stream)) (xs : List Stands) (told start started : List (Notice Stream)) (capacity : ℕ)
+    → all ≡ m ∷ rest → IsReadyFor ready m → told ++ all_message_notices mixed buffered all xs ≡ start ++ started → length start + length started ≤ capacity
+    → length told + length (ready_notices mixed buffered ready xs) ≤ capacity
+take_fits mixed buffered ready m all rest xs told start started capacity e r same l =
+    let whole : length told + length (all_message_notices mixed buffered all xs) ≡ length start + length started =
+    sym (length-append told (all_message_notices mixed buffered all xs)) ∙ ap (λ (ns : List (Notice Stream)). length ns) same ∙ length-append start started in
+    let split : length (all_message_notices mixed buffered all xs) ≡ length (message_notices mixed buffered m xs) + length (all_message_notices mixed buffered rest (inputs_with mixed m xs)) =
+    ap (λ (ms : List (Message Stream)). length (all_message_notices mixed buffered ms xs)) e
+    ∙ length-append (message_notices mixed buffered m xs) (all_message_notices mixed buffered rest (inputs_with mixed m xs)) in
+    let here : length (ready_notices mixed buffered ready xs) ≡ length (message_notices mixed buffered m xs) = ap (λ (ns : List (Notice Stream)). length ns) (r.notices mixed buffered xs) in
+    omega (arith, whole, split, here, l)

@@ -1,0 +1,72 @@
+-- The sums of a list of inputs.
+use Rattle.std.proofs.Common.{◌≡◌, ℕ, zero, suc, ◌+◌, ◌<◌, ◌≤◌, List, [], ◌∷◌, ◌++◌, length, map, take, get_or, refl, ap, sym, ◌∙◌, arith, ℤ, pos, ◌+ℤ◌, append-nil}
+use Rattle.std.proofs.lemmas.List.{take_more, map-append, ext_get_or}
+use Rattle.std.proofs.lemmas.List.FromFn.{length-map-range_with_len, get_or-map-range_with_len, map-range_with_len_more}
+use Rattle.std.proofs.lemmas.List.Sums.{fold-append}
+use Rattle.std.specs.List.{fold, concat, AllByRecursion, range_with_len}
+use Rattle.std.proofs.lemmas.List.Folds.{concat-append, flat_map-map}
+use Rattle.std.proofs.lemmas.Slice.{take-put_mid}
+use Rattle.std.specs.Int.{saturate_signed}
+use borrow.Rule.Slice.PartMut.{put_mid}
+use Rattle.px_sample.specs.declared.format.Format.{Format}
+use Rattle.px_sample.specs.declared.spec.Spec.{Spec}
+use Rattle.px_sample.specs.Format.{code_of, width_of}
+use Rattle.px_sample.specs.WorkValue.{sample_of, packed_of}
+use Rattle.px_model.specs.Frame.{SampleSpec}
+use Rattle.px_model.specs.Stream.{Stream, frame_at}
+use Rattle.px_model.specs.Mix.{share_of, mix_of}
+use Rattle.px_model.specs.Sink.{Input as Stands, streams_of}
+use Rattle.px_lane.specs.declared.input.Input.{Input}
+use Rattle.px_lane.specs.Room.{RoomyStream}
+use Rattle.px_lane.specs.Inputs.{input_of, inputs_of}
+use Rattle.px_lane.specs.Samples.{samples, sum_of, format_with, bit_width}
+use Rattle.px_msg.specs.View.{sample_spec}
+use Rattle.px_lane.proofs.Shares.{format_known}
+
+-- a fact of all streams is one of the stream of input i
+pub stream_of_input : (P : Stream → Type 0) (inputs : List Input) (i : ℕ) (d : Input) → AllByRecursion (λ x. P (Stands.stream x)) (inputs_of inputs) → i < length inputs
+    → P (RoomyStream.stream (Input.stream (get_or inputs i d)))
+stream_of_input P [] i d all less = absurd (omega (arith, less))
+stream_of_input P (x ∷ inputs) zero d all less = all.0
+stream_of_input P (x ∷ inputs) (suc i) d all less = stream_of_input P inputs i d all.1 (omega (arith, less))
+
+abbrev shares : SampleSpec → ℕ → ℕ → List Stream → List ℤ
+shares sink k c streams = map (λ s. share_of samples sink s c (frame_at s k)) streams
+
+-- one more input adds what its stream gives
+pub sum_more : (sink : SampleSpec) (inputs : List Input) (i : ℕ) (x : Input) (k c : ℕ) → i < length inputs → x ≡ get_or inputs i x
+    → sum_of sink (streams_of (inputs_of (take (i + 1) inputs))) k c
+    ≡ sum_of sink (streams_of (inputs_of (take i inputs))) k c +ℤ share_of samples sink x.stream.stream c (frame_at x.stream.stream k)
+sum_more sink inputs i x k c less is =
+    ap (λ (xs : List Input). sum_of sink (streams_of (inputs_of xs)) k c)
+    (take_more inputs i x less ∙ ap (λ (y : Input). take i inputs ++ y ∷ []) (sym is))
+    ∙ ap (λ (xs : List Stream). sum_of sink xs k c)
+    (ap streams_of (map-append input_of (take i inputs) (x ∷ [])) ∙ map-append (λ y. y.stream) (inputs_of (take i inputs)) (input_of x ∷ []))
+    ∙ ap (λ (xs : List ℤ). fold ◌+ℤ◌ (pos 0) xs) (map-append (λ s. share_of samples sink s c (frame_at s k)) (streams_of (inputs_of (take i inputs))) (x.stream.stream ∷ []))
+    ∙ fold-append ◌+ℤ◌ (pos 0) (shares sink k c (streams_of (inputs_of (take i inputs)))) (shares sink k c (x.stream.stream ∷ []))
+
+-- the list of the sums, by its places
+pub sums_listed : (f : ℕ → ℤ) (sums : List ℤ) (n : ℕ) → length sums ≡ n → ((c : ℕ) → c < n → get_or sums c (pos 0) ≡ f c) → sums ≡ map f (range_with_len 0 n)
+sums_listed f sums n size each =
+    ext_get_or (pos 0) sums (map f (range_with_len 0 n)) (size ∙ sym (length-map-range_with_len f 0 n))
+    (λ i less. each i (omega (arith, less, size)) ∙ sym (get_or-map-range_with_len f 0 n i i (pos 0) (omega (arith, less, size)) (omega arith)))
+
+-- the sums, clipped and packed, are the frame of the definition
+pub packed_mix : (sink : Spec) (streams : List Stream) (k : ℕ)
+    → packed_of sink.format (map (saturate_signed (bit_width (width_of sink.format))) (map (sum_of (sample_spec sink) streams k) (range_with_len 0 sink.channels)))
+    ≡ mix_of samples (sample_spec sink) streams k
+packed_mix sink streams k =
+    let clip = λ (x : ℤ). saturate_signed (bit_width (width_of (format_with (code_of sink.format)))) x in
+    ap (λ (g : Format). packed_of g (map (saturate_signed (bit_width (width_of g))) (map (sum_of (sample_spec sink) streams k) (range_with_len 0 sink.channels)))) (sym (format_known sink.format))
+    ∙ flat_map-map (λ (x : ℤ). sample_of (format_with (code_of sink.format)) x) clip (map (sum_of (sample_spec sink) streams k) (range_with_len 0 sink.channels))
+    ∙ flat_map-map (λ (x : ℤ). sample_of (format_with (code_of sink.format)) (clip x)) (sum_of (sample_spec sink) streams k) (range_with_len 0 sink.channels)
+
+-- one more frame stands behind those before it
+pub frames_more : (f : ℕ → List ℕ) (out ys : List ℕ) (ahead k a n m : ℕ) → a ≤ length out → m ≡ a + length ys
+    → take a out ≡ concat (map f (range_with_len ahead k)) → ys ≡ f (ahead + k) → take m (put_mid a n out ys) ≡ concat (map f (range_with_len ahead (k + 1)))
+frames_more f out ys ahead k a n m room next before made =
+    take-put_mid a n out ys m next room
+    ∙ ap (λ (done : List ℕ). done ++ ys) before
+    ∙ ap (λ (last : List ℕ). concat (map f (range_with_len ahead k)) ++ last) (made ∙ sym (append-nil (f (ahead + k))))
+    ∙ sym (concat-append (map f (range_with_len ahead k)) (f (ahead + k) ∷ []))
+    ∙ ap concat (sym (map-range_with_len_more f ahead k (ahead + k) refl))

@@ -1,0 +1,13 @@
+use Rattle.std.proofs.Common.{◌≡◌, ℕ, drop, map}
+use Rattle.std.specs.List.{AllByRecursion}
+use Rattle.px_model.specs.Sink.{IsRising}
+use Rattle.px_model.specs.Turn.{with_each_factors}
+use Rattle.px_msg.specs.View.{gains}
+use Rattle.px_lane.specs.Inputs.{inputs_of, HasRoom}
+use Rattle.px_lane.proofs.finding.set_each.Given as goal
+
+abbrev pub invariant-loop-f : goal.invariant-loop-f
+invariant-loop-f l =
+    (with_each_factors (map gains (drop l.f-index l.each)) (inputs_of l.inputs) ≡ with_each_factors (map gains l.each) (inputs_of l.fn.inputs))
+    × IsRising (inputs_of l.inputs)
+    × ((room : ℕ) → AllByRecursion (HasRoom room) l.fn.inputs → AllByRecursion (HasRoom room) l.inputs)

@@ -1,0 +1,16 @@
+use Rattle.std.proofs.Common.{◌≡◌, ◌≤◌, ◌++◌, length}
+use Rattle.px_model.specs.Turn.{inputs_with_all, all_message_notices}
+use Rattle.px_lane.specs.Taking.{CanTakeAll}
+use Rattle.px_lane.proofs.inputs.Inputs.take_all.Given as goal
+
+abbrev pub invariant-loop-message : goal.invariant-loop-message
+invariant-loop-message l =
+    (inputs_with_all l.mixed l.messages.messages l.self.inputs ≡ inputs_with_all l.mixed l.fn.messages.messages l.fn.self.inputs)
+    × (l.out.notices ++ all_message_notices l.mixed l.buffered l.messages.messages l.self.inputs ≡ l.fn.out.notices ++ all_message_notices l.mixed l.buffered l.fn.messages.messages l.fn.self.inputs)
+    × CanTakeAll l.mixed l.messages.messages l.self.inputs
+    × (length l.messages.messages ≤ l.self.room)
+    × (l.self.room ≤ l.messages.room)
+    × (l.out.capacity ≡ l.fn.out.capacity)
+
+abbrev pub decreases-loop-message : goal.decreases-loop-message
+decreases-loop-message l = length l.messages.messages

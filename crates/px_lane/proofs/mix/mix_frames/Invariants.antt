@@ -1,0 +1,11 @@
+use Rattle.std.proofs.Common.{◌≡◌, ◌*◌, map, take}
+use Rattle.std.specs.List.{concat, range_with_len}
+use Rattle.px_model.specs.Mix.{mix_of}
+use Rattle.px_model.specs.Sink.{streams_of}
+use Rattle.px_msg.specs.View.{sample_spec}
+use Rattle.px_lane.specs.Inputs.{inputs_of}
+use Rattle.px_lane.specs.Samples.{samples}
+use Rattle.px_lane.proofs.mix.mix_frames.Given as goal
+
+abbrev pub invariant-loop-k : goal.invariant-loop-k
+invariant-loop-k l = take (l.k * l.size) l.out ≡ concat (map (mix_of samples (sample_spec l.sink) (streams_of (inputs_of l.inputs))) (range_with_len l.ahead l.k))

@@ -1,0 +1,20 @@
+use Rattle.std.proofs.Common.{◌≡◌, ℕ, ◌+◌, ◌-◌, List, take, ap, sym, ◌∙◌, arith}
+use Rattle.px_sample.specs.Format.{frame_size_of}
+use Rattle.px_model.specs.Frame.{Frame, frames_of}
+use Rattle.px_model.specs.Sink.{Sink}
+use Rattle.px_lane.specs.Mixing.{RoomySink, sink_of, given_up}
+use Rattle.px_lane.proofs.Buffers.{frames_kept}
+use Rattle.px_lane.proofs.mixer.SinkMixer.give_up.Goals as goal
+
+pub returns-clause-value : goal.returns-clause-value
+returns-clause-value c =
+    let d = c.self.inside in
+    let size = frame_size_of d.spec in
+    let h = c.self.invariant.1 in
+    let kept = d.horizon - d.consumed in
+    let all : kept + (d.filled - d.horizon) ≡ d.filled - d.consumed = omega (arith, h.consumed_first, h.horizon_first) in
+    let before : Sink = sink_of d.spec (record { guard = d.guard; depth = d.depth; consumed = d.consumed; filled = d.filled; horizon = d.horizon }) d.stopped d.bytes.items d.inputs.inputs in
+    ap (λ (frames : List Frame). let s : Sink = record (given_up before) { buffer = frames } in s)
+    (sym (frames_kept (frame_size_of d.spec) (d.horizon - d.consumed) (d.filled - d.horizon) d.bytes.items)
+    ∙ ap (λ (n : ℕ). take (d.horizon - d.consumed) (frames_of (frame_size_of d.spec) n d.bytes.items)) all)
+    ∙ ap (λ (m : RoomySink). given_up m.sink) c.self.view_is

@@ -1,0 +1,28 @@
+use Rattle.std.proofs.Common.{◌≡◌, ℕ, ◌+◌, ◌-◌, ◌*◌, ◌≤◌, map, length, take, drop, ap, sym, ◌∙◌, subst, arith}
+use Rattle.std.proofs.Math.Nat.{mul-le-mul_right}
+use Rattle.px_sample.specs.Format.{frame_size_of}
+use Rattle.px_model.specs.Frame.{frames_of}
+use Rattle.px_model.specs.Sink.{Sink, with_stream}
+use Rattle.px_model.specs.Going.{after}
+use Rattle.px_model.specs.Turn.{settled, next_horizon}
+use Rattle.px_lane.specs.Mixing.{RoomySink, sink_of}
+use Rattle.px_lane.proofs.Buffers.{frames_moved, same_parts}
+use Rattle.px_lane.proofs.mixer.SinkMixer.settle.Goals as goal
+
+pub returns-clause-value : goal.returns-clause-value
+returns-clause-value c =
+    let d = c.self.inside in
+    let h = c.self.invariant.1 in
+    let n = c.args.frames in
+    let before : Sink = sink_of d.spec (record { guard = d.guard; depth = d.depth; consumed = d.consumed; filled = d.filled; horizon = d.horizon }) d.stopped d.bytes.items d.inputs.inputs in
+    let there : n ≤ d.filled - d.consumed = subst (λ (m : RoomySink). n ≤ m.sink.filled - m.sink.consumed) (sym c.self.view_is) c.requires.there in
+    let all : n + (d.filled - (d.consumed + n)) ≡ d.filled - d.consumed = omega (arith, there) in
+    let fit : n + (d.filled - (d.consumed + n)) ≤ d.depth = omega (arith, all, h.filled_bounded) in
+    same_parts (settled before n) c.min-horizon.result (next_horizon before n) (frames_of (frame_size_of d.spec) (d.filled - (d.consumed + n)) c.move_to_front.new.bytes.items) (settled before n).buffer
+    c.go.new.self.inputs (settled before n).inputs c.min-horizon.ensures
+    (frames_moved (frame_size_of d.spec) n (d.filled - (d.consumed + n)) d.bytes.items c.move_to_front.new.bytes.items
+    (subst (λ (m : ℕ). take (length d.bytes.items - n * m) c.move_to_front.new.bytes.items ≡ drop (n * m) d.bytes.items) c.frame_size-size.ensures c.move_to_front.ensures.front)
+    (omega (arith, c.self.invariant.2, mul-le-mul_right (frame_size_of d.spec) fit))
+    ∙ ap (λ (m : ℕ). drop n (frames_of (frame_size_of d.spec) m d.bytes.items)) all)
+    (c.go.ensures.inputs ∙ ap (λ (to : ℕ). map (with_stream (λ s. after s (to - d.horizon))) d.inputs.inputs) c.min-horizon.ensures)
+    ∙ ap (λ (m : RoomySink). settled m.sink n) c.self.view_is

@@ -1,0 +1,129 @@
+-- Messages that a sink can take, what each needs before the turn, and what it is to the inputs once that is there.
+use Rattle.std.specs.Prelude.{◌≡◌, ℕ, ◌*◌, ◌≤◌, List, [], ◌∷◌, map, length, Option, Some, None, ⊤}
+use Rattle.px_model.specs.Frame.{frame_size}
+use Rattle.px_model.specs.Stream.{Stream}
+use Rattle.px_model.specs.Control.{new_stream}
+use Rattle.px_model.specs.Message.{Message, FrameWrite}
+use Rattle.px_model.specs.Notice.{Notice}
+use Rattle.px_model.specs.Orderly.{IsRepaired}
+use Rattle.px_model.specs.Sink.{Input, stream_at, with_input, without_input, with_change}
+use Rattle.px_model.specs.Turn.{inputs_with, message_notices, with_each_factors, notices_from, latency_of}
+use Rattle.px_msg.specs.View.{gains}
+use Rattle.px_msg.specs.declared.message.Msg.{Msg}
+use Rattle.px_msg.specs.declared.message.Msg.TheVariants.{New, Attach, Detach, Write, Cork, Flush, Trigger, Prebuf, Drain, Attr, Factors, Query}
+use Rattle.px_lane.specs.Room.{RoomyStream}
+use Rattle.px_lane.specs.Changes.{changed_by, refused_at, SuitsAt, overflow_if}
+use Rattle.px_lane.specs.declared.ready.Ready.{Ready}
+use Rattle.px_lane.specs.declared.ready.Ready.TheVariants.{Insert, Remove, Change, Each, Answer}
+
+-- ---- messages
+
+-- the bytes are whole frames of the stream, if that is there
+abbrev pub AreWhole : Option Stream → FrameWrite → Type 0
+AreWhole None w = ⊤
+AreWhole (Some s) w = length w.bytes ≡ w.frames * frame_size s.spec
+
+-- the attributes that it brings are repaired, and its bytes are whole frames
+abbrev pub CanTake : Message Stream → List Input → Type 0
+CanTake (Message.new n) inputs = IsRepaired n.attr
+CanTake (Message.attach i parcel feed factors) inputs = ⊤
+CanTake (Message.detach i) inputs = ⊤
+CanTake (Message.write w) inputs = AreWhole (stream_at w.input inputs) w
+CanTake (Message.cork i on) inputs = ⊤
+CanTake (Message.flush i) inputs = ⊤
+CanTake (Message.trigger i) inputs = ⊤
+CanTake (Message.prebuf i) inputs = ⊤
+CanTake (Message.drain i tag) inputs = ⊤
+CanTake (Message.attr i attr) inputs = IsRepaired attr
+CanTake (Message.factors each) inputs = ⊤
+CanTake (Message.query i tag) inputs = ⊤
+
+-- each in order, where so many frames are mixed ahead
+abbrev pub CanTakeAll : ℕ → List (Message Stream) → List Input → Type 0
+CanTakeAll mixed [] inputs = ⊤
+CanTakeAll mixed (m ∷ messages) inputs = CanTake m inputs × CanTakeAll mixed messages (inputs_with mixed m inputs)
+
+-- the bytes that are to be copied, and the stream that is to be made
+abbrev pub bytes_of : Message Stream → List (List ℕ)
+bytes_of (Message.new n) = []
+bytes_of (Message.attach i parcel feed factors) = []
+bytes_of (Message.detach i) = []
+bytes_of (Message.write w) = w.bytes ∷ []
+bytes_of (Message.cork i on) = []
+bytes_of (Message.flush i) = []
+bytes_of (Message.trigger i) = []
+bytes_of (Message.prebuf i) = []
+bytes_of (Message.drain i tag) = []
+bytes_of (Message.attr i attr) = []
+bytes_of (Message.factors each) = []
+bytes_of (Message.query i tag) = []
+
+abbrev pub streams_of : Message Stream → List Stream
+streams_of (Message.new n) = new_stream n.spec n.feed n.factors n.attr n.corked ∷ []
+streams_of (Message.attach i parcel feed factors) = []
+streams_of (Message.detach i) = []
+streams_of (Message.write w) = []
+streams_of (Message.cork i on) = []
+streams_of (Message.flush i) = []
+streams_of (Message.trigger i) = []
+streams_of (Message.prebuf i) = []
+streams_of (Message.drain i tag) = []
+streams_of (Message.attr i attr) = []
+streams_of (Message.factors each) = []
+streams_of (Message.query i tag) = []
+
+-- ---- room
+
+abbrev pub IsRoomy : ℕ → RoomyStream → Type 0
+IsRoomy room s = room ≤ s.room
+
+-- a parcel that comes has it
+abbrev pub BringsRoom : ℕ → Msg RoomyStream → Type 0
+BringsRoom room (New n) = ⊤
+BringsRoom room (Attach input parcel feed factors) = IsRoomy room parcel
+BringsRoom room (Detach input) = ⊤
+BringsRoom room (Write input seek offset frames bytes) = ⊤
+BringsRoom room (Cork input on) = ⊤
+BringsRoom room (Flush input) = ⊤
+BringsRoom room (Trigger input) = ⊤
+BringsRoom room (Prebuf input) = ⊤
+BringsRoom room (Drain input tag) = ⊤
+BringsRoom room (Attr input attr) = ⊤
+BringsRoom room (Factors each) = ⊤
+BringsRoom room (Query input tag) = ⊤
+
+-- ---- messages with all that they need
+
+abbrev pub HasRoomLeft : ℕ → Ready → Type 0
+HasRoomLeft room (Insert input stream) = IsRoomy room stream
+HasRoomLeft room (Remove input) = ⊤
+HasRoomLeft room (Change input change) = ⊤
+HasRoomLeft room (Each list) = ⊤
+HasRoomLeft room (Answer input tag) = ⊤
+
+abbrev pub ready_inputs : ℕ → Ready → List Input → List Input
+ready_inputs mixed (Insert input stream) inputs = with_input input.0 stream.stream inputs
+ready_inputs mixed (Remove input) inputs = without_input input.0 inputs
+ready_inputs mixed (Change input change) inputs = with_change input.0 (changed_by change mixed) inputs
+ready_inputs mixed (Each list) inputs = with_each_factors (map gains list) inputs
+ready_inputs mixed (Answer input tag) inputs = inputs
+
+abbrev pub ready_notices : ℕ → ℕ → Ready → List Input → List (Notice Stream)
+ready_notices mixed buffered (Insert input stream) inputs = []
+ready_notices mixed buffered (Remove input) inputs = notices_from (stream_at input.0 inputs) (λ s. Notice.detached input.0 s ∷ [])
+ready_notices mixed buffered (Change input change) inputs = overflow_if input.0 (refused_at (stream_at input.0 inputs) change mixed)
+ready_notices mixed buffered (Each list) inputs = []
+ready_notices mixed buffered (Answer input tag) inputs = notices_from (stream_at input.0 inputs) (λ s. Notice.latency input.0 tag (latency_of mixed buffered s) ∷ [])
+
+abbrev pub ReadySuits : Ready → List Input → Type 0
+ReadySuits (Insert input stream) inputs = ⊤
+ReadySuits (Remove input) inputs = ⊤
+ReadySuits (Change input change) inputs = SuitsAt (stream_at input.0 inputs) change
+ReadySuits (Each list) inputs = ⊤
+ReadySuits (Answer input tag) inputs = ⊤
+
+-- it is to every sink what the message is
+pub record IsReadyFor (ready : Ready) (m : Message Stream) : Type 0 where
+  pub inputs : (mixed : ℕ) (inputs : List Input) → ready_inputs mixed ready inputs ≡ inputs_with mixed m inputs
+  pub notices : (mixed buffered : ℕ) (inputs : List Input) → ready_notices mixed buffered ready inputs ≡ message_notices mixed buffered m inputs
+  pub suits : (inputs : List Input) → CanTake m inputs → ReadySuits ready inputs

@@ -1,0 +1,203 @@
+// What a sink mixes.
+ghost use Rattle.std.specs.Prelude.{◌≡◌, ◌≤◌, ◌+◌, ◌-◌, ◌*◌, ◌^◌, ◌++◌, length, map, take, drop, flat_map, IfOk};
+ghost use Rattle.std.specs.List.{AllByRecursion, concat, range_with_len};
+ghost use Rattle.px_sample.specs.Format.{frame_size_of};
+ghost use Rattle.px_msg.specs.View.{sample_spec};
+ghost use Rattle.px_model.specs.Sink.{Input as Stands, IsStreamOf, streams_of, empty_sink};
+ghost use Rattle.px_model.specs.Mix.{mix_of};
+ghost use Rattle.px_model.specs.Turn.{next_horizon, settled, remixed, asked, going_notices, asked_notices};
+ghost use Rattle.px_lane.specs.Mixing.{RoomySink, IsMixed, given_up};
+ghost use Rattle.px_lane.specs.Samples.{samples};
+
+use crate::mix::mix_frames;
+use crate::{Inputs, NoticeList};
+use px_sample::Spec;
+use px_session::SinkSpec;
+use px_types::{Mem, NoMemory};
+use std::alloc::Global;
+use std::marker::Model;
+
+/// What a sink mixes: its counts, its buffer and its inputs (PulseAudio: `thread_info` of pulsecore/sink.h). The buffer's bytes are
+/// kept here from the first frame that isn't consumed on, as many as the depth has room for.
+#[derive(Debug, Drop)]
+pub struct SinkMixer {
+    spec: Spec,
+    guard: u32,
+    depth: u32,
+    consumed: u64,
+    filled: u64,
+    horizon: u64,
+    stopped: bool,
+    bytes: Vec<u8>,
+    inputs: Inputs,
+}
+
+impl Model for SinkMixer {
+    ghost use Rattle.std.specs.Prelude.{◌≡◌, ◌*◌, ◌≤◌, length};
+    ghost use Rattle.px_sample.specs.Format.{frame_size_of};
+    ghost use Rattle.px_lane.specs.Mixing.{RoomySink, IsMixed, Counts, AreInOrder, sink_of};
+
+    ghost Value = { RoomySink };
+
+    ghost view = { λ m. record {
+      sink = sink_of m.spec (record { guard = m.guard; depth = m.depth; consumed = m.consumed; filled = m.filled; horizon = m.horizon }) m.stopped m.bytes.items m.inputs.inputs;
+      room = m.inputs.room;
+    } };
+
+    ghost invariant = { λ m. IsMixed m.spec
+        × AreInOrder (record { guard = m.guard; depth = m.depth; consumed = m.consumed; filled = m.filled; horizon = m.horizon })
+        × (length m.bytes.items ≡ m.depth * frame_size_of m.spec) };
+}
+
+// So many bytes of zero.
+fn zeros(alloc: Global, count: usize) -> Mem<Vec<u8>>
+    ensures { IfOk result (λ bytes. length bytes.items ≡ count) }
+{
+    let bytes = vec![in alloc; 0; count]?;
+    Ok(bytes)
+}
+
+// Moves the bytes behind the first so many to the front. What stands behind them then is left over.
+fn move_to_front(bytes: &mut Vec<u8>, count: usize)
+    requires { count ≤ length bytes.old.items }
+    ensures size { length bytes.new.items ≡ length bytes.old.items }
+    ensures front { take (length bytes.old.items - count) bytes.new.items ≡ drop count bytes.old.items }
+{
+    bytes.copy_within(count.., 0);
+}
+
+// Mixes so many frames in place of the last bytes, those from place `from` on.
+fn mix_behind(sink: &Spec, inputs: &Inputs, frames: usize, bytes: &mut Vec<u8>, from: usize)
+    requires mixed { IsMixed sink.now }
+    requires streams { AllByRecursion (λ x. IsStreamOf (sample_spec sink.now) (Stands.stream x)) inputs.now.inputs }
+    requires few { length inputs.now.inputs ≤ 256 }
+    requires size { length bytes.old.items ≡ from + frames * frame_size_of sink.now }
+    ensures size { length bytes.new.items ≡ length bytes.old.items }
+    ensures bytes { bytes.new.items ≡ take from bytes.old.items ++ concat (map (mix_of samples (sample_spec sink.now) (streams_of inputs.now.inputs)) (range_with_len 0 frames)) }
+{
+    mix_frames(
+        sink,
+        inputs.as_slice(),
+        0,
+        frames,
+        &mut bytes.as_mut_slice()[from..],
+    );
+}
+
+impl SinkMixer {
+    /// A mixer that has mixed nothing, with no inputs. Takes the room of its buffer.
+    pub fn new(alloc: Global, sink: &SinkSpec) -> Mem<SinkMixer>
+        requires mixed { IsMixed sink.now.spec }
+        requires low_depth { sink.now.depth ≤ 65536 }
+        ensures { IfOk result (λ m. m.sink ≡ empty_sink (sample_spec sink.now.spec) sink.now.guard sink.now.depth) }
+    {
+        let size = sink.spec.frame_size();
+        Ok(SinkMixer {
+            spec: sink.spec,
+            guard: sink.guard,
+            depth: sink.depth,
+            consumed: 0,
+            filled: 0,
+            horizon: 0,
+            stopped: false,
+            bytes: zeros(alloc, sink.depth as usize * size)?,
+            inputs: Inputs::new(alloc),
+        })
+    }
+
+    /// Frames consumed so far.
+    pub fn consumed(&self) -> u64
+        ensures { result ≡ self.now.sink.consumed }
+    {
+        self.consumed
+    }
+
+    /// Frames mixed so far.
+    pub fn filled(&self) -> u64
+        ensures { result ≡ self.now.sink.filled }
+    {
+        self.filled
+    }
+
+    /// The first frame that may still change.
+    pub fn horizon(&self) -> u64
+        ensures { result ≡ self.now.sink.horizon }
+    {
+        self.horizon
+    }
+
+    /// Whether it mixes nothing any more.
+    pub fn is_stopped(&self) -> bool
+        ensures { result ≡ self.now.sink.stopped }
+    {
+        self.stopped
+    }
+
+    /// So many frames more are consumed, and all streams go forward to the new horizon.
+    pub fn settle(&mut self, frames: u64, out: &mut NoticeList)
+        requires there { frames ≤ self.old.sink.filled - self.old.sink.consumed }
+        requires room { length out.old.notices + length (flat_map (going_notices (next_horizon self.old.sink frames - self.old.sink.horizon)) self.old.sink.inputs) ≤ out.old.capacity }
+        ensures value { self.new.sink ≡ settled self.old.sink frames }
+        ensures room { self.new.room ≡ self.old.room }
+        ensures notices { out.new.notices ≡ out.old.notices ++ flat_map (going_notices (next_horizon self.old.sink frames - self.old.sink.horizon)) self.old.sink.inputs }
+        ensures capacity { out.new.capacity ≡ out.old.capacity }
+    {
+        let size = self.spec.frame_size();
+        let consumed = self.consumed + frames;
+        let horizon = self.filled.min(consumed + self.guard as u64);
+        self.inputs.go(horizon - self.horizon, out);
+        move_to_front(&mut self.bytes, frames as usize * size);
+        self.consumed = consumed;
+        self.horizon = horizon;
+    }
+
+    /// Gives up all frames from the horizon on, for good.
+    pub fn give_up(&mut self)
+        ensures value { self.new.sink ≡ given_up self.old.sink }
+        ensures room { self.new.room ≡ self.old.room }
+    {
+        self.filled = self.horizon;
+        self.stopped = true;
+    }
+
+    /// Mixes all frames from the horizon on afresh, up to the depth.
+    pub fn remix(&mut self)
+        requires streams { AllByRecursion (λ x. IsStreamOf self.old.sink.spec (Stands.stream x)) self.old.sink.inputs }
+        requires few { length self.old.sink.inputs ≤ 256 }
+        requires countable { self.old.sink.consumed + self.old.sink.depth ≤ 2 ^ 61 }
+        ensures value { self.new.sink ≡ remixed samples self.old.sink }
+        ensures room { self.new.room ≡ self.old.room }
+    {
+        let kept = self.horizon - self.consumed;
+        let frames = self.depth as u64 - kept;
+        let from = kept as usize * self.spec.frame_size();
+        mix_behind(
+            &self.spec,
+            &self.inputs,
+            frames as usize,
+            &mut self.bytes,
+            from,
+        );
+        self.filled = self.consumed + self.depth as u64;
+    }
+
+    /// Of each stream in order tells the drains that are answered, where it has ended, and asks for frames.
+    pub fn ask(&mut self, out: &mut NoticeList)
+        requires { length out.old.notices + length (flat_map (asked_notices (self.old.sink.filled - self.old.sink.horizon)) self.old.sink.inputs) ≤ out.old.capacity }
+        ensures value { self.new.sink ≡ asked self.old.sink }
+        ensures room { self.new.room ≡ self.old.room }
+        ensures notices { out.new.notices ≡ out.old.notices ++ flat_map (asked_notices (self.old.sink.filled - self.old.sink.horizon)) self.old.sink.inputs }
+        ensures capacity { out.new.capacity ≡ out.old.capacity }
+    {
+        self.inputs.ask(self.filled - self.horizon, out);
+    }
+
+    /// The bytes of the frames from the horizon on, once they are mixed up to the depth.
+    pub fn fresh(&self) -> &[u8]
+        requires { self.now.sink.filled ≡ self.now.sink.consumed + self.now.sink.depth }
+        ensures { result.now ≡ concat (drop (self.now.sink.horizon - self.now.sink.consumed) self.now.sink.buffer) }
+    {
+        let from = (self.horizon - self.consumed) as usize * self.spec.frame_size();
+        &self.bytes.as_slice()[from..]
+    }
+}

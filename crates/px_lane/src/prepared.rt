@@ -1,0 +1,154 @@
+// The messages of a turn, with all the memory that they take.
+ghost use Rattle.std.specs.Prelude.{ℕ, ◌≡◌, ◌≤◌, ◌+◌, ◌-◌, ◌++◌, ◌∷◌, [], List, length, map, take, drop, flat_map, MatchOption, IfOk, OnOk, OnErr};
+ghost use Rattle.std.specs.List.{AllByRecursion};
+ghost use Rattle.px_model.specs.Stream.{Stream as Plain};
+ghost use Rattle.px_model.specs.Message.{Message};
+ghost use Rattle.px_model.specs.Sink.{Input as Stands};
+ghost use Rattle.px_model.specs.Turn.{inputs_with, message_notices, inputs_with_all, all_message_notices};
+ghost use Rattle.px_lane.specs.Lists.{plain_message};
+ghost use Rattle.px_lane.specs.Room.{RoomyStream};
+ghost use Rattle.px_lane.specs.Taking.{CanTake, CanTakeAll, bytes_of, streams_of, IsRoomy, BringsRoom, HasRoomLeft, IsReadyFor};
+
+use crate::{Change, Inputs, NoticeList, Ready, Stream};
+use px_msg::Msg;
+use px_types::Text;
+use std::collections::VecDeque;
+use std::marker::Model;
+
+/// The messages of a turn, in order, with all the memory that they take.
+#[derive(Debug, Drop)]
+pub struct Prepared {
+    items: VecDeque<Msg<Stream>>,
+    // of each write, and of each new input, in order
+    bytes: VecDeque<Text>,
+    streams: VecDeque<Stream>,
+    room: usize,
+}
+
+impl Model for Prepared {
+    ghost use Rattle.std.specs.Prelude.{◌≡◌, map, flat_map};
+    ghost use Rattle.std.specs.List.{AllByRecursion};
+    ghost use Rattle.px_lane.specs.Lists.{messages_of};
+    ghost use Rattle.px_lane.specs.Room.{ReadyMessages, RoomyStream};
+    ghost use Rattle.px_lane.specs.Taking.{bytes_of, streams_of, IsRoomy, BringsRoom};
+
+    ghost Value = { ReadyMessages };
+
+    ghost view = { λ p. record { messages = messages_of p.items.items; room = p.room } };
+
+    ghost invariant = { λ p.
+        (p.bytes.items ≡ flat_map bytes_of (messages_of p.items.items))
+        × (map RoomyStream.stream p.streams.items ≡ flat_map streams_of (messages_of p.items.items))
+        × AllByRecursion (IsRoomy p.room) p.streams.items
+        × AllByRecursion (BringsRoom p.room) p.items.items };
+}
+
+impl Prepared {
+    /// Takes the first message. Takes no memory.
+    pub fn next(&mut self) -> Option<Ready>
+        ensures value { MatchOption result ((self.old.messages ≡ []) × (self.new.messages ≡ [])) (λ ready.
+            (m : Message Plain) × (self.old.messages ≡ m ∷ self.new.messages) × IsReadyFor ready m × HasRoomLeft self.old.room ready) }
+        ensures room { self.new.room ≡ self.old.room }
+    {
+        match self.items.pop_front() {
+            Some(message) => Some(ready(message, &mut self.bytes, &mut self.streams)),
+            None => None,
+        }
+    }
+}
+
+// The message with the memory that it takes, which stands first.
+fn ready(message: Msg<Stream>, bytes: &mut VecDeque<Text>, streams: &mut VecDeque<Stream>) -> Ready
+    requires bytes { take (length (bytes_of (plain_message message))) bytes.old.items ≡ bytes_of (plain_message message) }
+    requires streams { take (length (streams_of (plain_message message))) (map RoomyStream.stream streams.old.items) ≡ streams_of (plain_message message) }
+    ensures ready { IsReadyFor result (plain_message message) }
+    ensures bytes { bytes.new.items ≡ drop (length (bytes_of (plain_message message))) bytes.old.items }
+    ensures streams { map RoomyStream.stream streams.new.items ≡ drop (length (streams_of (plain_message message))) (map RoomyStream.stream streams.old.items) }
+    ensures room { (room : ℕ) → AllByRecursion (IsRoomy room) streams.old.items → BringsRoom room message → HasRoomLeft room result × AllByRecursion (IsRoomy room) streams.new.items }
+{
+    match message {
+        Msg::New(fresh) => Ready::Insert {
+            input: fresh.input,
+            stream: streams.pop_front().unwrap(),
+        },
+        Msg::Attach {
+            input,
+            mut parcel,
+            feed,
+            factors,
+        } => {
+            parcel.attach(feed, factors);
+            Ready::Insert {
+                input,
+                stream: parcel,
+            }
+        }
+        Msg::Detach { input } => Ready::Remove(input),
+        Msg::Write {
+            input,
+            seek,
+            offset,
+            frames,
+            bytes: _,
+        } => Ready::Change {
+            input,
+            change: Change::Write {
+                seek,
+                offset,
+                frames,
+                bytes: bytes.pop_front().unwrap().into_vec(),
+            },
+        },
+        Msg::Cork { input, on } => Ready::Change {
+            input,
+            change: Change::Cork(on),
+        },
+        Msg::Flush { input } => Ready::Change {
+            input,
+            change: Change::Flush,
+        },
+        Msg::Trigger { input } => Ready::Change {
+            input,
+            change: Change::Trigger,
+        },
+        Msg::Prebuf { input } => Ready::Change {
+            input,
+            change: Change::Prebuf,
+        },
+        Msg::Drain { input, tag } => Ready::Change {
+            input,
+            change: Change::Drain(tag),
+        },
+        Msg::Attr { input, attr } => Ready::Change {
+            input,
+            change: Change::Attr(attr),
+        },
+        Msg::Factors(list) => Ready::Each(list),
+        Msg::Query { input, tag } => Ready::Answer { input, tag },
+    }
+}
+
+impl Inputs {
+    /// Takes all messages in order, where so many frames are mixed past the horizon and so many are in the sink's buffer, and tells what
+    /// they have to tell. Takes no memory.
+    pub fn take_all(
+        &mut self,
+        messages: &mut Prepared,
+        mixed: u64,
+        buffered: u32,
+        out: &mut NoticeList,
+    )
+        requires room { length messages.old.messages ≤ self.old.room }
+        requires comes { self.old.room ≤ messages.old.room }
+        requires suits { CanTakeAll mixed messages.old.messages self.old.inputs }
+        requires capacity { length out.old.notices + length (all_message_notices mixed buffered messages.old.messages self.old.inputs) ≤ out.old.capacity }
+        ensures inputs { self.new.inputs ≡ inputs_with_all mixed messages.old.messages self.old.inputs }
+        ensures notices { out.new.notices ≡ out.old.notices ++ all_message_notices mixed buffered messages.old.messages self.old.inputs }
+        ensures capacity { out.new.capacity ≡ out.old.capacity }
+        ensures messages { messages.new.messages ≡ [] }
+    {
+        while let Some(message) = messages.next() {
+            self.take(message, mixed, buffered, out);
+        }
+    }
+}

@@ -1,0 +1,53 @@
+// A message with all the memory that it takes.
+ghost use Rattle.std.specs.Prelude.{◌≡◌, ◌≤◌, ◌+◌, ◌-◌, ◌++◌, length};
+ghost use Rattle.px_lane.specs.Taking.{HasRoomLeft, ready_inputs, ready_notices, ReadySuits};
+
+use crate::{Change, Inputs, NoticeList, Stream};
+use px_msg::{FactorList, Notice};
+use px_types::InputId;
+
+/// A message with all the memory that it takes.
+#[derive(Debug, Drop)]
+pub enum Ready {
+    /// A stream comes.
+    Insert { input: InputId, stream: Stream },
+    /// A stream leaves.
+    Remove(InputId),
+    /// A stream is changed.
+    Change { input: InputId, change: Change },
+    /// Some inputs get new factors.
+    Each(FactorList),
+    /// The tag is answered with where the stream stands.
+    Answer { input: InputId, tag: u32 },
+}
+
+impl Inputs {
+    /// Takes a message, where so many frames are mixed past the horizon and so many are in the sink's buffer, and tells what it has to
+    /// tell. Takes room for one message, and no memory.
+    pub fn take(&mut self, message: Ready, mixed: u64, buffered: u32, out: &mut NoticeList)
+        requires room { 1 ≤ self.old.room }
+        requires comes { HasRoomLeft (self.old.room - 1) message }
+        requires suits { ReadySuits message self.old.inputs }
+        requires capacity { length out.old.notices + length (ready_notices mixed buffered message self.old.inputs) ≤ out.old.capacity }
+        ensures inputs { self.new.inputs ≡ ready_inputs mixed message self.old.inputs }
+        ensures room { self.old.room ≤ self.new.room + 1 }
+        ensures less { self.new.room ≤ self.old.room }
+        ensures notices { out.new.notices ≡ out.old.notices ++ ready_notices mixed buffered message self.old.inputs }
+        ensures capacity { out.new.capacity ≡ out.old.capacity }
+    {
+        match message {
+            Ready::Insert { input, stream } => self.insert(input, stream),
+            Ready::Remove(input) => match self.remove(input) {
+                Some(parcel) => out.push(Notice::Detached { input, parcel }),
+                None => {}
+            },
+            Ready::Change { input, change } => {
+                if self.change(input, change, mixed) {
+                    out.push(Notice::Overflow { input });
+                }
+            }
+            Ready::Each(list) => self.set_factors(list.as_slice()),
+            Ready::Answer { input, tag } => self.answer(input, tag, mixed, buffered, out),
+        }
+    }
+}
