@@ -22,7 +22,7 @@ use Rattle.px_core.specs.Change.{change_first, drop_first, leaving, changed}
 use Rattle.px_core.specs.declared.change.Change.TheVariants.{Leaves, Gone, Posted}
 use Rattle.px_core.specs.Create.{MOST_ON_SINK}
 use Rattle.px_core.specs.Orderly.{entry_of, specs_of, is_held_by, is_there}
-use Rattle.px_core.specs.Keeps.{AreInStep, AreAllInStep, IsInput, IsKept, IsRising, NamesInOrder, is_coming_to, is_coming, brought_by}
+use Rattle.px_core.specs.Keeps.{AreInStep, AreAllInStep, IsInput, IsKept, IsRising, IsPosted, is_coming_to, is_coming, brought_by}
 use Rattle.px_core.proofs.ListLaws.{same_passed, same_left, no_more_pass, all_change, all_drop, all_push, all_weaken, found_all}
 use Rattle.px_core.proofs.EntryLaws.{get_in, here_in, removed, pushed, none_below, few_specs, rising_change, rising_drop, rising_push}
 use Rattle.px_core.proofs.InStepLaws.{view, unmoved, posted}
@@ -71,9 +71,9 @@ pub same_inputs_keep : {P : Type 0} (spec_of : P → SampleSpec) (state : State 
     → NamesInput (specs_of (settled_on state.inputs sink)) (view m)
     → ((s : SinkSpec) → slice_get state.sinks sink.0 ≡ Some s → Fits spec_of (sample_spec s.spec) (specs_of (settled_on state.inputs sink)) (view m))
     → ((inputs : Inputs) → inputs_left spec_of inputs (view m) ≡ inputs)
-    → NamesInOrder m
+    → IsPosted m
     → IsKept spec_of (changed state (Posted sink m))
-same_inputs_keep spec_of state sink m h there brings names fits left in_order = record {
+same_inputs_keep spec_of state sink m h there brings names fits left is_posted = record {
   sinks = h.sinks;
   distinct = h.distinct;
   rising = h.rising;
@@ -82,7 +82,7 @@ same_inputs_keep spec_of state sink m h there brings names fits left in_order = 
   in_step = set_in_step spec_of state.sinks state.inputs state.posted sink.0 (get_or state.posted sink.0 [] ++ m ∷ []) (subst (λ n. sink.0 < n) (sym h.lists) there)
       (λ s e. posted spec_of (sink_at sink.0) s state.inputs state.inputs (get_or state.posted sink.0 []) m refl
       (sym (append-nil (map entry_of (filter (is_coming_to (sink_at sink.0)) state.inputs))) ∙ ap (λ more. map entry_of (filter (is_coming_to (sink_at sink.0)) state.inputs) ++ more) (sym brings))
-      names (fits s e) (left (specs_of (settled_on state.inputs sink))) in_order (h.in_step sink.0 s e).few (h.in_step sink.0 s e))
+      names (fits s e) (left (specs_of (settled_on state.inputs sink))) is_posted (h.in_step sink.0 s e).few (h.in_step sink.0 s e))
       (λ index s apart e. h.in_step index s e);
 }
 

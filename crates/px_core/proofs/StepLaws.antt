@@ -65,7 +65,7 @@ new_keeps {P} spec_of header h = record {
   inputs = tt;
   lists = length-replicate (length header.sinks) [];
   in_step = λ index s e. subst (AreInStep spec_of (sink_at index) s []) (sym (no_lists [] (length header.sinks) index))
-      (record { orderly = tt; leaves = refl; bring = refl; in_order = tt; few = omega arith });
+      (record { orderly = tt; leaves = refl; bring = refl; each = tt; few = omega arith });
 }
 
 -- ---- commands

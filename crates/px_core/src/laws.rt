@@ -1,5 +1,5 @@
 //! Laws of the core's definitions: what its state keeps, and what a sink is handed out.
-ghost use Rattle.std.specs.Prelude.{◌≡◌, ℕ, ◌+◌, ◌≤◌, List, [], ◌∷◌, None, Some, map, take, drop, slice_get};
+ghost use Rattle.std.specs.Prelude.{◌≡◌, ℕ, ◌+◌, ◌≤◌, List, [], ◌∷◌, ◌++◌, None, Some, map, take, drop, replicate, slice_get};
 ghost use Rattle.std.specs.List.{AllByRecursion};
 ghost use Rattle.px_types.specs.declared.ids.ConnId.{ConnId};
 ghost use Rattle.px_types.specs.declared.ids.SinkId.{SinkId};
@@ -16,9 +16,9 @@ ghost use Rattle.px_core.specs.State.{State, new_state};
 ghost use Rattle.px_core.specs.Change.{kept};
 ghost use Rattle.px_core.specs.Connecting.{going_on};
 ghost use Rattle.px_core.specs.Out.{waiting_for, next_for, handed_out, put_back};
-ghost use Rattle.px_core.specs.Step.{Step, stepped, effects_of, stepped_by, effects_by};
+ghost use Rattle.px_core.specs.Step.{Step, out, stepped, effects_of, stepped_by, effects_by};
 ghost use Rattle.px_core.specs.Orderly.{specs_of, inputs_there, IsOrderlyState};
-ghost use Rattle.px_core.specs.Keeps.{IsKept, IsStep, Spares, handed_out_by, messages_out};
+ghost use Rattle.px_core.specs.Keeps.{IsKept, IsPosted, IsStep, Spares, handed_out_by, messages_out};
 ghost use Rattle.px_core.specs.Hearing.{told_by};
 ghost use Rattle.px_core.specs.Ending.{ends_of, goes_on, begins_of, begins_by, sender_of};
 
@@ -68,8 +68,25 @@ pub fn sinks_hear_what_is_orderly<P>()
         → IsHeader header → slice_get header.sinks sink.0 ≡ Some s → AllByRecursion IsStep steps
         → IsOrderly spec_of (sample_spec s.spec) (specs_of [])
         (map (message_of (λ p. p)) (told_by spec_of sink (new_state header) steps)) }
+    ensures posted { (spec_of : P → SampleSpec) (state : State P) (steps : List (Step P)) (sink : SinkId) (s : SinkSpec)
+        → slice_get state.sinks sink.0 ≡ Some s → AllByRecursion IsStep steps → IsKept spec_of state
+        → AllByRecursion IsPosted (told_by spec_of sink state steps) }
     ensures sinks { (spec_of : P → SampleSpec) (state : State P) (steps : List (Step P))
         → (stepped_by spec_of state steps).sinks ≡ state.sinks }
+{}
+
+/// What a sink is handed out by some steps and others after them; by steps that hand out nothing to it; and by those that
+/// only do that. It does nothing: its contract is the law. Source: own.
+pub fn sinks_hear_step_by_step<P>()
+    ensures joined { (spec_of : P → SampleSpec) (state : State P) (earlier later : List (Step P)) (sink : SinkId)
+        → told_by spec_of sink state (earlier ++ later)
+        ≡ told_by spec_of sink state earlier ++ told_by spec_of sink (stepped_by spec_of state earlier) later }
+    ensures spared { (spec_of : P → SampleSpec) (state : State P) (steps : List (Step P)) (sink : SinkId)
+        → AllByRecursion (Spares sink) steps → told_by spec_of sink state steps ≡ [] }
+    ensures told { (spec_of : P → SampleSpec) (state : State P) (sink : SinkId) (n : ℕ) → IsKept spec_of state
+        → told_by spec_of sink state (replicate n (out sink)) ≡ take n (waiting_for state sink) }
+    ensures after { (spec_of : P → SampleSpec) (state : State P) (sink : SinkId) (n : ℕ)
+        → stepped_by spec_of state (replicate n (out sink)) ≡ handed_out_by n sink state }
 {}
 
 /// The server ends a connection only where it went on and goes on no more, or where it isn't taken as it connects: so at the

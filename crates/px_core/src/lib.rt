@@ -7,21 +7,21 @@ mod answer;
 mod asked;
 mod change;
 mod client;
+mod command;
 mod commit;
+mod connecting;
 mod create;
 mod created;
-mod connecting;
 mod data;
-mod command;
 mod delete;
 mod effect;
 mod effects;
 mod factors;
 mod found;
 mod input;
+mod laws;
 mod out;
 mod queues;
-mod laws;
 mod refusals;
 mod reply;
 mod tables;
@@ -34,5 +34,5 @@ pub use effects::Effects;
 pub use input::{Connection, Input, Way};
 pub use laws::{
     connections_end_once, refusals_change_nothing, sinks_have_what_they_were_told,
-    sinks_hear_what_is_orderly, states_are_kept,
+    sinks_hear_step_by_step, sinks_hear_what_is_orderly, states_are_kept,
 };

@@ -14,3 +14,6 @@ returns-clause-new g c = λ spec_of header given sink s h there is. (hearing.hea
 
 pub returns-clause-sinks : goal.returns-clause-sinks
 returns-clause-sinks g c = hearing.steps_sinks
+
+pub returns-clause-posted : goal.returns-clause-posted
+returns-clause-posted g c = λ spec_of state given sink s there is h. (hearing.heard_by spec_of sink s given state there is h).each
