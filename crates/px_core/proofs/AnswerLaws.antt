@@ -1,18 +1,15 @@
 -- What each answer keeps: of frames, of notices, and of connections that end.
-use Rattle.std.proofs.Common.{◌≡◌, ℕ, ◌<◌, ◌≤◌, List, [], ◌∷◌, ◌++◌, map, length, Option, Some, None, Bool, true, false, refl, ap, sym, subst, ◌∙◌, arith, cond, ⊎_elim}
-use Rattle.std.specs.Prelude.{◌+◌, ◌*◌, ◌/◌, ◌%◌, ◌&&◌, not, filter, flat_map, nat_eq, nat_lt, ℤ, pos, unsigned_abs, replicate, slice_get, MatchOption, IsSome, ⊤}
+use Rattle.std.proofs.Common.{◌≡◌, ℕ, ◌<◌, ◌≤◌, List, [], ◌∷◌, map, length, Option, Some, None, Bool, true, false, refl, ap, sym, subst, ◌∙◌, arith, cond}
+use Rattle.std.specs.Prelude.{◌*◌, ◌/◌, ◌%◌, ◌&&◌, not, filter, flat_map, nat_eq, nat_lt, ℤ, pos, unsigned_abs, slice_get, MatchOption, IsSome, ⊤}
 use Rattle.std.specs.Int.{int_div_euclid, int_rem_euclid}
-use Rattle.std.specs.List.{AllByRecursion, find, fold}
-use Rattle.std.specs.FinMap as finite
-use Rattle.std.proofs.lemmas.Bool.{cond_both, cond-true, cond-false, eqb-true, eqb-false, eq-eqb, ne_eqb, ltb-true, false≢true, not-true, cases_Bool, and_parts}
+use Rattle.std.specs.List.{AllByRecursion, find}
+use Rattle.std.proofs.lemmas.Bool.{cond_both, cond-false, eqb-true, eq-eqb, ne_eqb, false≢true, not-true, and_parts}
 use Rattle.std.proofs.lemmas.List.{length-replicate}
-use Rattle.std.proofs.lemmas.List.Sums.{fold-append}
-use Rattle.std.proofs.lemmas.Option.{none-some, same_Some, slice_get_within}
+use Rattle.std.proofs.lemmas.Option.{same_Some, slice_get_within}
 use Rattle.px_types.specs.declared.ids.ConnId.{ConnId}
 use Rattle.px_types.specs.declared.ids.InputId.{InputId}
 use Rattle.px_types.specs.declared.ids.SinkId.{SinkId}
 use Rattle.px_names.specs.Names.{Naming}
-use Rattle.px_sample.specs.declared.spec.Spec.{Spec}
 use Rattle.px_sample.specs.Format.{frame_size_of}
 use Rattle.px_session.specs.declared.header.SinkSpec.{SinkSpec}
 use Rattle.px_model.specs.Message.{InputFactors as Gains}
@@ -25,22 +22,19 @@ use Rattle.px_core.specs.declared.input.Connection.{Connection}
 use Rattle.px_core.specs.declared.input.Input.{Input}
 use Rattle.px_core.specs.declared.input.Way.{Way}
 use Rattle.px_core.specs.declared.input.Way.TheVariants.{Coming, There, Left}
-use Rattle.px_core.specs.declared.change.Change.{Change}
 use Rattle.px_core.specs.declared.change.Change.TheVariants.{Gone, Posted, Forgotten}
-use Rattle.px_core.specs.State.{State, has_index, has_number, input_of, connection_of, marked_of, is_stream, stream_of, is_from, is_settled, settled_on}
+use Rattle.px_core.specs.State.{State, has_index, has_number, input_of, is_stream, stream_of, is_settled, settled_on}
 use Rattle.px_core.specs.Change.{change_first, drop_first, changed, committed, leaving, forgotten, kept}
-use Rattle.px_core.specs.Create.{UNITY, unity_on, factors_of, factors_for}
+use Rattle.px_core.specs.Create.{UNITY, factors_of, factors_for}
 use Rattle.px_core.specs.Orderly.{is_there}
 use Rattle.px_core.specs.Keeps.{AreDistinct, IsInput, IsKept, IsRising, IsIncreasing, AllAbove, is_coming}
 use Rattle.px_core.specs.Reply.{Answer, ignored}
 use Rattle.px_core.specs.Delete.{ends, delete_of}
-use Rattle.px_core.specs.Data.{are_frames, write_of, data_for, data_of}
-use Rattle.px_core.specs.Connecting.{swept, sweep_of}
+use Rattle.px_core.specs.Data.{are_frames, write_of, data_for}
 use Rattle.px_core.specs.Told.{has_left, same_spec, is_on, input_on, gives_up, given_up_on, given_up}
-use Rattle.px_core.proofs.ListLaws.{all_change, all_drop, all_push, all_weaken, found_all, found_test}
+use Rattle.px_core.proofs.ListLaws.{all_change, all_drop, found_all, found_test}
 use Rattle.px_core.proofs.EntryLaws.{found_by_index}
-use Rattle.px_core.proofs.InStepLaws.{view}
-use Rattle.px_core.proofs.ChangeLaws.{sink_at, held_on, settled_spec, on_own, same_inputs_keep, leaves_keep, leaves_held, gone_keeps, gone_held}
+use Rattle.px_core.proofs.ChangeLaws.{held_on, settled_spec, on_own, same_inputs_keep, leaves_keep, leaves_held, gone_keeps, gone_held}
 
 -- ---- connections
 

@@ -1,6 +1,6 @@
 -- A message that is put back leaves the state as it was before it was handed out.
-use Rattle.std.proofs.Common.{◌≡◌, ℕ, ◌<◌, List, [], ◌∷◌, ◌++◌, map, length, Option, Some, None, Bool, true, false, refl, ap, sym, subst, ◌∙◌, cond}
-use Rattle.std.specs.Prelude.{◌&&◌, nat_eq, filter, flat_map, set, get_or, IsSome}
+use Rattle.std.proofs.Common.{◌≡◌, ℕ, ◌<◌, List, [], ◌∷◌, length, Some, None, Bool, true, false, refl, ap, sym, subst, ◌∙◌, cond}
+use Rattle.std.specs.Prelude.{nat_eq, filter, flat_map, set, get_or, IsSome}
 use Rattle.std.specs.List.{find}
 use Rattle.std.specs.FinMap as finite
 use Rattle.std.proofs.lemmas.Bool.{cond-true, cond-false, and_parts, and_right, eq-eqb, eqb-true, false≢true}
@@ -19,7 +19,7 @@ use Rattle.px_core.specs.declared.input.Way.TheVariants.{Coming, There, Left}
 use Rattle.px_core.specs.State.{State, has_index}
 use Rattle.px_core.specs.Change.{change_first, kept}
 use Rattle.px_core.specs.Orderly.{specs_of, is_held_by, is_there}
-use Rattle.px_core.specs.Out.{waiting_for, first_of, rest_of, next_for, on_way, with_way, inputs_past, inputs_before, past, handed_out, put_back}
+use Rattle.px_core.specs.Out.{first_of, rest_of, next_for, on_way, with_way, inputs_past, inputs_before, past, handed_out, put_back}
 use Rattle.px_core.specs.Keeps.{AreInStep, IsKept, IsRising, is_coming_to, is_coming, brought_by}
 use Rattle.px_core.proofs.EntryLaws.{FirstGone, first_gone, Found, found_in, get_in, spec_in}
 use Rattle.px_core.proofs.ChangeLaws.{sink_at}

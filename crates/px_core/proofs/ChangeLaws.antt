@@ -1,34 +1,30 @@
 -- What each change of inputs and messages keeps.
-use Rattle.std.proofs.Common.{◌≡◌, ℕ, ◌<◌, ◌≤◌, List, [], ◌∷◌, ◌++◌, map, length, Option, Some, None, Bool, true, false, refl, ap, sym, subst, ◌∙◌, arith, cond, ⊎_elim}
-use Rattle.std.specs.Prelude.{◌≢◌, ◌+◌, ◌&&◌, not, filter, nat_eq, set, get_or, slice_get, IsSome, IsNone, is_some, MatchOption, ⊤}
-use Rattle.std.specs.List.{AllByRecursion, find}
+use Rattle.std.proofs.Common.{◌≡◌, ℕ, ◌<◌, ◌≤◌, List, [], ◌∷◌, ◌++◌, map, length, Some, None, Bool, true, false, refl, ap, sym, subst, ◌∙◌, arith, cond, ⊎_elim}
+use Rattle.std.specs.Prelude.{◌+◌, ◌&&◌, not, filter, nat_eq, set, get_or, slice_get, IsSome, is_some}
+use Rattle.std.specs.List.{AllByRecursion}
 use Rattle.std.specs.FinMap as finite
-use Rattle.std.proofs.lemmas.Bool.{cond-true, cond-false, eqb-true, eq-eqb, ne_eqb, false≢true, cases_eq, and_right, and_left, and_from, and_parts}
+use Rattle.std.proofs.lemmas.Bool.{eq-eqb, ne_eqb, false≢true, cases_eq, and_right, and_left, and_from}
 use Rattle.std.proofs.lemmas.List.{append-nil, map-append, length-map, length-append, length-set, get_or-set_same, get_or-set_other}
 use Rattle.std.proofs.lemmas.List.Elements.{filter-append}
 use Rattle.std.proofs.lemmas.Option.{same_Some}
-use Rattle.px_types.specs.declared.ids.InputId.{InputId}
 use Rattle.px_types.specs.declared.ids.SinkId.{SinkId}
 use Rattle.px_session.specs.declared.header.SinkSpec.{SinkSpec}
 use Rattle.px_model.specs.Frame.{SampleSpec}
-use Rattle.px_model.specs.Orderly.{Inputs, NamesInput, Fits, inputs_left, IsWhole, IsNewStream, AreFactors}
-use Rattle.px_model.specs.Message.{Message, InputFactors as Gains, FrameWrite}
+use Rattle.px_model.specs.Orderly.{Inputs, NamesInput, Fits, inputs_left}
 use Rattle.px_msg.specs.declared.message.Msg.{Msg}
-use Rattle.px_msg.specs.declared.message.Msg.TheVariants.{New, Detach, Write, Factors}
+use Rattle.px_msg.specs.declared.message.Msg.TheVariants.{New, Detach}
 use Rattle.px_msg.specs.declared.message.NewStream.{NewStream}
-use Rattle.px_msg.specs.declared.factors.InputFactors.{InputFactors}
-use Rattle.px_msg.specs.View.{sample_spec, message_of, gains}
+use Rattle.px_msg.specs.View.{sample_spec}
 use Rattle.px_core.specs.declared.input.Input.{Input}
-use Rattle.px_core.specs.declared.input.Way.{Way}
-use Rattle.px_core.specs.declared.input.Way.TheVariants.{Coming, There, Left}
+use Rattle.px_core.specs.declared.input.Way.TheVariants.{Coming}
 use Rattle.px_core.specs.State.{State, has_index, input_of, is_settled, settled_on}
-use Rattle.px_core.specs.Change.{change_first, drop_first, leaving, posted_to, changed}
+use Rattle.px_core.specs.Change.{change_first, drop_first, leaving, changed}
 use Rattle.px_core.specs.declared.change.Change.TheVariants.{Leaves, Gone, Posted}
 use Rattle.px_core.specs.Create.{MOST_ON_SINK}
 use Rattle.px_core.specs.Orderly.{entry_of, specs_of, is_held_by, is_there}
-use Rattle.px_core.specs.Keeps.{AreInStep, AreAllInStep, IsInput, IsKept, IsRising, NamesInOrder, is_coming_to, is_coming, brought_by}
-use Rattle.px_core.proofs.ListLaws.{same_passed, same_left, no_more_pass, all_change, all_drop, all_push, all_weaken, found_all, found_test}
-use Rattle.px_core.proofs.EntryLaws.{spec_in, get_in, here_in, removed, inserted, pushed, none_below, few_specs, rising_change, rising_drop, rising_push}
+use Rattle.px_core.specs.Keeps.{AreInStep, AreAllInStep, IsInput, IsKept, IsRising, IsPosted, is_coming_to, is_coming, brought_by}
+use Rattle.px_core.proofs.ListLaws.{same_passed, same_left, no_more_pass, all_change, all_drop, all_push, all_weaken, found_all}
+use Rattle.px_core.proofs.EntryLaws.{get_in, here_in, removed, pushed, none_below, few_specs, rising_change, rising_drop, rising_push}
 use Rattle.px_core.proofs.InStepLaws.{view, unmoved, posted}
 
 abbrev pub sink_at : ℕ → SinkId
@@ -75,9 +71,9 @@ pub same_inputs_keep : {P : Type 0} (spec_of : P → SampleSpec) (state : State 
     → NamesInput (specs_of (settled_on state.inputs sink)) (view m)
     → ((s : SinkSpec) → slice_get state.sinks sink.0 ≡ Some s → Fits spec_of (sample_spec s.spec) (specs_of (settled_on state.inputs sink)) (view m))
     → ((inputs : Inputs) → inputs_left spec_of inputs (view m) ≡ inputs)
-    → NamesInOrder m
+    → IsPosted m
     → IsKept spec_of (changed state (Posted sink m))
-same_inputs_keep spec_of state sink m h there brings names fits left in_order = record {
+same_inputs_keep spec_of state sink m h there brings names fits left is_posted = record {
   sinks = h.sinks;
   distinct = h.distinct;
   rising = h.rising;
@@ -86,7 +82,7 @@ same_inputs_keep spec_of state sink m h there brings names fits left in_order = 
   in_step = set_in_step spec_of state.sinks state.inputs state.posted sink.0 (get_or state.posted sink.0 [] ++ m ∷ []) (subst (λ n. sink.0 < n) (sym h.lists) there)
       (λ s e. posted spec_of (sink_at sink.0) s state.inputs state.inputs (get_or state.posted sink.0 []) m refl
       (sym (append-nil (map entry_of (filter (is_coming_to (sink_at sink.0)) state.inputs))) ∙ ap (λ more. map entry_of (filter (is_coming_to (sink_at sink.0)) state.inputs) ++ more) (sym brings))
-      names (fits s e) (left (specs_of (settled_on state.inputs sink))) in_order (h.in_step sink.0 s e).few (h.in_step sink.0 s e))
+      names (fits s e) (left (specs_of (settled_on state.inputs sink))) is_posted (h.in_step sink.0 s e).few (h.in_step sink.0 s e))
       (λ index s apart e. h.in_step index s e);
 }
 

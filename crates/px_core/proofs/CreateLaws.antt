@@ -1,9 +1,9 @@
 -- CREATE keeps what the state keeps.
-use Rattle.std.proofs.Common.{◌≡◌, ℕ, zero, suc, ◌<◌, ◌≤◌, List, [], ◌∷◌, ◌++◌, map, length, min, max, Option, Some, None, Bool, true, false, refl, ap, sym, subst, ◌∙◌, arith, cond, ⊎_elim}
-use Rattle.std.specs.Prelude.{◌+◌, ◌-◌, ◌*◌, ◌/◌, ◌≢◌, ◌&&◌, ◌||◌, not, nat_eq, nat_lt, nat_le, replicate, slice_get, slice_index, Result, Ok, Err}
-use Rattle.std.specs.List.{All, AllByRecursion, list_all, range_with_len}
+use Rattle.std.proofs.Common.{◌≡◌, ℕ, zero, suc, ◌<◌, ◌≤◌, List, [], ◌∷◌, ◌++◌, length, min, max, Option, Some, None, Bool, true, false, refl, ap, sym, subst, ◌∙◌, arith, cond}
+use Rattle.std.specs.Prelude.{◌+◌, ◌-◌, ◌*◌, ◌/◌, ◌≢◌, ◌&&◌, ◌||◌, not, nat_eq, nat_lt, nat_le, slice_get, slice_index, Result, Ok, Err}
+use Rattle.std.specs.List.{All, list_all, range_with_len}
 use Rattle.std.specs.Cmp.Lexicographic.{pointwise}
-use Rattle.std.proofs.lemmas.Bool.{cond_both, eqb-true, eqb-false, ltb-true, leb-true, leb-false, false≢true, cases_Bool, and_parts, or_parts, not-false, agree_below_at}
+use Rattle.std.proofs.lemmas.Bool.{cond_both, eqb-true, eqb-false, leb-true, leb-false, false≢true, and_parts, or_parts, not-false, agree_below_at}
 use Rattle.std.proofs.lemmas.List.{length-replicate}
 use Rattle.std.proofs.lemmas.List.FromFn.{length-range_with_len, get_or-range_with_len}
 use Rattle.std.proofs.lemmas.Option.{none-some, same_Some, slice_get_within}
@@ -18,23 +18,22 @@ use Rattle.px_sample.specs.declared.spec.Spec.{Spec}
 use Rattle.px_sample.specs.Format.{code_of, frame_size_of}
 use Rattle.px_session.specs.declared.header.SinkSpec.{SinkSpec}
 use Rattle.px_session.specs.HeaderRules.{IsSink, AreSinks}
-use Rattle.px_model.specs.declared.data.Attr.{Attr}
 use Rattle.px_model.specs.Frame.{SampleSpec}
-use Rattle.px_model.specs.Orderly.{IsPlayable, IsFeed, IsRepaired, IsNewStream}
+use Rattle.px_model.specs.Orderly.{IsPlayable, IsRepaired, IsNewStream}
 use Rattle.px_msg.specs.Repair.{UNSET, MAXLENGTH, repaired, frames_asked, between_one_and, maxlength_of, tlength_of, minreq_of, prebuf_of}
-use Rattle.px_msg.specs.View.{sample_spec, opened}
+use Rattle.px_msg.specs.View.{sample_spec}
 use Rattle.px_vol.specs.Volume.{norm}
 use Rattle.px_core.specs.declared.input.Connection.{Connection}
 use Rattle.px_core.specs.declared.input.Input.{Input}
-use Rattle.px_core.specs.State.{State, has_number, is_settled, settled_on, going_of}
+use Rattle.px_core.specs.State.{State, is_settled, settled_on, going_of}
 use Rattle.px_core.specs.Change.{with_streams, with_connection, changed, committed}
-use Rattle.px_core.specs.declared.change.Change.TheVariants.{Made, Posted}
-use Rattle.px_core.specs.Create.{is_spec, is_map, are_volumes, format_on, channels_on, positions_on, rate_on, same_positions, format_with, spec_on, attr_on, is_unsupported, has_no_room, is_not_built, refusal_on, input_made, created, created_or, create_on, create_there, create_named, create, is_lawful, straight, unity_on, new_of, UNITY, MOST_ON_SINK, MOST_IN_ALL, LAST_INDEX}
-use Rattle.px_core.specs.Reply.{Answer, refused}
+use Rattle.px_core.specs.declared.change.Change.TheVariants.{Posted}
+use Rattle.px_core.specs.Create.{is_spec, is_map, are_volumes, format_on, channels_on, positions_on, rate_on, same_positions, format_with, spec_on, attr_on, is_unsupported, has_no_room, is_not_built, input_made, created, created_or, create_on, create_there, create_named, create, is_lawful, straight, unity_on, new_of, UNITY, MOST_ON_SINK, MOST_IN_ALL, LAST_INDEX}
+use Rattle.px_core.specs.Reply.{refused}
 use Rattle.px_core.specs.Keeps.{IsInput, IsKept}
 use Rattle.px_core.proofs.ListLaws.{all_weaken}
 use Rattle.px_core.proofs.EntryLaws.{rising_push}
-use Rattle.px_core.proofs.ChangeLaws.{sink_at, with_input, new_keeps, new_held}
+use Rattle.px_core.proofs.ChangeLaws.{with_input, new_keeps, new_held}
 use Rattle.px_core.proofs.AnswerLaws.{Keeps, unchanged, connection_keeps, factors_keep, rising_filter, all_filter}
 
 -- ---- attributes as repaired

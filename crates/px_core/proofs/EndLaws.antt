@@ -1,15 +1,15 @@
 -- A connection is ended once at the most each time that it begins.
-use Rattle.std.proofs.Common.{◌≡◌, ℕ, ◌+◌, ◌≤◌, List, [], ◌∷◌, ◌++◌, map, length, Option, Some, None, Bool, true, false, refl, ap, sym, subst, ◌∙◌, arith, cond, ⊎_elim, length-append}
-use Rattle.std.specs.Prelude.{◌&&◌, ◌||◌, not, filter, flat_map, nat_eq, nat_lt, is_some, slice_get, Result, Ok, Err, ℤ}
-use Rattle.std.specs.List.{AllByRecursion, find, fold, sum_by}
-use Rattle.std.proofs.lemmas.Bool.{cond_both, cond-true, cond-false, eqb-true, eqb-false, eq-eqb, ne_eqb, false≢true, cases_Bool, cases_eq}
+use Rattle.std.proofs.Common.{◌≡◌, ℕ, ◌+◌, ◌≤◌, List, [], ◌∷◌, ◌++◌, length, Option, Some, None, Bool, true, false, refl, ap, sym, subst, ◌∙◌, arith, cond, length-append}
+use Rattle.std.specs.Prelude.{not, filter, flat_map, nat_eq, nat_lt, is_some, slice_get, Result, Ok, Err, ℤ}
+use Rattle.std.specs.List.{AllByRecursion}
+use Rattle.std.proofs.lemmas.Bool.{cond_both, cond-false, eqb-true, eqb-false, ne_eqb, false≢true}
 use Rattle.std.proofs.lemmas.List.Elements.{filter-append}
 use Rattle.std.proofs.lemmas.List.Sums.{fold-append}
 use Rattle.std.proofs.lemmas.Option.{none-some, same_Some}
 use Rattle.px_types.specs.declared.ids.ConnId.{ConnId}
 use Rattle.px_types.specs.declared.ids.SinkId.{SinkId}
 use Rattle.px_types.specs.declared.error_code.ErrorCode.{ErrorCode}
-use Rattle.px_types.specs.declared.error_code.ErrorCode.TheVariants.{Access, BadState, Version, Invalid, TooLarge, NoEntity, NotSupported, NotImplemented}
+use Rattle.px_types.specs.declared.error_code.ErrorCode.TheVariants.{Access, Version, Invalid, NotImplemented}
 use Rattle.px_tag.specs.declared.fault.TagFault.{TagFault}
 use Rattle.px_tag.specs.Place.{Place, start_of}
 use Rattle.px_tag.specs.Item.{number}
@@ -21,7 +21,6 @@ use Rattle.px_cmd.specs.declared.command.CreateFields.{CreateFields}
 use Rattle.px_frame.specs.declared.frame.Frame.{Frame}
 use Rattle.px_frame.specs.declared.frame.Body.{Body}
 use Rattle.px_frame.specs.declared.frame.Body.TheVariants.{Control, Write}
-use Rattle.px_frame.specs.declared.fault.FrameFault.{FrameFault}
 use Rattle.px_session.specs.declared.header.SinkSpec.{SinkSpec}
 use Rattle.px_names.specs.Names.{Naming, same_text, sink_named}
 use Rattle.px_reply.specs.Front.{reply_to}
@@ -29,7 +28,7 @@ use Rattle.px_model.specs.Frame.{SampleSpec}
 use Rattle.px_msg.specs.declared.notice.Notice.{Notice}
 use Rattle.px_msg.specs.declared.notice.Notice.TheVariants.{Request, Overflow, Underflow, Started, Drained, Detached, Latency}
 use Rattle.px_core.specs.declared.change.Change.{Change}
-use Rattle.px_core.specs.declared.change.Change.TheVariants.{Authed, Named, Marked, Forgotten}
+use Rattle.px_core.specs.declared.change.Change.TheVariants.{Authed, Marked, Forgotten}
 use Rattle.px_core.specs.declared.effect.Effect.{Effect}
 use Rattle.px_core.specs.declared.effect.Reason.TheVariants.{Limit, Cut as ForMemory}
 use Rattle.px_core.specs.declared.input.Connection.{Connection}
@@ -44,15 +43,15 @@ use Rattle.px_core.specs.Create.{created, created_or, create_there, create_named
 use Rattle.px_core.specs.Data.{are_frames, write_of, data_for}
 use Rattle.px_core.specs.Told.{told_to, told_of, input_on, gives_up, given_up_on, given_up, notice_answer, request_message, overflow_message, underflow_message, started_message}
 use Rattle.px_core.specs.Out.{next_for, past}
-use Rattle.px_core.specs.State.{State, has_number, connection_of, is_from, marked_of, input_of, stream_of}
+use Rattle.px_core.specs.State.{State, has_number, connection_of, is_from, marked_of, stream_of}
 use Rattle.px_core.specs.Change.{change_first, drop_first, authed, marked, with_streams, changed, committed, kept}
-use Rattle.px_core.specs.Effect.{sent, closed_at, closed_for, fault_code, fault_place, offset_behind}
+use Rattle.px_core.specs.Effect.{closed_at, closed_for, fault_code, fault_place, offset_behind}
 use Rattle.px_core.specs.Reply.{Answer, ignored, refused, done, broken_off}
 use Rattle.px_core.specs.Delete.{ends, delete_of, delete}
-use Rattle.px_core.specs.Connecting.{is_full, joined, new_connection, connected, connect_effects, unmarked, going_on, ended, broken_effects, close_effects, cut_effects, swept, sweep_of}
+use Rattle.px_core.specs.Connecting.{is_full, joined, new_connection, connected, connect_effects, unmarked, going_on, ended, broken_effects, close_effects, cut_effects, swept}
 use Rattle.px_core.specs.Keeps.{AreDistinct, IsKept, IsStep}
 use Rattle.px_core.specs.Ending.{is_end_of, ends_of, goes_on, begins_of, begins_by}
-use Rattle.px_core.specs.Step.{Step, connect, frame, broken, close, cut, sweep, notice, out, body_answer, frame_of, answered, answer_of, stepped, effects_of, stepped_by, effects_by}
+use Rattle.px_core.specs.Step.{Step, connect, frame, broken, close, cut, sweep, notice, out, body_answer, frame_of, stepped, effects_of, stepped_by, effects_by}
 use Rattle.px_core.proofs.ListLaws.{found_test}
 use Rattle.px_core.proofs.AnswerLaws.{distinct_drop}
 use Rattle.px_core.proofs.StepLaws.{step_keeps}

@@ -1,29 +1,28 @@
 -- What handing out a message keeps, and what it leaves at its sink.
-use Rattle.std.proofs.Common.{◌≡◌, ℕ, zero, suc, ◌<◌, ◌≤◌, List, [], ◌∷◌, ◌++◌, map, length, take, drop, Option, Some, None, Bool, true, false, refl, ap, sym, subst, ◌∙◌, arith, cond, ⊎_elim}
-use Rattle.std.specs.Prelude.{◌&&◌, not, filter, flat_map, nat_eq, set, get_or, slice_get, IsSome, is_some}
+use Rattle.std.proofs.Common.{◌≡◌, ℕ, zero, suc, ◌<◌, ◌≤◌, List, [], ◌∷◌, ◌++◌, map, length, take, drop, Option, Some, None, Bool, true, false, refl, ap, sym, subst, ◌∙◌, arith, ⊎_elim}
+use Rattle.std.specs.Prelude.{◌&&◌, filter, flat_map, nat_eq, get_or, slice_get, IsSome}
 use Rattle.std.specs.List.{AllByRecursion, find}
 use Rattle.std.specs.Option.{option_to_list}
 use Rattle.std.specs.FinMap as finite
-use Rattle.std.proofs.lemmas.Bool.{eqb-true, ne_eqb, false≢true, cases_lt, cases_eq, and_right, and_left, and_from, and_parts}
-use Rattle.std.proofs.lemmas.List.{length-set, get_or_past, get_or-set_same, get_or-set_other}
+use Rattle.std.proofs.lemmas.Bool.{eqb-true, ne_eqb, false≢true, cases_lt, and_right, and_left, and_from, and_parts}
+use Rattle.std.proofs.lemmas.List.{length-set, get_or_past, get_or-set_same}
 use Rattle.std.proofs.lemmas.Option.{same_Some}
 use Rattle.px_types.specs.declared.ids.InputId.{InputId}
 use Rattle.px_types.specs.declared.ids.SinkId.{SinkId}
 use Rattle.px_session.specs.declared.header.SinkSpec.{SinkSpec}
 use Rattle.px_model.specs.Frame.{SampleSpec}
-use Rattle.px_model.specs.Orderly.{Inputs, inputs_left, inputs_left_by}
+use Rattle.px_model.specs.Orderly.{inputs_left, inputs_left_by}
 use Rattle.px_msg.specs.declared.message.Msg.{Msg}
 use Rattle.px_msg.specs.declared.message.Msg.TheVariants.{New, Attach, Detach, Write, Cork, Flush, Trigger, Prebuf, Drain, Attr, Factors, Query}
 use Rattle.px_msg.specs.View.{sample_spec}
 use Rattle.px_core.specs.declared.input.Input.{Input}
 use Rattle.px_core.specs.declared.input.Way.{Way}
 use Rattle.px_core.specs.declared.input.Way.TheVariants.{Coming, There, Left}
-use Rattle.px_core.specs.State.{State, has_index, input_of, is_settled, settled_on}
-use Rattle.px_core.specs.Change.{change_first}
+use Rattle.px_core.specs.State.{State, has_index, is_settled, settled_on}
 use Rattle.px_core.specs.Orderly.{entry_of, specs_of, is_held_by, is_there, inputs_there}
-use Rattle.px_core.specs.Out.{waiting_for, first_of, rest_of, next_for, on_way, with_way, inputs_past, without_next, past, handed_out}
-use Rattle.px_core.specs.Keeps.{AreInStep, AreAllInStep, IsInput, IsKept, IsRising, is_coming_to, is_coming, brought_by, handed_out_by, messages_out}
-use Rattle.px_core.proofs.ListLaws.{no_cons, same_passed, all_change, found_test}
+use Rattle.px_core.specs.Out.{waiting_for, first_of, rest_of, on_way, with_way, inputs_past, past, handed_out}
+use Rattle.px_core.specs.Keeps.{AreInStep, IsInput, IsKept, IsRising, is_coming_to, is_coming, brought_by, handed_out_by, messages_out}
+use Rattle.px_core.proofs.ListLaws.{no_cons, same_passed, all_change}
 use Rattle.px_core.proofs.EntryLaws.{FirstGone, first_gone, Found, found_in, get_in, spec_in, removed, inserted, rising_change}
 use Rattle.px_core.proofs.InStepLaws.{view, unmoved, handed}
 use Rattle.px_core.proofs.ChangeLaws.{sink_at, held_on, set_in_step}
@@ -194,7 +193,7 @@ pub out_spares : {P : Type 0} (spec_of : P → SampleSpec) (state : State P) (si
 out_spares spec_of state sink other apart h = past_spares spec_of state sink other apart h (get_or state.posted sink.0 []) refl
 
 -- one message: those behind it wait, and the sink's inputs are those that it leaves
-past_leaves : {P : Type 0} (spec_of : P → SampleSpec) (state : State P) (sink : SinkId) → IsKept spec_of state → (m : Msg P) (rest : List (Msg P)) → get_or state.posted sink.0 [] ≡ m ∷ rest
+pub past_leaves : {P : Type 0} (spec_of : P → SampleSpec) (state : State P) (sink : SinkId) → IsKept spec_of state → (m : Msg P) (rest : List (Msg P)) → get_or state.posted sink.0 [] ≡ m ∷ rest
     → (waiting_for (past (Some m) sink state) sink ≡ rest) × (inputs_there (past (Some m) sink state) sink ≡ inputs_left spec_of (inputs_there state sink) (view m))
 past_leaves spec_of state sink h m rest e =
     let l = list_there state.posted sink.0 m rest e in

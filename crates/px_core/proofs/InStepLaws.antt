@@ -1,5 +1,5 @@
 -- A sink, the inputs and the messages that wait for it stay in step.
-use Rattle.std.proofs.Common.{◌≡◌, ℕ, ◌≤◌, List, [], ◌∷◌, ◌++◌, map, length, refl, ap, sym, subst, ◌∙◌, arith}
+use Rattle.std.proofs.Common.{◌≡◌, ◌≤◌, List, [], ◌∷◌, ◌++◌, map, length, refl, ap, sym, subst, ◌∙◌}
 use Rattle.std.specs.Prelude.{filter, flat_map}
 use Rattle.std.specs.FinMap as finite
 use Rattle.std.proofs.lemmas.List.{map-append, length-map, append-nil}
@@ -16,7 +16,7 @@ use Rattle.px_core.specs.declared.input.Input.{Input}
 use Rattle.px_core.specs.State.{settled_on}
 use Rattle.px_core.specs.Create.{MOST_ON_SINK}
 use Rattle.px_core.specs.Orderly.{entry_of, specs_of, is_held_by}
-use Rattle.px_core.specs.Keeps.{AreInStep, NamesInOrder, is_coming_to, brought_by}
+use Rattle.px_core.specs.Keeps.{AreInStep, IsPosted, is_coming_to, brought_by}
 use Rattle.px_core.proofs.ListLaws.{all_push}
 
 -- a message, as the definitions of sinks have it
@@ -59,7 +59,7 @@ module _ {P : Type 0} (spec_of : P → SampleSpec) (sink : SinkId) (s : SinkSpec
     leaves = subst (λ es. inputs_left_by spec_of (finite.from_entries es) (map view waiting) ≡ specs_of (settled_on later sink)) (sym held)
         (h.leaves ∙ ap finite.from_entries (sym settled));
     bring = h.bring ∙ sym coming;
-    in_order = h.in_order;
+    each = h.each;
     few = same_few settled h.few;
   }
 
@@ -69,10 +69,10 @@ module _ {P : Type 0} (spec_of : P → SampleSpec) (sink : SinkId) (s : SinkSpec
       → NamesInput (specs_of (settled_on inputs sink)) (view m)
       → Fits spec_of (sample_spec s.spec) (specs_of (settled_on inputs sink)) (view m)
       → inputs_left spec_of (specs_of (settled_on inputs sink)) (view m) ≡ specs_of (settled_on later sink)
-      → NamesInOrder m
+      → IsPosted m
       → length (settled_on later sink) ≤ MOST_ON_SINK
       → AreInStep spec_of sink s inputs waiting → AreInStep spec_of sink s later (waiting ++ m ∷ [])
-  posted waiting m held coming names fits settled in_order few h = record {
+  posted waiting m held coming names fits settled is_posted few h = record {
     orderly = subst (λ ms. IsOrderly spec_of (sample_spec s.spec) (there later) ms) (sym (map-append view waiting (m ∷ [])))
         (subst (λ es. IsOrderly spec_of (sample_spec s.spec) (finite.from_entries es) (map view waiting ++ view m ∷ [])) (sym held)
         (posted_orderly spec_of (sample_spec s.spec) (there inputs) (specs_of (settled_on inputs sink)) (map view waiting) (view m) h.orderly h.leaves names fits));
@@ -84,7 +84,7 @@ module _ {P : Type 0} (spec_of : P → SampleSpec) (sink : SinkId) (s : SinkSpec
     bring = flat_map-append (brought_by spec_of) waiting (m ∷ [])
         ∙ (λ i. h.bring i ++ append-nil (brought_by spec_of m) i)
         ∙ sym coming;
-    in_order = all_push NamesInOrder waiting m h.in_order in_order;
+    each = all_push IsPosted waiting m h.each is_posted;
     few = few;
   }
 
@@ -98,6 +98,6 @@ module _ {P : Type 0} (spec_of : P → SampleSpec) (sink : SinkId) (s : SinkSpec
     orderly = subst (λ inputs. IsOrderly spec_of (sample_spec s.spec) inputs (map view waiting)) left h.orderly.2;
     leaves = ap (λ left. inputs_left_by spec_of left (map view waiting)) (sym left) ∙ h.leaves ∙ ap finite.from_entries (sym settled);
     bring = bring;
-    in_order = h.in_order.1;
+    each = h.each.1;
     few = same_few settled h.few;
   }

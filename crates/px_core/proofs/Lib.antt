@@ -17,3 +17,4 @@ pub mod BackLaws
 pub mod EndLaws
 pub mod RefusalLaws
 pub mod Undone
+pub mod HearingLaws

@@ -1,6 +1,6 @@
 -- Where an error is answered nothing has changed, and what a connection sends that has ended is ignored.
-use Rattle.std.proofs.Common.{◌≡◌, ℕ, ◌+◌, List, [], ◌∷◌, ◌++◌, length, Option, Some, None, Bool, true, false, refl, ap, sym, subst, ◌∙◌, arith, cond}
-use Rattle.std.specs.Prelude.{not, flat_map, get_or, slice_get, nat_eq, nat_lt, Result, Ok, Err, ℤ}
+use Rattle.std.proofs.Common.{◌≡◌, ℕ, List, [], ◌∷◌, ◌++◌, length, Option, Some, None, Bool, true, false, refl, ap, sym, ◌∙◌, arith, cond}
+use Rattle.std.specs.Prelude.{not, get_or, slice_get, nat_eq, nat_lt, Result, Ok, Err, ℤ}
 use Rattle.std.proofs.lemmas.Bool.{cond_both, false≢true}
 use Rattle.std.proofs.lemmas.Option.{none-some, same_Some}
 use Rattle.px_types.specs.declared.ids.ConnId.{ConnId}
@@ -22,7 +22,6 @@ use Rattle.px_frame.specs.declared.frame.Body.{Body}
 use Rattle.px_frame.specs.declared.frame.Body.TheVariants.{Control, Write}
 use Rattle.px_session.specs.declared.header.SinkSpec.{SinkSpec}
 use Rattle.px_names.specs.Names.{Naming, same_text, sink_named}
-use Rattle.px_names.specs.Clients.{client_on}
 use Rattle.px_reply.specs.Front.{reply_to, refusal}
 use Rattle.px_reply.specs.declared.played.Created.{Created}
 use Rattle.px_reply.specs.Message.{created_reply}
@@ -42,15 +41,15 @@ use Rattle.px_core.specs.State.{State, connection_of, stream_of}
 use Rattle.px_core.specs.Change.{committed, kept}
 use Rattle.px_core.specs.Effect.{framed, sent, closed_for, fault_code, fault_place, offset_behind}
 use Rattle.px_core.specs.Reply.{Answer, ignored, refused, done, broken_off}
-use Rattle.px_core.specs.Client.{SERVER_VERSION, version_in, let_in, auth_after, auth, list_with, set_name}
+use Rattle.px_core.specs.Client.{SERVER_VERSION, version_in, let_in, auth_after, auth, set_name}
 use Rattle.px_core.specs.Command.{create_in, number_in, as_bytes, as_properties, field, row, read_answer, is_barred, is_waiting_for_work, command_answer, head_answer}
 use Rattle.px_core.specs.Create.{created, created_of, created_or, create_there, create_named, create, is_lawful, refusal_on, input_made}
 use Rattle.px_core.specs.Delete.{ends, delete_of, delete}
 use Rattle.px_core.specs.Data.{are_frames, write_of, data_for}
-use Rattle.px_core.specs.Connecting.{is_full, joined, connected, connect_effects, going_on, ended, broken_effects, close_effects, cut_effects, sweep_of}
+use Rattle.px_core.specs.Connecting.{is_full, connect_effects, going_on, ended, broken_effects, close_effects, cut_effects}
 use Rattle.px_core.specs.Told.{told_to, told_of, input_on, gives_up, given_up_on, given_up, notice_answer, request_message, overflow_message, underflow_message, started_message}
 use Rattle.px_core.specs.Ending.{sender_of}
-use Rattle.px_core.specs.Step.{Step, connect, frame, broken, close, cut, sweep, notice, out, body_answer, frame_of, answered, answer_of, stepped, effects_of}
+use Rattle.px_core.specs.Step.{Step, connect, frame, broken, close, cut, sweep, notice, out, body_answer, frame_of, stepped, effects_of}
 use Rattle.px_core.proofs.ListLaws.{heads, no_cons}
 
 -- ---- an error is no reply

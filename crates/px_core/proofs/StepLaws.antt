@@ -1,14 +1,13 @@
 -- Each step keeps what the state keeps, and so does a new state.
-use Rattle.std.proofs.Common.{◌≡◌, ℕ, zero, suc, ◌<◌, ◌≤◌, List, [], ◌∷◌, ◌++◌, map, length, Option, Some, None, Bool, true, false, refl, ap, sym, subst, ◌∙◌, arith, cond, ⊎_elim}
-use Rattle.std.specs.Prelude.{filter, flat_map, nat_eq, nat_lt, ◌+◌, replicate, get_or, slice_get, not, ◌&&◌, ◌||◌, is_some, nat_le, Result, Ok, Err}
-use Rattle.std.specs.List.{AllByRecursion, find, fold}
+use Rattle.std.proofs.Common.{◌≡◌, ℕ, List, [], ◌∷◌, ◌++◌, length, Option, Some, None, Bool, true, false, refl, ap, sym, subst, arith, cond, ⊎_elim}
+use Rattle.std.specs.Prelude.{nat_eq, nat_lt, ◌+◌, replicate, get_or, not, Result, Ok, Err}
+use Rattle.std.specs.List.{AllByRecursion}
 use Rattle.std.specs.FinMap as finite
-use Rattle.std.proofs.lemmas.Bool.{cond_both, eqb-true, eqb-false, ne_eqb, false≢true, cases_lt}
+use Rattle.std.proofs.lemmas.Bool.{cond_both, eqb-false, cases_lt}
 use Rattle.std.proofs.lemmas.List.{length-replicate, get_or-replicate, get_or_past}
 use Rattle.std.proofs.lemmas.Option.{none-some}
 use Rattle.px_types.specs.declared.ids.ConnId.{ConnId}
 use Rattle.px_types.specs.declared.ids.SinkId.{SinkId}
-use Rattle.px_types.specs.declared.error_code.ErrorCode.{ErrorCode}
 use Rattle.px_tag.specs.declared.fault.TagFault.{TagFault}
 use Rattle.px_tag.specs.Place.{Place, start_of}
 use Rattle.px_cmd.specs.Field.{Field}
@@ -20,7 +19,6 @@ use Rattle.px_frame.specs.declared.frame.Body.{Body}
 use Rattle.px_frame.specs.declared.frame.Body.TheVariants.{Control, Write}
 use Rattle.px_frame.specs.Frame.{IsBody}
 use Rattle.px_session.specs.declared.header.Header.{Header}
-use Rattle.px_session.specs.declared.header.SinkSpec.{SinkSpec}
 use Rattle.px_session.specs.HeaderRules.{IsHeader}
 use Rattle.px_reply.specs.Front.{reply_to}
 use Rattle.px_tag.specs.PropList.{Property}
@@ -28,26 +26,25 @@ use Rattle.px_tag.specs.Item.{number}
 use Rattle.px_names.specs.Names.{Naming, same_text}
 use Rattle.px_names.specs.Clients.{new_client, client_on}
 use Rattle.px_model.specs.Frame.{SampleSpec}
-use Rattle.px_msg.specs.declared.message.Msg.{Msg}
 use Rattle.px_msg.specs.declared.notice.Notice.{Notice}
 use Rattle.px_msg.specs.declared.notice.Notice.TheVariants.{Request, Overflow, Underflow, Started, Drained, Detached, Latency}
-use Rattle.px_types.specs.declared.error_code.ErrorCode.TheVariants.{Access, BadState, Version, Command as UnknownCommand, NotSupported, NotImplemented}
+use Rattle.px_types.specs.declared.error_code.ErrorCode.TheVariants.{Access, Version, NotImplemented}
 use Rattle.px_core.specs.declared.change.Change.TheVariants.{Authed, Named, Marked}
 use Rattle.px_core.specs.declared.effect.Effect.{Effect}
 use Rattle.px_core.specs.declared.input.Connection.{Connection}
 use Rattle.px_core.specs.declared.input.Input.{Input}
-use Rattle.px_core.specs.State.{State, new_state, has_number, connection_of, is_stream, stream_of}
+use Rattle.px_core.specs.State.{State, new_state, connection_of, stream_of}
 use Rattle.px_core.specs.Change.{authed, marked, renamed, changed, committed, kept}
 use Rattle.px_core.specs.Client.{SERVER_VERSION, version_in, let_in, auth_after, auth, list_with, set_name}
-use Rattle.px_core.specs.Command.{create_in, number_in, as_bytes, as_properties, field, row, read_answer, is_barred, is_waiting_for_work, command_answer, head_answer, packet_answer}
+use Rattle.px_core.specs.Command.{create_in, number_in, as_bytes, as_properties, field, row, read_answer, is_barred, is_waiting_for_work, command_answer, head_answer}
 use Rattle.px_core.specs.Create.{create}
 use Rattle.px_core.specs.Delete.{delete}
-use Rattle.px_core.specs.Reply.{Answer, ignored, refused, done, broken_off}
-use Rattle.px_core.specs.Connecting.{is_full, new_connection, joined, connected, ended, going_on, broken_effects, close_effects, cut_effects, sweep_of}
+use Rattle.px_core.specs.Reply.{Answer, ignored, refused, done}
+use Rattle.px_core.specs.Connecting.{is_full, new_connection, joined, connected, ended, going_on, broken_effects, close_effects, cut_effects}
 use Rattle.px_core.specs.Told.{told_to, told_of, input_on, notice_answer, request_message, overflow_message, underflow_message, started_message}
 use Rattle.px_core.specs.Orderly.{inputs_there}
 use Rattle.px_core.specs.Keeps.{AreDistinct, AreInStep, IsKept, IsStep, Spares}
-use Rattle.px_core.specs.Step.{Step, connect, frame, broken, close, cut, sweep, notice, out, body_answer, frame_of, frame_answer, answered, answer_of, stepped, stepped_by}
+use Rattle.px_core.specs.Step.{Step, connect, frame, broken, close, cut, sweep, notice, out, body_answer, frame_of, answered, answer_of, stepped, stepped_by}
 use Rattle.px_core.proofs.ListLaws.{all_push}
 use Rattle.px_core.proofs.ChangeLaws.{sink_at, held_on}
 use Rattle.px_core.proofs.HandingLaws.{out_keeps, out_spares}
@@ -68,7 +65,7 @@ new_keeps {P} spec_of header h = record {
   inputs = tt;
   lists = length-replicate (length header.sinks) [];
   in_step = λ index s e. subst (AreInStep spec_of (sink_at index) s []) (sym (no_lists [] (length header.sinks) index))
-      (record { orderly = tt; leaves = refl; bring = refl; in_order = tt; few = omega arith });
+      (record { orderly = tt; leaves = refl; bring = refl; each = tt; few = omega arith });
 }
 
 -- ---- commands

@@ -1,13 +1,11 @@
 -- Sweeping ended connections away keeps what the state keeps.
-use Rattle.std.proofs.Common.{◌≡◌, ℕ, List, [], ◌∷◌, ◌++◌, map, Option, Some, None, Bool, true, false, refl, ap, sym, subst, ◌∙◌}
+use Rattle.std.proofs.Common.{◌≡◌, ℕ, List, [], ◌∷◌, ◌++◌, Some, true, false, refl, ap, sym, subst, ◌∙◌}
 use Rattle.std.specs.Prelude.{not, filter, flat_map, nat_eq}
-use Rattle.std.specs.List.{AllByRecursion, fold}
+use Rattle.std.specs.List.{AllByRecursion}
 use Rattle.std.proofs.lemmas.Bool.{eqb-true, not-true, and_parts}
 use Rattle.std.proofs.lemmas.List.Sums.{fold-append}
 use Rattle.std.proofs.lemmas.Option.{same_Some}
-use Rattle.px_types.specs.declared.ids.ConnId.{ConnId}
 use Rattle.px_model.specs.Frame.{SampleSpec}
-use Rattle.px_core.specs.declared.change.Change.{Change}
 use Rattle.px_core.specs.declared.change.Change.TheVariants.{Forgotten}
 use Rattle.px_core.specs.declared.input.Connection.{Connection}
 use Rattle.px_core.specs.declared.input.Input.{Input}

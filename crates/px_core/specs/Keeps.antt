@@ -74,10 +74,11 @@ abbrev pub IsIncreasing : List ℕ → Type 0
 IsIncreasing [] = ⊤
 IsIncreasing (i ∷ indices) = AllByRecursion (λ j. i < j) indices × IsIncreasing indices
 
--- factors name their inputs in rising index, each once
-abbrev pub NamesInOrder : {P : Type 0} → Msg P → Type 0
-NamesInOrder (Factors each) = IsIncreasing (map (λ f. (InputFactors.input f).0) each)
-NamesInOrder _ = ⊤
+-- what the core posts: no stream from another sink, and factors that name their inputs in rising index, each once
+abbrev pub IsPosted : {P : Type 0} → Msg P → Type 0
+IsPosted (Attach input parcel feed factors) = ⊥
+IsPosted (Factors each) = IsIncreasing (map (λ f. (InputFactors.input f).0) each)
+IsPosted _ = ⊤
 
 -- the messages that wait for a sink are orderly from the inputs that it has, and leave there exactly those that are settled on it, no more
 -- than a sink can have; and they bring, in order, those that are on their way to it
@@ -85,7 +86,7 @@ pub record AreInStep {P : Type 0} (spec_of : P → SampleSpec) (sink : SinkId) (
   pub orderly : IsOrderly spec_of (sample_spec s.spec) (specs_of (filter (is_held_by sink) inputs)) (map (message_of (λ p. p)) waiting)
   pub leaves : inputs_left_by spec_of (specs_of (filter (is_held_by sink) inputs)) (map (message_of (λ p. p)) waiting) ≡ specs_of (settled_on inputs sink)
   pub bring : flat_map (brought_by spec_of) waiting ≡ map entry_of (filter (is_coming_to sink) inputs)
-  pub in_order : AllByRecursion NamesInOrder waiting
+  pub each : AllByRecursion IsPosted waiting
   pub few : length (settled_on inputs sink) ≤ MOST_ON_SINK
 
 -- for every sink

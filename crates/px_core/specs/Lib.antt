@@ -16,3 +16,4 @@ pub mod Step
 pub mod Orderly
 pub mod Keeps
 pub mod Ending
+pub mod Hearing

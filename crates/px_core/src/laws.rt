@@ -1,23 +1,25 @@
 //! Laws of the core's definitions: what its state keeps, and what a sink is handed out.
-ghost use Rattle.std.specs.Prelude.{◌≡◌, ℕ, ◌+◌, ◌≤◌, List, [], ◌∷◌, None, Some, map, take, drop};
+ghost use Rattle.std.specs.Prelude.{◌≡◌, ℕ, ◌+◌, ◌≤◌, List, [], ◌∷◌, ◌++◌, None, Some, map, take, drop, replicate, slice_get};
 ghost use Rattle.std.specs.List.{AllByRecursion};
 ghost use Rattle.px_types.specs.declared.ids.ConnId.{ConnId};
 ghost use Rattle.px_types.specs.declared.ids.SinkId.{SinkId};
 ghost use Rattle.px_session.specs.declared.header.Header.{Header};
+ghost use Rattle.px_session.specs.declared.header.SinkSpec.{SinkSpec};
 ghost use Rattle.px_session.specs.HeaderRules.{IsHeader};
 ghost use Rattle.px_model.specs.Frame.{SampleSpec};
-ghost use Rattle.px_model.specs.Orderly.{inputs_left_by};
+ghost use Rattle.px_model.specs.Orderly.{IsOrderly, inputs_left_by};
 ghost use Rattle.px_msg.specs.declared.message.Msg.{Msg};
-ghost use Rattle.px_msg.specs.View.{message_of};
+ghost use Rattle.px_msg.specs.View.{sample_spec, message_of};
 ghost use Rattle.px_reply.specs.Front.{refusal};
 ghost use Rattle.px_core.specs.Effect.{sent};
 ghost use Rattle.px_core.specs.State.{State, new_state};
 ghost use Rattle.px_core.specs.Change.{kept};
 ghost use Rattle.px_core.specs.Connecting.{going_on};
 ghost use Rattle.px_core.specs.Out.{waiting_for, next_for, handed_out, put_back};
-ghost use Rattle.px_core.specs.Step.{Step, stepped, effects_of, stepped_by, effects_by};
-ghost use Rattle.px_core.specs.Orderly.{inputs_there, IsOrderlyState};
-ghost use Rattle.px_core.specs.Keeps.{IsKept, IsStep, Spares, handed_out_by, messages_out};
+ghost use Rattle.px_core.specs.Step.{Step, out, stepped, effects_of, stepped_by, effects_by};
+ghost use Rattle.px_core.specs.Orderly.{specs_of, inputs_there, IsOrderlyState};
+ghost use Rattle.px_core.specs.Keeps.{IsKept, IsPosted, IsStep, Spares, handed_out_by, messages_out};
+ghost use Rattle.px_core.specs.Hearing.{told_by};
 ghost use Rattle.px_core.specs.Ending.{ends_of, goes_on, begins_of, begins_by, sender_of};
 
 /// What the state keeps, a new one has, and it keeps under every step; `spec_of` reads a parcel's sample spec. So the messages
@@ -48,6 +50,43 @@ pub fn sinks_have_what_they_were_told<P>()
         → IsKept spec_of state → inputs_there (stepped spec_of state s) sink ≡ inputs_there state sink }
     ensures put_back { (spec_of : P → SampleSpec) (state : State P) (sink : SinkId) (m : Msg P) → IsKept spec_of state
         → next_for state sink ≡ Some m → put_back sink m (handed_out sink state) ≡ kept state }
+{}
+
+/// All that a sink is handed out over any steps, in order, is orderly from the inputs that it had, and leaves there those that
+/// the core knows to be there; from a new state it is orderly from none. No step changes the sinks. It does nothing: its
+/// contract is the law. Source: own.
+pub fn sinks_hear_what_is_orderly<P>()
+    ensures orderly { (spec_of : P → SampleSpec) (state : State P) (steps : List (Step P)) (sink : SinkId) (s : SinkSpec)
+        → slice_get state.sinks sink.0 ≡ Some s → AllByRecursion IsStep steps → IsKept spec_of state
+        → IsOrderly spec_of (sample_spec s.spec) (inputs_there state sink)
+        (map (message_of (λ p. p)) (told_by spec_of sink state steps)) }
+    ensures inputs { (spec_of : P → SampleSpec) (state : State P) (steps : List (Step P)) (sink : SinkId) (s : SinkSpec)
+        → slice_get state.sinks sink.0 ≡ Some s → AllByRecursion IsStep steps → IsKept spec_of state
+        → inputs_there (stepped_by spec_of state steps) sink
+        ≡ inputs_left_by spec_of (inputs_there state sink) (map (message_of (λ p. p)) (told_by spec_of sink state steps)) }
+    ensures new { (spec_of : P → SampleSpec) (header : Header) (steps : List (Step P)) (sink : SinkId) (s : SinkSpec)
+        → IsHeader header → slice_get header.sinks sink.0 ≡ Some s → AllByRecursion IsStep steps
+        → IsOrderly spec_of (sample_spec s.spec) (specs_of [])
+        (map (message_of (λ p. p)) (told_by spec_of sink (new_state header) steps)) }
+    ensures posted { (spec_of : P → SampleSpec) (state : State P) (steps : List (Step P)) (sink : SinkId) (s : SinkSpec)
+        → slice_get state.sinks sink.0 ≡ Some s → AllByRecursion IsStep steps → IsKept spec_of state
+        → AllByRecursion IsPosted (told_by spec_of sink state steps) }
+    ensures sinks { (spec_of : P → SampleSpec) (state : State P) (steps : List (Step P))
+        → (stepped_by spec_of state steps).sinks ≡ state.sinks }
+{}
+
+/// What a sink is handed out by some steps and others after them; by steps that hand out nothing to it; and by those that
+/// only do that. It does nothing: its contract is the law. Source: own.
+pub fn sinks_hear_step_by_step<P>()
+    ensures joined { (spec_of : P → SampleSpec) (state : State P) (earlier later : List (Step P)) (sink : SinkId)
+        → told_by spec_of sink state (earlier ++ later)
+        ≡ told_by spec_of sink state earlier ++ told_by spec_of sink (stepped_by spec_of state earlier) later }
+    ensures spared { (spec_of : P → SampleSpec) (state : State P) (steps : List (Step P)) (sink : SinkId)
+        → AllByRecursion (Spares sink) steps → told_by spec_of sink state steps ≡ [] }
+    ensures told { (spec_of : P → SampleSpec) (state : State P) (sink : SinkId) (n : ℕ) → IsKept spec_of state
+        → told_by spec_of sink state (replicate n (out sink)) ≡ take n (waiting_for state sink) }
+    ensures after { (spec_of : P → SampleSpec) (state : State P) (sink : SinkId) (n : ℕ)
+        → stepped_by spec_of state (replicate n (out sink)) ≡ handed_out_by n sink state }
 {}
 
 /// The server ends a connection only where it went on and goes on no more, or where it isn't taken as it connects: so at the

@@ -7,12 +7,12 @@ mod answer;
 mod asked;
 mod change;
 mod client;
+mod command;
 mod commit;
+mod connecting;
 mod create;
 mod created;
-mod connecting;
 mod data;
-mod command;
 mod delete;
 mod effect;
 mod effects;
@@ -22,9 +22,9 @@ mod frames;
 mod input;
 mod lending;
 mod machine;
+mod laws;
 mod out;
 mod queues;
-mod laws;
 mod refusals;
 mod reply;
 mod start;
@@ -40,3 +40,7 @@ pub use input::{Connection, Input, Way};
 pub use laws::{connections_end_once, refusals_change_nothing, sinks_have_what_they_were_told, states_are_kept};
 pub use lending::put_back_undoes_handing_out;
 pub use machine::Core;
+pub use laws::{
+    connections_end_once, refusals_change_nothing, sinks_have_what_they_were_told,
+    sinks_hear_step_by_step, sinks_hear_what_is_orderly, states_are_kept,
+};

@@ -1,0 +1,149 @@
+-- All that a sink is handed out over any steps is orderly, and leaves the inputs that the core knows to be there.
+use Rattle.std.proofs.Common.{◌≡◌, ℕ, zero, suc, List, [], ◌∷◌, ◌++◌, map, take, Option, Some, None, refl, ap, sym, subst, ◌∙◌}
+use Rattle.std.specs.Prelude.{nat_eq, get_or, slice_get, replicate}
+use Rattle.std.specs.List.{AllByRecursion}
+use Rattle.std.specs.Option.{option_to_list}
+use Rattle.std.proofs.lemmas.Bool.{cond_both, cond-true, cond-false, eqb-true, eqb-false, eq-eqb, ne_eqb}
+use Rattle.std.proofs.lemmas.List.{append_assoc}
+use Rattle.px_types.specs.declared.ids.ConnId.{ConnId}
+use Rattle.px_types.specs.declared.ids.SinkId.{SinkId}
+use Rattle.px_session.specs.declared.header.SinkSpec.{SinkSpec}
+use Rattle.px_model.specs.Frame.{SampleSpec}
+use Rattle.px_model.specs.Orderly.{Inputs, IsOrderly, inputs_left, inputs_left_by}
+use Rattle.px_msg.specs.declared.message.Msg.{Msg}
+use Rattle.px_msg.specs.View.{sample_spec}
+use Rattle.px_core.specs.declared.change.Change.{Change}
+use Rattle.px_core.specs.declared.change.Change.TheVariants.{Authed, Named, Marked, Forgotten, Made, Leaves, Gone, Posted}
+use Rattle.px_core.specs.declared.input.Connection.{Connection}
+use Rattle.px_core.specs.State.{State, connection_of}
+use Rattle.px_core.specs.Change.{changed, committed, kept}
+use Rattle.px_core.specs.Reply.{Answer}
+use Rattle.px_core.specs.Connecting.{is_full, joined, connected}
+use Rattle.px_core.specs.Orderly.{inputs_there}
+use Rattle.px_core.specs.Out.{waiting_for, first_of, next_for, past, handed_out}
+use Rattle.px_core.specs.Keeps.{AreInStep, IsKept, IsPosted, IsStep, Spares, handed_out_by, messages_out}
+use Rattle.px_core.specs.Hearing.{told_in, told_by}
+use Rattle.px_core.specs.Step.{Step, connect, frame, broken, close, cut, sweep, notice, out, answer_of, stepped, stepped_by}
+use Rattle.px_core.proofs.InStepLaws.{view}
+use Rattle.px_core.proofs.ChangeLaws.{sink_at}
+use Rattle.px_core.proofs.HandingLaws.{past_leaves, all_out}
+use Rattle.px_core.proofs.StepLaws.{step_keeps, step_spares}
+
+-- ---- the sinks stay
+
+change_sinks : {P : Type 0} (state : State P) (c : Change P) → (changed state c).sinks ≡ state.sinks
+change_sinks state (Authed conn version) = refl
+change_sinks state (Named conn list) = refl
+change_sinks state (Marked conn) = refl
+change_sinks state (Forgotten conn) = refl
+change_sinks state (Made x streams inputs) = refl
+change_sinks state (Leaves index) = refl
+change_sinks state (Gone index) = refl
+change_sinks state (Posted sink m) = refl
+
+committed_sinks : {P : Type 0} (changes : List (Change P)) (state : State P) → (committed state changes).sinks ≡ state.sinks
+committed_sinks [] state = refl
+committed_sinks (c ∷ changes) state = committed_sinks changes (changed state c) ∙ change_sinks state c
+
+connected_sinks : {P : Type 0} (o : Option Connection) (conn : ConnId) (state : State P) → (connected o conn state).sinks ≡ state.sinks
+connected_sinks (Some c) conn state = refl
+connected_sinks None conn state = cond_both (is_full state) state (joined conn state) (λ after. after.sinks ≡ state.sinks) (λ e. refl) (λ e. refl)
+
+past_sinks : {P : Type 0} (o : Option (Msg P)) (sink : SinkId) (state : State P) → (past o sink state).sinks ≡ state.sinks
+past_sinks None sink state = refl
+past_sinks (Some m) sink state = refl
+
+pub step_sinks : {P : Type 0} (spec_of : P → SampleSpec) (state : State P) (s : Step P) → (stepped spec_of state s).sinks ≡ state.sinks
+step_sinks spec_of state (connect conn) = connected_sinks (connection_of state.connections conn) conn (kept state)
+step_sinks spec_of state (frame conn f) = committed_sinks (Answer.changes (answer_of spec_of state (frame conn f))) state
+step_sinks spec_of state (broken conn fault at) = committed_sinks (Answer.changes (answer_of spec_of state (broken conn fault at))) state
+step_sinks spec_of state (close conn) = committed_sinks (Answer.changes (answer_of spec_of state (close conn))) state
+step_sinks spec_of state (cut conn) = committed_sinks (Answer.changes (answer_of spec_of state (cut conn))) state
+step_sinks spec_of state sweep = committed_sinks (Answer.changes (answer_of spec_of state sweep)) state
+step_sinks spec_of state (notice sink n) = committed_sinks (Answer.changes (answer_of spec_of state (notice sink n))) state
+step_sinks spec_of state (out sink) = past_sinks (next_for state sink) sink state
+
+pub steps_sinks : {P : Type 0} (spec_of : P → SampleSpec) (state : State P) (steps : List (Step P)) → (stepped_by spec_of state steps).sinks ≡ state.sinks
+steps_sinks spec_of state [] = refl
+steps_sinks spec_of state (s ∷ steps) = steps_sinks spec_of (stepped spec_of state s) steps ∙ step_sinks spec_of state s
+
+-- ---- what the sink is told
+
+-- orderly from some inputs, with what it leaves there, and as the core posts it
+pub record Heard {P : Type 0} (spec_of : P → SampleSpec) (s : SinkSpec) (before after : Inputs) (messages : List (Msg P)) : Type 0 where
+  pub orderly : IsOrderly spec_of (sample_spec s.spec) before (map view messages)
+  pub left : after ≡ inputs_left_by spec_of before (map view messages)
+  pub each : AllByRecursion IsPosted messages
+
+from_same : {P : Type 0} (spec_of : P → SampleSpec) (s : SinkSpec) (before mid after : Inputs) (messages : List (Msg P)) → mid ≡ before → Heard spec_of s mid after messages → Heard spec_of s before after messages
+from_same spec_of s before mid after messages e h = subst (λ inputs. Heard spec_of s inputs after messages) e h
+
+-- one message, and those after it
+heard_next : {P : Type 0} (spec_of : P → SampleSpec) (state : State P) (sink : SinkId) (s : SinkSpec) → slice_get state.sinks sink.0 ≡ Some s → IsKept spec_of state → (waiting : List (Msg P)) → get_or state.posted sink.0 [] ≡ waiting → (after : Inputs) (later : List (Msg P)) → Heard spec_of s (inputs_there (past (first_of waiting) sink state) sink) after later → Heard spec_of s (inputs_there state sink) after (option_to_list (first_of waiting) ++ later)
+heard_next spec_of state sink s there h [] e after later heard = heard
+heard_next spec_of state sink s there h (m ∷ rest) e after later heard =
+    let first : AreInStep spec_of (sink_at sink.0) s state.inputs (m ∷ rest) = subst (λ ms. AreInStep spec_of (sink_at sink.0) s state.inputs ms) e (h.in_step sink.0 s there) in
+    let it : Heard spec_of s (inputs_left spec_of (inputs_there state sink) (view m)) after later =
+    from_same spec_of s (inputs_left spec_of (inputs_there state sink) (view m)) (inputs_there (past (Some m) sink state) sink) after later (past_leaves spec_of state sink h m rest e).1 heard in
+    record { orderly = (first.orderly.0, first.orderly.1, it.orderly); left = it.left; each = (first.each.0, it.each) }
+
+heard_step : {P : Type 0} (spec_of : P → SampleSpec) (state : State P) (sink : SinkId) (s : SinkSpec) → slice_get state.sinks sink.0 ≡ Some s → IsKept spec_of state → (t : Step P) → IsStep t → (after : Inputs) (later : List (Msg P)) → Heard spec_of s (inputs_there (stepped spec_of state t) sink) after later → Heard spec_of s (inputs_there state sink) after (told_in sink state t ++ later)
+heard_step spec_of state sink s there h (connect conn) is after later heard = from_same spec_of s (inputs_there state sink) (inputs_there (stepped spec_of state (connect conn)) sink) after later (step_spares spec_of state (connect conn) sink is tt h) heard
+heard_step spec_of state sink s there h (frame conn f) is after later heard = from_same spec_of s (inputs_there state sink) (inputs_there (stepped spec_of state (frame conn f)) sink) after later (step_spares spec_of state (frame conn f) sink is tt h) heard
+heard_step spec_of state sink s there h (broken conn fault at) is after later heard =
+    from_same spec_of s (inputs_there state sink) (inputs_there (stepped spec_of state (broken conn fault at)) sink) after later (step_spares spec_of state (broken conn fault at) sink is tt h) heard
+heard_step spec_of state sink s there h (close conn) is after later heard = from_same spec_of s (inputs_there state sink) (inputs_there (stepped spec_of state (close conn)) sink) after later (step_spares spec_of state (close conn) sink is tt h) heard
+heard_step spec_of state sink s there h (cut conn) is after later heard = from_same spec_of s (inputs_there state sink) (inputs_there (stepped spec_of state (cut conn)) sink) after later (step_spares spec_of state (cut conn) sink is tt h) heard
+heard_step spec_of state sink s there h sweep is after later heard = from_same spec_of s (inputs_there state sink) (inputs_there (stepped spec_of state sweep) sink) after later (step_spares spec_of state sweep sink is tt h) heard
+heard_step spec_of state sink s there h (notice from n) is after later heard =
+    from_same spec_of s (inputs_there state sink) (inputs_there (stepped spec_of state (notice from n)) sink) after later (step_spares spec_of state (notice from n) sink is tt h) heard
+heard_step {P} spec_of state sink s there h (out to) is after later heard =
+    cond_both (nat_eq to.0 sink.0) (option_to_list (next_for state to)) [] (λ messages. Heard spec_of s (inputs_there state sink) after (messages ++ later))
+    (λ e.
+    subst (λ n. Heard spec_of s (inputs_there state sink) after (option_to_list (next_for state (sink_at n)) ++ later)) (sym (eqb-true to.0 sink.0 e))
+    (heard_next spec_of state sink s there h (get_or state.posted sink.0 []) refl after later
+    (subst (λ n. Heard spec_of s (inputs_there (handed_out (sink_at n) state) sink) after later) (eqb-true to.0 sink.0 e) heard)))
+    (λ e. from_same spec_of s (inputs_there state sink) (inputs_there (stepped spec_of state (out to)) sink) after later (step_spares spec_of state (out to) sink is (eqb-false to.0 sink.0 e) h) heard)
+
+pub heard_by : {P : Type 0} (spec_of : P → SampleSpec) (sink : SinkId) (s : SinkSpec) (steps : List (Step P)) (state : State P) → slice_get state.sinks sink.0 ≡ Some s → AllByRecursion IsStep steps → IsKept spec_of state → Heard spec_of s (inputs_there state sink) (inputs_there (stepped_by spec_of state steps) sink) (told_by spec_of sink state steps)
+heard_by spec_of sink s [] state there is h = record { orderly = tt; left = refl; each = tt }
+heard_by spec_of sink s (t ∷ steps) state there is h =
+    heard_step spec_of state sink s there h t is.0 (inputs_there (stepped_by spec_of (stepped spec_of state t) steps) sink) (told_by spec_of sink (stepped spec_of state t) steps)
+    (heard_by spec_of sink s steps (stepped spec_of state t) (ap (λ sinks. slice_get sinks sink.0) (step_sinks spec_of state t) ∙ there) is.1 (step_keeps spec_of state t is.0 h))
+
+-- ---- some steps after others
+
+pub told_joined : {P : Type 0} (spec_of : P → SampleSpec) (sink : SinkId) (earlier later : List (Step P)) (state : State P) → told_by spec_of sink state (earlier ++ later) ≡ told_by spec_of sink state earlier ++ told_by spec_of sink (stepped_by spec_of state earlier) later
+told_joined spec_of sink [] later state = refl
+told_joined spec_of sink (s ∷ earlier) later state =
+    ap (λ messages. told_in sink state s ++ messages) (told_joined spec_of sink earlier later (stepped spec_of state s))
+    ∙ sym (append_assoc (told_in sink state s) (told_by spec_of sink (stepped spec_of state s) earlier) (told_by spec_of sink (stepped_by spec_of (stepped spec_of state s) earlier) later))
+
+step_untold : {P : Type 0} (sink : SinkId) (state : State P) (s : Step P) → Spares sink s → told_in sink state s ≡ []
+step_untold sink state (connect conn) h = refl
+step_untold sink state (frame conn f) h = refl
+step_untold sink state (broken conn fault at) h = refl
+step_untold sink state (close conn) h = refl
+step_untold sink state (cut conn) h = refl
+step_untold sink state sweep h = refl
+step_untold sink state (notice from n) h = refl
+step_untold sink state (out to) h = cond-false (nat_eq to.0 sink.0) (option_to_list (next_for state to)) [] (ne_eqb to.0 sink.0 h)
+
+-- steps that hand out nothing to the sink
+pub untold : {P : Type 0} (spec_of : P → SampleSpec) (sink : SinkId) (steps : List (Step P)) (state : State P) → AllByRecursion (Spares sink) steps → told_by spec_of sink state steps ≡ []
+untold spec_of sink [] state h = refl
+untold spec_of sink (s ∷ steps) state h = (λ i. step_untold sink state s h.0 i ++ untold spec_of sink steps (stepped spec_of state s) h.1 i)
+
+-- and steps that do nothing else
+pub outs : {P : Type 0} (spec_of : P → SampleSpec) (sink : SinkId) (n : ℕ) (state : State P) → stepped_by spec_of state (replicate n (out sink)) ≡ handed_out_by n sink state
+outs spec_of sink zero state = refl
+outs spec_of sink (suc n) state = outs spec_of sink n (handed_out sink state)
+
+outs_told : {P : Type 0} (spec_of : P → SampleSpec) (sink : SinkId) (n : ℕ) (state : State P) → told_by spec_of sink state (replicate n (out sink)) ≡ messages_out n sink state
+outs_told spec_of sink zero state = refl
+outs_told spec_of sink (suc n) state =
+    ap (λ messages. messages ++ told_by spec_of sink (handed_out sink state) (replicate n (out sink))) (cond-true (nat_eq sink.0 sink.0) (option_to_list (next_for state sink)) [] (eq-eqb sink.0 sink.0 refl))
+    ∙ ap (λ messages. option_to_list (next_for state sink) ++ messages) (outs_told spec_of sink n (handed_out sink state))
+
+pub outs_take : {P : Type 0} (spec_of : P → SampleSpec) (sink : SinkId) (n : ℕ) (state : State P) → IsKept spec_of state → told_by spec_of sink state (replicate n (out sink)) ≡ take n (waiting_for state sink)
+outs_take spec_of sink n state h = outs_told spec_of sink n state ∙ (all_out spec_of state sink h n (waiting_for state sink) refl).messages
