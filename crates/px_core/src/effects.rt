@@ -50,6 +50,15 @@ impl Effects {
         Ok(())
     }
 
+    /// Adds the effects of another list behind these. After an `Err` those are dropped, and these stay as they were.
+    pub fn append(&mut self, mut more: Effects) -> Mem<()>
+        ensures ok { OnOk result (self.new ≡ self.old ++ more) }
+        ensures err { OnErr result (self.new ≡ self.old) }
+    {
+        self.effects.append(&mut more.effects)?;
+        Ok(())
+    }
+
     /// The effects, in order. Takes no memory.
     pub fn as_slice(&self) -> &[Effect]
         ensures { result.now ≡ self.now }

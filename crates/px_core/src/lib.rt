@@ -37,7 +37,6 @@ pub use change::Change;
 pub use effect::{Effect, Reason};
 pub use effects::Effects;
 pub use input::{Connection, Input, Way};
-pub use laws::{connections_end_once, refusals_change_nothing, sinks_have_what_they_were_told, states_are_kept};
 pub use lending::put_back_undoes_handing_out;
 pub use machine::Core;
 pub use laws::{
