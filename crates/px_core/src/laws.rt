@@ -31,6 +31,10 @@ pub fn states_are_kept<P>()
     ensures steps { (spec_of : P → SampleSpec) (state : State P) (steps : List (Step P)) → AllByRecursion IsStep steps
         → IsKept spec_of state → IsKept spec_of (stepped_by spec_of state steps) }
     ensures orderly { (spec_of : P → SampleSpec) (state : State P) → IsKept spec_of state → IsOrderlyState spec_of state }
+    // The last message can't be put back any more, or it is put back.
+    ensures not_lent { (spec_of : P → SampleSpec) (state : State P) → IsKept spec_of state → IsKept spec_of (kept state) }
+    ensures back { (spec_of : P → SampleSpec) (state : State P) (sink : SinkId) (m : Msg P) → IsKept spec_of state
+        → next_for state sink ≡ Some m → IsKept spec_of (put_back sink m (handed_out sink state)) }
 {}
 
 /// A sink has the inputs that the messages handed out to it leave there. Of those that wait, in order, the first are handed
