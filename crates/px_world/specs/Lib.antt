@@ -5,3 +5,5 @@ pub mod Output
 pub mod History
 pub mod Running
 pub mod Worked
+pub mod Outcome
+pub mod Keeping

@@ -6,8 +6,11 @@
 mod doors;
 mod fault;
 mod law;
+mod outcome;
+mod stepping;
 
 pub use fault::WorldFault;
+pub use outcome::Outcome;
 pub use law::{
     played_frames_are_decided_by_a_turn, runs_go_on, sinks_replay_their_histories, worked_session,
 };
