@@ -25,12 +25,12 @@ use Rattle.px_world.specs.History.{entry_of, entries_of, played_on, history_by, 
 
 -- ---- one mixer of the list
 
-get-set_same : (xs : List Mixer) (k : ℕ) (x y : Mixer) → slice_get xs k ≡ Some x → slice_get (set xs k y) k ≡ Some y
+pub get-set_same : (xs : List Mixer) (k : ℕ) (x y : Mixer) → slice_get xs k ≡ Some x → slice_get (set xs k y) k ≡ Some y
 get-set_same [] k x y e = absurd (none-some x e)
 get-set_same (z ∷ xs) zero x y e = refl
 get-set_same (z ∷ xs) (suc k) x y e = get-set_same xs k x y e
 
-get-set_other : (xs : List Mixer) (i k : ℕ) (y : Mixer) → (i ≡ k → ⊥) → slice_get (set xs i y) k ≡ slice_get xs k
+pub get-set_other : (xs : List Mixer) (i k : ℕ) (y : Mixer) → (i ≡ k → ⊥) → slice_get (set xs i y) k ≡ slice_get xs k
 get-set_other [] i k y h = refl
 get-set_other (z ∷ xs) zero zero y h = absurd (h refl)
 get-set_other (z ∷ xs) zero (suc k) y h = refl

@@ -7,3 +7,4 @@ pub mod Links
 pub mod Openings
 pub mod Standing
 pub mod Computed
+pub mod Kept

@@ -7,7 +7,6 @@ mod doors;
 mod fault;
 mod law;
 mod outcome;
-mod stepping;
 
 pub use fault::WorldFault;
 pub use outcome::Outcome;
