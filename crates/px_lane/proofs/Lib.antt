@@ -6,3 +6,4 @@ pub mod Bytes
 pub mod Places
 pub mod Rising
 pub mod Readied
+pub mod Reserved

@@ -8,3 +8,4 @@ pub mod Lists
 pub mod Changes
 pub mod Places
 pub mod Taking
+pub mod Needed

@@ -9,6 +9,7 @@ mod index;
 mod input;
 mod inputs;
 mod lists;
+mod memory;
 mod prepared;
 mod queue;
 mod ready;
