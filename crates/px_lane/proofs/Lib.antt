@@ -7,3 +7,5 @@ pub mod Places
 pub mod Rising
 pub mod Readied
 pub mod Reserved
+pub mod Fits
+pub mod Orders

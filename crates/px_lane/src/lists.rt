@@ -1,6 +1,7 @@
 // What a turn takes and what it gives: lists of messages and of notices.
 ghost use Rattle.std.specs.Prelude.{◌≡◌, ◌≤◌, ◌<◌, ◌+◌, ◌++◌, [], ◌∷◌, length, map, flat_map, MatchOption, IfOk, OnOk, OnErr};
 ghost use Rattle.std.specs.List.{AllByRecursion};
+ghost use Rattle.px_model.specs.Turn.{BringsStream};
 ghost use Rattle.px_lane.specs.Inputs.{inputs_of};
 ghost use Rattle.px_lane.specs.Needed.{needed, OpensRepaired};
 ghost use Rattle.px_lane.specs.Room.{RoomyStream};
@@ -84,13 +85,17 @@ pub struct MsgList {
 
 impl Model for MsgList {
     ghost use Rattle.std.specs.Prelude.{List};
+    ghost use Rattle.std.specs.List.{AllByRecursion};
     ghost use Rattle.px_model.specs.Stream.{Stream};
     ghost use Rattle.px_model.specs.Message.{Message};
+    ghost use Rattle.px_model.specs.Turn.{BringsStream};
     ghost use Rattle.px_lane.specs.Lists.{messages_of};
 
     ghost Value = { List (Message Stream) };
 
     ghost view = { λ list. messages_of list.items.items };
+
+    ghost invariant = { λ list. AllByRecursion BringsStream (messages_of list.items.items) };
 }
 
 impl MsgList {
@@ -103,9 +108,10 @@ impl MsgList {
         }
     }
 
-    /// How many there are.
+    /// How many there are. Each parcel that comes by one is a stream with all that a stream keeps.
     pub fn len(&self) -> usize
-        ensures { result ≡ length self.now }
+        ensures count { result ≡ length self.now }
+        ensures parcels { AllByRecursion BringsStream self.now }
     {
         self.items.len()
     }
@@ -115,6 +121,7 @@ impl MsgList {
         ensures ok { OnOk result (self.new ≡ self.old ++ plain_message message ∷ []) }
         ensures err { OnErr result (self.new ≡ self.old) }
     {
+        brings_stream(&message);
         self.items.push_back(message)?;
         Ok(())
     }
@@ -150,6 +157,16 @@ impl MsgList {
         ensures { self.new ≡ [] }
     {
         self.items = prepared.into_items();
+    }
+}
+
+// A parcel that comes keeps what a stream keeps.
+fn brings_stream(message: &Msg<Stream>)
+    ensures { BringsStream (plain_message message.now) }
+{
+    match message {
+        Msg::Attach { parcel, .. } => parcel.keeps(),
+        _ => {}
     }
 }
 
