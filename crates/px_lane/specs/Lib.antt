@@ -11,3 +11,4 @@ pub mod Mixing
 pub mod Changes
 pub mod Places
 pub mod Taking
+pub mod Needed
