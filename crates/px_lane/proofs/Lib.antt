@@ -14,3 +14,5 @@ pub mod Readied
 pub mod Reserved
 pub mod Fits
 pub mod Orders
+pub mod Turning
+pub mod Attached

@@ -12,3 +12,5 @@ pub mod Changes
 pub mod Places
 pub mod Taking
 pub mod Needed
+pub mod Lane
+pub mod Turned
