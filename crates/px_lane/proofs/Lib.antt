@@ -11,3 +11,8 @@ pub mod Bytes
 pub mod Places
 pub mod Rising
 pub mod Readied
+pub mod Reserved
+pub mod Fits
+pub mod Orders
+pub mod Turning
+pub mod Attached

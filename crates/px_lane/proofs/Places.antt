@@ -78,7 +78,7 @@ module _ (i : ℕ) where
 
   -- ---- changed
 
-  above_change : (f : Stream → Stream) (xs : List Stands) → AllAbove i xs → with_change i f xs ≡ xs
+  pub above_change : (f : Stream → Stream) (xs : List Stands) → AllAbove i xs → with_change i f xs ≡ xs
   above_change f [] h = refl
   above_change f (x ∷ xs) h = λ k. cond-false (x.index == i) (with_stream f x) x (above_is x.index h.0) k ∷ above_change f xs h.1 k
 

@@ -1,6 +1,6 @@
 -- What a stream adds to a mix, by the bytes of the frame that it gives.
-use Rattle.std.proofs.Common.{◌≡◌, ℕ, zero, suc, ◌+◌, ◌*◌, ◌/◌, ◌<◌, List, [], length, map, take, drop, get_or, Some, None, refl, ap, sym, ◌∙◌, arith, ℤ, pos, ◌+ℤ◌, drop-drop, mul_comm}
-use Rattle.std.proofs.Math.Nat.{add-mul}
+use Rattle.std.proofs.Common.{◌≡◌, ℕ, zero, suc, ◌+◌, ◌*◌, ◌/◌, ◌<◌, ◌≤◌, List, [], length, map, take, drop, get_or, Some, None, refl, ap, sym, ◌∙◌, subst, arith, ℤ, pos, ◌+ℤ◌, drop-drop, mul_comm}
+use Rattle.std.proofs.Math.Nat.{add-mul, mul-le-mul, mul-le-mul_right}
 use Rattle.std.proofs.lemmas.List.{get_or-map, length-map}
 use Rattle.std.specs.Prelude.{slice_index}
 use Rattle.std.specs.Simd.{first_chunks}
@@ -20,9 +20,10 @@ use Rattle.std.proofs.lemmas.List.{length-reverse}
 use Rattle.px_model.specs.Mix.{mix_of}
 use Rattle.px_model.proofs.Replays.{mix_whole}
 use Rattle.px_lane.specs.Whole.{AreFramesOf}
+use Rattle.px_lane.proofs.Whole.{frames_within}
 use Rattle.px_sample.proofs.FormatLemmas.{size_of-some}
 use Rattle.px_sample.proofs.RunLemmas.{whole_samples}
-use Rattle.px_model.specs.Frame.{Frame, SampleSpec, frame_size, sample_size, sample_of}
+use Rattle.px_model.specs.Frame.{Frame, SampleSpec, frames_of, frame_size, sample_size, sample_of}
 use Rattle.px_model.specs.Queue.{Ahead, nothing, silence, sound}
 use Rattle.px_model.specs.Stream.{Stream}
 use Rattle.px_model.specs.Mix.{Samples, value_of, scaled, share_of}
@@ -177,3 +178,14 @@ mix_sized sink linear streams k =
 pub mixes_sized : (sink : Spec) → IsLinear sink.format → (streams : List Stream) (a n : ℕ) → AreFramesOf (frame_size_of sink) (map (mix_of samples (sample_spec sink) streams) (range_with_len a n))
 mixes_sized sink linear streams a zero = tt
 mixes_sized sink linear streams a (suc n) = (mix_sized sink linear streams a, mixes_sized sink linear streams (a + 1) n)
+
+-- the first frames of a buffer that has room for the depth
+pub frames_sized : (sink : Spec) (n depth : ℕ) (bytes : List ℕ) → length bytes ≡ depth * frame_size_of sink → n ≤ depth
+    → AreFramesOf (frame_size (sample_spec sink)) (frames_of (frame_size_of sink) n bytes)
+frames_sized sink n depth bytes full fit =
+    subst (λ (size : ℕ). AreFramesOf size (frames_of (frame_size_of sink) n bytes)) (sym (frame_size_known sink))
+    (frames_within (frame_size_of sink) n bytes (omega (arith, full, mul-le-mul_right (frame_size_of sink) fit)))
+
+pub some_bytes : (sink : Spec) → 1 ≤ sink.channels → 1 ≤ frame_size (sample_spec sink)
+some_bytes sink some =
+    subst (λ (n : ℕ). 1 ≤ n) (sym (frame_size_known sink)) (omega (arith, mul-le-mul (size_of-some sink.format) some))

@@ -65,12 +65,15 @@ queue_after_whole size q (suc k) all = by (is_held_short q)
     by true = all
     by false = drop_whole size (above (read_after q (suc k)) q.read) q.held all
 
--- the frames of whole bytes
+-- the frames of as many bytes
+pub frames_within : (size n : ℕ) (bytes : List ℕ) → n * size ≤ length bytes → AreFramesOf size (frames_of size n bytes)
+frames_within size zero bytes fit = tt
+frames_within size (suc n) bytes fit =
+    let first : size ≤ length bytes = omega (arith, fit, add-mul 1 n size) in
+    (length-take-le size bytes first, frames_within size n (drop size bytes) (omega (arith, fit, add-mul 1 n size, length-drop size bytes)))
+
 pub frames_are : (size n : ℕ) (bytes : List ℕ) → length bytes ≡ n * size → AreFramesOf size (frames_of size n bytes)
-frames_are size zero bytes whole = tt
-frames_are size (suc n) bytes whole =
-    let first : size ≤ length bytes = omega (arith, whole, add-mul 1 n size) in
-    (length-take-le size bytes first, frames_are size n (drop size bytes) (omega (arith, whole, add-mul 1 n size, length-drop size bytes)))
+frames_are size n bytes whole = frames_within size n bytes (omega (arith, whole))
 
 -- ---- the frame that is heard
 

@@ -11,3 +11,6 @@ pub mod Mixing
 pub mod Changes
 pub mod Places
 pub mod Taking
+pub mod Needed
+pub mod Lane
+pub mod Turned

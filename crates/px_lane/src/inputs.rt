@@ -1,5 +1,5 @@
 // The inputs of a sink.
-ghost use Rattle.std.specs.Prelude.{ℕ, ◌≡◌, ◌≤◌, ◌+◌, ◌++◌, [], length, map, flat_map, MatchOption, None, Some};
+ghost use Rattle.std.specs.Prelude.{ℕ, ◌≡◌, ◌≤◌, ◌+◌, ◌++◌, [], length, map, flat_map, MatchOption, None, Some, OnOk};
 ghost use Rattle.std.specs.List.{AllByRecursion};
 ghost use Rattle.px_model.specs.Going.{after};
 ghost use Rattle.px_model.specs.Notice.{Notice as Told};
@@ -11,9 +11,10 @@ ghost use Rattle.px_model.specs.Turn.{going_notices, asked_stream, asked_notices
 ghost use Rattle.px_lane.specs.Inputs.{input_of, inputs_of, HasRoom};
 
 use crate::finding::{answer_at, change_at, close_at, open_at, set_each};
+use crate::memory::reserve_inputs;
 use crate::{Change, Input, NoticeList, Stream};
 use px_msg::{InputFactors, Notice};
-use px_types::InputId;
+use px_types::{InputId, Mem, NoMemory};
 use std::alloc::Global;
 use std::marker::Model;
 
@@ -54,6 +55,17 @@ impl Inputs {
         ensures { inputs_of result.now ≡ self.now.inputs }
     {
         self.items.as_slice()
+    }
+
+    /// Makes room for so many messages. Without memory the inputs stay what they are.
+    pub fn reserve(&mut self, messages: usize) -> Mem<()>
+        ensures inputs { self.new.inputs ≡ self.old.inputs }
+        ensures ok { OnOk result (self.new.room ≡ messages) }
+    {
+        reserve_inputs(self.items.as_mut_slice(), messages)?;
+        self.items.reserve(messages)?;
+        self.room = messages;
+        Ok(())
     }
 
     /// A stream comes in at its place. It has room for as many messages as the others are to have left.

@@ -1,5 +1,8 @@
-//! The streams of a sink's mixer: each keeps a list of its writes, and a frame is looked up from the newest write back. It exports
-//! `Stream`, its `FrameQueue` with `Chunk`, `Stored` and `Index`, each with the state of the definitions, and `scaled`.
+//! The streams of a sink's mixer, and what a turn does to them. Each stream keeps a list of its writes, and a frame is looked up from
+//! the newest write back. All the memory of a turn is taken before its first message (`MsgList::prepare`); from then on `Inputs` goes
+//! forward, takes the messages and asks, and can't fail. It exports `Stream` with its `FrameQueue`, `Chunk`, `Stored` and `Index`;
+//! `Inputs` of `Input`s; `MsgList` and `NoticeList`; `Prepared`, `Ready` and `Change`, which messages become; `scaled`; and the laws
+//! `notices_fit` and `orderly_messages_are_taken`.
 #![tactic(auto)]
 
 mod parcel;
@@ -9,7 +12,10 @@ mod finding;
 mod index;
 mod input;
 mod inputs;
+mod lane;
+mod law;
 mod lists;
+mod memory;
 mod mix;
 mod mixer;
 mod prepared;
@@ -25,6 +31,8 @@ pub use chunk::Chunk;
 pub use index::Index;
 pub use input::Input;
 pub use inputs::Inputs;
+pub use lane::{Lane, LaneFault, Turned};
+pub use law::{notices_fit, orderly_messages_are_taken};
 pub use lists::{MsgList, NoticeList};
 pub use mixer::SinkMixer;
 pub use prepared::Prepared;

@@ -1,13 +1,21 @@
 // What a turn takes and what it gives: lists of messages and of notices.
-ghost use Rattle.std.specs.Prelude.{◌≡◌, ◌≤◌, ◌<◌, ◌+◌, ◌++◌, [], ◌∷◌, length, MatchOption, OnOk, OnErr};
-ghost use Rattle.px_lane.specs.Lists.{plain_message, plain_notice};
+ghost use Rattle.std.specs.Prelude.{◌≡◌, ◌≤◌, ◌<◌, ◌+◌, ◌++◌, [], ◌∷◌, length, map, flat_map, MatchOption, IfOk, OnOk, OnErr};
+ghost use Rattle.std.specs.List.{AllByRecursion};
+ghost use Rattle.px_model.specs.Turn.{BringsStream};
+ghost use Rattle.px_lane.specs.Inputs.{inputs_of};
+ghost use Rattle.px_lane.specs.Needed.{needed, OpensRepaired};
+ghost use Rattle.px_lane.specs.Room.{RoomyStream};
+ghost use Rattle.px_lane.specs.Taking.{bytes_of, streams_of, IsRoomy, BringsRoom};
+ghost use Rattle.px_lane.specs.Lists.{plain_message, plain_notice, messages_of};
 
-use crate::Stream;
+use crate::memory::{copied, needed_by_inputs, needed_by_messages, opened, reserve_parcels};
+use crate::{Input, Inputs, Prepared, Stream};
 use px_msg::{Msg, Notice};
-use px_types::{Mem, NoMemory};
+use px_types::{Mem, NoMemory, Text};
 use std::alloc::Global;
 use std::collections::VecDeque;
 use std::marker::Model;
+use std::mem::replace;
 
 /// Notices of a sink, in order, for the core.
 #[derive(Debug, Drop)]
@@ -77,13 +85,17 @@ pub struct MsgList {
 
 impl Model for MsgList {
     ghost use Rattle.std.specs.Prelude.{List};
+    ghost use Rattle.std.specs.List.{AllByRecursion};
     ghost use Rattle.px_model.specs.Stream.{Stream};
     ghost use Rattle.px_model.specs.Message.{Message};
+    ghost use Rattle.px_model.specs.Turn.{BringsStream};
     ghost use Rattle.px_lane.specs.Lists.{messages_of};
 
     ghost Value = { List (Message Stream) };
 
     ghost view = { λ list. messages_of list.items.items };
+
+    ghost invariant = { λ list. AllByRecursion BringsStream (messages_of list.items.items) };
 }
 
 impl MsgList {
@@ -96,9 +108,10 @@ impl MsgList {
         }
     }
 
-    /// How many there are.
+    /// How many there are. Each parcel that comes by one is a stream with all that a stream keeps.
     pub fn len(&self) -> usize
-        ensures { result ≡ length self.now }
+        ensures count { result ≡ length self.now }
+        ensures parcels { AllByRecursion BringsStream self.now }
     {
         self.items.len()
     }
@@ -108,7 +121,92 @@ impl MsgList {
         ensures ok { OnOk result (self.new ≡ self.old ++ plain_message message ∷ []) }
         ensures err { OnErr result (self.new ≡ self.old) }
     {
+        brings_stream(&message);
         self.items.push_back(message)?;
         Ok(())
+    }
+
+    /// Takes all the memory of a turn with these messages: the bytes of each write, the stream of each new input, room for all messages in
+    /// each stream that is there or comes, and in `out` for every notice of the turn. The list is empty then. Without memory nothing
+    /// changes that the definitions see: the messages stay.
+    pub fn prepare(
+        &mut self,
+        alloc: Global,
+        inputs: &mut Inputs,
+        out: &mut NoticeList,
+    ) -> Mem<Prepared>
+        requires { AllByRecursion OpensRepaired self.old }
+        ensures inputs { inputs.new.inputs ≡ inputs.old.inputs }
+        ensures notices { out.new.notices ≡ out.old.notices }
+        ensures messages { IfOk result (λ prepared. prepared.messages ≡ self.old) }
+        ensures room { IfOk result (λ prepared. (inputs.new.room ≡ length self.old) × (prepared.room ≡ length self.old)) }
+        ensures capacity { OnOk result (length out.old.notices + needed inputs.old.inputs self.old ≤ out.new.capacity) }
+        ensures empty { OnOk result (self.new ≡ []) }
+        ensures err { OnErr result (self.new ≡ self.old) }
+    {
+        let count = self.items.len();
+        let (bytes, streams) = taken(alloc, self.items.make_contiguous(), count, inputs, out)?;
+        let items = replace(&mut self.items, VecDeque::new(alloc));
+        Ok(Prepared::new(items, bytes, streams, count))
+    }
+
+    /// Takes the list of messages back that a turn has taken, for its room. Takes no memory.
+    pub fn give_back(&mut self, prepared: Prepared)
+        requires taken { prepared.messages ≡ [] }
+        requires empty { self.old ≡ [] }
+        ensures { self.new ≡ [] }
+    {
+        self.items = prepared.into_items();
+    }
+}
+
+// A parcel that comes keeps what a stream keeps.
+fn brings_stream(message: &Msg<Stream>)
+    ensures { BringsStream (plain_message message.now) }
+{
+    match message {
+        Msg::Attach { parcel, .. } => parcel.keeps(),
+        _ => {}
+    }
+}
+
+// What a turn with these messages takes: the bytes of each write, and the stream of each new input.
+fn taken(
+    alloc: Global,
+    messages: &mut [Msg<Stream>],
+    count: usize,
+    inputs: &mut Inputs,
+    out: &mut NoticeList,
+) -> Mem<(VecDeque<Text>, VecDeque<Stream>)>
+    requires { AllByRecursion OpensRepaired (messages_of messages.old) }
+    ensures same { messages_of messages.new ≡ messages_of messages.old }
+    ensures inputs { inputs.new.inputs ≡ inputs.old.inputs }
+    ensures notices { out.new.notices ≡ out.old.notices }
+    ensures bytes { IfOk result (λ pair. pair.0.items ≡ flat_map bytes_of (messages_of messages.old)) }
+    ensures streams { IfOk result (λ pair. map RoomyStream.stream pair.1.items ≡ flat_map streams_of (messages_of messages.old)) }
+    ensures streams_room { IfOk result (λ pair. AllByRecursion (IsRoomy count) pair.1.items) }
+    ensures parcels_room { OnOk result (AllByRecursion (BringsRoom count) messages.new) }
+    ensures room { OnOk result (inputs.new.room ≡ count) }
+    ensures capacity { OnOk result (length out.old.notices + needed inputs.old.inputs (messages_of messages.old) ≤ out.new.capacity) }
+{
+    let notices = needed_of(inputs.as_slice(), messages)?;
+    out.reserve(notices)?;
+    inputs.reserve(count)?;
+    let bytes = copied(alloc, messages)?;
+    let streams = opened(alloc, messages, count)?;
+    reserve_parcels(messages, count)?;
+    Ok((bytes, streams))
+}
+
+// How many notices a turn gives at the most. A number that passes all that memory can hold is want of memory.
+fn needed_of(inputs: &[Input], messages: &[Msg<Stream>]) -> Mem<usize>
+    ensures { IfOk result (λ notices. notices ≡ needed (inputs_of inputs.now) (messages_of messages.now)) }
+{
+    let (Some(here), Some(more)) = (needed_by_inputs(inputs), needed_by_messages(messages)) else {
+        return Err(NoMemory);
+    };
+    match here.checked_add(more) {
+        Some(notices) => Ok(notices),
+        None => Err(NoMemory),
     }
 }

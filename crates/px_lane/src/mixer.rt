@@ -1,16 +1,21 @@
 // What a sink mixes.
-ghost use Rattle.std.specs.Prelude.{◌≡◌, ◌≤◌, ◌+◌, ◌-◌, ◌*◌, ◌^◌, ◌++◌, length, map, take, drop, flat_map, IfOk};
+ghost use Rattle.std.specs.Prelude.{◌≡◌, ◌≤◌, ◌+◌, ◌-◌, ◌*◌, ◌^◌, ◌++◌, length, map, take, drop, flat_map, [], IfOk, OnOk, OnErr};
 ghost use Rattle.std.specs.List.{AllByRecursion, concat, range_with_len};
 ghost use Rattle.px_sample.specs.Format.{frame_size_of};
 ghost use Rattle.px_msg.specs.View.{sample_spec};
 ghost use Rattle.px_model.specs.Sink.{Input as Stands, IsStreamOf, streams_of, empty_sink};
 ghost use Rattle.px_model.specs.Mix.{mix_of};
-ghost use Rattle.px_model.specs.Turn.{next_horizon, settled, remixed, asked, going_notices, asked_notices};
+ghost use Rattle.px_model.specs.Turn.{next_horizon, settled, told, told_notices, remixed, asked, going_notices, asked_notices, AreFor, turned, turn_notices, stopped_turn, stopped_notices};
 ghost use Rattle.px_lane.specs.Mixing.{RoomySink, IsMixed, given_up};
 ghost use Rattle.px_lane.specs.Samples.{samples};
+ghost use Rattle.px_lane.specs.Taking.{CanTakeAll};
+ghost use Rattle.px_lane.specs.Lane.{IsLane};
+ghost use Rattle.px_lane.specs.Needed.{needed, OpensRepaired};
+ghost use Rattle.px_lane.specs.Whole.{AreFramesOf};
+ghost use Rattle.px_model.specs.Frame.{frame_size};
 
 use crate::mix::mix_frames;
-use crate::{Inputs, NoticeList};
+use crate::{Inputs, MsgList, NoticeList, Prepared};
 use px_sample::Spec;
 use px_session::SinkSpec;
 use px_types::{Mem, NoMemory};
@@ -133,6 +138,26 @@ impl SinkMixer {
         self.stopped
     }
 
+    /// Takes all the memory of a turn with these messages. The list is empty then. Without memory the sink, the messages and the notices
+    /// stay what they are.
+    pub fn prepare(
+        &mut self,
+        alloc: Global,
+        messages: &mut MsgList,
+        out: &mut NoticeList,
+    ) -> Mem<Prepared>
+        requires { AllByRecursion OpensRepaired messages.old }
+        ensures value { self.new.sink ≡ self.old.sink }
+        ensures notices { out.new.notices ≡ out.old.notices }
+        ensures messages { IfOk result (λ prepared. prepared.messages ≡ messages.old) }
+        ensures room { IfOk result (λ prepared. (self.new.room ≡ length messages.old) × (prepared.room ≡ length messages.old)) }
+        ensures capacity { OnOk result (length out.old.notices + needed self.old.sink.inputs messages.old ≤ out.new.capacity) }
+        ensures empty { OnOk result (messages.new ≡ []) }
+        ensures err { OnErr result (messages.new ≡ messages.old) }
+    {
+        messages.prepare(alloc, &mut self.inputs, out)
+    }
+
     /// So many frames more are consumed, and all streams go forward to the new horizon.
     pub fn settle(&mut self, frames: u64, out: &mut NoticeList)
         requires there { frames ≤ self.old.sink.filled - self.old.sink.consumed }
@@ -151,9 +176,26 @@ impl SinkMixer {
         self.horizon = horizon;
     }
 
+    /// Takes all messages in order, at the horizon, and tells what they have to tell. Takes no memory.
+    pub fn take_all(&mut self, messages: &mut Prepared, out: &mut NoticeList)
+        requires room { length messages.old.messages ≤ self.old.room }
+        requires comes { self.old.room ≤ messages.old.room }
+        requires suits { CanTakeAll (self.old.sink.filled - self.old.sink.horizon) messages.old.messages self.old.sink.inputs }
+        requires capacity { length out.old.notices + length (told_notices self.old.sink messages.old.messages) ≤ out.old.capacity }
+        ensures value { self.new.sink ≡ told self.old.sink messages.old.messages }
+        ensures notices { out.new.notices ≡ out.old.notices ++ told_notices self.old.sink messages.old.messages }
+        ensures capacity { out.new.capacity ≡ out.old.capacity }
+        ensures messages { messages.new.messages ≡ [] }
+    {
+        let mixed = self.filled - self.horizon;
+        let buffered = (self.filled - self.consumed) as u32;
+        self.inputs.take_all(messages, mixed, buffered, out);
+    }
+
     /// Gives up all frames from the horizon on, for good.
     pub fn give_up(&mut self)
         ensures value { self.new.sink ≡ given_up self.old.sink }
+        ensures whole { AreFramesOf (frame_size self.new.sink.spec) self.new.sink.buffer }
         ensures room { self.new.room ≡ self.old.room }
     {
         self.filled = self.horizon;
@@ -166,6 +208,7 @@ impl SinkMixer {
         requires few { length self.old.sink.inputs ≤ 256 }
         requires countable { self.old.sink.consumed + self.old.sink.depth ≤ 2 ^ 61 }
         ensures value { self.new.sink ≡ remixed samples self.old.sink }
+        ensures whole { AreFramesOf (frame_size self.new.sink.spec) self.new.sink.buffer }
         ensures room { self.new.room ≡ self.old.room }
     {
         let kept = self.horizon - self.consumed;
@@ -199,5 +242,46 @@ impl SinkMixer {
     {
         let from = (self.horizon - self.consumed) as usize * self.spec.frame_size();
         &self.bytes.as_slice()[from..]
+    }
+
+    /// A turn whose sync consumed so many frames: these leave the buffer and the streams go forward, the messages are taken, all frames
+    /// from the horizon on are mixed afresh, and the streams ask for more. Takes no memory. (PulseAudio: `pa_sink_render` and
+    /// `pa_sink_process_rewind` of pulsecore/sink.c.)
+    pub fn play(&mut self, frames: u64, messages: &mut Prepared, out: &mut NoticeList)
+        requires lane { IsLane self.old.sink }
+        requires there { frames ≤ self.old.sink.filled - self.old.sink.consumed }
+        requires countable { self.old.sink.filled ≤ 2 ^ 60 }
+        requires messages { AreFor self.old.sink messages.old.messages }
+        requires room { length messages.old.messages ≤ self.old.room }
+        requires comes { self.old.room ≤ messages.old.room }
+        requires capacity { length out.old.notices + length (turn_notices samples self.old.sink frames messages.old.messages) ≤ out.old.capacity }
+        ensures value { self.new.sink ≡ turned samples self.old.sink frames messages.old.messages }
+        ensures lane { IsLane self.new.sink }
+        ensures notices { out.new.notices ≡ out.old.notices ++ turn_notices samples self.old.sink frames messages.old.messages }
+        ensures messages { messages.new.messages ≡ [] }
+    {
+        self.settle(frames, out);
+        self.take_all(messages, out);
+        self.remix();
+        self.ask(out);
+    }
+
+    /// A turn whose sync failed, and each after it: the streams go forward to the horizon, all past it is given up, the messages are
+    /// taken, and the streams ask for more. Takes no memory. (Own: a PulseAudio sink is unlinked.)
+    pub fn stop(&mut self, messages: &mut Prepared, out: &mut NoticeList)
+        requires lane { IsLane self.old.sink }
+        requires messages { AreFor self.old.sink messages.old.messages }
+        requires room { length messages.old.messages ≤ self.old.room }
+        requires comes { self.old.room ≤ messages.old.room }
+        requires capacity { length out.old.notices + length (stopped_notices self.old.sink messages.old.messages) ≤ out.old.capacity }
+        ensures value { self.new.sink ≡ stopped_turn self.old.sink messages.old.messages }
+        ensures lane { IsLane self.new.sink }
+        ensures notices { out.new.notices ≡ out.old.notices ++ stopped_notices self.old.sink messages.old.messages }
+        ensures messages { messages.new.messages ≡ [] }
+    {
+        self.settle(0, out);
+        self.give_up();
+        self.take_all(messages, out);
+        self.ask(out);
     }
 }

@@ -5,7 +5,7 @@ ghost use Rattle.px_model.specs.Stream.{Stream as Plain};
 ghost use Rattle.px_model.specs.Message.{Message};
 ghost use Rattle.px_model.specs.Sink.{Input as Stands};
 ghost use Rattle.px_model.specs.Turn.{inputs_with, message_notices, inputs_with_all, all_message_notices};
-ghost use Rattle.px_lane.specs.Lists.{plain_message};
+ghost use Rattle.px_lane.specs.Lists.{plain_message, messages_of};
 ghost use Rattle.px_lane.specs.Room.{RoomyStream};
 ghost use Rattle.px_lane.specs.Taking.{CanTake, CanTakeAll, bytes_of, streams_of, IsRoomy, BringsRoom, HasRoomLeft, IsReadyFor};
 
@@ -44,6 +44,35 @@ impl Model for Prepared {
 }
 
 impl Prepared {
+    /// These messages, with the bytes of each write, and the stream of each new input, in order. Each stream that comes has room for so
+    /// many messages. Takes no memory.
+    pub fn new(
+        items: VecDeque<Msg<Stream>>,
+        bytes: VecDeque<Text>,
+        streams: VecDeque<Stream>,
+        room: usize,
+    ) -> Prepared
+        requires bytes { bytes.items ≡ flat_map bytes_of (messages_of items.items) }
+        requires streams { map RoomyStream.stream streams.items ≡ flat_map streams_of (messages_of items.items) }
+        requires streams_room { AllByRecursion (IsRoomy room) streams.items }
+        requires parcels_room { AllByRecursion (BringsRoom room) items.items }
+        ensures { result ≡ record { messages = messages_of items.items; room = room } }
+    {
+        Prepared {
+            items,
+            bytes,
+            streams,
+            room,
+        }
+    }
+
+    /// The list of the messages, once all are taken. Takes no memory.
+    pub fn into_items(self) -> VecDeque<Msg<Stream>>
+        ensures { messages_of result.items ≡ self.messages }
+    {
+        self.items
+    }
+
     /// Takes the first message. Takes no memory.
     pub fn next(&mut self) -> Option<Ready>
         ensures value { MatchOption result ((self.old.messages ≡ []) × (self.new.messages ≡ [])) (λ ready.

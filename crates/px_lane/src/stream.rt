@@ -8,7 +8,7 @@ ghost use Rattle.px_model.specs.Notice.{Notice as Told};
 ghost use Rattle.px_lane.specs.Lists.{plain_notice};
 ghost use Rattle.px_model.specs.Write.{seek_of, target_of, outcome_of, written};
 ghost use Rattle.px_model.specs.Index.{is_index};
-ghost use Rattle.px_model.specs.Stream.{frame_at};
+ghost use Rattle.px_model.specs.Stream.{IsStream, frame_at};
 ghost use Rattle.px_lane.specs.Heard.{heard};
 ghost use Rattle.px_lane.specs.Outcomes.{outcome_for};
 ghost use Rattle.px_lane.specs.Whole.{AreFramesOf};
@@ -89,6 +89,13 @@ impl Stream {
             feed,
             factors,
         }
+    }
+
+    /// It keeps what a stream keeps.
+    pub fn keeps(&self)
+        ensures { IsStream self.now.stream }
+    {
+        let _ = &self.queue;
     }
 
     /// How many of the next frames it gives, the first of them.

@@ -4,6 +4,7 @@ use Rattle.px_model.specs.Frame.{Frame, frames_of}
 use Rattle.px_model.specs.Sink.{Sink}
 use Rattle.px_lane.specs.Mixing.{RoomySink, sink_of, given_up}
 use Rattle.px_lane.proofs.Buffers.{frames_kept}
+use Rattle.px_lane.proofs.Shares.{frames_sized}
 use Rattle.px_lane.proofs.mixer.SinkMixer.give_up.Goals as goal
 
 pub returns-clause-value : goal.returns-clause-value
@@ -18,3 +19,9 @@ returns-clause-value c =
     (sym (frames_kept (frame_size_of d.spec) (d.horizon - d.consumed) (d.filled - d.horizon) d.bytes.items)
     ∙ ap (λ (n : ℕ). take (d.horizon - d.consumed) (frames_of (frame_size_of d.spec) n d.bytes.items)) all)
     ∙ ap (λ (m : RoomySink). given_up m.sink) c.self.view_is
+
+pub returns-clause-whole : goal.returns-clause-whole
+returns-clause-whole c =
+    let d = c.self.inside in
+    let h = c.self.invariant.1 in
+    frames_sized d.spec (d.horizon - d.consumed) d.depth d.bytes.items c.self.invariant.2 (omega (arith, h.consumed_first, h.horizon_first, h.filled_bounded))

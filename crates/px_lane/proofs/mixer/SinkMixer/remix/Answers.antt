@@ -11,7 +11,7 @@ use Rattle.px_model.specs.Turn.{remixed}
 use Rattle.px_lane.specs.Mixing.{RoomySink, sink_of}
 use Rattle.px_lane.specs.Samples.{samples}
 use Rattle.px_lane.proofs.Buffers.{frames_renewed}
-use Rattle.px_lane.proofs.Shares.{mixes_sized}
+use Rattle.px_lane.proofs.Shares.{mixes_sized, frames_sized}
 use Rattle.px_lane.proofs.mixer.SinkMixer.remix.Goals as goal
 
 pub mix_behind-requires-clause-size : goal.mix_behind-requires-clause-size
@@ -64,3 +64,8 @@ returns-clause-value c =
     ∙ ap (λ (m : ℕ). take k (frames_of size (d.filled - d.consumed) d.bytes.items) ++ map (mix_of samples (sample_spec d.spec) streams) (range_with_len 0 m)) same in
     ap (λ (b : List Frame). let s : Sink = record (remixed samples before) { buffer = b } in s) frames
     ∙ ap (λ (m : RoomySink). remixed samples m.sink) c.self.view_is
+
+pub returns-clause-whole : goal.returns-clause-whole
+returns-clause-whole c =
+    let d = c.self.inside in
+    frames_sized d.spec (d.consumed + d.depth - d.consumed) d.depth c.mix_behind.new.bytes.items (c.mix_behind.ensures.size ∙ c.self.invariant.2) (omega arith)

@@ -1,0 +1,45 @@
+use Rattle.std.proofs.Common.{◌≡◌, ℕ, ◌+◌, ◌-◌, ◌≤◌, List, length, drop, ap, sym, ◌∙◌, subst, arith}
+use Rattle.std.specs.List.{concat}
+use Rattle.px_device.specs.Device.{DeviceState, IsPut, put_at}
+use Rattle.px_model.specs.Sink.{Sink}
+use Rattle.px_model.specs.Turn.{turned, next_horizon}
+use Rattle.px_lane.specs.Samples.{samples}
+use Rattle.px_lane.specs.Lane.{IsLane, IsAttached}
+use Rattle.px_lane.proofs.Attached.{put_there, turn_room}
+use Rattle.px_lane.proofs.lane.play.Goals as goal
+
+pub play-requires-clause-capacity : goal.play-requires-clause-capacity
+play-requires-clause-capacity g c =
+    turn_room c.args.mixer.now.sink (c.args.consumed - c.consumed.result) (length c.args.out.now.notices) c.args.out.now.capacity c.args.messages.now.messages c.requires.lane.kept c.requires.capacity
+
+pub put-requires : goal.put-requires
+put-requires g c =
+    let sink = c.args.mixer.now.sink in
+    let n = c.args.consumed - sink.consumed in
+    let messages = c.args.messages.now.messages in
+    let d = g.D.Device.now c.args.device.now in
+    let state : c.play.new.self.sink ≡ turned samples sink n messages = c.play.ensures.value ∙ ap (λ (from : ℕ). turned samples sink (c.args.consumed - from) messages) c.consumed.ensures in
+    let at : c.horizon.result ≡ next_horizon sink n = c.horizon.ensures ∙ ap (λ (s : Sink). s.horizon) state in
+    let bytes : c.fresh.result.now ≡ concat (drop (next_horizon sink n - (sink.consumed + n)) (turned samples sink n messages).buffer) =
+    c.fresh.ensures ∙ ap (λ (s : Sink). concat (drop (s.horizon - s.consumed) s.buffer)) state in
+    let there : n ≤ sink.filled - sink.consumed = omega (arith, c.requires.within, c.requires.forward) in
+    subst (λ (h : ℕ). IsPut d h c.fresh.result.now) (sym at)
+    (subst (λ (b : List ℕ). IsPut d (next_horizon sink n) b) (sym bytes)
+    (put_there samples d sink n messages c.requires.lane (subst IsLane state c.play.ensures.lane) there c.requires.countable c.requires.attached).0)
+
+pub returns-clause-attached : goal.returns-clause-attached
+returns-clause-attached g c =
+    let sink = c.args.mixer.now.sink in
+    let n = c.args.consumed - sink.consumed in
+    let messages = c.args.messages.now.messages in
+    let d = g.D.Device.now c.args.device.now in
+    let state : c.play.new.self.sink ≡ turned samples sink n messages = c.play.ensures.value ∙ ap (λ (from : ℕ). turned samples sink (c.args.consumed - from) messages) c.consumed.ensures in
+    let at : c.horizon.result ≡ next_horizon sink n = c.horizon.ensures ∙ ap (λ (s : Sink). s.horizon) state in
+    let bytes : c.fresh.result.now ≡ concat (drop (next_horizon sink n - (sink.consumed + n)) (turned samples sink n messages).buffer) =
+    c.fresh.ensures ∙ ap (λ (s : Sink). concat (drop (s.horizon - s.consumed) s.buffer)) state in
+    let there : n ≤ sink.filled - sink.consumed = omega (arith, c.requires.within, c.requires.forward) in
+    let put : g.D.Device.now c.put.new.self ≡ put_at (next_horizon sink n) (concat (drop (next_horizon sink n - (sink.consumed + n)) (turned samples sink n messages).buffer)) d =
+    c.put.ensures ∙ ap (λ (h : ℕ). put_at h c.fresh.result.now d) at ∙ ap (λ (b : List ℕ). put_at (next_horizon sink n) b d) bytes in
+    subst (λ (s : Sink). IsAttached (g.D.Device.now c.put.new.self) s) (sym state)
+    (subst (λ (e : DeviceState). IsAttached e (turned samples sink n messages)) (sym put)
+    (put_there samples d sink n messages c.requires.lane (subst IsLane state c.play.ensures.lane) there c.requires.countable c.requires.attached).1)

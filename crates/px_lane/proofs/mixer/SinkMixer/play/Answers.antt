@@ -1,0 +1,55 @@
+use Rattle.std.proofs.Common.{◌≡◌, ◌+◌, ◌-◌, ◌^◌, ◌≤◌, length, ap, sym, ◌∙◌, subst, arith}
+use Rattle.std.specs.List.{AllByRecursion}
+use Rattle.px_model.specs.Frame.{frame_size}
+use Rattle.px_model.specs.Sink.{Sink, Input, IsStreamOf}
+use Rattle.px_model.specs.Turn.{next_horizon, settled, told, remixed, asked}
+use Rattle.px_lane.specs.Samples.{samples}
+use Rattle.px_lane.specs.Taking.{CanTakeAll}
+use Rattle.px_lane.specs.Whole.{AreFramesOf}
+use Rattle.px_lane.specs.Lane.{IsLane}
+use Rattle.px_model.specs.Rows.{s16_samples}
+use Rattle.px_model.proofs.Shown.{turn_leaves}
+use Rattle.px_lane.proofs.Orders.{orderly_taken}
+use Rattle.px_lane.proofs.Turning.{told_suit, told_few, turned_lane}
+use Rattle.px_lane.proofs.mixer.SinkMixer.play.Goals as goal
+
+pub take_all-requires-clause-suits : goal.take_all-requires-clause-suits
+take_all-requires-clause-suits c =
+    let sink = c.args.self.now.sink in
+    subst (λ (s : Sink). CanTakeAll (s.filled - s.horizon) c.args.messages.now.messages s.inputs) (sym c.settle.ensures.value)
+    (orderly_taken (turn_leaves s16_samples) sink.spec (next_horizon sink c.args.frames - sink.horizon) (sink.filled - next_horizon sink c.args.frames) c.args.messages.now.messages sink.inputs c.requires.messages.orderly)
+
+pub remix-requires-clause-streams : goal.remix-requires-clause-streams
+remix-requires-clause-streams c =
+    let sink = c.args.self.now.sink in
+    let messages = c.args.messages.now.messages in
+    let after : c.take_all.new.self.sink ≡ told (settled sink c.args.frames) messages = c.take_all.ensures.value ∙ ap (λ (s : Sink). told s messages) c.settle.ensures.value in
+    subst (λ (s : Sink). AllByRecursion (λ x. IsStreamOf s.spec (Input.stream x)) s.inputs) (sym after)
+    (told_suit samples sink c.args.frames messages c.requires.lane.kept c.requires.there c.requires.messages)
+
+pub remix-requires-clause-few : goal.remix-requires-clause-few
+remix-requires-clause-few c =
+    let sink = c.args.self.now.sink in
+    let messages = c.args.messages.now.messages in
+    let after : c.take_all.new.self.sink ≡ told (settled sink c.args.frames) messages = c.take_all.ensures.value ∙ ap (λ (s : Sink). told s messages) c.settle.ensures.value in
+    subst (λ (s : Sink). length s.inputs ≤ 256) (sym after)
+    (told_few samples sink c.args.frames messages c.requires.lane c.requires.there c.requires.messages)
+
+pub remix-requires-clause-countable : goal.remix-requires-clause-countable
+remix-requires-clause-countable c =
+    let sink = c.args.self.now.sink in
+    let messages = c.args.messages.now.messages in
+    let keeps = c.requires.lane.kept in
+    let after : c.take_all.new.self.sink ≡ told (settled sink c.args.frames) messages = c.take_all.ensures.value ∙ ap (λ (s : Sink). told s messages) c.settle.ensures.value in
+    subst (λ (s : Sink). s.consumed + s.depth ≤ 2 ^ 61) (sym after)
+    (omega (arith, c.requires.there, c.requires.countable, c.requires.lane.low_depth, keeps.consumed_first, keeps.horizon_first))
+
+pub returns-clause-lane : goal.returns-clause-lane
+returns-clause-lane c =
+    let sink = c.args.self.now.sink in
+    let messages = c.args.messages.now.messages in
+    let mixed : c.remix.new.self.sink ≡ remixed samples (told (settled sink c.args.frames) messages) =
+    c.remix.ensures.value ∙ ap (remixed samples) (c.take_all.ensures.value ∙ ap (λ (s : Sink). told s messages) c.settle.ensures.value) in
+    subst IsLane (sym (c.ask.ensures.value ∙ ap asked mixed))
+    (turned_lane samples sink c.args.frames messages c.requires.lane c.requires.there c.requires.messages
+    (subst (λ (s : Sink). AreFramesOf (frame_size s.spec) s.buffer) mixed c.remix.ensures.whole))

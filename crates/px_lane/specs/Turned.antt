@@ -1,0 +1,44 @@
+-- What a turn of a lane does, by its answer.
+use Rattle.std.specs.Prelude.{◌≡◌, ℕ, ◌-◌, ◌^◌, ◌<◌, ◌≤◌, IsFalse, List, ◌++◌}
+use Rattle.std.specs.List.{concat}
+use Rattle.px_device.specs.Device.{DeviceState, Consumes}
+use Rattle.px_model.specs.Stream.{Stream}
+use Rattle.px_model.specs.Message.{Message}
+use Rattle.px_model.specs.Notice.{Notice}
+use Rattle.px_model.specs.Turn.{turned, turn_notices, stopped_turn, stopped_notices, played_by}
+use Rattle.px_lane.specs.Samples.{samples}
+use Rattle.px_lane.specs.Lane.{Mixer, IsAttached, StopsOver, played_more}
+use Rattle.px_lane.specs.declared.lane.Turned.{Turned}
+use Rattle.px_lane.specs.declared.lane.Turned.TheVariants.{Played, Stopped}
+use Rattle.px_lane.specs.declared.lane.LaneFault.{LaneFault}
+use Rattle.px_lane.specs.declared.lane.LaneFault.TheVariants.{NoMemory, Worn}
+
+-- a turn whose sync consumed so many frames, after which so many are consumed in all
+pub record Plays {D : Type 0} (now : D → DeviceState) (before after : Mixer D) (messages : List (Message Stream)) (consumed frames : ℕ) : Type 0 where
+  pub going : IsFalse before.sink.stopped
+  pub there : frames ≤ before.sink.filled - before.sink.consumed
+  pub told : Consumes (now before.device).next (before.sink.filled - before.sink.consumed) frames
+  pub sink : after.sink ≡ turned samples before.sink frames messages
+  pub counted : consumed ≡ after.sink.consumed
+  pub attached : IsAttached (now after.device) after.sink
+  pub played : (now after.device).played ≡ played_more (now before.device).buffer (now before.device).played (concat (played_by before.sink frames))
+  pub device_faults : (now after.device).faults ≡ (now before.device).faults
+  pub faults : after.faults ≡ before.faults
+
+-- a turn whose sync failed, or that came after such a one
+pub record Stops {D : Type 0} (now : D → DeviceState) (before after : Mixer D) (messages : List (Message Stream)) (faults : ℕ) : Type 0 where
+  pub sink : after.sink ≡ stopped_turn before.sink messages
+  pub device : StopsOver before.sink.stopped now before after
+  pub counted : faults ≡ after.faults
+
+-- what a turn does and tells, by its answer
+abbrev pub Turns : {D : Type 0} → (D → DeviceState) → Mixer D → Mixer D → List (Message Stream) → List (Notice Stream) → List (Notice Stream) → Turned → Type 0
+Turns now before after messages told told' (Played consumed frames) =
+    Plays now before after messages consumed frames × (told' ≡ told ++ turn_notices samples before.sink frames messages)
+Turns now before after messages told told' (Stopped faults) =
+    Stops now before after messages faults × (told' ≡ told ++ stopped_notices before.sink messages)
+
+-- why there was no turn, where so many frames are filled: want of memory, or a count above the last index
+abbrev pub Refuses : ℕ → LaneFault → Type 0
+Refuses filled NoMemory = filled ≤ 2 ^ 60
+Refuses filled (Worn count) = (2 ^ 60 < filled) × (count ≡ filled)

@@ -1,0 +1,210 @@
+// The mixer of one sink over a device.
+ghost use Rattle.std.specs.Prelude.{◌≡◌, ◌≤◌, ◌+◌, ◌-◌, ◌^◌, ◌++◌, [], length, IfOk, OnOk, OnErr, MatchResult, IsFalse};
+ghost use Rattle.std.specs.Borrow.{Lends, sem};
+ghost use Rattle.px_msg.specs.View.{sample_spec};
+ghost use Rattle.px_model.specs.Sink.{empty_sink};
+ghost use Rattle.px_lane.specs.Mixing.{IsMixed};
+ghost use Rattle.px_model.specs.Turn.{AreFor, settled, turned, turn_notices};
+ghost use Rattle.px_lane.specs.Samples.{samples};
+ghost use Rattle.px_lane.specs.Needed.{needed};
+ghost use Rattle.px_lane.specs.Lane.{IsLane, IsAttached};
+ghost use Rattle.px_lane.specs.Turned.{Turns, Refuses};
+ghost use Rattle.px_lane.specs.contracts.lane.Lane.{the_row};
+
+use crate::{MsgList, NoticeList, Prepared, SinkMixer};
+use px_block::BlockSource;
+use px_device::{Device, DeviceFault};
+use px_session::SinkSpec;
+use px_types::{Mem, NoMemory};
+use std::alloc::Global;
+use std::marker::Model;
+
+/// The most frames that may be filled before a turn: the last index of a stream, 2^60.
+const MOST_FILLED: u64 = 1 << 60;
+
+/// What a turn did.
+#[derive(Clone, Copy, Debug, PartialEq, Eq)]
+pub enum Turned {
+    /// The device consumed so many frames in this turn, and so many in all.
+    Played { consumed: u64, frames: u32 },
+    /// The sink has stopped; so many syncs of its device failed.
+    Stopped { faults: u64 },
+}
+
+/// Why there was no turn.
+#[derive(Clone, Copy, Debug, PartialEq, Eq)]
+pub enum LaneFault {
+    /// Want of memory.
+    NoMemory,
+    /// So many frames are filled that an index could pass its range: more than 2^60.
+    Worn { filled: u64 },
+}
+
+/// The mixer of one sink over the device that plays its frames (PulseAudio: the I/O thread of a sink).
+#[derive(Debug, Drop)]
+pub struct Lane<D> {
+    mixer: SinkMixer,
+    device: D,
+    faults: u64,
+}
+
+impl<D> Model for Lane<D> {
+    ghost use Rattle.px_lane.specs.Lane.{Mixer, IsLane};
+
+    ghost Value = { Mixer D };
+
+    ghost view = { λ l. record { sink = l.mixer.sink; device = l.device; faults = l.faults } };
+
+    ghost invariant = { λ l. IsLane l.mixer.sink };
+}
+
+impl<D: Device + Drop> Lane<D> {
+    /// A lane with no inputs, over a device that has played nothing. Takes the room of its buffer.
+    pub fn new(alloc: Global, sink: &SinkSpec, device: D) -> Mem<Lane<D>>
+        requires mixed { IsMixed sink.now.spec }
+        requires low_depth { sink.now.depth ≤ 65536 }
+        requires attached { IsAttached (D.now device) (empty_sink (sample_spec sink.now.spec) sink.now.guard sink.now.depth) }
+        ensures { IfOk result (λ l. l ≡ record { sink = empty_sink (sample_spec sink.now.spec) sink.now.guard sink.now.depth; device = device; faults = 0 }) }
+    {
+        Ok(Lane {
+            mixer: SinkMixer::new(alloc, sink)?,
+            device,
+            faults: 0,
+        })
+    }
+
+    /// Frames consumed so far.
+    pub fn consumed(&self) -> u64
+        ensures { result ≡ self.now.sink.consumed }
+    {
+        self.mixer.consumed()
+    }
+
+    /// Frames mixed so far.
+    pub fn filled(&self) -> u64
+        ensures { result ≡ self.now.sink.filled }
+    {
+        self.mixer.filled()
+    }
+
+    /// The device.
+    pub fn device_mut(&mut self) -> &mut D
+        ensures* lends { sem 𝓛 (Lends (the_row D.row) D.row self.entry result (λ d. record self.old { device = d })) }
+        ensures value { result.now ≡ self.old.device }
+    {
+        &mut self.device
+    }
+
+    /// The device, for good.
+    pub fn into_device(self) -> D
+        ensures { result ≡ self.device }
+    {
+        self.device
+    }
+
+    /// A turn: the device plays what it consumed, the messages are taken, all frames from the horizon on are mixed afresh and put, and
+    /// each stream is asked. A turn whose sync fails stops the sink, and each later one is the same without a call of the device. The list
+    /// of messages is empty then, and the notices stand behind those that were there. Without memory, and where the sink is worn, nothing
+    /// changes: all memory is taken before the sync. (PulseAudio: `pa_sink_render` and `pa_sink_process_rewind` of pulsecore/sink.c.)
+    pub fn turn<B: BlockSource>(
+        &mut self,
+        alloc: Global,
+        messages: &mut MsgList,
+        out: &mut NoticeList,
+        _blocks: &mut B,
+    ) -> Result<Turned, LaneFault>
+        requires messages { AreFor self.old.sink messages.old }
+        requires attached { IsFalse self.old.sink.stopped → IsAttached (D.now self.old.device) self.old.sink }
+        ensures ok { IfOk result (Turns D.now self.old self.new messages.old out.old.notices out.new.notices) }
+        ensures empty { OnOk result (messages.new ≡ []) }
+        ensures worn { MatchResult result (λ turned. self.old.sink.filled ≤ 2 ^ 60) (Refuses self.old.sink.filled) }
+        ensures err { OnErr result ((self.new ≡ self.old) × (messages.new ≡ messages.old) × (out.new.notices ≡ out.old.notices)) }
+    {
+        let filled = self.mixer.filled();
+        if filled > MOST_FILLED {
+            return Err(LaneFault::Worn { filled });
+        }
+        match self.mixer.prepare(alloc, messages, out) {
+            Err(NoMemory) => Err(LaneFault::NoMemory),
+            Ok(mut prepared) => {
+                let turned = run(
+                    &mut self.mixer,
+                    &mut self.device,
+                    &mut self.faults,
+                    &mut prepared,
+                    out,
+                );
+                messages.give_back(prepared);
+                Ok(turned)
+            }
+        }
+    }
+}
+
+// A turn for which all memory was taken.
+fn run<D: Device>(
+    mixer: &mut SinkMixer,
+    device: &mut D,
+    faults: &mut u64,
+    messages: &mut Prepared,
+    out: &mut NoticeList,
+) -> Turned
+    requires lane { IsLane mixer.old.sink }
+    requires attached { IsFalse mixer.old.sink.stopped → IsAttached (D.now device.old) mixer.old.sink }
+    requires countable { mixer.old.sink.filled ≤ 2 ^ 60 }
+    requires messages { AreFor mixer.old.sink messages.old.messages }
+    requires room { length messages.old.messages ≤ mixer.old.room }
+    requires comes { mixer.old.room ≤ messages.old.room }
+    requires capacity { length out.old.notices + needed mixer.old.sink.inputs messages.old.messages ≤ out.old.capacity }
+    ensures turns { Turns D.now (record { sink = mixer.old.sink; device = device.old; faults = faults.old }) (record { sink = mixer.new.sink; device = device.new; faults = faults.new }) messages.old.messages out.old.notices out.new.notices result }
+    ensures lane { IsLane mixer.new.sink }
+    ensures messages { messages.new.messages ≡ [] }
+{
+    if mixer.is_stopped() {
+        mixer.stop(messages, out);
+        return Turned::Stopped { faults: *faults };
+    }
+    match device.sync() {
+        Ok(consumed) => play(mixer, device, consumed, messages, out),
+        Err(DeviceFault) => {
+            *faults = faults.saturating_add(1);
+            mixer.stop(messages, out);
+            Turned::Stopped { faults: *faults }
+        }
+    }
+}
+
+// A turn after a sync that answered so many frames consumed.
+fn play<D: Device>(
+    mixer: &mut SinkMixer,
+    device: &mut D,
+    consumed: u64,
+    messages: &mut Prepared,
+    out: &mut NoticeList,
+) -> Turned
+    requires lane { IsLane mixer.old.sink }
+    requires forward { mixer.old.sink.consumed ≤ consumed }
+    requires within { consumed ≤ mixer.old.sink.filled }
+    requires attached { IsAttached (D.now device.old) (settled mixer.old.sink (consumed - mixer.old.sink.consumed)) }
+    requires countable { mixer.old.sink.filled ≤ 2 ^ 60 }
+    requires messages { AreFor mixer.old.sink messages.old.messages }
+    requires room { length messages.old.messages ≤ mixer.old.room }
+    requires comes { mixer.old.room ≤ messages.old.room }
+    requires capacity { length out.old.notices + needed mixer.old.sink.inputs messages.old.messages ≤ out.old.capacity }
+    ensures value { mixer.new.sink ≡ turned samples mixer.old.sink (consumed - mixer.old.sink.consumed) messages.old.messages }
+    ensures result { result ≡ Turned.Played consumed (consumed - mixer.old.sink.consumed) }
+    ensures lane { IsLane mixer.new.sink }
+    ensures notices { out.new.notices ≡ out.old.notices ++ turn_notices samples mixer.old.sink (consumed - mixer.old.sink.consumed) messages.old.messages }
+    ensures messages { messages.new.messages ≡ [] }
+    ensures attached { IsAttached (D.now device.new) mixer.new.sink }
+    ensures played { (D.now device.new).played ≡ (D.now device.old).played }
+    ensures faults { (D.now device.new).faults ≡ (D.now device.old).faults }
+{
+    let frames = consumed - mixer.consumed();
+    mixer.play(frames, messages, out);
+    device.put(mixer.horizon(), mixer.fresh());
+    Turned::Played {
+        consumed,
+        frames: frames as u32,
+    }
+}
