@@ -1,6 +1,6 @@
 -- A device: it plays the frames that were put ahead, and they may be put anew as long as they aren't too near (PulseAudio: the
 -- device's buffer of `pa_sink` in pulsecore/sink.h). Own: one record of all its numbers, with its bytes where it tells them.
-use Rattle.std.specs.Prelude.{◌≡◌, ℕ, ◌+◌, ◌-◌, ◌*◌, ◌/◌, ◌^◌, ◌≤◌, min, Bool, true, IsFalse, List, ◌++◌, length, take, drop, Option, None, Some, ⊤}
+use Rattle.std.specs.Prelude.{◌≡◌, ℕ, ◌+◌, ◌-◌, ◌*◌, ◌/◌, ◌^◌, ◌≤◌, min, Bool, true, IsFalse, List, ◌++◌, length, take, drop, Option, None, Some, ⊤, false}
 use Rattle.px_device.specs.declared.device.DeviceShape.{DeviceShape}
 use Rattle.px_ends.specs.Faults.{Rose}
 use Rattle.px_ends.specs.Told.{after_adding}
@@ -70,12 +70,19 @@ MayFail None = ⊤
 MayFail (Some (consume k)) = ⊥
 MayFail (Some fail) = ⊤
 
--- a sync that answers this count of frames consumed; what the next one does is open
+-- whether it is told that the next sync fails
+abbrev pub is_failing : Option Next → Bool
+is_failing None = false
+is_failing (Some (consume k)) = false
+is_failing (Some fail) = true
+
+-- a sync that answers this count of frames consumed; how many the next one consumes is open, but not whether it is told to fail
 pub record Plays (consumed : ℕ) (before after : DeviceState) : Type 0 where
   pub going : IsFalse before.failed
   pub forward : before.consumed ≤ consumed
   pub within : consumed ≤ before.filled
   pub told : Consumes before.next (before.filled - before.consumed) (consumed - before.consumed)
+  pub steady : is_failing after.next ≡ is_failing before.next
   pub state : after ≡ record (played_on (consumed - before.consumed) before) { next = after.next }
 
 -- after a sync that failed when it had played n more bytes, with so many faults

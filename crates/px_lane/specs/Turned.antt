@@ -1,7 +1,7 @@
 -- What a turn of a lane does, by its answer.
 use Rattle.std.specs.Prelude.{◌≡◌, ℕ, ◌-◌, ◌^◌, ◌<◌, ◌≤◌, IsFalse, List, ◌++◌}
 use Rattle.std.specs.List.{concat}
-use Rattle.px_device.specs.Device.{DeviceState, Consumes}
+use Rattle.px_device.specs.Device.{DeviceState, Consumes, is_failing}
 use Rattle.px_model.specs.Stream.{Stream}
 use Rattle.px_model.specs.Message.{Message}
 use Rattle.px_model.specs.Notice.{Notice}
@@ -23,6 +23,7 @@ pub record Plays {D : Type 0} (now : D → DeviceState) (before after : Mixer D)
   pub attached : IsAttached (now after.device) after.sink
   pub played : (now after.device).played ≡ played_more (now before.device).buffer (now before.device).played (concat (played_by before.sink frames))
   pub device_faults : (now after.device).faults ≡ (now before.device).faults
+  pub steady : is_failing (now after.device).next ≡ is_failing (now before.device).next
   pub faults : after.faults ≡ before.faults
 
 -- a turn whose sync failed, or that came after such a one

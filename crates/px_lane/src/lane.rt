@@ -199,6 +199,7 @@ fn play<D: Device>(
     ensures attached { IsAttached (D.now device.new) mixer.new.sink }
     ensures played { (D.now device.new).played ≡ (D.now device.old).played }
     ensures faults { (D.now device.new).faults ≡ (D.now device.old).faults }
+    ensures next { (D.now device.new).next ≡ (D.now device.old).next }
 {
     let frames = consumed - mixer.consumed();
     mixer.play(frames, messages, out);

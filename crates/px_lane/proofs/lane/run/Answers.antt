@@ -1,6 +1,6 @@
 use Rattle.std.proofs.Common.{◌≡◌, ℕ, ◌-◌, ◌≤◌, length, refl, ap, sym, ◌∙◌, subst, arith, rules}
-use Rattle.std.specs.Prelude.{IsFalse}
-use Rattle.px_device.specs.Device.{DeviceState, Consumes}
+use Rattle.std.specs.Prelude.{IsFalse, Option}
+use Rattle.px_device.specs.Device.{DeviceState, Consumes, Next, is_failing}
 use Rattle.px_model.specs.Sink.{Sink}
 use Rattle.px_lane.specs.declared.lane.Turned.{Turned}
 use Rattle.px_lane.specs.Turned.{Turns}
@@ -47,6 +47,7 @@ returns-in-Ok-clause-turns g c =
         attached = c.play.ensures.attached;
         played = c.play.ensures.played ∙ synced_played d d' sink c.in-Ok.consumed c.requires.lane at plays;
         device_faults = c.play.ensures.faults ∙ ap (λ (e : DeviceState). e.faults) plays.state;
+        steady = ap (λ (next : Option Next). is_failing next) c.play.ensures.next ∙ plays.steady;
         faults = refl;
       },
       c.play.ensures.notices,
