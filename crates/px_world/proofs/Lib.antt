@@ -8,3 +8,5 @@ pub mod Openings
 pub mod Standing
 pub mod Computed
 pub mod Kept
+pub mod Played
+pub mod Shapes

@@ -7,3 +7,4 @@ pub mod Running
 pub mod Worked
 pub mod Outcome
 pub mod Keeping
+pub mod Playing

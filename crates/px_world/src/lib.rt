@@ -7,6 +7,7 @@ mod doors;
 mod fault;
 mod law;
 mod outcome;
+mod playing;
 
 pub use fault::WorldFault;
 pub use outcome::Outcome;

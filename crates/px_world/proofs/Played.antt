@@ -1,0 +1,73 @@
+-- A turn whose device was set to consume so many frames.
+use Rattle.std.proofs.Common.{◌≡◌, ℕ, ◌+◌, ◌-◌, ◌≤◌, min, List, [], ◌++◌, Bool, true, false, Option, Some, refl, ap, sym, subst, ◌∙◌, arith, cond}
+use Rattle.std.specs.Prelude.{IsFalse, ◌||◌, length, take}
+use Rattle.std.specs.List.{concat}
+use Rattle.std.proofs.lemmas.Bool.{cond-false}
+use Rattle.std.proofs.lemmas.List.{length-take-le}
+use Rattle.px_device.specs.Device.{Consumes, is_failing}
+use Rattle.px_device.specs.Memory.{MemoryDevice, state_of, next_of, set_of}
+use Rattle.px_model.specs.Message.{Message}
+use Rattle.px_model.specs.Notice.{Notice}
+use Rattle.px_model.specs.Sink.{Sink, IsSink}
+use Rattle.px_model.specs.Stream.{Stream}
+use Rattle.px_model.specs.Turn.{turned, turn_notices, stopped_turn, stopped_notices, played_by}
+use Rattle.px_lane.specs.Lane.{Mixer as Lane, IsAttached}
+use Rattle.px_lane.specs.Samples.{samples}
+use Rattle.px_lane.specs.Turned.{Plays}
+use Rattle.px_world.specs.Event.{is_to_stop, mixer_turned, played_of}
+use Rattle.px_world.specs.World.{Mixer}
+
+consumes : (b : Bool) (set waiting n : ℕ) → Consumes (Some (next_of b set)) waiting n → (b ≡ false) × (n ≡ min set waiting)
+consumes true set waiting n h = absurd h
+consumes false set waiting n h = (refl, h)
+
+failing : (b : Bool) (set : ℕ) → is_failing (Some (next_of b set)) ≡ b
+failing true set = refl
+failing false set = refl
+
+neither : (a b : Bool) → IsFalse a → b ≡ false → (a || b) ≡ false
+neither true b h e = h
+neither false b h e = e
+
+same_some : (x y : List ℕ) → ◌≡◌ {A = Option (List ℕ)} (Some x) (Some y) → x ≡ y
+same_some x y e = cc
+
+-- what the turn leaves, where the device before it had this setting
+pub record Leaves (sink : Sink) (d d' : MemoryDevice) (frames n : ℕ) : Type 0 where
+  pub going : (sink.stopped || (d.stopping || d.failed)) ≡ false
+  pub count : n ≡ frames
+  pub bytes : d'.played ≡ concat (played_by sink frames)
+  pub quiet : (d'.stopping || d'.failed) ≡ (d.stopping || d.failed)
+
+armed : MemoryDevice → ℕ → MemoryDevice
+armed d frames = record d { armed = Some (min frames d.depth) }
+
+pub leaves : (sink sink' : Sink) (d d' : MemoryDevice) (frames consumed n before after : ℕ) (messages : List (Message Stream)) → IsSink sink → frames ≤ sink.filled - sink.consumed → d.played ≡ []
+    → (IsFalse sink.stopped → IsAttached (state_of d) sink)
+    → Plays state_of (record { sink = sink; device = record d { armed = Some (min frames d.depth) }; faults = before }) (record { sink = sink'; device = d'; faults = after }) messages consumed n
+    → Leaves sink d d' frames n
+leaves sink sink' d d' frames consumed n before after messages kept there taken attached plays =
+    let told = consumes (d.stopping || d.failed) (min frames d.depth) (sink.filled - sink.consumed) n plays.told in
+    let at = attached plays.going in
+    let count : n ≡ frames = omega (arith, told.1, there, kept.filled_bounded, at.depth) in
+    record {
+      going = neither sink.stopped (d.stopping || d.failed) plays.going told.0;
+      count = count;
+      bytes = same_some d'.played (d.played ++ concat (played_by sink n)) plays.played ∙ ap (λ bytes. bytes ++ concat (played_by sink n)) taken ∙ ap (λ k. concat (played_by sink k)) count;
+      quiet = sym (failing (d'.stopping || d'.failed) (set_of d'.armed d'.each d'.left)) ∙ plays.steady ∙ failing (d.stopping || d.failed) (min frames d.depth);
+    }
+
+pub mixer-same : (m : Mixer) (frames : ℕ) (messages : List (Message Stream)) (sink : Sink) (notices : List (Notice Stream)) (fails : Bool) → is_to_stop m ≡ false → sink ≡ turned samples m.sink frames messages
+    → notices ≡ m.notices ++ turn_notices samples m.sink frames messages → fails ≡ m.failing
+    → record { sink = sink; notices = notices; failing = fails } ≡ mixer_turned m frames messages
+mixer-same m frames messages sink notices fails going a b f =
+    (λ i. record { sink = a i; notices = b i; failing = f i })
+    ∙ sym (cond-false (is_to_stop m)
+    (record m { sink = stopped_turn m.sink messages; notices = m.notices ++ stopped_notices m.sink messages })
+    (record m { sink = turned samples m.sink frames messages; notices = m.notices ++ turn_notices samples m.sink frames messages }) going)
+
+pub played-same : (m : Mixer) (frames : ℕ) → is_to_stop m ≡ false → played_of (Some m) frames ≡ played_by m.sink frames
+played-same m frames going = cond-false (is_to_stop m) [] (played_by m.sink frames) going
+
+pub played-count : (sink : Sink) (frames : ℕ) → IsSink sink → frames ≤ sink.filled - sink.consumed → length (played_by sink frames) ≡ frames
+played-count sink frames kept there = length-take-le frames sink.buffer (omega (arith, there, kept.buffer_full))

@@ -1,0 +1,29 @@
+use Rattle.std.proofs.Common.{◌≡◌, sym, subst, ap, ◌∙◌}
+use Rattle.px_msg.specs.View.{sample_spec}
+use Rattle.px_device.specs.declared.device.DeviceShape.{DeviceShape}
+use Rattle.px_device.specs.Device.{IsShape}
+use Rattle.px_device.specs.Memory.{MemoryDevice, state_of, new_memory_device}
+use Rattle.px_model.specs.Sink.{empty_sink}
+use Rattle.px_lane.specs.Lane.{Mixer as Lane, IsAttached}
+use Rattle.px_world.proofs.Shapes.{shape_for, is-shape, is-attached}
+use Rattle.px_world.proofs.playing.Playing.new.Goals as goal
+
+pub new-requires : goal.new-requires
+new-requires c = subst IsShape (sym c.shape_of.ensures) (is-shape c.requires.0 c.args.sink.now c.requires.1)
+
+pub new-requires-2-clause-attached : goal.new-requires-2-clause-attached
+new-requires-2-clause-attached c =
+    let sink = c.args.sink.now in
+    let is : c.in_ok-device.device ≡ new_memory_device (shape_for sink) = c.in_ok-device.ensures ∙ ap (λ (shape : DeviceShape). new_memory_device shape) c.shape_of.ensures in
+    subst (λ (d : MemoryDevice). IsAttached (state_of d) (empty_sink (sample_spec sink.spec) sink.guard sink.depth)) (sym is) (is-attached sink)
+
+pub returns-clause-playing : goal.returns-clause-playing
+returns-clause-playing c =
+    let sink = c.args.sink.now in
+    let is : c.in_ok-device.device ≡ new_memory_device (shape_for sink) = c.in_ok-device.ensures ∙ ap (λ (shape : DeviceShape). new_memory_device shape) c.shape_of.ensures in
+    let lane = c.in_ok-new.ensures in
+    record {
+      taken = ap (λ (l : Lane MemoryDevice). l.device.played) lane ∙ ap (λ (d : MemoryDevice). d.played) is;
+      attached = λ going. subst (λ (l : Lane MemoryDevice). IsAttached (state_of l.device) l.sink) (sym lane)
+          (subst (λ (d : MemoryDevice). IsAttached (state_of d) (empty_sink (sample_spec sink.spec) sink.guard sink.depth)) (sym is) (is-attached sink));
+    }

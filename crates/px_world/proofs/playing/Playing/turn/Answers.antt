@@ -1,0 +1,50 @@
+use Rattle.std.proofs.Common.{◌≡◌, ℕ, ◌-◌, ◌≤◌, List, length, min, ap, sym, subst, ◌∙◌, arith, Bool, false}
+use Rattle.std.specs.Prelude.{◌||◌, ◌++◌, Some}
+use Rattle.std.specs.List.{concat}
+use Rattle.px_device.specs.Memory.{MemoryDevice, state_of}
+use Rattle.px_model.specs.Turn.{turned as after, turn_notices, played_by}
+use Rattle.px_lane.specs.Lane.{Mixer as Lane}
+use Rattle.px_lane.specs.Samples.{samples}
+use Rattle.px_lane.specs.Turned.{Turns, Plays}
+use Rattle.px_lane.specs.declared.lane.Turned.{Turned}
+use Rattle.px_world.specs.World.{Mixer}
+use Rattle.px_world.specs.Playing.{mixer_of}
+use Rattle.px_world.proofs.Played.{Leaves, leaves, mixer-same, played-same, played-count}
+use Rattle.px_world.proofs.playing.Playing.turn.Goals as goal
+
+armed_is : (c : goal.In-Played) → c.arm.new.self ≡ record c.args.self.now.lane.device { armed = Some (min c.args.frames c.args.self.now.lane.device.depth) }
+armed_is c = c.in_ok-arm.ensures.ok ∙ ap (λ (d : MemoryDevice). record d { armed = Some (min c.args.frames d.depth) }) c.device_mut.ensures.value
+
+turns : (c : goal.In-Played) → Turns state_of (record { sink = c.args.self.now.lane.sink; device = record c.args.self.now.lane.device { armed = Some (min c.args.frames c.args.self.now.lane.device.depth) }; faults = c.args.self.now.lane.faults })
+    c.turn.new.self c.args.messages.now c.args.self.now.notices.notices c.turn.new.out.notices (Turned.Played c.in-Played.consumed c.in-Played.frames)
+turns c =
+    subst (λ (t : Turned). Turns state_of (record { sink = c.args.self.now.lane.sink; device = record c.args.self.now.lane.device { armed = Some (min c.args.frames c.args.self.now.lane.device.depth) }; faults = c.args.self.now.lane.faults })
+    c.turn.new.self c.args.messages.now c.args.self.now.notices.notices c.turn.new.out.notices t) c.in-Played.is
+    (subst (λ (d : MemoryDevice). Turns state_of (record { sink = c.args.self.now.lane.sink; device = d; faults = c.args.self.now.lane.faults })
+    c.turn.new.self c.args.messages.now c.args.self.now.notices.notices c.turn.new.out.notices c.in-Ok.turned) (armed_is c) c.in-Ok.ensures.ok)
+
+left : (c : goal.In-Played) → Leaves c.args.self.now.lane.sink c.args.self.now.lane.device c.turn.new.self.device c.args.frames c.in-Played.frames
+left c =
+    leaves c.args.self.now.lane.sink c.turn.new.self.sink c.args.self.now.lane.device c.turn.new.self.device c.args.frames c.in-Played.consumed c.in-Played.frames c.args.self.now.lane.faults c.turn.new.self.faults c.args.messages.now
+    c.requires.kept c.requires.there c.requires.playing.taken c.requires.playing.attached (turns c).0
+
+pub returns-in-Played-clause-mixer : goal.returns-in-Played-clause-mixer
+returns-in-Played-clause-mixer c =
+    let it = left c in
+    let device : c.take_played-bytes.new.self.stopping || c.take_played-bytes.new.self.failed ≡ c.turn.new.self.device.stopping || c.turn.new.self.device.failed =
+    ap (λ (d : MemoryDevice). d.stopping || d.failed) (c.take_played-bytes.ensures.after) ∙ ap (λ (d : MemoryDevice). d.stopping || d.failed) c.device_mut-2.ensures.value in
+    mixer-same (mixer_of c.args.self.now) c.args.frames c.args.messages.now c.turn.new.self.sink c.turn.new.out.notices (c.take_played-bytes.new.self.stopping || c.take_played-bytes.new.self.failed)
+    it.going
+    ((turns c).0.sink ∙ ap (λ (n : ℕ). after samples c.args.self.now.lane.sink n c.args.messages.now) it.count)
+    ((turns c).1 ∙ ap (λ (n : ℕ). c.args.self.now.notices.notices ++ turn_notices samples c.args.self.now.lane.sink n c.args.messages.now) it.count)
+    (device ∙ it.quiet)
+
+pub returns-in-Played-clause-frames : goal.returns-in-Played-clause-frames
+returns-in-Played-clause-frames c =
+    let it = left c in
+    it.count ∙ (sym (played-count c.args.self.now.lane.sink c.args.frames c.requires.kept c.requires.there) ∙ ap (length {A = List ℕ}) (sym (played-same (mixer_of c.args.self.now) c.args.frames it.going)))
+
+pub returns-in-Played-clause-bytes : goal.returns-in-Played-clause-bytes
+returns-in-Played-clause-bytes c =
+    let it = left c in
+    c.take_played-bytes.ensures.played ∙ (ap (λ (d : MemoryDevice). d.played) c.device_mut-2.ensures.value ∙ (it.bytes ∙ ap (λ (frames : List (List ℕ)). concat frames) (sym (played-same (mixer_of c.args.self.now) c.args.frames it.going))))

@@ -1,0 +1,15 @@
+-- A sink's mixer of the code as the mixer of a world.
+use Rattle.std.specs.Prelude.{◌≡◌, Bool, ◌||◌, IsFalse, []}
+use Rattle.px_device.specs.Memory.{state_of}
+use Rattle.px_lane.specs.Lane.{IsAttached}
+use Rattle.px_world.specs.declared.playing.Playing.{Playing}
+use Rattle.px_world.specs.World.{Mixer}
+
+-- its device is to fail, or has failed
+abbrev pub mixer_of : Playing → Mixer
+mixer_of p = record { sink = p.lane.sink; notices = p.notices.notices; failing = p.lane.device.stopping || p.lane.device.failed }
+
+-- all that its device has played was taken, and while the sink isn't stopped the device plays the sink's frames
+pub record IsPlaying (p : Playing) : Type 0 where
+  pub taken : p.lane.device.played ≡ []
+  pub attached : IsFalse p.lane.sink.stopped → IsAttached (state_of p.lane.device) p.lane.sink

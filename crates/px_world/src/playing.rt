@@ -1,0 +1,100 @@
+//! A sink's mixer over its device in memory.
+
+ghost use Rattle.std.specs.Prelude.{◌≡◌, ◌≤◌, ◌-◌, ◌^◌, List, [], length, IfOk, OnOk, Some};
+ghost use Rattle.std.specs.List.{concat};
+ghost use Rattle.px_session.specs.HeaderRules.{IsSink};
+ghost use Rattle.px_session.specs.declared.header.SinkSpec.{SinkSpec as Spec};
+ghost use Rattle.px_sample.specs.Format.{frame_size_of};
+ghost use Rattle.px_model.specs.Sink.{IsSink as IsKeptSink};
+ghost use Rattle.px_model.specs.Turn.{AreFor};
+ghost use Rattle.px_world.specs.Event.{mixer_turned, played_of};
+ghost use Rattle.px_world.specs.World.{new_mixer};
+ghost use Rattle.px_world.specs.Playing.{mixer_of, IsPlaying};
+
+use px_block::Fresh;
+use px_device::{DeviceShape, MemDevice, Played};
+use px_lane::{Lane, MsgList, NoticeList, Turned};
+use px_session::SinkSpec;
+use px_types::{Mem, NoMemory};
+use std::alloc::Global;
+
+/// A sink's mixer over its device, with the notices that the core hasn't taken yet.
+#[derive(Drop)]
+pub(crate) struct Playing {
+    pub lane: Lane<MemDevice>,
+    pub notices: NoticeList,
+}
+
+/// What a device has consumed: so many frames, and their bytes.
+#[derive(Drop)]
+pub(crate) struct Sound {
+    pub frames: u32,
+    pub bytes: Played,
+}
+
+// The shape of a sink's device.
+fn shape_of(sink: &SinkSpec) -> DeviceShape
+    requires { (earlier : List Spec) × IsSink earlier sink.now }
+    ensures { result ≡ record { frame = frame_size_of sink.now.spec; rate = sink.now.spec.rate; guard = sink.now.guard; depth = sink.now.depth } }
+{
+    DeviceShape {
+        frame: sink.spec.frame_size() as u32,
+        rate: sink.spec.rate,
+        guard: sink.guard,
+        depth: sink.depth,
+    }
+}
+
+// No bytes.
+fn nothing(alloc: Global) -> Played
+    ensures { result ≡ [] }
+{
+    Played::from_vec(Vec::new(alloc))
+}
+
+impl Playing {
+    /// A mixer that has mixed nothing, over a device that has played nothing.
+    pub fn new(alloc: Global, sink: &SinkSpec) -> Mem<Playing>
+        requires { (earlier : List Spec) × IsSink earlier sink.now }
+        ensures mixer { IfOk result (λ p. mixer_of p ≡ new_mixer sink.now) }
+        ensures playing { IfOk result IsPlaying }
+    {
+        let device = MemDevice::new(alloc, &shape_of(sink))?;
+        Ok(Playing {
+            lane: Lane::new(alloc, sink, device)?,
+            notices: NoticeList::new(alloc),
+        })
+    }
+
+    /// A turn whose device consumes so many frames, where it doesn't fail, and which takes these messages.
+    pub fn turn(
+        &mut self,
+        alloc: Global,
+        frames: u32,
+        messages: &mut MsgList,
+        blocks: &mut Fresh,
+    ) -> Mem<Sound>
+        requires kept { IsKeptSink self.old.lane.sink }
+        requires playing { IsPlaying self.old }
+        requires there { frames ≤ self.old.lane.sink.filled - self.old.lane.sink.consumed }
+        requires countable { self.old.lane.sink.filled ≤ 2 ^ 60 }
+        requires messages { AreFor self.old.lane.sink messages.old }
+        ensures mixer { OnOk result (mixer_of self.new ≡ mixer_turned (mixer_of self.old) frames messages.old) }
+        ensures playing { OnOk result (IsPlaying self.new) }
+        ensures frames { IfOk result (λ sound. sound.frames ≡ length (played_of (Some (mixer_of self.old)) frames)) }
+        ensures bytes { IfOk result (λ sound. sound.bytes ≡ concat (played_of (Some (mixer_of self.old)) frames)) }
+    {
+        self.lane.device_mut().arm(frames)?;
+        let Ok(turned) = self.lane.turn(alloc, messages, &mut self.notices, blocks) else {
+            return Err(NoMemory);
+        };
+        let bytes = self.lane.device_mut().take_played(alloc);
+        match turned {
+            Turned::Played { frames, .. } => Ok(Sound { frames, bytes }),
+            Turned::Stopped { .. } => Ok(Sound {
+                frames: 0,
+                bytes: nothing(alloc),
+            }),
+        }
+    }
+}
