@@ -1,8 +1,9 @@
-//! The streams of a sink's mixer, and what a turn does to them. Each stream keeps a list of its writes, and a frame is looked up from
-//! the newest write back. All the memory of a turn is taken before its first message (`MsgList::prepare`); from then on `Inputs` goes
-//! forward, takes the messages and asks, and can't fail. It exports `Stream` with its `FrameQueue`, `Chunk`, `Stored` and `Index`;
-//! `Inputs` of `Input`s; `MsgList` and `NoticeList`; `Prepared`, `Ready` and `Change`, which messages become; `scaled`; and the laws
-//! `notices_fit` and `orderly_messages_are_taken`.
+//! A sink's mixer over a device: its streams, their mix, and a turn. Each stream keeps a list of its writes, and a frame is looked up from
+//! the newest write back. All the memory of a turn is taken before its first message (`MsgList::prepare`); from then on nothing can fail
+//! but the device. `lane` has the turn over a device, `mixer` the sink without it, `mix` the mix of frames, `inputs` the list of inputs.
+//! It exports `Lane` with `Turned` and `LaneFault`; `SinkMixer`; `Stream` with its `FrameQueue`, `Chunk`, `Stored` and `Index`; `Inputs` of
+//! `Input`s; `MsgList` and `NoticeList`; `Prepared`, `Ready` and `Change`, which messages become; `scaled`; and the laws `notices_fit` and
+//! `orderly_messages_are_taken`.
 #![tactic(auto)]
 
 mod parcel;
@@ -43,3 +44,5 @@ pub use stream::Stream;
 
 #[cfg(test)]
 mod tests;
+#[cfg(test)]
+mod tests_lane;
