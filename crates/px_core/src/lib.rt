@@ -38,3 +38,6 @@ pub use effects::Effects;
 pub use input::{Connection, Input, Way};
 pub use lending::put_back_undoes_handing_out;
 pub use machine::Core;
+
+#[cfg(test)]
+mod tests;
