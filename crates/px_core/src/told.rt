@@ -1,13 +1,15 @@
 //! What a sink tells of a stream (PulseAudio: `sink_input_process_msg` and the callbacks of `pulsecore/protocol-native.c`;
 //! which notices fit is own).
 
-ghost use Rattle.std.specs.Prelude.{◌≡◌, ◌++◌, ◌<◌, ◌≤◌, [], ◌∷◌, length, IfOk, IfSome};
+ghost use Rattle.std.specs.Prelude.{◌≡◌, ◌++◌, ◌<◌, ◌≤◌, [], ◌∷◌, length, cond, IfOk, IfSome};
 ghost use Rattle.std.specs.Option.{option_map};
 ghost use Rattle.px_tag.specs.Item.{number};
 ghost use Rattle.px_msg.specs.View.{sample_spec};
 ghost use Rattle.px_reply.specs.Front.{message};
 ghost use Rattle.px_session.specs.HeaderRules.{AreSinks};
+ghost use Rattle.px_core.specs.Connecting.{going_on};
 ghost use Rattle.px_core.specs.Create.{IsOfHeader};
+ghost use Rattle.px_core.specs.Reply.{ignored};
 ghost use Rattle.px_core.specs.Told.{told_to, told_of, bytes_asked, request_message, overflow_message, underflow_message, started_message, gives_up, given_up_on, given_up, notice_answer};
 ghost use Rattle.px_core.specs.Tables.{state_of};
 
@@ -44,6 +46,24 @@ fn told_to<P: Drop>(alloc: Global, c: Option<Connection>, packet: &Packet) -> Me
             })
         }
     }
+}
+
+// An input's packet goes to its connection, where both go on.
+fn told<P: Drop>(
+    alloc: Global,
+    connections: &[Connection],
+    x: &Input,
+    packet: &Packet,
+) -> Mem<Answer<P>>
+    requires some { 0 < length packet.now }
+    requires few { length packet.now ≤ 16777216 }
+    ensures { IfOk result (λ answer. answer ≡ cond x.now.leaving ignored
+        (record { changes = []; effects = told_to (going_on connections.now x.now.conn) packet.now })) }
+{
+    if x.leaving {
+        return Ok(ignored(alloc));
+    }
+    told_to(alloc, going_on(connections, x.conn), packet)
 }
 
 // The bytes of so many frames, or the last number of 32 bits where they are more.
@@ -116,11 +136,11 @@ fn tell_request<P: Drop>(
     ensures { IfOk result (λ answer. answer ≡ told_of connections.now (option_map (λ x. x.now) input.entry) (request_message frames)) }
 {
     match input {
-        Some(x) if !x.leaving => {
+        None => Ok(ignored(alloc)),
+        Some(x) => {
             let packet = request(alloc, x, frames)?;
-            told_to(alloc, going_on(connections, x.conn), &packet)
+            told(alloc, connections, x, &packet)
         }
-        _ => Ok(ignored(alloc)),
     }
 }
 
@@ -133,11 +153,11 @@ fn tell_overflow<P: Drop>(
     ensures { IfOk result (λ answer. answer ≡ told_of connections.now (option_map (λ x. x.now) input.entry) overflow_message) }
 {
     match input {
-        Some(x) if !x.leaving => {
+        None => Ok(ignored(alloc)),
+        Some(x) => {
             let packet = overflow(alloc, x)?;
-            told_to(alloc, going_on(connections, x.conn), &packet)
+            told(alloc, connections, x, &packet)
         }
-        _ => Ok(ignored(alloc)),
     }
 }
 
@@ -150,11 +170,11 @@ fn tell_underflow<P: Drop>(
     ensures { IfOk result (λ answer. answer ≡ told_of connections.now (option_map (λ x. x.now) input.entry) underflow_message) }
 {
     match input {
-        Some(x) if !x.leaving => {
+        None => Ok(ignored(alloc)),
+        Some(x) => {
             let packet = underflow(alloc, x)?;
-            told_to(alloc, going_on(connections, x.conn), &packet)
+            told(alloc, connections, x, &packet)
         }
-        _ => Ok(ignored(alloc)),
     }
 }
 
@@ -167,11 +187,11 @@ fn tell_started<P: Drop>(
     ensures { IfOk result (λ answer. answer ≡ told_of connections.now (option_map (λ x. x.now) input.entry) started_message) }
 {
     match input {
-        Some(x) if !x.leaving => {
+        None => Ok(ignored(alloc)),
+        Some(x) => {
             let packet = started(alloc, x)?;
-            told_to(alloc, going_on(connections, x.conn), &packet)
+            told(alloc, connections, x, &packet)
         }
-        _ => Ok(ignored(alloc)),
     }
 }
 
