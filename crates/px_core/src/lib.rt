@@ -43,5 +43,6 @@ pub use laws::{
     connections_end_once, refusals_change_nothing, sinks_have_what_they_were_told,
     sinks_hear_step_by_step, sinks_hear_what_is_orderly, states_are_kept,
 };
+
 #[cfg(test)]
 mod tests;
