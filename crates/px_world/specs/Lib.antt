@@ -4,3 +4,4 @@ pub mod Event
 pub mod Output
 pub mod History
 pub mod Running
+pub mod Outcome

@@ -3,5 +3,7 @@
 #![tactic(auto)]
 
 mod fault;
+mod world;
 
 pub use fault::WorldFault;
+pub use world::{Outcome, World};

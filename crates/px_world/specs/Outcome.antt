@@ -1,0 +1,14 @@
+-- What an event that was done has done.
+use Rattle.std.specs.Prelude.{◌≡◌, length, None}
+use Rattle.std.specs.List.{concat}
+use Rattle.px_session.specs.declared.event.Event.{Event}
+use Rattle.px_world.specs.declared.world.Outcome.{Outcome}
+use Rattle.px_world.specs.World.{World}
+use Rattle.px_world.specs.Admission.{refusal_of}
+use Rattle.px_world.specs.Event.{effects_after, frames_played}
+
+pub record IsOutcome (outcome : Outcome) (w : World) (e : Event) : Type 0 where
+  pub admitted : refusal_of w e ≡ None
+  pub effects : outcome.effects ≡ effects_after w e
+  pub frames : outcome.frames ≡ length (frames_played w e)
+  pub played : outcome.played ≡ concat (frames_played w e)
