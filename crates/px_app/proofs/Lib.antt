@@ -1,0 +1,12 @@
+pub mod WordLaws
+pub mod LineLaws
+pub mod FrontLaws
+pub mod ReadLaws
+pub mod BeginLaws
+pub mod RefuseLaws
+pub mod RecordLaws
+pub mod EventPlayedLaws
+pub mod PlayLaws
+pub mod ReportLaws
+pub mod CompleteLaws
+pub mod ReplayLaws

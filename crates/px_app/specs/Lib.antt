@@ -1,0 +1,8 @@
+pub mod Refusal
+pub mod Built
+pub mod Session
+pub mod Replay
+pub mod Ending
+pub mod Report
+pub mod Step
+pub mod Words

@@ -1,0 +1,49 @@
+-- What the bytes of a session are for a replay: they are played whole, or refused, with the records of the events before.
+use Rattle.std.specs.Prelude.{◌≡◌, ℕ, List, [], Ok, Err, None, Some, ◌⊎◌}
+use Rattle.px_session.specs.declared.header.Header.{Header}
+use Rattle.px_session.specs.declared.event.Event.{Event}
+use Rattle.px_session.specs.declared.event.Step.TheVariants as step
+use Rattle.px_session.specs.Place.{Place, Refusal as Broken, start_of}
+use Rattle.px_session.specs.HeaderReading.{header_at}
+use Rattle.px_session.specs.EventReading.{event_at}
+use Rattle.px_session.specs.Session.{Ended, Events, IsSession}
+use Rattle.px_session.specs.SessionLaw.{Lead}
+use Rattle.px_world.specs.declared.fault.WorldFault.{WorldFault}
+use Rattle.px_world.specs.World.{new_world}
+use Rattle.px_world.specs.Admission.{refusal_of}
+use Rattle.px_world.specs.Output.{world_by, records_by, AreAdmitted}
+use Rattle.px_app.specs.declared.refusal.Refusal.{Refusal}
+use Rattle.px_app.specs.Refusal.{of_bytes, not_built, of_event}
+use Rattle.px_app.specs.Built.{IsBuilt}
+
+-- the bytes are a session to its end byte, its header is built, and the world admits its events
+pub record IsPlayed (bytes : List ℕ) (header : Header) (events : List Event) : Type 0 where
+  pub session : IsSession bytes (Events header events Ended)
+  pub built : IsBuilt header
+  pub admitted : AreAdmitted (new_world header) events
+
+-- a header that is built stands first in the bytes, and then these events, which the world admits; the place behind them
+pub record Begins (bytes : List ℕ) (header : Header) (events : List Event) (here : Place) : Type 0 where
+  pub start : Place
+  pub head : header_at (start_of bytes) ≡ Ok (header, start)
+  pub built : IsBuilt header
+  pub lead : Lead events start here
+  pub admitted : AreAdmitted (new_world header) events
+
+-- no header stands first, or it is one that isn't built
+abbrev pub NoneBegins : List ℕ → Refusal → Type 0
+NoneBegins bytes refusal =
+    ((broken : Broken) × (header_at (start_of bytes) ≡ Err broken) × (refusal ≡ of_bytes broken))
+    ⊎ ((header : Header) × (after : Place) × (header_at (start_of bytes) ≡ Ok (header, after)) × (¬ IsBuilt header) × (refusal ≡ not_built))
+
+-- no event stands here, or it is one that the world after the events before doesn't admit; then its kind byte is here
+abbrev pub StopsHere : Header → List Event → Place → Refusal → Type 0
+StopsHere header before here refusal =
+    ((broken : Broken) × (event_at here ≡ Err broken) × (refusal ≡ of_bytes broken))
+    ⊎ ((e : Event) × (after : Place) × (fault : WorldFault) × (event_at here ≡ Ok (step.Event e, after)) × (refusal_of (world_by (new_world header) before) e ≡ Some fault) × (refusal ≡ of_event here.at e fault))
+
+-- the bytes are refused so, behind these records
+abbrev pub IsRefused : List ℕ → Refusal → List ℕ → Type 0
+IsRefused bytes refusal records =
+    (NoneBegins bytes refusal × (records ≡ []))
+    ⊎ ((header : Header) × (before : List Event) × (here : Place) × Begins bytes header before here × StopsHere header before here refusal × (records ≡ records_by (new_world header) before))

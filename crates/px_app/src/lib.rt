@@ -1,0 +1,18 @@
+//! The program's top call, `run`, and what it does by the words of the command line: `replay` plays a recorded session.
+//! It exports these two, `View`, `Ending`, the `Refusal`s of a session, and `report`, which writes to a log how a run ended.
+#![tactic(auto)]
+
+mod ending;
+mod log;
+mod playing;
+mod program;
+mod reading;
+mod records;
+mod refusal;
+mod replaying;
+
+pub use crate::log::report;
+pub use ending::Ending;
+pub use program::run;
+pub use refusal::{Refusal, Why};
+pub use replaying::{View, replay};

@@ -1,0 +1,64 @@
+//! The replay of a recorded session.
+
+ghost use Rattle.std.specs.Prelude.{◌≡◌, ◌⊎◌, ◌≢◌, ℕ};
+ghost use Rattle.px_types.specs.declared.status.Status.{Status as Answered};
+ghost use Rattle.px_ends.specs.Told.{after_adding, WhereTold};
+ghost use Rattle.px_ends.specs.Faults.{Rose};
+ghost use Rattle.px_ends.specs.Whole.{AddsFront};
+ghost use Rattle.px_app.specs.declared.ending.Ending.{Ending as Ended};
+ghost use Rattle.px_app.specs.declared.refusal.Refusal.{Refusal as Refused};
+ghost use Rattle.px_app.specs.Refusal.{refusal_line};
+ghost use Rattle.px_app.specs.Ending.{status_of, line_of};
+ghost use Rattle.px_app.specs.Replay.{PlayedWhole, WasRefused, PlayedFront, Completes, IsReplayStatus};
+
+use crate::log::report;
+use crate::playing::play;
+use px_ends::{Sink, Source};
+use px_types::Status;
+use std::alloc::Global;
+
+/// What a replay shows of a session.
+#[derive(Clone, Copy, Debug, PartialEq, Eq)]
+pub enum View {
+    /// Each effect and each turn's frames, as records.
+    Records,
+}
+
+/// Replays a recorded session: reads it from `input`, plays its events one by one in a world of the session's header, and
+/// writes to `output` a record for each effect and for the frames of each turn, in order, and then the end byte. A status other
+/// than `Ok` has its line in `log`; where that line can't be written, the status is `WriteFault`.
+///
+/// `Refused` is the first rule of sessions that the bytes break, a header that isn't built, or the first event that names a
+/// state which the world hasn't; the log has the offset and the cause, and the output the records of the events before.
+/// After `Memory`, `ReadFault` and `WriteFault` the output gained a front of what the bytes that were read give.
+pub fn replay<S: Source, K: Sink, L: Sink>(
+    alloc: Global,
+    view: View,
+    input: &mut S,
+    output: &mut K,
+    log: &mut L,
+) -> Status
+    ensures ok { result ≡ Answered.Ok → PlayedWhole (S.left input.old) (S.left input.new) (K.held output.old) (K.held output.new) }
+    ensures refused { result ≡ Answered.Refused → (refusal : Refused)
+        × WasRefused refusal (S.left input.old) (S.left input.new) (K.held output.old) (K.held output.new)
+        × (L.held log.new ≡ after_adding (L.held log.old) (refusal_line refusal)) }
+    ensures memory { result ≡ Answered.Memory → PlayedFront (S.left input.old) (S.left input.new) (K.held output.old) (K.held output.new) }
+    ensures read_fault { result ≡ Answered.ReadFault → Rose (S.faults input.old) (S.faults input.new)
+        × PlayedFront (S.left input.old) (S.left input.new) (K.held output.old) (K.held output.new) }
+    ensures write_fault { result ≡ Answered.WriteFault → Rose (K.faults output.old) (K.faults output.new) ⊎ Rose (L.faults log.old) (L.faults log.new) }
+    ensures written { result ≡ Answered.WriteFault → PlayedFront (S.left input.old) (S.left input.new) (K.held output.old) (K.held output.new) }
+    ensures logged { result ≢ Answered.WriteFault → (ended : Ended) × (result ≡ status_of ended)
+        × (L.held log.new ≡ after_adding (L.held log.old) (line_of ended)) }
+    ensures log_front { result ≡ Answered.WriteFault → (ended : Ended) × AddsFront (line_of ended) (L.held log.old) (L.held log.new) }
+    ensures others { IsReplayStatus result }
+    // Where no read and no write fails, a session that is played ends so, unless memory ran out, and each other input is refused.
+    ensures complete { ¬ Rose (S.faults input.old) (S.faults input.new) → ¬ Rose (K.faults output.old) (K.faults output.new)
+        → ¬ Rose (L.faults log.old) (L.faults log.new) → WhereTold (S.left input.old) (Completes result) }
+{
+    match view {
+        View::Records => {
+            let ended = play(alloc, input, output);
+            report(alloc, ended, log)
+        }
+    }
+}
