@@ -1,24 +1,23 @@
 -- What begins a session stays so whatever follows, and goes on event by event.
-use Rattle.std.proofs.Common.{◌≡◌, ◌⊎◌, inl, inr, ℕ, List, [], ◌∷◌, ◌++◌, Option, None, Some, Ok, Err, true, false, Bool, refl, sym, ap, subst, ◌∙◌, append_assoc}
+use Rattle.std.proofs.Common.{◌≡◌, ◌⊎◌, inl, inr, ℕ, List, [], ◌∷◌, ◌++◌, None, Ok, Err, refl, ap, subst, ◌∙◌}
 use Rattle.std.proofs.lemmas.List.{append-nil}
 use Rattle.px_session.specs.declared.header.Header.{Header}
 use Rattle.px_session.specs.declared.event.Event.{Event}
-use Rattle.px_session.specs.declared.event.Step.{Step}
 use Rattle.px_session.specs.declared.event.Step.TheVariants as step
 use Rattle.px_session.specs.declared.fault.Cause.{Cause}
 use Rattle.px_session.specs.declared.fault.Cause.TheVariants as cause
 use Rattle.px_session.specs.Place.{Place, Reading, Refusal as Broken, start_of}
 use Rattle.px_session.specs.HeaderReading.{header_at}
 use Rattle.px_session.specs.EventReading.{event_at}
-use Rattle.px_session.specs.Session.{Ended, Events, Stand, IsSession}
+use Rattle.px_session.specs.Session.{Ended, Stand}
 use Rattle.px_session.specs.SessionLaw.{Lead}
 use Rattle.px_session.proofs.Steady.{more, IsSteady}
 use Rattle.px_session.proofs.SteadySession.{header_steady, event_steady}
 use Rattle.px_session.proofs.SessionLaws.{lead_stand}
-use Rattle.px_world.specs.World.{World, new_world}
+use Rattle.px_world.specs.World.{new_world}
 use Rattle.px_world.specs.Admission.{refusal_of}
-use Rattle.px_world.specs.Event.{world_after}
-use Rattle.px_world.specs.Output.{world_by, records_of, records_by, AreAdmitted}
+use Rattle.px_world.specs.Output.{world_by}
+use Rattle.px_world.proofs.Runs.{admitted-push}
 use Rattle.px_app.specs.Session.{IsPlayed, Begins}
 
 -- ---- more bytes behind
@@ -48,25 +47,13 @@ lead_next : (events : List Event) (e : Event) (start here after : Place) → Lea
 lead_next [] e start here after lead read = (after, subst (λ (z : Place). event_at z ≡ Ok (step.Event e, after)) lead read, refl)
 lead_next (d ∷ events) e start here after lead read = (lead.0, lead.1, lead_next events e lead.0 here after lead.2 read)
 
-admitted_next : (w : World) (events : List Event) (e : Event) → AreAdmitted w events → refusal_of (world_by w events) e ≡ None → AreAdmitted w (events ++ e ∷ [])
-admitted_next w [] e are is = (is, tt)
-admitted_next w (d ∷ events) e are is = (are.0, admitted_next (world_after w d) events e are.1 is)
-
-pub world_next : (w : World) (events : List Event) (e : Event) → world_by w (events ++ e ∷ []) ≡ world_after (world_by w events) e
-world_next w [] e = refl
-world_next w (d ∷ events) e = world_next (world_after w d) events e
-
-pub records_next : (w : World) (events : List Event) (e : Event) → records_by w (events ++ e ∷ []) ≡ records_by w events ++ records_of (world_by w events) e
-records_next w [] e = append-nil (records_of w e)
-records_next w (d ∷ events) e = ap (λ (r : List ℕ). records_of w d ++ r) (records_next (world_after w d) events e) ∙ sym (append_assoc (records_of w d) (records_by (world_after w d) events) (records_of (world_by (world_after w d) events) e))
-
 pub begins_next : (bytes : List ℕ) (header : Header) (events : List Event) (here after : Place) (e : Event) → Begins bytes header events here → event_at here ≡ Ok (step.Event e, after) → refusal_of (world_by (new_world header) events) e ≡ None → Begins bytes header (events ++ e ∷ []) after
 begins_next bytes header events here after e b read admits = record {
   start = b.start;
   head = b.head;
   built = b.built;
   lead = lead_next events e b.start here after b.lead read;
-  admitted = admitted_next (new_world header) events e b.admitted admits;
+  admitted = admitted-push (new_world header) events e b.admitted admits;
 }
 
 -- ---- the end

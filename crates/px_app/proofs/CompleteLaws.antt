@@ -1,10 +1,9 @@
 -- A session that is played isn't refused, and what isn't played is refused.
-use Rattle.std.proofs.Common.{◌≡◌, ◌⊎◌, inl, inr, ℕ, List, [], ◌∷◌, ◌++◌, Option, None, Some, Result, Ok, Err, refl, sym, ap, subst, ◌∙◌}
+use Rattle.std.proofs.Common.{◌≡◌, inl, inr, ℕ, List, [], ◌∷◌, ◌++◌, Option, None, Some, Result, Ok, Err, refl, sym, ap, subst, ◌∙◌}
 use Rattle.std.proofs.lemmas.List.{append-nil}
 use Rattle.px_types.specs.declared.status.Status.{Status}
 use Rattle.px_types.specs.declared.status.Status.TheVariants as status
 use Rattle.px_ends.specs.Told.{before_taking, IsAtEnd, WhereTold}
-use Rattle.px_ends.specs.Faults.{Rose}
 use Rattle.px_session.specs.declared.header.Header.{Header}
 use Rattle.px_session.specs.declared.event.Event.{Event}
 use Rattle.px_session.specs.declared.event.Step.{Step}
@@ -18,12 +17,12 @@ use Rattle.px_session.proofs.SessionLaws.{lead_one}
 use Rattle.px_world.specs.declared.fault.WorldFault.{WorldFault}
 use Rattle.px_world.specs.World.{World, new_world}
 use Rattle.px_world.specs.Admission.{refusal_of}
-use Rattle.px_world.specs.Event.{world_after}
 use Rattle.px_world.specs.Output.{world_by, AreAdmitted}
+use Rattle.px_world.proofs.Runs.{admitted-split}
 use Rattle.px_app.specs.declared.refusal.Refusal.{Refusal}
 use Rattle.px_app.specs.Built.{IsBuilt}
 use Rattle.px_app.specs.Session.{IsPlayed, Begins, NoneBegins, StopsHere, IsRefused}
-use Rattle.px_app.specs.Replay.{PlayedWhole, WasRefused, IsNotPlayed, Completes, IsReplayStatus}
+use Rattle.px_app.specs.Replay.{PlayedWhole, WasRefused, Completes, IsReplayStatus}
 
 -- ---- one answer
 
@@ -49,8 +48,7 @@ none_no_some fault e = cc
 
 -- the event behind the first ones is admitted
 admitted_there : (w : World) (before : List Event) (e : Event) (rest : List Event) → AreAdmitted w (before ++ e ∷ rest) → refusal_of (world_by w before) e ≡ None
-admitted_there w [] e rest are = are.0
-admitted_there w (d ∷ before) e rest are = admitted_there (world_after w d) before e rest are.1
+admitted_there w before e rest are = (admitted-split w before (e ∷ rest) are).1.0
 
 stands_no_refusal : (rest : List Event) (here : Place) (f : Broken) → Stand rest Ended here → event_at here ≡ Err f → ⊥
 stands_no_refusal [] here f s e = not_both (event_at here) (step.End, s.0) f s.1 e

@@ -1,5 +1,5 @@
 -- What each step of a replay leaves.
-use Rattle.std.proofs.Common.{◌≡◌, ◌⊎◌, inl, inr, ℕ, Bool, true, false, List, [], ◌∷◌, ◌++◌, Option, None, Some, Result, Ok, Err, refl, sym, ap, subst, ◌∙◌}
+use Rattle.std.proofs.Common.{◌≡◌, inl, inr, ℕ, Bool, false, List, [], ◌∷◌, ◌++◌, Option, Result, Ok, Err, refl, sym, ap, subst, ◌∙◌}
 use Rattle.px_ends.specs.Told.{before_taking, after_adding, IsAtEnd}
 use Rattle.px_ends.specs.Whole.{AddsFront}
 use Rattle.px_ends.proofs.ToldBytes.{taking_both, adding_nothing, adding_both}
@@ -23,20 +23,21 @@ use Rattle.px_world.specs.declared.fault.WorldFault.{WorldFault}
 use Rattle.px_world.specs.World.{World, new_world}
 use Rattle.px_world.specs.Running.{Running, StandsFor}
 use Rattle.px_world.specs.Output.{world_by, records_of, records_by, output_of}
+use Rattle.px_world.proofs.Runs.{world-push, records-push}
+use Rattle.px_world.proofs.Decided.{is-decided}
 use Rattle.px_app.specs.declared.playing.Playing.{Playing}
 use Rattle.px_app.specs.declared.refusal.Refusal.{Refusal}
-use Rattle.px_app.specs.declared.refusal.Why.{Why}
 use Rattle.px_app.specs.declared.refusal.Why.TheVariants as why
 use Rattle.px_app.specs.declared.ending.Ending.{Ending}
 use Rattle.px_app.specs.declared.ending.Ending.TheVariants as ending
 use Rattle.px_app.specs.Refusal.{of_bytes, not_built, of_event}
 use Rattle.px_app.specs.Built.{IsBuilt}
-use Rattle.px_app.specs.Session.{IsPlayed, Begins, IsRefused}
-use Rattle.px_app.specs.Replay.{PlayedWhole, WasRefused, Gives, PlayedFront, InputPlayed}
-use Rattle.px_app.specs.Step.{unread, Closes, EventDone, EventCut, EventPlayed, Reached, Stepped}
+use Rattle.px_app.specs.Session.{Begins}
+use Rattle.px_app.specs.Replay.{WasRefused, PlayedFront, InputPlayed}
+use Rattle.px_app.specs.Step.{unread, Closes, EventCut, EventPlayed, Reached, Stepped}
 use Rattle.px_app.proofs.FrontLaws.{second_cut, whole_front, no_front}
 use Rattle.px_app.proofs.ReadLaws.{header_first}
-use Rattle.px_app.proofs.BeginLaws.{begins_more, begins_next, world_next, records_next, ends_played}
+use Rattle.px_app.proofs.BeginLaws.{begins_more, begins_next, ends_played}
 use Rattle.px_app.proofs.RefuseLaws.{IsEarly, was_refused}
 
 -- ---- early ends
@@ -171,6 +172,7 @@ module _ (playing : Playing) (new : Reader) (left_before left left_after held_be
     departed = both_departed t.taken t.departed;
     at_end = t.ended;
     gained = closes ∙ ap (λ (m : Option (List ℕ)). after_adding m (end_byte ∷ [])) r.gained ∙ adding_both records (end_byte ∷ []) held_before;
+    decided = λ k s there. is-decided r.header r.events k s there r.begins.admitted;
   }
   stop_end ending.WriteFault held_after t closes = record {
     bytes = all_of t.taken;
@@ -197,7 +199,7 @@ module _ (playing : Playing) (new : Reader) (left_before left left_after held_be
       given = records_by (new_world r.header) (r.events ++ e ∷ []);
       departed = both_departed t.taken t.departed;
       gives = inr (inl (r.header, r.events ++ e ∷ [], place_with new new.ahead, begins_next (all_of t.taken) r.header r.events (here_of t.taken) (place_with new new.ahead) e (begins_so t.taken) read cut.admitted, refl));
-      gained = subst (λ (g : List ℕ). AddsFront g held_before held_after) (sym (records_next (new_world r.header) r.events e)) (second_cut records (records_of w e) held_before held held_after r.gained cut.gained);
+      gained = subst (λ (g : List ℕ). AddsFront g held_before held_after) (sym (records-push (new_world r.header) r.events e)) (second_cut records (records_of w e) held_before held held_after r.gained cut.gained);
     }
 
     pub go_on : (result : Result Unit Ending) → EventPlayed result playing.reader.at w e world held held_after → Stepped result (record { reader = new; world = world }) left_before left_after held_before held_after
@@ -208,11 +210,11 @@ module _ (playing : Playing) (new : Reader) (left_before left left_after held_be
       departed = both_departed t.taken t.departed;
       begins = begins_next (all_of t.taken) r.header r.events (here_of t.taken) (place_with new new.ahead) e (begins_so t.taken) read played.admitted;
       begun = t.stepped.1;
-      stands = subst (λ (v : World). StandsFor world v) (sym (world_next (new_world r.header) r.events e)) played.stands;
+      stands = subst (λ (v : World). StandsFor world v) (sym (world-push (new_world r.header) r.events e)) played.stands;
       gained = played.gained
           ∙ ap (λ (m : Option (List ℕ)). after_adding m (records_of w e)) r.gained
           ∙ adding_both records (records_of w e) held_before
-          ∙ ap (after_adding held_before) (sym (records_next (new_world r.header) r.events e));
+          ∙ ap (after_adding held_before) (sym (records-push (new_world r.header) r.events e));
     }
     go_on (Err (ending.Refused refusal)) played =
         was_refused (all_of t.taken) refusal records left_before left_after held_before held_after (both_departed t.taken t.departed)

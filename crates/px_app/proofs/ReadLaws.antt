@@ -1,13 +1,10 @@
 -- What stands first in a session is a header, and behind it no header stands.
 use Rattle.std.proofs.Common.{◌≡◌, ℕ, List, ◌++◌, Bool, Ok, Option, true, false, refl, ap, subst, ◌∙◌}
 use Rattle.px_session.specs.declared.header.Header.{Header}
-use Rattle.px_session.specs.declared.event.Event.{Event}
 use Rattle.px_session.specs.declared.event.Step.{Step}
 use Rattle.px_session.specs.declared.event.Step.TheVariants as step
-use Rattle.px_session.specs.declared.fault.ReadError.{ReadError}
 use Rattle.px_session.specs.Place.{Place, done}
 use Rattle.px_session.specs.HeaderReading.{header_at}
-use Rattle.px_session.specs.EventReading.{event_at}
 use Rattle.px_session.specs.Session.{first_at, step_at}
 use Rattle.px_session.specs.Reader.{Reader, place_with, Takes}
 use Rattle.px_session.proofs.Steps.{then_ok}

@@ -1,21 +1,18 @@
 -- What is refused stays so, whatever follows, and is no session that is played.
-use Rattle.std.proofs.Common.{◌≡◌, ◌⊎◌, inl, inr, ℕ, List, [], ◌∷◌, ◌++◌, Option, None, Some, Ok, Err, refl, sym, ap, subst, ◌∙◌}
+use Rattle.std.proofs.Common.{◌≡◌, inl, inr, ℕ, List, [], ◌++◌, Option, None, Some, sym, ap, subst, ◌∙◌}
 use Rattle.px_ends.specs.Told.{before_taking, after_adding, IsAtEnd, WhereTold}
 use Rattle.px_session.specs.declared.header.Header.{Header}
 use Rattle.px_session.specs.declared.event.Event.{Event}
-use Rattle.px_session.specs.declared.fault.Cause.{Cause}
 use Rattle.px_session.specs.declared.fault.Cause.TheVariants as cause
 use Rattle.px_session.specs.Place.{Place, Refusal as Broken, start_of}
 use Rattle.px_session.specs.HeaderReading.{header_at}
 use Rattle.px_session.specs.EventReading.{event_at}
 use Rattle.px_session.proofs.Steady.{more, any}
 use Rattle.px_session.proofs.SteadySession.{Closed, header_steady, event_steady}
-use Rattle.px_world.specs.World.{new_world}
-use Rattle.px_world.specs.Output.{records_by}
 use Rattle.px_app.specs.declared.refusal.Refusal.{Refusal}
 use Rattle.px_app.specs.declared.refusal.Why.TheVariants as why
 use Rattle.px_app.specs.Refusal.{of_bytes}
-use Rattle.px_app.specs.Session.{Begins, NoneBegins, StopsHere, IsRefused}
+use Rattle.px_app.specs.Session.{NoneBegins, StopsHere, IsRefused}
 use Rattle.px_app.specs.Replay.{WasRefused}
 use Rattle.px_app.proofs.BeginLaws.{header_more, event_more, begins_more, broken_more}
 

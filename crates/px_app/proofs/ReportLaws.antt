@@ -1,5 +1,5 @@
 -- What a status says of how a run ended, and of the log.
-use Rattle.std.proofs.Common.{◌≡◌, ◌≢◌, ◌⊎◌, inl, inr, ℕ, List, Option, sym, ap, subst, ◌∙◌}
+use Rattle.std.proofs.Common.{◌≡◌, ◌≢◌, ◌⊎◌, inl, inr, ℕ, List, Option, sym, ap, ◌∙◌}
 use Rattle.px_types.specs.declared.status.Status.{Status}
 use Rattle.px_types.specs.declared.status.Status.TheVariants as status
 use Rattle.px_ends.specs.Told.{after_adding}
@@ -9,8 +9,8 @@ use Rattle.px_app.specs.declared.refusal.Refusal.{Refusal}
 use Rattle.px_app.specs.declared.ending.Ending.{Ending}
 use Rattle.px_app.specs.declared.ending.Ending.TheVariants as ending
 use Rattle.px_app.specs.Refusal.{refusal_line}
-use Rattle.px_app.specs.Ending.{status_of, line_of, IsRefusal}
-use Rattle.px_app.specs.Report.{Wrote, Says, Reported}
+use Rattle.px_app.specs.Ending.{status_of, line_of}
+use Rattle.px_app.specs.Report.{Reported}
 use Rattle.px_app.proofs.FrontLaws.{whole_front}
 
 -- ---- the endings of a status

@@ -1,5 +1,5 @@
 -- How a run ends, and the line that the log has of it.
-use Rattle.std.specs.Prelude.{ℕ, List, [], ◌++◌, codes, ⊤}
+use Rattle.std.specs.Prelude.{ℕ, List, [], codes, ⊤}
 use Rattle.px_types.specs.declared.status.Status.{Status}
 use Rattle.px_types.specs.declared.status.Status.TheVariants as status
 use Rattle.px_app.specs.declared.ending.Ending.{Ending}

@@ -1,6 +1,5 @@
 -- What a replay of a session leaves: what was read of the input, and what the output gained.
-use Rattle.std.specs.Prelude.{◌≡◌, ◌⊎◌, ℕ, ◌<◌, List, [], length, Option, Some, ⊤}
-use Rattle.std.specs.List.{slice_get}
+use Rattle.std.specs.Prelude.{◌≡◌, ◌⊎◌, ℕ, List, [], Option, ⊤}
 use Rattle.px_types.specs.declared.status.Status.{Status}
 use Rattle.px_types.specs.declared.status.Status.TheVariants as status
 use Rattle.px_ends.specs.Told.{before_taking, after_adding, IsAtEnd, WhereTold}
@@ -12,13 +11,14 @@ use Rattle.px_session.specs.declared.fault.Cause.TheVariants.{Truncated}
 use Rattle.px_session.specs.Place.{Place}
 use Rattle.px_world.specs.World.{new_world}
 use Rattle.px_world.specs.Output.{records_by, output_of}
+use Rattle.px_world.specs.History.{AreDecided}
 use Rattle.px_app.specs.declared.refusal.Refusal.{Refusal}
 use Rattle.px_app.specs.declared.refusal.Why.TheVariants as why
 use Rattle.px_app.specs.declared.ending.Ending.{Ending}
 use Rattle.px_app.specs.declared.ending.Ending.TheVariants as ending
 use Rattle.px_app.specs.Session.{IsPlayed, Begins, IsRefused}
 
--- The source was read to its end, its bytes are a session that is played, and the output gained exactly its records and the end byte.
+-- The source was read to its end, its bytes are a session that is played, and the output gained exactly its records and the end byte. Each frame that a sink played is the mix of its streams as the deciding turn left them.
 pub record PlayedWhole (left_before left_after held_before held_after : Option (List ℕ)) : Type 0 where
   pub bytes : List ℕ
   pub header : Header
@@ -27,6 +27,7 @@ pub record PlayedWhole (left_before left_after held_before held_after : Option (
   pub departed : left_before ≡ before_taking bytes left_after
   pub at_end : IsAtEnd left_after
   pub gained : held_after ≡ after_adding held_before (output_of header events)
+  pub decided : AreDecided header events
 
 -- The bytes that were read are refused, whatever follows them, and so are all that the source had, where it tells. The output gained the records of the events before, and no end byte.
 pub record WasRefused (refusal : Refusal) (left_before left_after held_before held_after : Option (List ℕ)) : Type 0 where

@@ -1,5 +1,5 @@
 -- What the bytes of a session are for a replay: they are played whole, or refused, with the records of the events before.
-use Rattle.std.specs.Prelude.{◌≡◌, ℕ, List, [], Ok, Err, None, Some, ◌⊎◌}
+use Rattle.std.specs.Prelude.{◌≡◌, ℕ, List, [], Ok, Err, Some, ◌⊎◌}
 use Rattle.px_session.specs.declared.header.Header.{Header}
 use Rattle.px_session.specs.declared.event.Event.{Event}
 use Rattle.px_session.specs.declared.event.Step.TheVariants as step

@@ -10,7 +10,7 @@ use Rattle.px_session.specs.declared.event.Step.{Step}
 use Rattle.px_session.specs.declared.event.Step.TheVariants as step
 use Rattle.px_session.specs.declared.fault.ReadError.{ReadError}
 use Rattle.px_session.specs.declared.fault.ReadError.TheVariants as error
-use Rattle.px_session.specs.Reader.{Reader, place_with}
+use Rattle.px_session.specs.Reader.{place_with}
 use Rattle.px_session.specs.Spelling.{word, end_byte}
 use Rattle.px_world.specs.declared.fault.WorldFault.{WorldFault}
 use Rattle.px_world.specs.declared.fault.WorldFault.TheVariants.{NoMemory}

@@ -1,5 +1,5 @@
 -- The number and the fields of a command.
-use Rattle.std.specs.Prelude.{ℕ, Bool, List, [], ◌∷◌, ◌++◌, slice_index, Option, None, Some}
+use Rattle.std.specs.Prelude.{ℕ, Bool, ◌||◌, nat_eq, IsTrue, List, [], ◌∷◌, ◌++◌, slice_index, Option, None, Some}
 use Rattle.px_cmd.specs.declared.command.SinkRef.{SinkRef}
 use Rattle.px_cmd.specs.declared.command.CreateFields.{CreateFields}
 use Rattle.px_cmd.specs.declared.command.Command.{Command}
@@ -95,3 +95,12 @@ number_of (commands.UpdateStream stream mode list) = 81
 number_of (commands.UpdateClient mode list) = 82
 number_of (commands.RemoveStream stream keys) = 84
 number_of (commands.RemoveClient keys) = 85
+
+-- the commands of lists that are always empty
+abbrev pub is_empty_list : ℕ → Bool
+is_empty_list number = nat_eq number 24 || nat_eq number 26 || nat_eq number 32 || nat_eq number 34 || nat_eq number 89
+
+-- the commands that share a variant are these alone
+abbrev pub IsNumbered : Command → Type 0
+IsNumbered (commands.EmptyList number) = IsTrue (is_empty_list number)
+IsNumbered _ = Unit {0}

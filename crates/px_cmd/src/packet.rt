@@ -1,7 +1,7 @@
 //! Commands, read from packets.
 
-ghost use Rattle.std.specs.Prelude.{◌≡◌, ◌≤◌, is_some};
-ghost use Rattle.px_cmd.specs.Command.{fields_of, number_of};
+ghost use Rattle.std.specs.Prelude.{◌≡◌, ◌≤◌, is_some, IfOk};
+ghost use Rattle.px_cmd.specs.Command.{fields_of, number_of, IsNumbered};
 ghost use Rattle.px_cmd.specs.Packet.{taken, meaning, Reaches, Answers};
 ghost use Rattle.px_cmd.specs.Table.{kinds_of};
 
@@ -18,7 +18,8 @@ const LAST_COMMAND: u32 = 104;
 
 // The fields of SET_PLAYBACK_STREAM_BUFFER_ATTR.
 fn attributes(reader: &mut TagReader) -> Result<Command, CmdFault>
-    ensures { Reaches result 72 reader.new (taken (kinds_of 72) 72 reader.old) }
+    ensures value { Reaches result 72 reader.new (taken (kinds_of 72) 72 reader.old) }
+    ensures numbered { IfOk result IsNumbered }
 {
     let stream = reader.number()?;
     let maxlength = reader.number()?;
@@ -37,7 +38,8 @@ fn attributes(reader: &mut TagReader) -> Result<Command, CmdFault>
 // The fields of a command whose number is 36 at least.
 fn later_fields(alloc: Global, number: u32, reader: &mut TagReader) -> Result<Command, CmdFault>
     requires { 36 ≤ number }
-    ensures { Reaches result number reader.new (taken (kinds_of number) number reader.old) }
+    ensures value { Reaches result number reader.new (taken (kinds_of number) number reader.old) }
+    ensures numbered { IfOk result IsNumbered }
 {
     match number {
         36 => {
@@ -127,7 +129,8 @@ fn later_fields(alloc: Global, number: u32, reader: &mut TagReader) -> Result<Co
 
 // The fields of the command with this number.
 fn fields(alloc: Global, number: u32, reader: &mut TagReader) -> Result<Command, CmdFault>
-    ensures { Reaches result number reader.new (taken (kinds_of number) number reader.old) }
+    ensures value { Reaches result number reader.new (taken (kinds_of number) number reader.old) }
+    ensures numbered { IfOk result IsNumbered }
 {
     match number {
         3 => {
@@ -221,7 +224,8 @@ pub fn is_command(number: u32) -> bool
 /// The command that a packet means, with its fields by the connection's version; every version is read as
 /// 13. Takes memory for what the command keeps: names, keys, a cookie, property lists.
 pub fn read_command(alloc: Global, packet: &[u8], _version: u16) -> Result<Command, CmdFault>
-    ensures { Answers (λ command. (number_of command, fields_of command)) result (meaning packet.now) }
+    ensures value { Answers (λ command. (number_of command, fields_of command)) result (meaning packet.now) }
+    ensures numbered { IfOk result IsNumbered }
 {
     let mut reader = TagReader::new(packet);
     let head = front(&mut reader)?;

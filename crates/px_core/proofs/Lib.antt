@@ -1,2 +1,14 @@
 pub mod First
 pub mod Lengths
+pub mod Sinks
+pub mod Straight
+pub mod Waiting
+pub mod ListLaws
+pub mod EntryLaws
+pub mod InStepLaws
+pub mod ChangeLaws
+pub mod HandingLaws
+pub mod AnswerLaws
+pub mod SweepLaws
+pub mod CreateLaws
+pub mod StepLaws

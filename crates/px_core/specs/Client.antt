@@ -1,6 +1,5 @@
 -- AUTH and SET_CLIENT_NAME (PulseAudio: `command_auth` and `command_set_client_name` of pulsecore/protocol-native.c).
 use Rattle.std.specs.Prelude.{ℕ, ◌%◌, ◌^◌, not, cond, nat_lt, List, [], ◌∷◌, ◌++◌, Option, None, Some}
-use Rattle.std.specs.Option.{option_map}
 use Rattle.px_types.specs.declared.error_code.ErrorCode.TheVariants.{Access, BadState, Version}
 use Rattle.px_tag.specs.PropList.{Property, updated}
 use Rattle.px_tag.specs.declared.mode.Mode.TheVariants.{Replace}

@@ -1,11 +1,11 @@
 -- What a control packet is answered, and in which order it is refused (PulseAudio: `pa_pdispatch_run` and the handlers of pulsecore/protocol-native.c; the order is own).
-use Rattle.std.specs.Prelude.{ℕ, Bool, true, false, not, cond, ◌&&◌, ◌||◌, nat_eq, List, [], ◌∷◌, get_or, is_some, Option, None, Some, Result, Ok, Err}
+use Rattle.std.specs.Prelude.{ℕ, Bool, false, not, cond, ◌&&◌, ◌||◌, nat_eq, List, [], ◌∷◌, get_or, is_some, Option, None, Result, Ok, Err}
 use Rattle.px_types.specs.declared.error_code.ErrorCode.TheVariants.{Access, Command as UnknownCommand, NotSupported, NotImplemented}
 use Rattle.px_tag.specs.declared.fault.TagFault.{TagFault}
 use Rattle.px_tag.specs.declared.raw.RawSpec.{RawSpec}
 use Rattle.px_tag.specs.PropList.{Property}
 use Rattle.px_tag.specs.Place.{Place, start_of}
-use Rattle.px_cmd.specs.Field.{Field, Number, Flag, String, Cookie, SampleSpec, Positions, Volumes, Properties, TimeValue, Keys}
+use Rattle.px_cmd.specs.Field.{Field, Number, Flag, String, Cookie, SampleSpec, Positions, Volumes, Properties}
 use Rattle.px_cmd.specs.Packet.{head_at, meaning}
 use Rattle.px_cmd.specs.Table.{kinds_of}
 use Rattle.px_cmd.specs.declared.fault.CmdFault.{CmdFault}

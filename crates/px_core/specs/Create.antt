@@ -2,8 +2,6 @@
 use Rattle.std.specs.Prelude.{ℕ, ◌+◌, ◌*◌, ◌/◌, Bool, true, false, not, cond, ◌&&◌, ◌||◌, nat_eq, nat_lt, nat_le, List, [], ◌∷◌, ◌++◌, map, length, replicate, get_or, slice_get, Option, None, Some, Result, Ok, Err}
 use Rattle.std.specs.List.{list_all, range_with_len}
 use Rattle.std.specs.Cmp.Lexicographic.{pointwise}
-use Rattle.px_types.specs.declared.ids.ConnId.{ConnId}
-use Rattle.px_types.specs.declared.ids.InputId.{InputId}
 use Rattle.px_types.specs.declared.ids.SinkId.{SinkId}
 use Rattle.px_types.specs.declared.error_code.ErrorCode.{ErrorCode}
 use Rattle.px_types.specs.declared.error_code.ErrorCode.TheVariants.{Invalid, TooLarge, NotSupported, NotImplemented}
@@ -11,6 +9,7 @@ use Rattle.px_tag.specs.declared.raw.RawSpec.{RawSpec}
 use Rattle.px_cmd.specs.declared.command.CreateFields.{CreateFields}
 use Rattle.px_names.specs.Names.{Naming, sink_named}
 use Rattle.px_session.specs.declared.header.SinkSpec.{SinkSpec}
+use Rattle.px_session.specs.HeaderRules.{IsSink}
 use Rattle.px_sample.specs.declared.spec.Spec.{Spec}
 use Rattle.px_sample.specs.declared.format.Format.{Format}
 use Rattle.px_sample.specs.declared.format.Format.TheVariants.{U8, Alaw, Ulaw, S16Le, S16Be, Float32Le, Float32Be, S32Le, S32Be, S24Le, S24Be, S24In32Le, S24In32Be}
@@ -21,7 +20,6 @@ use Rattle.px_msg.specs.Repair.{repaired, bytes_of}
 use Rattle.px_msg.specs.declared.factors.InputFactors.{InputFactors}
 use Rattle.px_msg.specs.declared.message.Msg.{Msg}
 use Rattle.px_msg.specs.declared.message.Msg.TheVariants.{New, Factors}
-use Rattle.px_msg.specs.declared.message.NewStream.{NewStream}
 use Rattle.px_reply.specs.declared.played.Created.{Created}
 use Rattle.px_reply.specs.Message.{created_reply}
 use Rattle.px_core.specs.declared.change.Change.{Change}
@@ -112,6 +110,10 @@ refusal_on inputs inputs_made c index sink a =
     (cond (has_no_room inputs inputs_made c index) (Some TooLarge)
     (cond (is_not_built sink a) (Some NotImplemented) None))
 
+-- a sink that stands in a header behind others
+abbrev pub IsOfHeader : SinkSpec → Type 0
+IsOfHeader sink = (earlier : List SinkSpec) × IsSink earlier sink
+
 -- ---- the new input
 
 -- the factor of a volume that leaves the sound as it is
@@ -175,10 +177,14 @@ created_of sink a x = record {
 
 -- ---- the command
 
+-- the input is there, its sink gets its stream, and then the factors of all inputs on it
+abbrev pub changes_of : {P : Type 0} → List Input → ℕ → Connection → SinkSpec → Input → List (Change P)
+changes_of inputs inputs_made c sink x =
+    Made x (c.streams + 1) (inputs_made + 1) ∷ Posted x.sink (new_of sink x) ∷ Posted x.sink (factors_for sink (settled_on inputs x.sink ++ x ∷ [])) ∷ []
+
 abbrev pub created : {P : Type 0} → List Input → ℕ → Connection → ℕ → SinkSpec → CreateFields → Input → Answer P
 created inputs inputs_made c tag sink a x =
-    done c.conn (created_reply tag (created_of sink a x))
-    (Made x (c.streams + 1) (inputs_made + 1) ∷ Posted x.sink (new_of sink x) ∷ Posted x.sink (factors_for sink (settled_on inputs x.sink ++ x ∷ [])) ∷ [])
+    done c.conn (created_reply tag (created_of sink a x)) (changes_of inputs inputs_made c sink x)
 
 abbrev pub created_or : {P : Type 0} → Option ErrorCode → List Input → ℕ → Connection → ℕ → SinkId → SinkSpec → CreateFields → Answer P
 created_or (Some code) inputs inputs_made c tag index sink a = refused c.conn tag code

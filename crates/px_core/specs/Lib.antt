@@ -13,3 +13,4 @@ pub mod Told
 pub mod Out
 pub mod Step
 pub mod Orderly
+pub mod Keeps

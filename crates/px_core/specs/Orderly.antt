@@ -22,9 +22,17 @@ is_there Left = false
 abbrev pub is_held_by : SinkId → Input → Bool
 is_held_by sink x = nat_eq x.sink.0 sink.0 && is_there x.way
 
--- the inputs that the messages handed out to a sink have left there, each with its sample spec
+-- an input's index, with its sample spec
+abbrev pub entry_of : Input → ℕ × SampleSpec
+entry_of x = (x.index.0, sample_spec x.spec)
+
+-- inputs by their indices, each with its sample spec
+abbrev pub specs_of : List Input → Inputs
+specs_of inputs = finite.from_entries (map entry_of inputs)
+
+-- the inputs that the messages handed out to a sink have left there
 abbrev pub inputs_there : {P : Type 0} → State P → SinkId → Inputs
-inputs_there state sink = finite.from_entries (map (λ x. (x.index.0, sample_spec (Input.spec x))) (filter (is_held_by sink) state.inputs))
+inputs_there state sink = specs_of (filter (is_held_by sink) state.inputs)
 
 -- the messages that wait for a sink are orderly from them, where spec_of reads a parcel's sample spec
 abbrev pub IsOrderlyFor : {P : Type 0} → (P → SampleSpec) → State P → SinkId → SinkSpec → Type 0

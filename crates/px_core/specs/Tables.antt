@@ -1,9 +1,15 @@
 -- The tables that the core keeps its state in, as the state, and the room that they have.
-use Rattle.std.specs.Prelude.{ℕ, ◌+◌, ◌≤◌, List, [], ◌∷◌, map, length, vec_capacity}
+use Rattle.std.specs.Prelude.{ℕ, zero, suc, ◌+◌, ◌≤◌, List, [], ◌∷◌, map, length, vec_len, vec_capacity, IfSome}
 use Rattle.std.specs.List.{AllByRecursion}
-use Rattle.std.specs.VecDeque.{deque_capacity}
+use Rattle.std.specs.VecDeque.{deque_len, deque_capacity}
+use Rattle.std.specs.declared.collections.VecDeque.{VecDeque}
+use Rattle.px_msg.specs.declared.message.Msg.{Msg}
 use Rattle.px_core.specs.declared.tables.Tables.{Tables}
 use Rattle.px_core.specs.State.{State}
+
+-- queues of messages as lists
+abbrev pub lists_of : {P Z : Type 0} → List (VecDeque (Msg P) Z) → List (List (Msg P))
+lists_of queues = map (λ q. q.items) queues
 
 abbrev pub state_of : {P : Type 0} → Tables P → State P
 state_of t = record {
@@ -11,8 +17,32 @@ state_of t = record {
   sinks = t.sinks;
   connections = t.connections.items;
   inputs = t.inputs.items;
-  posted = map (λ q. q.items) t.posted.items;
+  posted = lists_of t.posted.items;
   clients_made = t.clients_made;
   inputs_made = t.inputs_made;
   lent = t.lent;
 }
+
+-- ---- room for so many more without memory
+
+abbrev pub HasPlaces : {P Z : Type 0} → ℕ → VecDeque (Msg P) Z → Type 0
+HasPlaces n q = deque_len q + n ≤ deque_capacity q
+
+-- in the queue at a place, where there is one
+abbrev pub HasPlacesAt : {P Z : Type 0} → ℕ → ℕ → List (VecDeque (Msg P) Z) → Type 0
+HasPlacesAt n place [] = Unit {0}
+HasPlacesAt n zero (q ∷ queues) = HasPlaces n q
+HasPlacesAt n (suc place) (q ∷ queues) = HasPlacesAt n place queues
+
+-- in each queue
+abbrev pub HavePlaces : {P Z : Type 0} → ℕ → List (VecDeque (Msg P) Z) → Type 0
+HavePlaces n queues = AllByRecursion (HasPlaces n) queues
+
+-- in each table that a change can make longer
+pub record HasRoom {P : Type 0} (n : ℕ) (t : Tables P) : Type 0 where
+  pub inputs : vec_len t.inputs + n ≤ vec_capacity t.inputs
+  pub posted : HavePlaces n t.posted.items
+
+-- the sink whose first message was handed out has room to take it back
+abbrev pub HasLent : {P : Type 0} → Tables P → Type 0
+HasLent t = IfSome t.lent (λ sink. HasPlacesAt 1 sink.0 t.posted.items)

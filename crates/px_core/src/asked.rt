@@ -1,6 +1,6 @@
 //! What a stream is that a client asks for, and what it becomes on its sink.
 
-ghost use Rattle.std.specs.Prelude.{◌≡◌, ◌≤◌, nat_le};
+ghost use Rattle.std.specs.Prelude.{◌≡◌, ◌≤◌, true, nat_le, length};
 ghost use Rattle.std.specs.List.{list_all};
 ghost use Rattle.px_vol.specs.Volume.{greatest};
 ghost use Rattle.px_model.specs.Orderly.{IsRepaired};
@@ -16,7 +16,8 @@ use px_vol::MAX;
 
 // A known format, a channel, and a rate up to 192,000.
 fn is_spec(spec: RawSpec) -> bool
-    ensures { result ≡ is_spec spec }
+    ensures value { result ≡ is_spec spec }
+    ensures some { result ≡ true → 1 ≤ spec.channels }
 {
     spec.format <= 12 && spec.channels > 0 && spec.rate > 0 && spec.rate <= 192_000
 }
@@ -30,7 +31,8 @@ fn are_positions(positions: &[u8]) -> bool
 
 // A position for each channel.
 fn is_map(spec: RawSpec, positions: &[u8]) -> bool
-    ensures { result ≡ is_map spec positions.now }
+    ensures value { result ≡ is_map spec positions.now }
+    ensures length { result ≡ true → spec.channels ≡ length positions.now }
 {
     positions.len() == spec.channels as usize && are_positions(positions)
 }
@@ -52,7 +54,9 @@ fn are_volumes(spec: RawSpec, volumes: &[u32]) -> bool
 /// Whether such a stream can be at all: its spec, its map of as many channels, and its volumes, one for each channel or one
 /// for all. Takes no memory.
 pub(crate) fn is_lawful(a: &CreateFields) -> bool
-    ensures { result ≡ is_lawful a.now }
+    ensures value { result ≡ is_lawful a.now }
+    ensures some { result ≡ true → 1 ≤ a.now.spec.channels }
+    ensures few { result ≡ true → a.now.spec.channels ≤ 32 }
 {
     is_spec(a.spec) && is_map(a.spec, a.map.as_slice()) && are_volumes(a.spec, a.volume.as_slice())
 }
@@ -92,7 +96,8 @@ fn channels_on(sink: &SinkSpec, a: &CreateFields) -> u8
 
 /// Its speaker positions on a sink: the sink's where the client says so. Takes no memory.
 pub(crate) fn positions_on<'a>(sink: &'a SinkSpec, a: &'a CreateFields) -> &'a [u8]
-    ensures { result.now ≡ positions_on sink.now a.now }
+    ensures value { result.now ≡ positions_on sink.now a.now }
+    ensures few { length result.now ≤ 32 }
 {
     if a.fix_channels {
         sink.map.positions()

@@ -5,9 +5,9 @@ ghost use Rattle.px_core.specs.Delete.{ends, delete};
 
 use crate::answer::Answer;
 use crate::change::Change;
+use crate::found::stream_of;
 use crate::input::{Connection, Input};
 use crate::reply::{done_plainly, refused};
-use crate::streams::stream_of;
 use px_msg::Msg;
 use px_types::{ErrorCode, Mem};
 use std::alloc::Global;

@@ -1,6 +1,6 @@
 //! Why a stream that could be isn't made on its sink.
 
-ghost use Rattle.std.specs.Prelude.{◌≡◌, ◌≤◌, nat_eq, length};
+ghost use Rattle.std.specs.Prelude.{◌≡◌, ◌<◌, ◌≤◌, false, nat_eq, length, None};
 ghost use Rattle.std.specs.List.{list_all};
 ghost use Rattle.px_vol.specs.Volume.{norm};
 ghost use Rattle.px_core.specs.State.{settled_on, going_of};
@@ -49,7 +49,9 @@ fn count_in_all(inputs: &[Input]) -> usize
 
 // Too many inputs on the sink or in all, or no number is left that none has had.
 fn has_no_room(inputs: &[Input], inputs_made: u32, c: &Connection, sink: SinkId) -> bool
-    ensures { result ≡ has_no_room inputs.now inputs_made c.now sink }
+    ensures value { result ≡ has_no_room inputs.now inputs_made c.now sink }
+    ensures inputs { result ≡ false → inputs_made < 4294967295 }
+    ensures streams { result ≡ false → c.now.streams < 4294967295 }
 {
     count_on(inputs, sink) >= MOST_ON_SINK
         || count_in_all(inputs) >= MOST_IN_ALL
@@ -98,7 +100,9 @@ pub(crate) fn refusal_on(
 ) -> Option<ErrorCode>
     requires sink { 1 ≤ sink.now.spec.channels }
     requires asked { 1 ≤ a.now.spec.channels }
-    ensures { result ≡ refusal_on inputs.now inputs_made c.now index sink.now a.now }
+    ensures value { result ≡ refusal_on inputs.now inputs_made c.now index sink.now a.now }
+    ensures inputs { result ≡ None → inputs_made < 4294967295 }
+    ensures streams { result ≡ None → c.now.streams < 4294967295 }
 {
     if is_unsupported(sink, a) {
         return Some(ErrorCode::NotSupported);

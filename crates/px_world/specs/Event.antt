@@ -21,7 +21,6 @@ use Rattle.px_core.specs.Out.{waiting_for}
 use Rattle.px_core.specs.Step.{Step, connect, frame, broken, close, cut, sweep, notice, out, stepped_by, effects_by}
 use Rattle.px_world.specs.World.{World, Link, Mixer, is_of, link_of, received_of}
 
-
 -- ---- the steps of the core
 
 -- the frames that a link's bytes newly have, once more came

@@ -1,5 +1,5 @@
 -- The history of one sink in a run: its turns, with the frames consumed and the messages taken.
-use Rattle.std.specs.Prelude.{◌≡◌, ℕ, ◌<◌, cond, nat_eq, List, [], ◌∷◌, ◌++◌, Option, None, Some}
+use Rattle.std.specs.Prelude.{◌≡◌, ℕ, ◌<◌, ◌≤◌, cond, nat_eq, List, [], ◌∷◌, ◌++◌, length, Option, None, Some, option_map}
 use Rattle.std.specs.List.{slice_get}
 use Rattle.px_session.specs.declared.header.Header.{Header}
 use Rattle.px_session.specs.declared.header.SinkSpec.{SinkSpec}
@@ -10,7 +10,8 @@ use Rattle.px_model.specs.Frame.{Frame}
 use Rattle.px_model.specs.Message.{Message}
 use Rattle.px_model.specs.Stream.{Stream}
 use Rattle.px_model.specs.Sink.{Sink, empty_sink}
-use Rattle.px_model.specs.Deciding.{Entry, turn, stop, replay, deciding, decided}
+use Rattle.px_model.specs.Turn.{frame_mixed}
+use Rattle.px_model.specs.Deciding.{Entry, turn, stop, IsLastReaching}
 use Rattle.px_lane.specs.Samples.{samples}
 use Rattle.px_world.specs.World.{World, Mixer, new_world}
 use Rattle.px_world.specs.Event.{world_after, frames_played, messages_taken, is_to_stop}
@@ -50,8 +51,21 @@ played_by_run w (e ∷ events) k = played_on w e k ++ played_by_run (world_after
 abbrev pub begun : SinkSpec → Sink
 begun s = empty_sink (sample_spec s.spec) s.guard s.depth
 
--- every frame that a sink plays in a run is what its deciding turn made of it: the last turn whose horizon is at most the frame, which is there
-pub record AreDecided (header : Header) (events : List Event) (k : ℕ) (s : SinkSpec) (f : ℕ) : Type 0 where
+-- the sink with an index, if it is there
+abbrev pub sink_at : World → ℕ → Option Sink
+sink_at w k = option_map (λ m. Mixer.sink m) (slice_get w.mixers k)
+
+-- frame f of those that a sink plays in a run is what its deciding turn made of it: the mix of the streams as that turn left them
+pub record IsDecided (header : Header) (events : List Event) (k : ℕ) (s : SinkSpec) (f : ℕ) : Type 0 where
+  -- the sink as that turn left it: of all turns of the sink in the run the last whose horizon is at most f
   pub by : Sink
-  pub last : deciding samples (begun s) (history_by (new_world header) events k) f ≡ Some by
-  pub frame : slice_get (played_by_run (new_world header) events k) f ≡ decided samples (begun s) (history_by (new_world header) events k) f
+  pub last : IsLastReaching samples (begun s) (history_by (new_world header) events k) f by
+  -- when it ended, the frame wasn't played yet
+  pub early : by.consumed ≤ f
+  pub frame : slice_get (played_by_run (new_world header) events k) f ≡ Some (frame_mixed samples f by)
+
+-- every frame that a sink plays in a run is what its deciding turn made of it
+abbrev pub AreDecided : Header → List Event → Type 0
+AreDecided header events =
+    (k : ℕ) (s : SinkSpec) → slice_get header.sinks k ≡ Some s
+    → (f : ℕ) → f < length (played_by_run (new_world header) events k) → IsDecided header events k s f

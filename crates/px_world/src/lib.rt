@@ -1,9 +1,12 @@
 //! The world that a recorded session runs in: the core, a mixer over a device in memory for each sink, and what is under way
-//! between them. An event of the session is one step of it. It exports `World`, `Outcome` and `WorldFault`.
+//! between them. An event of the session is one step of it. It exports `World`, `Outcome` and `WorldFault`,
+//! and the laws of its definitions.
 #![tactic(auto)]
 
 mod fault;
+mod law;
 mod world;
 
 pub use fault::WorldFault;
+pub use law::{played_frames_are_decided_by_a_turn, runs_go_on, sinks_replay_their_histories};
 pub use world::{Outcome, World};

@@ -1,4 +1,4 @@
-use Rattle.std.proofs.Common.{◌≡◌, ℕ, ◌++◌, Option, ap, ◌∙◌}
+use Rattle.std.proofs.Common.{ℕ, ◌++◌, Option, ap, ◌∙◌}
 use Rattle.std.specs.List.{flat_map}
 use Rattle.px_world.specs.Output.{effect_record}
 use Rattle.px_app.specs.Step.{played_part}

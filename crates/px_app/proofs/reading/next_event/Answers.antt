@@ -1,4 +1,3 @@
-use Rattle.px_session.specs.declared.event.Step.TheVariants as step
 use Rattle.px_app.proofs.ReadLaws.{took_no_header}
 use Rattle.px_app.proofs.reading.next_event.Goals as goal
 

@@ -1,5 +1,5 @@
 use Rattle.std.proofs.Common.{◌≡◌, ℕ, List, ◌++◌, codes, decimal, IfOk, string_bytes, sym, subst, ap, ◌∙◌}
-use Rattle.px_app.specs.Refusal.{why_text, refusal_line}
+use Rattle.px_app.specs.Refusal.{refusal_line}
 use Rattle.px_app.proofs.LineLaws.{five}
 use Rattle.px_app.proofs.refusal.refusal_line.Goals as goal
 

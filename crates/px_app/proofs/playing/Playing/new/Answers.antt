@@ -1,7 +1,7 @@
 use Rattle.std.proofs.Common.{[], sym, ◌∙◌}
 use Rattle.std.proofs.lemmas.Bool.{false≢true}
 use Rattle.px_ends.proofs.ToldBytes.{taking_nothing}
-use Rattle.px_app.proofs.PlayLaws.{nothing_played, new_unread, new_unbuilt, new_reached}
+use Rattle.px_app.proofs.PlayLaws.{nothing_played, new_unread, new_unbuilt}
 use Rattle.px_app.proofs.playing.Playing.new.Goals as goal
 
 pub returns-in_default-clause-begun : goal.returns-in_default-clause-begun

@@ -1,7 +1,5 @@
-use Rattle.std.proofs.Common.{◌≡◌, ℕ}
 use Rattle.px_world.specs.World.{new_world}
 use Rattle.px_world.specs.Output.{world_by}
-use Rattle.px_app.specs.Step.{EventPlayed}
 use Rattle.px_app.proofs.PlayLaws.{stop_read, stop_end, go_on}
 use Rattle.px_app.proofs.EventPlayedLaws.{step_counts}
 use Rattle.px_app.proofs.playing.Playing.step.Goals as goal

@@ -1,0 +1,243 @@
+-- CREATE keeps what the state keeps.
+use Rattle.std.proofs.Common.{◌≡◌, ℕ, zero, suc, ◌<◌, ◌≤◌, List, [], ◌∷◌, ◌++◌, map, length, min, max, Option, Some, None, Bool, true, false, refl, ap, sym, subst, ◌∙◌, arith, cond, ⊎_elim}
+use Rattle.std.specs.Prelude.{◌+◌, ◌-◌, ◌*◌, ◌/◌, ◌≢◌, ◌&&◌, ◌||◌, not, nat_eq, nat_lt, nat_le, replicate, slice_get, slice_index, Result, Ok, Err}
+use Rattle.std.specs.List.{All, list_all, range_with_len}
+use Rattle.std.specs.Cmp.Lexicographic.{pointwise}
+use Rattle.std.proofs.lemmas.Bool.{cond_both, eqb-true, eqb-false, ltb-true, leb-true, leb-false, false≢true, cases_Bool, and_parts, or_parts, not-false, agree_below_at}
+use Rattle.std.proofs.lemmas.List.{length-replicate}
+use Rattle.std.proofs.lemmas.List.FromFn.{length-range_with_len, get_or-range_with_len}
+use Rattle.std.proofs.lemmas.Option.{none-some, same_Some, slice_get_within}
+use Rattle.px_types.specs.declared.ids.SinkId.{SinkId}
+use Rattle.px_types.specs.declared.error_code.ErrorCode.{ErrorCode}
+use Rattle.px_types.specs.declared.error_code.ErrorCode.TheVariants.{Invalid, TooLarge, NotSupported, NotImplemented}
+use Rattle.px_names.specs.Names.{sink_named}
+use Rattle.px_cmd.specs.declared.command.CreateFields.{CreateFields}
+use Rattle.px_sample.specs.declared.format.Format.{Format}
+use Rattle.px_sample.specs.declared.format.Format.TheVariants.{U8, Alaw, Ulaw, S16Le, S16Be, Float32Le, Float32Be, S32Le, S32Be, S24Le, S24Be, S24In32Le, S24In32Be}
+use Rattle.px_sample.specs.declared.spec.Spec.{Spec}
+use Rattle.px_sample.specs.Format.{code_of, frame_size_of}
+use Rattle.px_session.specs.declared.header.SinkSpec.{SinkSpec}
+use Rattle.px_session.specs.HeaderRules.{IsSink, AreSinks}
+use Rattle.px_model.specs.declared.data.Attr.{Attr}
+use Rattle.px_model.specs.Frame.{SampleSpec}
+use Rattle.px_model.specs.Orderly.{IsPlayable, IsFeed, IsRepaired, IsNewStream}
+use Rattle.px_msg.specs.Repair.{UNSET, MAXLENGTH, repaired, frames_asked, between_one_and, maxlength_of, tlength_of, minreq_of, prebuf_of}
+use Rattle.px_msg.specs.View.{sample_spec, opened}
+use Rattle.px_vol.specs.Volume.{norm}
+use Rattle.px_core.specs.declared.input.Connection.{Connection}
+use Rattle.px_core.specs.declared.input.Input.{Input}
+use Rattle.px_core.specs.State.{State, has_number, settled_on, going_of}
+use Rattle.px_core.specs.Change.{with_streams, with_connection, changed, committed}
+use Rattle.px_core.specs.declared.change.Change.TheVariants.{Made, Posted}
+use Rattle.px_core.specs.Create.{is_spec, is_map, are_volumes, format_on, channels_on, positions_on, rate_on, same_positions, format_with, spec_on, attr_on, is_unsupported, has_no_room, is_not_built, refusal_on, input_made, created, created_or, create_on, create_there, create_named, create, is_lawful, straight, unity_on, new_of, UNITY, MOST_ON_SINK, MOST_IN_ALL, LAST_INDEX}
+use Rattle.px_core.specs.Reply.{Answer, refused}
+use Rattle.px_core.specs.Keeps.{IsInput, IsKept}
+use Rattle.px_core.proofs.ChangeLaws.{sink_at, with_input, new_keeps, new_held}
+use Rattle.px_core.proofs.AnswerLaws.{Keeps, unchanged, connection_keeps, factors_keep}
+
+-- ---- attributes as repaired
+
+prebuf_bound : (size tlength minreq asked : ℕ) → prebuf_of size tlength minreq asked ≤ tlength + 1 - minreq
+prebuf_bound size tlength minreq asked =
+    cond_both (nat_eq asked UNSET) (tlength + 1 - minreq) (min ((asked + (size - 1)) / size) (tlength + 1 - minreq)) (λ n. n ≤ tlength + 1 - minreq) (λ e. omega arith) (λ e. omega arith)
+
+between_one : (most frames : ℕ) → 1 ≤ most → (1 ≤ between_one_and most frames) × (between_one_and most frames ≤ most)
+between_one most frames l = (omega arith, omega arith)
+
+maxlength_bound : (size asked : ℕ) → (1 ≤ maxlength_of size asked) × (maxlength_of size asked ≤ 4194304)
+maxlength_bound size asked = (omega arith, bound (min asked MAXLENGTH) (omega arith))
+  where
+    bound : (n : ℕ) → n ≤ 4194304 → max (n / size) 1 ≤ 4194304
+    bound n l = omega (arith, l)
+
+pub repaired_fits : (spec : Spec) (asked : List ℕ) → IsRepaired (repaired spec asked)
+repaired_fits spec asked =
+    let m = maxlength_bound (frame_size_of spec) (slice_index asked 0) in
+    let t = between_one (maxlength_of (frame_size_of spec) (slice_index asked 0)) (frames_asked (frame_size_of spec) (2 * spec.rate) (slice_index asked 1)) m.0 in
+    let q = between_one (tlength_of spec (maxlength_of (frame_size_of spec) (slice_index asked 0)) (slice_index asked 1)) (frames_asked (frame_size_of spec) (spec.rate * 20 / 1000) (slice_index asked 3)) t.0 in
+    record {
+      minreq_positive = q.0;
+      minreq_bounded = q.1;
+      tlength_bounded = t.1;
+      maxlength_bounded = m.1;
+      prebuf_bounded = prebuf_bound (frame_size_of spec) (tlength_of spec (maxlength_of (frame_size_of spec) (slice_index asked 0)) (slice_index asked 1))
+          (minreq_of spec (tlength_of spec (maxlength_of (frame_size_of spec) (slice_index asked 0)) (slice_index asked 1)) (slice_index asked 3)) (slice_index asked 2);
+    }
+
+-- ---- the format
+
+same_code : (code : ℕ) → code ≤ 12 → code_of (format_with code) ≡ code
+same_code code l = eqb-true (code_of (format_with code)) code (agree_below_at (λ n. nat_eq (code_of (format_with n)) n) (λ n. true) 13 code refl (omega (arith, l)))
+
+few_codes : (format : Format) → code_of format ≤ 12
+few_codes U8 = omega arith
+few_codes Alaw = omega arith
+few_codes Ulaw = omega arith
+few_codes S16Le = omega arith
+few_codes S16Be = omega arith
+few_codes Float32Le = omega arith
+few_codes Float32Be = omega arith
+few_codes S32Le = omega arith
+few_codes S32Be = omega arith
+few_codes S24Le = omega arith
+few_codes S24Be = omega arith
+few_codes S24In32Le = omega arith
+few_codes S24In32Be = omega arith
+
+-- ---- the sinks
+
+sink_rules : (earlier sinks : List SinkSpec) (k : ℕ) (s : SinkSpec) → AreSinks earlier sinks → slice_get sinks k ≡ Some s → (before : List SinkSpec) × IsSink before s
+sink_rules earlier [] k s h e = absurd (none-some s e)
+sink_rules earlier (x ∷ sinks) zero s h e = (earlier, subst (IsSink earlier) (same_Some x s e) h.0)
+sink_rules earlier (x ∷ sinks) (suc k) s h e = sink_rules (earlier ++ x ∷ []) sinks k s h.1 e
+
+same_lengths : (a b : List ℕ) → pointwise nat_eq a b ≡ true → length a ≡ length b
+same_lengths [] [] e = refl
+same_lengths [] (y ∷ ys) e = absurd (false≢true e)
+same_lengths (x ∷ xs) [] e = absurd (false≢true e)
+same_lengths (x ∷ xs) (y ∷ ys) e = ap suc (same_lengths xs ys (and_parts (nat_eq x y) (pointwise nat_eq xs ys) e).1)
+
+-- ---- what is asked fits
+
+-- on a sink's own map there are as many channels
+abbrev own_channels : Bool → SinkSpec → CreateFields → ℕ
+own_channels fix sink a = cond fix sink.spec.channels a.spec.channels
+
+channels_fit : (fix : Bool) (sink : SinkSpec) (a : CreateFields) → length sink.map ≡ sink.spec.channels → length a.map ≡ a.spec.channels → length (cond fix sink.map a.map) ≡ length sink.map → own_channels fix sink a ≡ sink.spec.channels
+channels_fit true sink a own asked same = refl
+channels_fit false sink a own asked same = sym asked ∙ same ∙ own
+
+formats_fit : (fix : Bool) (sink : SinkSpec) (a : CreateFields) → a.spec.format ≤ 12 → cond fix (code_of sink.spec.format) a.spec.format ≤ 12
+formats_fit true sink a l = few_codes sink.spec.format
+formats_fit false sink a l = l
+
+own_positions : (sink : SinkSpec) (a : CreateFields) → is_not_built sink a ≡ false → same_positions (positions_on sink a) sink.map ≡ true
+own_positions sink a built =
+    let parts = or_parts (a.corked || nat_lt 0 (attr_on sink a).prebuf || not (nat_eq (format_on sink a) 3) || not (same_positions (positions_on sink a) sink.map) || a.muted) (not (list_all (λ v. nat_eq v norm) a.volume)) built in
+    let more = or_parts (a.corked || nat_lt 0 (attr_on sink a).prebuf || not (nat_eq (format_on sink a) 3) || not (same_positions (positions_on sink a) sink.map)) a.muted parts.0 in
+    let last = or_parts (a.corked || nat_lt 0 (attr_on sink a).prebuf || not (nat_eq (format_on sink a) 3)) (not (same_positions (positions_on sink a) sink.map)) more.0 in
+    not-false (same_positions (positions_on sink a) sink.map) last.1
+
+-- what is asked of a sink was tested
+pub record Asked (sink : SinkSpec) (a : CreateFields) : Type 0 where
+  pub format : format_on sink a ≤ 12
+  pub no_float_le : format_on sink a ≢ 5
+  pub no_float_be : format_on sink a ≢ 6
+  pub channels : channels_on sink a ≡ sink.spec.channels
+
+pub asked_by : (sink : SinkSpec) (a : CreateFields) → length sink.map ≡ sink.spec.channels → is_lawful a ≡ true → is_unsupported sink a ≡ false → is_not_built sink a ≡ false → Asked sink a
+asked_by sink a own can supported built =
+    let first = and_parts (is_spec a.spec && is_map a.spec a.map) (are_volumes a.spec a.volume) can in
+    let spec_map = and_parts (is_spec a.spec) (is_map a.spec a.map) first.0 in
+    let spec_3 = and_parts (nat_le a.spec.format 12 && nat_lt 0 a.spec.channels && nat_lt 0 a.spec.rate) (nat_le a.spec.rate 192000) spec_map.0 in
+    let spec_2 = and_parts (nat_le a.spec.format 12 && nat_lt 0 a.spec.channels) (nat_lt 0 a.spec.rate) spec_3.0 in
+    let spec_1 = and_parts (nat_le a.spec.format 12) (nat_lt 0 a.spec.channels) spec_2.0 in
+    let positions = and_parts (nat_eq (length a.map) a.spec.channels) (list_all (λ p. nat_le p 50) a.map) spec_map.1 in
+    let float_3 = or_parts (nat_eq (format_on sink a) 5 || nat_eq (format_on sink a) 6 || a.variable_rate) (not (nat_eq (rate_on sink a) sink.spec.rate)) supported in
+    let float_2 = or_parts (nat_eq (format_on sink a) 5 || nat_eq (format_on sink a) 6) a.variable_rate float_3.0 in
+    let float_1 = or_parts (nat_eq (format_on sink a) 5) (nat_eq (format_on sink a) 6) float_2.0 in
+    record {
+      format = formats_fit a.fix_format sink a (leb-true a.spec.format 12 spec_1.0);
+      no_float_le = eqb-false (format_on sink a) 5 float_1.0;
+      no_float_be = eqb-false (format_on sink a) 6 float_1.1;
+      channels = channels_fit a.fix_channels sink a own (eqb-true (length a.map) a.spec.channels positions.0) (same_lengths (positions_on sink a) sink.map (own_positions sink a built));
+    }
+
+-- ---- the new input fits
+
+all_range : (n : ℕ) → All (λ channel. channel < n) (range_with_len 0 n)
+all_range n k d high =
+    let l : k < n = omega (arith, high, length-range_with_len 0 n) in
+    omega (arith, get_or-range_with_len 0 n k d l, l)
+
+playable : (sink : SinkSpec) (a : CreateFields) → (1 ≤ sink.spec.channels) × (sink.spec.channels ≤ 32) → Asked sink a → IsPlayable (sample_spec (spec_on sink a))
+playable sink a few asked =
+    let code : code_of (format_with (format_on sink a)) ≡ format_on sink a = same_code (format_on sink a) asked.format in
+    record {
+      known = subst (λ n. n ≤ 12) (sym code) asked.format;
+      no_float_le = λ e. asked.no_float_le (sym code ∙ e);
+      no_float_be = λ e. asked.no_float_be (sym code ∙ e);
+      some_channels = subst (λ n. 1 ≤ n) (sym asked.channels) few.0;
+      few_channels = subst (λ n. n ≤ 32) (sym asked.channels) few.1;
+    }
+
+new_fits : (sink s : SinkSpec) → sink ≡ s → (a : CreateFields) → (1 ≤ sink.spec.channels) × (sink.spec.channels ≤ 32) → Asked sink a → (input : ℕ) → IsNewStream (sample_spec s.spec) (record { input = input; spec = sample_spec (spec_on sink a); feed = straight sink.spec.channels; factors = unity_on sink; attr = attr_on sink a; corked = false })
+new_fits sink s e a few asked input = record {
+  playable = playable sink a few asked;
+  feed_fits = record {
+    places = length-range_with_len 0 sink.spec.channels ∙ ap (λ (z : SinkSpec). z.spec.channels) e;
+    channels = subst (λ n. All (λ channel. channel < n) (range_with_len 0 sink.spec.channels)) (sym asked.channels) (all_range sink.spec.channels);
+  };
+  factors_fit = length-replicate sink.spec.channels UNITY ∙ ap (λ (z : SinkSpec). z.spec.channels) e;
+  attr_repaired = repaired_fits (spec_on sink a) a.asked;
+}
+
+room_on : (inputs : List Input) (made : ℕ) (c : Connection) (sink : SinkId) → has_no_room inputs made c sink ≡ false → length (settled_on inputs sink) < MOST_ON_SINK
+room_on inputs made c sink e =
+    let parts = or_parts (nat_le MOST_ON_SINK (length (settled_on inputs sink)) || nat_le MOST_IN_ALL (length (going_of inputs)) || nat_le LAST_INDEX made) (nat_le LAST_INDEX c.streams) e in
+    let more = or_parts (nat_le MOST_ON_SINK (length (settled_on inputs sink)) || nat_le MOST_IN_ALL (length (going_of inputs))) (nat_le LAST_INDEX made) parts.0 in
+    let last = or_parts (nat_le MOST_ON_SINK (length (settled_on inputs sink))) (nat_le MOST_IN_ALL (length (going_of inputs))) more.0 in
+    leb-false MOST_ON_SINK (length (settled_on inputs sink)) last.0
+
+-- ---- the row
+
+created_keeps : {P : Type 0} (spec_of : P → SampleSpec) (state : State P) → IsKept spec_of state → (c : Connection) (tag : ℕ) (index : SinkId) (sink : SinkSpec) (a : CreateFields) → slice_get state.sinks index.0 ≡ Some sink → is_lawful a ≡ true → is_unsupported sink a ≡ false → has_no_room state.inputs state.inputs_made c index ≡ false → is_not_built sink a ≡ false
+    → Keeps spec_of state (created state.inputs state.inputs_made c tag sink a (input_made state.inputs_made c index sink a))
+created_keeps {P} spec_of state h c tag index sink a there lawful supported room built =
+    record {
+      keeps = made;
+      held = new_held state.inputs (input_made state.inputs_made c index sink a) refl;
+    }
+  where
+    x : Input
+    x = input_made state.inputs_made c index sink a
+
+    rules : (before : List SinkSpec) × IsSink before sink
+    rules = sink_rules [] state.sinks index.0 sink h.sinks there
+
+    asked : Asked sink a
+    asked = asked_by sink a rules.1.map_size lawful supported built
+
+    made : IsKept spec_of (committed state (created {P = P} state.inputs state.inputs_made c tag sink a (input_made state.inputs_made c index sink a)).changes)
+    made =
+        factors_keep spec_of (changed (with_input x (with_connection c.conn (with_streams (c.streams + 1)) state)) (Posted index (new_of sink x)))
+        (new_keeps spec_of (with_connection c.conn (with_streams (c.streams + 1)) state) x (record { input = x.index; spec = x.spec; feed = straight sink.spec.channels; factors = unity_on sink; attr = x.attr; corked = false })
+        (connection_keeps spec_of state h c.conn (with_streams (c.streams + 1)) (λ d. refl))
+        refl refl refl
+        (record {
+          given = omega arith;
+          sink_there = slice_get_within state.sinks index.0 sink there;
+          playable = playable sink a rules.1.channels asked;
+          repaired = repaired_fits (spec_on sink a) a.asked;
+        })
+        refl refl
+        (room_on state.inputs state.inputs_made c index room)
+        (λ s e. new_fits sink s (same_Some sink s (sym there ∙ e)) a rules.1.channels asked state.inputs_made))
+        index sink there (settled_on state.inputs index ++ x ∷ [])
+
+created_or_keeps : {P : Type 0} (spec_of : P → SampleSpec) (state : State P) → IsKept spec_of state → (c : Connection) (tag : ℕ) (index : SinkId) (sink : SinkSpec) (a : CreateFields) → slice_get state.sinks index.0 ≡ Some sink → is_lawful a ≡ true
+    → Keeps spec_of state (create_on state.inputs state.inputs_made c tag index sink a)
+created_or_keeps {P} spec_of state h c tag index sink a there lawful =
+    cond_both (is_unsupported sink a) (Some NotSupported) (cond (has_no_room state.inputs state.inputs_made c index) (Some TooLarge) (cond (is_not_built sink a) (Some NotImplemented) None)) (λ o. Keeps spec_of state (created_or o state.inputs state.inputs_made c tag index sink a))
+    (λ e. unchanged h)
+    (λ supported.
+    cond_both (has_no_room state.inputs state.inputs_made c index) (Some TooLarge) (cond (is_not_built sink a) (Some NotImplemented) None) (λ o. Keeps spec_of state (created_or o state.inputs state.inputs_made c tag index sink a))
+    (λ e. unchanged h)
+    (λ room.
+    cond_both (is_not_built sink a) (Some NotImplemented) None (λ o. Keeps spec_of state (created_or o state.inputs state.inputs_made c tag index sink a))
+    (λ e. unchanged h)
+    (λ built. created_keeps spec_of state h c tag index sink a there lawful supported room built)))
+
+create_there_keeps : {P : Type 0} (spec_of : P → SampleSpec) (state : State P) → IsKept spec_of state → (c : Connection) (tag : ℕ) (index : SinkId) (a : CreateFields) → is_lawful a ≡ true → (o : Option SinkSpec) → slice_get state.sinks index.0 ≡ o → Keeps spec_of state (create_there state.inputs state.inputs_made c tag index o a)
+create_there_keeps spec_of state h c tag index a lawful None e = unchanged h
+create_there_keeps spec_of state h c tag index a lawful (Some sink) e = created_or_keeps spec_of state h c tag index sink a e lawful
+
+create_named_keeps : {P : Type 0} (spec_of : P → SampleSpec) (state : State P) → IsKept spec_of state → (c : Connection) (tag : ℕ) (a : CreateFields) → is_lawful a ≡ true → (r : Result SinkId ErrorCode) → Keeps spec_of state (create_named state.sinks state.inputs state.inputs_made c tag r a)
+create_named_keeps spec_of state h c tag a lawful (Err code) = unchanged h
+create_named_keeps spec_of state h c tag a lawful (Ok index) = create_there_keeps spec_of state h c tag index a lawful (slice_get state.sinks index.0) refl
+
+pub create_keeps : {P : Type 0} (spec_of : P → SampleSpec) (state : State P) → IsKept spec_of state → (c : Connection) (tag : ℕ) (a : CreateFields) → Keeps spec_of state (create state.names state.sinks state.inputs state.inputs_made c tag a)
+create_keeps spec_of state h c tag a =
+    cond_both (is_lawful a) (create_named state.sinks state.inputs state.inputs_made c tag (sink_named state.names a.sink.index a.sink.name true) a) (refused c.conn tag Invalid) (Keeps spec_of state)
+    (λ lawful. create_named_keeps spec_of state h c tag a lawful (sink_named state.names a.sink.index a.sink.name true))
+    (λ e. unchanged h)

@@ -1,0 +1,44 @@
+-- What is known of a header's sinks.
+use Rattle.std.proofs.Common.{◌≡◌, ℕ, suc, zero, Bool, true, false, ◌&&◌, not, eqb, List, [], ◌∷◌, ◌++◌, length, get_or, slice_get, IsTrue, IfSome, is_some, ltb, Option, None, Some, refl, sym, subst, arith}
+use Rattle.std.specs.List.{list_all}
+use Rattle.std.proofs.lemmas.Bool.{ltb-true}
+use Rattle.std.proofs.lemmas.Option.{slice_get_read}
+use Rattle.std.proofs.lemmas.Bool.Decides.{nat_tests}
+use Rattle.px_tag.specs.Item.{is_text}
+use Rattle.px_session.specs.declared.header.SinkSpec.{SinkSpec}
+use Rattle.px_session.specs.HeaderRules.{is_from_to, IsSink, AreSinks}
+use Rattle.px_core.specs.Create.{IsOfHeader}
+
+both_true : (a b : Bool) → (a && b) ≡ true → (a ≡ true) × (b ≡ true)
+both_true true b e = (refl, e)
+both_true false b e = absurd cc
+
+and_true : (a b : Bool) → a ≡ true → b ≡ true → (a && b) ≡ true
+and_true a b p q = rw (p, q) refl
+
+no_zero : (b : ℕ) → is_from_to 0x21 0x7E b ≡ true → not (eqb b 0) ≡ true
+no_zero b e = grind (arith, nat_tests)
+
+printable_text : (bytes : List ℕ) → list_all (is_from_to 0x21 0x7E) bytes ≡ true → is_text bytes ≡ true
+printable_text [] e = refl
+printable_text (b ∷ bytes) e =
+    let p = both_true (is_from_to 0x21 0x7E b) (list_all (is_from_to 0x21 0x7E) bytes) e in
+    and_true (not (eqb b 0)) (is_text bytes) (no_zero b p.0) (printable_text bytes p.1)
+
+pub name_is_text : (sink : SinkSpec) → IsOfHeader sink → IsTrue (is_text sink.name)
+name_is_text sink h = printable_text sink.name ((both_true (list_all (is_from_to 0x21 0x7E) sink.name) _ h.1.name).0)
+
+there : (earlier sinks : List SinkSpec) (i : ℕ) (s : SinkSpec) → AreSinks earlier sinks → slice_get sinks i ≡ Some s → IsOfHeader s
+there earlier [] i s h e = absurd cc
+there earlier (x ∷ sinks) zero s h e =
+    let same : x ≡ s = cc in
+    (earlier, subst (λ (y : SinkSpec). IsSink earlier y) same h.0)
+there earlier (x ∷ sinks) (suc i) s h e = there (earlier ++ x ∷ []) sinks i s h.1 e
+
+pub is_of_header : (sinks : List SinkSpec) (i : ℕ) (s : SinkSpec) → AreSinks [] sinks → slice_get sinks i ≡ Some s → IsOfHeader s
+is_of_header sinks i s h e = there [] sinks i s h e
+
+-- the sink that a look-up found at an index
+pub found_in_header : {B : Type 0} (v : B → SinkSpec) (r : Option B) (sinks : List SinkSpec) (i : ℕ) → AreSinks [] sinks → is_some r ≡ ltb i (length sinks) → IfSome r (λ x. v x ≡ get_or sinks i (v x)) → IfSome r (λ x. IsOfHeader (v x))
+found_in_header v None sinks i h there at = tt
+found_in_header v (Some x) sinks i h there at = is_of_header sinks i (v x) h (slice_get_read sinks (length sinks) i (v x) refl (ltb-true i (length sinks) (sym there)) at)

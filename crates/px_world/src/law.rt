@@ -1,0 +1,53 @@
+// The laws of the definitions.
+
+ghost use Rattle.std.specs.Prelude.{◌≡◌, ℕ, List, [], ◌∷◌, ◌++◌, length, Some, None};
+ghost use Rattle.std.specs.List.{slice_get};
+ghost use Rattle.px_session.specs.declared.header.Header.{Header};
+ghost use Rattle.px_session.specs.declared.header.SinkSpec.{SinkSpec};
+ghost use Rattle.px_session.specs.declared.event.Event.{Event};
+ghost use Rattle.px_model.specs.Deciding.{replay, replay_played, IsHistory};
+ghost use Rattle.px_lane.specs.Samples.{samples};
+ghost use Rattle.px_world.specs.World.{World, new_world};
+ghost use Rattle.px_world.specs.Admission.{refusal_of};
+ghost use Rattle.px_world.specs.Event.{world_after};
+ghost use Rattle.px_world.specs.Output.{world_by, records_of, records_by, AreAdmitted};
+ghost use Rattle.px_world.specs.History.{history_by, played_by_run, begun, sink_at, AreDecided};
+
+/// In a run of admitted events every frame that a sink plays is what its deciding turn made of it: the mix of the
+/// sink's streams as that turn left them. That turn is the last one of the sink whose horizon is at most the frame,
+/// and ends before the frame is played. Source: own.
+pub fn played_frames_are_decided_by_a_turn()
+    ensures { (header : Header) (events : List Event) → AreAdmitted (new_world header) events
+        → AreDecided header events }
+{}
+
+/// What a run leaves of a sink is the replay of the sink's history, and the frames that it plays are those of that
+/// replay. Where the events are admitted the history is one that can be, and as many frames are played as are
+/// consumed. Source: own.
+pub fn sinks_replay_their_histories()
+    ensures sinks { (header : Header) (events : List Event) (k : ℕ) (s : SinkSpec)
+        → slice_get header.sinks k ≡ Some s
+        → sink_at (world_by (new_world header) events) k
+        ≡ Some (replay samples (begun s) (history_by (new_world header) events k)) }
+    ensures played { (header : Header) (events : List Event) (k : ℕ) (s : SinkSpec)
+        → slice_get header.sinks k ≡ Some s
+        → played_by_run (new_world header) events k
+        ≡ replay_played samples (begun s) (history_by (new_world header) events k) }
+    ensures histories { (header : Header) (events : List Event) (k : ℕ) (s : SinkSpec)
+        → slice_get header.sinks k ≡ Some s → AreAdmitted (new_world header) events
+        → IsHistory samples (begun s) (history_by (new_world header) events k) }
+    ensures all_consumed { (header : Header) (events : List Event) (k : ℕ) (s : SinkSpec)
+        → slice_get header.sinks k ≡ Some s → AreAdmitted (new_world header) events
+        → length (played_by_run (new_world header) events k)
+        ≡ (replay samples (begun s) (history_by (new_world header) events k)).consumed }
+{}
+
+/// A run goes on event by event: the world, what is written and what is admitted. Source: own.
+pub fn runs_go_on()
+    ensures world { (w : World) (events : List Event) (e : Event)
+        → world_by w (events ++ e ∷ []) ≡ world_after (world_by w events) e }
+    ensures records { (w : World) (events : List Event) (e : Event)
+        → records_by w (events ++ e ∷ []) ≡ records_by w events ++ records_of (world_by w events) e }
+    ensures admitted { (w : World) (events : List Event) (e : Event) → AreAdmitted w events
+        → refusal_of (world_by w events) e ≡ None → AreAdmitted w (events ++ e ∷ []) }
+{}
