@@ -10,3 +10,4 @@ pub mod PlayLaws
 pub mod ReportLaws
 pub mod CompleteLaws
 pub mod ReplayLaws
+pub mod EitherLaws

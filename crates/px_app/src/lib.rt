@@ -1,8 +1,10 @@
 //! The program's top call, `run`, and what it does by the words of the command line: `replay` plays a recorded session.
-//! It exports these two, `View`, `Ending`, the `Refusal`s of a session, and `report`, which writes to a log how a run ended.
+//! It exports these two, `View`, `Ending`, the `Refusal`s of a session, `report`, which writes to a log how a run ended, and the
+//! law on inputs.
 #![tactic(auto)]
 
 mod ending;
+mod law;
 mod log;
 mod playing;
 mod program;
@@ -13,6 +15,10 @@ mod replaying;
 
 pub use crate::log::report;
 pub use ending::Ending;
+pub use law::inputs_are_played_or_refused;
 pub use program::run;
 pub use refusal::{Refusal, Why};
 pub use replaying::{View, replay};
+
+#[cfg(test)]
+mod tests;
