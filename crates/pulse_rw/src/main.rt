@@ -5,9 +5,8 @@
 mod standard;
 
 use crate::standard::{Reading, Writing};
-use px_app::{report, run};
+use px_app::{Ending, report, run};
 use px_ends::NoHost;
-use px_types::Status;
 use std::alloc::{AllocError, Global};
 use std::env;
 use std::process::ExitCode;
@@ -29,7 +28,7 @@ fn main(rt: HostRuntime) -> ExitCode {
     let mut log = Writing::new(rt.stderr());
     let status = match words(&rt, rt.alloc()) {
         Ok(words) => run(&rt, &words, &mut input, &mut output, &mut log, &mut NoHost),
-        Err(_) => report(Status::Memory, &mut log),
+        Err(_) => report(rt.alloc(), Ending::Memory, &mut log),
     };
     ExitCode::from(status.code())
 }

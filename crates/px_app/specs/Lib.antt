@@ -1,10 +1,8 @@
-pub mod Frame
+pub mod Refusal
+pub mod Built
 pub mod Session
-pub mod Roll
-pub mod Handshake
-pub mod Reading
-pub mod Seen
-pub mod Output
 pub mod Replay
-pub mod Events
+pub mod Ending
+pub mod Report
+pub mod Step
 pub mod Words

@@ -1,93 +1,83 @@
--- What a replay of a session leaves: what was read of the input, what the output gained, and the line in the log.
-use Rattle.std.specs.Prelude.{◌≡◌, ℕ, List, [], ◌∷◌, ◌++◌, Option, codes, ◌⊎◌, ◌≢◌, ⊤}
+-- What a replay of a session leaves: what was read of the input, and what the output gained.
+use Rattle.std.specs.Prelude.{◌≡◌, ◌⊎◌, ℕ, List, [], Option, ⊤}
 use Rattle.px_types.specs.declared.status.Status.{Status}
 use Rattle.px_types.specs.declared.status.Status.TheVariants as status
 use Rattle.px_ends.specs.Told.{before_taking, after_adding, IsAtEnd, WhereTold}
 use Rattle.px_ends.specs.Faults.{Rose}
 use Rattle.px_ends.specs.Whole.{AddsFront}
-use Rattle.px_app.specs.Session.{Header, Event}
-use Rattle.px_app.specs.Roll.{IsSession}
-use Rattle.px_app.specs.Output.{output_of}
+use Rattle.px_session.specs.declared.header.Header.{Header}
+use Rattle.px_session.specs.declared.event.Event.{Event}
+use Rattle.px_session.specs.declared.fault.Cause.TheVariants.{Truncated}
+use Rattle.px_session.specs.Place.{Place}
+use Rattle.px_world.specs.World.{new_world}
+use Rattle.px_world.specs.Output.{records_by, output_of}
+use Rattle.px_world.specs.History.{AreDecided}
+use Rattle.px_app.specs.declared.refusal.Refusal.{Refusal}
+use Rattle.px_app.specs.declared.refusal.Why.TheVariants as why
+use Rattle.px_app.specs.declared.ending.Ending.{Ending}
+use Rattle.px_app.specs.declared.ending.Ending.TheVariants as ending
+use Rattle.px_app.specs.Session.{IsPlayed, Begins, IsRefused}
 
--- the bytes are no session
-abbrev pub IsNoSession : List ℕ → Type 0
-IsNoSession bytes = (h : Header) (events : List Event) → IsSession bytes h events → ⊥
-
--- The source was read to its end, and its bytes are a session with this header and these events.
-pub record WasRead (before after : Option (List ℕ)) (h : Header) (events : List Event) : Type 0 where
+-- The source was read to its end, its bytes are a session that is played, and the output gained exactly its records and the end byte. Each frame that a sink played is the mix of its streams as the deciding turn left them.
+pub record PlayedWhole (left_before left_after held_before held_after : Option (List ℕ)) : Type 0 where
   pub bytes : List ℕ
-  pub is_session : IsSession bytes h events
-  pub departed : before ≡ before_taking bytes after
-  pub at_end : IsAtEnd after
+  pub header : Header
+  pub events : List Event
+  pub played : IsPlayed bytes header events
+  pub departed : left_before ≡ before_taking bytes left_after
+  pub at_end : IsAtEnd left_after
+  pub gained : held_after ≡ after_adding held_before (output_of header events)
+  pub decided : AreDecided header events
 
--- A whole session was read, and the output gained exactly its records and the end byte.
-abbrev pub PlayedWhole : Option (List ℕ) → Option (List ℕ) → Option (List ℕ) → Option (List ℕ) → Type 0
-PlayedWhole left_before left_after held_before held_after =
-    (h : Header) × (events : List Event) × WasRead left_before left_after h events × (held_after ≡ after_adding held_before (output_of h.cookie events))
+-- The bytes that were read are refused, whatever follows them, and so are all that the source had, where it tells. The output gained the records of the events before, and no end byte.
+pub record WasRefused (refusal : Refusal) (left_before left_after held_before held_after : Option (List ℕ)) : Type 0 where
+  pub bytes : List ℕ
+  pub records : List ℕ
+  pub refused : IsRefused bytes refusal records
+  pub departed : left_before ≡ before_taking bytes left_after
+  -- an early end is told only where the source has ended
+  pub at_end : refusal.why ≡ why.Session Truncated → IsAtEnd left_after
+  pub whole : WhereTold left_before (λ all. IsRefused all refusal records)
+  pub gained : held_after ≡ after_adding held_before records
 
--- A whole session was read, and the output gained a front of its records and the end byte.
-abbrev pub PlayedFront : Option (List ℕ) → Option (List ℕ) → Option (List ℕ) → Option (List ℕ) → Type 0
-PlayedFront left_before left_after held_before held_after =
-    (h : Header) × (events : List Event) × WasRead left_before left_after h events × AddsFront (output_of h.cookie events) held_before held_after
+-- what bytes give: nothing before a header that is built, then the records of the events that were read, and with the end byte where the source has ended
+abbrev pub Gives : List ℕ → Option (List ℕ) → List ℕ → Type 0
+Gives bytes left given =
+    (given ≡ [])
+    ⊎ ((header : Header) × (events : List Event) × (here : Place) × Begins bytes header events here × (given ≡ records_by (new_world header) events))
+    ⊎ ((header : Header) × (events : List Event) × IsPlayed bytes header events × IsAtEnd left × (given ≡ output_of header events))
 
--- The input, where it is told, is no session.
-abbrev pub WasNoSession : Option (List ℕ) → Type 0
-WasNoSession left = WhereTold left IsNoSession
+-- The output gained a front of what the bytes that were read give.
+pub record PlayedFront (left_before left_after held_before held_after : Option (List ℕ)) : Type 0 where
+  pub bytes : List ℕ
+  pub given : List ℕ
+  pub departed : left_before ≡ before_taking bytes left_after
+  pub gives : Gives bytes left_after given
+  pub gained : AddsFront given held_before held_after
 
--- the line that the log gains for a status, with its line end
-abbrev pub log_line : Status → List ℕ
-log_line status.Ok = []
-log_line status.Refused = codes "pulse_rw: refused at 0: not built" ++ 10 ∷ []
-log_line status.Usage = codes "pulse_rw: usage: replay [--raw SINK], summary, gen NUMBER COUNT, serve OPTIONS" ++ 10 ∷ []
-log_line status.Memory = codes "pulse_rw: out of memory" ++ 10 ∷ []
-log_line status.ReadFault = codes "pulse_rw: read failed" ++ 10 ∷ []
-log_line status.WriteFault = codes "pulse_rw: write failed" ++ 10 ∷ []
-log_line status.Device = codes "pulse_rw: device failed" ++ 10 ∷ []
-log_line status.Host = codes "pulse_rw: host failed" ++ 10 ∷ []
-log_line status.NoSuchSink = codes "pulse_rw: no such sink" ++ 10 ∷ []
-log_line status.HistoryFull = codes "pulse_rw: history full" ++ 10 ∷ []
-
--- how playing the bytes of a whole input ends
-abbrev pub BytesPlayed : Status → List ℕ → Option (List ℕ) → Option (List ℕ) → Type 0
-BytesPlayed status.Ok bytes before after = (h : Header) × (events : List Event) × IsSession bytes h events × (after ≡ after_adding before (output_of h.cookie events))
-BytesPlayed status.Refused bytes before after = IsNoSession bytes × (after ≡ before)
-BytesPlayed status.WriteFault bytes before after = (h : Header) × (events : List Event) × IsSession bytes h events × AddsFront (output_of h.cookie events) before after
-BytesPlayed status.Usage bytes before after = ⊥
-BytesPlayed status.Memory bytes before after = ⊥
-BytesPlayed status.ReadFault bytes before after = ⊥
-BytesPlayed status.Device bytes before after = ⊥
-BytesPlayed status.Host bytes before after = ⊥
-BytesPlayed status.NoSuchSink bytes before after = ⊥
-BytesPlayed status.HistoryFull bytes before after = ⊥
-
-abbrev pub BytesCounted : Status → ℕ → ℕ → Type 0
-BytesCounted status.WriteFault before after = Rose before after
-BytesCounted other before after = after ≡ before
-
--- how playing the input ends, before the log has its line
-abbrev pub InputPlayed : Status → Option (List ℕ) → Option (List ℕ) → Option (List ℕ) → Option (List ℕ) → Type 0
-InputPlayed status.Ok left_before left_after held_before held_after = PlayedWhole left_before left_after held_before held_after
-InputPlayed status.Refused left_before left_after held_before held_after = WasNoSession left_before × (held_after ≡ held_before)
-InputPlayed status.Memory left_before left_after held_before held_after = held_after ≡ held_before
-InputPlayed status.ReadFault left_before left_after held_before held_after = held_after ≡ held_before
-InputPlayed status.WriteFault left_before left_after held_before held_after = PlayedFront left_before left_after held_before held_after
-InputPlayed status.Usage left_before left_after held_before held_after = ⊥
-InputPlayed status.Device left_before left_after held_before held_after = ⊥
-InputPlayed status.Host left_before left_after held_before held_after = ⊥
-InputPlayed status.NoSuchSink left_before left_after held_before held_after = ⊥
-InputPlayed status.HistoryFull left_before left_after held_before held_after = ⊥
+-- how playing an input ends
+abbrev pub InputPlayed : Ending → Option (List ℕ) → Option (List ℕ) → Option (List ℕ) → Option (List ℕ) → Type 0
+InputPlayed ending.Done left_before left_after held_before held_after = PlayedWhole left_before left_after held_before held_after
+InputPlayed (ending.Refused refusal) left_before left_after held_before held_after = WasRefused refusal left_before left_after held_before held_after
+InputPlayed ending.Memory left_before left_after held_before held_after = PlayedFront left_before left_after held_before held_after
+InputPlayed ending.ReadFault left_before left_after held_before held_after = PlayedFront left_before left_after held_before held_after
+InputPlayed ending.WriteFault left_before left_after held_before held_after = PlayedFront left_before left_after held_before held_after
+InputPlayed ending.Usage left_before left_after held_before held_after = ⊥
 
 -- the counts of faults of the input and of the output
-abbrev pub InputCounted : Status → ℕ → ℕ → ℕ → ℕ → Type 0
-InputCounted status.ReadFault read_before read_after written_before written_after = Rose read_before read_after × (written_after ≡ written_before)
-InputCounted status.WriteFault read_before read_after written_before written_after = (read_after ≡ read_before) × Rose written_before written_after
+abbrev pub InputCounted : Ending → ℕ → ℕ → ℕ → ℕ → Type 0
+InputCounted ending.ReadFault read_before read_after written_before written_after = Rose read_before read_after × (written_after ≡ written_before)
+InputCounted ending.WriteFault read_before read_after written_before written_after = (read_after ≡ read_before) × Rose written_before written_after
 InputCounted other read_before read_after written_before written_after = (read_after ≡ read_before) × (written_after ≡ written_before)
 
--- The log gained the line of the status that ended; or a front of it, since a write of the log failed.
-abbrev pub Reported : Status → Status → Option (List ℕ) → Option (List ℕ) → ℕ → ℕ → Type 0
-Reported ended answered before after faults_before faults_after =
-    ((answered ≡ ended) × (after ≡ after_adding before (log_line ended)) × (faults_after ≡ faults_before))
-    ⊎ ((answered ≡ status.WriteFault) × (ended ≢ status.Ok) × AddsFront (log_line ended) before after × Rose faults_before faults_after)
+-- no session that is played has these bytes
+abbrev pub IsNotPlayed : List ℕ → Type 0
+IsNotPlayed bytes = (header : Header) (events : List Event) → ¬ IsPlayed bytes header events
+
+-- how an input must end where no read and no write fails
+pub record Completes (answered : Status) (bytes : List ℕ) : Type 0 where
+  pub played : (header : Header) (events : List Event) → IsPlayed bytes header events → (answered ≡ status.Ok) ⊎ (answered ≡ status.Memory)
+  pub not_played : IsNotPlayed bytes → (answered ≡ status.Refused) ⊎ (answered ≡ status.Memory)
 
 -- a status that a replay can end with
 abbrev pub IsReplayStatus : Status → Type 0

@@ -1,73 +1,49 @@
--- A recorded session of clients that connect and authenticate: a header with one sink of S16LE samples on one channel, the
--- events in order, and the end byte.
-use Rattle.std.specs.Prelude.{◌≡◌, ℕ, ◌^◌, ◌<◌, ◌≤◌, Bool, true, false, ◌&&◌, not, nat_le, ◌==◌, List, [], ◌∷◌, ◌++◌, length}
-use Rattle.std.specs.List.{list_all}
-use Rattle.px_tag.specs.Item.{number, arbitrary}
-use Rattle.px_app.specs.Frame.{word, frame}
+-- What the bytes of a session are for a replay: they are played whole, or refused, with the records of the events before.
+use Rattle.std.specs.Prelude.{◌≡◌, ℕ, List, [], Ok, Err, Some, ◌⊎◌}
+use Rattle.px_session.specs.declared.header.Header.{Header}
+use Rattle.px_session.specs.declared.event.Event.{Event}
+use Rattle.px_session.specs.declared.event.Step.TheVariants as step
+use Rattle.px_session.specs.Place.{Place, Refusal as Broken, start_of}
+use Rattle.px_session.specs.HeaderReading.{header_at}
+use Rattle.px_session.specs.EventReading.{event_at}
+use Rattle.px_session.specs.Session.{Ended, Events, IsSession}
+use Rattle.px_session.specs.SessionLaw.{Lead}
+use Rattle.px_world.specs.declared.fault.WorldFault.{WorldFault}
+use Rattle.px_world.specs.World.{new_world}
+use Rattle.px_world.specs.Admission.{refusal_of}
+use Rattle.px_world.specs.Output.{world_by, records_by, AreAdmitted}
+use Rattle.px_app.specs.declared.refusal.Refusal.{Refusal}
+use Rattle.px_app.specs.Refusal.{of_bytes, not_built, of_event}
+use Rattle.px_app.specs.Built.{IsBuilt}
 
--- The header names the sink and has the cookie that clients must show. Guard and depth are in frames.
-pub record Header : Type 0 where
-  pub cookie : List ℕ
-  pub name : List ℕ
-  pub rate : ℕ
-  pub position : ℕ
-  pub guard : ℕ
-  pub depth : ℕ
+-- the bytes are a session to its end byte, its header is built, and the world admits its events
+pub record IsPlayed (bytes : List ℕ) (header : Header) (events : List Event) : Type 0 where
+  pub session : IsSession bytes (Events header events Ended)
+  pub built : IsBuilt header
+  pub admitted : AreAdmitted (new_world header) events
 
--- What a client says to authenticate: the tag that its reply will bear, its protocol version in the low 16 bits of a word,
--- and its cookie.
-pub record Handshake : Type 0 where
-  pub tag : ℕ
-  pub version : ℕ
-  pub cookie : List ℕ
+-- a header that is built stands first in the bytes, and then these events, which the world admits; the place behind them
+pub record Begins (bytes : List ℕ) (header : Header) (events : List Event) (here : Place) : Type 0 where
+  pub start : Place
+  pub head : header_at (start_of bytes) ≡ Ok (header, start)
+  pub built : IsBuilt header
+  pub lead : Lead events start here
+  pub admitted : AreAdmitted (new_world header) events
 
-pub data Event : Type 0 where
-  -- a connection of this number is there
-  Connect : ℕ → Event
-  -- the connection sent these bytes, the frame of an AUTH packet
-  Auth : ℕ → Handshake → Event
+-- no header stands first, or it is one that isn't built
+abbrev pub NoneBegins : List ℕ → Refusal → Type 0
+NoneBegins bytes refusal =
+    ((broken : Broken) × (header_at (start_of bytes) ≡ Err broken) × (refusal ≡ of_bytes broken))
+    ⊎ ((header : Header) × (after : Place) × (header_at (start_of bytes) ≡ Ok (header, after)) × (¬ IsBuilt header) × (refusal ≡ not_built))
 
-abbrev pub is_name_byte : ℕ → Bool
-is_name_byte byte = nat_le 0x21 byte && nat_le byte 0x7E
+-- no event stands here, or it is one that the world after the events before doesn't admit; then its kind byte is here
+abbrev pub StopsHere : Header → List Event → Place → Refusal → Type 0
+StopsHere header before here refusal =
+    ((broken : Broken) × (event_at here ≡ Err broken) × (refusal ≡ of_bytes broken))
+    ⊎ ((e : Event) × (after : Place) × (fault : WorldFault) × (event_at here ≡ Ok (step.Event e, after)) × (refusal_of (world_by (new_world header) before) e ≡ Some fault) × (refusal ≡ of_event here.at e fault))
 
--- 0x40 is @
-abbrev pub begins_with_at : List ℕ → Bool
-begins_with_at [] = false
-begins_with_at (first ∷ more) = first == 0x40
-
-abbrev pub is_sink_name : List ℕ → Bool
-is_sink_name name = nat_le 1 (length name) && nat_le (length name) 64 && not (begins_with_at name) && list_all is_name_byte name
-
-pub record IsHeader (h : Header) : Type 0 where
-  pub cookie : length h.cookie ≡ 256
-  pub name : is_sink_name h.name ≡ true
-  pub rate : (1 ≤ h.rate) × (h.rate ≤ 192000)
-  pub position : h.position ≤ 50
-  pub depth : (1 ≤ h.depth) × (h.depth ≤ 65536)
-  pub guard : h.guard ≤ h.depth
-
--- the rate, the position of the one channel, guard and depth
-unfoldable pub sound_bytes : Header → List ℕ
-sound_bytes h = word h.rate ++ (h.position ∷ word h.guard) ++ word h.depth
-
--- PRS1, the cookie, one sink: its name behind its length, S16LE, one channel, its sound
-unfoldable pub header_bytes : Header → List ℕ
-header_bytes h = word 0x50525331 ++ h.cookie ++ (1 ∷ length h.name ∷ h.name) ++ (3 ∷ 1 ∷ sound_bytes h)
-
-pub record IsHandshake (h : Handshake) : Type 0 where
-  pub tag : h.tag < 2 ^ 32
-  pub version : h.version < 2 ^ 32
-  pub cookie : length h.cookie ≡ 256
-
--- command 8, its tag, the version, the cookie
-unfoldable pub auth_packet : Handshake → List ℕ
-auth_packet h = number 8 ++ number h.tag ++ number h.version ++ arbitrary h.cookie
-
--- an event's kind, its connection, and of bytes their count
-unfoldable pub event_bytes : Event → List ℕ
-event_bytes (Connect conn) = 1 ∷ word conn
-event_bytes (Auth conn h) = (2 ∷ word conn) ++ word 296 ++ frame (auth_packet h)
-
-abbrev pub IsEvent : Event → Type 0
-IsEvent (Connect conn) = conn < 2 ^ 32
-IsEvent (Auth conn h) = (conn < 2 ^ 32) × IsHandshake h
+-- the bytes are refused so, behind these records
+abbrev pub IsRefused : List ℕ → Refusal → List ℕ → Type 0
+IsRefused bytes refusal records =
+    (NoneBegins bytes refusal × (records ≡ []))
+    ⊎ ((header : Header) × (before : List Event) × (here : Place) × Begins bytes header before here × StopsHere header before here refusal × (records ≡ records_by (new_world header) before))

@@ -1,10 +1,18 @@
-// What the definitions of a session mean.
-ghost use Rattle.std.specs.Prelude.{◌≡◌, ℕ, ◌≤◌, List, length};
-ghost use Rattle.px_app.specs.Session.{Header, Event};
-ghost use Rattle.px_app.specs.Roll.{IsSession};
+//! That each input is played or refused.
 
-/// A list of bytes is a session in one way at most, and then it is short. Nothing is done: the contract is the law.
-pub fn sessions_have_one_reading()
-    ensures one { (bytes : List ℕ) (h i : Header) (events others : List Event) → IsSession bytes h events → IsSession bytes i others → (h ≡ i) × (events ≡ others) }
-    ensures short { (bytes : List ℕ) (h : Header) (events : List Event) → IsSession bytes h events → length bytes ≤ 20182 }
+ghost use Rattle.std.specs.Prelude.{◌≡◌, ◌⊎◌, ℕ, List};
+ghost use Rattle.px_session.specs.declared.header.Header.{Header};
+ghost use Rattle.px_session.specs.declared.event.Event.{Event};
+ghost use Rattle.px_app.specs.declared.refusal.Refusal.{Refusal};
+ghost use Rattle.px_app.specs.Session.{IsPlayed, IsRefused};
+
+/// Each list of bytes is a session that is played, in one way, or is refused, and not both. It does nothing: its contract is
+/// the law.
+pub fn inputs_are_played_or_refused()
+    ensures either { (bytes : List ℕ) → ((header : Header) × (events : List Event) × IsPlayed bytes header events)
+        ⊎ ((refusal : Refusal) × (records : List ℕ) × IsRefused bytes refusal records) }
+    ensures never_both { (bytes : List ℕ) (header : Header) (events : List Event) (refusal : Refusal) (records : List ℕ)
+        → IsPlayed bytes header events → IsRefused bytes refusal records → ⊥ }
+    ensures one_way { (bytes : List ℕ) (header other : Header) (events others : List Event)
+        → IsPlayed bytes header events → IsPlayed bytes other others → (header ≡ other) × (events ≡ others) }
 {}

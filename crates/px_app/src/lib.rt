@@ -1,22 +1,23 @@
 //! The program's top call, `run`, and what it does by the words of the command line: `replay` plays a recorded session.
-//! It exports these two, `View`, `report`, which writes the line of a status to a log, and the law on sessions.
+//! It exports these two, `View`, `Ending`, the `Refusal`s of a session, `report`, which writes to a log how a run ended, and the
+//! law on inputs.
 #![tactic(auto)]
 
-mod answer;
+mod ending;
 mod law;
 mod log;
-mod memory;
-mod output;
-mod pieces;
+mod playing;
 mod program;
+mod reading;
+mod records;
+mod refusal;
 mod replaying;
-mod roll;
-mod session;
-mod world;
 
 pub use crate::log::report;
-pub use law::sessions_have_one_reading;
+pub use ending::Ending;
+pub use law::inputs_are_played_or_refused;
 pub use program::run;
+pub use refusal::{Refusal, Why};
 pub use replaying::{View, replay};
 
 #[cfg(test)]

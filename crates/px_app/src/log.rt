@@ -1,40 +1,55 @@
-// The line that the log gains for a status.
-ghost use Rattle.std.specs.Prelude.{◌≡◌, ◌≢◌};
-ghost use Rattle.px_types.specs.declared.status.Status.TheVariants as status;
-ghost use Rattle.px_app.specs.Replay.{log_line, Reported};
+//! The line that the log gains of how a run ended.
 
+ghost use Rattle.std.specs.Prelude.{◌≡◌, ◌≢◌};
+ghost use Rattle.px_app.specs.Ending.{line_of, IsRefusal};
+ghost use Rattle.px_app.specs.Report.{Wrote, Reported};
+ghost use Rattle.px_app.specs.declared.ending.Ending.TheVariants as ending;
+
+use crate::ending::Ending;
+use crate::refusal::refusal_line;
 use px_ends::{Sink, write_all};
 use px_types::Status;
+use std::alloc::Global;
 
-// The line, with its line end. None where nothing is said.
-fn line_of(status: Status) -> &'static [u8]
-    ensures { result.now ≡ log_line status }
+// The line of an ending other than a refusal, with its line end. Nothing where all went well.
+fn fixed_line(ended: Ending) -> &'static [u8]
+    requires { IsRefusal ended → ⊥ }
+    ensures { result.now ≡ line_of ended }
 {
-    match status {
-        Status::Ok => b"",
-        Status::Refused => b"pulse_rw: refused at 0: not built\n",
-        Status::Usage => {
+    match ended {
+        Ending::Done | Ending::Refused(_) => b"",
+        Ending::Usage => {
             b"pulse_rw: usage: replay [--raw SINK], summary, gen NUMBER COUNT, serve OPTIONS\n"
         }
-        Status::Memory => b"pulse_rw: out of memory\n",
-        Status::ReadFault => b"pulse_rw: read failed\n",
-        Status::WriteFault => b"pulse_rw: write failed\n",
-        Status::Device => b"pulse_rw: device failed\n",
-        Status::Host => b"pulse_rw: host failed\n",
-        Status::NoSuchSink => b"pulse_rw: no such sink\n",
-        Status::HistoryFull => b"pulse_rw: history full\n",
+        Ending::Memory => b"pulse_rw: out of memory\n",
+        Ending::ReadFault => b"pulse_rw: read failed\n",
+        Ending::WriteFault => b"pulse_rw: write failed\n",
     }
 }
 
-/// Writes the line of a status to the log. Where that fails, the status is `WriteFault`.
-pub fn report<L: Sink>(ended: Status, log: &mut L) -> Status
+// Writes the line of an ending to the log.
+fn write_line<L: Sink>(ended: Ending, line: &[u8], log: &mut L) -> Status
+    requires line { line.now ≡ line_of ended }
+    requires other { ended ≢ ending.Done }
+    ensures { Wrote ended result (L.held log.old) (L.held log.new) (L.faults log.old) (L.faults log.new) }
+{
+    match write_all(log, line) {
+        Ok(()) => ended.status(),
+        Err(_) => Status::WriteFault,
+    }
+}
+
+/// Writes the line of how a run ended to the log, if it has one, and answers the run's status. A refusal's line takes memory:
+/// where there is none, the run has ended for want of memory. Where the log can't be written, the status is `WriteFault`.
+pub fn report<L: Sink>(alloc: Global, ended: Ending, log: &mut L) -> Status
     ensures { Reported ended result (L.held log.old) (L.held log.new) (L.faults log.old) (L.faults log.new) }
 {
-    if ended == Status::Ok {
-        return ended;
-    }
-    match write_all(log, line_of(ended)) {
-        Ok(()) => ended,
-        Err(_) => Status::WriteFault,
+    match ended {
+        Ending::Done => Status::Ok,
+        Ending::Refused(refusal) => match refusal_line(alloc, refusal) {
+            Ok(line) => write_line(ended, line.as_bytes(), log),
+            Err(_) => write_line(Ending::Memory, fixed_line(Ending::Memory), log),
+        },
+        _ => write_line(ended, fixed_line(ended), log),
     }
 }

@@ -1,12 +1,18 @@
-// All that the program does.
+//! All that the program does.
+
 ghost use Rattle.std.specs.Prelude.{◌≡◌, ◌⊎◌, ◌≢◌, ◌↔◌, ℕ, IsTrue, map, string_bytes};
-ghost use Rattle.px_types.specs.declared.status.Status.{Status as Ended};
-ghost use Rattle.px_ends.specs.Told.{after_adding};
+ghost use Rattle.px_types.specs.declared.status.Status.{Status as Answered};
+ghost use Rattle.px_ends.specs.Told.{after_adding, WhereTold};
 ghost use Rattle.px_ends.specs.Faults.{Rose};
 ghost use Rattle.px_ends.specs.Whole.{AddsFront};
-ghost use Rattle.px_app.specs.Replay.{PlayedWhole, PlayedFront, WasNoSession, log_line};
+ghost use Rattle.px_app.specs.declared.ending.Ending.{Ending as Ended};
+ghost use Rattle.px_app.specs.declared.refusal.Refusal.{Refusal as Refused};
+ghost use Rattle.px_app.specs.Refusal.{refusal_line};
+ghost use Rattle.px_app.specs.Ending.{status_of, line_of};
+ghost use Rattle.px_app.specs.Replay.{PlayedWhole, WasRefused, PlayedFront, Completes};
 ghost use Rattle.px_app.specs.Words.{IsReplay, IsRunStatus};
 
+use crate::ending::Ending;
 use crate::log::report;
 use crate::replaying::{View, replay};
 use px_ends::{Host, Sink, Source};
@@ -34,24 +40,32 @@ pub fn run<R: AllocGlobal, S: Source, K: Sink, L: Sink, H: Host>(
     log: &mut L,
     _host: &mut H,
 ) -> Status
-    ensures ok { result ≡ Ended.Ok → IsReplay (map string_bytes words.now)
+    ensures ok { result ≡ Answered.Ok → IsReplay (map string_bytes words.now)
         × PlayedWhole (S.left input.old) (S.left input.new) (K.held output.old) (K.held output.new) }
-    ensures refused { result ≡ Ended.Refused → IsReplay (map string_bytes words.now)
-        × WasNoSession (S.left input.old) × (K.held output.new ≡ K.held output.old) }
-    ensures usage { result ≡ Ended.Usage → ¬ IsReplay (map string_bytes words.now) }
-    ensures memory { result ≡ Ended.Memory → IsReplay (map string_bytes words.now) × (K.held output.new ≡ K.held output.old) }
-    ensures read_fault { result ≡ Ended.ReadFault → IsReplay (map string_bytes words.now)
-        × Rose (S.faults input.old) (S.faults input.new) × (K.held output.new ≡ K.held output.old) }
-    ensures write_fault { result ≡ Ended.WriteFault → Rose (K.faults output.old) (K.faults output.new) ⊎ Rose (L.faults log.old) (L.faults log.new) }
-    ensures written { result ≡ Ended.WriteFault → PlayedFront (S.left input.old) (S.left input.new) (K.held output.old) (K.held output.new) ⊎ (K.held output.new ≡ K.held output.old) }
-    ensures other_words { ¬ IsReplay (map string_bytes words.now) → ((result ≡ Ended.Usage) ⊎ (result ≡ Ended.WriteFault))
+    ensures refused { result ≡ Answered.Refused → IsReplay (map string_bytes words.now) × ((refusal : Refused)
+        × WasRefused refusal (S.left input.old) (S.left input.new) (K.held output.old) (K.held output.new)
+        × (L.held log.new ≡ after_adding (L.held log.old) (refusal_line refusal))) }
+    ensures usage { result ≡ Answered.Usage → ¬ IsReplay (map string_bytes words.now) }
+    ensures memory { result ≡ Answered.Memory → IsReplay (map string_bytes words.now)
+        × PlayedFront (S.left input.old) (S.left input.new) (K.held output.old) (K.held output.new) }
+    ensures read_fault { result ≡ Answered.ReadFault → IsReplay (map string_bytes words.now)
+        × Rose (S.faults input.old) (S.faults input.new)
+        × PlayedFront (S.left input.old) (S.left input.new) (K.held output.old) (K.held output.new) }
+    ensures write_fault { result ≡ Answered.WriteFault → Rose (K.faults output.old) (K.faults output.new) ⊎ Rose (L.faults log.old) (L.faults log.new) }
+    ensures written { result ≡ Answered.WriteFault → PlayedFront (S.left input.old) (S.left input.new) (K.held output.old) (K.held output.new) }
+    ensures other_words { ¬ IsReplay (map string_bytes words.now) → ((result ≡ Answered.Usage) ⊎ (result ≡ Answered.WriteFault))
         × (S.left input.new ≡ S.left input.old) × (K.held output.new ≡ K.held output.old) }
-    ensures logged { result ≢ Ended.WriteFault → L.held log.new ≡ after_adding (L.held log.old) (log_line result) }
-    ensures log_front { result ≡ Ended.WriteFault → (ended : Ended) × AddsFront (log_line ended) (L.held log.old) (L.held log.new) }
+    ensures logged { result ≢ Answered.WriteFault → (ended : Ended) × (result ≡ status_of ended)
+        × (L.held log.new ≡ after_adding (L.held log.old) (line_of ended)) }
+    ensures log_front { result ≡ Answered.WriteFault → (ended : Ended) × AddsFront (line_of ended) (L.held log.old) (L.held log.new) }
     ensures others { IsRunStatus result }
+    // Where no read and no write fails, a session that is played ends so, unless memory ran out, and each other input is refused.
+    ensures complete { IsReplay (map string_bytes words.now) → ¬ Rose (S.faults input.old) (S.faults input.new)
+        → ¬ Rose (K.faults output.old) (K.faults output.new) → ¬ Rose (L.faults log.old) (L.faults log.new)
+        → WhereTold (S.left input.old) (Completes result) }
 {
     if !is_replay(words) {
-        return report(Status::Usage, log);
+        return report(rt.alloc(), Ending::Usage, log);
     }
     replay(rt.alloc(), View::Records, input, output, log)
 }

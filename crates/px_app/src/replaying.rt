@@ -1,85 +1,36 @@
-// The replay of a recorded session.
-ghost use Rattle.std.specs.Prelude.{◌≡◌, ◌⊎◌, ◌≢◌, ℕ, length, IfOk, MatchResult};
-ghost use Rattle.px_types.specs.declared.status.Status.{Status as Ended};
-ghost use Rattle.px_ends.specs.Told.{after_adding};
+//! The replay of a recorded session.
+
+ghost use Rattle.std.specs.Prelude.{◌≡◌, ◌⊎◌, ◌≢◌, ℕ};
+ghost use Rattle.px_types.specs.declared.status.Status.{Status as Answered};
+ghost use Rattle.px_ends.specs.Told.{after_adding, WhereTold};
 ghost use Rattle.px_ends.specs.Faults.{Rose};
 ghost use Rattle.px_ends.specs.Whole.{AddsFront};
-ghost use Rattle.px_app.specs.Replay.{PlayedWhole, PlayedFront, WasNoSession, log_line, BytesPlayed, BytesCounted, InputPlayed, InputCounted, IsReplayStatus};
+ghost use Rattle.px_app.specs.declared.ending.Ending.{Ending as Ended};
+ghost use Rattle.px_app.specs.declared.refusal.Refusal.{Refusal as Refused};
+ghost use Rattle.px_app.specs.Refusal.{refusal_line};
+ghost use Rattle.px_app.specs.Ending.{status_of, line_of};
+ghost use Rattle.px_app.specs.Replay.{PlayedWhole, WasRefused, PlayedFront, Completes, IsReplayStatus};
 
 use crate::log::report;
-use crate::memory::OutOfMemory;
-use crate::world::play;
-use px_ends::{Filled, Sink, Source, fill, write_all};
+use crate::playing::play;
+use px_ends::{Sink, Source};
 use px_types::Status;
 use std::alloc::Global;
 
 /// What a replay shows of a session.
 #[derive(Clone, Copy, Debug, PartialEq, Eq)]
 pub enum View {
-    /// Each effect, as one record.
+    /// Each effect and each turn's frames, as records.
     Records,
 }
 
-/// How many bytes are read at once. A session has fewer, so a full buffer is no session.
-const PIECE: usize = 65_536;
-
-// Room for so many bytes.
-fn buffer_of(alloc: Global, size: usize) -> Result<Vec<u8>, OutOfMemory>
-    ensures { IfOk result (λ buffer. length buffer.items ≡ size) }
-{
-    Ok(vec![in alloc; 0u8; size]?)
-}
-
-// Plays the bytes of a whole input.
-fn play_bytes<K: Sink>(alloc: Global, bytes: &[u8], output: &mut K) -> Result<Status, OutOfMemory>
-    ensures played { MatchResult result (λ ended. BytesPlayed ended bytes.now (K.held output.old) (K.held output.new)) (λ _. K.held output.new ≡ K.held output.old) }
-    ensures counted { MatchResult result (λ ended. BytesCounted ended (K.faults output.old) (K.faults output.new)) (λ _. K.faults output.new ≡ K.faults output.old) }
-{
-    let Some(played) = play(alloc, bytes)? else {
-        return Ok(Status::Refused);
-    };
-    match write_all(output, &played) {
-        Ok(()) => Ok(Status::Ok),
-        Err(_) => Ok(Status::WriteFault),
-    }
-}
-
-// Reads the input as far as a session can go, and plays it.
-fn read_and_play<S: Source, K: Sink>(
-    alloc: Global,
-    input: &mut S,
-    output: &mut K,
-) -> Result<Status, OutOfMemory>
-    ensures played { MatchResult result (λ ended. InputPlayed ended (S.left input.old) (S.left input.new) (K.held output.old) (K.held output.new)) (λ _. K.held output.new ≡ K.held output.old) }
-    ensures counted { MatchResult result
-        (λ ended. InputCounted ended (S.faults input.old) (S.faults input.new) (K.faults output.old) (K.faults output.new))
-        (λ _. (S.faults input.new ≡ S.faults input.old) × (K.faults output.new ≡ K.faults output.old)) }
-{
-    let mut buffer = buffer_of(alloc, PIECE)?;
-    match fill(input, &mut buffer) {
-        Filled::Full => Ok(Status::Refused),
-        Filled::Ended(count) => play_bytes(alloc, &buffer[..count], output),
-        Filled::Failed => Ok(Status::ReadFault),
-    }
-}
-
-// Plays the input.
-fn play_input<S: Source, K: Sink>(alloc: Global, input: &mut S, output: &mut K) -> Status
-    ensures played { InputPlayed result (S.left input.old) (S.left input.new) (K.held output.old) (K.held output.new) }
-    ensures counted { InputCounted result (S.faults input.old) (S.faults input.new) (K.faults output.old) (K.faults output.new) }
-{
-    match read_and_play(alloc, input, output) {
-        Ok(ended) => ended,
-        Err(_) => Status::Memory,
-    }
-}
-
-/// Replays a recorded session: reads it from `input`, and writes to `output` a record for each packet that the server sends,
-/// in order, and then the end byte. A status other than `Ok` has its line in `log`; where that line can't be written, the
-/// status is `WriteFault`.
+/// Replays a recorded session: reads it from `input`, plays its events one by one in a world of the session's header, and
+/// writes to `output` a record for each effect and for the frames of each turn, in order, and then the end byte. A status other
+/// than `Ok` has its line in `log`; where that line can't be written, the status is `WriteFault`.
 ///
-/// A session here is a header with one sink of S16LE samples on one channel, at most 64 clients that connect, each of which
-/// sends at most one AUTH packet, and the end byte. Each other input is `Refused`, and nothing is written for it.
+/// `Refused` is the first rule of sessions that the bytes break, a header that isn't built, or the first event that names a
+/// state which the world hasn't; the log has the offset and the cause, and the output the records of the events before.
+/// After `Memory`, `ReadFault` and `WriteFault` the output gained a front of what the bytes that were read give.
 pub fn replay<S: Source, K: Sink, L: Sink>(
     alloc: Global,
     view: View,
@@ -87,20 +38,27 @@ pub fn replay<S: Source, K: Sink, L: Sink>(
     output: &mut K,
     log: &mut L,
 ) -> Status
-    ensures ok { result ≡ Ended.Ok → PlayedWhole (S.left input.old) (S.left input.new) (K.held output.old) (K.held output.new) }
-    ensures refused { result ≡ Ended.Refused → WasNoSession (S.left input.old) × (K.held output.new ≡ K.held output.old) }
-    ensures memory { result ≡ Ended.Memory → K.held output.new ≡ K.held output.old }
-    ensures read_fault { result ≡ Ended.ReadFault → Rose (S.faults input.old) (S.faults input.new) × (K.held output.new ≡ K.held output.old) }
-    ensures write_fault { result ≡ Ended.WriteFault → Rose (K.faults output.old) (K.faults output.new) ⊎ Rose (L.faults log.old) (L.faults log.new) }
-    ensures written { result ≡ Ended.WriteFault → PlayedFront (S.left input.old) (S.left input.new) (K.held output.old) (K.held output.new) ⊎ (K.held output.new ≡ K.held output.old) }
-    ensures logged { result ≢ Ended.WriteFault → L.held log.new ≡ after_adding (L.held log.old) (log_line result) }
-    ensures log_front { result ≡ Ended.WriteFault → (ended : Ended) × AddsFront (log_line ended) (L.held log.old) (L.held log.new) }
+    ensures ok { result ≡ Answered.Ok → PlayedWhole (S.left input.old) (S.left input.new) (K.held output.old) (K.held output.new) }
+    ensures refused { result ≡ Answered.Refused → (refusal : Refused)
+        × WasRefused refusal (S.left input.old) (S.left input.new) (K.held output.old) (K.held output.new)
+        × (L.held log.new ≡ after_adding (L.held log.old) (refusal_line refusal)) }
+    ensures memory { result ≡ Answered.Memory → PlayedFront (S.left input.old) (S.left input.new) (K.held output.old) (K.held output.new) }
+    ensures read_fault { result ≡ Answered.ReadFault → Rose (S.faults input.old) (S.faults input.new)
+        × PlayedFront (S.left input.old) (S.left input.new) (K.held output.old) (K.held output.new) }
+    ensures write_fault { result ≡ Answered.WriteFault → Rose (K.faults output.old) (K.faults output.new) ⊎ Rose (L.faults log.old) (L.faults log.new) }
+    ensures written { result ≡ Answered.WriteFault → PlayedFront (S.left input.old) (S.left input.new) (K.held output.old) (K.held output.new) }
+    ensures logged { result ≢ Answered.WriteFault → (ended : Ended) × (result ≡ status_of ended)
+        × (L.held log.new ≡ after_adding (L.held log.old) (line_of ended)) }
+    ensures log_front { result ≡ Answered.WriteFault → (ended : Ended) × AddsFront (line_of ended) (L.held log.old) (L.held log.new) }
     ensures others { IsReplayStatus result }
+    // Where no read and no write fails, a session that is played ends so, unless memory ran out, and each other input is refused.
+    ensures complete { ¬ Rose (S.faults input.old) (S.faults input.new) → ¬ Rose (K.faults output.old) (K.faults output.new)
+        → ¬ Rose (L.faults log.old) (L.faults log.new) → WhereTold (S.left input.old) (Completes result) }
 {
     match view {
         View::Records => {
-            let ended = play_input(alloc, input, output);
-            report(ended, log)
+            let ended = play(alloc, input, output);
+            report(alloc, ended, log)
         }
     }
 }

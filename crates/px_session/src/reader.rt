@@ -50,6 +50,13 @@ impl Reader {
         })
     }
 
+    /// How many bytes of the session were read. Takes no memory.
+    pub fn at(&self) -> u64
+        ensures { result ≡ self.now.at }
+    {
+        self.at
+    }
+
     // What stands next in the bytes that it took from the source.
     fn advance<S: Source>(&mut self, input: &mut S) -> Result<Step, ReadError>
         ensures takes { Takes result self.old self.new (S.left input.old) (S.left input.new) }

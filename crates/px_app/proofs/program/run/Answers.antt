@@ -1,6 +1,9 @@
-use Rattle.px_types.specs.declared.status.Status.TheVariants as status
-use Rattle.px_app.proofs.ReportLaws.{reported_front}
+use Rattle.std.proofs.Common.{[], sym}
+use Rattle.px_ends.proofs.ToldBytes.{taking_nothing}
+use Rattle.px_app.proofs.PlayLaws.{nothing_played}
 use Rattle.px_app.proofs.program.run.Goals as goal
 
-pub returns-then-not-is_replay-clause-log_front : goal.returns-then-not-is_replay-clause-log_front
-returns-then-not-is_replay-clause-log_front g c = λ _. reported_front status.Usage c.report.result (g.L.Sink.held c.args.log.now) (g.L.Sink.held c.report.new.log) (g.L.Sink.faults c.args.log.now) (g.L.Sink.faults c.report.new.log) c.report.ensures
+pub returns-then-not-is_replay-clause-written : goal.returns-then-not-is_replay-clause-written
+returns-then-not-is_replay-clause-written g c = λ is.
+    let left = g.S.Source.left c.args.input.now in
+    nothing_played [] left left (g.K.Sink.held c.args.output.now) (sym (taking_nothing left))

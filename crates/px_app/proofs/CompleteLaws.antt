@@ -1,0 +1,130 @@
+-- A session that is played isn't refused, and what isn't played is refused.
+use Rattle.std.proofs.Common.{◌≡◌, inl, inr, ℕ, List, [], ◌∷◌, ◌++◌, Option, None, Some, Result, Ok, Err, refl, sym, ap, subst, ◌∙◌}
+use Rattle.std.proofs.lemmas.List.{append-nil}
+use Rattle.px_types.specs.declared.status.Status.{Status}
+use Rattle.px_types.specs.declared.status.Status.TheVariants as status
+use Rattle.px_ends.specs.Told.{before_taking, IsAtEnd, WhereTold}
+use Rattle.px_session.specs.declared.header.Header.{Header}
+use Rattle.px_session.specs.declared.event.Event.{Event}
+use Rattle.px_session.specs.declared.event.Step.{Step}
+use Rattle.px_session.specs.declared.event.Step.TheVariants as step
+use Rattle.px_session.specs.Place.{Place, Refusal as Broken, start_of}
+use Rattle.px_session.specs.HeaderReading.{header_at}
+use Rattle.px_session.specs.EventReading.{event_at}
+use Rattle.px_session.specs.Session.{Ended, Stand}
+use Rattle.px_session.proofs.Steady.{answer, refused, ok_is}
+use Rattle.px_session.proofs.SessionLaws.{lead_one}
+use Rattle.px_world.specs.declared.fault.WorldFault.{WorldFault}
+use Rattle.px_world.specs.World.{World, new_world}
+use Rattle.px_world.specs.Admission.{refusal_of}
+use Rattle.px_world.specs.Output.{world_by, AreAdmitted}
+use Rattle.px_world.proofs.Runs.{admitted-split}
+use Rattle.px_app.specs.declared.refusal.Refusal.{Refusal}
+use Rattle.px_app.specs.Built.{IsBuilt}
+use Rattle.px_app.specs.Session.{IsPlayed, Begins, NoneBegins, StopsHere, IsRefused}
+use Rattle.px_app.specs.Replay.{PlayedWhole, WasRefused, Completes, IsReplayStatus}
+
+-- ---- one answer
+
+not_both : {A : Type 0} (r : Result (A × Place) Broken) (x : A × Place) (f : Broken) → r ≡ Ok x → r ≡ Err f → ⊥
+not_both r x f a b = never x f (sym a ∙ b)
+  where
+    never : {A : Type 0} (x : A × Place) (f : Broken) → answer x ≡ refused f → ⊥
+    never x f e = cc
+
+same_answer : {A : Type 0} (r : Result (A × Place) Broken) (x y : A × Place) → r ≡ Ok x → r ≡ Ok y → x ≡ y
+same_answer r x y a b = ok_is x y (sym a ∙ b)
+
+end_no_event : (e : Event) → step.End ≡ step.Event e → ⊥
+end_no_event e same = cc
+
+event_is : (d e : Event) → step.Event d ≡ step.Event e → d ≡ e
+event_is d e same = cc
+
+none_no_some : (fault : WorldFault) → (let r : Option WorldFault = None in r) ≡ Some fault → ⊥
+none_no_some fault e = cc
+
+-- ---- played, and not refused
+
+-- the event behind the first ones is admitted
+admitted_there : (w : World) (before : List Event) (e : Event) (rest : List Event) → AreAdmitted w (before ++ e ∷ rest) → refusal_of (world_by w before) e ≡ None
+admitted_there w before e rest are = (admitted-split w before (e ∷ rest) are).1.0
+
+stands_no_refusal : (rest : List Event) (here : Place) (f : Broken) → Stand rest Ended here → event_at here ≡ Err f → ⊥
+stands_no_refusal [] here f s e = not_both (event_at here) (step.End, s.0) f s.1 e
+stands_no_refusal (d ∷ rest) here f s e = not_both (event_at here) (step.Event d, s.0) f s.1 e
+
+admits_next : (w : World) (before rest : List Event) (here after : Place) (e : Event) (fault : WorldFault) → AreAdmitted w (before ++ rest) → Stand rest Ended here → event_at here ≡ Ok (step.Event e, after) → refusal_of (world_by w before) e ≡ Some fault → ⊥
+admits_next w before [] here after e fault are s read refuses = end_no_event e (ap (λ (z : Step × Place). z.0) (same_answer (event_at here) (step.End, s.0) (step.Event e, after) s.1 read))
+admits_next w before (d ∷ rest) here after e fault are s read refuses =
+    let same = event_is d e (ap (λ (z : Step × Place). z.0) (same_answer (event_at here) (step.Event d, s.0) (step.Event e, after) s.1 read)) in
+    none_no_some fault (sym (admitted_there w before d rest are) ∙ ap (refusal_of (world_by w before)) same ∙ refuses)
+
+goes_past : (header : Header) (before events : List Event) (start here : Place) (refusal : Refusal) → AreAdmitted (new_world header) events → (rest : List Event) × (events ≡ before ++ rest) × Stand rest Ended here → StopsHere header before here refusal → ⊥
+goes_past header before events start here refusal are split (inl none) = stands_no_refusal split.0 here none.0 split.2 none.1
+goes_past header before events start here refusal are split (inr barred) =
+    admits_next (new_world header) before split.0 here barred.1 barred.0 barred.2 (subst (AreAdmitted (new_world header)) split.1 are) split.2 barred.3 barred.4
+
+headers_are : (g h : Header) (a b : Place) → (let x : Header × Place = (g, a) in x) ≡ (h, b) → (g ≡ h) × (a ≡ b)
+headers_are g h a b same = (ap (λ (z : Header × Place). z.0) same, ap (λ (z : Header × Place). z.1) same)
+
+begins_none : (bytes : List ℕ) (header : Header) (events : List Event) (refusal : Refusal) → IsPlayed bytes header events → NoneBegins bytes refusal → ⊥
+begins_none bytes header events refusal p (inl none) = not_both (header_at (start_of bytes)) (header, p.session.0) none.0 p.session.1 none.1
+begins_none bytes header events refusal p (inr other) =
+    let same = headers_are header other.0 p.session.0 other.1 (same_answer (header_at (start_of bytes)) (header, p.session.0) (other.0, other.1) p.session.1 other.2) in
+    other.3 (subst IsBuilt same.0 p.built)
+
+begins_same : (bytes : List ℕ) (header : Header) (events : List Event) (h : Header) (before : List Event) (here : Place) (refusal : Refusal) → IsPlayed bytes header events → Begins bytes h before here → StopsHere h before here refusal → ⊥
+begins_same bytes header events h before here refusal p b stops =
+    let same = headers_are header h p.session.0 b.start (same_answer (header_at (start_of bytes)) (header, p.session.0) (h, b.start) p.session.1 b.head) in
+    let split = lead_one before events Ended b.start here b.lead (subst (Stand events Ended) same.1 p.session.2) in
+    goes_past h before events b.start here refusal (subst (λ (g : Header). AreAdmitted (new_world g) events) same.0 p.admitted) split stops
+
+pub not_refused : (bytes : List ℕ) (header : Header) (events : List Event) (refusal : Refusal) (records : List ℕ) → IsPlayed bytes header events → IsRefused bytes refusal records → ⊥
+not_refused bytes header events refusal records p (inl none) = begins_none bytes header events refusal p none.0
+not_refused bytes header events refusal records p (inr s) = begins_same bytes header events s.0 s.1 s.2 refusal p s.3 s.4
+
+-- ---- where the source tells
+
+at_end_is : (bytes left : List ℕ) → left ≡ [] → bytes ≡ bytes ++ left
+at_end_is bytes left end = sym (append-nil bytes) ∙ ap (λ (l : List ℕ). bytes ++ l) (sym end)
+
+-- all that the source had is played
+played_told : (bytes : List ℕ) (header : Header) (events : List Event) (before after : Option (List ℕ)) → before ≡ before_taking bytes after → IsAtEnd after → IsPlayed bytes header events → WhereTold before (λ all. IsPlayed all header events)
+played_told bytes header events before None same end p = subst (λ (b : Option (List ℕ)). WhereTold b (λ all. IsPlayed all header events)) (sym same) tt
+played_told bytes header events before (Some left) same end p = subst (λ (b : Option (List ℕ)). WhereTold b (λ all. IsPlayed all header events)) (sym same) (subst (λ (all : List ℕ). IsPlayed all header events) (at_end_is bytes left end) p)
+
+abbrev OkFor : Status → List ℕ → Type 0
+OkFor answered bytes = answered ≡ status.Ok → (header : Header) × (events : List Event) × IsPlayed bytes header events
+
+abbrev RefusedFor : Status → List ℕ → Type 0
+RefusedFor answered bytes = answered ≡ status.Refused → (refusal : Refusal) × (records : List ℕ) × IsRefused bytes refusal records
+
+completes : (answered : Status) (bytes : List ℕ) → OkFor answered bytes → RefusedFor answered bytes → (answered ≡ status.ReadFault → ⊥) → (answered ≡ status.WriteFault → ⊥) → IsReplayStatus answered → Completes answered bytes
+completes status.Ok bytes ok refused read write among = record {
+  played = λ header events p. inl refl;
+  not_played = λ none. (let s = ok refl in absurd (none s.0 s.1 s.2));
+}
+completes status.Refused bytes ok refused read write among = record {
+  played = λ header events p. (let s = refused refl in absurd (not_refused bytes header events s.0 s.1 p s.2));
+  not_played = λ none. inl refl;
+}
+completes status.Memory bytes ok refused read write among = record { played = λ header events p. inr refl; not_played = λ none. inr refl }
+completes status.ReadFault bytes ok refused read write among = absurd (read refl)
+completes status.WriteFault bytes ok refused read write among = absurd (write refl)
+completes status.Usage bytes ok refused read write among = absurd among
+completes status.Device bytes ok refused read write among = absurd among
+completes status.Host bytes ok refused read write among = absurd among
+completes status.NoSuchSink bytes ok refused read write among = absurd among
+completes status.HistoryFull bytes ok refused read write among = absurd among
+
+ok_told : (answered : Status) (bytes : List ℕ) (left_after held_before held_after : Option (List ℕ)) → (answered ≡ status.Ok → PlayedWhole (Some bytes) left_after held_before held_after) → OkFor answered bytes
+ok_told answered bytes left_after held_before held_after ok is =
+    let w = ok is in
+    (w.header, w.events, played_told w.bytes w.header w.events (Some bytes) left_after w.departed w.at_end w.played)
+
+pub complete : (answered : Status) (left_before left_after held_before held_after : Option (List ℕ)) → (answered ≡ status.Ok → PlayedWhole left_before left_after held_before held_after) → (answered ≡ status.Refused → (refusal : Refusal) × WasRefused refusal left_before left_after held_before held_after)
+    → (answered ≡ status.ReadFault → ⊥) → (answered ≡ status.WriteFault → ⊥) → IsReplayStatus answered → WhereTold left_before (Completes answered)
+complete answered None left_after held_before held_after ok refused read write among = tt
+complete answered (Some bytes) left_after held_before held_after ok refused read write among =
+    completes answered bytes (ok_told answered bytes left_after held_before held_after ok) (λ is. (let s = refused is in (s.0, s.1.records, s.1.whole))) read write among

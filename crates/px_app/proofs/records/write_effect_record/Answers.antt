@@ -1,0 +1,25 @@
+use Rattle.std.proofs.Common.{◌≡◌, ℕ, List, OnOk, OnErr, subst}
+use Rattle.px_ends.specs.Told.{after_adding}
+use Rattle.px_ends.specs.Whole.{AddsFront}
+use Rattle.px_app.proofs.RecordLaws.{sent_is, closed_is}
+use Rattle.px_app.proofs.records.write_effect_record.Goals as goal
+
+pub returns-else-bytes-gt-MOST-clause-ok : goal.returns-else-bytes-gt-MOST-clause-ok
+returns-else-bytes-gt-MOST-clause-ok g c =
+    rw c.in-Sent.is (subst (λ (bytes : List ℕ). OnOk c.write_one.result (g.K.Sink.held c.write_one.new.output ≡ after_adding (g.K.Sink.held c.args.output.now) bytes))
+    (sent_is c.in-Sent.conn c.in-Sent.packet c.bytes-bytes.result c.bytes-bytes.ensures) c.write_one.ensures.ok)
+
+pub returns-else-bytes-gt-MOST-clause-err : goal.returns-else-bytes-gt-MOST-clause-err
+returns-else-bytes-gt-MOST-clause-err g c =
+    rw c.in-Sent.is (subst (λ (bytes : List ℕ). OnErr c.write_one.result (AddsFront bytes (g.K.Sink.held c.args.output.now) (g.K.Sink.held c.write_one.new.output)))
+    (sent_is c.in-Sent.conn c.in-Sent.packet c.bytes-bytes.result c.bytes-bytes.ensures) c.write_one.ensures.err)
+
+pub returns-in-Closed-clause-ok : goal.returns-in-Closed-clause-ok
+returns-in-Closed-clause-ok g c =
+    rw c.in-Closed.is (subst (λ (bytes : List ℕ). OnOk c.write_one-in-Closed.result (g.K.Sink.held c.write_one-in-Closed.new.output ≡ after_adding (g.K.Sink.held c.args.output.now) bytes))
+    (closed_is c.in-Closed.conn c.in-Closed.reason c.code.result c.in-Closed.fault c.in-Closed.at c.code.ensures) c.write_one-in-Closed.ensures.ok)
+
+pub returns-in-Closed-clause-err : goal.returns-in-Closed-clause-err
+returns-in-Closed-clause-err g c =
+    rw c.in-Closed.is (subst (λ (bytes : List ℕ). OnErr c.write_one-in-Closed.result (AddsFront bytes (g.K.Sink.held c.args.output.now) (g.K.Sink.held c.write_one-in-Closed.new.output)))
+    (closed_is c.in-Closed.conn c.in-Closed.reason c.code.result c.in-Closed.fault c.in-Closed.at c.code.ensures) c.write_one-in-Closed.ensures.err)

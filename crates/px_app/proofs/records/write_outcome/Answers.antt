@@ -1,0 +1,31 @@
+use Rattle.std.proofs.Common.{◌≡◌, ℕ, List, ap, subst, ◌∙◌}
+use Rattle.std.specs.List.{flat_map}
+use Rattle.std.proofs.lemmas.Result.{err_from_is_err_and, on_err_weaker}
+use Rattle.px_core.specs.declared.effect.Effect.{Effect}
+use Rattle.px_ends.specs.Told.{after_adding}
+use Rattle.px_ends.specs.Whole.{AddsFront}
+use Rattle.px_world.specs.Output.{effect_record}
+use Rattle.px_app.specs.Step.{played_part}
+use Rattle.px_app.proofs.FrontLaws.{first_cut, second_cut}
+use Rattle.px_app.proofs.records.write_outcome.Goals as goal
+
+pub returns-in_err-write_effects-clause-err : goal.returns-in_err-write_effects-clause-err
+returns-in_err-write_effects-clause-err g c =
+    let effects = flat_map effect_record c.args.outcome.now.effects in
+    let played = played_part c.args.sink c.args.outcome.now.frames c.args.outcome.now.played in
+    let old = g.K.Sink.held c.args.output.now in
+    let now = g.K.Sink.held c.write_effects.new.output in
+    let cut = subst (λ (es : List Effect). AddsFront (flat_map effect_record es) old now) c.as_slice.ensures c.in_err-write_effects.ensures.err in
+    let p = err_from_is_err_and c.from_residual.result c.from_residual.ensures.1 in
+    rw (p.1) (first_cut effects played old now cut)
+
+pub returns-clause-err : goal.returns-clause-err
+returns-clause-err g c =
+    let effects = flat_map effect_record c.args.outcome.now.effects in
+    let old = g.K.Sink.held c.args.output.now in
+    let mid = g.K.Sink.held c.write_effects.new.output in
+    let now = g.K.Sink.held c.write_played.new.output in
+    let first : mid ≡ after_adding old effects = c.in_ok-write_effects.ensures.ok ∙ ap (λ (es : List Effect). after_adding old (flat_map effect_record es)) c.as_slice.ensures in
+    on_err_weaker c.write_played.result
+    (λ cut. second_cut effects (played_part c.args.sink c.args.outcome.now.frames c.args.outcome.now.played) old mid now first
+    (subst (λ (bytes : List ℕ). AddsFront (played_part c.args.sink c.args.outcome.now.frames bytes) mid now) c.as_slice-2.ensures cut)) c.write_played.ensures.err

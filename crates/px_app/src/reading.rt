@@ -1,0 +1,64 @@
+//! What stands next in a session: its header, and then its events.
+
+ghost use Rattle.std.specs.Prelude.{◌≡◌, ◌<◌, ◌≤◌, ◌^◌, true, false, IfOk, OnOk, IfSome};
+ghost use Rattle.px_session.specs.Reader.{Takes};
+ghost use Rattle.px_session.specs.HeaderRules.{IsHeader};
+ghost use Rattle.px_session.specs.EventRules.{IsEvent};
+ghost use Rattle.px_session.specs.Held.{ReadCounts};
+ghost use Rattle.px_app.specs.Step.{header_step, event_step, unread};
+
+use crate::ending::Ending;
+use crate::refusal::{Refusal, Why};
+use px_ends::Source;
+use px_session::{Event, Header, ReadError, Reader, Step};
+
+/// The header.
+pub(crate) fn next_header<S: Source>(
+    reader: &mut Reader,
+    input: &mut S,
+) -> Result<Header, ReadError>
+    requires { reader.old.begun ≡ false }
+    ensures takes { Takes (header_step result) reader.old reader.new (S.left input.old) (S.left input.new) }
+    ensures lawful { IfOk result IsHeader }
+    ensures counts { ReadCounts result (S.faults input.old) (S.faults input.new) }
+{
+    match reader.next(input) {
+        Ok(Step::Header(header)) => Ok(header),
+        Ok(Step::Event(_)) => unreachable!(),
+        Ok(Step::End) => unreachable!(),
+        Err(e) => Err(e),
+    }
+}
+
+/// The next event behind the header, or `None` at the end.
+pub(crate) fn next_event<S: Source>(
+    reader: &mut Reader,
+    input: &mut S,
+) -> Result<Option<Event>, ReadError>
+    requires { reader.old.begun ≡ true }
+    ensures takes { Takes (event_step result) reader.old reader.new (S.left input.old) (S.left input.new) }
+    ensures lawful { IfOk result (λ found. IfSome found IsEvent) }
+    ensures forward { OnOk result ((reader.old.at < reader.new.at) × (reader.new.at ≤ 2 ^ 40)) }
+    ensures counts { ReadCounts result (S.faults input.old) (S.faults input.new) }
+{
+    match reader.next(input) {
+        Ok(Step::Event(e)) => Ok(Some(e)),
+        Ok(Step::End) => Ok(None),
+        Ok(Step::Header(_)) => unreachable!(),
+        Err(e) => Err(e),
+    }
+}
+
+/// How a run ends where nothing more is read.
+pub(crate) fn unread(e: ReadError) -> Ending
+    ensures { result ≡ unread e }
+{
+    match e {
+        ReadError::Refused { at, cause } => Ending::Refused(Refusal {
+            at,
+            why: Why::Session(cause),
+        }),
+        ReadError::Failed => Ending::ReadFault,
+        ReadError::NoMemory => Ending::Memory,
+    }
+}
