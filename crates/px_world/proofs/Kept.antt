@@ -1,19 +1,16 @@
 -- A world keeps what it keeps over the steps of an event and over a turn.
-use Rattle.std.proofs.Common.{◌≡◌, ℕ, zero, suc, ◌-◌, ◌≤◌, List, [], ◌∷◌, ◌++◌, map, take, length, Option, Some, None, Bool, true, false, inl, inr, ◌⊎◌, refl, ap, sym, subst, ◌∙◌, arith, cond, append-nil}
-use Rattle.std.specs.Prelude.{set, replicate, slice_get, ◌||◌, ⊤}
+use Rattle.std.proofs.Common.{◌≡◌, ℕ, zero, suc, ◌-◌, ◌≤◌, List, [], ◌∷◌, ◌++◌, map, take, length, Option, Some, inl, inr, ◌⊎◌, refl, ap, sym, subst, ◌∙◌, arith, append-nil}
+use Rattle.std.specs.Prelude.{set, replicate, slice_get}
 use Rattle.std.specs.List.{AllByRecursion}
 use Rattle.std.proofs.lemmas.Bool.{cond_both}
-use Rattle.std.proofs.lemmas.Option.{slice_get_within}
 use Rattle.std.proofs.lemmas.List.{length-set}
 use Rattle.px_types.specs.declared.ids.SinkId.{SinkId}
 use Rattle.px_session.specs.declared.header.SinkSpec.{SinkSpec}
 use Rattle.px_msg.specs.declared.message.Msg.{Msg}
 use Rattle.px_msg.specs.declared.message.Msg.TheVariants.{New, Attach, Detach, Write, Cork, Flush, Trigger, Prebuf, Drain, Attr, Factors, Query}
-use Rattle.px_msg.specs.View.{sample_spec, message_of}
-use Rattle.px_model.specs.Frame.{SampleSpec}
+use Rattle.px_msg.specs.View.{message_of}
 use Rattle.px_model.specs.Message.{Message}
-use Rattle.px_model.specs.Notice.{Notice}
-use Rattle.px_model.specs.Orderly.{Inputs, IsOrderly, inputs_left_by}
+use Rattle.px_model.specs.Orderly.{IsOrderly, inputs_left_by}
 use Rattle.px_model.specs.Sink.{Sink, IsSink, specs_of}
 use Rattle.px_model.specs.Stream.{Stream}
 use Rattle.px_model.specs.Turn.{AreFor, BringsStream, turned, stopped_turn, turn_notices, stopped_notices}

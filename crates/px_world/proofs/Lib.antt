@@ -10,3 +10,8 @@ pub mod Computed
 pub mod Kept
 pub mod Played
 pub mod Shapes
+pub mod Going
+pub mod Doing
+pub mod Sounding
+pub mod Standings
+pub mod Beginning

@@ -1,6 +1,6 @@
 -- A turn whose device was set to consume so many frames.
-use Rattle.std.proofs.Common.{◌≡◌, ℕ, ◌+◌, ◌-◌, ◌≤◌, min, List, [], ◌++◌, Bool, true, false, Option, Some, refl, ap, sym, subst, ◌∙◌, arith, cond}
-use Rattle.std.specs.Prelude.{IsFalse, ◌||◌, length, take}
+use Rattle.std.proofs.Common.{◌≡◌, ℕ, ◌-◌, ◌≤◌, min, List, [], ◌++◌, Bool, true, false, Option, Some, refl, ap, sym, ◌∙◌, arith}
+use Rattle.std.specs.Prelude.{IsFalse, ◌||◌, length}
 use Rattle.std.specs.List.{concat}
 use Rattle.std.proofs.lemmas.Bool.{cond-false}
 use Rattle.std.proofs.lemmas.List.{length-take-le}
@@ -11,7 +11,7 @@ use Rattle.px_model.specs.Notice.{Notice}
 use Rattle.px_model.specs.Sink.{Sink, IsSink}
 use Rattle.px_model.specs.Stream.{Stream}
 use Rattle.px_model.specs.Turn.{turned, turn_notices, stopped_turn, stopped_notices, played_by}
-use Rattle.px_lane.specs.Lane.{Mixer as Lane, IsAttached}
+use Rattle.px_lane.specs.Lane.{IsAttached}
 use Rattle.px_lane.specs.Samples.{samples}
 use Rattle.px_lane.specs.Turned.{Plays}
 use Rattle.px_world.specs.Event.{is_to_stop, mixer_turned, played_of}

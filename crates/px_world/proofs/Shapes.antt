@@ -1,5 +1,5 @@
 -- The device of a sink of a header.
-use Rattle.std.proofs.Common.{◌≡◌, ℕ, ◌*◌, ◌≤◌, List, refl, sym, arith, Some}
+use Rattle.std.proofs.Common.{ℕ, ◌*◌, ◌≤◌, List, refl, sym, arith}
 use Rattle.px_sample.specs.declared.format.Format.{Format}
 use Rattle.px_sample.specs.declared.format.Format.TheVariants.{U8, Alaw, Ulaw, S16Le, S16Be, Float32Le, Float32Be, S32Le, S32Be, S24Le, S24Be, S24In32Le, S24In32Be}
 use Rattle.px_sample.specs.Format.{size_of, frame_size_of}

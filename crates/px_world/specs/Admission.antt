@@ -1,8 +1,6 @@
 -- Which events a world admits, and the first cause for which it doesn't: the number that is named or the sink that is there, then a sink that is worn, then the frames, then the messages or notices.
-use Rattle.std.specs.Prelude.{ℕ, ◌-◌, ◌^◌, Bool, cond, is_some, nat_lt, List, length, Option, None, Some}
+use Rattle.std.specs.Prelude.{ℕ, ◌-◌, ◌^◌, cond, nat_lt, length, Option, None, Some}
 use Rattle.std.specs.List.{slice_get}
-use Rattle.px_types.specs.declared.ids.ConnId.{ConnId}
-use Rattle.px_types.specs.declared.ids.SinkId.{SinkId}
 use Rattle.px_session.specs.declared.event.Event.{Event}
 use Rattle.px_session.specs.declared.event.Event.TheVariants.{Connect, Bytes, Close, Cut, Turn, Collect}
 use Rattle.px_core.specs.Out.{waiting_for}

@@ -1,8 +1,7 @@
 -- What an event does to a world: it is a list of steps of the core with a sweep behind them, and a turn of a sink, or none.
-use Rattle.std.specs.Prelude.{◌≡◌, ℕ, ◌*◌, Bool, cond, ◌||◌, List, [], ◌∷◌, ◌++◌, map, filter, not, length, take, drop, replicate, set, Option, None, Some}
-use Rattle.std.specs.List.{concat, slice_get, fold}
+use Rattle.std.specs.Prelude.{ℕ, Bool, cond, ◌||◌, List, [], ◌∷◌, ◌++◌, map, filter, not, length, take, drop, replicate, set, Option, None, Some}
+use Rattle.std.specs.List.{slice_get}
 use Rattle.px_types.specs.declared.ids.ConnId.{ConnId}
-use Rattle.px_types.specs.declared.ids.SinkId.{SinkId}
 use Rattle.px_frame.specs.declared.frame.Frame.{Frame}
 use Rattle.px_frame.specs.Reading.{Ending, Unfinished, Broken}
 use Rattle.px_frame.specs.Meaning.{frames_in, ending_in}
@@ -10,10 +9,8 @@ use Rattle.px_session.specs.declared.event.Event.{Event}
 use Rattle.px_session.specs.declared.event.Event.TheVariants.{Connect, Bytes, Close, Cut, Turn, Collect}
 use Rattle.px_model.specs.Stream.{Stream}
 use Rattle.px_model.specs.Message.{Message}
-use Rattle.px_model.specs.Sink.{Sink}
 use Rattle.px_model.specs.Turn.{turned, turn_notices, stopped_turn, stopped_notices, played_by}
 use Rattle.px_lane.specs.Samples.{samples}
-use Rattle.px_msg.specs.declared.message.Msg.{Msg}
 use Rattle.px_model.specs.Notice.{Notice}
 use Rattle.px_msg.specs.View.{message_of, notice_for}
 use Rattle.px_core.specs.declared.effect.Effect.{Effect}

@@ -8,3 +8,4 @@ pub mod Worked
 pub mod Outcome
 pub mod Keeping
 pub mod Playing
+pub mod Doing

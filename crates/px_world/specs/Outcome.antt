@@ -1,5 +1,5 @@
 -- What the code's world answers to an event.
-use Rattle.std.specs.Prelude.{◌≡◌, ℕ, List, None, length}
+use Rattle.std.specs.Prelude.{◌≡◌, None, length}
 use Rattle.std.specs.List.{concat}
 use Rattle.px_session.specs.declared.event.Event.{Event}
 use Rattle.px_world.specs.declared.outcome.Outcome.{Outcome}

@@ -1,8 +1,7 @@
 -- What a replay writes: the records of each event's effects and of the frames that it played, in order, and then the end byte.
-use Rattle.std.specs.Prelude.{◌≡◌, ℕ, cond, nat_eq, List, [], ◌∷◌, ◌++◌, length, Option, None, Some}
+use Rattle.std.specs.Prelude.{◌≡◌, ℕ, cond, nat_eq, List, [], ◌∷◌, ◌++◌, length, None}
 use Rattle.std.specs.List.{concat, flat_map}
 use Rattle.std.specs.Int.{w64, to_be_bytes}
-use Rattle.px_types.specs.declared.ids.ConnId.{ConnId}
 use Rattle.px_session.specs.declared.header.Header.{Header}
 use Rattle.px_session.specs.declared.event.Event.{Event}
 use Rattle.px_session.specs.declared.event.Event.TheVariants.{Connect, Bytes, Close, Cut, Turn, Collect}
@@ -10,7 +9,6 @@ use Rattle.px_session.specs.Spelling.{word, end_byte}
 use Rattle.px_core.specs.declared.effect.Effect.{Effect}
 use Rattle.px_core.specs.declared.effect.Effect.TheVariants.{Sent, Closed}
 use Rattle.px_core.specs.Effect.{reason_code}
-use Rattle.px_world.specs.declared.fault.WorldFault.{WorldFault}
 use Rattle.px_world.specs.World.{World, new_world}
 use Rattle.px_world.specs.Admission.{refusal_of}
 use Rattle.px_world.specs.Event.{world_after, effects_after, frames_played}

@@ -1,5 +1,5 @@
 -- The world that a recorded session runs in. Own: PulseAudio records no sessions.
-use Rattle.std.specs.Prelude.{ℕ, Bool, false, cond, nat_eq, List, [], ◌∷◌, map, Option, None, Some}
+use Rattle.std.specs.Prelude.{ℕ, Bool, false, nat_eq, List, [], map, Option, None, Some}
 use Rattle.std.specs.List.{find}
 use Rattle.px_types.specs.declared.ids.ConnId.{ConnId}
 use Rattle.px_session.specs.declared.header.Header.{Header}

@@ -9,9 +9,9 @@ ghost use Rattle.px_world.specs.World.{Link, link_of, received_of};
 ghost use Rattle.px_world.specs.Event.{bytes_steps, links_after};
 ghost use Rattle.px_world.specs.Running.{is_door, Open, AreDistinct, IsAnswered, steps_given};
 
-use px_block::{BlockSource, Mem};
+use px_block::BlockSource;
 use px_frame::{Decoder, FrameError, Frames};
-use px_types::ConnId;
+use px_types::{ConnId, Mem};
 use std::alloc::Global;
 
 /// A connection's number with the decoder of its client's bytes.

@@ -3,14 +3,20 @@
 //! and the laws of its definitions.
 #![tactic(auto)]
 
+mod connections;
 mod doors;
 mod fault;
 mod law;
 mod outcome;
 mod playing;
+mod run;
+mod sinks;
+mod stepping;
+mod world;
 
 pub use fault::WorldFault;
-pub use outcome::Outcome;
 pub use law::{
     played_frames_are_decided_by_a_turn, runs_go_on, sinks_replay_their_histories, worked_session,
 };
+pub use outcome::Outcome;
+pub use world::World;

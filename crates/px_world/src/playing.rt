@@ -97,4 +97,12 @@ impl Playing {
             }),
         }
     }
+
+    /// The device fails at the next turn.
+    pub fn stop(&mut self)
+        ensures sink { self.new.lane.sink ≡ self.old.lane.sink }
+        ensures playing { IsPlaying self.old → IsPlaying self.new }
+    {
+        self.lane.device_mut().stop_next();
+    }
 }

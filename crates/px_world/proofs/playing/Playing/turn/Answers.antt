@@ -1,13 +1,11 @@
-use Rattle.std.proofs.Common.{◌≡◌, ℕ, ◌-◌, ◌≤◌, List, length, min, ap, sym, subst, ◌∙◌, arith, Bool, false}
+use Rattle.std.proofs.Common.{◌≡◌, ℕ, List, length, min, ap, sym, subst, ◌∙◌}
 use Rattle.std.specs.Prelude.{◌||◌, ◌++◌, Some}
 use Rattle.std.specs.List.{concat}
 use Rattle.px_device.specs.Memory.{MemoryDevice, state_of}
-use Rattle.px_model.specs.Turn.{turned as after, turn_notices, played_by}
-use Rattle.px_lane.specs.Lane.{Mixer as Lane}
+use Rattle.px_model.specs.Turn.{turned as after, turn_notices}
 use Rattle.px_lane.specs.Samples.{samples}
-use Rattle.px_lane.specs.Turned.{Turns, Plays}
+use Rattle.px_lane.specs.Turned.{Turns}
 use Rattle.px_lane.specs.declared.lane.Turned.{Turned}
-use Rattle.px_world.specs.World.{Mixer}
 use Rattle.px_world.specs.Playing.{mixer_of}
 use Rattle.px_world.proofs.Played.{Leaves, leaves, mixer-same, played-same, played-count}
 use Rattle.px_world.proofs.playing.Playing.turn.Goals as goal

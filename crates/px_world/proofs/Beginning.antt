@@ -1,0 +1,89 @@
+-- What a world keeps before its first event, and where an event was refused.
+use Rattle.std.proofs.Common.{◌≡◌, ◌+◌, ◌<◌, ℕ, take, List, [], ◌∷◌, ◌++◌, map, set, get_or, length, Some, Result, Err, refl, ap, sym, subst, ◌∙◌}
+use Rattle.std.specs.Prelude.{option_map, slice_get, All, IsFalse}
+use Rattle.std.specs.List.{AllByRecursion}
+use Rattle.std.proofs.lemmas.List.{length-map, map-set, map_push, map_more}
+use Rattle.std.proofs.lemmas.Option.{slice_get-map, slice_get-get_or, same_Some}
+use Rattle.px_session.specs.declared.header.Header.{Header}
+use Rattle.px_session.specs.declared.header.SinkSpec.{SinkSpec}
+use Rattle.px_session.specs.declared.event.Event.{Event}
+use Rattle.px_session.specs.HeaderRules.{IsHeader, IsSink, AreSinks}
+use Rattle.px_msg.specs.View.{sample_spec}
+use Rattle.px_model.specs.Stream.{Stream}
+use Rattle.px_model.proofs.Rounds.{empty_keeps}
+use Rattle.px_core.specs.State.{State, new_state}
+use Rattle.px_core.proofs.StepLaws.{new_keeps}
+use Rattle.px_core.proofs.Sinks.{is_of_header}
+use Rattle.px_world.specs.declared.fault.WorldFault.{WorldFault}
+use Rattle.px_world.specs.declared.fault.WorldFault.TheVariants.{Live, NotLive, NoSink, Worn, TooMany, NoMemory}
+use Rattle.px_world.specs.declared.outcome.Outcome.{Outcome}
+use Rattle.px_world.specs.declared.doors.Door.{Door}
+use Rattle.px_world.specs.declared.playing.Playing.{Playing}
+use Rattle.px_world.specs.World.{World, Mixer, new_mixer, new_world}
+use Rattle.px_world.specs.Playing.{mixer_of}
+use Rattle.px_world.specs.Admission.{refusal_of}
+use Rattle.px_world.specs.Running.{Running, StandsFor}
+use Rattle.px_world.specs.Keeping.{IsMixerOf, AreKept}
+use Rattle.px_world.specs.Doing.{Unless, RunsOr, RestsOr, loses, running_of}
+use Rattle.px_world.proofs.Kept.{kept-notices}
+use Rattle.px_world.proofs.Sounding.{seen-at}
+use Rattle.px_world.proofs.Standing.{stands-first}
+use Rattle.px_world.proofs.Standings.{unless-memory}
+
+new-mixer-is : (header : Header) (index : ℕ) (s : SinkSpec) (m : Mixer) → slice_get header.sinks index ≡ Some s → slice_get (map new_mixer header.sinks) index ≡ Some m → IsMixerOf (new_state header) index s m
+new-mixer-is header index s m there mixer =
+    let same : new_mixer s ≡ m = same_Some (new_mixer s) m (sym (slice_get-map new_mixer header.sinks index ∙ ap (option_map new_mixer) there) ∙ mixer) in
+    subst (λ x. IsMixerOf (new_state header) index s x) same (record { spec = refl; kept = empty_keeps (sample_spec s.spec) s.guard s.depth; inputs = refl })
+
+pub kept-first : (header : Header) → IsHeader header → AreKept (new_state header) (map new_mixer header.sinks)
+kept-first header h = record {
+  core_kept = new_keeps Stream.spec header h;
+  count = length-map header.sinks new_mixer;
+  each = λ index s m there mixer. new-mixer-is header index s m there mixer;
+}
+
+-- the world before its first event
+pub begins : (header : Header) (core : State Stream) (doors : List Door) (mixers : List Playing) → core ≡ new_state header → doors ≡ [] → map mixer_of mixers ≡ map new_mixer header.sinks
+    → StandsFor (running_of core doors mixers) (new_world header)
+begins header core doors mixers c d m = stands-first header (running_of core doors mixers) c d m
+
+pub kept_begins : (header : Header) (core : State Stream) (mixers : List Playing) → IsHeader header → core ≡ new_state header → map mixer_of mixers ≡ map new_mixer header.sinks
+    → AreKept core (map mixer_of mixers)
+kept_begins header core mixers h c m = subst (λ t. AreKept t (map mixer_of mixers)) (sym c) (subst (AreKept (new_state header)) (sym m) (kept-first header h))
+
+-- one mixer more
+pub each-push : {X : Type 0} (P : X → Type 0) (xs : List X) (x : X) → AllByRecursion P xs → P x → AllByRecursion P (xs ++ x ∷ [])
+each-push P [] x h new = (new, tt)
+each-push P (y ∷ xs) x h new = (h.0, each-push P xs x h.1 new)
+
+-- the mixers so far are those of the first sinks
+pub mixers-next : {X : Type 0} (v : X → Mixer) (sinks : List SinkSpec) (i : ℕ) (d : SinkSpec) (made next : List X) (x : X) → i < length sinks → next ≡ made ++ x ∷ [] → v x ≡ new_mixer (get_or sinks i d)
+    → map v made ≡ map new_mixer (take i sinks) → map v next ≡ map new_mixer (take (i + 1) sinks)
+mixers-next v sinks i d made next x below e same h =
+    ap (map v) e ∙ map_push v made x ∙ ap (λ l. l ++ v x ∷ []) h ∙ ap (λ m. map new_mixer (take i sinks) ++ m ∷ []) same ∙ sym (map_more new_mixer sinks i d below)
+
+-- each sink of a header stands behind others
+pub all_sinks : (sinks : List SinkSpec) → AreSinks [] sinks → All (λ (s : SinkSpec). (earlier : List SinkSpec) × IsSink earlier s) sinks
+all_sinks sinks h = λ k d below. is_of_header sinks k (get_or sinks k d) h (slice_get-get_or sinks k d below)
+
+-- ---- where an event was refused
+
+pub unless-lost : (fault : WorldFault) (A : Type 0) → Unless fault A → IsFalse (loses fault) → A
+unless-lost Live A a going = a
+unless-lost NotLive A a going = a
+unless-lost NoSink A a going = a
+unless-lost Worn A a going = a
+unless-lost (TooMany asked there) A a going = a
+unless-lost NoMemory A a going = absurd cc
+
+pub refused-by : (after : Running) (w : World) (e : Event) (result : Result Outcome WorldFault) (fault : WorldFault) → RunsOr after w e result → result ≡ Err fault → (fault ≡ NoMemory → ⊥) → refusal_of w e ≡ Some fault
+refused-by after w e result fault runs is memory = unless-memory fault (refusal_of w e ≡ Some fault) memory (subst (RunsOr after w e) is runs)
+
+pub unchanged-by : (before after : Running) (result : Result Outcome WorldFault) (fault : WorldFault) → RestsOr before after result → result ≡ Err fault → (fault ≡ NoMemory → ⊥) → after ≡ before
+unchanged-by before after result fault rests is memory = unless-memory fault (after ≡ before) memory (subst (RestsOr before after) is rests)
+
+-- ---- a mixer whose device alone changes
+
+pub kept-device : {X : Type 0} (v : X → Mixer) (xs : List X) (k : ℕ) (d next : X) (core : State Stream) → k < length xs → (v next).sink ≡ (v (get_or xs k d)).sink → AreKept core (map v xs) → AreKept core (map v (set xs k next))
+kept-device v xs k d next core within same h =
+    subst (AreKept core) (sym (map-set v xs k next)) (kept-notices core (map v xs) k (v (get_or xs k d)) (v next) h (seen-at v xs k d within) same)

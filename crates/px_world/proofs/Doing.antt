@@ -1,0 +1,102 @@
+-- What the events of a connection do, from what their parts do.
+use Rattle.std.proofs.Common.{◌≡◌, ◌<◌, ℕ, List, [], ◌∷◌, ◌++◌, map, length, Option, None, Some, Result, Ok, Err, refl, ap, sym, subst, ◌∙◌, append-nil}
+use Rattle.std.specs.Prelude.{All}
+use Rattle.std.specs.List.{position, AllByRecursion}
+use Rattle.std.proofs.lemmas.Option.{none-some}
+use Rattle.std.proofs.lemmas.List.Quantifiers.{position-Some}
+use Rattle.px_types.specs.declared.ids.ConnId.{ConnId}
+use Rattle.px_types.specs.declared.ids.SinkId.{SinkId}
+use Rattle.px_frame.specs.declared.fault.FrameError.{FrameError}
+use Rattle.px_frame.specs.declared.fault.FrameError.TheVariants.{Fault, Failed, NoMemory}
+use Rattle.px_frame.specs.declared.frame.Frame.{Frame}
+use Rattle.px_frame.specs.Frame.{IsBody}
+use Rattle.px_frame.specs.Progress.{GivesBodies}
+use Rattle.px_model.specs.Stream.{Stream}
+use Rattle.px_model.specs.Frame.{SampleSpec}
+use Rattle.px_core.specs.declared.effect.Effect.{Effect}
+use Rattle.px_core.specs.declared.input.Connection.{Connection}
+use Rattle.px_core.specs.State.{State}
+use Rattle.px_core.specs.Reply.{Answer}
+use Rattle.px_core.specs.Connecting.{going_on, ended, close_effects}
+use Rattle.px_core.specs.Keeps.{IsStep, Spares}
+use Rattle.px_core.specs.Step.{Step, frame, broken, close, sweep, stepped, effects_of, stepped_by, effects_by}
+use Rattle.px_world.specs.declared.doors.Door.{Door}
+use Rattle.px_world.specs.declared.fault.WorldFault.TheVariants.{Live}
+use Rattle.px_world.specs.World.{Link, Mixer, link_of}
+use Rattle.px_world.specs.Admission.{if_new, if_named}
+use Rattle.px_world.specs.Running.{is_door, Open, steps_given}
+use Rattle.px_world.specs.Keeping.{AreKept}
+use Rattle.px_world.proofs.Openings.{refused-there}
+use Rattle.px_world.proofs.Going.{all-first, all-rest}
+use Rattle.px_world.proofs.Kept.{kept-steps}
+
+-- ---- one step and the sweep
+
+module _ {P : Type 0} (spec_of : P → SampleSpec) (state next : State P) (s : Step P) where
+  pub one-swept : (last : State P) → next ≡ stepped spec_of state s → last ≡ stepped_by spec_of next (sweep ∷ []) → last ≡ stepped_by spec_of state (s ∷ sweep ∷ [])
+  one-swept last e l = l ∙ ap (λ t. stepped_by spec_of t (sweep ∷ [])) e
+
+  pub one-swept-told : (before all : List Effect) → next ≡ stepped spec_of state s → before ≡ effects_of spec_of state s → all ≡ before ++ effects_by spec_of next (sweep ∷ [])
+      → all ≡ effects_by spec_of state (s ∷ sweep ∷ [])
+  one-swept-told before all e b a =
+      a ∙ ap (λ l. l ++ effects_by spec_of next (sweep ∷ [])) b ∙ ap (λ t. effects_of spec_of state s ++ effects_by spec_of t (sweep ∷ [])) e
+
+pub close-silent : {P : Type 0} (spec_of : P → SampleSpec) (state : State P) (conn : ConnId) → effects_of spec_of state (close conn) ≡ []
+close-silent {P} spec_of state conn = go (going_on state.connections conn)
+  where
+    go : (o : Option Connection) → Answer.effects (ended {P = P} o close_effects) ≡ []
+    go None = refl
+    go (Some c) = refl
+
+-- ---- a door that is there
+
+pub refused-found : (doors : List Door) (links : List Link) (conn : ConnId) (i : ℕ) → position (is_door conn) doors ≡ Some i → Open doors links
+    → (if_new (link_of links conn) ≡ Some Live) × (if_named (link_of links conn) ≡ None)
+refused-found [] links conn i found opened = absurd (none-some i found)
+refused-found (door ∷ doors) links conn i found opened = refused-there (door ∷ doors) links opened conn i door found
+
+-- where it was found among all of them
+pub found-by : (conn : ConnId) (slice all : List Door) (o : Option ℕ) → slice ≡ all → o ≡ position (is_door conn) slice → position (is_door conn) all ≡ o
+found-by conn slice all o e p = ap (position (is_door conn)) (sym e) ∙ sym p
+
+pub position-within : (doors : List Door) (conn : ConnId) (i : ℕ) → position (is_door conn) doors ≡ Some i → i < length doors
+position-within [] conn i found = absurd (none-some i found)
+position-within (door ∷ doors) conn i found = (position-Some (is_door conn) (door ∷ doors) i door found).0
+
+-- ---- the steps of a connection can be, and hand out nothing
+
+frames-are : (conn : ConnId) (frames : List Frame) (rest : List (Step Stream)) → All (λ (f : Frame). IsBody f.body) frames → AllByRecursion IsStep rest → AllByRecursion IsStep (map (frame conn) frames ++ rest)
+frames-are conn [] rest h r = r
+frames-are conn (f ∷ frames) rest h r =
+    (all-first (λ (x : Frame). IsBody x.body) f frames (f ∷ frames) refl h, frames-are conn frames rest (all-rest (λ (x : Frame). IsBody x.body) f frames (f ∷ frames) refl h) r)
+
+frames-spare : (sink : SinkId) (conn : ConnId) (frames : List Frame) (rest : List (Step Stream)) → AllByRecursion (Spares sink) rest → AllByRecursion (Spares sink) (map (frame conn) frames ++ rest)
+frames-spare sink conn [] rest r = r
+frames-spare sink conn (f ∷ frames) rest r = (tt, frames-spare sink conn frames rest r)
+
+given-are : (conn : ConnId) (given : Result (List Frame) FrameError) → GivesBodies given → AllByRecursion IsStep (steps_given conn given)
+given-are conn (Ok frames) h = subst (AllByRecursion IsStep) (append-nil (map (frame conn) frames)) (frames-are conn frames [] h tt)
+given-are conn (Err (Fault frames fault at)) h = frames-are conn frames (broken conn fault at ∷ []) h (tt, tt)
+given-are conn (Err (Failed fault at)) h = tt
+given-are conn (Err NoMemory) h = tt
+
+given-spare : (sink : SinkId) (conn : ConnId) (given : Result (List Frame) FrameError) → AllByRecursion (Spares sink) (steps_given conn given)
+given-spare sink conn (Ok frames) = subst (AllByRecursion (Spares sink)) (append-nil (map (frame conn) frames)) (frames-spare sink conn frames [] tt)
+given-spare sink conn (Err (Fault frames fault at)) = frames-spare sink conn frames (broken conn fault at ∷ []) (tt, tt)
+given-spare sink conn (Err (Failed fault at)) = tt
+given-spare sink conn (Err NoMemory) = tt
+
+-- so what is kept stays kept
+
+module _ (core next last : State Stream) (mixers : List Mixer) (h : AreKept core mixers) where
+  pub kept-one : (s : Step Stream) → IsStep s → ((sink : SinkId) → Spares sink s) → next ≡ stepped Stream.spec core s → last ≡ stepped_by Stream.spec next (sweep ∷ []) → AreKept last mixers
+  kept-one s is spares e l =
+      subst (λ t. AreKept t mixers) (sym (one-swept Stream.spec core next s last e l))
+      (kept-steps core mixers (s ∷ sweep ∷ []) h (is, (tt, tt)) (λ sink. (spares sink, (tt, tt))))
+
+  pub kept-given : (conn : ConnId) (given : Result (List Frame) FrameError) → GivesBodies given → next ≡ stepped_by Stream.spec core (steps_given conn given)
+      → last ≡ stepped_by Stream.spec next (sweep ∷ []) → AreKept last mixers
+  kept-given conn given bodies e l =
+      let first : AreKept next mixers =
+      subst (λ t. AreKept t mixers) (sym e) (kept-steps core mixers (steps_given conn given) h (given-are conn given bodies) (λ sink. given-spare sink conn given)) in
+      subst (λ t. AreKept t mixers) (sym l) (kept-steps next mixers (sweep ∷ []) first (tt, tt) (λ sink. (tt, tt)))

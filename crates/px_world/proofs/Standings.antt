@@ -1,0 +1,119 @@
+-- An event that is done leaves a world that stands for the world after it.
+use Rattle.std.proofs.Common.{◌≡◌, List, [], length, Some, Result, Ok, Err, refl, ap, sym, subst, ◌∙◌}
+use Rattle.std.specs.Prelude.{OnOk}
+use Rattle.std.specs.List.{concat}
+use Rattle.px_session.specs.declared.event.Event.{Event}
+use Rattle.px_model.specs.Stream.{Stream}
+use Rattle.px_core.specs.declared.effect.Effect.{Effect}
+use Rattle.px_core.specs.Step.{effects_by}
+use Rattle.px_world.specs.declared.fault.WorldFault.{WorldFault}
+use Rattle.px_world.specs.declared.fault.WorldFault.TheVariants.{Live, NotLive, NoSink, Worn, TooMany, NoMemory}
+use Rattle.px_world.specs.declared.outcome.Outcome.{Outcome}
+use Rattle.px_core.specs.State.{State}
+use Rattle.px_world.specs.declared.doors.Door.{Door}
+use Rattle.px_world.specs.World.{World, Mixer}
+use Rattle.px_world.specs.Admission.{refusal_of}
+use Rattle.px_world.specs.Event.{all_steps, links_after, mixers_after, frames_played}
+use Rattle.px_world.specs.Running.{Running, Open, StandsFor}
+use Rattle.px_world.specs.Doing.{Unless, Does, DoesOr, StaysOr, Plays, PlaysOr, StillOr, HasNoSound, IsSilent, Runs, RunsOr, RestsOr, Keeps}
+use Rattle.px_world.specs.Keeping.{AreKept}
+use Rattle.px_world.proofs.Standing.{stands-after}
+
+module _ (before after : Running) (w : World) (e : Event) (s : StandsFor before w) where
+  done-connection : (effects : List Effect) (outcome : Outcome) → HasNoSound effects outcome → Does before.core after.core after.doors w e effects
+      → after.mixers ≡ before.mixers → mixers_after w e ≡ w.mixers → frames_played w e ≡ [] → Runs after w e outcome
+  done-connection effects outcome silent d same unchanged soundless = record {
+    done = record {
+      admitted = d.admitted;
+      effects = silent.told ∙ d.told ∙ ap (λ c. effects_by Stream.spec c (all_steps w e)) s.core;
+      frames = silent.counted ∙ sym (ap length soundless);
+      played = silent.bytes ∙ sym (ap concat soundless);
+    };
+    stands = stands-after before after w e s d.admitted d.core d.opened (same ∙ s.mixers ∙ sym unchanged);
+  }
+
+  -- an event of a connection
+  pub runs-connection : (given : Result (List Effect) WorldFault) (result : Result Outcome WorldFault) → IsSilent given result → DoesOr before.core after.core after.doors w e given
+      → after.mixers ≡ before.mixers → mixers_after w e ≡ w.mixers → frames_played w e ≡ [] → RunsOr after w e result
+  runs-connection (Ok effects) (Ok outcome) silent d same unchanged soundless = done-connection effects outcome silent d same unchanged soundless
+  runs-connection (Ok effects) (Err fault) silent d same unchanged soundless = absurd silent
+  runs-connection (Err fault) (Ok outcome) silent d same unchanged soundless = absurd silent
+  runs-connection (Err fault) (Err other) silent d same unchanged soundless = subst (λ f. Unless f (refusal_of w e ≡ Some f)) (sym silent) d
+
+  done-sink : (outcome : Outcome) → Plays before.core after.core after.mixers w e outcome → after.doors ≡ before.doors → links_after w.links e ≡ w.links → Runs after w e outcome
+  done-sink outcome p same unchanged = record {
+    done = record {
+      admitted = p.admitted;
+      effects = p.told ∙ ap (λ c. effects_by Stream.spec c (all_steps w e)) s.core;
+      frames = p.counted;
+      played = p.bytes;
+    };
+    stands = stands-after before after w e s p.admitted p.core
+        (subst (Open after.doors) (sym unchanged) (subst (λ doors. Open doors w.links) (sym same) s.doors)) p.mixed;
+  }
+
+  -- an event of a sink
+  pub runs-sink : (result : Result Outcome WorldFault) → PlaysOr before.core after.core after.mixers w e result → after.doors ≡ before.doors → links_after w.links e ≡ w.links → RunsOr after w e result
+  runs-sink (Ok outcome) p same unchanged = done-sink outcome p same unchanged
+  runs-sink (Err fault) p same unchanged = p
+
+-- ---- nothing has changed
+
+unless-map : (fault : WorldFault) (A B : Type 0) → (A → B) → Unless fault A → Unless fault B
+unless-map Live A B f a = f a
+unless-map NotLive A B f a = f a
+unless-map NoSink A B f a = f a
+unless-map Worn A B f a = f a
+unless-map (TooMany asked there) A B f a = f a
+unless-map NoMemory A B f a = tt
+
+-- so it holds where there was memory
+pub unless-memory : (fault : WorldFault) (A : Type 0) → (fault ≡ NoMemory → ⊥) → Unless fault A → A
+unless-memory Live A memory a = a
+unless-memory NotLive A memory a = a
+unless-memory NoSink A memory a = a
+unless-memory Worn A memory a = a
+unless-memory (TooMany asked there) A memory a = a
+unless-memory NoMemory A memory a = absurd (memory refl)
+
+abbrev made_of : State Stream → List Door → List Mixer → Running
+made_of core doors mixers = record { core = core; doors = doors; mixers = mixers }
+
+module _ (before after : Running) where
+  same-running : after.core ≡ before.core → after.doors ≡ before.doors → after.mixers ≡ before.mixers → after ≡ before
+  same-running core doors mixers =
+      ap (λ c. made_of c after.doors after.mixers) core ∙ ap (λ d. made_of before.core d after.mixers) doors ∙ ap (λ m. made_of before.core before.doors m) mixers
+
+  pub rests-connection : (given : Result (List Effect) WorldFault) (result : Result Outcome WorldFault) → IsSilent given result → StaysOr before.core after.core before.doors after.doors given
+      → after.mixers ≡ before.mixers → RestsOr before after result
+  rests-connection (Ok effects) (Ok outcome) silent stays same = tt
+  rests-connection (Ok effects) (Err fault) silent stays same = absurd silent
+  rests-connection (Err fault) (Ok outcome) silent stays same = absurd silent
+  rests-connection (Err fault) (Err other) silent stays same =
+      subst (λ f. Unless f (after ≡ before)) (sym silent)
+      (unless-map fault ((after.core ≡ before.core) × (after.doors ≡ before.doors)) (after ≡ before) (λ p. same-running p.0 p.1 same) stays)
+
+  pub rests-sink : (result : Result Outcome WorldFault) → StillOr before.core after.core before.mixers after.mixers result → after.doors ≡ before.doors → RestsOr before after result
+  rests-sink (Ok outcome) still same = tt
+  rests-sink (Err fault) still same =
+      unless-map fault ((after.core ≡ before.core) × (after.mixers ≡ before.mixers)) (after ≡ before) (λ p. same-running p.0 same p.1) still
+
+-- ---- what is kept where there is no sound
+
+pub kept-silent : (core after : State Stream) (doors later : List Door) (mixers : List Mixer) (given : Result (List Effect) WorldFault) (result : Result Outcome WorldFault) → IsSilent given result
+    → StaysOr core after doors later given → OnOk given ((ms : List Mixer) → AreKept core ms → AreKept after ms) → AreKept core mixers → Keeps result (AreKept after mixers)
+kept-silent core after doors later mixers (Ok effects) (Ok outcome) silent stays kept h = kept mixers h
+kept-silent core after doors later mixers (Ok effects) (Err fault) silent stays kept h = absurd silent
+kept-silent core after doors later mixers (Err fault) (Ok outcome) silent stays kept h = absurd silent
+kept-silent core after doors later mixers (Err fault) (Err other) silent stays kept h =
+    subst (λ f. Unless f (AreKept after mixers)) (sym silent)
+    (unless-map fault ((after ≡ core) × (later ≡ doors)) (AreKept after mixers) (λ p. subst (λ t. AreKept t mixers) (sym p.0) h) stays)
+
+pub keeps-it : (result : Result Outcome WorldFault) (A : Type 0) → A → Keeps result A
+keeps-it (Ok outcome) A a = a
+keeps-it (Err Live) A a = a
+keeps-it (Err NotLive) A a = a
+keeps-it (Err NoSink) A a = a
+keeps-it (Err Worn) A a = a
+keeps-it (Err (TooMany asked there)) A a = a
+keeps-it (Err NoMemory) A a = tt

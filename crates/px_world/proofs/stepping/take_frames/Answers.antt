@@ -1,0 +1,27 @@
+use Rattle.std.proofs.Common.{◌≡◌, ◌∷◌, ◌++◌, map}
+use Rattle.px_frame.specs.Frame.{IsBody}
+use Rattle.px_frame.specs.declared.frame.Frame.{Frame}
+use Rattle.px_model.specs.Stream.{Stream}
+use Rattle.px_core.specs.Step.{frame, stepped_by, effects_by}
+use Rattle.px_world.proofs.Going.{all-first, all-rest, map-first, map-effects-first}
+use Rattle.px_world.proofs.stepping.take_frames.Goals as goal
+
+pub take_frame-requires : goal.take_frame-requires
+take_frame-requires c =
+    all-first (λ (f : Frame). IsBody f.body) c.in-Some.frame c.pop_front.new.self.items c.loop-frame.frames.items c.in-Some.ensures.items c.loop-frame.invariant.bodies
+
+pub loop-frame-preserved : goal.loop-frame-preserved
+loop-frame-preserved c =
+    let all = c.loop-frame.frames.items in
+    let rest = c.pop_front.new.self.items in
+    let front : all ≡ c.in-Some.frame ∷ rest = c.in-Some.ensures.items in
+    record {
+      core = map-first Stream.spec (λ (f : Frame). frame c.args.conn f) c.loop-frame.core c.take_frame.new.core
+          (stepped_by Stream.spec c.args.core.now (map (λ (f : Frame). frame c.args.conn f) c.args.frames.items)) c.in-Some.frame rest all front
+          c.in_ok-take_frame.ensures.core c.loop-frame.invariant.core;
+      effects = map-effects-first Stream.spec (λ (f : Frame). frame c.args.conn f) c.loop-frame.core c.take_frame.new.core c.in-Some.frame rest all
+          c.loop-frame.effects c.take_frame.new.effects
+          (c.args.effects.now ++ effects_by Stream.spec c.args.core.now (map (λ (f : Frame). frame c.args.conn f) c.args.frames.items)) front
+          c.in_ok-take_frame.ensures.core c.in_ok-take_frame.ensures.effects c.loop-frame.invariant.effects;
+      bodies = all-rest (λ (f : Frame). IsBody f.body) c.in-Some.frame rest all front c.loop-frame.invariant.bodies;
+    }

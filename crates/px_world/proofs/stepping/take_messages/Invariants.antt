@@ -1,0 +1,18 @@
+use Rattle.std.proofs.Common.{◌≡◌, ◌≤◌, ◌++◌, length, map, take, replicate}
+use Rattle.px_model.specs.Stream.{Stream}
+use Rattle.px_msg.specs.View.{message_of}
+use Rattle.px_core.specs.Out.{waiting_for}
+use Rattle.px_core.specs.Step.{out, stepped_by}
+use Rattle.px_world.proofs.stepping.take_messages.Given as goal
+
+-- the messages so far and those that are left are all of them
+abbrev pub invariant-loop-left : goal.invariant-loop-left
+invariant-loop-left l = record {
+  core : stepped_by Stream.spec l.core (replicate l.left (out l.sink)) ≡ stepped_by Stream.spec l.fn.core (replicate l.fn.count (out l.sink));
+  messages : l.messages ++ map (message_of (λ s. s)) (take l.left (waiting_for l.core l.sink))
+      ≡ l.fn.messages ++ map (message_of (λ s. s)) (take l.fn.count (waiting_for l.fn.core l.sink));
+  few : l.left ≤ length (waiting_for l.core l.sink);
+}
+
+abbrev pub decreases-loop-left : goal.decreases-loop-left
+decreases-loop-left l = l.left

@@ -1,0 +1,116 @@
+-- What an event does to the parts of a world that runs.
+use Rattle.std.specs.Prelude.{◌≡◌, Bool, true, false, List, [], map, None, Some, length, Result, Ok, Err}
+use Rattle.std.specs.List.{concat}
+use Rattle.px_session.specs.declared.event.Event.{Event}
+use Rattle.px_model.specs.Stream.{Stream}
+use Rattle.px_core.specs.declared.effect.Effect.{Effect}
+use Rattle.px_core.specs.State.{State}
+use Rattle.px_core.specs.Step.{stepped_by, effects_by}
+use Rattle.px_world.specs.declared.doors.Door.{Door}
+use Rattle.px_world.specs.declared.fault.WorldFault.{WorldFault}
+use Rattle.px_world.specs.declared.fault.WorldFault.TheVariants.{Live, NotLive, NoSink, Worn, TooMany, NoMemory}
+use Rattle.px_world.specs.declared.outcome.Outcome.{Outcome}
+use Rattle.px_world.specs.declared.playing.Playing.{Playing}
+use Rattle.px_world.specs.World.{World, Mixer}
+use Rattle.px_world.specs.Playing.{mixer_of}
+use Rattle.px_world.specs.Admission.{refusal_of}
+use Rattle.px_world.specs.Event.{all_steps, links_after, mixers_after, world_after, frames_played}
+use Rattle.px_world.specs.Outcome.{IsOutcome}
+use Rattle.px_world.specs.Running.{Running, Open, StandsFor}
+
+-- what holds unless there was no memory
+abbrev pub Unless : WorldFault → Type 0 → Type 0
+Unless Live fact = fact
+Unless NotLive fact = fact
+Unless NoSink fact = fact
+Unless Worn fact = fact
+Unless (TooMany asked there) fact = fact
+Unless NoMemory fact = Unit {0}
+
+-- there was none, so what was under way is lost
+abbrev pub loses : WorldFault → Bool
+loses Live = false
+loses NotLive = false
+loses NoSink = false
+loses Worn = false
+loses (TooMany asked there) = false
+loses NoMemory = true
+
+-- the world with these parts
+abbrev pub running_of : State Stream → List Door → List Playing → Running
+running_of core doors mixers = record { core = core; doors = doors; mixers = map mixer_of mixers }
+
+-- ---- an event of a connection
+
+-- it was admitted: the core has done its steps, and the doors are open to the links after it
+pub record Does (before after : State Stream) (doors : List Door) (w : World) (e : Event) (effects : List Effect) : Type 0 where
+  pub admitted : refusal_of w e ≡ None
+  pub core : after ≡ stepped_by Stream.spec before (all_steps w e)
+  pub opened : Open doors (links_after w.links e)
+  pub told : effects ≡ effects_by Stream.spec before (all_steps w e)
+
+-- or it wasn't
+abbrev pub DoesOr : State Stream → State Stream → List Door → World → Event → Result (List Effect) WorldFault → Type 0
+DoesOr before after doors w e (Ok effects) = Does before after doors w e effects
+DoesOr before after doors w e (Err fault) = Unless fault (refusal_of w e ≡ Some fault)
+
+-- where it wasn't, nothing has changed
+abbrev pub StaysOr : State Stream → State Stream → List Door → List Door → Result (List Effect) WorldFault → Type 0
+StaysOr before after doors later (Ok effects) = Unit {0}
+StaysOr before after doors later (Err fault) = Unless fault ((after ≡ before) × (later ≡ doors))
+
+-- ---- an event of a sink
+
+-- it was admitted: the core has done its steps, and the sink's mixer its part
+pub record Plays (before after : State Stream) (mixers : List Mixer) (w : World) (e : Event) (outcome : Outcome) : Type 0 where
+  pub admitted : refusal_of w e ≡ None
+  pub core : after ≡ stepped_by Stream.spec before (all_steps w e)
+  pub mixed : mixers ≡ mixers_after w e
+  pub told : outcome.effects ≡ effects_by Stream.spec before (all_steps w e)
+  pub counted : outcome.frames ≡ length (frames_played w e)
+  pub bytes : outcome.played ≡ concat (frames_played w e)
+
+-- or it wasn't
+abbrev pub PlaysOr : State Stream → State Stream → List Mixer → World → Event → Result Outcome WorldFault → Type 0
+PlaysOr before after mixers w e (Ok outcome) = Plays before after mixers w e outcome
+PlaysOr before after mixers w e (Err fault) = Unless fault (refusal_of w e ≡ Some fault)
+
+-- where it wasn't, nothing has changed
+abbrev pub StillOr : State Stream → State Stream → List Mixer → List Mixer → Result Outcome WorldFault → Type 0
+StillOr before after mixers later (Ok outcome) = Unit {0}
+StillOr before after mixers later (Err fault) = Unless fault ((after ≡ before) × (later ≡ mixers))
+
+-- ---- an outcome with no sound
+
+pub record HasNoSound (effects : List Effect) (outcome : Outcome) : Type 0 where
+  pub told : outcome.effects ≡ effects
+  pub counted : outcome.frames ≡ 0
+  pub bytes : outcome.played ≡ []
+
+abbrev pub IsSilent : Result (List Effect) WorldFault → Result Outcome WorldFault → Type 0
+IsSilent (Ok effects) (Ok outcome) = HasNoSound effects outcome
+IsSilent (Ok effects) (Err fault) = ⊥
+IsSilent (Err fault) (Ok outcome) = ⊥
+IsSilent (Err fault) (Err other) = other ≡ fault
+
+-- ---- any event
+
+-- it was admitted, with its outcome, and the world after it runs
+pub record Runs (after : Running) (w : World) (e : Event) (outcome : Outcome) : Type 0 where
+  pub done : IsOutcome outcome w e
+  pub stands : StandsFor after (world_after w e)
+
+-- or it wasn't
+abbrev pub RunsOr : Running → World → Event → Result Outcome WorldFault → Type 0
+RunsOr after w e (Ok outcome) = Runs after w e outcome
+RunsOr after w e (Err fault) = Unless fault (refusal_of w e ≡ Some fault)
+
+-- what holds whether it was or not, unless there was no memory
+abbrev pub Keeps : Result Outcome WorldFault → Type 0 → Type 0
+Keeps (Ok outcome) fact = fact
+Keeps (Err fault) fact = Unless fault fact
+
+-- where it wasn't, nothing has changed
+abbrev pub RestsOr : Running → Running → Result Outcome WorldFault → Type 0
+RestsOr before after (Ok outcome) = Unit {0}
+RestsOr before after (Err fault) = Unless fault (after ≡ before)

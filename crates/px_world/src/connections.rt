@@ -1,0 +1,172 @@
+//! What the events of a connection do, to the core and at the doors.
+
+ghost use Rattle.std.specs.Prelude.{◌≡◌, ℕ, List, IfOk, OnOk, None, Some};
+ghost use Rattle.std.specs.List.{position};
+ghost use Rattle.std.specs.Option.{option_to_list};
+ghost use Rattle.px_session.specs.declared.event.Event.TheVariants.{Connect, Bytes, Close, Cut};
+ghost use Rattle.px_world.specs.World.{World, Mixer};
+ghost use Rattle.px_world.specs.Running.{is_door, Open, AreDistinct};
+ghost use Rattle.px_world.specs.Keeping.{AreKept};
+ghost use Rattle.px_world.specs.declared.doors.Door.{Door};
+ghost use Rattle.px_world.specs.Doing.{Does, DoesOr, StaysOr};
+
+use crate::WorldFault;
+use crate::doors::{Door, add, drop_at, feed, place_of};
+use crate::stepping::{WorldCore, swept, take_given};
+use px_block::Fresh;
+use px_core::{Effect, Effects};
+use px_types::{ConnId, Mem, NoMemory};
+use std::alloc::Global;
+
+// A client connects whose number isn't named.
+fn admit(core: &mut WorldCore, doors: &mut Vec<Door>, alloc: Global, conn: ConnId) -> Mem<Effects>
+    requires { position (is_door conn) doors.old.items ≡ None }
+    ensures done { IfOk result (λ effects. (w : World) → Open doors.old.items w.links → Does core.old core.new doors.new.items w (Connect conn) effects) }
+    ensures kept { OnOk result ((mixers : List Mixer) → AreKept core.old mixers → AreKept core.new mixers) }
+{
+    let first = core.admit(conn)?;
+    add(doors, alloc, conn)?;
+    let effects = swept(core, first)?;
+    Ok(effects)
+}
+
+/// A client connects.
+pub(crate) fn connect(
+    core: &mut WorldCore,
+    doors: &mut Vec<Door>,
+    alloc: Global,
+    conn: ConnId,
+) -> Result<Effects, WorldFault>
+    ensures done { (w : World) → Open doors.old.items w.links → DoesOr core.old core.new doors.new.items w (Connect conn) result }
+    ensures stays { StaysOr core.old core.new doors.old.items doors.new.items result }
+    ensures kept { OnOk result ((mixers : List Mixer) → AreKept core.old mixers → AreKept core.new mixers) }
+{
+    match place_of(doors.as_slice(), conn) {
+        Some(_) => Err(WorldFault::Live),
+        None => match admit(core, doors, alloc, conn) {
+            Ok(effects) => Ok(effects),
+            Err(NoMemory) => Err(WorldFault::NoMemory),
+        },
+    }
+}
+
+// Bytes come from the client behind the door at a place.
+fn hear(
+    core: &mut WorldCore,
+    doors: &mut [Door],
+    alloc: Global,
+    conn: ConnId,
+    place: usize,
+    bytes: &[u8],
+) -> Mem<Effects>
+    requires { position (is_door conn) doors.old ≡ Some place }
+    ensures done { IfOk result (λ effects. (w : World) → Open doors.old w.links → AreDistinct w.links → Does core.old core.new doors.new w (Bytes conn bytes.now) effects) }
+    ensures kept { OnOk result ((mixers : List Mixer) → AreKept core.old mixers → AreKept core.new mixers) }
+{
+    let mut blocks = Fresh::new(alloc);
+    let given = feed(doors, place, bytes, &mut blocks);
+    let first = take_given(core, alloc, conn, given)?;
+    let effects = swept(core, first)?;
+    Ok(effects)
+}
+
+/// Bytes come from a client.
+pub(crate) fn bytes(
+    core: &mut WorldCore,
+    doors: &mut [Door],
+    alloc: Global,
+    conn: ConnId,
+    bytes: &[u8],
+) -> Result<Effects, WorldFault>
+    ensures done { (w : World) → Open doors.old w.links → AreDistinct w.links → DoesOr core.old core.new doors.new w (Bytes conn bytes.now) result }
+    ensures stays { StaysOr core.old core.new doors.old doors.new result }
+    ensures kept { OnOk result ((mixers : List Mixer) → AreKept core.old mixers → AreKept core.new mixers) }
+{
+    match place_of(doors, conn) {
+        None => Err(WorldFault::NotLive),
+        Some(place) => match hear(core, doors, alloc, conn, place, bytes) {
+            Ok(effects) => Ok(effects),
+            Err(NoMemory) => Err(WorldFault::NoMemory),
+        },
+    }
+}
+
+// The client behind the door at a place has closed its connection.
+fn leave(
+    core: &mut WorldCore,
+    doors: &mut Vec<Door>,
+    alloc: Global,
+    conn: ConnId,
+    place: usize,
+) -> Mem<Effects>
+    requires { position (is_door conn) doors.old.items ≡ Some place }
+    ensures done { IfOk result (λ effects. (w : World) → Open doors.old.items w.links → AreDistinct w.links → Does core.old core.new doors.new.items w (Close conn) effects) }
+    ensures kept { OnOk result ((mixers : List Mixer) → AreKept core.old mixers → AreKept core.new mixers) }
+{
+    core.close(conn);
+    drop_at(doors, place);
+    let none = Effects::new(alloc);
+    let effects = swept(core, none)?;
+    Ok(effects)
+}
+
+/// A client has closed its connection.
+pub(crate) fn close(
+    core: &mut WorldCore,
+    doors: &mut Vec<Door>,
+    alloc: Global,
+    conn: ConnId,
+) -> Result<Effects, WorldFault>
+    ensures done { (w : World) → Open doors.old.items w.links → AreDistinct w.links → DoesOr core.old core.new doors.new.items w (Close conn) result }
+    ensures stays { StaysOr core.old core.new doors.old.items doors.new.items result }
+    ensures kept { OnOk result ((mixers : List Mixer) → AreKept core.old mixers → AreKept core.new mixers) }
+{
+    match place_of(doors.as_slice(), conn) {
+        None => Err(WorldFault::NotLive),
+        Some(place) => match leave(core, doors, alloc, conn, place) {
+            Ok(effects) => Ok(effects),
+            Err(NoMemory) => Err(WorldFault::NoMemory),
+        },
+    }
+}
+
+// This effect, or none.
+fn of_option(alloc: Global, effect: Option<Effect>) -> Mem<Effects>
+    ensures { IfOk result (λ effects. effects ≡ option_to_list effect) }
+{
+    match effect {
+        None => Ok(Effects::new(alloc)),
+        Some(effect) => Effects::of(alloc, effect),
+    }
+}
+
+// The server ends a connection that is named.
+fn cut_off(core: &mut WorldCore, alloc: Global, conn: ConnId) -> Mem<Effects>
+    ensures done { IfOk result (λ effects. (doors : List Door) (place : ℕ) (w : World) → position (is_door conn) doors ≡ Some place → Open doors w.links → Does core.old core.new doors w (Cut conn) effects) }
+    ensures kept { OnOk result ((mixers : List Mixer) → AreKept core.old mixers → AreKept core.new mixers) }
+{
+    let effect = core.cut(conn);
+    let first = of_option(alloc, effect)?;
+    let effects = swept(core, first)?;
+    Ok(effects)
+}
+
+/// The server ends a connection for want of memory.
+pub(crate) fn cut(
+    core: &mut WorldCore,
+    doors: &[Door],
+    alloc: Global,
+    conn: ConnId,
+) -> Result<Effects, WorldFault>
+    ensures done { (w : World) → Open doors.now w.links → DoesOr core.old core.new doors.now w (Cut conn) result }
+    ensures stays { StaysOr core.old core.new doors.now doors.now result }
+    ensures kept { OnOk result ((mixers : List Mixer) → AreKept core.old mixers → AreKept core.new mixers) }
+{
+    match place_of(doors, conn) {
+        None => Err(WorldFault::NotLive),
+        Some(_) => match cut_off(core, alloc, conn) {
+            Ok(effects) => Ok(effects),
+            Err(NoMemory) => Err(WorldFault::NoMemory),
+        },
+    }
+}

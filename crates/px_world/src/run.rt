@@ -1,0 +1,59 @@
+//! An event of a session, on the parts of the world.
+
+ghost use Rattle.std.specs.Prelude.{◌≡◌, map};
+ghost use Rattle.std.specs.List.{AllByRecursion};
+ghost use Rattle.px_world.specs.World.{World};
+ghost use Rattle.px_world.specs.Running.{StandsFor};
+ghost use Rattle.px_world.specs.Playing.{mixer_of, IsPlaying};
+ghost use Rattle.px_world.specs.Keeping.{AreKept};
+ghost use Rattle.px_world.specs.Doing.{IsSilent, RunsOr, RestsOr, Keeps, running_of};
+
+use crate::connections::{bytes, close, connect, cut};
+use crate::doors::Door;
+use crate::playing::Playing;
+use crate::sinks::{collect, silence, turn};
+use crate::stepping::WorldCore;
+use crate::{Outcome, WorldFault};
+use px_core::Effects;
+use px_session::Event;
+use std::alloc::Global;
+
+// The outcome of an event that plays nothing.
+fn silent(alloc: Global, done: Result<Effects, WorldFault>) -> Result<Outcome, WorldFault>
+    ensures { IsSilent done result }
+{
+    match done {
+        Ok(effects) => Ok(Outcome {
+            effects,
+            played: silence(alloc),
+            frames: 0,
+        }),
+        Err(fault) => Err(fault),
+    }
+}
+
+/// One event.
+pub(crate) fn run(
+    core: &mut WorldCore,
+    doors: &mut Vec<Door>,
+    mixers: &mut Vec<Playing>,
+    alloc: Global,
+    e: Event,
+) -> Result<Outcome, WorldFault>
+    requires kept { AreKept core.old (map mixer_of mixers.old.items) }
+    requires playing { AllByRecursion IsPlaying mixers.old.items }
+    ensures done { (w : World) → StandsFor (running_of core.old doors.old.items mixers.old.items) w
+        → RunsOr (running_of core.new doors.new.items mixers.new.items) w e result }
+    ensures rests { RestsOr (running_of core.old doors.old.items mixers.old.items) (running_of core.new doors.new.items mixers.new.items) result }
+    ensures kept { Keeps result (AreKept core.new (map mixer_of mixers.new.items)) }
+    ensures playing { Keeps result (AllByRecursion IsPlaying mixers.new.items) }
+{
+    match e {
+        Event::Connect(conn) => silent(alloc, connect(core, doors, alloc, conn)),
+        Event::Bytes(conn, text) => silent(alloc, bytes(core, doors, alloc, conn, text.as_slice())),
+        Event::Close(conn) => silent(alloc, close(core, doors, alloc, conn)),
+        Event::Cut(conn) => silent(alloc, cut(core, doors, alloc, conn)),
+        Event::Turn { sink, frames, take } => turn(core, mixers, alloc, sink, frames, take),
+        Event::Collect { sink, take } => collect(core, mixers, alloc, sink, take),
+    }
+}

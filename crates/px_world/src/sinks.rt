@@ -1,0 +1,195 @@
+//! What the events of a sink do, to the core and to the sink's mixer.
+
+ghost use Rattle.std.specs.Prelude.{◌≡◌, ◌<◌, ◌≤◌, ◌-◌, ◌^◌, [], ◌∷◌, ◌++◌, map, take, drop, length, replicate, IfOk, OnOk, Some};
+ghost use Rattle.std.specs.List.{concat, AllByRecursion};
+ghost use Rattle.px_session.specs.declared.event.Event.TheVariants.{Turn, Collect};
+ghost use Rattle.px_model.specs.Stream.{Stream as Plain};
+ghost use Rattle.px_model.specs.Sink.{IsSink as IsKeptSink};
+ghost use Rattle.px_model.specs.Turn.{AreFor};
+ghost use Rattle.px_msg.specs.View.{message_of, notice_for};
+ghost use Rattle.px_core.specs.Out.{waiting_for};
+ghost use Rattle.px_core.specs.Step.{Step, stepped_by, effects_by};
+ghost use Rattle.px_world.specs.World.{World};
+ghost use Rattle.px_world.specs.Admission.{turn_refusal};
+ghost use Rattle.px_world.specs.Event.{mixer_turned, played_of};
+ghost use Rattle.px_world.specs.Playing.{mixer_of, IsPlaying};
+ghost use Rattle.px_world.specs.Keeping.{AreKept};
+ghost use Rattle.px_world.specs.Doing.{PlaysOr, StillOr, Keeps};
+
+use crate::playing::Playing;
+use crate::stepping::{WorldCore, swept, take_messages, take_notices};
+use crate::{Outcome, WorldFault};
+use px_block::Fresh;
+use px_core::Effects;
+use px_device::Played;
+use px_lane::{MsgList, NoticeList};
+use px_types::{Mem, NoMemory, SinkId};
+use std::alloc::Global;
+
+/// The filled count past which a sink takes no more turns: the last index of a stream.
+const LAST_FILLED: u64 = 1 << 60;
+
+// A number below one of 32 bits.
+fn in_32_bits(n: u64, bound: u32) -> u32
+    requires { n < bound }
+    ensures { result ≡ n }
+{
+    n as u32
+}
+
+/// No bytes. Takes no memory.
+pub(crate) fn silence(alloc: Global) -> Played
+    ensures { result ≡ [] }
+{
+    Played::from_vec(Vec::new(alloc))
+}
+
+// The core takes so many of a mixer's notices.
+fn collect_from(
+    core: &mut WorldCore,
+    notices: &mut NoticeList,
+    alloc: Global,
+    sink: SinkId,
+    count: u32,
+) -> Mem<Effects>
+    requires { count ≤ length notices.old.notices }
+    ensures core { OnOk result (core.new ≡ stepped_by Plain.spec core.old (map (λ n. Step.notice sink (notice_for n)) (take count notices.old.notices) ++ Step.sweep ∷ [])) }
+    ensures effects { IfOk result (λ effects. effects ≡ effects_by Plain.spec core.old (map (λ n. Step.notice sink (notice_for n)) (take count notices.old.notices) ++ Step.sweep ∷ [])) }
+    ensures notices { OnOk result (notices.new.notices ≡ drop count notices.old.notices) }
+{
+    let mut first = Effects::new(alloc);
+    take_notices(core, sink, count, notices, &mut first)?;
+    let effects = swept(core, first)?;
+    Ok(effects)
+}
+
+/// The core takes notices of a sink.
+pub(crate) fn collect(
+    core: &mut WorldCore,
+    mixers: &mut [Playing],
+    alloc: Global,
+    sink: u8,
+    count: u32,
+) -> Result<Outcome, WorldFault>
+    requires kept { AreKept core.old (map mixer_of mixers.old) }
+    requires playing { AllByRecursion IsPlaying mixers.old }
+    ensures done { (w : World) → w.core ≡ core.old → w.mixers ≡ map mixer_of mixers.old
+        → PlaysOr core.old core.new (map mixer_of mixers.new) w (Collect sink count) result }
+    ensures still { StillOr core.old core.new (map mixer_of mixers.old) (map mixer_of mixers.new) result }
+    ensures kept { Keeps result (AreKept core.new (map mixer_of mixers.new)) }
+    ensures playing { Keeps result (AllByRecursion IsPlaying mixers.new) }
+{
+    let place = sink as usize;
+    if mixers.len() <= place {
+        return Err(WorldFault::NoSink);
+    }
+    let there = mixers[place].notices.len();
+    if there < count as usize {
+        let there = in_32_bits(there as u64, count);
+        return Err(WorldFault::TooMany {
+            asked: count,
+            there,
+        });
+    }
+    match collect_from(core, &mut mixers[place].notices, alloc, SinkId(sink), count) {
+        Ok(effects) => Ok(Outcome {
+            effects,
+            played: silence(alloc),
+            frames: 0,
+        }),
+        Err(NoMemory) => Err(WorldFault::NoMemory),
+    }
+}
+
+// Why a mixer takes no such turn, if so many messages wait.
+#[tactic(auto, using(crate::proofs::Sounding::turn_worn, crate::proofs::Sounding::turn_dry, crate::proofs::Sounding::turn_short, crate::proofs::Sounding::turn_goes))]
+fn turn_fault(playing: &Playing, frames: u32, count: u32, waiting: usize) -> Option<WorldFault>
+    ensures { result ≡ turn_refusal (Some (mixer_of playing.now)) frames count waiting }
+{
+    let filled = playing.lane.filled();
+    if filled > LAST_FILLED {
+        return Some(WorldFault::Worn);
+    }
+    let there = filled.saturating_sub(playing.lane.consumed());
+    if there < frames as u64 {
+        let there = in_32_bits(there, frames);
+        return Some(WorldFault::TooMany {
+            asked: frames,
+            there,
+        });
+    }
+    if waiting < count as usize {
+        let there = in_32_bits(waiting as u64, count);
+        return Some(WorldFault::TooMany {
+            asked: count,
+            there,
+        });
+    }
+    None
+}
+
+// A turn of a mixer, with so many of the messages that wait for its sink.
+fn turn_of(
+    core: &mut WorldCore,
+    playing: &mut Playing,
+    alloc: Global,
+    sink: SinkId,
+    frames: u32,
+    count: u32,
+) -> Mem<Outcome>
+    requires kept { IsKeptSink playing.old.lane.sink }
+    requires playing { IsPlaying playing.old }
+    requires there { frames ≤ playing.old.lane.sink.filled - playing.old.lane.sink.consumed }
+    requires countable { playing.old.lane.sink.filled ≤ 2 ^ 60 }
+    requires few { count ≤ length (waiting_for core.old sink) }
+    requires messages { AreFor playing.old.lane.sink (map (message_of (λ p. p)) (take count (waiting_for core.old sink))) }
+    ensures core { OnOk result (core.new ≡ stepped_by Plain.spec core.old (replicate count (Step.out sink) ++ Step.sweep ∷ [])) }
+    ensures effects { IfOk result (λ outcome. outcome.effects ≡ effects_by Plain.spec core.old (replicate count (Step.out sink) ++ Step.sweep ∷ [])) }
+    ensures mixer { OnOk result (mixer_of playing.new ≡ mixer_turned (mixer_of playing.old) frames (map (message_of (λ p. p)) (take count (waiting_for core.old sink)))) }
+    ensures playing { OnOk result (IsPlaying playing.new) }
+    ensures frames { IfOk result (λ outcome. outcome.frames ≡ length (played_of (Some (mixer_of playing.old)) frames)) }
+    ensures played { IfOk result (λ outcome. outcome.played ≡ concat (played_of (Some (mixer_of playing.old)) frames)) }
+{
+    let mut messages = MsgList::new(alloc);
+    take_messages(core, sink, count, &mut messages)?;
+    let mut blocks = Fresh::new(alloc);
+    let sound = playing.turn(alloc, frames, &mut messages, &mut blocks)?;
+    let none = Effects::new(alloc);
+    let effects = swept(core, none)?;
+    Ok(Outcome {
+        effects,
+        played: sound.bytes,
+        frames: sound.frames,
+    })
+}
+
+/// A render cycle of a sink.
+pub(crate) fn turn(
+    core: &mut WorldCore,
+    mixers: &mut [Playing],
+    alloc: Global,
+    sink: u8,
+    frames: u32,
+    count: u32,
+) -> Result<Outcome, WorldFault>
+    requires kept { AreKept core.old (map mixer_of mixers.old) }
+    requires playing { AllByRecursion IsPlaying mixers.old }
+    ensures done { (w : World) → w.core ≡ core.old → w.mixers ≡ map mixer_of mixers.old
+        → PlaysOr core.old core.new (map mixer_of mixers.new) w (Turn sink frames count) result }
+    ensures still { StillOr core.old core.new (map mixer_of mixers.old) (map mixer_of mixers.new) result }
+    ensures kept { Keeps result (AreKept core.new (map mixer_of mixers.new)) }
+    ensures playing { Keeps result (AllByRecursion IsPlaying mixers.new) }
+{
+    let place = sink as usize;
+    if mixers.len() <= place {
+        return Err(WorldFault::NoSink);
+    }
+    let waiting = core.outgoing(SinkId(sink));
+    match turn_fault(&mixers[place], frames, count, waiting) {
+        Some(fault) => Err(fault),
+        None => match turn_of(core, &mut mixers[place], alloc, SinkId(sink), frames, count) {
+            Ok(outcome) => Ok(outcome),
+            Err(NoMemory) => Err(WorldFault::NoMemory),
+        },
+    }
+}

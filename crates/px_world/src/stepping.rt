@@ -1,0 +1,171 @@
+//! Steps of the core, one after the other, with their effects joined.
+
+ghost use Rattle.std.specs.Prelude.{◌≡◌, ◌≤◌, [], ◌∷◌, ◌++◌, All, length, map, take, drop, replicate, IfOk, OnOk};
+ghost use Rattle.px_frame.specs.Frame.{IsBody};
+ghost use Rattle.px_frame.specs.Progress.{GivesBodies};
+ghost use Rattle.px_msg.specs.View.{message_of, notice_for};
+ghost use Rattle.px_model.specs.Stream.{Stream as Plain};
+ghost use Rattle.px_lane.specs.Lists.{plain_notice};
+ghost use Rattle.px_core.specs.Out.{waiting_for};
+ghost use Rattle.px_core.specs.Step.{Step, stepped, effects_of, stepped_by, effects_by};
+ghost use Rattle.px_world.specs.Running.{IsAnswered, steps_given};
+
+use px_core::{Core, Effects};
+use px_frame::{Frame, FrameError, FrameFault, Frames};
+use px_lane::{Carried, MsgList, NoticeList, Stream, handed_over, taken_over};
+use px_msg::Notice;
+use px_types::{ConnId, Mem, NoMemory, SinkId};
+use std::alloc::Global;
+use std::collections::VecDeque;
+
+/// The core of the world: what goes between sinks are streams.
+pub(crate) type WorldCore = Core<Carried>;
+
+// A frame of a connection, with its effects behind these.
+fn take_frame(core: &mut WorldCore, conn: ConnId, frame: Frame, effects: &mut Effects) -> Mem<()>
+    requires { IsBody frame.body }
+    ensures core { OnOk result (core.new ≡ stepped Plain.spec core.old (Step.frame conn frame)) }
+    ensures effects { OnOk result (effects.new ≡ effects.old ++ effects_of Plain.spec core.old (Step.frame conn frame)) }
+{
+    match core.frame(conn, frame) {
+        Ok(more) => effects.append(more),
+        Err(_) => Err(NoMemory),
+    }
+}
+
+/// The frames of a connection, in order, with their effects behind these.
+pub(crate) fn take_frames(
+    core: &mut WorldCore,
+    conn: ConnId,
+    frames: Vec<Frame>,
+    effects: &mut Effects,
+) -> Mem<()>
+    requires { All (λ f. IsBody f.body) frames.items }
+    ensures core { OnOk result (core.new ≡ stepped_by Plain.spec core.old (map (Step.frame conn) frames.items)) }
+    ensures effects { OnOk result (effects.new ≡ effects.old ++ effects_by Plain.spec core.old (map (Step.frame conn) frames.items)) }
+{
+    let mut frames = VecDeque::from_vec(frames);
+    while let Some(frame) = frames.pop_front() {
+        take_frame(core, conn, frame, effects)?;
+    }
+    Ok(())
+}
+
+// The frames of a connection, in order, and the fault behind them, with their effects behind these.
+fn take_broken(
+    core: &mut WorldCore,
+    conn: ConnId,
+    frames: Vec<Frame>,
+    fault: FrameFault,
+    at: u64,
+    effects: &mut Effects,
+) -> Mem<()>
+    requires { All (λ f. IsBody f.body) frames.items }
+    ensures core { OnOk result (core.new ≡ stepped_by Plain.spec core.old (map (Step.frame conn) frames.items ++ Step.broken conn fault at ∷ [])) }
+    ensures effects { OnOk result (effects.new ≡ effects.old ++ effects_by Plain.spec core.old (map (Step.frame conn) frames.items ++ Step.broken conn fault at ∷ [])) }
+{
+    take_frames(core, conn, frames, effects)?;
+    let more = core.broken(conn, fault, at)?;
+    effects.append(more)?;
+    Ok(())
+}
+
+/// What a connection's decoder has given: the frames, and the fault where it is new.
+pub(crate) fn take_given(
+    core: &mut WorldCore,
+    alloc: Global,
+    conn: ConnId,
+    given: Result<Frames, FrameError>,
+) -> Mem<Effects>
+    requires { GivesBodies given }
+    ensures answered { OnOk result (IsAnswered given) }
+    ensures core { OnOk result (core.new ≡ stepped_by Plain.spec core.old (steps_given conn given)) }
+    ensures effects { IfOk result (λ effects. effects ≡ effects_by Plain.spec core.old (steps_given conn given)) }
+{
+    let mut effects = Effects::new(alloc);
+    match given {
+        Ok(frames) => {
+            take_frames(core, conn, frames.into_vec(), &mut effects)?;
+            Ok(effects)
+        }
+        Err(FrameError::Fault { frames, fault, at }) => {
+            take_broken(core, conn, frames.into_vec(), fault, at, &mut effects)?;
+            Ok(effects)
+        }
+        Err(FrameError::Failed { fault: _, at: _ }) => Ok(effects),
+        Err(FrameError::NoMemory) => Err(NoMemory),
+    }
+}
+
+/// The first so many messages that wait for a sink, handed out behind these.
+pub(crate) fn take_messages(
+    core: &mut WorldCore,
+    sink: SinkId,
+    count: u32,
+    messages: &mut MsgList,
+) -> Mem<()>
+    requires { count ≤ length (waiting_for core.old sink) }
+    ensures core { OnOk result (core.new ≡ stepped_by Plain.spec core.old (replicate count (Step.out sink))) }
+    ensures messages { OnOk result (messages.new ≡ messages.old ++ map (message_of (λ s. s)) (take count (waiting_for core.old sink))) }
+{
+    let mut left = count;
+    while left > 0 {
+        let Some(message) = core.sent(sink) else {
+            return Ok(());
+        };
+        messages.push(taken_over(message))?;
+        left -= 1;
+    }
+    Ok(())
+}
+
+// A notice of a sink, with its effects behind these.
+fn take_notice(
+    core: &mut WorldCore,
+    sink: SinkId,
+    notice: Notice<Stream>,
+    effects: &mut Effects,
+) -> Mem<()>
+    ensures core { OnOk result (core.new ≡ stepped Plain.spec core.old (Step.notice sink (notice_for (plain_notice notice)))) }
+    ensures effects { OnOk result (effects.new ≡ effects.old ++ effects_of Plain.spec core.old (Step.notice sink (notice_for (plain_notice notice)))) }
+{
+    match core.notice(sink, handed_over(notice)) {
+        Ok(more) => effects.append(more),
+        Err(_) => Err(NoMemory),
+    }
+}
+
+/// The first so many notices of a sink, in order, with their effects behind these.
+pub(crate) fn take_notices(
+    core: &mut WorldCore,
+    sink: SinkId,
+    count: u32,
+    notices: &mut NoticeList,
+    effects: &mut Effects,
+) -> Mem<()>
+    requires { count ≤ length notices.old.notices }
+    ensures core { OnOk result (core.new ≡ stepped_by Plain.spec core.old (map (λ n. Step.notice sink (notice_for n)) (take count notices.old.notices))) }
+    ensures effects { OnOk result (effects.new ≡ effects.old ++ effects_by Plain.spec core.old (map (λ n. Step.notice sink (notice_for n)) (take count notices.old.notices))) }
+    ensures notices { OnOk result (notices.new.notices ≡ drop count notices.old.notices) }
+{
+    let mut left = count;
+    while left > 0 {
+        let Some(notice) = notices.pop_front() else {
+            return Ok(());
+        };
+        take_notice(core, sink, notice, effects)?;
+        left -= 1;
+    }
+    Ok(())
+}
+
+/// The connections that have ended are swept away, with the effects behind these.
+pub(crate) fn swept(core: &mut WorldCore, effects: Effects) -> Mem<Effects>
+    ensures core { OnOk result (core.new ≡ stepped_by Plain.spec core.old (Step.sweep ∷ [])) }
+    ensures effects { IfOk result (λ all. all ≡ effects ++ effects_by Plain.spec core.old (Step.sweep ∷ [])) }
+{
+    let mut effects = effects;
+    let more = core.sweep()?;
+    effects.append(more)?;
+    Ok(effects)
+}

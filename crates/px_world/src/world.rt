@@ -1,0 +1,136 @@
+//! The world of a recorded session.
+
+ghost use Rattle.std.specs.Prelude.{◌≡◌, ◌≢◌, ◌<◌, List, All, length, map, IfOk, OnOk, Err, Some};
+ghost use Rattle.std.specs.List.{AllByRecursion};
+ghost use Rattle.px_session.specs.HeaderRules.{IsHeader, IsSink};
+ghost use Rattle.px_session.specs.declared.header.SinkSpec.{SinkSpec as Spec};
+ghost use Rattle.px_session.specs.EventRules.{IsEvent};
+ghost use Rattle.px_world.specs.World.{World as SpecWorld, new_mixer, new_world};
+ghost use Rattle.px_world.specs.Admission.{refusal_of};
+ghost use Rattle.px_world.specs.Event.{world_after};
+ghost use Rattle.px_world.specs.Outcome.{IsOutcome};
+ghost use Rattle.px_world.specs.Running.{StandsFor};
+ghost use Rattle.px_world.specs.Playing.{mixer_of, IsPlaying};
+ghost use Rattle.px_model.specs.Stream.{Stream as Plain};
+ghost use Rattle.px_core.specs.State.{State};
+ghost use Rattle.px_world.specs.Keeping.{AreKept};
+ghost use Rattle.px_world.specs.Doing.{loses};
+ghost use Rattle.px_world.specs.declared.fault.WorldFault.{WorldFault};
+ghost use Rattle.px_world.specs.declared.fault.WorldFault.TheVariants.{NoMemory};
+
+use crate::doors::Door;
+use crate::playing::Playing;
+use crate::run::run;
+use crate::stepping::WorldCore;
+use crate::{Outcome, WorldFault};
+use px_core::Core;
+use px_session::{Event, Header, SinkSpec};
+use px_types::{Mem, SinkId};
+use std::alloc::Global;
+use std::marker::Model;
+
+/// The world that a recorded session runs in: the core, a mixer over a device in memory for each sink, and what is under way
+/// between them. Contracts see the core, where each connection's decoder stands, and the mixers.
+#[derive(Drop)]
+pub struct World {
+    core: WorldCore,
+    doors: Vec<Door>,
+    mixers: Vec<Playing>,
+    // There was no memory for an event: what was under way is lost.
+    lost: bool,
+}
+
+impl Model for World {
+    ghost use Rattle.std.specs.Prelude.{map, IsFalse};
+    ghost use Rattle.std.specs.List.{AllByRecursion};
+    ghost use Rattle.px_world.specs.Running.{Running};
+    ghost use Rattle.px_world.specs.Playing.{mixer_of, IsPlaying};
+    ghost use Rattle.px_world.specs.Doing.{running_of};
+    ghost use Rattle.px_world.specs.Keeping.{AreKept};
+
+    ghost Value = { Running };
+
+    ghost view = { λ w. running_of w.core w.doors.items w.mixers.items };
+
+    ghost invariant = { λ w. IsFalse w.lost → AreKept w.core (map mixer_of w.mixers.items) × AllByRecursion IsPlaying w.mixers.items };
+}
+
+// A mixer for each sink.
+fn new_mixers(alloc: Global, sinks: &[SinkSpec]) -> Mem<Vec<Playing>>
+    requires { All (λ s. (earlier : List Spec) × IsSink earlier s) sinks.now }
+    ensures mixers { IfOk result (λ made. map mixer_of made.items ≡ map new_mixer sinks.now) }
+    ensures playing { IfOk result (λ made. AllByRecursion IsPlaying made.items) }
+{
+    let mut made = Vec::new(alloc);
+    for sink in sinks {
+        let playing = Playing::new(alloc, sink)?;
+        made.push(playing)?;
+    }
+    Ok(made)
+}
+
+// Whether a fault is want of memory.
+fn is_want(fault: WorldFault) -> bool
+    ensures { result ≡ loses fault }
+{
+    match fault {
+        WorldFault::NoMemory => true,
+        _ => false,
+    }
+}
+
+impl World {
+    /// The world before the first event.
+    #[tactic(auto, using(crate::proofs::Beginning::begins, crate::proofs::Beginning::kept_begins, crate::proofs::Beginning::all_sinks))]
+    pub fn new(alloc: Global, header: &Header) -> Mem<World>
+        requires { IsHeader header.now }
+        ensures { IfOk result (λ world. StandsFor world (new_world header.now)) }
+    {
+        let core = Core::new(alloc, header)?;
+        let mixers = new_mixers(alloc, header.sinks.as_slice())?;
+        let doors = Vec::new(alloc);
+        Ok(World {
+            core,
+            doors,
+            mixers,
+            lost: false,
+        })
+    }
+
+    /// One event. A fault other than `NoMemory` leaves the world unchanged; after `NoMemory` it isn't used again: each later event
+    /// answers it too.
+    pub fn event(&mut self, alloc: Global, e: Event) -> Result<Outcome, WorldFault>
+        requires { IsEvent e }
+        ensures done { (w : SpecWorld) → StandsFor self.old w → IfOk result (λ outcome. IsOutcome outcome w e) }
+        ensures after { (w : SpecWorld) → StandsFor self.old w → OnOk result (StandsFor self.new (world_after w e)) }
+        ensures refused { (w : SpecWorld) (fault : WorldFault) → StandsFor self.old w → result ≡ Err fault → fault ≢ NoMemory → refusal_of w e ≡ Some fault }
+        ensures unchanged { (fault : WorldFault) → result ≡ Err fault → fault ≢ NoMemory → self.new ≡ self.old }
+    {
+        if self.lost {
+            return Err(WorldFault::NoMemory);
+        }
+        match run(&mut self.core, &mut self.doors, &mut self.mixers, alloc, e) {
+            Ok(outcome) => Ok(outcome),
+            Err(fault) => {
+                self.lost = is_want(fault);
+                Err(fault)
+            }
+        }
+    }
+
+    /// Makes the sink's device fail at its next turn. Takes no memory.
+    pub fn stop(&mut self, sink: SinkId)
+        requires { sink.0 < length self.old.mixers }
+    {
+        stop_at(&mut self.mixers, sink.0 as usize);
+    }
+}
+
+// Makes the device of the mixer at a place fail at its next turn.
+fn stop_at(mixers: &mut [Playing], place: usize)
+    requires { place < length mixers.old }
+    ensures kept { (core : State Plain) → AreKept core (map mixer_of mixers.old) → AreKept core (map mixer_of mixers.new) }
+    ensures playing { AllByRecursion IsPlaying mixers.old → AllByRecursion IsPlaying mixers.new }
+{
+    mixers[place].stop();
+}
