@@ -10,7 +10,7 @@ mod outcome;
 mod playing;
 
 pub use fault::WorldFault;
-pub use outcome::Outcome;
 pub use law::{
     played_frames_are_decided_by_a_turn, runs_go_on, sinks_replay_their_histories, worked_session,
 };
+pub use outcome::Outcome;
