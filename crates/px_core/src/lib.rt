@@ -20,9 +20,9 @@ mod factors;
 mod found;
 mod frames;
 mod input;
+mod laws;
 mod lending;
 mod machine;
-mod laws;
 mod out;
 mod queues;
 mod refusals;
@@ -37,12 +37,12 @@ pub use change::Change;
 pub use effect::{Effect, Reason};
 pub use effects::Effects;
 pub use input::{Connection, Input, Way};
-pub use lending::put_back_undoes_handing_out;
-pub use machine::Core;
 pub use laws::{
     connections_end_once, refusals_change_nothing, sinks_have_what_they_were_told,
     sinks_hear_step_by_step, sinks_hear_what_is_orderly, states_are_kept,
 };
+pub use lending::put_back_undoes_handing_out;
+pub use machine::Core;
 
 #[cfg(test)]
 mod tests;

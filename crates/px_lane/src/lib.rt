@@ -6,7 +6,6 @@
 //! `orderly_messages_are_taken`.
 #![tactic(auto)]
 
-mod parcel;
 mod change;
 mod chunk;
 mod finding;
@@ -19,6 +18,7 @@ mod lists;
 mod memory;
 mod mix;
 mod mixer;
+mod parcel;
 mod prepared;
 mod queue;
 mod ready;
@@ -26,7 +26,6 @@ mod run;
 mod share;
 mod stream;
 
-pub use parcel::{Carried, handed_over, taken_over};
 pub use change::Change;
 pub use chunk::Chunk;
 pub use index::Index;
@@ -36,6 +35,7 @@ pub use lane::{Lane, LaneFault, Turned};
 pub use law::{notices_fit, orderly_messages_are_taken};
 pub use lists::{MsgList, NoticeList};
 pub use mixer::SinkMixer;
+pub use parcel::{Carried, handed_over, taken_over};
 pub use prepared::Prepared;
 pub use queue::{FrameQueue, Stored};
 pub use ready::Ready;
