@@ -80,6 +80,10 @@ abbrev pub StillOr : State Stream → State Stream → List Mixer → List Mixer
 StillOr before after mixers later (Ok outcome) = Unit {0}
 StillOr before after mixers later (Err fault) = Unless fault ((after ≡ before) × (later ≡ mixers))
 
+-- its device is to fail at its next turn
+abbrev pub told_to_fail : Mixer → Mixer
+told_to_fail m = record m { failing = true }
+
 -- ---- an outcome with no sound
 
 pub record HasNoSound (effects : List Effect) (outcome : Outcome) : Type 0 where

@@ -10,6 +10,7 @@ ghost use Rattle.px_model.specs.Turn.{AreFor};
 ghost use Rattle.px_world.specs.Event.{mixer_turned, played_of};
 ghost use Rattle.px_world.specs.World.{new_mixer};
 ghost use Rattle.px_world.specs.Playing.{mixer_of, IsPlaying};
+ghost use Rattle.px_world.specs.Doing.{told_to_fail};
 
 use px_block::Fresh;
 use px_device::{DeviceShape, MemDevice, Played};
@@ -101,6 +102,7 @@ impl Playing {
     /// The device fails at the next turn.
     pub fn stop(&mut self)
         ensures sink { self.new.lane.sink ≡ self.old.lane.sink }
+        ensures mixer { mixer_of self.new ≡ told_to_fail (mixer_of self.old) }
         ensures playing { IsPlaying self.old → IsPlaying self.new }
     {
         self.lane.device_mut().stop_next();

@@ -1,20 +1,20 @@
 //! The world of a recorded session.
 
 ghost use Rattle.std.specs.Prelude.{◌≡◌, ◌≢◌, ◌<◌, List, All, length, map, IfOk, OnOk, Err, Some};
-ghost use Rattle.std.specs.List.{AllByRecursion};
+ghost use Rattle.std.specs.List.{AllByRecursion, slice_get};
 ghost use Rattle.px_session.specs.HeaderRules.{IsHeader, IsSink};
 ghost use Rattle.px_session.specs.declared.header.SinkSpec.{SinkSpec as Spec};
 ghost use Rattle.px_session.specs.EventRules.{IsEvent};
 ghost use Rattle.px_world.specs.World.{World as SpecWorld, new_mixer, new_world};
 ghost use Rattle.px_world.specs.Admission.{refusal_of};
-ghost use Rattle.px_world.specs.Event.{world_after};
+ghost use Rattle.px_world.specs.Event.{world_after, change_at};
 ghost use Rattle.px_world.specs.Outcome.{IsOutcome};
 ghost use Rattle.px_world.specs.Running.{StandsFor};
 ghost use Rattle.px_world.specs.Playing.{mixer_of, IsPlaying};
 ghost use Rattle.px_model.specs.Stream.{Stream as Plain};
 ghost use Rattle.px_core.specs.State.{State};
 ghost use Rattle.px_world.specs.Keeping.{AreKept};
-ghost use Rattle.px_world.specs.Doing.{loses};
+ghost use Rattle.px_world.specs.Doing.{loses, told_to_fail};
 ghost use Rattle.px_world.specs.declared.fault.WorldFault.{WorldFault};
 ghost use Rattle.px_world.specs.declared.fault.WorldFault.TheVariants.{NoMemory};
 
@@ -121,6 +121,7 @@ impl World {
     /// Makes the sink's device fail at its next turn. Takes no memory.
     pub fn stop(&mut self, sink: SinkId)
         requires { sink.0 < length self.old.mixers }
+        ensures { self.new ≡ record self.old { mixers = change_at self.old.mixers sink.0 (slice_get self.old.mixers sink.0) told_to_fail } }
     {
         stop_at(&mut self.mixers, sink.0 as usize);
     }
@@ -129,6 +130,7 @@ impl World {
 // Makes the device of the mixer at a place fail at its next turn.
 fn stop_at(mixers: &mut [Playing], place: usize)
     requires { place < length mixers.old }
+    ensures after { map mixer_of mixers.new ≡ change_at (map mixer_of mixers.old) place (slice_get (map mixer_of mixers.old) place) told_to_fail }
     ensures kept { (core : State Plain) → AreKept core (map mixer_of mixers.old) → AreKept core (map mixer_of mixers.new) }
     ensures playing { AllByRecursion IsPlaying mixers.old → AllByRecursion IsPlaying mixers.new }
 {
