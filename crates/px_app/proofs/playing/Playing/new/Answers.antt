@@ -1,7 +1,7 @@
 use Rattle.std.proofs.Common.{[], sym, ◌∙◌}
 use Rattle.std.proofs.lemmas.Bool.{false≢true}
 use Rattle.px_ends.proofs.ToldBytes.{taking_nothing}
-use Rattle.px_app.proofs.PlayLaws.{nothing_played, new_unread, new_unbuilt}
+use Rattle.px_app.proofs.PlayLaws.{nothing_played, new_unread, new_unbuilt, new_reached}
 use Rattle.px_app.proofs.playing.Playing.new.Goals as goal
 
 pub returns-in_default-clause-begun : goal.returns-in_default-clause-begun
@@ -20,3 +20,8 @@ returns-in-Err-new-clause-begun g c = λ held.
 pub returns-in-Err-clause-begun : goal.returns-in-Err-clause-begun
 returns-in-Err-clause-begun g c =
     rw c.unread.ensures (new_unread c.in-Ok.reader c.next_header.new.reader c.in-Err.e (g.S.Source.left c.args.input.now) (g.S.Source.left c.next_header.new.input) c.in-Ok.ensures c.in-Err.ensures.takes)
+
+pub returns-in-Ok-new-clause-begun : goal.returns-in-Ok-new-clause-begun
+returns-in-Ok-new-clause-begun g c =
+    new_reached c.in-Ok.reader c.next_header.new.reader c.in-Ok-next_header.header c.in-Ok-new.world (g.S.Source.left c.args.input.now) (g.S.Source.left c.next_header.new.input) c.in-Ok.ensures c.in-Ok-next_header.ensures.takes
+    (c.is_built.ensures.0 c.if-not-is_built.false) c.in-Ok-new.ensures
