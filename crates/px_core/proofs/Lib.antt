@@ -18,3 +18,4 @@ pub mod EndLaws
 pub mod RefusalLaws
 pub mod Undone
 pub mod HearingLaws
+pub mod ByStream

@@ -1,5 +1,6 @@
 pub mod Effect
 pub mod State
+pub mod InputTable
 pub mod Tables
 pub mod Change
 pub mod Reply

@@ -1,5 +1,5 @@
 -- The tables that the core keeps its state in, as the state, and the room that they have.
-use Rattle.std.specs.Prelude.{ℕ, zero, suc, ◌+◌, ◌≤◌, List, [], ◌∷◌, map, length, vec_len, vec_capacity, IfSome}
+use Rattle.std.specs.Prelude.{ℕ, zero, suc, ◌+◌, ◌≤◌, List, [], ◌∷◌, map, length, IfSome}
 use Rattle.std.specs.List.{AllByRecursion}
 use Rattle.std.specs.VecDeque.{deque_len, deque_capacity}
 use Rattle.std.specs.declared.collections.VecDeque.{VecDeque}
@@ -40,7 +40,8 @@ HavePlaces n queues = AllByRecursion (HasPlaces n) queues
 
 -- in each table that a change can make longer
 pub record HasRoom {P : Type 0} (n : ℕ) (t : Tables P) : Type 0 where
-  pub inputs : vec_len t.inputs + n ≤ vec_capacity t.inputs
+  pub places : length t.inputs.items + n ≤ t.inputs.places
+  pub streams : n ≤ t.inputs.streams
   pub posted : HavePlaces n t.posted.items
 
 -- the sink whose first message was handed out has room to take it back

@@ -75,7 +75,7 @@ fn row<P: Drop>(
                 &fields,
             )
         }
-        Command::Delete { stream } => delete(alloc, inputs, c, tag, stream),
+        Command::Delete { stream } => delete(alloc, &tables.inputs, c, tag, stream),
         _ => done_plainly(alloc, c.conn, tag, Vec::new(alloc)),
     }
 }

@@ -46,11 +46,11 @@ fn apply<P: Drop>(tables: &mut Tables<P>, change: Change<P>)
             inputs,
         } => {
             verbs::set_streams(&mut tables.connections, input.conn, streams);
-            tables.inputs.push_reserved(input);
+            tables.inputs.push(input);
             tables.inputs_made = inputs;
         }
-        Change::Leaves(index) => verbs::leave(&mut tables.inputs, index),
-        Change::Gone(index) => verbs::remove(&mut tables.inputs, index),
+        Change::Leaves(index) => tables.inputs.leave(index),
+        Change::Gone(index) => tables.inputs.remove(index),
         Change::Posted(sink, msg) => queues::post(&mut tables.posted, sink, msg),
     }
 }

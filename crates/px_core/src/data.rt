@@ -11,7 +11,6 @@ ghost use Rattle.px_core.specs.Step.{answered};
 ghost use Rattle.px_core.specs.Tables.{state_of, HasLent};
 
 use crate::commit::reserve;
-use crate::found::stream_of;
 use crate::input::Input;
 use crate::queues;
 use crate::tables::Tables;
@@ -148,7 +147,7 @@ pub(crate) fn write<P: Drop>(
     ensures sinks { tables.new.sinks ≡ tables.old.sinks }
     ensures lent { HasLent tables.old → HasLent tables.new }
 {
-    match stream_of(&tables.inputs, conn, stream) {
+    match tables.inputs.stream_of(conn, stream) {
         None => {
             tables.lent = None;
             Ok(())

@@ -5,8 +5,8 @@ ghost use Rattle.px_core.specs.Delete.{ends, delete};
 
 use crate::answer::Answer;
 use crate::change::Change;
-use crate::found::stream_of;
 use crate::input::{Connection, Input};
+use crate::input_table::InputTable;
 use crate::reply::{done_plainly, refused};
 use px_msg::Msg;
 use px_types::{ErrorCode, Mem};
@@ -25,14 +25,14 @@ fn ends<P: Drop>(alloc: Global, x: &Input) -> Mem<Vec<Change<P>>>
 /// DELETE_PLAYBACK_STREAM: `NoEntity` where the connection has no stream of this number, else the stream ends.
 pub(crate) fn delete<P: Drop>(
     alloc: Global,
-    inputs: &[Input],
+    inputs: &InputTable,
     c: &Connection,
     tag: u32,
     stream: u32,
 ) -> Mem<Answer<P>>
-    ensures { IfOk result (λ answer. answer ≡ delete inputs.now c.now tag stream) }
+    ensures { IfOk result (λ answer. answer ≡ delete inputs.now.items c.now tag stream) }
 {
-    match stream_of(inputs, c.conn, stream) {
+    match inputs.stream_of(c.conn, stream) {
         None => refused(alloc, c.conn, tag, ErrorCode::NoEntity),
         Some(x) => {
             let changes = ends(alloc, x)?;

@@ -2,7 +2,7 @@
 
 ghost use Rattle.std.specs.Prelude.{◌≡◌};
 ghost use Rattle.std.specs.Option.{option_map};
-ghost use Rattle.px_core.specs.State.{connection_of, stream_of};
+ghost use Rattle.px_core.specs.State.{connection_of};
 ghost use Rattle.px_core.specs.Connecting.{going_on};
 ghost use Rattle.px_core.specs.Told.{input_on};
 
@@ -25,15 +25,6 @@ pub(crate) fn going_on(connections: &[Connection], conn: ConnId) -> Option<Conne
         Some(c) => Some(*c),
         None => None,
     }
-}
-
-/// The input of a connection's stream. Takes no memory.
-pub(crate) fn stream_of(inputs: &[Input], conn: ConnId, stream: u32) -> Option<&Input>
-    ensures { option_map (λ x. x.now) result ≡ stream_of inputs.now conn stream }
-{
-    inputs
-        .iter()
-        .find(|x| x.conn.0 == conn.0 && x.stream == stream && !x.leaving)
 }
 
 /// The input with an index, where it is on the sink. Takes no memory.

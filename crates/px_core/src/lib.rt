@@ -20,6 +20,7 @@ mod factors;
 mod found;
 mod frames;
 mod input;
+mod input_table;
 mod laws;
 mod lending;
 mod machine;

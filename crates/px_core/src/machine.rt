@@ -114,7 +114,11 @@ impl<P: Parcel + Drop> Core<P> {
         ensures after { OnOk result (self.new ≡ stepped P.spec_of self.old Step.sweep) }
         ensures err { OnErr result (self.new ≡ self.old) }
     {
-        let answer = sweep(self.alloc, &self.tables.connections, &self.tables.inputs)?;
+        let answer = sweep(
+            self.alloc,
+            &self.tables.connections,
+            self.tables.inputs.as_slice(),
+        )?;
         finish(&mut self.tables, answer)
     }
 

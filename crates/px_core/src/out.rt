@@ -5,33 +5,33 @@ ghost use Rattle.std.specs.Prelude.{◌≡◌, Some};
 ghost use Rattle.px_core.specs.Out.{inputs_past, inputs_before, next_for, handed_out, put_back};
 ghost use Rattle.px_core.specs.Tables.{state_of, HasPlacesAt, HasLent};
 
-use crate::input::{Input, Way};
+use crate::input::Way;
+use crate::input_table::InputTable;
 use crate::queues;
 use crate::tables::Tables;
-use crate::verbs::set_way;
 use px_msg::Msg;
 use px_types::SinkId;
 
 // The way of the input that a message names, once it was handed out.
-fn pass<P>(inputs: &mut [Input], msg: &Msg<P>)
-    ensures { inputs.new ≡ inputs_past msg.now inputs.old }
+fn pass<P>(inputs: &mut InputTable, msg: &Msg<P>)
+    ensures { inputs.new.items ≡ inputs_past msg.now inputs.old.items }
 {
     match msg {
-        Msg::New(stream) => set_way(inputs, stream.input, Way::There),
-        Msg::Attach { input, .. } => set_way(inputs, *input, Way::There),
-        Msg::Detach { input } => set_way(inputs, *input, Way::Left),
+        Msg::New(stream) => inputs.set_way(stream.input, Way::There),
+        Msg::Attach { input, .. } => inputs.set_way(*input, Way::There),
+        Msg::Detach { input } => inputs.set_way(*input, Way::Left),
         _ => {}
     }
 }
 
 // The way of the input that a message names, before it is handed out.
-fn pass_back<P>(inputs: &mut [Input], msg: &Msg<P>)
-    ensures { inputs.new ≡ inputs_before msg.now inputs.old }
+fn pass_back<P>(inputs: &mut InputTable, msg: &Msg<P>)
+    ensures { inputs.new.items ≡ inputs_before msg.now inputs.old.items }
 {
     match msg {
-        Msg::New(stream) => set_way(inputs, stream.input, Way::Coming),
-        Msg::Attach { input, .. } => set_way(inputs, *input, Way::Coming),
-        Msg::Detach { input } => set_way(inputs, *input, Way::There),
+        Msg::New(stream) => inputs.set_way(stream.input, Way::Coming),
+        Msg::Attach { input, .. } => inputs.set_way(*input, Way::Coming),
+        Msg::Detach { input } => inputs.set_way(*input, Way::There),
         _ => {}
     }
 }

@@ -6,6 +6,7 @@ ghost use Rattle.px_session.specs.HeaderRules.{IsHeader, AreSinks};
 ghost use Rattle.px_core.specs.State.{new_state};
 ghost use Rattle.px_core.specs.Tables.{lists_of, state_of, HasLent};
 
+use crate::input_table::InputTable;
 use crate::tables::Tables;
 use px_msg::Msg;
 use px_names::{Names, SinkNames};
@@ -73,7 +74,7 @@ pub(crate) fn new_tables<P: Drop>(alloc: Global, header: &Header) -> Mem<Tables<
         names: Names::new(alloc, header.cookie.as_slice(), &names)?,
         sinks: SinkSpecs::from_vec(copied_sinks(alloc, sinks)?),
         connections: Vec::new(alloc),
-        inputs: Vec::new(alloc),
+        inputs: InputTable::new(alloc),
         posted: queues_for(alloc, sinks)?,
         clients_made: 0,
         inputs_made: 0,

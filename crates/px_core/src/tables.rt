@@ -1,6 +1,7 @@
 //! The tables that the core keeps its state in.
 
-use crate::input::{Connection, Input};
+use crate::input::Connection;
+use crate::input_table::InputTable;
 use px_msg::Msg;
 use px_names::Names;
 use px_session::SinkSpecs;
@@ -16,7 +17,7 @@ pub(crate) struct Tables<P> {
     /// In order of connecting.
     pub(crate) connections: Vec<Connection>,
     /// In rising index.
-    pub(crate) inputs: Vec<Input>,
+    pub(crate) inputs: InputTable,
     /// The messages that wait for each sink, in order.
     pub(crate) posted: Vec<VecDeque<Msg<P>>>,
     /// How many clients were ever made, and how many inputs.

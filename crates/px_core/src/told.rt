@@ -221,7 +221,7 @@ fn given_up_on<P: Drop>(
         Some(sink) => {
             let mut changes = Vec::new(alloc);
             changes.push(Change::Gone(x.index))?;
-            let factors = factors_for(alloc, sink, x.sink, &tables.inputs, None)?;
+            let factors = factors_for(alloc, sink, x.sink, tables.inputs.as_slice(), None)?;
             changes.push(Change::Posted(x.sink, factors))?;
             Ok(Answer {
                 changes,

@@ -63,8 +63,10 @@ pub(crate) fn forget(connections: &mut Vec<Connection>, conn: ConnId)
 }
 
 /// An input has ended.
-pub(crate) fn leave(inputs: &mut [Input], index: InputId)
-    ensures { inputs.new ≡ change_first (has_index index) leaving inputs.old }
+pub(crate) fn leave(inputs: &mut Vec<Input>, index: InputId)
+    ensures items { inputs.new.items ≡ change_first (has_index index) leaving inputs.old.items }
+    ensures capacity { vec_capacity inputs.new ≡ vec_capacity inputs.old }
+    ensures len { vec_len inputs.new ≡ vec_len inputs.old }
 {
     if let Some(place) = place_at(inputs, index) {
         inputs[place].leaving = true;
@@ -72,8 +74,9 @@ pub(crate) fn leave(inputs: &mut [Input], index: InputId)
 }
 
 /// An input's stream is there on its way.
-pub(crate) fn set_way(inputs: &mut [Input], index: InputId, way: Way)
-    ensures { inputs.new ≡ change_first (has_index index) (on_way way) inputs.old }
+pub(crate) fn set_way(inputs: &mut Vec<Input>, index: InputId, way: Way)
+    ensures items { inputs.new.items ≡ change_first (has_index index) (on_way way) inputs.old.items }
+    ensures capacity { vec_capacity inputs.new ≡ vec_capacity inputs.old }
 {
     if let Some(place) = place_at(inputs, index) {
         inputs[place].way = way;

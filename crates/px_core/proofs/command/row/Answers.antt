@@ -5,7 +5,7 @@ use Rattle.px_core.proofs.command.row.Goals as goal
 pub returns-in-Create : goal.returns-in-Create
 returns-in-Create g c =
     create_answers c.create.result (state_of c.args.tables.now) c.args.c.now c.args.tag c.in-Create.fields c.args.command c.as_slice-sinks.result.now c.as_slice-inputs.result.now
-    c.in-Create.is c.as_slice-sinks.ensures c.as_slice-inputs.ensures.value c.create.ensures
+    c.in-Create.is c.as_slice-sinks.ensures c.as_slice-inputs.ensures c.create.ensures
 
 pub returns : goal.returns
 returns g c =

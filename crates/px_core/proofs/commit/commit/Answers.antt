@@ -1,4 +1,4 @@
-use Rattle.std.proofs.Common.{arith, ◌≡◌, ℕ, ◌+◌, List, ◌∷◌, [], length, subst, ◌∙◌, ap}
+use Rattle.std.proofs.Common.{arith, ◌≡◌, ◌+◌, List, ◌∷◌, length, subst, ◌∙◌, ap}
 use Rattle.px_core.specs.declared.change.Change.{Change}
 use Rattle.px_core.specs.State.{State}
 use Rattle.px_core.specs.Change.{changed, committed}

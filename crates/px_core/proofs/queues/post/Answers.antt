@@ -1,5 +1,5 @@
-use Rattle.std.proofs.Common.{arith, ◌≡◌, ◌<◌, ◌+◌, ℕ, ◌++◌, ◌∷◌, [], length, get_or, slice_set, sym, ap, ◌∙◌}
-use Rattle.px_core.specs.Tables.{lists_of, HasPlaces, HavePlaces}
+use Rattle.std.proofs.Common.{arith, ◌+◌, ◌++◌, ◌∷◌, [], get_or}
+use Rattle.px_core.specs.Tables.{lists_of}
 use Rattle.px_core.proofs.Waiting.{set_lists_to, get_lists, fewer_places, set_places, get_places}
 use Rattle.px_core.proofs.queues.post.Goals as goal
 

@@ -1,4 +1,4 @@
-use Rattle.std.proofs.Common.{arith, ◌∷◌, [], get_or, slice_set, sym, ap, ◌∙◌}
+use Rattle.std.proofs.Common.{arith, ◌∷◌, [], get_or}
 use Rattle.px_core.specs.Tables.{lists_of}
 use Rattle.px_core.proofs.Waiting.{set_lists_to, get_lists, places_at}
 use Rattle.px_core.proofs.queues.put_first.Goals as goal

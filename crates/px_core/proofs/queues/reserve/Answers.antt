@@ -1,6 +1,4 @@
-use Rattle.std.proofs.Common.{arith, ◌≡◌, ℕ, ◌+◌, ◌<◌, ◌≤◌, length, ◌∙◌}
-use Rattle.std.specs.VecDeque.{deque_len, deque_capacity}
-use Rattle.px_core.specs.Tables.{lists_of, HasPlaces, HasPlacesAt, HavePlaces}
+use Rattle.std.proofs.Common.{arith, ◌∙◌}
 use Rattle.px_core.proofs.Waiting.{same_lists, kept_places, one_more_has, all_have}
 use Rattle.px_core.proofs.queues.reserve.Goals as goal
 

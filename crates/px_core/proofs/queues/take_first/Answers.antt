@@ -1,5 +1,5 @@
-use Rattle.std.proofs.Common.{arith, ◌+◌, ◌≤◌, ◌∷◌, [], get_or, slice_set, sym, ap, ◌∙◌}
-use Rattle.std.specs.VecDeque.{deque_len, deque_capacity}
+use Rattle.std.proofs.Common.{arith, [], get_or}
+use Rattle.std.specs.VecDeque.{deque_len}
 use Rattle.px_core.specs.Out.{rest_of}
 use Rattle.px_core.specs.Tables.{lists_of, HasPlaces}
 use Rattle.px_core.proofs.Waiting.{kept_places, set_lists_to, get_lists, same_lists, set_places_at, rest_is_dropped, none_left, one_less}

@@ -1,12 +1,18 @@
-use Rattle.std.proofs.Common.{sym}
-use Rattle.px_core.specs.State.{has_number, has_index}
-use Rattle.px_core.specs.Change.{authed, marked, with_streams, leaving}
-use Rattle.px_core.specs.Out.{on_way}
+use Rattle.std.proofs.Common.{◌≡◌, Some, None, slice_set, sym, subst, ap, ◌∙◌}
+use Rattle.std.specs.List.{position}
+use Rattle.px_core.specs.State.{has_index}
+use Rattle.px_core.specs.Change.{leaving}
 use Rattle.px_core.proofs.First.{changed, unchanged}
 use Rattle.px_core.proofs.verbs.leave.Goals as goal
 
-pub returns-in-Some : goal.returns-in-Some
-returns-in-Some c = sym (changed (has_index c.args.index) leaving c.args.inputs.now c.in-Some.place _ (sym c.in-Some.ensures))
+pub returns-in-Some-clause-items : goal.returns-in-Some-clause-items
+returns-in-Some-clause-items c =
+    let is = has_index c.args.index in
+    let all = c.args.inputs.now.items in
+    let found : position is all ≡ Some c.in-Some.place = subst (λ xs. position is xs ≡ Some c.in-Some.place) c.deref.ensures.value (sym c.in-Some.ensures) in
+    ap (λ x. slice_set all c.in-Some.place (leaving x)) c.index_mut.ensures.value ∙ sym (changed is leaving all c.in-Some.place c.index_mut.result.now found)
 
-pub returns-in_default : goal.returns-in_default
-returns-in_default c = unchanged (has_index c.args.index) leaving c.args.inputs.now (sym c.in_default.ensures)
+pub returns-in_default-clause-items : goal.returns-in_default-clause-items
+returns-in_default-clause-items c =
+    let is = has_index c.args.index in
+    unchanged is leaving c.args.inputs.now.items (subst (λ xs. position is xs ≡ None) c.deref.ensures.value (sym c.in_default.ensures))

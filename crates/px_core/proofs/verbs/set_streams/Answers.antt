@@ -1,7 +1,6 @@
 use Rattle.std.proofs.Common.{sym}
-use Rattle.px_core.specs.State.{has_number, has_index}
-use Rattle.px_core.specs.Change.{authed, marked, with_streams, leaving}
-use Rattle.px_core.specs.Out.{on_way}
+use Rattle.px_core.specs.State.{has_number}
+use Rattle.px_core.specs.Change.{with_streams}
 use Rattle.px_core.proofs.First.{changed, unchanged}
 use Rattle.px_core.proofs.verbs.set_streams.Goals as goal
 
