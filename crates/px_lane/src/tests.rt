@@ -1,3 +1,5 @@
+mod turns;
+
 ghost use Rattle.std.specs.Prelude.{◌≡◌, ◌≤◌, IfOk};
 ghost use Rattle.px_model.specs.Frame.{frame_size};
 ghost use Rattle.px_model.specs.Stream.{Stream as Plain};
