@@ -15,3 +15,4 @@ pub mod Doing
 pub mod Sounding
 pub mod Standings
 pub mod Beginning
+pub mod Present

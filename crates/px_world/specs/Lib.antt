@@ -9,3 +9,4 @@ pub mod Outcome
 pub mod Keeping
 pub mod Playing
 pub mod Doing
+pub mod Present

@@ -20,3 +20,6 @@ pub use law::{
 };
 pub use outcome::Outcome;
 pub use world::World;
+
+#[cfg(test)]
+mod tests;
