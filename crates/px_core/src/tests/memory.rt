@@ -9,7 +9,7 @@ use super::{CLIENT, CREATE, DELETE, FIRST, MONO, OUT, Stub, blocks, core, reply_
 use crate::{Core, Effects};
 use px_block::Blocks;
 use px_frame::{Body, Frame, FrameFault, Packet};
-use px_msg::{Attr, Msg, Notice};
+use px_msg::{Attr, Msg, NewStream, Notice};
 use px_types::{InputId, Mem, NoMemory};
 use std::alloc::Global;
 
@@ -119,22 +119,24 @@ fn detached(core: &mut Core<Stub>, input: InputId) -> Mem<Effects> {
 
 // The messages that are handed out, one by one.
 
-fn brings(msg: Option<Msg<Stub>>, input: InputId) -> bool {
+fn is_new(stream: &NewStream, input: InputId) -> bool {
     let attr = Attr {
         maxlength: 2_097_152,
         tlength: 96_000,
         prebuf: 0,
         minreq: 960,
     };
-    match msg {
-        Some(Msg::New(new)) => {
-            new.input == input
-                && new.spec == MONO
-                && new.feed.channels() == [0].as_slice()
-                && new.factors.values() == [65_536].as_slice()
-                && new.attr == attr
-                && !new.corked
-        }
+    stream.input == input
+        && stream.spec == MONO
+        && stream.feed.channels() == [0].as_slice()
+        && stream.factors.values() == [65_536].as_slice()
+        && stream.attr == attr
+        && !stream.corked
+}
+
+fn brings(msg: Option<Msg<Stub>>, input: InputId) -> bool {
+    match &msg {
+        Some(Msg::New(stream)) => is_new(stream, input),
         _ => false,
     }
 }

@@ -260,14 +260,12 @@ const REFUSED: &[(&[But], u8)] = &[
 // Each is refused, and behind it a stream is made whose index is the next.
 fn refusals(alloc: Global) -> Mem<bool> {
     let mut core = one_client(alloc, two_sinks(alloc)?)?;
-    let mut index = 0;
-    for (buts, code) in REFUSED {
+    for (index, (buts, code)) in (0..256).zip(REFUSED) {
         if !is_refused(alloc, &mut core, buts, *code)?
             || !is_made(alloc, &mut core, index, &[], OUT, USUAL)?
         {
             return Ok(false);
         }
-        index += 1;
     }
     Ok(true)
 }
@@ -301,12 +299,10 @@ const MADE: &[(&[But], SinkId, [u32; 4])] = &[
 // Two messages wait for each on its sink: nine on `out`, two on `wide`.
 fn makings(alloc: Global) -> Mem<bool> {
     let mut core = one_client(alloc, two_sinks(alloc)?)?;
-    let mut index = 0;
-    for (buts, sink, lengths) in MADE {
+    for (index, (buts, sink, lengths)) in (0..256).zip(MADE) {
         if !is_made(alloc, &mut core, index, buts, *sink, *lengths)? {
             return Ok(false);
         }
-        index += 1;
     }
     Ok(waiting(&core) == [18, 4])
 }
