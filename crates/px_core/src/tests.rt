@@ -1,5 +1,9 @@
 //! The public calls of the core, each once at least, over one sink and one client.
 
+mod memory;
+mod rows;
+mod streams;
+
 ghost use Rattle.std.specs.Prelude.{◌<◌, ◌≤◌, length, IfOk};
 ghost use Rattle.px_msg.specs.View.{sample_spec};
 
@@ -60,9 +64,9 @@ fn header(alloc: Global) -> Mem<Text> {
     Ok(Text::from_vec(bytes))
 }
 
-// A core before its first step.
-fn core(alloc: Global) -> Mem<Core<Stub>> {
-    let mut source = MemSource::new(header(alloc)?, Calls::from_vec(Vec::new(alloc)));
+// A core before its first step, of a server with this header.
+fn core_of(alloc: Global, header: Text) -> Mem<Core<Stub>> {
+    let mut source = MemSource::new(header, Calls::from_vec(Vec::new(alloc)));
     let mut reader = Reader::new(alloc)?;
     match reader.next(&mut source) {
         Ok(Step::Header(header)) => Core::new(alloc, &header),
@@ -70,18 +74,61 @@ fn core(alloc: Global) -> Mem<Core<Stub>> {
     }
 }
 
-// How many effects a control packet of the client has.
-fn ask(alloc: Global, core: &mut Core<Stub>, packet: &[u8]) -> Mem<usize> {
+fn core(alloc: Global) -> Mem<Core<Stub>> {
+    core_of(alloc, header(alloc)?)
+}
+
+// What a control packet of a connection is answered, whose first byte has the offset 20.
+fn answer_to(alloc: Global, core: &mut Core<Stub>, conn: ConnId, packet: &[u8]) -> Mem<Effects> {
     if packet.is_empty() || packet.len() > 400 {
         return Err(NoMemory);
     }
     let mut bytes = Vec::new(alloc);
     bytes.extend_from_slice(packet)?;
     let body = Body::Control(Packet::from_vec(bytes));
-    match core.frame(CLIENT, Frame { at: 20, body }) {
-        Ok(effects) => Ok(effects.as_slice().len()),
+    match core.frame(conn, Frame { at: 20, body }) {
+        Ok(effects) => Ok(effects),
         Err(_) => Err(NoMemory),
     }
+}
+
+fn answer(alloc: Global, core: &mut Core<Stub>, packet: &[u8]) -> Mem<Effects> {
+    answer_to(alloc, core, CLIENT, packet)
+}
+
+// How many effects a control packet of the client has.
+fn ask(alloc: Global, core: &mut Core<Stub>, packet: &[u8]) -> Mem<usize> {
+    Ok(answer(alloc, core, packet)?.as_slice().len())
+}
+
+// Whether a frame is this packet, behind the descriptor of a packet of its length.
+fn is_frame_of(frame: &[u8], packet: &[u8]) -> bool {
+    if frame.len() < 20 {
+        return false;
+    }
+    let length = u32::from_be_bytes([frame[0], frame[1], frame[2], frame[3]]);
+    length as usize == packet.len()
+        && &frame[4..20]
+            == b"\xFF\xFF\xFF\xFF\x00\x00\x00\x00\x00\x00\x00\x00\x00\x00\x00\x00".as_slice()
+        && &frame[20..] == packet
+}
+
+// Whether the one effect is that this packet goes to a connection.
+fn reply_to_is(conn: ConnId, effects: &Effects, packet: &[u8]) -> bool {
+    let effects = effects.as_slice();
+    match effects.first() {
+        Some(
+            Effect::Sent {
+                conn: to,
+                packet: frame,
+            },
+        ) => effects.len() == 1 && *to == conn && is_frame_of(frame.bytes(), packet),
+        _ => false,
+    }
+}
+
+fn reply_is(effects: &Effects, packet: &[u8]) -> bool {
+    reply_to_is(CLIENT, effects, packet)
 }
 
 fn auth(alloc: Global, core: &mut Core<Stub>) -> Mem<usize> {
@@ -241,21 +288,6 @@ fn frames_wait(alloc: Global) -> Mem<bool> {
 #[test]
 fn whole_frames_wait_and_others_do_not(rt: HostRuntime) -> Mem<()> {
     assert!(rt; frames_wait(rt.alloc())?);
-    Ok(())
-}
-
-fn refused(alloc: Global) -> Mem<bool> {
-    let mut core = core(alloc)?;
-    admit(&mut core, 7)?;
-    let barred = ask(alloc, &mut core, CREATE)?;
-    let let_in = auth(alloc, &mut core)?;
-    let no_stream = ask(alloc, &mut core, DELETE)?;
-    Ok(barred == 1 && let_in == 1 && no_stream == 1 && waiting(&core) == 0)
-}
-
-#[test]
-fn a_refused_packet_changes_nothing(rt: HostRuntime) -> Mem<()> {
-    assert!(rt; refused(rt.alloc())?);
     Ok(())
 }
 
