@@ -1,0 +1,39 @@
+# What the scripts of bench/ share: sourced, with $top (the repository) and $work (a folder to write in) set.
+
+# The least time of five runs of a program with these words, in nanoseconds. It reads $input, and $work/says is what it prints.
+least() {
+    best=
+    for _ in 1 2 3 4 5; do
+        from=$(date +%s%N)
+        "$@" <"${input:-/dev/null}" >"$work/says"
+        took=$(($(date +%s%N) - from))
+        if [ -z "$best" ] || [ "$took" -lt "$best" ]; then best=$took; fi
+    done
+    echo "$best"
+}
+
+# Builds the proved program of a crate bench_NAME.
+build() {
+    (cd "$top/crates/bench_$1" && rt run <"${input:-/dev/null}" >/dev/null 2>&1)
+}
+
+# compare NAME LABEL COUNT UNIT WORD..: builds the crate bench_NAME and the plain bench/NAME.rs, runs both with the words, and prints
+# how many of the unit each does in a second, where a run does COUNT, and their ratio (above 1: the proved code is faster).
+compare() {
+    name=$1 label=$2 count=$3 unit=$4
+    shift 4
+    build "$name"
+    rustc --edition 2021 -O -C target-cpu=x86-64-v2 -o "$work/plain" "$top/bench/$name.rs"
+    proved=$(least "$top/crates/bench_$name/out/bench_$name" "$@")
+    mv "$work/says" "$work/proved_says"
+    plain=$(least "$work/plain" "$@")
+    if ! cmp -s "$work/proved_says" "$work/says"; then
+        echo "the two programs disagree" >&2
+        exit 1
+    fi
+    awk -v l="$label" -v u="$unit" -v n="$count" -v a="$proved" -v b="$plain" 'BEGIN {
+        printf "%-16s  %.0f %s a second\n", l, n / a * 1000000000, u
+        printf "%-16s  %.0f %s a second\n", "plain Rust", n / b * 1000000000, u
+        printf "%-16s  %.2f\n", "ratio", b / a
+    }'
+}
