@@ -58,7 +58,7 @@ fn made(alloc: Global, dice: &mut Dice, consumed: i64) -> Mem<Written> {
     })
 }
 
-/// A world and a plain sink to which the same is done.
+// A world and a plain sink to which the same is done. The writes that wait are those that no turn has taken yet.
 #[derive(Drop)]
 struct Run {
     alloc: Global,
@@ -116,7 +116,7 @@ impl Run {
     }
 }
 
-// Whether both play the same at each turn, and it isn't silence for the most part.
+// Whether both play the same at each turn, and it isn't all silence.
 fn same(alloc: Global) -> Mem<bool> {
     let mut run = begin(alloc)?;
     for _ in 0..200 {
