@@ -168,11 +168,9 @@ fn send(alloc: Global, core: &mut Core<Stub>, streams: u32, frames: u32) -> Mem<
     let mut messages = deliver(core);
     for frame in 0..frames {
         write(alloc, core, frame % streams.max(1))?;
-        if frame % 64 == 63 {
-            messages = messages.wrapping_add(deliver(core));
-        }
+        messages = messages.wrapping_add(deliver(core));
     }
-    Ok(messages.wrapping_add(deliver(core)))
+    Ok(messages)
 }
 
 /// The messages that a core with so many inputs has after so many data frames.
