@@ -19,6 +19,3 @@ pub use law::inputs_are_played_or_refused;
 pub use program::run;
 pub use refusal::{Refusal, Why};
 pub use replaying::{View, replay};
-
-#[cfg(test)]
-mod tests;

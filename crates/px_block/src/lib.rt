@@ -5,8 +5,6 @@
 mod block;
 mod blocks;
 mod source;
-#[cfg(test)]
-mod tests;
 
 pub use block::{BLOCK_SIZE, Block, Mem, NoMemory};
 pub use blocks::Blocks;

@@ -11,6 +11,3 @@ mod planner;
 pub use feed::Feed;
 pub use map::Map;
 pub use planner::plan;
-
-#[cfg(test)]
-mod tests;

@@ -17,6 +17,3 @@ pub use head::{Head, read_head};
 pub use law::spelled_commands;
 pub use packet::{is_command, read_command};
 pub use text::{Keys, Text};
-
-#[cfg(test)]
-mod tests;

@@ -44,6 +44,3 @@ pub use laws::{
 };
 pub use lending::put_back_undoes_handing_out;
 pub use machine::Core;
-
-#[cfg(test)]
-mod tests;

@@ -10,6 +10,3 @@ mod played;
 pub use device::{Device, DeviceFault, DeviceShape};
 pub use memory::MemDevice;
 pub use played::Played;
-
-#[cfg(test)]
-mod tests;

@@ -20,6 +20,3 @@ pub use memory_link::MemLink;
 pub use memory_sink::MemSink;
 pub use memory_source::MemSource;
 pub use whole::{Filled, WriteFailed, fill, write_all};
-
-#[cfg(test)]
-mod tests;

@@ -10,8 +10,6 @@ mod law;
 mod packet;
 mod pieces;
 mod stage;
-#[cfg(test)]
-mod tests;
 mod write;
 
 pub use decoder::Decoder;

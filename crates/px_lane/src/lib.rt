@@ -41,8 +41,3 @@ pub use queue::{FrameQueue, Stored};
 pub use ready::Ready;
 pub use share::scaled;
 pub use stream::Stream;
-
-#[cfg(test)]
-mod tests;
-#[cfg(test)]
-mod tests_lane;

@@ -17,6 +17,3 @@ pub use message::{Msg, NewStream};
 pub use notice::Notice;
 pub use parcel::Parcel;
 pub use px_model::{Attr, Run};
-
-#[cfg(test)]
-mod tests;

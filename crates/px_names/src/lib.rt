@@ -9,6 +9,3 @@ mod sinks;
 pub use client::Client;
 pub use names::Names;
 pub use sinks::SinkNames;
-
-#[cfg(test)]
-mod tests;

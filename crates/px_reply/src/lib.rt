@@ -17,6 +17,3 @@ pub use server::{
     client_info, client_infos, input_info, input_infos, server_info, sink_info, sink_infos,
 };
 pub use stream::{attributes, created, latency};
-
-#[cfg(test)]
-mod tests;

@@ -18,6 +18,3 @@ pub use laws::packing_gives_back;
 pub use sample::{pack, unpack};
 pub use spec::Spec;
 pub use width::to_work;
-
-#[cfg(test)]
-mod tests;

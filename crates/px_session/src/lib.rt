@@ -24,6 +24,3 @@ pub use law::{one_reading, reading_in_steps, refusals_at_the_end};
 pub use output::OutRecord;
 pub use reader::Reader;
 pub use writer::{write_effect, write_event, write_header};
-
-#[cfg(test)]
-mod tests;

@@ -24,6 +24,3 @@ pub use proplist::PropList;
 pub use raw::{CHANNELS_MAX, RawMap, RawSpec, RawVolume, TimeVal};
 pub use reader::TagReader;
 pub use writer::TagWriter;
-
-#[cfg(test)]
-mod tests;

@@ -14,6 +14,3 @@ pub use ids::{ConnId, InputId, SinkId};
 pub use memory::{Mem, NoMemory};
 pub use status::Status;
 pub use text::Text;
-
-#[cfg(test)]
-mod tests;

@@ -11,6 +11,3 @@ mod volume;
 pub use channels::{CVolume, Factors};
 pub use laws::dividing_is_undone;
 pub use volume::{MAX, MUTED, NORM, cube, divide, multiply};
-
-#[cfg(test)]
-mod tests;

@@ -20,6 +20,3 @@ pub use law::{
 };
 pub use outcome::Outcome;
 pub use world::World;
-
-#[cfg(test)]
-mod tests;

@@ -1,8 +1,0 @@
-//! Sessions of one client over one sink, event by event.
-
-mod against;
-mod making;
-mod plain;
-mod sound;
-mod stopped;
-mod whole;
