@@ -1,2 +1,3 @@
 pub mod ToldBytes
 pub mod Filling
+pub mod Frames

@@ -4,3 +4,5 @@ pub mod Bytes
 pub mod Links
 pub mod Whole
 pub mod Memory
+pub mod Device
+pub mod MemoryDevice

@@ -7,7 +7,7 @@ use Rattle.std.proofs.Math.Seq.{drop-append-add, take-append-add}
 use Rattle.std.specs.Prelude.{IsFalse}
 use Rattle.std.specs.List.{concat}
 use Rattle.px_ends.specs.Told.{after_adding, WhereTold}
-use Rattle.px_device.specs.Device.{DeviceState, Plays, IsPut, played_on, put_at, put_from, without_front, with_front, frames_in}
+use Rattle.px_ends.specs.Device.{DeviceState, Plays, IsPut, played_on, put_at, put_from, without_front, with_front, frames_in}
 use Rattle.px_model.specs.Frame.{Frame, frame_size}
 use Rattle.px_model.specs.Message.{Message}
 use Rattle.px_model.specs.Stream.{Stream}

@@ -4,7 +4,7 @@ use Rattle.std.specs.List.{concat}
 use Rattle.std.specs.FinMap as map
 use Rattle.px_ends.specs.Faults.{next_count}
 use Rattle.px_ends.specs.Told.{after_adding, WhereTold}
-use Rattle.px_device.specs.Device.{DeviceState, Fails}
+use Rattle.px_ends.specs.Device.{DeviceState, Fails}
 use Rattle.px_model.specs.Frame.{frame_size}
 use Rattle.px_model.specs.Sink.{Sink, IsSink, specs_of}
 use Rattle.px_lane.specs.Whole.{AreFramesOf}

@@ -1,7 +1,7 @@
 -- What a turn of a lane does, by its answer.
 use Rattle.std.specs.Prelude.{◌≡◌, ℕ, ◌-◌, ◌^◌, ◌<◌, ◌≤◌, IsFalse, List, ◌++◌}
 use Rattle.std.specs.List.{concat}
-use Rattle.px_device.specs.Device.{DeviceState, Consumes, is_failing}
+use Rattle.px_ends.specs.Device.{DeviceState, Consumes, is_failing}
 use Rattle.px_model.specs.Stream.{Stream}
 use Rattle.px_model.specs.Message.{Message}
 use Rattle.px_model.specs.Notice.{Notice}

@@ -13,7 +13,7 @@ ghost use Rattle.px_lane.specs.contracts.lane.Lane.{the_row};
 
 use crate::{MsgList, NoticeList, Prepared, SinkMixer};
 use px_block::BlockSource;
-use px_device::{Device, DeviceFault};
+use px_ends::{Device, DeviceFault};
 use px_session::SinkSpec;
 use px_types::{Mem, NoMemory};
 use std::alloc::Global;

@@ -4,8 +4,8 @@ use Rattle.std.specs.Prelude.{IsFalse, ◌||◌, length}
 use Rattle.std.specs.List.{concat}
 use Rattle.std.proofs.lemmas.Bool.{cond-false}
 use Rattle.std.proofs.lemmas.List.{length-take-le}
-use Rattle.px_device.specs.Device.{Consumes, is_failing}
-use Rattle.px_device.specs.Memory.{MemoryDevice, state_of, next_of, set_of}
+use Rattle.px_ends.specs.Device.{Consumes, is_failing}
+use Rattle.px_ends.specs.MemoryDevice.{MemoryDevice, state_of, next_of, set_of}
 use Rattle.px_model.specs.Message.{Message}
 use Rattle.px_model.specs.Notice.{Notice}
 use Rattle.px_model.specs.Sink.{Sink, IsSink}

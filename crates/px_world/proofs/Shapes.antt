@@ -7,9 +7,9 @@ use Rattle.px_session.specs.declared.header.SinkSpec.{SinkSpec}
 use Rattle.px_session.specs.HeaderRules.{IsSink}
 use Rattle.px_msg.specs.View.{sample_spec}
 use Rattle.px_msg.proofs.Sizes.{same_frame_size}
-use Rattle.px_device.specs.declared.device.DeviceShape.{DeviceShape}
-use Rattle.px_device.specs.Device.{IsShape}
-use Rattle.px_device.specs.Memory.{state_of, new_memory_device}
+use Rattle.px_ends.specs.declared.device.DeviceShape.{DeviceShape}
+use Rattle.px_ends.specs.Device.{IsShape}
+use Rattle.px_ends.specs.MemoryDevice.{state_of, new_memory_device}
 use Rattle.px_model.specs.Sink.{empty_sink}
 use Rattle.px_lane.specs.Lane.{IsAttached}
 

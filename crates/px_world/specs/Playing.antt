@@ -1,6 +1,6 @@
 -- A sink's mixer of the code as the mixer of a world.
 use Rattle.std.specs.Prelude.{◌≡◌, ◌||◌, IsFalse, []}
-use Rattle.px_device.specs.Memory.{state_of}
+use Rattle.px_ends.specs.MemoryDevice.{state_of}
 use Rattle.px_lane.specs.Lane.{IsAttached}
 use Rattle.px_world.specs.declared.playing.Playing.{Playing}
 use Rattle.px_world.specs.World.{Mixer}

@@ -1,7 +1,7 @@
 //! What an event did.
 
 use px_core::Effects;
-use px_device::Played;
+use px_ends::Played;
 
 /// What an event did.
 #[derive(Debug, Drop)]

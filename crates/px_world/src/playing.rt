@@ -13,7 +13,7 @@ ghost use Rattle.px_world.specs.Playing.{mixer_of, IsPlaying};
 ghost use Rattle.px_world.specs.Doing.{told_to_fail};
 
 use px_block::Fresh;
-use px_device::{DeviceShape, MemDevice, Played};
+use px_ends::{DeviceShape, MemDevice, Played};
 use px_lane::{Lane, MsgList, NoticeList, Turned};
 use px_session::SinkSpec;
 use px_types::{Mem, NoMemory};

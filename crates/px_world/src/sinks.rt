@@ -21,7 +21,7 @@ use crate::stepping::{WorldCore, swept, take_messages, take_notices};
 use crate::{Outcome, WorldFault};
 use px_block::Fresh;
 use px_core::Effects;
-use px_device::Played;
+use px_ends::Played;
 use px_lane::{MsgList, NoticeList};
 use px_types::{Mem, NoMemory, SinkId};
 use std::alloc::Global;

@@ -1,6 +1,6 @@
 use Rattle.std.proofs.Common.{◌≡◌, ℕ, ◌+◌, ◌-◌, ◌≤◌, List, length, drop, ap, sym, ◌∙◌, subst, arith}
 use Rattle.std.specs.List.{concat}
-use Rattle.px_device.specs.Device.{DeviceState, IsPut, put_at}
+use Rattle.px_ends.specs.Device.{DeviceState, IsPut, put_at}
 use Rattle.px_model.specs.Sink.{Sink}
 use Rattle.px_model.specs.Turn.{turned, next_horizon}
 use Rattle.px_lane.specs.Samples.{samples}

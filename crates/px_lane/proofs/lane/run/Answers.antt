@@ -1,6 +1,6 @@
 use Rattle.std.proofs.Common.{◌≡◌, ℕ, ◌-◌, ◌≤◌, length, refl, ap, sym, ◌∙◌, subst, arith, rules}
 use Rattle.std.specs.Prelude.{IsFalse, Option}
-use Rattle.px_device.specs.Device.{DeviceState, Consumes, Next, is_failing}
+use Rattle.px_ends.specs.Device.{DeviceState, Consumes, Next, is_failing}
 use Rattle.px_model.specs.Sink.{Sink}
 use Rattle.px_lane.specs.declared.lane.Turned.{Turned}
 use Rattle.px_lane.specs.Turned.{Turns}

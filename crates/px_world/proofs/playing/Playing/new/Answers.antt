@@ -1,8 +1,8 @@
 use Rattle.std.proofs.Common.{◌≡◌, sym, subst, ap, ◌∙◌}
 use Rattle.px_msg.specs.View.{sample_spec}
-use Rattle.px_device.specs.declared.device.DeviceShape.{DeviceShape}
-use Rattle.px_device.specs.Device.{IsShape}
-use Rattle.px_device.specs.Memory.{MemoryDevice, state_of, new_memory_device}
+use Rattle.px_ends.specs.declared.device.DeviceShape.{DeviceShape}
+use Rattle.px_ends.specs.Device.{IsShape}
+use Rattle.px_ends.specs.MemoryDevice.{MemoryDevice, state_of, new_memory_device}
 use Rattle.px_model.specs.Sink.{empty_sink}
 use Rattle.px_lane.specs.Lane.{Mixer as Lane, IsAttached}
 use Rattle.px_world.proofs.Shapes.{shape_for, is-shape, is-attached}

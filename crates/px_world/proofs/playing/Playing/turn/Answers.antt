@@ -1,7 +1,7 @@
 use Rattle.std.proofs.Common.{◌≡◌, ℕ, List, length, min, ap, sym, subst, ◌∙◌}
 use Rattle.std.specs.Prelude.{◌||◌, ◌++◌, Some}
 use Rattle.std.specs.List.{concat}
-use Rattle.px_device.specs.Memory.{MemoryDevice, state_of}
+use Rattle.px_ends.specs.MemoryDevice.{MemoryDevice, state_of}
 use Rattle.px_model.specs.Turn.{turned as after, turn_notices}
 use Rattle.px_lane.specs.Samples.{samples}
 use Rattle.px_lane.specs.Turned.{Turns}

@@ -1,6 +1,6 @@
 // What plays the frames of a sink.
 ghost use Rattle.std.specs.Prelude.{◌≡◌, ℕ, IfOk, OnErr};
-ghost use Rattle.px_device.specs.Device.{DeviceState, Plays, Fails, IsPut, put_at};
+ghost use Rattle.px_ends.specs.Device.{DeviceState, Plays, Fails, IsPut, put_at};
 
 /// The numbers by which a device is made.
 #[derive(Clone, Copy, Debug, PartialEq, Eq)]

@@ -3,7 +3,7 @@ use Rattle.std.proofs.Common.{◌≡◌, ℕ, ◌+◌, ◌-◌, ◌*◌, ◌/◌
 use Rattle.std.proofs.Math.Nat.{add-mul, mul-le-mul_right, mul-div_cancel}
 use Rattle.std.proofs.lemmas.List.{length-take-le}
 use Rattle.std.specs.Option.{unwrap_or}
-use Rattle.px_device.specs.Memory.{due_of, left_after}
+use Rattle.px_ends.specs.MemoryDevice.{due_of, left_after}
 
 -- the first n frames are inside
 pub frames_inside : (len n c f w : ℕ) → len + c * w ≡ f * w → n + c ≤ f → n * w ≤ len

@@ -1,8 +1,8 @@
 use Rattle.std.proofs.Common.{◌-◌, ◌/◌, ◌≤◌, length, subst, sym, arith}
-use Rattle.px_device.specs.Device.{IsPut}
-use Rattle.px_device.specs.Memory.{state_of}
-use Rattle.px_device.proofs.Frames.{frames_inside, frames_put, frames_fit}
-use Rattle.px_device.proofs.memory.MemDeviceDevice.put.Goals as goal
+use Rattle.px_ends.specs.Device.{IsPut}
+use Rattle.px_ends.specs.MemoryDevice.{state_of}
+use Rattle.px_ends.proofs.Frames.{frames_inside, frames_put, frames_fit}
+use Rattle.px_ends.proofs.memory_device.MemDeviceDevice.put.Goals as goal
 
 pub put_behind-requires-clause-inside : goal.put_behind-requires-clause-inside
 put_behind-requires-clause-inside c =

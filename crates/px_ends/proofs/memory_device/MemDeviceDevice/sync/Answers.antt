@@ -1,8 +1,8 @@
 use Rattle.std.proofs.Common.{◌+◌, ◌-◌, ◌*◌, ◌≤◌, ℕ, length, take, ap, arith, length-append}
 use Rattle.std.proofs.lemmas.List.{length-take-le}
-use Rattle.px_device.specs.Memory.{left_after}
-use Rattle.px_device.proofs.Frames.{frames_inside, frames_left, due_waits, room_left}
-use Rattle.px_device.proofs.memory.MemDeviceDevice.sync.Goals as goal
+use Rattle.px_ends.specs.MemoryDevice.{left_after}
+use Rattle.px_ends.proofs.Frames.{frames_inside, frames_left, due_waits, room_left}
+use Rattle.px_ends.proofs.memory_device.MemDeviceDevice.sync.Goals as goal
 
 pub play_front-requires-clause-inside : goal.play_front-requires-clause-inside
 play_front-requires-clause-inside c =

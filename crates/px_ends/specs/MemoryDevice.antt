@@ -1,8 +1,8 @@
 -- A device in memory, which tells all of its bytes and consumes what it was set to.
 use Rattle.std.specs.Prelude.{ℕ, ◌+◌, ◌-◌, ◌*◌, ◌/◌, min, Bool, true, false, ◌||◌, List, [], ◌++◌, length, take, drop, Option, None, Some}
 use Rattle.px_ends.specs.Faults.{next_count}
-use Rattle.px_device.specs.declared.device.DeviceShape.{DeviceShape}
-use Rattle.px_device.specs.Device.{DeviceState, Next, consume, fail}
+use Rattle.px_ends.specs.declared.device.DeviceShape.{DeviceShape}
+use Rattle.px_ends.specs.Device.{DeviceState, Next, consume, fail}
 
 pub record MemoryDevice : Type 0 where
   -- the bytes of a frame, and guard, depth, consumed and filled in frames

@@ -1,8 +1,8 @@
 // A device in memory.
 ghost use Rattle.std.specs.Prelude.{◌≡◌, ◌+◌, ◌-◌, ◌*◌, ◌^◌, ◌≤◌, ◌||◌, min, true, None, Some, IfOk, OnOk, OnErr, IsErr, IsTrue, ◌↔◌};
 ghost use Rattle.std.specs.Option.{unwrap_or};
-ghost use Rattle.px_device.specs.Device.{DeviceState, IsShape, Plays, Fails, IsPut, put_at};
-ghost use Rattle.px_device.specs.Memory.{MemoryDevice, state_of, new_memory_device, due_of, due_in, left_after, synced, sync_failed, after_put, taken};
+ghost use Rattle.px_ends.specs.Device.{DeviceState, IsShape, Plays, Fails, IsPut, put_at};
+ghost use Rattle.px_ends.specs.MemoryDevice.{MemoryDevice, state_of, new_memory_device, due_of, due_in, left_after, synced, sync_failed, after_put, taken};
 
 use crate::front::{play_front, put_behind};
 use crate::{Device, DeviceFault, DeviceShape, Played};
@@ -33,7 +33,7 @@ pub struct MemDevice {
 impl Model for MemDevice {
     ghost use Rattle.std.specs.Prelude.{◌≡◌, ◌+◌, ◌*◌, ◌≤◌, ◌^◌, length, vec_capacity};
     ghost use Rattle.std.specs.Option.{unwrap_or};
-    ghost use Rattle.px_device.specs.Memory.{MemoryDevice};
+    ghost use Rattle.px_ends.specs.MemoryDevice.{MemoryDevice};
 
     ghost Value = { MemoryDevice };
 

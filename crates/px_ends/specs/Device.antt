@@ -1,7 +1,7 @@
 -- A device: it plays the frames that were put ahead, and they may be put anew as long as they aren't too near (PulseAudio: the
 -- device's buffer of `pa_sink` in pulsecore/sink.h). Own: one record of all its numbers, with its bytes where it tells them.
 use Rattle.std.specs.Prelude.{◌≡◌, ℕ, ◌+◌, ◌-◌, ◌*◌, ◌/◌, ◌^◌, ◌≤◌, min, Bool, true, IsFalse, List, ◌++◌, length, take, drop, Option, None, Some, ⊤, false}
-use Rattle.px_device.specs.declared.device.DeviceShape.{DeviceShape}
+use Rattle.px_ends.specs.declared.device.DeviceShape.{DeviceShape}
 use Rattle.px_ends.specs.Faults.{Rose}
 use Rattle.px_ends.specs.Told.{after_adding}
 
