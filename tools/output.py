@@ -6,7 +6,7 @@
 
 show prints a line for each packet sent, each connection ended and each stretch of sound played. It wants the
 session that was replayed where sound was played, since the session has the sinks' formats.
-wav writes what one sink played, as a WAV file."""
+wav writes what one sink played, as a WAV file. FILE is standard input where it is `-`."""
 
 import sys
 
@@ -167,6 +167,9 @@ def wav(data, session, name):
 
 
 def contents(name):
+    """The bytes of a file, or of standard input for `-`."""
+    if name == "-":
+        return sys.stdin.buffer.read()
     with open(name, "rb") as file:
         return file.read()
 
