@@ -3,3 +3,4 @@ pub mod KeyList
 pub mod Whole
 pub mod Again
 pub mod Found
+pub mod Meant

@@ -4,3 +4,4 @@ pub mod Command
 pub mod Packet
 pub mod Create
 pub mod Law
+pub mod Meant

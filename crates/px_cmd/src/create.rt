@@ -1,8 +1,10 @@
 //! The fields of CREATE_PLAYBACK_STREAM.
 
+ghost use Rattle.std.specs.Prelude.{◌≡◌, length, IfOk};
 ghost use Rattle.px_cmd.specs.Command.{create_fields};
 ghost use Rattle.px_cmd.specs.Create.{shape_kinds, shape_fields, buffering_kinds, buffering_fields, matching_kinds, matching_fields, playing_kinds, playing_fields};
 ghost use Rattle.px_cmd.specs.Field.{fields_at};
+ghost use Rattle.px_cmd.specs.Meant.{AreFields};
 ghost use Rattle.px_cmd.specs.Packet.{Takes};
 ghost use Rattle.px_cmd.specs.Table.{create_kinds};
 
@@ -58,7 +60,8 @@ fn read_shape(alloc: Global, reader: &mut TagReader) -> Result<Shape, CmdFault>
 }
 
 fn read_buffering(reader: &mut TagReader) -> Result<Buffering, CmdFault>
-    ensures { Takes buffering_fields result reader.new (fields_at buffering_kinds reader.old) }
+    ensures value { Takes buffering_fields result reader.new (fields_at buffering_kinds reader.old) }
+    ensures asked { IfOk result (λ buffering. length buffering.asked ≡ 4) }
 {
     let maxlength = reader.number()?;
     let corked = reader.flag()?;
@@ -109,7 +112,8 @@ fn read_playing(reader: &mut TagReader) -> Result<Playing, CmdFault>
 
 /// The fields of CREATE_PLAYBACK_STREAM at version 13.
 pub(crate) fn create(alloc: Global, reader: &mut TagReader) -> Result<CreateFields, CmdFault>
-    ensures { Takes create_fields result reader.new (fields_at create_kinds reader.old) }
+    ensures value { Takes create_fields result reader.new (fields_at create_kinds reader.old) }
+    ensures plain { IfOk result AreFields }
 {
     let shape = read_shape(alloc, reader)?;
     let buffering = read_buffering(reader)?;

@@ -2,6 +2,7 @@
 
 ghost use Rattle.std.specs.Prelude.{◌≡◌, ◌≤◌, is_some, IfOk};
 ghost use Rattle.px_cmd.specs.Command.{fields_of, number_of, IsNumbered};
+ghost use Rattle.px_cmd.specs.Meant.{meant, IsOfVersion13};
 ghost use Rattle.px_cmd.specs.Packet.{taken, meaning, Reaches, Answers};
 ghost use Rattle.px_cmd.specs.Table.{kinds_of};
 
@@ -20,6 +21,7 @@ const LAST_COMMAND: u32 = 104;
 fn attributes(reader: &mut TagReader) -> Result<Command, CmdFault>
     ensures value { Reaches result 72 reader.new (taken (kinds_of 72) 72 reader.old) }
     ensures numbered { IfOk result IsNumbered }
+    ensures plain { IfOk result IsOfVersion13 }
 {
     let stream = reader.number()?;
     let maxlength = reader.number()?;
@@ -40,6 +42,7 @@ fn later_fields(alloc: Global, number: u32, reader: &mut TagReader) -> Result<Co
     requires { 36 ≤ number }
     ensures value { Reaches result number reader.new (taken (kinds_of number) number reader.old) }
     ensures numbered { IfOk result IsNumbered }
+    ensures plain { IfOk result IsOfVersion13 }
 {
     match number {
         36 => {
@@ -131,6 +134,7 @@ fn later_fields(alloc: Global, number: u32, reader: &mut TagReader) -> Result<Co
 fn fields(alloc: Global, number: u32, reader: &mut TagReader) -> Result<Command, CmdFault>
     ensures value { Reaches result number reader.new (taken (kinds_of number) number reader.old) }
     ensures numbered { IfOk result IsNumbered }
+    ensures plain { IfOk result IsOfVersion13 }
 {
     match number {
         3 => {
@@ -221,11 +225,11 @@ pub fn is_command(number: u32) -> bool
     )
 }
 
-/// The command that a packet means, with its fields by the connection's version; every version is read as
-/// 13. Takes memory for what the command keeps: names, keys, a cookie, property lists.
-pub fn read_command(alloc: Global, packet: &[u8], _version: u16) -> Result<Command, CmdFault>
+// The command that a packet means, by its number and its fields.
+fn read(alloc: Global, packet: &[u8]) -> Result<Command, CmdFault>
     ensures value { Answers (λ command. (number_of command, fields_of command)) result (meaning packet.now) }
     ensures numbered { IfOk result IsNumbered }
+    ensures plain { IfOk result IsOfVersion13 }
 {
     let mut reader = TagReader::new(packet);
     let head = front(&mut reader)?;
@@ -235,4 +239,15 @@ pub fn read_command(alloc: Global, packet: &[u8], _version: u16) -> Result<Comma
     let command = fields(alloc, head.command, &mut reader)?;
     reader.end()?;
     Ok(command)
+}
+
+/// The command that a packet means, with its fields by the connection's version; every version is read as
+/// 13. Takes memory for what the command keeps: names, keys, a cookie, property lists.
+#[tactic(auto, using(crate::proofs::Meant::means_too))]
+pub fn read_command(alloc: Global, packet: &[u8], _version: u16) -> Result<Command, CmdFault>
+    ensures command { Answers (λ command. command) result (meant packet.now) }
+    ensures value { Answers (λ command. (number_of command, fields_of command)) result (meaning packet.now) }
+    ensures numbered { IfOk result IsNumbered }
+{
+    read(alloc, packet)
 }

@@ -1,7 +1,7 @@
 use Rattle.std.proofs.lemmas.Result.{err_from_is_err_and}
 use Rattle.px_cmd.specs.Command.{fields_of}
 use Rattle.px_cmd.proofs.Whole.{front_fails, unknown, fields_fail, left, means}
-use Rattle.px_cmd.proofs.packet.read_command.Goals as goal
+use Rattle.px_cmd.proofs.packet.read.Goals as goal
 
 pub returns-in_err-head-clause-value : goal.returns-in_err-head-clause-value
 returns-in_err-head-clause-value c =

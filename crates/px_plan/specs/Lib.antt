@@ -1,0 +1,4 @@
+pub mod Input
+pub mod Target
+pub mod Plan
+pub mod Row

@@ -1,0 +1,17 @@
+//! What a command plans: the changes of the server's state and what is told, or why it is refused. It exports the parts of
+//! the state that a command reads, the `Change`s, a `Plan` of them, and the checks that a command is a chain of.
+#![tactic(auto)]
+
+mod change;
+mod input;
+mod plan;
+mod refusal;
+mod sending;
+mod target;
+
+pub use change::Change;
+pub use input::{Connection, Input, Standing, Way};
+pub use plan::Plan;
+pub use refusal::{Refusal, check, present};
+pub use sending::{Reason, Sending};
+pub use target::{Named, Target};
