@@ -1,0 +1,4 @@
+mod blocks;
+mod device;
+mod ends;
+mod types;

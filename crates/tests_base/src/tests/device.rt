@@ -1,0 +1,40 @@
+use px_ends::{Device, DeviceFault, DeviceShape, MemDevice};
+use px_types::Mem;
+use std::alloc::Global;
+
+// Mono in 16 bits, one frame of guard, four of depth.
+const SMALL: DeviceShape = DeviceShape {
+    frame: 2,
+    rate: 48_000,
+    guard: 1,
+    depth: 4,
+};
+
+// Nothing set consumes nothing; then two frames, and what is put anew behind the guard; a run; a stop for good.
+fn played(alloc: Global) -> Mem<MemDevice> {
+    let mut device = MemDevice::new(alloc, &SMALL)?;
+    device.put(0, b"aabbccdd");
+    device.sync().unwrap();
+    device.arm(2)?;
+    device.sync().unwrap();
+    device.put(3, b"CCDDEE");
+    device.run_on(2, 3)?;
+    Ok(device)
+}
+
+// Two frames, one more as the run has an end, and none; what was played is there once, and the device stays stopped.
+fn ends(alloc: Global, device: &mut MemDevice) -> bool {
+    let run = device.sync() == Ok(4) && device.sync() == Ok(5) && device.sync() == Ok(5);
+    device.stop_next();
+    let stopped = device.sync() == Err(DeviceFault);
+    run && stopped
+        && device.take_played(alloc).as_slice() == b"aabbccCCDD".as_slice()
+        && device.take_played(alloc).into_vec().is_empty()
+        && device.sync() == Err(DeviceFault)
+}
+
+#[test]
+fn a_device_in_memory_plays_what_was_put(rt: HostRuntime) -> Mem<()> {
+    assert!(rt; ends(rt.alloc(), &mut played(rt.alloc())?));
+    Ok(())
+}
