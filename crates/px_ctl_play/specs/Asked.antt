@@ -1,0 +1,96 @@
+-- What a stream is that a client asks for, and what it becomes on its sink (PulseAudio: `command_create_playback_stream` of pulsecore/protocol-native.c; that rates and formats of other kinds are refused is own).
+use Rattle.std.specs.Prelude.{ℕ, Bool, not, cond, ◌&&◌, ◌||◌, nat_eq, nat_lt, nat_le, List, [], ◌∷◌, length, get_or}
+use Rattle.std.specs.List.{list_all}
+use Rattle.std.specs.Cmp.Lexicographic.{pointwise}
+use Rattle.px_types.specs.declared.ids.SinkId.{SinkId}
+use Rattle.px_tag.specs.declared.raw.RawSpec.{RawSpec}
+use Rattle.px_cmd.specs.declared.command.CreateFields.{CreateFields}
+use Rattle.px_sample.specs.declared.spec.Spec.{Spec}
+use Rattle.px_sample.specs.declared.format.Format.{Format}
+use Rattle.px_sample.specs.declared.format.Format.TheVariants.{U8, Alaw, Ulaw, S16Le, S16Be, Float32Le, Float32Be, S32Le, S32Be, S24Le, S24Be, S24In32Le, S24In32Be}
+use Rattle.px_sample.specs.Format.{code_of}
+use Rattle.px_vol.specs.Volume.{norm, greatest}
+use Rattle.px_model.specs.declared.data.Attr.{Attr}
+use Rattle.px_msg.specs.Repair.{repaired}
+use Rattle.px_plan.specs.declared.input.Connection.{Connection}
+use Rattle.px_plan.specs.declared.input.Input.{Input}
+use Rattle.px_plan.specs.declared.target.Target.{Target}
+use Rattle.px_plan.specs.Input.{bound_for, going_of}
+
+-- ---- what can be at all
+
+-- a sample spec that can be: a known format, a channel, a rate up to 192,000
+abbrev pub is_spec : RawSpec → Bool
+is_spec spec = nat_le spec.format 12 && nat_lt 0 spec.channels && nat_lt 0 spec.rate && nat_le spec.rate 192000
+
+-- a position for each channel, of the 51 that there are
+abbrev pub is_map : RawSpec → List ℕ → Bool
+is_map spec positions = nat_eq (length positions) spec.channels && list_all (λ p. nat_le p 50) positions
+
+-- volumes of all channels, or one for all of them
+abbrev pub are_volumes : RawSpec → List ℕ → Bool
+are_volumes spec volumes =
+    (nat_eq (length volumes) 1 || nat_eq (length volumes) spec.channels) && list_all (λ v. nat_le v greatest) volumes
+
+abbrev pub is_lawful : CreateFields → Bool
+is_lawful a = is_spec a.spec && is_map a.spec a.map && are_volumes a.spec a.volume
+
+-- ---- what it becomes on its sink: where the client says so, format, rate and channels are the sink's
+
+abbrev pub same_positions : List ℕ → List ℕ → Bool
+same_positions a b = pointwise nat_eq a b
+
+abbrev pub format_on : Target → CreateFields → ℕ
+format_on sink a = cond a.fix_format (code_of sink.spec.format) a.spec.format
+
+abbrev pub rate_on : Target → CreateFields → ℕ
+rate_on sink a = cond a.fix_rate sink.spec.rate a.spec.rate
+
+abbrev pub channels_on : Target → CreateFields → ℕ
+channels_on sink a = cond a.fix_channels sink.spec.channels a.spec.channels
+
+abbrev pub positions_on : Target → CreateFields → List ℕ
+positions_on sink a = cond a.fix_channels sink.map a.map
+
+-- the format with a code
+abbrev pub format_with : ℕ → Format
+format_with code = get_or (U8 ∷ Alaw ∷ Ulaw ∷ S16Le ∷ S16Be ∷ Float32Le ∷ Float32Be ∷ S32Le ∷ S32Be ∷ S24Le ∷ S24Be ∷ S24In32Le ∷ S24In32Be ∷ []) code U8
+
+abbrev pub spec_on : Target → CreateFields → Spec
+spec_on sink a = record { format = format_with (format_on sink a); channels = channels_on sink a; rate = rate_on sink a }
+
+abbrev pub attr_on : Target → CreateFields → Attr
+attr_on sink a = repaired (spec_on sink a) a.asked
+
+-- ---- what its sink plays
+
+-- no floating point, no variable rate, and the sink's own rate
+abbrev pub is_supported : Target → CreateFields → Bool
+is_supported sink a =
+    not (nat_eq (format_on sink a) 5) && not (nat_eq (format_on sink a) 6) && not a.variable_rate && nat_eq (rate_on sink a) sink.spec.rate
+
+-- one that begins at once and without prebuffering, in S16LE on the sink's own map, not muted and at the volume that leaves the sound as it is
+abbrev pub is_built : Target → CreateFields → Bool
+is_built sink a =
+    not a.corked && nat_eq (attr_on sink a).prebuf 0
+    && nat_eq (format_on sink a) 3 && same_positions (positions_on sink a) sink.map
+    && not a.muted && list_all (λ v. nat_eq v norm) a.volume
+
+-- ---- the room for it
+
+-- the most inputs that are bound for one sink and that go on in all, and the number that no input and no stream has
+abbrev pub MOST_ON_SINK : ℕ
+MOST_ON_SINK = 256
+
+abbrev pub MOST_IN_ALL : ℕ
+MOST_IN_ALL = 1024
+
+abbrev pub LAST_INDEX : ℕ
+LAST_INDEX = 0xFFFFFFFF
+
+-- there is room on the sink and in all, and numbers are left that none has had
+abbrev pub has_room : List Input → ℕ → Connection → SinkId → Bool
+has_room inputs made me sink =
+    nat_lt (length (bound_for inputs sink)) MOST_ON_SINK
+    && nat_lt (length (going_of inputs)) MOST_IN_ALL
+    && nat_lt made LAST_INDEX && nat_lt me.streams LAST_INDEX

@@ -1,0 +1,98 @@
+-- CREATE_PLAYBACK_STREAM (PulseAudio: `command_create_playback_stream` of pulsecore/protocol-native.c; the order of refusals is own).
+use Rattle.std.specs.Prelude.{ℕ, ◌+◌, ◌*◌, ◌/◌, false, List, [], ◌∷◌, ◌++◌, Ok}
+use Rattle.std.specs.List.{range_with_len}
+use Rattle.px_types.specs.declared.error_code.ErrorCode.TheVariants.{Invalid, NoEntity, TooLarge, NotSupported, NotImplemented}
+use Rattle.px_tag.specs.declared.raw.RawSpec.{RawSpec}
+use Rattle.px_cmd.specs.declared.command.CreateFields.{CreateFields}
+use Rattle.px_sample.specs.declared.spec.Spec.{Spec}
+use Rattle.px_sample.specs.Format.{code_of}
+use Rattle.px_msg.specs.Repair.{bytes_of}
+use Rattle.px_msg.specs.declared.message.Msg.{Msg}
+use Rattle.px_msg.specs.declared.message.Msg.TheVariants.{New}
+use Rattle.px_reply.specs.declared.played.Created.{Created}
+use Rattle.px_reply.specs.Message.{created_reply}
+use Rattle.px_plan.specs.declared.change.Change.{Change}
+use Rattle.px_plan.specs.declared.change.Change.TheVariants.{Made}
+use Rattle.px_plan.specs.declared.input.Connection.{Connection}
+use Rattle.px_plan.specs.declared.input.Input.{Input}
+use Rattle.px_plan.specs.declared.input.Standing.TheVariants.{Settled}
+use Rattle.px_plan.specs.declared.input.Way.TheVariants.{Coming}
+use Rattle.px_plan.specs.declared.target.Named.{Named}
+use Rattle.px_plan.specs.declared.target.Target.{Target}
+use Rattle.px_plan.specs.Input.{settled_on}
+use Rattle.px_plan.specs.Plan.{Planned, replied}
+use Rattle.px_plan.specs.Row.{Row, ◌>>=◌, check, present}
+use Rattle.px_plan.specs.Target.{is_clear, target_of}
+use Rattle.px_ctl_play.specs.Asked.{spec_on, attr_on, positions_on, is_lawful, is_supported, is_built, has_room}
+use Rattle.px_ctl_play.specs.Factors.{unity, regrouped}
+
+-- ---- the new input
+
+-- each channel of the sink is fed by the stream's channel of the same place
+abbrev pub straight : ℕ → List ℕ
+straight channels = range_with_len 0 channels
+
+abbrev pub input_made : ℕ → Connection → Target → CreateFields → Input
+input_made made me sink a = record {
+  index = record { 0 = made };
+  conn = me.conn;
+  stream = me.streams;
+  sink = sink.index;
+  spec = spec_on sink a;
+  attr = attr_on sink a;
+  way = Coming;
+  standing = Settled;
+}
+
+-- the message that brings it to its sink
+abbrev pub new_of : {P : Type 0} → Target → Input → Msg P
+new_of sink x = New (record {
+  input = x.index;
+  spec = x.spec;
+  feed = straight sink.spec.channels;
+  factors = unity sink.spec.channels;
+  attr = x.attr;
+  corked = false;
+})
+
+-- ---- what the client is told of it
+
+-- how long a frame waits at the most before the sink plays it, in microseconds
+abbrev pub latency_of : Target → ℕ
+latency_of sink = sink.depth * 1000000 / sink.spec.rate
+
+abbrev pub raw_of : Spec → RawSpec
+raw_of spec = record { format = code_of spec.format; channels = spec.channels; rate = spec.rate }
+
+abbrev pub created_of : Target → CreateFields → Input → Created
+created_of sink a x = record {
+  stream = x.stream;
+  input = x.index.0;
+  attr = bytes_of x.spec x.attr;
+  spec = raw_of x.spec;
+  map = positions_on sink a;
+  sink = x.sink.0;
+  name = sink.name;
+  usec = latency_of sink;
+}
+
+-- ---- the command
+
+-- the input is there, its sink gets its stream, and then the factors of all inputs on it
+abbrev pub changes_of : {P : Type 0} → List Input → ℕ → Connection → Target → Input → List (Change (Msg P) (Unit {0}))
+changes_of inputs made me sink x =
+    Made x (new_of sink x) (me.streams + 1) (made + 1) ∷ regrouped x.sink sink.spec.channels (settled_on inputs x.sink ++ x ∷ []) ∷ []
+
+abbrev pub created : {P : Type 0} → List Input → ℕ → Connection → ℕ → Target → CreateFields → Input → Planned (Msg P) (Unit {0})
+created inputs made me tag sink a x = replied (created_reply tag (created_of sink a x)) (changes_of inputs made me sink x)
+
+-- a connection asks for a stream, where these inputs are there and so many were ever made
+abbrev pub create : {P : Type 0} → List Input → ℕ → Connection → ℕ → Named → CreateFields → Row (Planned (Msg P) (Unit {0}))
+create inputs made me tag named a = do
+  lawful ← check (is_lawful a) Invalid
+  clear ← check (is_clear named) Invalid
+  sink ← present (target_of named) NoEntity
+  supported ← check (is_supported sink a) NotSupported
+  room ← check (has_room inputs made me sink.index) TooLarge
+  built ← check (is_built sink a) NotImplemented
+  Ok (created inputs made me tag sink a (input_made made me sink a))

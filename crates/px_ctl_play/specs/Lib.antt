@@ -1,0 +1,6 @@
+pub mod Asked
+pub mod Factors
+pub mod Create
+pub mod Delete
+pub mod Data
+pub mod Told

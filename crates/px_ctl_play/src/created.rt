@@ -1,0 +1,116 @@
+//! What is told of a new stream: to its sink, and to the client that made it.
+
+ghost use Rattle.std.specs.Prelude.{◌≡◌, ◌≤◌, IfOk};
+ghost use Rattle.px_model.specs.Orderly.{IsRepaired};
+ghost use Rattle.px_msg.specs.Repair.{IsWithinBytes};
+ghost use Rattle.px_reply.specs.Message.{created_reply};
+ghost use Rattle.px_plan.specs.Target.{IsTarget};
+ghost use Rattle.px_ctl_play.specs.Create.{straight, new_of, latency_of, raw_of, created_of};
+
+use crate::asked::positions_on;
+use crate::factors::unity;
+use px_chmap::Feed;
+use px_cmd::CreateFields;
+use px_msg::{Msg, NewStream, in_bytes};
+use px_plan::{Input, Target};
+use px_reply::Created;
+use px_sample::Spec;
+use px_tag::{Packet, RawMap, RawSpec};
+use std::alloc::Global;
+
+/// The channels of the widest sink, in order.
+const CHANNELS: [u8; 32] = [
+    0, 1, 2, 3, 4, 5, 6, 7, 8, 9, 10, 11, 12, 13, 14, 15, 16, 17, 18, 19, 20, 21, 22, 23, 24, 25,
+    26, 27, 28, 29, 30, 31,
+];
+
+// The first of them.
+#[tactic(auto, using(crate::proofs::Straight::first_channels))]
+fn first_of(all: &[u8], channels: u8) -> &[u8]
+    requires all { all.now ≡ straight 32 }
+    requires few { channels ≤ 32 }
+    ensures { result.now ≡ straight channels }
+{
+    &all[..channels as usize]
+}
+
+// Each channel of the sink is fed by the stream's channel of the same place.
+#[tactic(auto, using(crate::proofs::Straight::is_feed))]
+fn straight(channels: u8) -> Feed
+    requires some { 1 ≤ channels }
+    requires few { channels ≤ 32 }
+    ensures { result ≡ straight channels }
+{
+    Feed::new(first_of(&CHANNELS, channels)).unwrap()
+}
+
+/// The message that brings a stream to its sink. Takes no memory.
+pub(crate) fn new_of<P>(sink: &Target, x: &Input) -> Msg<P>
+    requires { IsTarget sink.now }
+    ensures { result ≡ new_of sink.now x.now }
+{
+    Msg::New(NewStream {
+        input: x.index,
+        spec: x.spec,
+        feed: straight(sink.spec.channels),
+        factors: unity(sink.spec.channels),
+        attr: x.attr,
+        corked: false,
+    })
+}
+
+// How long a frame waits at the most before the sink plays it, in microseconds.
+fn latency_of(sink: &Target) -> u64
+    requires { IsTarget sink.now }
+    ensures { result ≡ latency_of sink.now }
+{
+    u64::from(sink.depth) * 1_000_000 / u64::from(sink.spec.rate)
+}
+
+fn raw_of(spec: &Spec) -> RawSpec
+    ensures { result ≡ raw_of spec.now }
+{
+    RawSpec {
+        format: spec.format.code(),
+        channels: spec.channels,
+        rate: spec.rate,
+    }
+}
+
+// What the client is told of the stream that it asked for. The stream has a channel and repaired attributes.
+fn created_of(sink: Target, a: &CreateFields, x: &Input) -> Created
+    requires sink { IsTarget sink }
+    requires channels { 1 ≤ x.now.spec.channels }
+    requires repaired { IsRepaired x.now.attr }
+    requires bytes { IsWithinBytes x.now.spec x.now.attr }
+    ensures { result ≡ created_of sink a.now x.now }
+{
+    Created {
+        stream: x.stream,
+        input: x.index.0,
+        attr: in_bytes(&x.spec, &x.attr),
+        spec: raw_of(&x.spec),
+        map: RawMap::new(positions_on(&sink, a)),
+        sink: u32::from(x.sink.0),
+        usec: latency_of(&sink),
+        name: sink.name,
+    }
+}
+
+/// The packet of the reply to the client that asked for a stream, of 1 to 32 channels and with repaired attributes.
+pub(crate) fn reply_of(
+    alloc: Global,
+    tag: u32,
+    sink: Target,
+    a: &CreateFields,
+    x: &Input,
+) -> px_tag::Mem<Packet>
+    requires sink { IsTarget sink }
+    requires some { 1 ≤ x.now.spec.channels }
+    requires few { x.now.spec.channels ≤ 32 }
+    requires repaired { IsRepaired x.now.attr }
+    requires bytes { IsWithinBytes x.now.spec x.now.attr }
+    ensures { IfOk result (λ packet. packet ≡ created_reply tag (created_of sink a.now x.now)) }
+{
+    px_reply::created(alloc, tag, &created_of(sink, a, x))
+}

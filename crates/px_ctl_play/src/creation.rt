@@ -1,0 +1,117 @@
+//! CREATE_PLAYBACK_STREAM (PulseAudio: `command_create_playback_stream` of `pulsecore/protocol-native.c`).
+
+ghost use Rattle.std.specs.Prelude.{◌≡◌, ◌<◌, ◌≤◌, IfOk, Ok};
+ghost use Rattle.px_model.specs.Orderly.{IsRepaired};
+ghost use Rattle.px_msg.specs.Repair.{IsWithinBytes};
+ghost use Rattle.px_plan.specs.Row.{Plans};
+ghost use Rattle.px_plan.specs.Target.{IsTarget, IsNamed};
+ghost use Rattle.px_ctl_play.specs.Create.{input_made, changes_of, created, create};
+
+use crate::asked::{attr_on, is_lawful, spec_on};
+use crate::created::{new_of, reply_of};
+use crate::factors::regrouped;
+use crate::refusals::{has_room, is_built, is_supported};
+use px_cmd::CreateFields;
+use px_msg::Msg;
+use px_plan::{
+    Change, Connection, Input, Named, Plan, Refusal, Standing, Target, Way, check, present,
+};
+use px_types::{ErrorCode, InputId, Mem};
+use std::alloc::Global;
+
+// The input that a connection makes on a sink.
+fn input_made(made: u32, me: &Connection, sink: &Target, a: &CreateFields) -> Input
+    requires sink { IsTarget sink.now }
+    requires some { 1 ≤ a.now.spec.channels }
+    requires few { a.now.spec.channels ≤ 32 }
+    ensures value { result ≡ input_made made me.now sink.now a.now }
+    ensures some { 1 ≤ result.spec.channels }
+    ensures few { result.spec.channels ≤ 32 }
+    ensures repaired { IsRepaired result.attr }
+    ensures bytes { IsWithinBytes result.spec result.attr }
+{
+    Input {
+        index: InputId(made),
+        conn: me.conn,
+        stream: me.streams,
+        sink: sink.index,
+        spec: spec_on(sink, a),
+        attr: attr_on(sink, a),
+        way: Way::Coming,
+        standing: Standing::Settled,
+    }
+}
+
+// The changes that a new stream makes.
+fn changes_of<P: Drop>(
+    alloc: Global,
+    inputs: &[Input],
+    made: u32,
+    me: &Connection,
+    sink: &Target,
+    x: Input,
+) -> Mem<Vec<Change<Msg<P>, ()>>>
+    requires sink { IsTarget sink.now }
+    requires inputs { made < 4294967295 }
+    requires streams { me.now.streams < 4294967295 }
+    ensures { IfOk result (λ changes. changes.items ≡ changes_of inputs.now made me.now sink.now x) }
+{
+    let mut changes = Vec::new(alloc);
+    changes.push(Change::Made {
+        input: x,
+        new: new_of(sink, &x),
+        streams: me.streams + 1,
+        inputs: made + 1,
+    })?;
+    changes.push(regrouped(alloc, x.sink, sink.spec.channels, inputs, Some(x.index))?)?;
+    Ok(changes)
+}
+
+// The stream is made.
+fn created<P: Drop>(
+    alloc: Global,
+    inputs: &[Input],
+    made: u32,
+    me: &Connection,
+    tag: u32,
+    sink: Target,
+    a: &CreateFields,
+) -> Result<Plan<Msg<P>, ()>, Refusal>
+    requires sink { IsTarget sink }
+    requires some { 1 ≤ a.now.spec.channels }
+    requires few { a.now.spec.channels ≤ 32 }
+    requires inputs { made < 4294967295 }
+    requires streams { me.now.streams < 4294967295 }
+    ensures { Plans result (Ok (created inputs.now made me.now tag sink a.now (input_made made me.now sink a.now))) }
+{
+    let x = input_made(made, me, &sink, a);
+    let changes = changes_of(alloc, inputs, made, me, &sink, x)?;
+    let reply = reply_of(alloc, tag, sink, a, &x)?;
+    Ok(Plan::replied(alloc, reply, changes))
+}
+
+/// CREATE_PLAYBACK_STREAM of a connection, where these inputs are there and so many were ever made: a stream is made on the
+/// sink that is named, corked never. Refused, by the first of these that holds: `Invalid` for a spec, a map or volumes that
+/// can't be, and where a sink is named twice over; `NoEntity` where no sink is there; `NotSupported` for floating point, a
+/// variable rate or another rate than the sink's; `TooLarge` where 256 inputs are bound for the sink, or 1,024 go on in all,
+/// or no number is left; `NotImplemented` for one that isn't built. Own: PulseAudio resamples, and has no such limits.
+pub fn create<P: Drop>(
+    alloc: Global,
+    inputs: &[Input],
+    made: u32,
+    me: &Connection,
+    tag: u32,
+    named: Named,
+    a: &CreateFields,
+) -> Result<Plan<Msg<P>, ()>, Refusal>
+    requires { IsNamed named }
+    ensures { Plans result (create inputs.now made me.now tag named a.now) }
+{
+    check(is_lawful(a), ErrorCode::Invalid)?;
+    check(named.is_clear(), ErrorCode::Invalid)?;
+    let sink = present(named.target(), ErrorCode::NoEntity)?;
+    check(is_supported(&sink, a), ErrorCode::NotSupported)?;
+    check(has_room(inputs, made, me, sink.index), ErrorCode::TooLarge)?;
+    check(is_built(&sink, a), ErrorCode::NotImplemented)?;
+    created(alloc, inputs, made, me, tag, sink, a)
+}

@@ -1,0 +1,19 @@
+//! The commands of playback streams and what their sinks tell of them: each reads the parts of the state that its rule names,
+//! and gives a plan or the reason why it is refused. It exports a call a command, and one a kind of notice.
+#![tactic(auto)]
+
+mod asked;
+mod created;
+mod creation;
+mod data;
+mod deletion;
+mod departure;
+mod factors;
+mod refusals;
+mod told;
+
+pub use creation::create;
+pub use data::{Frames, frames_of, write};
+pub use deletion::delete;
+pub use departure::left;
+pub use told::{News, tell};

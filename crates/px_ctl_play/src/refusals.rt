@@ -1,0 +1,112 @@
+//! Why a stream that could be isn't made on its sink.
+
+ghost use Rattle.std.specs.Prelude.{◌≡◌, ◌<◌, ◌≤◌, true, nat_eq, length};
+ghost use Rattle.std.specs.List.{list_all};
+ghost use Rattle.px_vol.specs.Volume.{norm};
+ghost use Rattle.px_plan.specs.Input.{belongs_to, is_bound_for, bound_for, going_of, is_leaving, goes_on};
+ghost use Rattle.px_plan.specs.Target.{IsTarget};
+ghost use Rattle.px_ctl_play.specs.Asked.{same_positions, is_supported, is_built, has_room};
+
+use crate::asked::{attr_on, format_on, positions_on, rate_on};
+use px_cmd::CreateFields;
+use px_plan::{Connection, Input, Standing, Target};
+use px_types::SinkId;
+use px_vol::NORM;
+
+/// The most inputs that are bound for one sink.
+const MOST_ON_SINK: usize = 256;
+
+/// The most inputs that go on, on all sinks.
+const MOST_IN_ALL: usize = 1024;
+
+/// The number that no input and no stream has.
+const LAST_INDEX: u32 = 0xFFFF_FFFF;
+
+/// Whether the sink plays such a stream: no floating point, no variable rate, and the sink's own rate. Takes no memory.
+pub(crate) fn is_supported(sink: &Target, a: &CreateFields) -> bool
+    ensures { result ≡ is_supported sink.now a.now }
+{
+    let format = format_on(sink, a);
+    format != 5 && format != 6 && !a.variable_rate && rate_on(sink, a) == sink.spec.rate
+}
+
+// Whether an input on a sink belongs to this one.
+fn belongs_to(sink: SinkId, on: SinkId, standing: Standing) -> bool
+    ensures { result ≡ belongs_to sink on standing }
+{
+    match standing {
+        Standing::Settled => on.0 == sink.0,
+        Standing::Moving(to) => to.0 == sink.0,
+        Standing::Leaving => false,
+    }
+}
+
+// Whether an input is settled on the sink, or on its way there.
+fn is_bound_for(sink: SinkId, x: &Input) -> bool
+    ensures { result ≡ is_bound_for sink x.now }
+{
+    belongs_to(sink, x.sink, x.standing)
+}
+
+/// Whether an input goes on. Takes no memory.
+pub(crate) fn goes_on(x: &Input) -> bool
+    ensures { result ≡ goes_on x.now }
+{
+    !matches!(x.standing, Standing::Leaving)
+}
+
+// How many inputs are bound for a sink.
+fn count_bound(inputs: &[Input], sink: SinkId) -> usize
+    ensures { result ≡ length (bound_for inputs.now sink) }
+{
+    inputs.iter().filter(|x| is_bound_for(sink, x)).count()
+}
+
+// How many inputs go on, on all sinks.
+fn count_in_all(inputs: &[Input]) -> usize
+    ensures { result ≡ length (going_of inputs.now) }
+{
+    inputs.iter().filter(|x| goes_on(x)).count()
+}
+
+/// Whether there is room for one more input on a sink and in all, and numbers are left for it that none has had. Takes no
+/// memory. Own: PulseAudio counts the inputs of a sink alone.
+pub(crate) fn has_room(inputs: &[Input], made: u32, me: &Connection, sink: SinkId) -> bool
+    ensures value { result ≡ has_room inputs.now made me.now sink }
+    ensures inputs { result ≡ true → made < 4294967295 }
+    ensures streams { result ≡ true → me.now.streams < 4294967295 }
+{
+    count_bound(inputs, sink) < MOST_ON_SINK
+        && count_in_all(inputs) < MOST_IN_ALL
+        && made < LAST_INDEX
+        && me.streams < LAST_INDEX
+}
+
+// Whether the maps are the same, position for position.
+fn same_positions(a: &[u8], b: &[u8]) -> bool
+    ensures { result ≡ same_positions a.now b.now }
+{
+    a == b
+}
+
+// Volumes that leave the sound as it is.
+fn are_neutral(volumes: &[u32]) -> bool
+    ensures { result ≡ list_all (λ v. nat_eq v norm) volumes.now }
+{
+    volumes.iter().all(|v| *v == NORM)
+}
+
+/// Whether such a stream begins at once and without prebuffering, in S16LE on the sink's own map, not muted and at the volume
+/// that leaves the sound as it is. Takes no memory.
+pub(crate) fn is_built(sink: &Target, a: &CreateFields) -> bool
+    requires sink { IsTarget sink.now }
+    requires asked { 1 ≤ a.now.spec.channels }
+    ensures { result ≡ is_built sink.now a.now }
+{
+    !a.corked
+        && attr_on(sink, a).prebuf == 0
+        && format_on(sink, a) == 3
+        && same_positions(positions_on(sink, a), sink.map.positions())
+        && !a.muted
+        && are_neutral(a.volume.as_slice())
+}
