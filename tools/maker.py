@@ -3,6 +3,7 @@
 import math
 from functools import lru_cache
 
+import asking
 import packets
 import wire
 from recording import PIECE, SINK_FORMATS, Scene, SinkSpec, spelled_bytes, spelled_header, spelled_turn
@@ -32,6 +33,10 @@ class Maker:
                 self.begin()
             self.event(word, words)
         words.end()
+
+    def count(self):
+        """How many bytes are made; of the header, which is spelled as a whole, as many as its lines make up to here."""
+        return len(self.made) if self.begun else len(spelled_header(self.scene.cookie, self.scene.sinks)) if self.scene.sinks else 260
 
     def begin(self):
         if not self.scene.sinks:
@@ -84,7 +89,8 @@ class Maker:
             sink = self.sink_number(words)
             frames = number_of(words.take("the frames"), "a count of frames") if word == "turn" else None
             words.wants("take")
-            taken = number_of(words.take("a count"), "what is taken")
+            every = words.takes("all")
+            taken = asking.waiting(bytes(self.made), sink, frames) if every else number_of(words.take("a count"), "what is taken")
             self.made += spelled_turn(sink, frames, taken)
         elif word == "bytes":
             conn = connection(words)
@@ -201,16 +207,31 @@ def heard_tone(words, spec, start):
     return b"".join(wire.sample_bytes(spec[0], value) * spec[1] for value in values)
 
 
-def make(text):
-    """The session of a text."""
-    maker, number = Maker(), 0
+def made_lines(text):
+    """The session of a text, and for each line that makes bytes of it (its number, the line, how many bytes there are then)."""
+    maker, number, lines = Maker(), 0, []
     for number, line in lines_of(text):
         try:
             words = Words(words_of(line))
             if words.peek() is not None:
                 maker.line(words)
+                lines.append((number, line, maker.count()))
         except Wrong as wrong:
             raise Wrong(f"{number}: {wrong}") from None
     if not maker.ended:
         raise Wrong(f"{number}: the session has no end")
-    return bytes(maker.made)
+    return bytes(maker.made), lines
+
+
+def make(text):
+    """The session of a text."""
+    return made_lines(text)[0]
+
+
+def line_at(text, offset):
+    """The number and the words of the line that makes the byte at an offset."""
+    session, lines = made_lines(text)
+    for number, line, count in lines:
+        if offset < count:
+            return number, " ".join(words_of(line))
+    raise Wrong(f"the session has {len(session)} bytes, and so none at {offset}")

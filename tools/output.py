@@ -1,19 +1,21 @@
 #!/usr/bin/env python3
 """What `pulse_rw replay` writes, as readable text or as sound.
 
-  tools/output.py show FILE [--session FILE.prs]
+  tools/output.py show FILE [whole] [--session FILE.prs]
   tools/output.py wav FILE --session FILE.prs --sink NAME > out.wav
 
-show prints a line for each packet sent, each connection ended and each stretch of sound played. It wants the
-session that was replayed where sound was played, since the session has the sinks' formats.
+show prints a line for each packet sent, each connection ended and each turn that played, whose sound it tells as levels and counts,
+or whole. It wants the session that was replayed where sound was played, since the session has the sinks' formats.
 wav writes what one sink played, as a WAV file. FILE is standard input where it is `-`."""
 
 import sys
 
 import wire
+from command import ended
 from packets import read_packet
 from recording import Place, read_session
 from replies import sent_words
+from short import short
 from words import Wrong, hex_words, line_of, quoted
 
 REASONS = {1: "protocol fault", 2: "over a limit", 3: "killed by a client", 4: "cut for want of memory"}
@@ -107,13 +109,13 @@ def told(record, sinks, asked):
     """The line of a record."""
     if record[0] == 1:
         conn, frame = record[1:]
-        whole = len(frame) >= 20 and frame[:4] == (len(frame) - 20).to_bytes(4, "big")
+        whole = len(frame) > 20 and frame == wire.packet_frame(frame[20:])
         said = sent_words(frame[20:], asked.of(conn)) if whole else ["bytes", "hex", *hex_words(frame)]
         return line_of(["sent", str(conn), *said])
     if record[0] == 2:
         conn, reason, fault, at = record[1:]
         said = [REASONS.get(reason, f"reason {reason}")]
-        if reason == 1:
+        if reason == 1 or fault or at:
             said.append(f"{FAULTS.get(fault, f'fault {fault}')} at byte {at} of what it sent")
         return f"closed {conn}: {', '.join(said)}\n"
     sink, frames, sound = record[1:]
@@ -147,14 +149,21 @@ def wav_samples(code, sound):
 
 
 def wav(data, session, name):
-    """The WAV file of what the sink of that name played."""
+    """The WAV file of what the sink of that name played, and what ended the output early, or None."""
     sinks = session[1]
     at = next((at for at, sink in enumerate(sinks) if sink.name == name.encode()), None)
     if at is None:
         raise Wrong(f"the session has no sink {name}")
     code, channels, rate = sinks[at].spec
-    sound = b"".join(record[3] for record in Records(data, sinks) if record[0] == 3 and record[1] == at)
-    samples = wav_samples(code, sound)
+    records, sound, fault = Records(data, sinks), bytearray(), None
+    try:
+        for record in records:
+            sound += record[3] if record[0] == 3 and record[1] == at else b""
+    except Wrong as wrong:
+        fault = str(wrong)
+    if not records.ended and fault is None:
+        fault = "it has no end byte: the run ended before its session's end, and the sound is what was played until then"
+    samples = wav_samples(code, bytes(sound))
     width = 3 if code in (11, 12) else wire.SIZES[code]
     size, padding = len(samples), b"\0" * (len(samples) % 2)
     if size > 0xFFFFFF00:
@@ -163,7 +172,7 @@ def wav(data, session, name):
     fields = [(16, 4), (1, 2), (channels, 2), (rate, 4), (rate * frame, 4), (frame, 2), (8 * width, 2)]
     form = b"".join(value.to_bytes(length, "little") for value, length in fields)
     body = b"WAVEfmt " + form + b"data" + size.to_bytes(4, "little") + samples + padding
-    return b"RIFF" + len(body).to_bytes(4, "little") + body
+    return b"RIFF" + len(body).to_bytes(4, "little") + body, fault
 
 
 def contents(name):
@@ -183,6 +192,8 @@ def options_of(words):
 
 
 def main(words):
+    words = list(words)
+    whole = words[:1] == ["show"] and words[2:3] == ["whole"] and bool(words.pop(2))
     given = options_of(words[2:])
     needed = {"show": set(), "wav": {"--session", "--sink"}}.get(words[0] if words else "")
     if len(words) < 2 or given is None or needed is None or not needed <= set(given):
@@ -190,20 +201,25 @@ def main(words):
         return 2
     try:
         session = read_session(contents(given["--session"])) if "--session" in given else None
+    except Wrong as wrong:
+        print(f"{given['--session']}: {wrong}", file=sys.stderr)
+        return 1
+    try:
         data = contents(words[1])
         if words[0] == "wav":
-            sys.stdout.buffer.write(wav(data, session, given["--sink"]))
-            return 0
-        text, fault = show(data, session)
-        sys.stdout.write(text)
+            made, fault = wav(data, session, given["--sink"])
+            sys.stdout.buffer.write(made)
+        else:
+            text, fault = show(data, session)
+            sys.stdout.write(text if whole else short(text))
         sys.stdout.flush()
         if fault:
             raise Wrong(fault)
-    except (Wrong, OSError) as wrong:
+    except Wrong as wrong:
         print(f"{words[1]}: {wrong}", file=sys.stderr)
         return 1
     return 0
 
 
 if __name__ == "__main__":
-    sys.exit(main(sys.argv[1:]))
+    sys.exit(ended(main))

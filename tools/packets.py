@@ -2,7 +2,7 @@
 
 import wire
 from words import (
-    NONE, PROPERTY, Words, Wrong, hex_of, hex_words, number_of, number_word, quoted, unquoted,
+    NONE, PROPERTY, QUOTED, Words, Wrong, hex_of, hex_words, number_of, number_word, quoted, unquoted,
 )
 from wire import FORMATS, Items, Unread
 
@@ -95,6 +95,8 @@ def hear_properties(words):
     while words.peek() is not None and is_property(words.peek()):
         key, mark, value = PROPERTY.fullmatch(words.take("a property")).groups()
         if mark == "=":
+            if "," in QUOTED.sub("", value):
+                raise Wrong(f"{value} has a comma: blanks stand between properties, and a comma of a value in quotes")
             data = unquoted(value) + b"\0"
         elif value:
             data = bytes_of_word(value)

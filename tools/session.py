@@ -2,35 +2,51 @@
 """Recorded sessions of pulse_rw as readable text.
 
   tools/session.py make FILE.txt > FILE.prs    makes a session from a text
-  tools/session.py show FILE.prs               shows a session as such a text
+  tools/session.py show FILE.prs               shows a session, a line an event, long sounds as a level and a count
+  tools/session.py show FILE.prs whole         shows it whole, as a text that makes the same session again
+  tools/session.py at OFFSET FILE.txt          says which line of a text makes the byte at an offset, as a refusal names it
 
-A text that was shown makes the same session again, byte for byte. docs/RECORDINGS.md says how a text reads."""
-
+docs/RECORDINGS.md says how a text reads. FILE is standard input where it is `-`."""
 
 import sys
 
-from maker import make
+from command import ended
+from maker import line_at, make
+from output import contents
+from short import short
 from teller import show
 from words import Wrong
 
 
+def done(words):
+    """What the command writes, or None where its words are wrong."""
+    if words[:1] == ["make"] and len(words) == 2:
+        return make(contents(words[1]).decode())
+    if words[:1] == ["show"] and len(words) in (2, 3) and words[2:] in ([], ["whole"]):
+        text = show(contents(words[1]))
+        return (text if words[2:] else short(text)).encode()
+    if words[:1] == ["at"] and len(words) == 3 and words[1].isdigit():
+        number, line = line_at(contents(words[2]).decode(), int(words[1]))
+        return f"{words[2]}:{number}: {line}\n".encode()
+    return None
+
+
 def main(words):
-    if len(words) != 2 or words[0] not in ("make", "show"):
+    file = words[2] if words[:1] == ["at"] and len(words) == 3 else "".join(words[1:2])
+    try:
+        made = done(words)
+    except Wrong as wrong:
+        print(f"{file}:{wrong}" if words[0] == "make" else f"{file}: {wrong}", file=sys.stderr)
+        return 1
+    except UnicodeDecodeError as fault:
+        print(f"{file}: {fault}", file=sys.stderr)
+        return 1
+    if made is None:
         print(__doc__, file=sys.stderr)
         return 2
-    try:
-        with open(words[1], "rb") as file:
-            data = file.read()
-        made = make(data.decode()) if words[0] == "make" else show(data).encode()
-    except Wrong as wrong:
-        print(f"{words[1]}:{wrong}" if words[0] == "make" else f"{words[1]}: {wrong}", file=sys.stderr)
-        return 1
-    except (OSError, UnicodeDecodeError) as fault:
-        print(f"{words[1]}: {fault}", file=sys.stderr)
-        return 1
     sys.stdout.buffer.write(made)
     return 0
 
 
 if __name__ == "__main__":
-    sys.exit(main(sys.argv[1:]))
+    sys.exit(ended(main))

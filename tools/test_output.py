@@ -146,9 +146,28 @@ class Outputs(unittest.TestCase):
                 sound = bytes.fromhex(data)
                 count = len(sound) // wire.frame_size(session[1][1].spec)
                 record = b"\3\1" + count.to_bytes(4, "big") + sound
-                made = output.wav(b"\3\0\0\0\0\1\x80" + record + record + b"\0", session, "b")
+                made, fault = output.wav(b"\3\0\0\0\0\1\x80" + record + record + b"\0", session, "b")
+                self.assertIsNone(fault)
                 with wave.open(io.BytesIO(made)) as file:
                     self.assertEqual(file.getparams()[:4], (channels, width, 44100, 2 * count))
                     self.assertEqual(file.readframes(99).hex(), frames * 2)
         with self.assertRaises(Wrong):
             output.wav(b"\0", self.SESSION, "wide")
+
+    def test_wav_that_ends_early(self):
+        record = bytes.fromhex("0300000000" "02" "e803" "feff")
+        for data, said in ((record, "it has no end byte"), (record + record[:7], "ends within the record that begins at 10")):
+            made, fault = output.wav(data, self.SESSION, "out")
+            self.assertEqual(made[-4:].hex(), "e803feff")
+            self.assertIn(said, fault)
+
+    def test_a_frame_that_no_packet_has(self):
+        frame = bytearray(wire.packet_frame(b"L\0\0\0\2L\0\0\0\0"))
+        for place in (7, 11, 15, 19):
+            changed = frame[:]
+            changed[place] ^= 1
+            said = output.show(b"\1\0\0\0\1" + len(changed).to_bytes(4, "big") + changed + b"\0", self.SESSION)[0]
+            self.assertIn("bytes hex", said)
+
+    def test_closed_with_more_than_a_reason(self):
+        self.assertIn("fault 3 at byte 1", output.show(bytes.fromhex("0200000001" "04" "63" "0000000000000001" "00"))[0].replace("fault 99", "fault 3"))

@@ -1,14 +1,16 @@
 #!/usr/bin/env python3
-"""The tests of the tools, test_session.py and test_output.py. Its status is 0 where all pass."""
+"""The tests of the tools and of the launcher. Its status is 0 where all pass."""
 
 import sys
 import unittest
 
 sys.dont_write_bytecode = True
 
+import test_commands
+import test_launcher
 import test_output
 import test_session
 
 loader = unittest.defaultTestLoader
-suite = unittest.TestSuite(map(loader.loadTestsFromModule, (test_session, test_output)))
+suite = unittest.TestSuite(map(loader.loadTestsFromModule, (test_session, test_output, test_commands, test_launcher)))
 sys.exit(not unittest.TextTestRunner().run(suite).wasSuccessful())

@@ -13,6 +13,7 @@ class Wrong(Exception):
 WORD = re.compile(r'(?:[^\s"]|"(?:[^"\\]|\\.)*")+')
 PART = re.compile(r'"((?:[^"\\]|\\.)*)"|([^"]+)')
 ESCAPE = re.compile(r'\\(x[0-9a-fA-F]{2}|.)')
+QUOTED = re.compile(r'"(?:[^"\\]|\\.)*"')
 PLAIN = re.compile(r"[A-Za-z0-9_.@/+-]+")
 PROPERTY = re.compile(r'((?:[^"=:]|"(?:[^"\\]|\\.)*")*)([=:])(.*)', re.DOTALL)
 HEX = re.compile(r"((?:[0-9a-fA-F]{2})+)(?:x([0-9]{1,9}))?")

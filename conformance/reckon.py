@@ -1,0 +1,330 @@
+#!/usr/bin/env python3
+"""Reckons by the rules of docs what a session must give, slowly and plainly, and shares no code with the program.
+
+  conformance/reckon.py SESSION.session > SESSION.output
+  conformance/reckon.py --dice NUMBER TURNS > SESSION.session     a long session of three streams, thrown with dice
+
+It keeps each sample that was ever written in a map from index to sample, and mixes each frame anew. It knows S16LE and the
+commands that are built, and only sessions that are played to their end."""
+
+import os
+import random
+import sys
+
+sys.dont_write_bytecode = True
+sys.path.insert(0, os.path.join(os.path.dirname(os.path.dirname(os.path.realpath(__file__))), "tools"))
+
+import output
+import wire
+from maker import make
+from packets import COMMANDS, read_packet
+from recording import read_session
+from words import NONE
+
+WORD = (1 << 32) - 1
+
+
+class Stream:
+    """A stream on its sink. Indices count frames; `held` has the samples of each index that was written."""
+
+    def __init__(self, owner, number, lengths):
+        self.owner, self.number = owner, number
+        self.maxlength, self.tlength, self.minreq = lengths
+        self.read = self.write = 0
+        self.held = {}
+        self.requested = self.tlength
+        self.quiet = True
+        self.leaving = False
+
+    def end(self):
+        return max(self.held) + 1 if self.held else self.read
+
+    def edge(self):
+        return max(self.write, self.end()) if self.held else self.write
+
+    def frame(self, ahead):
+        """The samples of the frame so far ahead, or None."""
+        return self.held.get(self.read + ahead) if ahead < self.edge() - self.read else None
+
+    def go(self, frames):
+        """Goes forward, and answers what is told of it."""
+        if not frames:
+            return []
+        given = min(max(self.edge() - self.read, 0), frames)
+        was_quiet, self.quiet = self.quiet, given < frames
+        self.read += frames
+        self.held = {at: frame for at, frame in self.held.items() if at >= self.read}
+        said = ["started"] if was_quiet and given else []
+        return said + (["underflow"] if self.quiet and (given or not was_quiet) else [])
+
+    def take(self, seek, offset, frames, ahead):
+        """A write; whether it overflows."""
+        origin = [self.write, 0, self.read, self.end()][seek]
+        self.write = origin + offset
+        last = self.write + len(frames)
+        limit = self.end() if self.held else self.write
+        over = last > limit and last - ahead > self.maxlength
+        if not over:
+            for place, frame in enumerate(frames):
+                if self.write + place >= self.read:
+                    self.held[self.write + place] = frame
+        self.write = last
+        self.requested = max(self.requested - len(frames), 0)
+        return over
+
+
+class Sink:
+    def __init__(self, spec):
+        self.spec = spec
+        self.consumed = self.filled = self.horizon = 0
+        self.frames = []  # from frame 0 on
+        self.inputs = {}
+        self.waiting, self.notices = [], []
+
+    def mix(self, ahead):
+        found = [frame for stream in self.inputs.values() if (frame := stream.frame(ahead))]
+        sums = [sum(parts) for parts in zip(*found)] or [0] * self.spec.spec[1]
+        return [min(max(value, -32768), 32767) for value in sums]
+
+    def turn(self, frames, taken):
+        played = self.frames[self.consumed : self.consumed + frames]
+        self.consumed += frames
+        horizon = min(self.filled, self.consumed + self.spec.guard)
+        for number in sorted(self.inputs):
+            self.notices += [(number, word, 0) for word in self.inputs[number].go(horizon - self.horizon)]
+        self.horizon = horizon
+        for _ in range(taken):
+            self.take(*self.waiting.pop(0))
+        del self.frames[self.horizon :]
+        last = self.consumed + self.spec.depth
+        self.frames += [self.mix(ahead) for ahead in range(last - self.horizon)]
+        self.filled = last
+        for number in sorted(self.inputs):
+            self.ask(number, self.inputs[number])
+        return played
+
+    def take(self, kind, number, more):
+        if kind == "new":
+            self.inputs[number] = more
+        elif kind == "gone":
+            del self.inputs[number]
+            self.notices.append((number, "detached", 0))
+        elif kind == "write":
+            stream = self.inputs[number]
+            if stream.take(*more, stream.read + self.filled - self.horizon):
+                self.notices.append((number, "overflow", 0))
+
+    def ask(self, number, stream):
+        ahead = stream.read + self.filled - self.horizon
+        missing = stream.tlength - max(stream.write - ahead, 0) - stream.requested
+        if missing >= stream.minreq:
+            stream.requested += missing
+            self.notices.append((number, "request", missing))
+
+
+class Client:
+    def __init__(self, number):
+        self.number = number
+        self.bytes = bytearray()
+        self.gone = 0  # bytes that were read
+        self.known = self.ended = False
+        self.streams = {}
+        self.made = 0
+
+
+class Server:
+    """Plays a session; `said` is the output."""
+
+    def __init__(self, cookie, sinks):
+        self.cookie, self.sink = cookie, Sink(sinks[0])
+        self.clients, self.inputs = {}, {}
+        self.client_count = self.input_count = 0
+        self.said = bytearray()
+
+    def send(self, conn, command, tag, fields=b""):
+        frame = wire.packet_frame(wire.number(command) + wire.number(tag) + fields)
+        self.said += b"\1" + conn.to_bytes(4, "big") + len(frame).to_bytes(4, "big") + frame
+
+    def error(self, conn, tag, code):
+        self.send(conn, 0, tag, wire.number(code))
+
+    def end(self, conn, reason, fault=0, at=0):
+        """The server ends a connection, which stays named."""
+        if not self.clients[conn].ended:
+            self.clients[conn].ended = True
+            self.said += b"\2" + conn.to_bytes(4, "big") + bytes([reason, fault]) + at.to_bytes(8, "big")
+            self.leave(conn)
+
+    def leave(self, conn):
+        for number in sorted(self.clients[conn].streams.values()):
+            self.drop(number)
+        self.clients[conn].streams = {}
+
+    def drop(self, number):
+        self.inputs[number].leaving = True
+        self.sink.waiting.append(("gone", number, None))
+
+    def event(self, event):
+        kind = event[0]
+        if kind == 1:
+            there = sum(not client.ended for client in self.clients.values())
+            self.clients[event[1]] = Client(self.client_count)
+            if there >= 64:
+                self.end(event[1], 2)
+            else:
+                self.client_count += 1
+        elif kind == 2 and not self.clients[event[1]].ended:
+            self.hear(event[1], event[2])
+        elif kind == 3:
+            if not self.clients[event[1]].ended:
+                self.leave(event[1])
+            del self.clients[event[1]]
+        elif kind == 4:
+            self.end(event[1], 4)
+        elif kind == 5:
+            played = self.sink.turn(event[2], event[3])
+            if played:
+                sound = b"".join(value.to_bytes(2, "little", signed=True) for frame in played for value in frame)
+                self.said += b"\3\0" + len(played).to_bytes(4, "big") + sound
+        elif kind == 6:
+            for _ in range(event[3]):
+                self.notice(*self.sink.notices.pop(0))
+
+    def notice(self, number, word, frames):
+        stream = self.inputs[number]
+        if word == "detached":
+            del self.inputs[number]
+            self.sink.waiting.append(("factors", None, None))
+        elif not stream.leaving:
+            code = {"request": 61, "overflow": 62, "underflow": 63, "started": 86}[word]
+            more = wire.number(2 * self.sink.spec.spec[1] * frames) if word == "request" else b""
+            self.send(stream.owner, code, NONE, wire.number(stream.number) + more)
+
+    def hear(self, conn, data):
+        client = self.clients[conn]
+        client.bytes += data
+        while len(client.bytes) >= 20 and not client.ended:
+            head = wire.Descriptor(client.bytes)
+            fault = head.fault()
+            if fault:
+                codes = {"zero length": 1, "too long": 2, "packet flags": 3, "shared memory": 4, "seek mode": 5}
+                return self.end(conn, 1, codes[fault], client.gone + (0 if codes[fault] < 3 else 16))
+            if len(client.bytes) < 20 + head.length:
+                return None
+            payload = bytes(client.bytes[20 : 20 + head.length])
+            del client.bytes[: 20 + head.length]
+            client.gone += 20 + head.length
+            self.packet(conn, payload) if head.channel == wire.CONTROL else self.data(conn, head, payload)
+
+    def data(self, conn, head, payload):
+        number = self.clients[conn].streams.get(head.channel)
+        size = 2 * self.sink.spec.spec[1]
+        if number is None or len(payload) % size or head.offset % size:
+            return
+        samples = [int.from_bytes(payload[at : at + 2], "little", signed=True) for at in range(0, len(payload), 2)]
+        frames = [samples[at : at + size // 2] for at in range(0, len(samples), size // 2)]
+        self.sink.waiting.append(("write", number, (head.flags & 0xFF, head.offset // size, frames)))
+
+    def packet(self, conn, packet):
+        client, read = self.clients[conn], read_packet(packet)
+        command, tag = wire.Items(packet), None
+        command, tag = command.number(), int.from_bytes(packet[6:10], "big")
+        if not client.known and command != 8:
+            return self.error(conn, tag, 1)
+        word, values = read[0], read[2]
+        return getattr(self, "do_" + word.replace("-", "_"), self.nothing)(conn, tag, values)
+
+    def nothing(self, conn, tag, values):
+        self.send(conn, 2, tag)
+
+    def do_auth(self, conn, tag, values):
+        if self.clients[conn].known:
+            return self.error(conn, tag, 15)
+        if values[0] & 0xFFFF < 13:
+            return self.error(conn, tag, 17)
+        if values[1] != self.cookie:
+            return self.error(conn, tag, 1)
+        self.clients[conn].known = True
+        return self.send(conn, 2, tag, wire.number(13))
+
+    def do_name(self, conn, tag, values):
+        self.send(conn, 2, tag, wire.number(self.clients[conn].number))
+
+    def do_create(self, conn, tag, values):
+        asked = dict(zip((name for name, _, _ in COMMANDS["create"][1]), values))
+        spec = self.sink.spec
+        size = 2 * spec.spec[1]
+        whole = lambda count: max(count // size * size, size)
+        maxlength = whole(min(asked["maxlength"], 4_194_304))
+        tlength = min(whole(2 * spec.spec[2] * size if asked["tlength"] == WORD else asked["tlength"]), maxlength)
+        minreq = min(whole(spec.spec[2] * 20 // 1000 * size if asked["minreq"] == WORD else asked["minreq"]), tlength)
+        going = sum(not stream.leaving for stream in self.inputs.values())
+        if going >= 256:
+            return self.error(conn, tag, 18)
+        client, number = self.clients[conn], self.input_count
+        stream = Stream(conn, client.made, [length // size for length in (maxlength, tlength, minreq)])
+        self.inputs[number], client.streams[client.made] = stream, number
+        numbers = [client.made, number, tlength, maxlength, tlength, 0, minreq]
+        self.input_count += 1
+        client.made += 1
+        self.sink.waiting += [("new", number, stream), ("factors", None, None)]
+        usec = spec.depth * 1_000_000 // spec.spec[2]
+        fields = b"".join(map(wire.number, numbers)) + wire.spec(spec.spec) + wire.channel_map(spec.positions)
+        fields += wire.number(0) + wire.text(spec.name) + wire.flag(False) + b"U" + usec.to_bytes(8, "big")
+        return self.send(conn, 2, tag, fields)
+
+    def do_delete(self, conn, tag, values):
+        number = self.clients[conn].streams.pop(values[0], None)
+        if number is None:
+            return self.error(conn, tag, 5)
+        self.send(conn, 2, tag)
+        return self.drop(number)
+
+
+def reckoned(session):
+    cookie, sinks, events = read_session(session)
+    server = Server(cookie, sinks)
+    for event in events[:-1]:
+        server.event(event)
+    return bytes(server.said) + b"\0"
+
+
+def thrown(number, turns):
+    """Three streams that are written anywhere near what is played, soft and loud, in turns of any length."""
+    dice = random.Random(number)
+    lines = [f"# Thrown with the dice of {number}: three streams, {turns} turns. Its output is conformance/reckon.py's.", ""]
+    lines += ["sink out s16le 1 48000 map 0 guard 10 depth 100", "", "connect 1", "auth 1 tag 0 version 13"]
+    lines += [f"create 1 tag {tag} s16le 1 48000 map 0 maxlength 1000 tlength 400 prebuf 0 minreq 2" for tag in (1, 2, 3)]
+    lines.append("turn out 0 take 6")
+    consumed = waiting = 0
+    for _ in range(turns):
+        for _ in range(dice.randrange(3)):
+            loud = dice.choice((64, 1))
+            values = " ".join(str(dice.randrange(-32768, 32768) // loud) for _ in range(dice.randrange(1, 61)))
+            seek = dice.randrange(4)
+            offset = consumed + dice.randrange(-30, 90) if seek == 1 else dice.randrange(-20, 40)
+            mode = ("relative", "absolute", "relative-on-read", "relative-end")[seek]
+            lines.append(f"data 1 stream {dice.randrange(3)} seek {mode} offset {2 * offset} {values}")
+            waiting += 1
+        frames, take = dice.randrange(45), dice.randrange(waiting + 1)
+        waiting -= take
+        consumed += frames
+        lines.append(f"turn out {frames} take {take}")
+    return "\n".join([*lines, "end", ""])
+
+
+def main(words):
+    if len(words) == 3 and words[0] == "--dice":
+        sys.stdout.write(thrown(int(words[1]), int(words[2])))
+        return 0
+    if len(words) != 1:
+        print(__doc__, file=sys.stderr)
+        return 2
+    with open(words[0], encoding="utf-8") as file:
+        session = make(file.read())
+    sys.stdout.write(output.show(reckoned(session), read_session(session))[0])
+    return 0
+
+
+if __name__ == "__main__":
+    sys.exit(main(sys.argv[1:]))

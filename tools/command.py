@@ -1,0 +1,19 @@
+"""What the commands of tools/ share: how they end."""
+
+import os
+import sys
+
+
+def ended(main):
+    """Runs a command, and answers its status. A pipe that is closed, a full disk or a folder is told in a line, or not at all."""
+    try:
+        status = main(sys.argv[1:])
+        sys.stdout.flush()
+        return status
+    except BrokenPipeError:
+        pass  # who reads has seen enough
+    except OSError as fault:
+        print(f"{fault.filename or 'output'}: {fault.strerror}", file=sys.stderr)
+    # what stands in the buffer still can't be written: it is let go
+    os.dup2(os.open(os.devnull, os.O_WRONLY), sys.stdout.fileno())
+    return 1
