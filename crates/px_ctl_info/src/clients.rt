@@ -1,0 +1,69 @@
+//! AUTH and SET_CLIENT_NAME (PulseAudio: `command_auth` and `command_set_client_name` of `pulsecore/protocol-native.c`).
+
+ghost use Rattle.std.specs.Prelude.{◌≡◌, IfOk};
+ghost use Rattle.std.specs.Option.{option_map};
+ghost use Rattle.px_plan.specs.Row.{Plans};
+ghost use Rattle.px_ctl_info.specs.Clients.{auth, list_with, set_client_name};
+
+use px_names::{Client, Names};
+use px_plan::{Change, Connection, Plan, Refusal, check};
+use px_tag::{Mode, PropList};
+use px_types::ErrorCode;
+use std::alloc::Global;
+
+/// The version that the server speaks.
+pub const SERVER_VERSION: u16 = 13;
+
+/// AUTH of a client that speaks a version (the lower half of the number) and shows a cookie. Refused, by the first of these
+/// that holds: `BadState` after a successful one, `Version` below 13, `Access` for another cookie than the server's.
+pub fn auth<M: Drop, G: Drop>(
+    alloc: Global,
+    names: &Names,
+    me: &Connection,
+    tag: u32,
+    version: u32,
+    cookie: &[u8],
+) -> Result<Plan<M, G>, Refusal>
+    ensures { Plans result (auth names.now me.now tag version cookie.now) }
+{
+    check(me.version.is_none(), ErrorCode::BadState)?;
+    check(
+        version % 0x1_0000 >= u32::from(SERVER_VERSION),
+        ErrorCode::Version,
+    )?;
+    check(names.cookie_fits(cookie), ErrorCode::Access)?;
+    let reply = px_reply::auth(alloc, tag, u32::from(SERVER_VERSION))?;
+    let mut changes = Vec::new(alloc);
+    changes.push(Change::Authed(me.conn, SERVER_VERSION))?;
+    Ok(Plan::replied(alloc, reply, changes))
+}
+
+// A client's list once each key of another list is set.
+fn list_with(client: Option<&Client>, list: PropList) -> px_tag::Mem<PropList>
+    ensures { IfOk result (λ made. made ≡ list_with (option_map (λ client. client.now) client.entry) list) }
+{
+    let Some(client) = client else {
+        return Ok(list);
+    };
+    let mut made = client.list.copy()?;
+    made.update(Mode::Replace, &list)?;
+    Ok(made)
+}
+
+/// SET_CLIENT_NAME of a connection with this client: each key of the list is set in the client's, and the client's index is
+/// told.
+pub fn set_client_name<M: Drop, G: Drop>(
+    alloc: Global,
+    client: Option<&Client>,
+    me: &Connection,
+    tag: u32,
+    list: PropList,
+) -> Result<Plan<M, G>, Refusal>
+    ensures { Plans result (set_client_name (option_map (λ client. client.now) client.entry) me.now tag list) }
+{
+    let reply = px_reply::client_index(alloc, tag, me.client)?;
+    let list = list_with(client, list)?;
+    let mut changes = Vec::new(alloc);
+    changes.push(Change::Named(me.conn, list))?;
+    Ok(Plan::replied(alloc, reply, changes))
+}
