@@ -1,0 +1,58 @@
+"""Tests of the script of conformance/, over the reckoner in place of the program."""
+
+import os
+import stat
+import subprocess
+import sys
+import tempfile
+import unittest
+
+TOP = os.path.dirname(os.path.dirname(os.path.abspath(__file__)))
+PROGRAM = f"""#!{sys.executable}
+import sys
+sys.dont_write_bytecode = True
+sys.path.insert(0, {os.path.join(TOP, "conformance")!r})
+import reckon
+said = bytearray(reckon.reckoned(sys.stdin.buffer.read()))
+FLIP
+sys.stdout.buffer.write(said)
+"""
+
+
+class Running(unittest.TestCase):
+    def run_rows(self, flip, *words):
+        with tempfile.NamedTemporaryFile("w", suffix=".py", delete=False) as file:
+            self.addCleanup(os.remove, file.name)
+            file.write(PROGRAM.replace("FLIP", flip))
+        os.chmod(file.name, stat.S_IRWXU)
+        script = os.path.join(TOP, "conformance", "run")
+        ran = subprocess.run([script, "--program", file.name, *words], capture_output=True, text=True, cwd="/")
+        return ran.returncode, ran.stdout, ran.stderr
+
+    def test_rows_pass_in_any_cutting(self):
+        rows = ("turns/seeks", "connections/side_by_side", "mix/clipped_once")
+        self.assertEqual(self.run_rows("", "--cut", "all", *rows), (0, "12 passed, 0 failed\n", ""))
+        self.assertEqual(self.run_rows("", "--cut", "5", *rows), (0, "3 passed, 0 failed\n", ""))
+
+    def test_a_byte_that_differs_is_told(self):
+        # the last sample of the record that plays stands before the end byte
+        status, said, _ = self.run_rows("said[-3] ^= 1", "turns/seeks", "turns/silence")
+        self.assertEqual(status, 1)
+        self.assertIn("turns/seeks\n  record 3 differs\n", said)
+        line = next(line for line in said.splitlines() if "1000x70" in line)
+        self.assertIn("1000x69 1001", line.partition("#")[2])
+        self.assertIn("turns/silence\n  record 2 differs\n", said)
+        self.assertEqual(said.splitlines()[-1], "0 passed, 2 failed")
+
+    def test_statuses_lines_and_missing_records_are_told(self):
+        said = self.run_rows("del said[-1:]", "turns/silence")[1]
+        self.assertIn("record 3 differs", said)
+        self.assertIn("no end byte", said)
+        said = self.run_rows("sys.stderr.write('oh\\n'); sys.exit(3)", "turns/silence", "refused/live")[1]
+        self.assertIn("status 0 was wanted, and 3 came", said)
+        self.assertIn("the line 'pulse_rw: refused at 590: live 1\\n' was wanted, and 'oh\\n' came", said)
+
+    def test_other_words(self):
+        self.assertEqual(self.run_rows("", "turns/none")[0::2], (1, "conformance/run: there is no row turns/none\n"))
+        self.assertEqual(self.run_rows("", "--cut", "0")[0], 1)
+        self.assertEqual(self.run_rows("", "--unknown")[0], 2)
