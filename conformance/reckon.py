@@ -4,8 +4,9 @@
   conformance/reckon.py SESSION.session > SESSION.output
   conformance/reckon.py --dice NUMBER TURNS > SESSION.session     a long session of three streams, thrown with dice
 
-It keeps each sample that was ever written in a map from index to sample, and mixes each frame anew. It knows S16LE and the
-commands that are built, and only sessions that are played to their end."""
+It keeps each sample that was ever written in a map from index to sample, and mixes each frame anew. It knows S16LE at volume 65536,
+the commands that are built and DRAIN, with prebuffering, and only sessions that are played to their end and ask for nothing that is refused
+but by ACCESS, BADSTATE, VERSION, NOENTITY and TOOLARGE."""
 
 import os
 import random
@@ -29,12 +30,26 @@ class Stream:
 
     def __init__(self, owner, number, lengths):
         self.owner, self.number = owner, number
-        self.maxlength, self.tlength, self.minreq = lengths
+        self.maxlength, self.tlength, self.prebuf, self.minreq = lengths
         self.read = self.write = 0
         self.held = {}
+        self.hold = self.prebuf > 0
+        self.draining = []
         self.requested = self.tlength
         self.quiet = True
         self.leaving = False
+
+    def is_short(self):
+        """It waits for frames until prebuf of them are there."""
+        return self.hold and self.write - self.read < self.prebuf
+
+    def given(self, frames):
+        """How many of so many frames it gives."""
+        return 0 if self.is_short() else min(max(self.edge() - self.read, 0), frames)
+
+    def read_after(self, frames):
+        """The read index so many frames on: without prebuffering it goes on where nothing is left."""
+        return self.read + (self.given(frames) if self.prebuf or self.is_short() else frames)
 
     def end(self):
         return max(self.held) + 1 if self.held else self.read
@@ -44,18 +59,20 @@ class Stream:
 
     def frame(self, ahead):
         """The samples of the frame so far ahead, or None."""
-        return self.held.get(self.read + ahead) if ahead < self.edge() - self.read else None
+        return self.held.get(self.read + ahead) if self.given(ahead + 1) > ahead else None
 
     def go(self, frames):
         """Goes forward, and answers what is told of it."""
         if not frames:
             return []
-        given = min(max(self.edge() - self.read, 0), frames)
+        given = self.given(frames)
         was_quiet, self.quiet = self.quiet, given < frames
-        self.read += frames
+        runs_dry = self.prebuf > 0 and frames > self.edge() - self.read
+        if not self.is_short():
+            self.read, self.hold = self.read_after(frames), runs_dry
         self.held = {at: frame for at, frame in self.held.items() if at >= self.read}
         said = ["started"] if was_quiet and given else []
-        return said + (["underflow"] if self.quiet and (given or not was_quiet) else [])
+        return said + (["underflow"] if self.quiet and (given or not was_quiet) and not self.draining else [])
 
     def take(self, seek, offset, frames, ahead):
         """A write; whether it overflows."""
@@ -111,11 +128,17 @@ class Sink:
             self.notices.append((number, "detached", 0))
         elif kind == "write":
             stream = self.inputs[number]
-            if stream.take(*more, stream.read + self.filled - self.horizon):
+            if stream.take(*more, stream.read_after(self.filled - self.horizon)):
                 self.notices.append((number, "overflow", 0))
+        elif kind == "drain":
+            self.inputs[number].hold = False
+            self.inputs[number].draining.append(more)
 
     def ask(self, number, stream):
-        ahead = stream.read + self.filled - self.horizon
+        if stream.read >= stream.edge():
+            self.notices += [(number, "drained", tag) for tag in stream.draining]
+            stream.draining = []
+        ahead = stream.read_after(self.filled - self.horizon)
         missing = stream.tlength - max(stream.write - ahead, 0) - stream.requested
         if missing >= stream.minreq:
             stream.requested += missing
@@ -195,6 +218,8 @@ class Server:
         if word == "detached":
             del self.inputs[number]
             self.sink.waiting.append(("factors", None, None))
+        elif word == "drained":
+            self.send(stream.owner, 2, frames)
         elif not stream.leaving:
             code = {"request": 61, "overflow": 62, "underflow": 63, "started": 86}[word]
             more = wire.number(2 * self.sink.spec.spec[1] * frames) if word == "request" else b""
@@ -258,13 +283,15 @@ class Server:
         maxlength = whole(min(asked["maxlength"], 4_194_304))
         tlength = min(whole(2 * spec.spec[2] * size if asked["tlength"] == WORD else asked["tlength"]), maxlength)
         minreq = min(whole(spec.spec[2] * 20 // 1000 * size if asked["minreq"] == WORD else asked["minreq"]), tlength)
+        most = tlength + size - minreq
+        prebuf = most if asked["prebuf"] == WORD else min(-(-asked["prebuf"] // size) * size, most)
         going = sum(not stream.leaving for stream in self.inputs.values())
         if going >= 256:
             return self.error(conn, tag, 18)
         client, number = self.clients[conn], self.input_count
-        stream = Stream(conn, client.made, [length // size for length in (maxlength, tlength, minreq)])
+        stream = Stream(conn, client.made, [length // size for length in (maxlength, tlength, prebuf, minreq)])
         self.inputs[number], client.streams[client.made] = stream, number
-        numbers = [client.made, number, tlength, maxlength, tlength, 0, minreq]
+        numbers = [client.made, number, tlength, maxlength, tlength, prebuf, minreq]
         self.input_count += 1
         client.made += 1
         self.sink.waiting += [("new", number, stream), ("factors", None, None)]
@@ -272,6 +299,12 @@ class Server:
         fields = b"".join(map(wire.number, numbers)) + wire.spec(spec.spec) + wire.channel_map(spec.positions)
         fields += wire.number(0) + wire.text(spec.name) + wire.flag(False) + b"U" + usec.to_bytes(8, "big")
         return self.send(conn, 2, tag, fields)
+
+    def do_drain(self, conn, tag, values):
+        number = self.clients[conn].streams.get(values[0])
+        if number is None:
+            return self.error(conn, tag, 5)
+        return self.sink.waiting.append(("drain", number, tag))
 
     def do_delete(self, conn, tag, values):
         number = self.clients[conn].streams.pop(values[0], None)

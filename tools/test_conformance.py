@@ -1,6 +1,7 @@
 """Tests of the script of conformance/, over the reckoner in place of the program."""
 
 import os
+import runpy
 import stat
 import subprocess
 import sys
@@ -56,3 +57,14 @@ class Running(unittest.TestCase):
         self.assertEqual(self.run_rows("", "turns/none")[0::2], (1, "conformance/run: there is no row turns/none\n"))
         self.assertEqual(self.run_rows("", "--cut", "0")[0], 1)
         self.assertEqual(self.run_rows("", "--unknown")[0], 2)
+
+
+class Reckoning(unittest.TestCase):
+    def test_a_recorded_client(self):
+        """The reckoner gives what another implementation gave for a session of PulseAudio's own paplay."""
+        said = []
+        for name in ("paplay.prs", "paplay.out"):
+            with open(os.path.join(TOP, "examples", name), "rb") as file:
+                said.append(file.read())
+        reckoned = runpy.run_path(os.path.join(TOP, "conformance", "reckon.py"))["reckoned"]
+        self.assertEqual(reckoned(said[0]), said[1])
