@@ -1,18 +1,19 @@
 -- What was spelled is read again.
-use Rattle.std.proofs.Common.{◌≡◌, ℕ, zero, suc, ◌<◌, ◌^◌, List, [], ◌∷◌, ◌++◌, length, map, None, Some, Ok, refl, sym, ap, ◌∙◌, append_assoc, arith}
+use Rattle.std.proofs.Common.{◌≡◌, ℕ, zero, suc, ◌<◌, ◌≤◌, ◌^◌, List, [], ◌∷◌, ◌++◌, length, map, None, Some, Ok, refl, sym, ap, ◌∙◌, append_assoc, arith}
 use Rattle.std.specs.List.{flat_map, AllByRecursion}
 use Rattle.std.proofs.lemmas.List.{length-append, append-nil}
 use Rattle.std.proofs.lemmas.List.Concat.{flat_map-cons}
 use Rattle.px_tag.specs.Place.{Place, start_of}
-use Rattle.px_tag.specs.Item.{number, text, IsText}
-use Rattle.px_tag.specs.Reading.{end_at}
+use Rattle.px_tag.specs.Item.{number, text, proplist, AreProperties, IsText}
+use Rattle.px_tag.specs.PropList.{Property, meaning as properties_meant}
+use Rattle.px_tag.specs.Reading.{proplist_at, end_at}
 use Rattle.px_tag.proofs.Items.{number_law, flag_law, text_law, counted_law}
 use Rattle.px_tag.proofs.Parts.{spec_law, map_law, volumes_law, time_law}
-use Rattle.px_tag.proofs.Written.{list_again}
+use Rattle.px_tag.proofs.Written.{written_law, list_again}
 use Rattle.px_cmd.specs.Field.{Field, Number, Flag, String, Cookie, SampleSpec, Positions, Volumes, TimeValue, Properties, Keys, cookie_length, spelling, keys_spelling, keys_at, field_at, fields_at}
-use Rattle.px_cmd.specs.Table.{kinds_of}
+use Rattle.px_cmd.specs.Table.{kinds_of, last_command}
 use Rattle.px_cmd.specs.Packet.{head_at, taken, meaning}
-use Rattle.px_cmd.specs.Law.{kind_of, IsField, IsCommand, packet_of}
+use Rattle.px_cmd.specs.Law.{kind_of, IsField, IsCommand, IsPacketOf, IsSpelledAs, AreSpelledAs, packet_of}
 use Rattle.px_cmd.proofs.Whole.{means}
 
 length_text : (key : List ℕ) → 0 < length (text (Some key))
@@ -79,3 +80,41 @@ packet_again command tag fields is =
     let read : fields_at (map kind_of fields) behind ≡ Ok (fields, after) = ap (λ (r : List ℕ). fields_at (map kind_of fields) (record { size = size; rest = r })) (sym (append-nil cells)) ∙ fields_again fields size [] is.each in
     let took : taken (kinds_of command) command behind ≡ Ok (fields, after) = rw (is.kinds, read) refl in
     means packet command tag behind front is.known fields after took (ended size)
+
+-- ---- a packet that is spelled in any way
+
+list_read : (list written : List Property) (size : ℕ) (behind : List ℕ) → AreProperties written → list ≡ properties_meant written → proplist_at (record { size = size; rest = proplist written ++ behind }) ≡ Ok (list, record { size = size; rest = behind })
+unfolding proplist_at
+list_read list written size behind are e = rw (written_law.again written size behind are, e) refl
+
+field_read : (field : Field) (front : List ℕ) (size : ℕ) (behind : List ℕ) → IsField field → IsSpelledAs field front → field_at (kind_of field) (record { size = size; rest = front ++ behind }) ≡ Ok (field, record { size = size; rest = behind })
+field_read (Number n) front size behind is e = rw e (field_again (Number n) size behind is)
+field_read (Flag b) front size behind is e = rw e (field_again (Flag b) size behind is)
+field_read (String s) front size behind is e = rw e (field_again (String s) size behind is)
+field_read (Cookie bytes) front size behind is e = rw e (field_again (Cookie bytes) size behind is)
+field_read (SampleSpec s) front size behind is e = rw e (field_again (SampleSpec s) size behind is)
+field_read (Positions list) front size behind is e = rw e (field_again (Positions list) size behind is)
+field_read (Volumes list) front size behind is e = rw e (field_again (Volumes list) size behind is)
+field_read (TimeValue t) front size behind is e = rw e (field_again (TimeValue t) size behind is)
+field_read (Properties list) front size behind is e = rw (e.3, list_read list e.0 size behind e.1 e.2) refl
+field_read (Keys list) front size behind is e = rw e (field_again (Keys list) size behind is)
+
+fields_read : (fields : List Field) (cells : List ℕ) (size : ℕ) (behind : List ℕ) → AllByRecursion IsField fields → AreSpelledAs fields cells → fields_at (map kind_of fields) (record { size = size; rest = cells ++ behind }) ≡ Ok (fields, record { size = size; rest = behind })
+fields_read [] cells size behind each e = rw e refl
+fields_read (field ∷ fields) cells size behind each e =
+    let regrouped : cells ++ behind ≡ e.0 ++ (e.1 ++ behind) = ap (λ (x : List ℕ). x ++ behind) e.4 ∙ append_assoc e.0 e.1 behind in
+    ap (λ (r : List ℕ). fields_at (map kind_of (field ∷ fields)) (record { size = size; rest = r })) regrouped ∙ rw (field_read field e.0 size (e.1 ++ behind) each.0 e.2, fields_read fields e.1 size behind each.1 e.3) refl
+
+spelled_again : (cells : List ℕ) (command tag : ℕ) (fields : List Field) → command ≤ last_command → tag < 2 ^ 32 → kinds_of command ≡ Some (map kind_of fields) → AllByRecursion IsField fields → AreSpelledAs fields cells → meaning (number command ++ number tag ++ cells) ≡ Ok (command, fields)
+spelled_again cells command tag fields known tagged kinds each spelled =
+    let packet = number command ++ number tag ++ cells in
+    let size = length packet in
+    let behind : Place = record { size = size; rest = cells } in
+    let after : Place = record { size = size; rest = [] } in
+    let front : head_at (start_of packet) ≡ Ok ((command, tag), behind) = head_again command tag size cells (omega (arith, known)) tagged in
+    let read : fields_at (map kind_of fields) behind ≡ Ok (fields, after) = ap (λ (r : List ℕ). fields_at (map kind_of fields) (record { size = size; rest = r })) (sym (append-nil cells)) ∙ fields_read fields cells size [] each spelled in
+    let took : taken (kinds_of command) command behind ≡ Ok (fields, after) = rw (kinds, read) refl in
+    means packet command tag behind front known fields after took (ended size)
+
+pub packet_read : (packet : List ℕ) (command : ℕ) (fields : List Field) → IsPacketOf packet command fields → meaning packet ≡ Ok (command, fields)
+packet_read packet command fields is = ap meaning is.whole ∙ spelled_again is.cells command is.tag fields is.known is.tagged is.kinds is.each is.spelled

@@ -60,11 +60,13 @@ abbrev pub AreSpelledAs : List Field → List ℕ → Type 0
 AreSpelledAs [] bytes = bytes ≡ []
 AreSpelledAs (field ∷ fields) bytes = (front : List ℕ) × (rest : List ℕ) × IsSpelledAs field front × AreSpelledAs fields rest × (bytes ≡ front ++ rest)
 
--- the packet is a command's number, a tag and the fields that the table gives the command, and nothing more
+-- the packet is a command's number, a tag and fields of the kinds that the table gives the command, and nothing more
 pub record IsPacketOf (packet : List ℕ) (command : ℕ) (fields : List Field) : Type 0 where
   pub tag : ℕ
   pub cells : List ℕ
   pub known : command ≤ last_command
+  pub tagged : tag < 2 ^ 32
   pub kinds : kinds_of command ≡ Some (map kind_of fields)
+  pub each : AllByRecursion IsField fields
   pub spelled : AreSpelledAs fields cells
   pub whole : packet ≡ number command ++ number tag ++ cells

@@ -1,0 +1,3 @@
+mod channels;
+mod samples;
+mod volumes;
