@@ -1,0 +1,69 @@
+-- What a row that planned has passed.
+use Rattle.std.proofs.Common.{◌≡◌, ℕ, Bool, true, false, List, [], ◌∷◌, Option, None, Some, Ok, refl}
+use Rattle.px_types.specs.declared.error_code.ErrorCode.TheVariants.{Invalid, NoEntity, TooLarge, NotSupported, NotImplemented}
+use Rattle.px_cmd.specs.declared.command.CreateFields.{CreateFields}
+use Rattle.px_msg.specs.declared.message.Msg.{Msg}
+use Rattle.px_reply.specs.Front.{reply_to}
+use Rattle.px_plan.specs.declared.change.Change.TheVariants.{Leaves}
+use Rattle.px_plan.specs.declared.input.Connection.{Connection}
+use Rattle.px_plan.specs.declared.input.Input.{Input}
+use Rattle.px_plan.specs.declared.target.Named.{Named}
+use Rattle.px_plan.specs.declared.target.Target.{Target}
+use Rattle.px_plan.specs.Plan.{Planned, replied}
+use Rattle.px_plan.specs.Row.{Row, ◌>>=◌, check, present}
+use Rattle.px_plan.specs.Target.{is_clear, target_of}
+use Rattle.px_ctl_play.specs.Asked.{is_lawful, is_supported, is_built, has_room}
+use Rattle.px_ctl_play.specs.Create.{input_made, created, create}
+use Rattle.px_ctl_play.specs.Delete.{delete}
+
+-- ---- CREATE_PLAYBACK_STREAM
+
+pub record IsCreated {P : Type 0} (inputs : List Input) (made : ℕ) (me : Connection) (tag : ℕ) (named : Named) (a : CreateFields) (plan : Planned (Msg P) (Unit {0})) : Type 0 where
+  pub sink : Target
+  pub there : target_of named ≡ Some sink
+  pub lawful : is_lawful a ≡ true
+  pub supported : is_supported sink a ≡ true
+  pub room : has_room inputs made me sink.index ≡ true
+  pub built : is_built sink a ≡ true
+  pub planned : plan ≡ created inputs made me tag sink a (input_made made me sink a)
+
+abbrev on_sink : {B : Type 0} → Bool → Bool → Bool → B → Row B
+on_sink supported room built plan = do
+  s ← check supported NotSupported
+  r ← check room TooLarge
+  b ← check built NotImplemented
+  Ok plan
+
+passed_on : {B : Type 0} (supported room built : Bool) (made plan : B) → on_sink supported room built made ≡ Ok plan → (supported ≡ true) × (room ≡ true) × (built ≡ true) × (plan ≡ made)
+passed_on true true true made plan e = (refl, refl, refl, cc)
+passed_on false room built made plan e = absurd cc
+passed_on true false built made plan e = absurd cc
+passed_on true true false made plan e = absurd cc
+
+module _ {P : Type 0} (inputs : List Input) (made : ℕ) (me : Connection) (tag : ℕ) (named : Named) (a : CreateFields) (plan : Planned (Msg P) (Unit {0})) where
+  abbrev on_target : Target → Row (Planned (Msg P) (Unit {0}))
+  on_target sink = on_sink (is_supported sink a) (has_room inputs made me sink.index) (is_built sink a) (created inputs made me tag sink a (input_made made me sink a))
+
+  passed : (lawful clear : Bool) (target : Option Target) → is_lawful a ≡ lawful → target_of named ≡ target
+      → (check lawful Invalid >>= λ l. check clear Invalid >>= λ c. present target NoEntity >>= on_target) ≡ Ok plan → IsCreated inputs made me tag named a plan
+  passed false clear target lawful there e = absurd cc
+  passed true false target lawful there e = absurd cc
+  passed true true None lawful there e = absurd cc
+  passed true true (Some sink) lawful there e =
+      let p = passed_on (is_supported sink a) (has_room inputs made me sink.index) (is_built sink a) (created inputs made me tag sink a (input_made made me sink a)) plan e in
+      record { sink = sink; there = there; lawful = lawful; supported = p.0; room = p.1; built = p.2; planned = p.3 }
+
+  pub create_passed : create inputs made me tag named a ≡ Ok plan → IsCreated inputs made me tag named a plan
+  create_passed e = passed (is_lawful a) (is_clear named) (target_of named) refl refl e
+
+-- ---- DELETE_PLAYBACK_STREAM
+
+abbrev planned : {B : Type 0} → B → Row B
+planned plan = Ok plan
+
+same_plan : {B : Type 0} (a b : B) → planned a ≡ Ok b → b ≡ a
+same_plan a b e = cc
+
+pub delete_passed : {P : Type 0} (stream : Option Input) (tag : ℕ) (plan : Planned (Msg P) (Unit {0})) → delete stream tag ≡ Ok plan → (x : Input) × (stream ≡ Some x) × (plan ≡ replied (reply_to tag) (Leaves x.index ∷ []))
+delete_passed None tag plan e = absurd cc
+delete_passed (Some x) tag plan e = (x, refl, same_plan (replied (reply_to tag) (Leaves x.index ∷ [])) plan e)
