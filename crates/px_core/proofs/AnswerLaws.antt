@@ -24,7 +24,7 @@ use Rattle.px_core.specs.declared.input.Way.{Way}
 use Rattle.px_core.specs.declared.input.Way.TheVariants.{Coming, There, Left}
 use Rattle.px_core.specs.declared.change.Change.TheVariants.{Gone, Posted, Forgotten}
 use Rattle.px_core.specs.State.{State, has_index, has_number, input_of, is_stream, stream_of, is_settled, settled_on}
-use Rattle.px_core.specs.Change.{change_first, drop_first, changed, committed, leaving, forgotten, kept}
+use Rattle.px_core.specs.Change.{change_first, drop_first, changed, committed, leaving, forgotten}
 use Rattle.px_core.specs.Create.{UNITY, factors_of, factors_for}
 use Rattle.px_core.specs.Orderly.{is_there}
 use Rattle.px_core.specs.Keeps.{AreDistinct, IsInput, IsKept, IsRising, IsIncreasing, AllAbove, is_coming}
@@ -64,8 +64,8 @@ distinct_filter p (c ∷ cs) d =
     (λ e. distinct_filter p cs d.1)
 
 -- all but inputs and messages may change
-pub others_keep : {P : Type 0} (spec_of : P → SampleSpec) (state : State P) → IsKept spec_of state → (connections : List Connection) → AreDistinct connections → (names : Naming) (clients : ℕ) (lent : Option SinkId) → IsKept spec_of (record state { connections = connections; names = names; clients_made = clients; lent = lent })
-others_keep spec_of state h connections d names clients lent = record {
+pub others_keep : {P : Type 0} (spec_of : P → SampleSpec) (state : State P) → IsKept spec_of state → (connections : List Connection) → AreDistinct connections → (names : Naming) (clients : ℕ) → IsKept spec_of (record state { connections = connections; names = names; clients_made = clients })
+others_keep spec_of state h connections d names clients = record {
   sinks = h.sinks;
   distinct = d;
   rising = h.rising;
@@ -76,14 +76,11 @@ others_keep spec_of state h connections d names clients lent = record {
 
 pub connection_keeps : {P : Type 0} (spec_of : P → SampleSpec) (state : State P) → IsKept spec_of state → (conn : ConnId) (f : Connection → Connection) → ((c : Connection) → (f c).conn.0 ≡ c.conn.0) → IsKept spec_of (record state { connections = change_first (has_number conn) f state.connections })
 connection_keeps spec_of state h conn f keeps =
-    others_keep spec_of state h (change_first (has_number conn) f state.connections) (distinct_change (has_number conn) f keeps state.connections h.distinct) state.names state.clients_made state.lent
+    others_keep spec_of state h (change_first (has_number conn) f state.connections) (distinct_change (has_number conn) f keeps state.connections h.distinct) state.names state.clients_made
 
 pub forgotten_keeps : {P : Type 0} (spec_of : P → SampleSpec) (state : State P) → IsKept spec_of state → (conn : ConnId) → IsKept spec_of (changed state (Forgotten conn))
 forgotten_keeps spec_of state h conn =
-    others_keep spec_of state h (drop_first (has_number conn) state.connections) (distinct_drop (has_number conn) state.connections h.distinct) (forgotten conn state.names) state.clients_made state.lent
-
-pub kept_keeps : {P : Type 0} (spec_of : P → SampleSpec) (state : State P) → IsKept spec_of state → IsKept spec_of (kept state)
-kept_keeps spec_of state h = others_keep spec_of state h state.connections h.distinct state.names state.clients_made None
+    others_keep spec_of state h (drop_first (has_number conn) state.connections) (distinct_drop (has_number conn) state.connections h.distinct) (forgotten conn state.names) state.clients_made
 
 -- ---- answers
 

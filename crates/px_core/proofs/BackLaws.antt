@@ -1,9 +1,10 @@
 -- A message that is put back leaves the state as it was before it was handed out.
-use Rattle.std.proofs.Common.{◌≡◌, ℕ, ◌<◌, List, [], ◌∷◌, length, Some, None, Bool, true, false, refl, ap, sym, subst, ◌∙◌, cond}
+use Rattle.std.proofs.Common.{arith, ◌≡◌, ℕ, zero, suc, ◌+◌, ◌-◌, ◌<◌, ◌≤◌, List, [], ◌∷◌, ◌++◌, length, Option, Some, None, Bool, true, false, refl, ap, sym, subst, ◌∙◌, cond, ⊎_elim}
 use Rattle.std.specs.Prelude.{nat_eq, filter, flat_map, set, get_or, IsSome}
 use Rattle.std.specs.List.{find}
+use Rattle.std.specs.Option.{option_to_list}
 use Rattle.std.specs.FinMap as finite
-use Rattle.std.proofs.lemmas.Bool.{cond-true, cond-false, and_parts, and_right, eq-eqb, eqb-true, false≢true}
+use Rattle.std.proofs.lemmas.Bool.{cond-true, cond-false, and_parts, and_right, eq-eqb, eqb-true, false≢true, cases_lt}
 use Rattle.std.proofs.lemmas.List.{set-set, set-get_or, get_or-set_same}
 use Rattle.std.proofs.lemmas.Option.{none-some, same_Some}
 use Rattle.px_types.specs.declared.ids.InputId.{InputId}
@@ -17,13 +18,14 @@ use Rattle.px_core.specs.declared.input.Input.{Input}
 use Rattle.px_core.specs.declared.input.Way.{Way}
 use Rattle.px_core.specs.declared.input.Way.TheVariants.{Coming, There, Left}
 use Rattle.px_core.specs.State.{State, has_index}
-use Rattle.px_core.specs.Change.{change_first, kept}
+use Rattle.px_core.specs.Change.{change_first}
 use Rattle.px_core.specs.Orderly.{specs_of, is_held_by, is_there}
-use Rattle.px_core.specs.Out.{first_of, rest_of, next_for, on_way, with_way, inputs_past, inputs_before, past, handed_out, put_back}
-use Rattle.px_core.specs.Keeps.{AreInStep, IsKept, IsRising, is_coming_to, is_coming, brought_by}
+use Rattle.px_core.specs.Out.{first_of, rest_of, next_for, on_way, with_way, inputs_past, inputs_before, past, handed_out, put_back, Roomy, room_for, room_past, with_more_room, with_less_room, sent, unsent, sent_by, unsent_by}
+use Rattle.px_core.specs.Keeps.{AreInStep, IsKept, IsRising, is_coming_to, is_coming, brought_by, messages_out}
 use Rattle.px_core.proofs.EntryLaws.{FirstGone, first_gone, Found, found_in, get_in, spec_in}
 use Rattle.px_core.proofs.ChangeLaws.{sink_at}
-use Rattle.px_core.proofs.HandingLaws.{sink_there, list_there, some_of}
+use Rattle.px_core.proofs.HandingLaws.{sink_there, list_there, some_of, out_keeps}
+use Rattle.px_core.proofs.Waiting.{set_past}
 
 -- a change that is undone
 change_back : (j : InputId) (f g : Input → Input) → ((x : Input) → (g x).index.0 ≡ x.index.0) → (xs : List Input) (y : Input) → find (has_index j) xs ≡ Some y → f (g y) ≡ y → change_first (has_index j) f (change_first (has_index j) g xs) ≡ xs
@@ -92,7 +94,7 @@ first_is : {A : Type 0} (xs : List A) (x : A) → first_of xs ≡ Some x → xs 
 first_is [] x e = absurd (none-some x e)
 first_is (y ∷ ys) x e = ap (λ z. z ∷ ys) (same_Some y x e)
 
-pub back_as_before : {P : Type 0} (spec_of : P → SampleSpec) (state : State P) (sink : SinkId) (m : Msg P) → IsKept spec_of state → next_for state sink ≡ Some m → put_back sink m (handed_out sink state) ≡ kept state
+pub back_as_before : {P : Type 0} (spec_of : P → SampleSpec) (state : State P) (sink : SinkId) (m : Msg P) → IsKept spec_of state → next_for state sink ≡ Some m → put_back sink m (handed_out sink state) ≡ state
 back_as_before {P} spec_of state sink m h e =
     let first : get_or state.posted sink.0 [] ≡ m ∷ rest_of (get_or state.posted sink.0 []) = first_is (get_or state.posted sink.0 []) m e in
     let l = list_there state.posted sink.0 m (rest_of (get_or state.posted sink.0 [])) first in
@@ -100,4 +102,39 @@ back_as_before {P} spec_of state sink m h e =
     let inputs = inputs_back spec_of sink.0 own.0 state.inputs m (rest_of (get_or state.posted sink.0 [])) h.rising (subst (λ ms. AreInStep spec_of (sink_at sink.0) own.0 state.inputs ms) first (h.in_step sink.0 own.0 own.1)) in
     let lists = lists_back state.posted sink.0 m l first in
     ap (λ o. put_back sink m (past o sink state)) e
-    ∙ (λ i. record state { posted = lists i; inputs = inputs i; lent = None })
+    ∙ (λ i. record state { posted = lists i; inputs = inputs i })
+
+-- ---- and so do all that were handed out, the last one first
+
+again : (n : ℕ) → n + 1 - 1 ≡ n
+again n = omega arith
+
+room_back : (sink : SinkId) (room : List ℕ) → with_less_room sink (with_more_room sink room) ≡ room
+room_back sink room =
+    ⊎_elim
+    (λ (l : sink.0 < length room).
+    set-set room sink.0 (room_for sink room + 1) (room_for sink (with_more_room sink room) - 1)
+    ∙ ap (λ n. set room sink.0 (n - 1)) (get_or-set_same room sink.0 (room_for sink room + 1) 0 l)
+    ∙ ap (set room sink.0) (again (room_for sink room))
+    ∙ set-get_or room sink.0 0)
+    (λ (l : length room ≤ sink.0).
+    ap (with_less_room sink) (set_past room sink.0 (room_for sink room + 1) l)
+    ∙ set_past room sink.0 (room_for sink room - 1) l)
+    (cases_lt sink.0 (length room))
+
+one_back : {P : Type 0} (spec_of : P → SampleSpec) (core : Roomy P) (sink : SinkId) (m : Msg P) → IsKept spec_of core.state → next_for core.state sink ≡ Some m → unsent sink m (sent sink core) ≡ core
+one_back {P} spec_of core sink m h e =
+    let state = back_as_before spec_of core.state sink m h e in
+    let room : with_less_room sink (room_past (next_for core.state sink) sink core.room) ≡ core.room = ap (λ (o : Option (Msg P)). with_less_room sink (room_past o sink core.room)) e ∙ room_back sink core.room in
+    λ i. record { state = state i; room = room i }
+
+none_back : {P : Type 0} (core : Roomy P) (sink : SinkId) → next_for core.state sink ≡ None → sent sink core ≡ core
+none_back {P} core sink e = ap (λ (o : Option (Msg P)). record { state = past o sink core.state; room = room_past o sink core.room }) e
+
+pub all_back : {P : Type 0} (spec_of : P → SampleSpec) (sink : SinkId) (n : ℕ) (core : Roomy P) → IsKept spec_of core.state → unsent_by sink (messages_out n sink core.state) (sent_by n sink core) ≡ core
+all_back spec_of sink zero core h = refl
+all_back {P} spec_of sink (suc n) core h = step (all_back spec_of sink n (sent sink core) (out_keeps spec_of core.state sink h)) (next_for core.state sink) refl
+  where
+    step : unsent_by sink (messages_out n sink (handed_out sink core.state)) (sent_by n sink (sent sink core)) ≡ sent sink core → (o : Option (Msg P)) → next_for core.state sink ≡ o → unsent_by sink (option_to_list o ++ messages_out n sink (handed_out sink core.state)) (sent_by n sink (sent sink core)) ≡ core
+    step later None e = later ∙ none_back core sink e
+    step later (Some m) e = ap (unsent sink m) later ∙ one_back spec_of core sink m h e

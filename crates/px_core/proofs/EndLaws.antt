@@ -44,13 +44,13 @@ use Rattle.px_core.specs.Data.{are_frames, write_of, data_for}
 use Rattle.px_core.specs.Told.{told_to, told_of, input_on, gives_up, given_up_on, given_up, notice_answer, request_message, overflow_message, underflow_message, started_message}
 use Rattle.px_core.specs.Out.{next_for, past}
 use Rattle.px_core.specs.State.{State, has_number, connection_of, is_from, marked_of, stream_of}
-use Rattle.px_core.specs.Change.{change_first, drop_first, authed, marked, with_streams, changed, committed, kept}
+use Rattle.px_core.specs.Change.{change_first, drop_first, authed, marked, with_streams, changed, committed}
 use Rattle.px_core.specs.Effect.{closed_at, closed_for, fault_code, fault_place, offset_behind}
 use Rattle.px_core.specs.Reply.{Answer, ignored, refused, done, broken_off}
 use Rattle.px_core.specs.Delete.{ends, delete_of, delete}
 use Rattle.px_core.specs.Connecting.{is_full, joined, new_connection, connected, connect_effects, unmarked, going_on, ended, broken_effects, close_effects, cut_effects, swept}
 use Rattle.px_core.specs.Keeps.{AreDistinct, IsKept, IsStep}
-use Rattle.px_core.specs.Ending.{is_end_of, ends_of, goes_on, begins_of, begins_by}
+use Rattle.px_core.specs.Ending.{is_end_of, ends_of, goes_on, begins_with, begins_of, begins_by}
 use Rattle.px_core.specs.Step.{Step, connect, frame, broken, close, cut, sweep, notice, out, body_answer, frame_of, stepped, effects_of, stepped_by, effects_by}
 use Rattle.px_core.proofs.ListLaws.{found_test}
 use Rattle.px_core.proofs.AnswerLaws.{distinct_drop}
@@ -364,16 +364,16 @@ out_same : {P : Type 0} (o : Option (Msg P)) (sink : SinkId) (state : State P) (
 out_same None sink state conn = refl
 out_same (Some m) sink state conn = refl
 
-connect_once : {P : Type 0} (conn n : ConnId) (state : State P) (o : Option Connection) → ends_of conn (connect_effects o n state) + goes_on (connected o n (kept state)).connections conn ≤ goes_on state.connections conn + same n conn
+connect_once : {P : Type 0} (conn n : ConnId) (state : State P) (o : Option Connection) → ends_of conn (connect_effects o n state) + goes_on (connected o n state).connections conn ≤ goes_on state.connections conn + begins_with o n conn
 connect_once conn n state (Some c) = omega arith
 connect_once {P} conn n state None = either (is_full state)
   where
-    either : (b : Bool) → ends_of conn (cond b (closed_for n Limit ∷ []) []) + goes_on (State.connections (cond b (kept state) (joined n (kept state)))) conn ≤ goes_on state.connections conn + same n conn
+    either : (b : Bool) → ends_of conn (cond b (closed_for n Limit ∷ []) []) + goes_on (State.connections (cond b state (joined n state))) conn ≤ goes_on state.connections conn + same n conn
     either true = omega (arith, one_end (nat_eq n.0 conn.0) (closed_for n Limit))
     either false = omega (arith, pushed_goes (new_connection n state.clients_made) conn state.connections)
 
 -- a step ends a connection only where it went on, and goes on no more, or where it isn't taken
-pub step_once : {P : Type 0} (conn : ConnId) (spec_of : P → SampleSpec) (state : State P) (s : Step P) → IsKept spec_of state → ends_of conn (effects_of spec_of state s) + goes_on (stepped spec_of state s).connections conn ≤ goes_on state.connections conn + begins_of conn s
+pub step_once : {P : Type 0} (conn : ConnId) (spec_of : P → SampleSpec) (state : State P) (s : Step P) → IsKept spec_of state → ends_of conn (effects_of spec_of state s) + goes_on (stepped spec_of state s).connections conn ≤ goes_on state.connections conn + begins_of conn state s
 step_once conn spec_of state (connect n) h = connect_once conn n state (connection_of state.connections n)
 step_once conn spec_of state (frame n f) h = omega (arith, frame_once conn n state (going_on state.connections n) refl f)
 step_once conn spec_of state (broken n fault at) h =
@@ -384,10 +384,10 @@ step_once conn spec_of state sweep h = omega (arith, all_swept conn state.inputs
 step_once conn spec_of state (notice sink n) h = omega (arith, notice_once conn spec_of state sink n)
 step_once conn spec_of state (out sink) h = omega (arith, out_same (next_for state sink) sink state conn)
 
-pub steps_once : {P : Type 0} (conn : ConnId) (spec_of : P → SampleSpec) (state : State P) (steps : List (Step P)) → AllByRecursion IsStep steps → IsKept spec_of state → ends_of conn (effects_by spec_of state steps) + goes_on (stepped_by spec_of state steps).connections conn ≤ goes_on state.connections conn + begins_by conn steps
+pub steps_once : {P : Type 0} (conn : ConnId) (spec_of : P → SampleSpec) (state : State P) (steps : List (Step P)) → AllByRecursion IsStep steps → IsKept spec_of state → ends_of conn (effects_by spec_of state steps) + goes_on (stepped_by spec_of state steps).connections conn ≤ goes_on state.connections conn + begins_by spec_of conn state steps
 steps_once conn spec_of state [] is h = omega arith
 steps_once conn spec_of state (s ∷ steps) is h =
     joined_once (ends_of conn (effects_of spec_of state s ++ effects_by spec_of (stepped spec_of state s) steps)) (ends_of conn (effects_of spec_of state s)) (ends_of conn (effects_by spec_of (stepped spec_of state s) steps))
-    (goes_on state.connections conn) (goes_on (stepped spec_of state s).connections conn) (goes_on (stepped_by spec_of (stepped spec_of state s) steps).connections conn) (begins_of conn s) (begins_by conn steps)
+    (goes_on state.connections conn) (goes_on (stepped spec_of state s).connections conn) (goes_on (stepped_by spec_of (stepped spec_of state s) steps).connections conn) (begins_of conn state s) (begins_by spec_of conn (stepped spec_of state s) steps)
     (ends_joined conn (effects_of spec_of state s) (effects_by spec_of (stepped spec_of state s) steps)) (step_once conn spec_of state s h)
     (steps_once conn spec_of (stepped spec_of state s) steps is.1 (step_keeps spec_of state s is.0 h))

@@ -16,7 +16,7 @@ use Rattle.px_core.specs.declared.change.Change.{Change}
 use Rattle.px_core.specs.declared.change.Change.TheVariants.{Authed, Named, Marked, Forgotten, Made, Leaves, Gone, Posted}
 use Rattle.px_core.specs.declared.input.Connection.{Connection}
 use Rattle.px_core.specs.State.{State, connection_of}
-use Rattle.px_core.specs.Change.{changed, committed, kept}
+use Rattle.px_core.specs.Change.{changed, committed}
 use Rattle.px_core.specs.Reply.{Answer}
 use Rattle.px_core.specs.Connecting.{is_full, joined, connected}
 use Rattle.px_core.specs.Orderly.{inputs_there}
@@ -54,7 +54,7 @@ past_sinks None sink state = refl
 past_sinks (Some m) sink state = refl
 
 pub step_sinks : {P : Type 0} (spec_of : P → SampleSpec) (state : State P) (s : Step P) → (stepped spec_of state s).sinks ≡ state.sinks
-step_sinks spec_of state (connect conn) = connected_sinks (connection_of state.connections conn) conn (kept state)
+step_sinks spec_of state (connect conn) = connected_sinks (connection_of state.connections conn) conn state
 step_sinks spec_of state (frame conn f) = committed_sinks (Answer.changes (answer_of spec_of state (frame conn f))) state
 step_sinks spec_of state (broken conn fault at) = committed_sinks (Answer.changes (answer_of spec_of state (broken conn fault at))) state
 step_sinks spec_of state (close conn) = committed_sinks (Answer.changes (answer_of spec_of state (close conn))) state

@@ -1,5 +1,6 @@
 pub mod First
 pub mod Lengths
+pub mod Sendable
 pub mod Row
 pub mod Sinks
 pub mod Straight

@@ -38,7 +38,7 @@ use Rattle.px_core.specs.declared.effect.Reason.TheVariants.{Protocol as Breach,
 use Rattle.px_core.specs.declared.input.Connection.{Connection}
 use Rattle.px_core.specs.declared.input.Input.{Input}
 use Rattle.px_core.specs.State.{State, connection_of, stream_of}
-use Rattle.px_core.specs.Change.{committed, kept}
+use Rattle.px_core.specs.Change.{committed}
 use Rattle.px_core.specs.Effect.{framed, sent, closed_for, fault_code, fault_place, offset_behind}
 use Rattle.px_core.specs.Reply.{Answer, ignored, refused, done, broken_off}
 use Rattle.px_core.specs.Client.{SERVER_VERSION, version_in, let_in, auth_after, auth, set_name}
@@ -240,34 +240,34 @@ module _ (conn : ConnId) (tag code : ℕ) where
       either true f = closed_apart n conn Limit 0 0 (refusal tag code) (heads (closed_for n Limit) (sent conn (refusal tag code)) [] [] f)
       either false f = no_cons (sent conn (refusal tag code)) [] (sym f)
 
-  pub refusal_changes_nothing : {P : Type 0} (spec_of : P → SampleSpec) (state : State P) (s : Step P) → Refuses (effects_of spec_of state s) → stepped spec_of state s ≡ kept state
+  pub refusal_changes_nothing : {P : Type 0} (spec_of : P → SampleSpec) (state : State P) (s : Step P) → Refuses (effects_of spec_of state s) → stepped spec_of state s ≡ state
   refusal_changes_nothing spec_of state (connect n) e = absurd (connect_refuses (connection_of state.connections n) n state e)
-  refusal_changes_nothing spec_of state (frame n f) e = ap kept (frame_changeless state (going_on state.connections n) f e)
+  refusal_changes_nothing spec_of state (frame n f) e = frame_changeless state (going_on state.connections n) f e
   refusal_changes_nothing spec_of state (broken n fault at) e =
-      ap kept (ended_changeless state (going_on state.connections n) (broken_effects fault at) (λ c r. closed_apart c conn Breach (rule_of fault) at (refusal tag code) (heads (Closed c Breach (rule_of fault) at) (sent conn (refusal tag code)) [] [] r)) e)
-  refusal_changes_nothing spec_of state (close n) e = ap kept (ended_changeless state (going_on state.connections n) close_effects (λ c r. no_cons (sent conn (refusal tag code)) [] (sym r)) e)
+      ended_changeless state (going_on state.connections n) (broken_effects fault at) (λ c r. closed_apart c conn Breach (rule_of fault) at (refusal tag code) (heads (Closed c Breach (rule_of fault) at) (sent conn (refusal tag code)) [] [] r)) e
+  refusal_changes_nothing spec_of state (close n) e = ended_changeless state (going_on state.connections n) close_effects (λ c r. no_cons (sent conn (refusal tag code)) [] (sym r)) e
   refusal_changes_nothing spec_of state (cut n) e =
-      ap kept (ended_changeless state (going_on state.connections n) cut_effects (λ c r. closed_apart c conn ForMemory 0 0 (refusal tag code) (heads (closed_for c ForMemory) (sent conn (refusal tag code)) [] [] r)) e)
+      ended_changeless state (going_on state.connections n) cut_effects (λ c r. closed_apart c conn ForMemory 0 0 (refusal tag code) (heads (closed_for c ForMemory) (sent conn (refusal tag code)) [] [] r)) e
   refusal_changes_nothing spec_of state sweep e = absurd (no_cons (sent conn (refusal tag code)) [] (sym e))
-  refusal_changes_nothing spec_of state (notice sink n) e = ap kept (notice_changeless spec_of state sink n e)
+  refusal_changes_nothing spec_of state (notice sink n) e = notice_changeless spec_of state sink n e
   refusal_changes_nothing spec_of state (out sink) e = absurd (no_cons (sent conn (refusal tag code)) [] (sym e))
 
 -- ---- a connection that isn't there, or has ended
 
-pub ended_is_ignored : {P : Type 0} (spec_of : P → SampleSpec) (state : State P) (s : Step P) (conn : ConnId) → sender_of s ≡ Some conn → going_on state.connections conn ≡ None → (stepped spec_of state s ≡ kept state) × (effects_of spec_of state s ≡ [])
+pub ended_is_ignored : {P : Type 0} (spec_of : P → SampleSpec) (state : State P) (s : Step P) (conn : ConnId) → sender_of s ≡ Some conn → going_on state.connections conn ≡ None → (stepped spec_of state s ≡ state) × (effects_of spec_of state s ≡ [])
 ended_is_ignored spec_of state (connect n) conn e gone = absurd (none-some conn e)
 ended_is_ignored {P} spec_of state (frame n f) conn e gone =
     let none : going_on state.connections n ≡ None = ap (going_on state.connections) (same_Some n conn e) ∙ gone in
-    (ap (λ o. kept (committed state (Answer.changes (frame_of state o f)))) none, ap (λ o. Answer.effects (frame_of state o f)) none)
+    (ap (λ o. committed state (Answer.changes (frame_of state o f))) none, ap (λ o. Answer.effects (frame_of state o f)) none)
 ended_is_ignored {P} spec_of state (broken n fault at) conn e gone =
     let none : going_on state.connections n ≡ None = ap (going_on state.connections) (same_Some n conn e) ∙ gone in
-    (ap (λ o. kept (committed state (Answer.changes (ended {P = P} o (broken_effects fault at))))) none, ap (λ o. Answer.effects (ended {P = P} o (broken_effects fault at))) none)
+    (ap (λ o. committed state (Answer.changes (ended {P = P} o (broken_effects fault at)))) none, ap (λ o. Answer.effects (ended {P = P} o (broken_effects fault at))) none)
 ended_is_ignored {P} spec_of state (close n) conn e gone =
     let none : going_on state.connections n ≡ None = ap (going_on state.connections) (same_Some n conn e) ∙ gone in
-    (ap (λ o. kept (committed state (Answer.changes (ended {P = P} o close_effects)))) none, ap (λ o. Answer.effects (ended {P = P} o close_effects)) none)
+    (ap (λ o. committed state (Answer.changes (ended {P = P} o close_effects))) none, ap (λ o. Answer.effects (ended {P = P} o close_effects)) none)
 ended_is_ignored {P} spec_of state (cut n) conn e gone =
     let none : going_on state.connections n ≡ None = ap (going_on state.connections) (same_Some n conn e) ∙ gone in
-    (ap (λ o. kept (committed state (Answer.changes (ended {P = P} o cut_effects)))) none, ap (λ o. Answer.effects (ended {P = P} o cut_effects)) none)
+    (ap (λ o. committed state (Answer.changes (ended {P = P} o cut_effects))) none, ap (λ o. Answer.effects (ended {P = P} o cut_effects)) none)
 ended_is_ignored spec_of state sweep conn e gone = absurd (none-some conn e)
 ended_is_ignored spec_of state (notice sink n) conn e gone = absurd (none-some conn e)
 ended_is_ignored spec_of state (out sink) conn e gone = absurd (none-some conn e)

@@ -34,7 +34,7 @@ use Rattle.px_core.specs.declared.effect.Effect.{Effect}
 use Rattle.px_core.specs.declared.input.Connection.{Connection}
 use Rattle.px_core.specs.declared.input.Input.{Input}
 use Rattle.px_core.specs.State.{State, new_state, connection_of, stream_of}
-use Rattle.px_core.specs.Change.{authed, marked, renamed, changed, committed, kept}
+use Rattle.px_core.specs.Change.{authed, marked, renamed, changed}
 use Rattle.px_core.specs.Client.{SERVER_VERSION, version_in, let_in, auth_after, auth, list_with, set_name}
 use Rattle.px_core.specs.Command.{create_in, number_in, as_bytes, as_properties, field, row, read_answer, is_barred, is_waiting_for_work, command_answer, head_answer}
 use Rattle.px_core.specs.Create.{create}
@@ -48,7 +48,7 @@ use Rattle.px_core.specs.Step.{Step, connect, frame, broken, close, cut, sweep, 
 use Rattle.px_core.proofs.ListLaws.{all_push}
 use Rattle.px_core.proofs.ChangeLaws.{sink_at, held_on}
 use Rattle.px_core.proofs.HandingLaws.{out_keeps, out_spares}
-use Rattle.px_core.proofs.AnswerLaws.{Follows, Keeps, same_held, unchanged, others_keep, connection_keeps, kept_keeps, delete_keeps, data_keeps, given_up_keeps}
+use Rattle.px_core.proofs.AnswerLaws.{Follows, Keeps, same_held, unchanged, others_keep, connection_keeps, delete_keeps, data_keeps, given_up_keeps}
 use Rattle.px_core.proofs.SweepLaws.{sweep_keeps}
 use Rattle.px_core.proofs.CreateLaws.{create_keeps}
 
@@ -86,7 +86,7 @@ auth_keeps spec_of state h None names c tag version cookie = let_in_keeps spec_o
 auth_keeps spec_of state h (Some agreed) names c tag version cookie = unchanged h
 
 name_keeps : {P : Type 0} (spec_of : P → SampleSpec) (state : State P) → IsKept spec_of state → (conn : ConnId) (list : List Property) → Follows spec_of state (changed state (Named conn list))
-name_keeps spec_of state h conn list = same_held spec_of state (changed state (Named conn list)) refl (others_keep spec_of state h state.connections h.distinct (renamed conn list state.names) state.clients_made state.lent)
+name_keeps spec_of state h conn list = same_held spec_of state (changed state (Named conn list)) refl (others_keep spec_of state h state.connections h.distinct (renamed conn list state.names) state.clients_made)
 
 row_keeps : {P : Type 0} (spec_of : P → SampleSpec) (state : State P) → IsKept spec_of state → (c : Connection) (tag command : ℕ) (fields : List Field) → Keeps spec_of state (row state c tag command fields)
 row_keeps spec_of state h c tag command fields =
@@ -159,7 +159,7 @@ connected_keeps spec_of state h None conn e =
     cond_both (is_full state) state (joined conn state) (IsKept spec_of)
     (λ f. h)
     (λ f. others_keep spec_of state h (state.connections ++ new_connection conn state.clients_made ∷ []) (distinct_push conn state.clients_made state.connections e h.distinct)
-    (record state.names { clients = state.names.clients ++ new_client conn state.clients_made ∷ [] }) (state.clients_made + 1) state.lent)
+    (record state.names { clients = state.names.clients ++ new_client conn state.clients_made ∷ [] }) (state.clients_made + 1))
 
 -- ---- notices
 
@@ -179,7 +179,7 @@ notice_keeps spec_of state h sink (Latency input tag write read buffered playing
 -- ---- steps
 
 answered_keeps : {P : Type 0} (spec_of : P → SampleSpec) (state : State P) (answer : Answer P) → Keeps spec_of state answer → Follows spec_of state (answered state answer)
-answered_keeps spec_of state answer h = record { keeps = kept_keeps spec_of (committed state answer.changes) h.keeps; held = h.held }
+answered_keeps spec_of state answer h = record { keeps = h.keeps; held = h.held }
 
 connected_inputs : {P : Type 0} (o : Option Connection) (conn : ConnId) (state : State P) → (connected o conn state).inputs ≡ state.inputs
 connected_inputs (Some c) conn state = refl
@@ -199,7 +199,7 @@ step_answered : {P : Type 0} (spec_of : P → SampleSpec) (state : State P) (s :
 step_answered spec_of state s is h = answered_keeps spec_of state (answer_of spec_of state s) (answer_keeps spec_of state s is h)
 
 pub step_keeps : {P : Type 0} (spec_of : P → SampleSpec) (state : State P) (s : Step P) → IsStep s → IsKept spec_of state → IsKept spec_of (stepped spec_of state s)
-step_keeps spec_of state (connect conn) is h = connected_keeps spec_of (kept state) (kept_keeps spec_of state h) (connection_of state.connections conn) conn refl
+step_keeps spec_of state (connect conn) is h = connected_keeps spec_of state h (connection_of state.connections conn) conn refl
 step_keeps spec_of state (frame conn f) is h = (step_answered spec_of state (frame conn f) is h).keeps
 step_keeps spec_of state (broken conn fault at) is h = (step_answered spec_of state (broken conn fault at) is h).keeps
 step_keeps spec_of state (close conn) is h = (step_answered spec_of state (close conn) is h).keeps
@@ -218,7 +218,7 @@ pub step_spares : {P : Type 0} (spec_of : P → SampleSpec) (state : State P) (s
 step_spares {P} spec_of state s sink is spares h = ap finite.from_entries (same s is spares)
   where
     same : (t : Step P) → IsStep t → Spares sink t → held_on sink.0 (stepped spec_of state t).inputs ≡ held_on sink.0 state.inputs
-    same (connect conn) is spares = ap (held_on sink.0) (connected_inputs (connection_of state.connections conn) conn (kept state))
+    same (connect conn) is spares = ap (held_on sink.0) (connected_inputs (connection_of state.connections conn) conn state)
     same (frame conn f) is spares = (step_answered spec_of state (frame conn f) is h).held sink.0
     same (broken conn fault at) is spares = (step_answered spec_of state (broken conn fault at) is h).held sink.0
     same (close conn) is spares = (step_answered spec_of state (close conn) is h).held sink.0

@@ -1,12 +1,13 @@
 -- A queue of several takes the place of another.
-use Rattle.std.proofs.Common.{arith, rules, ◌≡◌, ℕ, ◌+◌, ◌<◌, ◌≤◌, List, [], ◌∷◌, ◌++◌, suc, zero, length, get_or, slice_set, drop, map, Option, None, Some, IsNone, IsSome, IfSome, refl, sym, ap, ◌∙◌}
+use Rattle.std.proofs.Common.{arith, rules, ◌≡◌, ℕ, ◌+◌, ◌-◌, ◌<◌, ◌≤◌, List, [], ◌∷◌, ◌++◌, suc, zero, length, get_or, slice_set, drop, Option, None, Some, IsNone, IsSome, refl, sym, ap, ◌∙◌}
 use Rattle.std.specs.Option.{option_to_list}
+use Rattle.std.proofs.lemmas.List.{set-get_or}
 use Rattle.std.specs.VecDeque.{deque_len, deque_capacity}
 use Rattle.std.specs.declared.collections.VecDeque.{VecDeque}
 use Rattle.px_types.specs.declared.ids.SinkId.{SinkId}
 use Rattle.px_msg.specs.declared.message.Msg.{Msg}
-use Rattle.px_core.specs.Out.{rest_of}
-use Rattle.px_core.specs.Tables.{lists_of, HasPlaces, HasPlacesAt, HavePlaces}
+use Rattle.px_core.specs.Out.{rest_of, room_past, with_less_room}
+use Rattle.px_core.specs.Tables.{lists_of, rooms_of, HasPlaces, HasPlacesAt, HavePlaces}
 
 pub set_lists : {P Z : Type 0} (queues : List (VecDeque (Msg P) Z)) (i : ℕ) (q : VecDeque (Msg P) Z) → lists_of (slice_set queues i q) ≡ slice_set (lists_of queues) i q.items
 set_lists [] i q = refl
@@ -73,18 +74,41 @@ same_lists [] i d q same = refl
 same_lists (x ∷ queues) zero d q same = ap (λ ms. ms ∷ lists_of queues) same
 same_lists (x ∷ queues) (suc i) d q same = ap (λ lists. x.items ∷ lists) (same_lists queues i d q same)
 
--- a queue with no less room takes the place of another
-pub kept_places : {P Z : Type 0} (n i k : ℕ) (queues : List (VecDeque (Msg P) Z)) (d q : VecDeque (Msg P) Z) → deque_len q ≤ deque_len (get_or queues k d) → deque_capacity (get_or queues k d) ≤ deque_capacity q → HasPlacesAt n i queues → HasPlacesAt n i (slice_set queues k q)
-kept_places n i k [] d q same more has = tt
-kept_places n zero zero (x ∷ queues) d q same more has = omega (arith, same, more, has)
-kept_places n (suc i) zero (x ∷ queues) d q same more has = has
-kept_places n zero (suc k) (x ∷ queues) d q same more has = has
-kept_places n (suc i) (suc k) (x ∷ queues) d q same more has = kept_places n i k queues d q same more has
+-- ---- how many more messages the queues take in
 
--- no queue has less room than before, so the one that has lent a message has room still
-pub lent_kept : {P Z : Type 0} (lent : Option SinkId) (old new : List (VecDeque (Msg P) Z)) → ((n i : ℕ) → HasPlacesAt n i old → HasPlacesAt n i new) → IfSome lent (λ sink. HasPlacesAt 1 sink.0 old) → IfSome lent (λ sink. HasPlacesAt 1 sink.0 new)
-lent_kept None old new kept had = tt
-lent_kept (Some sink) old new kept had = kept 1 sink.0 had
+pub set_rooms : {P Z : Type 0} (queues : List (VecDeque (Msg P) Z)) (i : ℕ) (q : VecDeque (Msg P) Z) → rooms_of (slice_set queues i q) ≡ slice_set (rooms_of queues) i (deque_capacity q - deque_len q)
+set_rooms [] i q = refl
+set_rooms (x ∷ queues) zero q = refl
+set_rooms (x ∷ queues) (suc i) q = ap (λ rooms. (deque_capacity x - deque_len x) ∷ rooms) (set_rooms queues i q)
+
+pub get_rooms : {P Z : Type 0} (queues : List (VecDeque (Msg P) Z)) (i : ℕ) (d : VecDeque (Msg P) Z) → i < length queues → get_or (rooms_of queues) i 0 ≡ deque_capacity (get_or queues i d) - deque_len (get_or queues i d)
+get_rooms [] i d within = absurd (omega arith)
+get_rooms (x ∷ queues) zero d within = refl
+get_rooms (x ∷ queues) (suc i) d within = get_rooms queues i d (omega arith)
+
+-- the queue at a place has one place more or less
+pub set_room_to : {P Z : Type 0} (queues : List (VecDeque (Msg P) Z)) (i : ℕ) (q : VecDeque (Msg P) Z) (room : ℕ) → deque_capacity q - deque_len q ≡ room → rooms_of (slice_set queues i q) ≡ slice_set (rooms_of queues) i room
+set_room_to queues i q room same = set_rooms queues i q ∙ ap (slice_set (rooms_of queues) i) same
+
+-- the first message leaves its place
+pub room_popped : {P Z M : Type 0} (first : Option M) (queues : List (VecDeque (Msg P) Z)) (sink : SinkId) (d q : VecDeque (Msg P) Z) → sink.0 < length queues → deque_capacity q ≡ deque_capacity (get_or queues sink.0 d) → deque_len q + length (option_to_list first) ≡ deque_len (get_or queues sink.0 d) → deque_len (get_or queues sink.0 d) ≤ deque_capacity (get_or queues sink.0 d)
+    → rooms_of (slice_set queues sink.0 q) ≡ room_past first sink (rooms_of queues)
+room_popped None queues sink d q within same less fits =
+    set_room_to queues sink.0 q (get_or (rooms_of queues) sink.0 0) (omega (arith, same, less, get_rooms queues sink.0 d within)) ∙ set-get_or (rooms_of queues) sink.0 0
+room_popped (Some m) queues sink d q within same less fits =
+    set_room_to queues sink.0 q (get_or (rooms_of queues) sink.0 0 + 1) (omega (arith, same, less, fits, get_rooms queues sink.0 d within))
+
+-- one more takes a place
+pub room_pushed : {P Z : Type 0} (queues : List (VecDeque (Msg P) Z)) (sink : SinkId) (d q : VecDeque (Msg P) Z) → sink.0 < length queues → deque_capacity q ≡ deque_capacity (get_or queues sink.0 d) → deque_len q ≡ deque_len (get_or queues sink.0 d) + 1
+    → rooms_of (slice_set queues sink.0 q) ≡ with_less_room sink (rooms_of queues)
+room_pushed queues sink d q within same more =
+    set_room_to queues sink.0 q (get_or (rooms_of queues) sink.0 0 - 1) (omega (arith, same, more, get_rooms queues sink.0 d within))
+
+-- none was there
+pub no_room_past : {P Z : Type 0} (queues : List (VecDeque (Msg P) Z)) (i : ℕ) → length queues ≤ i → get_or (rooms_of queues) i 0 ≡ 0
+no_room_past [] i past = refl
+no_room_past (x ∷ queues) zero past = absurd (omega arith)
+no_room_past (x ∷ queues) (suc i) past = no_room_past queues i (omega arith)
 
 -- ---- the first of a list
 

@@ -1,9 +1,7 @@
 -- The state after each change. A step is a list of changes, made one after the other.
-use Rattle.std.specs.Prelude.{ℕ, Bool, true, cond, List, [], ◌∷◌, ◌++◌, Option, None, Some, set, get_or}
+use Rattle.std.specs.Prelude.{ℕ, Bool, true, cond, List, [], ◌∷◌, ◌++◌, Some, set, get_or}
 use Rattle.std.specs.List.{fold}
 use Rattle.px_types.specs.declared.ids.ConnId.{ConnId}
-use Rattle.px_types.specs.declared.ids.InputId.{InputId}
-use Rattle.px_types.specs.declared.ids.SinkId.{SinkId}
 use Rattle.px_tag.specs.PropList.{Property}
 use Rattle.px_names.specs.Clients.{is_on, change_first as change_client, without_first as without_client, with_list}
 use Rattle.px_names.specs.Names.{Naming}
@@ -78,7 +76,3 @@ changed state (Posted sink m) = record state { posted = posted_to sink.0 m state
 -- and after all of them, in order
 abbrev pub committed : {P : Type 0} → State P → List (Change P) → State P
 committed state changes = fold changed state changes
-
--- the first message that was handed out can't be put back any more
-abbrev pub kept : {P : Type 0} → State P → State P
-kept state = record state { lent = None }

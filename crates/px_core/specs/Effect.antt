@@ -1,5 +1,6 @@
 -- What a step does to the outside.
-use Rattle.std.specs.Prelude.{ℕ, ◌+◌, ◌-◌, ◌^◌, min, List, ◌++◌, length}
+use Rattle.std.specs.Prelude.{◌≡◌, ℕ, ◌+◌, ◌-◌, ◌^◌, ◌<◌, ◌≤◌, min, List, ◌++◌, length}
+use Rattle.std.specs.List.{AllByRecursion}
 use Rattle.px_types.specs.declared.ids.ConnId.{ConnId}
 use Rattle.px_tag.specs.declared.fault.TagFault.{TagFault}
 use Rattle.px_tag.specs.declared.fault.TagFault.TheVariants.{WrongTag, Short, BadValue, Left}
@@ -49,3 +50,20 @@ closed_at conn fault at = Closed conn Protocol fault at
 -- a connection is ended for another reason
 abbrev pub closed_for : ConnId → Reason → Effect
 closed_for conn reason = Closed conn reason 0 0
+
+-- ---- how long a packet is
+
+-- these bytes are the whole frame of a packet of 1 to 16,777,216 bytes
+pub record IsFrame (bytes : List ℕ) : Type 0 where
+  pub packet : List ℕ
+  pub is : bytes ≡ framed packet
+  pub some : 0 < length packet
+  pub few : length packet ≤ 16777216
+
+-- what goes to a client is such a frame
+abbrev pub IsSendable : Effect → Type 0
+IsSendable (Sent conn bytes) = IsFrame bytes
+IsSendable (Closed conn reason fault at) = Unit {0}
+
+abbrev pub AreSendable : List Effect → Type 0
+AreSendable effects = AllByRecursion IsSendable effects

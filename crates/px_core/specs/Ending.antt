@@ -4,8 +4,10 @@ use Rattle.px_types.specs.declared.ids.ConnId.{ConnId}
 use Rattle.px_core.specs.declared.effect.Effect.{Effect}
 use Rattle.px_core.specs.declared.effect.Effect.TheVariants.{Sent, Closed}
 use Rattle.px_core.specs.declared.input.Connection.{Connection}
+use Rattle.px_model.specs.Frame.{SampleSpec}
+use Rattle.px_core.specs.State.{State, connection_of}
 use Rattle.px_core.specs.Connecting.{going_on}
-use Rattle.px_core.specs.Step.{Step, connect, frame, broken, close, cut, sweep, notice, out}
+use Rattle.px_core.specs.Step.{Step, connect, frame, broken, close, cut, sweep, notice, out, stepped}
 
 -- the server ends the connection
 abbrev pub is_end_of : ConnId → Effect → Bool
@@ -19,20 +21,25 @@ ends_of conn effects = length (filter (is_end_of conn) effects)
 abbrev pub goes_on : List Connection → ConnId → ℕ
 goes_on connections conn = cond (is_some (going_on connections conn)) 1 0
 
--- 1 where a client connects with its number
-abbrev pub begins_of : {P : Type 0} → ConnId → Step P → ℕ
-begins_of conn (connect c) = cond (nat_eq c.0 conn.0) 1 0
-begins_of conn (frame c f) = 0
-begins_of conn (broken c fault at) = 0
-begins_of conn (close c) = 0
-begins_of conn (cut c) = 0
-begins_of conn sweep = 0
-begins_of conn (notice sink n) = 0
-begins_of conn (out sink) = 0
+-- 1 where a client connects with its number, and none was there with it
+abbrev pub begins_with : Option Connection → ConnId → ConnId → ℕ
+begins_with (Some c) from conn = 0
+begins_with None from conn = cond (nat_eq from.0 conn.0) 1 0
 
-abbrev pub begins_by : {P : Type 0} → ConnId → List (Step P) → ℕ
-begins_by conn [] = 0
-begins_by conn (s ∷ steps) = begins_of conn s + begins_by conn steps
+abbrev pub begins_of : {P : Type 0} → ConnId → State P → Step P → ℕ
+begins_of conn state (connect from) = begins_with (connection_of state.connections from) from conn
+begins_of conn state (frame c f) = 0
+begins_of conn state (broken c fault at) = 0
+begins_of conn state (close c) = 0
+begins_of conn state (cut c) = 0
+begins_of conn state sweep = 0
+begins_of conn state (notice sink n) = 0
+begins_of conn state (out sink) = 0
+
+-- over all steps, from a state on
+abbrev pub begins_by : {P : Type 0} → (P → SampleSpec) → ConnId → State P → List (Step P) → ℕ
+begins_by spec_of conn state [] = 0
+begins_by spec_of conn state (s ∷ steps) = begins_of conn state s + begins_by spec_of conn (stepped spec_of state s) steps
 
 -- ---- steps of a connection
 

@@ -1,5 +1,5 @@
 -- A message that was handed out and is put back leaves the state as it was.
-use Rattle.std.specs.Prelude.{◌≡◌, ℕ, List, IfSome, Some}
+use Rattle.std.specs.Prelude.{◌≡◌, List, IfSome, Some}
 use Rattle.px_types.specs.declared.ids.InputId.{InputId}
 use Rattle.px_types.specs.declared.ids.SinkId.{SinkId}
 use Rattle.px_msg.specs.declared.message.Msg.{Msg}
@@ -8,7 +8,6 @@ use Rattle.px_core.specs.declared.input.Input.{Input}
 use Rattle.px_core.specs.declared.input.Way.{Way}
 use Rattle.px_core.specs.declared.input.Way.TheVariants.{Coming, There}
 use Rattle.px_core.specs.State.{State, input_of}
-use Rattle.px_core.specs.Change.{kept}
 use Rattle.px_core.specs.Out.{next_for, handed_out, put_back}
 
 -- the stream of an input, where that is there, is so on its way
@@ -30,6 +29,6 @@ FindsItsStream (Attr input attr) inputs = Unit {0}
 FindsItsStream (Factors each) inputs = Unit {0}
 FindsItsStream (Query input tag) inputs = Unit {0}
 
--- put back, it leaves the state as it was, but that nothing can be put back any more
+-- put back, it leaves the state as it was
 abbrev pub IsUndone : {P : Type 0} → State P → Type 0
-IsUndone {P} state = (sink : SinkId) (m : Msg P) → next_for state sink ≡ Some m → FindsItsStream m state.inputs → put_back sink m (handed_out sink state) ≡ kept state
+IsUndone {P} state = (sink : SinkId) (m : Msg P) → next_for state sink ≡ Some m → FindsItsStream m state.inputs → put_back sink m (handed_out sink state) ≡ state

@@ -1,5 +1,5 @@
--- Messages are handed out to the sinks, and the last one that was can be put back. Own: PulseAudio's `pa_asyncmsgq` keeps its messages itself.
-use Rattle.std.specs.Prelude.{ℕ, Bool, cond, List, [], ◌∷◌, set, get_or, length, Option, None, Some}
+-- Messages are handed out to the sinks, and those that were can be put back. Own: PulseAudio's `pa_asyncmsgq` keeps its messages itself.
+use Rattle.std.specs.Prelude.{ℕ, zero, suc, ◌+◌, ◌-◌, List, [], ◌∷◌, set, get_or, Option, None, Some}
 use Rattle.px_types.specs.declared.ids.InputId.{InputId}
 use Rattle.px_types.specs.declared.ids.SinkId.{SinkId}
 use Rattle.px_msg.specs.declared.message.Msg.{Msg}
@@ -67,7 +67,7 @@ inputs_before (Query input tag) inputs = inputs
 -- ---- the state once the first message was handed out, if there is one
 
 abbrev pub without_next : {P : Type 0} → SinkId → State P → State P
-without_next sink state = record state { posted = set state.posted sink.0 (rest_of (waiting_for state sink)); lent = Some sink }
+without_next sink state = record state { posted = set state.posted sink.0 (rest_of (waiting_for state sink)) }
 
 abbrev pub past : {P : Type 0} → Option (Msg P) → SinkId → State P → State P
 past None sink state = state
@@ -82,5 +82,41 @@ abbrev pub put_back : {P : Type 0} → SinkId → Msg P → State P → State P
 put_back sink m state = record state {
   posted = set state.posted sink.0 (m ∷ waiting_for state sink);
   inputs = inputs_before m state.inputs;
-  lent = None;
 }
+
+-- ---- the core: its state, and for each sink how many more messages its list takes in without memory
+
+pub record Roomy (P : Type 0) : Type 0 where
+  pub state : State P
+  pub room : List ℕ
+
+abbrev pub room_for : SinkId → List ℕ → ℕ
+room_for sink room = get_or room sink.0 0
+
+abbrev pub with_more_room : SinkId → List ℕ → List ℕ
+with_more_room sink room = set room sink.0 (room_for sink room + 1)
+
+abbrev pub with_less_room : SinkId → List ℕ → List ℕ
+with_less_room sink room = set room sink.0 (room_for sink room - 1)
+
+-- a message that was handed out leaves its place
+abbrev pub room_past : {M : Type 0} → Option M → SinkId → List ℕ → List ℕ
+room_past None sink room = room
+room_past (Some m) sink room = with_more_room sink room
+
+-- the first message that waits for a sink is handed out, and put back
+abbrev pub sent : {P : Type 0} → SinkId → Roomy P → Roomy P
+sent sink core = record { state = handed_out sink core.state; room = room_past (next_for core.state sink) sink core.room }
+
+abbrev pub unsent : {P : Type 0} → SinkId → Msg P → Roomy P → Roomy P
+unsent sink m core = record { state = put_back sink m core.state; room = with_less_room sink core.room }
+
+-- so many are handed out, one after the other
+abbrev pub sent_by : {P : Type 0} → ℕ → SinkId → Roomy P → Roomy P
+sent_by zero sink core = core
+sent_by (suc n) sink core = sent_by n sink (sent sink core)
+
+-- and these are put back, the last one first
+abbrev pub unsent_by : {P : Type 0} → SinkId → List (Msg P) → Roomy P → Roomy P
+unsent_by sink [] core = core
+unsent_by sink (m ∷ messages) core = unsent sink m (unsent_by sink messages core)

@@ -1,5 +1,5 @@
 -- The state of the core: the names, the sinks, the connections with their streams, and the messages that wait for each sink (PulseAudio: `pa_core`, and `pa_native_connection` of pulsecore/protocol-native.c; that messages wait as data is own).
-use Rattle.std.specs.Prelude.{ℕ, Bool, false, not, cond, ◌&&◌, nat_eq, List, [], ◌∷◌, map, filter, length, replicate, Option, None, Some}
+use Rattle.std.specs.Prelude.{ℕ, Bool, not, ◌&&◌, nat_eq, List, [], map, filter, length, replicate, Option}
 use Rattle.std.specs.List.{find}
 use Rattle.px_types.specs.declared.ids.ConnId.{ConnId}
 use Rattle.px_types.specs.declared.ids.InputId.{InputId}
@@ -26,8 +26,6 @@ pub record State (P : Type 0) : Type 0 where
   -- how many clients and inputs were ever made: the next index of each
   pub clients_made : ℕ
   pub inputs_made : ℕ
-  -- the sink whose first message was just handed out, so that it can be put back
-  pub lent : Option SinkId
 
 -- a core before its first step
 abbrev pub new_state : {P : Type 0} → Header → State P
@@ -39,7 +37,6 @@ new_state header = record {
   posted = replicate (length header.sinks) [];
   clients_made = 0;
   inputs_made = 0;
-  lent = None;
 }
 
 -- ---- connections

@@ -12,7 +12,7 @@ use Rattle.px_msg.specs.declared.notice.Notice.{Notice}
 use Rattle.px_core.specs.declared.effect.Effect.{Effect}
 use Rattle.px_core.specs.declared.input.Connection.{Connection}
 use Rattle.px_core.specs.State.{State, connection_of}
-use Rattle.px_core.specs.Change.{committed, kept}
+use Rattle.px_core.specs.Change.{committed}
 use Rattle.px_core.specs.Reply.{Answer, ignored}
 use Rattle.px_core.specs.Command.{packet_answer}
 use Rattle.px_core.specs.Data.{data_of}
@@ -35,7 +35,7 @@ frame_answer state conn frame = frame_of state (going_on state.connections conn)
 
 -- the state after an answer
 abbrev pub answered : {P : Type 0} → State P → Answer P → State P
-answered state answer = kept (committed state answer.changes)
+answered state answer = committed state answer.changes
 
 pub data Step (P : Type 0) : Type 0 where
   -- a client connects
@@ -68,7 +68,7 @@ answer_of spec_of state (out sink) = ignored
 
 -- the state after a step
 abbrev pub stepped : {P : Type 0} → (P → SampleSpec) → State P → Step P → State P
-stepped spec_of state (connect conn) = connected (connection_of state.connections conn) conn (kept state)
+stepped spec_of state (connect conn) = connected (connection_of state.connections conn) conn state
 stepped spec_of state (frame conn f) = answered state (answer_of spec_of state (frame conn f))
 stepped spec_of state (broken conn fault at) = answered state (answer_of spec_of state (broken conn fault at))
 stepped spec_of state (close conn) = answered state (answer_of spec_of state (close conn))

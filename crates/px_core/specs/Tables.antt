@@ -1,11 +1,12 @@
 -- The tables that the core keeps its state in, as the state, and the room that they have.
-use Rattle.std.specs.Prelude.{ℕ, zero, suc, ◌+◌, ◌≤◌, List, [], ◌∷◌, map, length, IfSome}
+use Rattle.std.specs.Prelude.{ℕ, zero, suc, ◌+◌, ◌-◌, ◌≤◌, List, [], ◌∷◌, map, length}
 use Rattle.std.specs.List.{AllByRecursion}
 use Rattle.std.specs.VecDeque.{deque_len, deque_capacity}
 use Rattle.std.specs.declared.collections.VecDeque.{VecDeque}
 use Rattle.px_msg.specs.declared.message.Msg.{Msg}
 use Rattle.px_core.specs.declared.tables.Tables.{Tables}
 use Rattle.px_core.specs.State.{State}
+use Rattle.px_core.specs.Out.{Roomy}
 
 -- queues of messages as lists
 abbrev pub lists_of : {P Z : Type 0} → List (VecDeque (Msg P) Z) → List (List (Msg P))
@@ -20,8 +21,14 @@ state_of t = record {
   posted = lists_of t.posted.items;
   clients_made = t.clients_made;
   inputs_made = t.inputs_made;
-  lent = t.lent;
 }
+
+-- how many more messages each queue takes in without memory
+abbrev pub rooms_of : {P Z : Type 0} → List (VecDeque (Msg P) Z) → List ℕ
+rooms_of queues = map (λ q. deque_capacity q - deque_len q) queues
+
+abbrev pub core_of : {P : Type 0} → Tables P → Roomy P
+core_of t = record { state = state_of t; room = rooms_of t.posted.items }
 
 -- ---- room for so many more without memory
 
@@ -43,7 +50,3 @@ pub record HasRoom {P : Type 0} (n : ℕ) (t : Tables P) : Type 0 where
   pub places : length t.inputs.items + n ≤ t.inputs.places
   pub streams : n ≤ t.inputs.streams
   pub posted : HavePlaces n t.posted.items
-
--- the sink whose first message was handed out has room to take it back
-abbrev pub HasLent : {P : Type 0} → Tables P → Type 0
-HasLent t = IfSome t.lent (λ sink. HasPlacesAt 1 sink.0 t.posted.items)

@@ -1,5 +1,5 @@
 -- What a sink tells of a stream (PulseAudio: `sink_input_process_msg` and the callbacks of pulsecore/protocol-native.c; which notices fit is own).
-use Rattle.std.specs.Prelude.{ℕ, ◌-◌, ◌*◌, ◌^◌, min, Bool, true, false, not, cond, ◌&&◌, nat_eq, List, [], ◌∷◌, ◌++◌, Option, None, Some}
+use Rattle.std.specs.Prelude.{ℕ, ◌-◌, ◌*◌, ◌^◌, min, Bool, true, false, cond, ◌&&◌, nat_eq, List, [], ◌∷◌, ◌++◌, Option, None, Some}
 use Rattle.std.specs.List.{find, slice_get}
 use Rattle.px_types.specs.declared.ids.InputId.{InputId}
 use Rattle.px_types.specs.declared.ids.SinkId.{SinkId}
@@ -11,7 +11,6 @@ use Rattle.px_session.specs.declared.header.SinkSpec.{SinkSpec}
 use Rattle.px_msg.specs.declared.notice.Notice.{Notice}
 use Rattle.px_msg.specs.declared.notice.Notice.TheVariants.{Request, Overflow, Underflow, Started, Drained, Detached, Latency}
 use Rattle.px_reply.specs.Front.{message}
-use Rattle.px_core.specs.declared.change.Change.{Change}
 use Rattle.px_core.specs.declared.change.Change.TheVariants.{Gone, Posted}
 use Rattle.px_core.specs.declared.effect.Effect.{Effect}
 use Rattle.px_core.specs.declared.input.Connection.{Connection}
@@ -19,7 +18,7 @@ use Rattle.px_core.specs.declared.input.Input.{Input}
 use Rattle.px_core.specs.declared.input.Way.{Way}
 use Rattle.px_core.specs.declared.input.Way.TheVariants.{Coming, There, Left}
 use Rattle.px_core.specs.Effect.{sent}
-use Rattle.px_core.specs.State.{State, has_index, settled_on}
+use Rattle.px_core.specs.State.{State, settled_on}
 use Rattle.px_core.specs.Connecting.{going_on}
 use Rattle.px_core.specs.Create.{factors_for}
 use Rattle.px_core.specs.Reply.{Answer, ignored}

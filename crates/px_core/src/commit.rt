@@ -3,7 +3,7 @@
 ghost use Rattle.std.specs.Prelude.{◌≡◌, ◌+◌, ℕ, length, IfOk, OnOk, OnErr};
 ghost use Rattle.px_core.specs.Change.{changed, committed};
 ghost use Rattle.px_core.specs.Step.{answered};
-ghost use Rattle.px_core.specs.Tables.{state_of, HasRoom, HasLent};
+ghost use Rattle.px_core.specs.Tables.{state_of, HasRoom};
 
 use crate::answer::Answer;
 use crate::change::Change;
@@ -17,7 +17,6 @@ use std::collections::VecDeque;
 pub(crate) fn reserve<P>(tables: &mut Tables<P>, more: usize) -> Mem<()>
     ensures state { state_of tables.new ≡ state_of tables.old }
     ensures room { OnOk result (HasRoom more tables.new) }
-    ensures lent { HasLent tables.old → HasLent tables.new }
 {
     tables.inputs.reserve(more)?;
     queues::reserve(&mut tables.posted, more)
@@ -73,11 +72,9 @@ pub(crate) fn finish<P: Drop>(tables: &mut Tables<P>, answer: Answer<P>) -> Mem<
     ensures after { OnOk result (state_of tables.new ≡ answered (state_of tables.old) answer) }
     ensures err { OnErr result (state_of tables.new ≡ state_of tables.old) }
     ensures sinks { tables.new.sinks ≡ tables.old.sinks }
-    ensures lent { HasLent tables.old → HasLent tables.new }
 {
     let Answer { changes, effects } = answer;
     reserve(tables, changes.len())?;
     commit(tables, changes);
-    tables.lent = None;
     Ok(effects)
 }

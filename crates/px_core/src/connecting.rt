@@ -9,12 +9,11 @@ ghost use Rattle.px_core.specs.declared.effect.Effect.{Effect};
 ghost use Rattle.px_core.specs.declared.input.Connection.{Connection};
 ghost use Rattle.px_core.specs.declared.input.Input.{Input};
 ghost use Rattle.px_core.specs.State.{connection_of, marked_of, is_from};
-ghost use Rattle.px_core.specs.Change.{kept};
 ghost use Rattle.px_core.specs.Connecting.{is_full, new_connection, joined, connected, connect_effects, going_on, ended, broken_effects, swept, sweep_of};
 ghost use Rattle.px_core.specs.Delete.{ends};
-ghost use Rattle.px_core.specs.Effect.{closed_for};
+ghost use Rattle.px_core.specs.Effect.{closed_for, IsSendable};
 ghost use Rattle.px_core.specs.Step.{answered};
-ghost use Rattle.px_core.specs.Tables.{state_of, HasLent};
+ghost use Rattle.px_core.specs.Tables.{state_of};
 
 use crate::answer::Answer;
 use crate::change::Change;
@@ -42,10 +41,9 @@ fn is_full<P>(tables: &Tables<P>) -> bool
 // One more connection, and its client.
 fn join<P>(tables: &mut Tables<P>, conn: ConnId) -> Mem<()>
     requires { tables.old.clients_made < 4294967295 }
-    ensures after { OnOk result (state_of tables.new ≡ joined conn (kept (state_of tables.old))) }
+    ensures after { OnOk result (state_of tables.new ≡ joined conn (state_of tables.old)) }
     ensures err { OnErr result (state_of tables.new ≡ state_of tables.old) }
     ensures sinks { tables.new.sinks ≡ tables.old.sinks }
-    ensures lent { HasLent tables.old → HasLent tables.new }
 {
     let client = tables.clients_made;
     tables.connections.reserve(1)?;
@@ -58,7 +56,6 @@ fn join<P>(tables: &mut Tables<P>, conn: ConnId) -> Mem<()>
         marked: false,
     });
     tables.clients_made = client + 1;
-    tables.lent = None;
     Ok(())
 }
 
@@ -68,9 +65,7 @@ pub(crate) fn end<P>(tables: &mut Tables<P>, conn: ConnId) -> Option<ConnId>
     ensures after { (effects : ConnId → List Effect) →
         state_of tables.new ≡ answered (state_of tables.old) (ended (going_on tables.old.connections.items conn) effects) }
     ensures sinks { tables.new.sinks ≡ tables.old.sinks }
-    ensures lent { HasLent tables.new }
 {
-    tables.lent = None;
     match going_on(&tables.connections, conn) {
         None => None,
         Some(c) => {
@@ -136,18 +131,15 @@ pub(crate) fn sweep<P: Drop>(
 /// memory for it nothing has changed.
 pub(crate) fn connect<P>(alloc: Global, tables: &mut Tables<P>, conn: ConnId) -> Mem<Effects>
     ensures effects { IfOk result (λ effects. effects ≡ connect_effects (connection_of tables.old.connections.items conn) conn (state_of tables.old)) }
-    ensures after { OnOk result (state_of tables.new ≡ connected (connection_of tables.old.connections.items conn) conn (kept (state_of tables.old))) }
+    ensures after { OnOk result (state_of tables.new ≡ connected (connection_of tables.old.connections.items conn) conn (state_of tables.old)) }
     ensures err { OnErr result (state_of tables.new ≡ state_of tables.old) }
     ensures sinks { tables.new.sinks ≡ tables.old.sinks }
-    ensures lent { HasLent tables.old → HasLent tables.new }
 {
     if connection_of(&tables.connections, conn).is_some() {
-        tables.lent = None;
         return Ok(Effects::new(alloc));
     }
     if is_full(tables) {
         let effects = Effects::of(alloc, closed_for(conn, Reason::Limit))?;
-        tables.lent = None;
         return Ok(effects);
     }
     join(tables, conn)?;
@@ -156,7 +148,8 @@ pub(crate) fn connect<P>(alloc: Global, tables: &mut Tables<P>, conn: ConnId) ->
 
 /// A connection is ended for a reason that isn't a rule of the protocol. Takes no memory.
 pub(crate) fn closed_for(conn: ConnId, reason: Reason) -> Effect
-    ensures { result ≡ closed_for conn reason }
+    ensures value { result ≡ closed_for conn reason }
+    ensures sendable { IsSendable result }
 {
     Effect::Closed {
         conn,
@@ -179,7 +172,6 @@ pub(crate) fn break_off<P>(
     ensures after { OnOk result (state_of tables.new ≡ answered (state_of tables.old) (ended (going_on tables.old.connections.items conn) (broken_effects fault at))) }
     ensures err { OnErr result (state_of tables.new ≡ state_of tables.old) }
     ensures sinks { tables.new.sinks ≡ tables.old.sinks }
-    ensures lent { HasLent tables.old → HasLent tables.new }
 {
     let effects = match going_on(&tables.connections, conn) {
         None => Effects::new(alloc),

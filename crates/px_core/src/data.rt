@@ -8,7 +8,7 @@ ghost use Rattle.px_msg.specs.declared.message.Msg.TheVariants.{Write};
 ghost use Rattle.px_core.specs.declared.change.Change.TheVariants.{Posted};
 ghost use Rattle.px_core.specs.Data.{are_frames, data_for, data_of};
 ghost use Rattle.px_core.specs.Step.{answered};
-ghost use Rattle.px_core.specs.Tables.{state_of, HasLent};
+ghost use Rattle.px_core.specs.Tables.{state_of};
 
 use crate::commit::reserve;
 use crate::input::Input;
@@ -84,7 +84,6 @@ fn post<P: Drop>(
     ensures back { IfErr result (λ back. back ≡ bytes) }
     ensures err { OnErr result (state_of tables.new ≡ state_of tables.old) }
     ensures sinks { tables.new.sinks ≡ tables.old.sinks }
-    ensures lent { HasLent tables.old → HasLent tables.new }
 {
     match reserve(tables, 1) {
         Err(_) => Err(bytes),
@@ -97,7 +96,6 @@ fn post<P: Drop>(
                 bytes,
             };
             queues::post(&mut tables.posted, input.sink, msg);
-            tables.lent = None;
             Ok(())
         }
     }
@@ -117,13 +115,9 @@ fn write_to<P: Drop>(
     ensures back { IfErr result (λ back. back ≡ bytes) }
     ensures err { OnErr result (state_of tables.new ≡ state_of tables.old) }
     ensures sinks { tables.new.sinks ≡ tables.old.sinks }
-    ensures lent { HasLent tables.old → HasLent tables.new }
 {
     match frames_of(&input, offset, bytes.len()) {
-        None => {
-            tables.lent = None;
-            Ok(())
-        }
+        None => { Ok(()) }
         Some(frames) => post(tables, input, frames, seek, bytes),
     }
 }
@@ -145,13 +139,9 @@ pub(crate) fn write<P: Drop>(
     ensures back { IfErr result (λ back. back ≡ bytes) }
     ensures err { OnErr result (state_of tables.new ≡ state_of tables.old) }
     ensures sinks { tables.new.sinks ≡ tables.old.sinks }
-    ensures lent { HasLent tables.old → HasLent tables.new }
 {
     match tables.inputs.stream_of(conn, stream) {
-        None => {
-            tables.lent = None;
-            Ok(())
-        }
+        None => { Ok(()) }
         Some(input) => {
             let input = *input;
             write_to(tables, input, offset, seek, bytes)

@@ -1,7 +1,7 @@
 //! What a step does to the outside.
 
 ghost use Rattle.std.specs.Prelude.{◌≡◌, ◌<◌, ◌≤◌, length, IfOk};
-ghost use Rattle.px_core.specs.Effect.{reason_code, framed, sent};
+ghost use Rattle.px_core.specs.Effect.{reason_code, framed, sent, IsSendable};
 
 use px_frame::{Packet, write_packet};
 use px_types::{ConnId, Mem, NoMemory};
@@ -57,7 +57,8 @@ pub enum Effect {
 pub(crate) fn sent(alloc: Global, conn: ConnId, packet: &[u8]) -> Mem<Effect>
     requires some { 0 < length packet.now }
     requires few { length packet.now ≤ 16777216 }
-    ensures { IfOk result (λ effect. effect ≡ sent conn packet.now) }
+    ensures value { IfOk result (λ effect. effect ≡ sent conn packet.now) }
+    ensures sendable { IfOk result IsSendable }
 {
     match write_packet(alloc, packet) {
         Ok(packet) => Ok(Effect::Sent { conn, packet }),

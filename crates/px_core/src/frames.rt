@@ -5,7 +5,7 @@ ghost use Rattle.px_frame.specs.Frame.{IsBody};
 ghost use Rattle.px_session.specs.HeaderRules.{AreSinks};
 ghost use Rattle.px_core.specs.Command.{packet_answer};
 ghost use Rattle.px_core.specs.Step.{answered, body_answer, frame_answer};
-ghost use Rattle.px_core.specs.Tables.{state_of, HasLent};
+ghost use Rattle.px_core.specs.Tables.{state_of};
 
 use crate::command::packet_answer;
 use crate::commit::finish;
@@ -31,7 +31,6 @@ fn control<P: Drop>(
     ensures after { OnOk result (state_of tables.new ≡ answered (state_of tables.old) (packet_answer (state_of tables.old) c.now at packet.now)) }
     ensures err { OnErr result (state_of tables.new ≡ state_of tables.old) }
     ensures sinks { tables.new.sinks ≡ tables.old.sinks }
-    ensures lent { HasLent tables.old → HasLent tables.new }
 {
     let answer = packet_answer(alloc, tables, c, at, packet)?;
     finish(tables, answer)
@@ -52,7 +51,6 @@ fn body<P: Drop>(
     ensures back { IfErr result (λ back. back ≡ body) }
     ensures err { OnErr result (state_of tables.new ≡ state_of tables.old) }
     ensures sinks { tables.new.sinks ≡ tables.old.sinks }
-    ensures lent { HasLent tables.old → HasLent tables.new }
 {
     match body {
         Body::Control(packet) => match control(alloc, tables, c, at, packet.bytes()) {
@@ -91,13 +89,9 @@ pub(crate) fn take<P: Drop>(
     ensures back { IfErr result (λ back. back ≡ frame) }
     ensures err { OnErr result (state_of tables.new ≡ state_of tables.old) }
     ensures sinks { tables.new.sinks ≡ tables.old.sinks }
-    ensures lent { HasLent tables.old → HasLent tables.new }
 {
     match going_on(&tables.connections, conn) {
-        None => {
-            tables.lent = None;
-            Ok(Effects::new(alloc))
-        }
+        None => { Ok(Effects::new(alloc)) }
         Some(c) => match body(alloc, tables, &c, frame.at, frame.body) {
             Ok(effects) => Ok(effects),
             Err(body) => Err(Frame { at: frame.at, body }),

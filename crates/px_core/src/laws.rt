@@ -13,9 +13,8 @@ ghost use Rattle.px_msg.specs.View.{sample_spec, message_of};
 ghost use Rattle.px_reply.specs.Front.{refusal};
 ghost use Rattle.px_core.specs.Effect.{sent};
 ghost use Rattle.px_core.specs.State.{State, new_state};
-ghost use Rattle.px_core.specs.Change.{kept};
 ghost use Rattle.px_core.specs.Connecting.{going_on};
-ghost use Rattle.px_core.specs.Out.{waiting_for, next_for, handed_out, put_back};
+ghost use Rattle.px_core.specs.Out.{Roomy, waiting_for, next_for, handed_out, put_back, sent_by, unsent_by};
 ghost use Rattle.px_core.specs.Step.{Step, out, stepped, effects_of, stepped_by, effects_by};
 ghost use Rattle.px_core.specs.Orderly.{specs_of, inputs_there, IsOrderlyState};
 ghost use Rattle.px_core.specs.Keeps.{IsKept, IsPosted, IsStep, Spares, handed_out_by, messages_out};
@@ -31,8 +30,6 @@ pub fn states_are_kept<P>()
     ensures steps { (spec_of : P → SampleSpec) (state : State P) (steps : List (Step P)) → AllByRecursion IsStep steps
         → IsKept spec_of state → IsKept spec_of (stepped_by spec_of state steps) }
     ensures orderly { (spec_of : P → SampleSpec) (state : State P) → IsKept spec_of state → IsOrderlyState spec_of state }
-    // The last message can't be put back any more, or it is put back.
-    ensures not_lent { (spec_of : P → SampleSpec) (state : State P) → IsKept spec_of state → IsKept spec_of (kept state) }
     ensures back { (spec_of : P → SampleSpec) (state : State P) (sink : SinkId) (m : Msg P) → IsKept spec_of state
         → next_for state sink ≡ Some m → IsKept spec_of (put_back sink m (handed_out sink state)) }
 {}
@@ -53,7 +50,9 @@ pub fn sinks_have_what_they_were_told<P>()
     ensures spared { (spec_of : P → SampleSpec) (state : State P) (s : Step P) (sink : SinkId) → IsStep s → Spares sink s
         → IsKept spec_of state → inputs_there (stepped spec_of state s) sink ≡ inputs_there state sink }
     ensures put_back { (spec_of : P → SampleSpec) (state : State P) (sink : SinkId) (m : Msg P) → IsKept spec_of state
-        → next_for state sink ≡ Some m → put_back sink m (handed_out sink state) ≡ kept state }
+        → next_for state sink ≡ Some m → put_back sink m (handed_out sink state) ≡ state }
+    ensures all_back { (spec_of : P → SampleSpec) (core : Roomy P) (sink : SinkId) (n : ℕ) → IsKept spec_of core.state
+        → unsent_by sink (messages_out n sink core.state) (sent_by n sink core) ≡ core }
 {}
 
 /// All that a sink is handed out over any steps, in order, is orderly from the inputs that it had, and leaves there those that
@@ -94,24 +93,23 @@ pub fn sinks_hear_step_by_step<P>()
 {}
 
 /// The server ends a connection only where it went on and goes on no more, or where it isn't taken as it connects: so at the
-/// most once each time that its number connects. It does nothing: its contract is the law. Source: own.
+/// most once each time that a client connects whose number isn't there. It does nothing: its contract is the law. Source: own.
 pub fn connections_end_once<P>()
     ensures step { (spec_of : P → SampleSpec) (state : State P) (s : Step P) (conn : ConnId) → IsKept spec_of state
         → ends_of conn (effects_of spec_of state s) + goes_on (stepped spec_of state s).connections conn
-        ≤ goes_on state.connections conn + begins_of conn s }
+        ≤ goes_on state.connections conn + begins_of conn state s }
     ensures steps { (spec_of : P → SampleSpec) (state : State P) (steps : List (Step P)) (conn : ConnId)
         → AllByRecursion IsStep steps → IsKept spec_of state
         → ends_of conn (effects_by spec_of state steps) + goes_on (stepped_by spec_of state steps).connections conn
-        ≤ goes_on state.connections conn + begins_by conn steps }
+        ≤ goes_on state.connections conn + begins_by spec_of conn state steps }
 {}
 
 /// What a connection sends that isn't there, or has ended, has no effect and changes nothing; nor does anything that is
-/// answered by an error. `kept` says that the message handed out last can't be put back any more. It does nothing: its
-/// contract is the law. Source: own.
+/// answered by an error. It does nothing: its contract is the law. Source: own.
 pub fn refusals_change_nothing<P>()
     ensures ended { (spec_of : P → SampleSpec) (state : State P) (s : Step P) (conn : ConnId) → sender_of s ≡ Some conn
         → going_on state.connections conn ≡ None
-        → (stepped spec_of state s ≡ kept state) × (effects_of spec_of state s ≡ []) }
+        → (stepped spec_of state s ≡ state) × (effects_of spec_of state s ≡ []) }
     ensures refused { (spec_of : P → SampleSpec) (state : State P) (s : Step P) (conn : ConnId) (tag code : ℕ)
-        → effects_of spec_of state s ≡ sent conn (refusal tag code) ∷ [] → stepped spec_of state s ≡ kept state }
+        → effects_of spec_of state s ≡ sent conn (refusal tag code) ∷ [] → stepped spec_of state s ≡ state }
 {}

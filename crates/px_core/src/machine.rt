@@ -1,12 +1,13 @@
 //! The core as a machine.
 
-ghost use Rattle.std.specs.Prelude.{◌≡◌, Some, length, IfOk, IfErr, OnOk, OnErr};
+ghost use Rattle.std.specs.Prelude.{◌≡◌, ◌<◌, ◌+◌, length, IfOk, IfErr, IfSome, IsSome, OnOk, OnErr};
 ghost use Rattle.std.specs.Option.{option_to_list};
 ghost use Rattle.px_frame.specs.Frame.{IsBody};
 ghost use Rattle.px_session.specs.HeaderRules.{IsHeader};
+ghost use Rattle.px_core.specs.Effect.{IsSendable};
 ghost use Rattle.px_core.specs.State.{new_state};
 ghost use Rattle.px_core.specs.Step.{Step, stepped, effects_of};
-ghost use Rattle.px_core.specs.Out.{waiting_for, next_for, handed_out, put_back};
+ghost use Rattle.px_core.specs.Out.{waiting_for, next_for, sent, unsent, room_for};
 
 use crate::commit::finish;
 use crate::connecting::{break_off, closed_for, connect, end, sweep};
@@ -36,21 +37,21 @@ pub struct Core<P> {
 impl<P> Model for Core<P> {
     ghost use Rattle.std.specs.Prelude.{[]};
     ghost use Rattle.px_session.specs.HeaderRules.{AreSinks};
-    ghost use Rattle.px_core.specs.State.{State};
-    ghost use Rattle.px_core.specs.Tables.{state_of, HasLent};
+    ghost use Rattle.px_core.specs.Out.{Roomy};
+    ghost use Rattle.px_core.specs.Tables.{core_of};
 
-    ghost Value = { State P };
+    ghost Value = { Roomy P };
 
-    ghost view = { λ c. state_of c.tables };
+    ghost view = { λ c. core_of c.tables };
 
-    ghost invariant = { λ c. AreSinks [] c.tables.sinks × HasLent c.tables };
+    ghost invariant = { λ c. AreSinks [] c.tables.sinks };
 }
 
 impl<P: Parcel + Drop> Core<P> {
     /// A core before its first step.
     pub fn new(alloc: Global, header: &Header) -> Mem<Core<P>>
         requires { IsHeader header.now }
-        ensures { IfOk result (λ core. core ≡ new_state header.now) }
+        ensures { IfOk result (λ core. core.state ≡ new_state header.now) }
     {
         Ok(Core {
             alloc,
@@ -61,9 +62,9 @@ impl<P: Parcel + Drop> Core<P> {
     /// A client connects. One that is there already changes nothing; where 64 are there the server ends it. Where there is no
     /// memory for it nothing has changed.
     pub fn admit(&mut self, conn: ConnId) -> Mem<Effects>
-        ensures effects { IfOk result (λ effects. effects ≡ effects_of P.spec_of self.old (Step.connect conn)) }
-        ensures after { OnOk result (self.new ≡ stepped P.spec_of self.old (Step.connect conn)) }
-        ensures err { OnErr result (self.new ≡ self.old) }
+        ensures effects { IfOk result (λ effects. effects ≡ effects_of P.spec_of self.old.state (Step.connect conn)) }
+        ensures after { OnOk result (self.new.state ≡ stepped P.spec_of self.old.state (Step.connect conn)) }
+        ensures err { OnErr result (self.new.state ≡ self.old.state) }
     {
         connect(self.alloc, &mut self.tables, conn)
     }
@@ -72,34 +73,35 @@ impl<P: Parcel + Drop> Core<P> {
     /// and nothing has changed.
     pub fn frame(&mut self, conn: ConnId, frame: Frame) -> Result<Effects, Frame>
         requires { IsBody frame.body }
-        ensures effects { IfOk result (λ effects. effects ≡ effects_of P.spec_of self.old (Step.frame conn frame)) }
-        ensures after { OnOk result (self.new ≡ stepped P.spec_of self.old (Step.frame conn frame)) }
+        ensures effects { IfOk result (λ effects. effects ≡ effects_of P.spec_of self.old.state (Step.frame conn frame)) }
+        ensures after { OnOk result (self.new.state ≡ stepped P.spec_of self.old.state (Step.frame conn frame)) }
         ensures back { IfErr result (λ back. back ≡ frame) }
-        ensures err { OnErr result (self.new ≡ self.old) }
+        ensures err { OnErr result (self.new.state ≡ self.old.state) }
     {
         frames::take(self.alloc, &mut self.tables, conn, frame)
     }
 
     /// A fault in a connection's bytes, at an offset: it ends. Where there is no memory for the effect nothing has changed.
     pub fn broken(&mut self, conn: ConnId, fault: FrameFault, at: u64) -> Mem<Effects>
-        ensures effects { IfOk result (λ effects. effects ≡ effects_of P.spec_of self.old (Step.broken conn fault at)) }
-        ensures after { OnOk result (self.new ≡ stepped P.spec_of self.old (Step.broken conn fault at)) }
-        ensures err { OnErr result (self.new ≡ self.old) }
+        ensures effects { IfOk result (λ effects. effects ≡ effects_of P.spec_of self.old.state (Step.broken conn fault at)) }
+        ensures after { OnOk result (self.new.state ≡ stepped P.spec_of self.old.state (Step.broken conn fault at)) }
+        ensures err { OnErr result (self.new.state ≡ self.old.state) }
     {
         break_off(self.alloc, &mut self.tables, conn, fault, at)
     }
 
     /// A client has closed its connection: it ends, with no effect. Takes no memory.
     pub fn close(&mut self, conn: ConnId)
-        ensures { self.new ≡ stepped P.spec_of self.old (Step.close conn) }
+        ensures { self.new.state ≡ stepped P.spec_of self.old.state (Step.close conn) }
     {
         end(&mut self.tables, conn);
     }
 
     /// The server ends a connection for want of memory. Takes no memory.
     pub fn cut(&mut self, conn: ConnId) -> Option<Effect>
-        ensures effect { option_to_list result ≡ effects_of P.spec_of self.old (Step.cut conn) }
-        ensures after { self.new ≡ stepped P.spec_of self.old (Step.cut conn) }
+        ensures effect { option_to_list result ≡ effects_of P.spec_of self.old.state (Step.cut conn) }
+        ensures sendable { IfSome result IsSendable }
+        ensures after { self.new.state ≡ stepped P.spec_of self.old.state (Step.cut conn) }
     {
         match end(&mut self.tables, conn) {
             None => None,
@@ -110,9 +112,9 @@ impl<P: Parcel + Drop> Core<P> {
     /// The connections that have ended are swept away: the streams of each end, and its client goes. Where there is no memory
     /// for it nothing has changed.
     pub fn sweep(&mut self) -> Mem<Effects>
-        ensures effects { IfOk result (λ effects. effects ≡ effects_of P.spec_of self.old Step.sweep) }
-        ensures after { OnOk result (self.new ≡ stepped P.spec_of self.old Step.sweep) }
-        ensures err { OnErr result (self.new ≡ self.old) }
+        ensures effects { IfOk result (λ effects. effects ≡ effects_of P.spec_of self.old.state Step.sweep) }
+        ensures after { OnOk result (self.new.state ≡ stepped P.spec_of self.old.state Step.sweep) }
+        ensures err { OnErr result (self.new.state ≡ self.old.state) }
     {
         let answer = sweep(
             self.alloc,
@@ -124,10 +126,10 @@ impl<P: Parcel + Drop> Core<P> {
 
     /// A sink's notice. Where there is no memory for it, it is handed back, and nothing has changed.
     pub fn notice(&mut self, sink: SinkId, notice: Notice<P>) -> Result<Effects, Notice<P>>
-        ensures effects { IfOk result (λ effects. effects ≡ effects_of P.spec_of self.old (Step.notice sink notice)) }
-        ensures after { OnOk result (self.new ≡ stepped P.spec_of self.old (Step.notice sink notice)) }
+        ensures effects { IfOk result (λ effects. effects ≡ effects_of P.spec_of self.old.state (Step.notice sink notice)) }
+        ensures after { OnOk result (self.new.state ≡ stepped P.spec_of self.old.state (Step.notice sink notice)) }
         ensures back { IfErr result (λ back. back ≡ notice) }
-        ensures err { OnErr result (self.new ≡ self.old) }
+        ensures err { OnErr result (self.new.state ≡ self.old.state) }
     {
         let Ok(answer) = notice_answer(self.alloc, &self.tables, sink, &notice) else {
             return Err(notice);
@@ -140,23 +142,25 @@ impl<P: Parcel + Drop> Core<P> {
 
     /// How many messages wait for a sink; 0 for one that isn't there. Takes no memory.
     pub fn outgoing(&self, sink: SinkId) -> usize
-        ensures { result ≡ length (waiting_for self.now sink) }
+        ensures { result ≡ length (waiting_for self.now.state sink) }
     {
         queues::count(&self.tables.posted, sink)
     }
 
-    /// The first message that waits for a sink, handed out. Takes no memory.
+    /// The first message that waits for a sink, handed out. There is room to put it back. Takes no memory.
     pub fn sent(&mut self, sink: SinkId) -> Option<Msg<P>>
-        ensures next { result ≡ next_for self.old sink }
-        ensures after { self.new ≡ handed_out sink self.old }
+        ensures next { result ≡ next_for self.old.state sink }
+        ensures after { self.new ≡ sent sink self.old }
+        ensures room { IsSome result → room_for sink self.new.room ≡ room_for sink self.old.room + 1 }
     {
         hand_out(&mut self.tables, sink)
     }
 
-    /// The message that was handed out last waits again, before the others. Takes no memory.
+    /// A message that was handed out waits again, before the others. Where several were, the last one is put back first, and
+    /// the core is as it was once all are back. Takes no memory.
     pub fn unsent(&mut self, sink: SinkId, msg: Msg<P>)
-        requires { self.old.lent ≡ Some sink }
-        ensures { self.new ≡ put_back sink msg self.old }
+        requires { 0 < room_for sink self.old.room }
+        ensures { self.new ≡ unsent sink msg self.old }
     {
         put_back(&mut self.tables, sink, msg);
     }

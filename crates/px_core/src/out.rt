@@ -1,9 +1,9 @@
-//! Messages are handed out to the sinks, and the last one that was is put back. Own: PulseAudio's `pa_asyncmsgq` keeps its
+//! Messages are handed out to the sinks, and those that were are put back. Own: PulseAudio's `pa_asyncmsgq` keeps its
 //! messages itself.
 
-ghost use Rattle.std.specs.Prelude.{◌≡◌, Some};
-ghost use Rattle.px_core.specs.Out.{inputs_past, inputs_before, next_for, handed_out, put_back};
-ghost use Rattle.px_core.specs.Tables.{state_of, HasPlacesAt, HasLent};
+ghost use Rattle.std.specs.Prelude.{◌≡◌, ◌<◌};
+ghost use Rattle.px_core.specs.Out.{inputs_past, inputs_before, next_for, sent, unsent, room_for};
+ghost use Rattle.px_core.specs.Tables.{state_of, core_of, rooms_of};
 
 use crate::input::Way;
 use crate::input_table::InputTable;
@@ -39,28 +39,24 @@ fn pass_back<P>(inputs: &mut InputTable, msg: &Msg<P>)
 /// The first message that waits for a sink is handed out. Takes no memory.
 pub(crate) fn hand_out<P>(tables: &mut Tables<P>, sink: SinkId) -> Option<Msg<P>>
     ensures next { result ≡ next_for (state_of tables.old) sink }
-    ensures after { state_of tables.new ≡ handed_out sink (state_of tables.old) }
+    ensures after { core_of tables.new ≡ sent sink (core_of tables.old) }
     ensures sinks { tables.new.sinks ≡ tables.old.sinks }
-    ensures lent { HasLent tables.old → HasLent tables.new }
 {
     match queues::take_first(&mut tables.posted, sink) {
         None => None,
         Some(msg) => {
             pass(&mut tables.inputs, &msg);
-            tables.lent = Some(sink);
             Some(msg)
         }
     }
 }
 
-/// The message that was handed out last is put back. Takes no memory.
+/// A message that was handed out is put back, before the others. Takes no memory.
 pub(crate) fn put_back<P: Drop>(tables: &mut Tables<P>, sink: SinkId, msg: Msg<P>)
-    requires { HasPlacesAt 1 sink.0 tables.old.posted.items }
-    ensures after { state_of tables.new ≡ put_back sink msg (state_of tables.old) }
+    requires { 0 < room_for sink (rooms_of tables.old.posted.items) }
+    ensures after { core_of tables.new ≡ unsent sink msg (core_of tables.old) }
     ensures sinks { tables.new.sinks ≡ tables.old.sinks }
-    ensures lent { HasLent tables.new }
 {
     pass_back(&mut tables.inputs, &msg);
     queues::put_first(&mut tables.posted, sink, msg);
-    tables.lent = None;
 }

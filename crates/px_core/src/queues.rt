@@ -1,9 +1,9 @@
 //! The messages that wait for each sink, a queue a sink.
 
-ghost use Rattle.std.specs.Prelude.{◌≡◌, ◌+◌, ◌∷◌, [], ℕ, length, get_or, set, IsSome, IsNone, OnOk};
+ghost use Rattle.std.specs.Prelude.{◌≡◌, ◌<◌, ◌+◌, ◌∷◌, [], ℕ, length, get_or, set, IsSome, IsNone, OnOk};
 ghost use Rattle.px_core.specs.Change.{posted_to};
-ghost use Rattle.px_core.specs.Out.{first_of, rest_of};
-ghost use Rattle.px_core.specs.Tables.{lists_of, HasPlacesAt, HavePlaces};
+ghost use Rattle.px_core.specs.Out.{first_of, rest_of, room_for, room_past, with_less_room};
+ghost use Rattle.px_core.specs.Tables.{lists_of, rooms_of, HavePlaces};
 
 use px_msg::Msg;
 use px_types::{Mem, SinkId};
@@ -33,13 +33,12 @@ pub(crate) fn count<P>(queues: &[VecDeque<Msg<P>>], sink: SinkId) -> usize
     }
 }
 
-/// The first message that waits for a sink, taken out. There is room for it then. Takes no memory.
+/// The first message that waits for a sink, taken out: its place is room for one more. Takes no memory.
 pub(crate) fn take_first<P>(queues: &mut [VecDeque<Msg<P>>], sink: SinkId) -> Option<Msg<P>>
     ensures first { result ≡ first_of (get_or (lists_of queues.old) sink.0 []) }
     ensures rest { IsSome result → lists_of queues.new ≡ set (lists_of queues.old) sink.0 (rest_of (get_or (lists_of queues.old) sink.0 [])) }
     ensures none { IsNone result → lists_of queues.new ≡ lists_of queues.old }
-    ensures room { IsSome result → HasPlacesAt 1 sink.0 queues.new }
-    ensures kept { (n i : ℕ) → HasPlacesAt n i queues.old → HasPlacesAt n i queues.new }
+    ensures room { rooms_of queues.new ≡ room_past result sink (rooms_of queues.old) }
 {
     let place = sink.0 as usize;
     if place < queues.len() {
@@ -51,8 +50,9 @@ pub(crate) fn take_first<P>(queues: &mut [VecDeque<Msg<P>>], sink: SinkId) -> Op
 
 /// A message waits for a sink, before the others. Takes no memory.
 pub(crate) fn put_first<P: Drop>(queues: &mut [VecDeque<Msg<P>>], sink: SinkId, msg: Msg<P>)
-    requires { HasPlacesAt 1 sink.0 queues.old }
-    ensures { lists_of queues.new ≡ set (lists_of queues.old) sink.0 (msg ∷ get_or (lists_of queues.old) sink.0 []) }
+    requires { 0 < room_for sink (rooms_of queues.old) }
+    ensures lists { lists_of queues.new ≡ set (lists_of queues.old) sink.0 (msg ∷ get_or (lists_of queues.old) sink.0 []) }
+    ensures room { rooms_of queues.new ≡ with_less_room sink (rooms_of queues.old) }
 {
     let place = sink.0 as usize;
     if place < queues.len() {
@@ -64,7 +64,6 @@ pub(crate) fn put_first<P: Drop>(queues: &mut [VecDeque<Msg<P>>], sink: SinkId, 
 pub(crate) fn reserve<P>(queues: &mut [VecDeque<Msg<P>>], more: usize) -> Mem<()>
     ensures lists { lists_of queues.new ≡ lists_of queues.old }
     ensures room { OnOk result (HavePlaces more queues.new) }
-    ensures kept { (n i : ℕ) → HasPlacesAt n i queues.old → HasPlacesAt n i queues.new }
 {
     for place in 0..queues.len() {
         queues[place].reserve(more)?;

@@ -4,7 +4,7 @@ ghost use Rattle.std.specs.Prelude.{◌≡◌, ◌<◌, ◌≤◌, ◌++◌, [],
 ghost use Rattle.px_tag.specs.Item.{number};
 ghost use Rattle.px_reply.specs.Front.{reply_to, refusal};
 ghost use Rattle.px_types.specs.ErrorCode.{code_of};
-ghost use Rattle.px_core.specs.Effect.{closed_at, fault_code, fault_place, offset_behind};
+ghost use Rattle.px_core.specs.Effect.{closed_at, fault_code, fault_place, offset_behind, IsSendable};
 ghost use Rattle.px_core.specs.Reply.{refused, done, broken_off};
 
 use crate::answer::Answer;
@@ -83,7 +83,8 @@ fn fault_place(fault: TagFault) -> usize
 
 // The connection is ended for a fault in a packet whose first byte has this offset.
 fn closed(conn: ConnId, at: u64, fault: TagFault) -> Effect
-    ensures { result ≡ closed_at conn (fault_code fault) (offset_behind at (fault_place fault)) }
+    ensures value { result ≡ closed_at conn (fault_code fault) (offset_behind at (fault_place fault)) }
+    ensures sendable { IsSendable result }
 {
     Effect::Closed {
         conn,

@@ -4,7 +4,7 @@ ghost use Rattle.std.specs.Prelude.{◌≡◌, ◌++◌, ◌∷◌, [], map, rep
 ghost use Rattle.px_session.specs.declared.header.SinkSpec.{SinkSpec};
 ghost use Rattle.px_session.specs.HeaderRules.{IsHeader, AreSinks};
 ghost use Rattle.px_core.specs.State.{new_state};
-ghost use Rattle.px_core.specs.Tables.{lists_of, state_of, HasLent};
+ghost use Rattle.px_core.specs.Tables.{lists_of, state_of};
 
 use crate::input_table::InputTable;
 use crate::tables::Tables;
@@ -66,7 +66,6 @@ pub(crate) fn new_tables<P: Drop>(alloc: Global, header: &Header) -> Mem<Tables<
     requires { IsHeader header.now }
     ensures state { IfOk result (λ tables. state_of tables ≡ new_state header.now) }
     ensures sinks { IfOk result (λ tables. AreSinks [] tables.sinks) }
-    ensures lent { IfOk result (λ tables. HasLent tables) }
 {
     let sinks = header.sinks.as_slice();
     let names = SinkNames::new(names_of(alloc, sinks)?).unwrap();
@@ -78,6 +77,5 @@ pub(crate) fn new_tables<P: Drop>(alloc: Global, header: &Header) -> Mem<Tables<
         posted: queues_for(alloc, sinks)?,
         clients_made: 0,
         inputs_made: 0,
-        lent: None,
     })
 }

@@ -5,7 +5,6 @@ use crate::input_table::InputTable;
 use px_msg::Msg;
 use px_names::Names;
 use px_session::SinkSpecs;
-use px_types::SinkId;
 use std::collections::VecDeque;
 
 /// The state of the core. `P` is the type of a parcel: a stream on its way from one sink to another.
@@ -23,6 +22,4 @@ pub(crate) struct Tables<P> {
     /// How many clients were ever made, and how many inputs.
     pub(crate) clients_made: u32,
     pub(crate) inputs_made: u32,
-    /// The sink whose first message was just handed out, so that it can be put back.
-    pub(crate) lent: Option<SinkId>,
 }

@@ -1,9 +1,10 @@
 //! What the events of a connection do, to the core and at the doors.
 
-ghost use Rattle.std.specs.Prelude.{◌≡◌, ℕ, List, IfOk, OnOk, None, Some};
+ghost use Rattle.std.specs.Prelude.{◌≡◌, ℕ, List, IfOk, IfSome, OnOk, None, Some};
 ghost use Rattle.std.specs.List.{position};
 ghost use Rattle.std.specs.Option.{option_to_list};
 ghost use Rattle.px_session.specs.declared.event.Event.TheVariants.{Connect, Bytes, Close, Cut};
+ghost use Rattle.px_core.specs.Effect.{IsSendable};
 ghost use Rattle.px_world.specs.World.{World, Mixer};
 ghost use Rattle.px_world.specs.Running.{is_door, Open, AreDistinct};
 ghost use Rattle.px_world.specs.Keeping.{AreKept};
@@ -21,8 +22,8 @@ use std::alloc::Global;
 // A client connects whose number isn't named.
 fn admit(core: &mut WorldCore, doors: &mut Vec<Door>, alloc: Global, conn: ConnId) -> Mem<Effects>
     requires { position (is_door conn) doors.old.items ≡ None }
-    ensures done { IfOk result (λ effects. (w : World) → Open doors.old.items w.links → Does core.old core.new doors.new.items w (Connect conn) effects) }
-    ensures kept { OnOk result ((mixers : List Mixer) → AreKept core.old mixers → AreKept core.new mixers) }
+    ensures done { IfOk result (λ effects. (w : World) → Open doors.old.items w.links → Does core.old.state core.new.state doors.new.items w (Connect conn) effects) }
+    ensures kept { OnOk result ((mixers : List Mixer) → AreKept core.old.state mixers → AreKept core.new.state mixers) }
 {
     let first = core.admit(conn)?;
     add(doors, alloc, conn)?;
@@ -37,9 +38,9 @@ pub(crate) fn connect(
     alloc: Global,
     conn: ConnId,
 ) -> Result<Effects, WorldFault>
-    ensures done { (w : World) → Open doors.old.items w.links → DoesOr core.old core.new doors.new.items w (Connect conn) result }
-    ensures stays { StaysOr core.old core.new doors.old.items doors.new.items result }
-    ensures kept { OnOk result ((mixers : List Mixer) → AreKept core.old mixers → AreKept core.new mixers) }
+    ensures done { (w : World) → Open doors.old.items w.links → DoesOr core.old.state core.new.state doors.new.items w (Connect conn) result }
+    ensures stays { StaysOr core.old.state core.new.state doors.old.items doors.new.items result }
+    ensures kept { OnOk result ((mixers : List Mixer) → AreKept core.old.state mixers → AreKept core.new.state mixers) }
 {
     match place_of(doors.as_slice(), conn) {
         Some(_) => Err(WorldFault::Live),
@@ -60,8 +61,8 @@ fn hear(
     bytes: &[u8],
 ) -> Mem<Effects>
     requires { position (is_door conn) doors.old ≡ Some place }
-    ensures done { IfOk result (λ effects. (w : World) → Open doors.old w.links → AreDistinct w.links → Does core.old core.new doors.new w (Bytes conn bytes.now) effects) }
-    ensures kept { OnOk result ((mixers : List Mixer) → AreKept core.old mixers → AreKept core.new mixers) }
+    ensures done { IfOk result (λ effects. (w : World) → Open doors.old w.links → AreDistinct w.links → Does core.old.state core.new.state doors.new w (Bytes conn bytes.now) effects) }
+    ensures kept { OnOk result ((mixers : List Mixer) → AreKept core.old.state mixers → AreKept core.new.state mixers) }
 {
     let mut blocks = Fresh::new(alloc);
     let given = feed(doors, place, bytes, &mut blocks);
@@ -78,9 +79,9 @@ pub(crate) fn bytes(
     conn: ConnId,
     bytes: &[u8],
 ) -> Result<Effects, WorldFault>
-    ensures done { (w : World) → Open doors.old w.links → AreDistinct w.links → DoesOr core.old core.new doors.new w (Bytes conn bytes.now) result }
-    ensures stays { StaysOr core.old core.new doors.old doors.new result }
-    ensures kept { OnOk result ((mixers : List Mixer) → AreKept core.old mixers → AreKept core.new mixers) }
+    ensures done { (w : World) → Open doors.old w.links → AreDistinct w.links → DoesOr core.old.state core.new.state doors.new w (Bytes conn bytes.now) result }
+    ensures stays { StaysOr core.old.state core.new.state doors.old doors.new result }
+    ensures kept { OnOk result ((mixers : List Mixer) → AreKept core.old.state mixers → AreKept core.new.state mixers) }
 {
     match place_of(doors, conn) {
         None => Err(WorldFault::NotLive),
@@ -100,8 +101,8 @@ fn leave(
     place: usize,
 ) -> Mem<Effects>
     requires { position (is_door conn) doors.old.items ≡ Some place }
-    ensures done { IfOk result (λ effects. (w : World) → Open doors.old.items w.links → AreDistinct w.links → Does core.old core.new doors.new.items w (Close conn) effects) }
-    ensures kept { OnOk result ((mixers : List Mixer) → AreKept core.old mixers → AreKept core.new mixers) }
+    ensures done { IfOk result (λ effects. (w : World) → Open doors.old.items w.links → AreDistinct w.links → Does core.old.state core.new.state doors.new.items w (Close conn) effects) }
+    ensures kept { OnOk result ((mixers : List Mixer) → AreKept core.old.state mixers → AreKept core.new.state mixers) }
 {
     core.close(conn);
     drop_at(doors, place);
@@ -117,9 +118,9 @@ pub(crate) fn close(
     alloc: Global,
     conn: ConnId,
 ) -> Result<Effects, WorldFault>
-    ensures done { (w : World) → Open doors.old.items w.links → AreDistinct w.links → DoesOr core.old core.new doors.new.items w (Close conn) result }
-    ensures stays { StaysOr core.old core.new doors.old.items doors.new.items result }
-    ensures kept { OnOk result ((mixers : List Mixer) → AreKept core.old mixers → AreKept core.new mixers) }
+    ensures done { (w : World) → Open doors.old.items w.links → AreDistinct w.links → DoesOr core.old.state core.new.state doors.new.items w (Close conn) result }
+    ensures stays { StaysOr core.old.state core.new.state doors.old.items doors.new.items result }
+    ensures kept { OnOk result ((mixers : List Mixer) → AreKept core.old.state mixers → AreKept core.new.state mixers) }
 {
     match place_of(doors.as_slice(), conn) {
         None => Err(WorldFault::NotLive),
@@ -132,6 +133,7 @@ pub(crate) fn close(
 
 // This effect, or none.
 fn of_option(alloc: Global, effect: Option<Effect>) -> Mem<Effects>
+    requires { IfSome effect IsSendable }
     ensures { IfOk result (λ effects. effects ≡ option_to_list effect) }
 {
     match effect {
@@ -142,8 +144,8 @@ fn of_option(alloc: Global, effect: Option<Effect>) -> Mem<Effects>
 
 // The server ends a connection that is named.
 fn cut_off(core: &mut WorldCore, alloc: Global, conn: ConnId) -> Mem<Effects>
-    ensures done { IfOk result (λ effects. (doors : List Door) (place : ℕ) (w : World) → position (is_door conn) doors ≡ Some place → Open doors w.links → Does core.old core.new doors w (Cut conn) effects) }
-    ensures kept { OnOk result ((mixers : List Mixer) → AreKept core.old mixers → AreKept core.new mixers) }
+    ensures done { IfOk result (λ effects. (doors : List Door) (place : ℕ) (w : World) → position (is_door conn) doors ≡ Some place → Open doors w.links → Does core.old.state core.new.state doors w (Cut conn) effects) }
+    ensures kept { OnOk result ((mixers : List Mixer) → AreKept core.old.state mixers → AreKept core.new.state mixers) }
 {
     let effect = core.cut(conn);
     let first = of_option(alloc, effect)?;
@@ -158,9 +160,9 @@ pub(crate) fn cut(
     alloc: Global,
     conn: ConnId,
 ) -> Result<Effects, WorldFault>
-    ensures done { (w : World) → Open doors.now w.links → DoesOr core.old core.new doors.now w (Cut conn) result }
-    ensures stays { StaysOr core.old core.new doors.now doors.now result }
-    ensures kept { OnOk result ((mixers : List Mixer) → AreKept core.old mixers → AreKept core.new mixers) }
+    ensures done { (w : World) → Open doors.now w.links → DoesOr core.old.state core.new.state doors.now w (Cut conn) result }
+    ensures stays { StaysOr core.old.state core.new.state doors.now doors.now result }
+    ensures kept { OnOk result ((mixers : List Mixer) → AreKept core.old.state mixers → AreKept core.new.state mixers) }
 {
     match place_of(doors, conn) {
         None => Err(WorldFault::NotLive),

@@ -40,12 +40,12 @@ pub(crate) fn run(
     alloc: Global,
     e: Event,
 ) -> Result<Outcome, WorldFault>
-    requires kept { AreKept core.old (map mixer_of mixers.old.items) }
+    requires kept { AreKept core.old.state (map mixer_of mixers.old.items) }
     requires playing { AllByRecursion IsPlaying mixers.old.items }
-    ensures done { (w : World) → StandsFor (running_of core.old doors.old.items mixers.old.items) w
-        → RunsOr (running_of core.new doors.new.items mixers.new.items) w e result }
-    ensures rests { RestsOr (running_of core.old doors.old.items mixers.old.items) (running_of core.new doors.new.items mixers.new.items) result }
-    ensures kept { Keeps result (AreKept core.new (map mixer_of mixers.new.items)) }
+    ensures done { (w : World) → StandsFor (running_of core.old.state doors.old.items mixers.old.items) w
+        → RunsOr (running_of core.new.state doors.new.items mixers.new.items) w e result }
+    ensures rests { RestsOr (running_of core.old.state doors.old.items mixers.old.items) (running_of core.new.state doors.new.items mixers.new.items) result }
+    ensures kept { Keeps result (AreKept core.new.state (map mixer_of mixers.new.items)) }
     ensures playing { Keeps result (AllByRecursion IsPlaying mixers.new.items) }
 {
     match e {

@@ -53,8 +53,8 @@ fn collect_from(
     count: u32,
 ) -> Mem<Effects>
     requires { count ≤ length notices.old.notices }
-    ensures core { OnOk result (core.new ≡ stepped_by Plain.spec core.old (map (λ n. Step.notice sink (notice_for n)) (take count notices.old.notices) ++ Step.sweep ∷ [])) }
-    ensures effects { IfOk result (λ effects. effects ≡ effects_by Plain.spec core.old (map (λ n. Step.notice sink (notice_for n)) (take count notices.old.notices) ++ Step.sweep ∷ [])) }
+    ensures core { OnOk result (core.new.state ≡ stepped_by Plain.spec core.old.state (map (λ n. Step.notice sink (notice_for n)) (take count notices.old.notices) ++ Step.sweep ∷ [])) }
+    ensures effects { IfOk result (λ effects. effects ≡ effects_by Plain.spec core.old.state (map (λ n. Step.notice sink (notice_for n)) (take count notices.old.notices) ++ Step.sweep ∷ [])) }
     ensures notices { OnOk result (notices.new.notices ≡ drop count notices.old.notices) }
 {
     let mut first = Effects::new(alloc);
@@ -71,12 +71,12 @@ pub(crate) fn collect(
     sink: u8,
     count: u32,
 ) -> Result<Outcome, WorldFault>
-    requires kept { AreKept core.old (map mixer_of mixers.old) }
+    requires kept { AreKept core.old.state (map mixer_of mixers.old) }
     requires playing { AllByRecursion IsPlaying mixers.old }
-    ensures done { (w : World) → w.core ≡ core.old → w.mixers ≡ map mixer_of mixers.old
-        → PlaysOr core.old core.new (map mixer_of mixers.new) w (Collect sink count) result }
-    ensures still { StillOr core.old core.new (map mixer_of mixers.old) (map mixer_of mixers.new) result }
-    ensures kept { Keeps result (AreKept core.new (map mixer_of mixers.new)) }
+    ensures done { (w : World) → w.core ≡ core.old.state → w.mixers ≡ map mixer_of mixers.old
+        → PlaysOr core.old.state core.new.state (map mixer_of mixers.new) w (Collect sink count) result }
+    ensures still { StillOr core.old.state core.new.state (map mixer_of mixers.old) (map mixer_of mixers.new) result }
+    ensures kept { Keeps result (AreKept core.new.state (map mixer_of mixers.new)) }
     ensures playing { Keeps result (AllByRecursion IsPlaying mixers.new) }
 {
     let place = sink as usize;
@@ -141,11 +141,11 @@ fn turn_of(
     requires playing { IsPlaying playing.old }
     requires there { frames ≤ playing.old.lane.sink.filled - playing.old.lane.sink.consumed }
     requires countable { playing.old.lane.sink.filled ≤ 2 ^ 60 }
-    requires few { count ≤ length (waiting_for core.old sink) }
-    requires messages { AreFor playing.old.lane.sink (map (message_of (λ p. p)) (take count (waiting_for core.old sink))) }
-    ensures core { OnOk result (core.new ≡ stepped_by Plain.spec core.old (replicate count (Step.out sink) ++ Step.sweep ∷ [])) }
-    ensures effects { IfOk result (λ outcome. outcome.effects ≡ effects_by Plain.spec core.old (replicate count (Step.out sink) ++ Step.sweep ∷ [])) }
-    ensures mixer { OnOk result (mixer_of playing.new ≡ mixer_turned (mixer_of playing.old) frames (map (message_of (λ p. p)) (take count (waiting_for core.old sink)))) }
+    requires few { count ≤ length (waiting_for core.old.state sink) }
+    requires messages { AreFor playing.old.lane.sink (map (message_of (λ p. p)) (take count (waiting_for core.old.state sink))) }
+    ensures core { OnOk result (core.new.state ≡ stepped_by Plain.spec core.old.state (replicate count (Step.out sink) ++ Step.sweep ∷ [])) }
+    ensures effects { IfOk result (λ outcome. outcome.effects ≡ effects_by Plain.spec core.old.state (replicate count (Step.out sink) ++ Step.sweep ∷ [])) }
+    ensures mixer { OnOk result (mixer_of playing.new ≡ mixer_turned (mixer_of playing.old) frames (map (message_of (λ p. p)) (take count (waiting_for core.old.state sink)))) }
     ensures playing { OnOk result (IsPlaying playing.new) }
     ensures frames { IfOk result (λ outcome. outcome.frames ≡ length (played_of (Some (mixer_of playing.old)) frames)) }
     ensures played { IfOk result (λ outcome. outcome.played ≡ concat (played_of (Some (mixer_of playing.old)) frames)) }
@@ -172,12 +172,12 @@ pub(crate) fn turn(
     frames: u32,
     count: u32,
 ) -> Result<Outcome, WorldFault>
-    requires kept { AreKept core.old (map mixer_of mixers.old) }
+    requires kept { AreKept core.old.state (map mixer_of mixers.old) }
     requires playing { AllByRecursion IsPlaying mixers.old }
-    ensures done { (w : World) → w.core ≡ core.old → w.mixers ≡ map mixer_of mixers.old
-        → PlaysOr core.old core.new (map mixer_of mixers.new) w (Turn sink frames count) result }
-    ensures still { StillOr core.old core.new (map mixer_of mixers.old) (map mixer_of mixers.new) result }
-    ensures kept { Keeps result (AreKept core.new (map mixer_of mixers.new)) }
+    ensures done { (w : World) → w.core ≡ core.old.state → w.mixers ≡ map mixer_of mixers.old
+        → PlaysOr core.old.state core.new.state (map mixer_of mixers.new) w (Turn sink frames count) result }
+    ensures still { StillOr core.old.state core.new.state (map mixer_of mixers.old) (map mixer_of mixers.new) result }
+    ensures kept { Keeps result (AreKept core.new.state (map mixer_of mixers.new)) }
     ensures playing { Keeps result (AllByRecursion IsPlaying mixers.new) }
 {
     let place = sink as usize;

@@ -24,8 +24,8 @@ pub(crate) type WorldCore = Core<Carried>;
 // A frame of a connection, with its effects behind these.
 fn take_frame(core: &mut WorldCore, conn: ConnId, frame: Frame, effects: &mut Effects) -> Mem<()>
     requires { IsBody frame.body }
-    ensures core { OnOk result (core.new ≡ stepped Plain.spec core.old (Step.frame conn frame)) }
-    ensures effects { OnOk result (effects.new ≡ effects.old ++ effects_of Plain.spec core.old (Step.frame conn frame)) }
+    ensures core { OnOk result (core.new.state ≡ stepped Plain.spec core.old.state (Step.frame conn frame)) }
+    ensures effects { OnOk result (effects.new ≡ effects.old ++ effects_of Plain.spec core.old.state (Step.frame conn frame)) }
 {
     match core.frame(conn, frame) {
         Ok(more) => effects.append(more),
@@ -41,8 +41,8 @@ pub(crate) fn take_frames(
     effects: &mut Effects,
 ) -> Mem<()>
     requires { All (λ f. IsBody f.body) frames.items }
-    ensures core { OnOk result (core.new ≡ stepped_by Plain.spec core.old (map (Step.frame conn) frames.items)) }
-    ensures effects { OnOk result (effects.new ≡ effects.old ++ effects_by Plain.spec core.old (map (Step.frame conn) frames.items)) }
+    ensures core { OnOk result (core.new.state ≡ stepped_by Plain.spec core.old.state (map (Step.frame conn) frames.items)) }
+    ensures effects { OnOk result (effects.new ≡ effects.old ++ effects_by Plain.spec core.old.state (map (Step.frame conn) frames.items)) }
 {
     let mut frames = VecDeque::from_vec(frames);
     while let Some(frame) = frames.pop_front() {
@@ -61,8 +61,8 @@ fn take_broken(
     effects: &mut Effects,
 ) -> Mem<()>
     requires { All (λ f. IsBody f.body) frames.items }
-    ensures core { OnOk result (core.new ≡ stepped_by Plain.spec core.old (map (Step.frame conn) frames.items ++ Step.broken conn fault at ∷ [])) }
-    ensures effects { OnOk result (effects.new ≡ effects.old ++ effects_by Plain.spec core.old (map (Step.frame conn) frames.items ++ Step.broken conn fault at ∷ [])) }
+    ensures core { OnOk result (core.new.state ≡ stepped_by Plain.spec core.old.state (map (Step.frame conn) frames.items ++ Step.broken conn fault at ∷ [])) }
+    ensures effects { OnOk result (effects.new ≡ effects.old ++ effects_by Plain.spec core.old.state (map (Step.frame conn) frames.items ++ Step.broken conn fault at ∷ [])) }
 {
     take_frames(core, conn, frames, effects)?;
     let more = core.broken(conn, fault, at)?;
@@ -79,8 +79,8 @@ pub(crate) fn take_given(
 ) -> Mem<Effects>
     requires { GivesBodies given }
     ensures answered { OnOk result (IsAnswered given) }
-    ensures core { OnOk result (core.new ≡ stepped_by Plain.spec core.old (steps_given conn given)) }
-    ensures effects { IfOk result (λ effects. effects ≡ effects_by Plain.spec core.old (steps_given conn given)) }
+    ensures core { OnOk result (core.new.state ≡ stepped_by Plain.spec core.old.state (steps_given conn given)) }
+    ensures effects { IfOk result (λ effects. effects ≡ effects_by Plain.spec core.old.state (steps_given conn given)) }
 {
     let mut effects = Effects::new(alloc);
     match given {
@@ -104,9 +104,9 @@ pub(crate) fn take_messages(
     count: u32,
     messages: &mut MsgList,
 ) -> Mem<()>
-    requires { count ≤ length (waiting_for core.old sink) }
-    ensures core { OnOk result (core.new ≡ stepped_by Plain.spec core.old (replicate count (Step.out sink))) }
-    ensures messages { OnOk result (messages.new ≡ messages.old ++ map (message_of (λ s. s)) (take count (waiting_for core.old sink))) }
+    requires { count ≤ length (waiting_for core.old.state sink) }
+    ensures core { OnOk result (core.new.state ≡ stepped_by Plain.spec core.old.state (replicate count (Step.out sink))) }
+    ensures messages { OnOk result (messages.new ≡ messages.old ++ map (message_of (λ s. s)) (take count (waiting_for core.old.state sink))) }
 {
     let mut left = count;
     while left > 0 {
@@ -126,8 +126,8 @@ fn take_notice(
     notice: Notice<Stream>,
     effects: &mut Effects,
 ) -> Mem<()>
-    ensures core { OnOk result (core.new ≡ stepped Plain.spec core.old (Step.notice sink (notice_for (plain_notice notice)))) }
-    ensures effects { OnOk result (effects.new ≡ effects.old ++ effects_of Plain.spec core.old (Step.notice sink (notice_for (plain_notice notice)))) }
+    ensures core { OnOk result (core.new.state ≡ stepped Plain.spec core.old.state (Step.notice sink (notice_for (plain_notice notice)))) }
+    ensures effects { OnOk result (effects.new ≡ effects.old ++ effects_of Plain.spec core.old.state (Step.notice sink (notice_for (plain_notice notice)))) }
 {
     match core.notice(sink, handed_over(notice)) {
         Ok(more) => effects.append(more),
@@ -144,8 +144,8 @@ pub(crate) fn take_notices(
     effects: &mut Effects,
 ) -> Mem<()>
     requires { count ≤ length notices.old.notices }
-    ensures core { OnOk result (core.new ≡ stepped_by Plain.spec core.old (map (λ n. Step.notice sink (notice_for n)) (take count notices.old.notices))) }
-    ensures effects { OnOk result (effects.new ≡ effects.old ++ effects_by Plain.spec core.old (map (λ n. Step.notice sink (notice_for n)) (take count notices.old.notices))) }
+    ensures core { OnOk result (core.new.state ≡ stepped_by Plain.spec core.old.state (map (λ n. Step.notice sink (notice_for n)) (take count notices.old.notices))) }
+    ensures effects { OnOk result (effects.new ≡ effects.old ++ effects_by Plain.spec core.old.state (map (λ n. Step.notice sink (notice_for n)) (take count notices.old.notices))) }
     ensures notices { OnOk result (notices.new.notices ≡ drop count notices.old.notices) }
 {
     let mut left = count;
@@ -161,8 +161,8 @@ pub(crate) fn take_notices(
 
 /// The connections that have ended are swept away, with the effects behind these.
 pub(crate) fn swept(core: &mut WorldCore, effects: Effects) -> Mem<Effects>
-    ensures core { OnOk result (core.new ≡ stepped_by Plain.spec core.old (Step.sweep ∷ [])) }
-    ensures effects { IfOk result (λ all. all ≡ effects ++ effects_by Plain.spec core.old (Step.sweep ∷ [])) }
+    ensures core { OnOk result (core.new.state ≡ stepped_by Plain.spec core.old.state (Step.sweep ∷ [])) }
+    ensures effects { IfOk result (λ all. all ≡ effects ++ effects_by Plain.spec core.old.state (Step.sweep ∷ [])) }
 {
     let mut effects = effects;
     let more = core.sweep()?;

@@ -50,9 +50,9 @@ impl Model for World {
 
     ghost Value = { Running };
 
-    ghost view = { λ w. running_of w.core w.doors.items w.mixers.items };
+    ghost view = { λ w. running_of w.core.state w.doors.items w.mixers.items };
 
-    ghost invariant = { λ w. IsFalse w.lost → AreKept w.core (map mixer_of w.mixers.items) × AllByRecursion IsPlaying w.mixers.items };
+    ghost invariant = { λ w. IsFalse w.lost → AreKept w.core.state (map mixer_of w.mixers.items) × AllByRecursion IsPlaying w.mixers.items };
 }
 
 // A mixer for each sink.

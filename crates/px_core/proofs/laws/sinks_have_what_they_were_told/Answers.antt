@@ -22,3 +22,6 @@ returns-clause-spared g c = steps.step_spares
 
 pub returns-clause-put_back : goal.returns-clause-put_back
 returns-clause-put_back g c = back.back_as_before
+
+pub returns-clause-all_back : goal.returns-clause-all_back
+returns-clause-all_back g c = λ spec_of core sink n h. back.all_back spec_of sink n core h

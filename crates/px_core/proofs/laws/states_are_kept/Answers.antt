@@ -1,6 +1,5 @@
 use Rattle.std.proofs.Common.{sym, subst}
 use Rattle.px_core.specs.Keeps.{IsKept}
-use Rattle.px_core.proofs.AnswerLaws as answers
 use Rattle.px_core.proofs.BackLaws as back
 use Rattle.px_core.proofs.StepLaws as steps
 use Rattle.px_core.proofs.laws.states_are_kept.Goals as goal
@@ -17,8 +16,5 @@ returns-clause-steps g c = steps.steps_keep
 pub returns-clause-orderly : goal.returns-clause-orderly
 returns-clause-orderly g c = λ spec_of state h index s e. (h.in_step index s e).orderly
 
-pub returns-clause-not_lent : goal.returns-clause-not_lent
-returns-clause-not_lent g c = answers.kept_keeps
-
 pub returns-clause-back : goal.returns-clause-back
-returns-clause-back g c = λ spec_of state sink m h e. subst (IsKept spec_of) (sym (back.back_as_before spec_of state sink m h e)) (answers.kept_keeps spec_of state h)
+returns-clause-back g c = λ spec_of state sink m h e. subst (IsKept spec_of) (sym (back.back_as_before spec_of state sink m h e)) h

@@ -1,5 +1,5 @@
 use Rattle.std.proofs.Common.{arith, ◌∙◌}
-use Rattle.px_core.proofs.Waiting.{same_lists, kept_places, one_more_has, all_have}
+use Rattle.px_core.proofs.Waiting.{same_lists, one_more_has, all_have}
 use Rattle.px_core.proofs.queues.reserve.Goals as goal
 
 pub returns-in_err-reserve-clause-lists : goal.returns-in_err-reserve-clause-lists
@@ -10,11 +10,7 @@ pub loop-place-preserved : goal.loop-place-preserved
 loop-place-preserved g c = record {
   lists = same_lists c.loop-place.queues c.loop-place.place c.index-queues-place.result c.reserve.new.self c.reserve.ensures.items ∙ c.loop-place.invariant.lists;
   room = one_more_has c.args.more c.loop-place.queues c.loop-place.place c.reserve.new.self c.loop-place.invariant.room c.in_ok-reserve.ensures.ok;
-  kept = λ n i had. kept_places n i c.loop-place.place c.loop-place.queues c.index-queues-place.result c.reserve.new.self (omega (arith, c.reserve.ensures.len)) c.reserve.ensures.capacity (c.loop-place.invariant.kept n i had);
 }
-
-pub returns-in_err-reserve-clause-kept : goal.returns-in_err-reserve-clause-kept
-returns-in_err-reserve-clause-kept g c = λ n i had. kept_places n i c.loop-place.place c.loop-place.queues c.index-queues-place.result c.reserve.new.self (omega (arith, c.reserve.ensures.len)) c.reserve.ensures.capacity (c.loop-place.invariant.kept n i had)
 
 pub returns-clause-room : goal.returns-clause-room
 returns-clause-room g c = all_have c.args.more c.loop-place.queues (λ k within. c.loop-place.invariant.room k (omega (arith, within, c.loop-place.auto.queues, c.loop-place-test.false)))

@@ -6,5 +6,4 @@ abbrev pub invariant-loop-place : goal.invariant-loop-place
 invariant-loop-place g l = record {
   lists : lists_of l.queues ≡ lists_of l.fn.queues;
   room : (k : ℕ) → k < l.place → HasPlacesAt l.fn.more k l.queues;
-  kept : (n i : ℕ) → HasPlacesAt n i l.fn.queues → HasPlacesAt n i l.queues;
 }

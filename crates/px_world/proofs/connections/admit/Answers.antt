@@ -7,10 +7,10 @@ use Rattle.px_world.proofs.connections.admit.Goals as goal
 pub returns-clause-done : goal.returns-clause-done
 returns-clause-done c = λ w opened. record {
   admitted = (refused-absent c.args.doors.now.items w.links opened c.args.conn c.requires).0;
-  core = one-swept Stream.spec c.args.core.now _ (connect c.args.conn) _ c.in_ok-first.ensures.after c.in_ok-effects.ensures.core;
+  core = one-swept Stream.spec c.args.core.now.state _ (connect c.args.conn) _ c.in_ok-first.ensures.after c.in_ok-effects.ensures.core;
   opened = c.in_ok-add.ensures.opened w.links opened;
-  told = one-swept-told Stream.spec c.args.core.now _ (connect c.args.conn) _ _ c.in_ok-first.ensures.after c.in_ok-first.ensures.effects c.in_ok-effects.ensures.effects;
+  told = one-swept-told Stream.spec c.args.core.now.state _ (connect c.args.conn) _ _ c.in_ok-first.ensures.after c.in_ok-first.ensures.effects c.in_ok-effects.ensures.effects;
 }
 
 pub returns-clause-kept : goal.returns-clause-kept
-returns-clause-kept c = λ mixers h. kept-one c.args.core.now _ _ mixers h (connect c.args.conn) tt (λ sink. tt) c.in_ok-first.ensures.after c.in_ok-effects.ensures.core
+returns-clause-kept c = λ mixers h. kept-one c.args.core.now.state _ _ mixers h (connect c.args.conn) tt (λ sink. tt) c.in_ok-first.ensures.after c.in_ok-effects.ensures.core

@@ -7,11 +7,11 @@ use Rattle.px_world.proofs.connections.cut_off.Goals as goal
 pub returns-clause-done : goal.returns-clause-done
 returns-clause-done c = λ doors place w found opened. record {
   admitted = (refused-found doors w.links c.args.conn place found opened).1;
-  core = one-swept Stream.spec c.args.core.now _ (cut c.args.conn) _ c.cut-effect.ensures.after c.in_ok-effects.ensures.core;
+  core = one-swept Stream.spec c.args.core.now.state _ (cut c.args.conn) _ c.cut-effect.ensures.after c.in_ok-effects.ensures.core;
   opened = opened;
-  told = one-swept-told Stream.spec c.args.core.now _ (cut c.args.conn) _ _ c.cut-effect.ensures.after
+  told = one-swept-told Stream.spec c.args.core.now.state _ (cut c.args.conn) _ _ c.cut-effect.ensures.after
       (c.in_ok-first.ensures ∙ c.cut-effect.ensures.effect) c.in_ok-effects.ensures.effects;
 }
 
 pub returns-clause-kept : goal.returns-clause-kept
-returns-clause-kept c = λ mixers h. kept-one c.args.core.now _ _ mixers h (cut c.args.conn) tt (λ sink. tt) c.cut-effect.ensures.after c.in_ok-effects.ensures.core
+returns-clause-kept c = λ mixers h. kept-one c.args.core.now.state _ _ mixers h (cut c.args.conn) tt (λ sink. tt) c.cut-effect.ensures.after c.in_ok-effects.ensures.core

@@ -17,13 +17,13 @@ returns-clause-done c = λ w opened distinct.
     c.feed-given.ensures.steps c.args.conn w.links c.requires opened c.in_ok-first.ensures.answered in
     record {
       admitted = (refused-found c.args.doors.now w.links c.args.conn c.args.place c.requires opened).1;
-      core = steps-behind Stream.spec c.args.core.now _ _ (bytes_steps c.args.conn (received_of (link_of w.links c.args.conn)) c.args.bytes.now) (sweep ∷ [])
-          (c.in_ok-first.ensures.core ∙ ap (stepped_by Stream.spec c.args.core.now) (sym steps)) c.in_ok-effects.ensures.core;
+      core = steps-behind Stream.spec c.args.core.now.state _ _ (bytes_steps c.args.conn (received_of (link_of w.links c.args.conn)) c.args.bytes.now) (sweep ∷ [])
+          (c.in_ok-first.ensures.core ∙ ap (stepped_by Stream.spec c.args.core.now.state) (sym steps)) c.in_ok-effects.ensures.core;
       opened = c.feed-given.ensures.opened c.args.conn w.links c.requires opened distinct c.in_ok-first.ensures.answered;
-      told = effects-behind Stream.spec c.args.core.now _ (bytes_steps c.args.conn (received_of (link_of w.links c.args.conn)) c.args.bytes.now) (sweep ∷ []) _ _
-          (c.in_ok-first.ensures.core ∙ ap (stepped_by Stream.spec c.args.core.now) (sym steps))
-          (c.in_ok-first.ensures.effects ∙ ap (effects_by Stream.spec c.args.core.now) (sym steps)) c.in_ok-effects.ensures.effects;
+      told = effects-behind Stream.spec c.args.core.now.state _ (bytes_steps c.args.conn (received_of (link_of w.links c.args.conn)) c.args.bytes.now) (sweep ∷ []) _ _
+          (c.in_ok-first.ensures.core ∙ ap (stepped_by Stream.spec c.args.core.now.state) (sym steps))
+          (c.in_ok-first.ensures.effects ∙ ap (effects_by Stream.spec c.args.core.now.state) (sym steps)) c.in_ok-effects.ensures.effects;
     }
 
 pub returns-clause-kept : goal.returns-clause-kept
-returns-clause-kept c = λ mixers h. kept-given c.args.core.now _ _ mixers h c.args.conn c.feed-given.result c.feed-given.ensures.bodies c.in_ok-first.ensures.core c.in_ok-effects.ensures.core
+returns-clause-kept c = λ mixers h. kept-given c.args.core.now.state _ _ mixers h c.args.conn c.feed-given.result c.feed-given.ensures.bodies c.in_ok-first.ensures.core c.in_ok-effects.ensures.core

@@ -10,11 +10,11 @@ drop_at-requires c = position-within c.args.doors.now.items c.args.conn c.args.p
 pub returns-clause-done : goal.returns-clause-done
 returns-clause-done c = λ w opened distinct. record {
   admitted = (refused-found c.args.doors.now.items w.links c.args.conn c.args.place c.requires opened).1;
-  core = one-swept Stream.spec c.args.core.now _ (close c.args.conn) _ c.close.ensures c.in_ok-effects.ensures.core;
+  core = one-swept Stream.spec c.args.core.now.state _ (close c.args.conn) _ c.close.ensures c.in_ok-effects.ensures.core;
   opened = c.drop_at.ensures.opened c.args.conn w.links c.requires opened distinct;
-  told = one-swept-told Stream.spec c.args.core.now _ (close c.args.conn) _ _ c.close.ensures
-      (c.new-none.ensures ∙ sym (close-silent Stream.spec c.args.core.now c.args.conn)) c.in_ok-effects.ensures.effects;
+  told = one-swept-told Stream.spec c.args.core.now.state _ (close c.args.conn) _ _ c.close.ensures
+      (c.new-none.ensures ∙ sym (close-silent Stream.spec c.args.core.now.state c.args.conn)) c.in_ok-effects.ensures.effects;
 }
 
 pub returns-clause-kept : goal.returns-clause-kept
-returns-clause-kept c = λ mixers h. kept-one c.args.core.now _ _ mixers h (close c.args.conn) tt (λ sink. tt) c.close.ensures c.in_ok-effects.ensures.core
+returns-clause-kept c = λ mixers h. kept-one c.args.core.now.state _ _ mixers h (close c.args.conn) tt (λ sink. tt) c.close.ensures c.in_ok-effects.ensures.core

@@ -13,37 +13,37 @@ use Rattle.px_world.proofs.run.run.Goals as goal
 
 pub returns-in-Connect-clause-done : goal.returns-in-Connect-clause-done
 returns-in-Connect-clause-done c = λ w s.
-    subst (λ (e : Event). RunsOr (running_of c.connect.new.core c.connect.new.doors.items c.args.mixers.now.items) w e c.silent.result) (sym c.in-Connect.is)
-    (runs-connection (running_of c.args.core.now c.args.doors.now.items c.args.mixers.now.items) (running_of c.connect.new.core c.connect.new.doors.items c.args.mixers.now.items)
+    subst (λ (e : Event). RunsOr (running_of c.connect.new.core.state c.connect.new.doors.items c.args.mixers.now.items) w e c.silent.result) (sym c.in-Connect.is)
+    (runs-connection (running_of c.args.core.now.state c.args.doors.now.items c.args.mixers.now.items) (running_of c.connect.new.core.state c.connect.new.doors.items c.args.mixers.now.items)
     w (Connect c.in-Connect.conn) s c.connect.result c.silent.result c.silent.ensures (c.connect.ensures.done w s.doors) refl refl refl)
 
 pub returns-in-Bytes-clause-done : goal.returns-in-Bytes-clause-done
 returns-in-Bytes-clause-done c = λ w s.
     let whole : length c.bytes.new.doors ≡ c.args.doors.now.len = search (arith, c.bytes.auto.doors, c.deref_mut.ensures.len, c.deref_mut.ensures.value) in
     let same : c.as_slice.result.now ≡ c.in-Bytes.text = search (c.as_slice.ensures) in
-    subst (λ (e : Event). RunsOr (running_of c.bytes.new.core (with_items c.args.doors.now c.bytes.new.doors).items c.args.mixers.now.items) w e c.silent-in-Bytes.result) (sym c.in-Bytes.is)
-    (runs-connection (running_of c.args.core.now c.args.doors.now.items c.args.mixers.now.items)
-    (running_of c.bytes.new.core (with_items c.args.doors.now c.bytes.new.doors).items c.args.mixers.now.items)
+    subst (λ (e : Event). RunsOr (running_of c.bytes.new.core.state (with_items c.args.doors.now c.bytes.new.doors).items c.args.mixers.now.items) w e c.silent-in-Bytes.result) (sym c.in-Bytes.is)
+    (runs-connection (running_of c.args.core.now.state c.args.doors.now.items c.args.mixers.now.items)
+    (running_of c.bytes.new.core.state (with_items c.args.doors.now c.bytes.new.doors).items c.args.mixers.now.items)
     w (Bytes c.in-Bytes.conn c.in-Bytes.text) s c.bytes.result c.silent-in-Bytes.result c.silent-in-Bytes.ensures
-    (subst (λ (ds : List Door). DoesOr c.args.core.now c.bytes.new.core ds w (Bytes c.in-Bytes.conn c.in-Bytes.text) c.bytes.result) (sym (with_items_is c.args.doors.now c.bytes.new.doors whole))
-    (subst (λ (t : List ℕ). DoesOr c.args.core.now c.bytes.new.core c.bytes.new.doors w (Bytes c.in-Bytes.conn t) c.bytes.result) same
+    (subst (λ (ds : List Door). DoesOr c.args.core.now.state c.bytes.new.core.state ds w (Bytes c.in-Bytes.conn c.in-Bytes.text) c.bytes.result) (sym (with_items_is c.args.doors.now c.bytes.new.doors whole))
+    (subst (λ (t : List ℕ). DoesOr c.args.core.now.state c.bytes.new.core.state c.bytes.new.doors w (Bytes c.in-Bytes.conn t) c.bytes.result) same
     (c.bytes.ensures.done w (subst (λ (ds : List Door). Open ds w.links) (sym c.deref_mut.ensures.value) s.doors) s.distinct)))
     refl refl refl)
 
 pub returns-in-Close-clause-done : goal.returns-in-Close-clause-done
 returns-in-Close-clause-done c = λ w s.
-    subst (λ (e : Event). RunsOr (running_of c.close.new.core c.close.new.doors.items c.args.mixers.now.items) w e c.silent-in-Close.result) (sym c.in-Close.is)
-    (runs-connection (running_of c.args.core.now c.args.doors.now.items c.args.mixers.now.items) (running_of c.close.new.core c.close.new.doors.items c.args.mixers.now.items)
+    subst (λ (e : Event). RunsOr (running_of c.close.new.core.state c.close.new.doors.items c.args.mixers.now.items) w e c.silent-in-Close.result) (sym c.in-Close.is)
+    (runs-connection (running_of c.args.core.now.state c.args.doors.now.items c.args.mixers.now.items) (running_of c.close.new.core.state c.close.new.doors.items c.args.mixers.now.items)
     w (Close c.in-Close.conn) s c.close.result c.silent-in-Close.result c.silent-in-Close.ensures (c.close.ensures.done w s.doors s.distinct) refl refl refl)
 
 pub returns-in-Turn-clause-done : goal.returns-in-Turn-clause-done
 returns-in-Turn-clause-done c = λ w s.
     let whole : length c.turn.new.mixers ≡ c.args.mixers.now.len = search (arith, c.turn.auto.mixers, c.deref_mut-in-Turn.ensures.len, c.deref_mut-in-Turn.ensures.value) in
-    subst (λ (e : Event). RunsOr (running_of c.turn.new.core c.args.doors.now.items (with_items c.args.mixers.now c.turn.new.mixers).items) w e c.turn.result) (sym c.in-Turn.is)
-    (runs-sink (running_of c.args.core.now c.args.doors.now.items c.args.mixers.now.items)
-    (running_of c.turn.new.core c.args.doors.now.items (with_items c.args.mixers.now c.turn.new.mixers).items)
+    subst (λ (e : Event). RunsOr (running_of c.turn.new.core.state c.args.doors.now.items (with_items c.args.mixers.now c.turn.new.mixers).items) w e c.turn.result) (sym c.in-Turn.is)
+    (runs-sink (running_of c.args.core.now.state c.args.doors.now.items c.args.mixers.now.items)
+    (running_of c.turn.new.core.state c.args.doors.now.items (with_items c.args.mixers.now c.turn.new.mixers).items)
     w (Turn c.in-Turn.sink c.in-Turn.frames c.in-Turn.take) s c.turn.result
-    (subst (λ (ps : List Playing). PlaysOr c.args.core.now c.turn.new.core (map mixer_of ps) w (Turn c.in-Turn.sink c.in-Turn.frames c.in-Turn.take) c.turn.result)
+    (subst (λ (ps : List Playing). PlaysOr c.args.core.now.state c.turn.new.core.state (map mixer_of ps) w (Turn c.in-Turn.sink c.in-Turn.frames c.in-Turn.take) c.turn.result)
     (sym (with_items_is c.args.mixers.now c.turn.new.mixers whole))
     (c.turn.ensures.done w (sym s.core) (sym s.mixers ∙ ap (λ (ps : List Playing). map mixer_of ps) (sym c.deref_mut-in-Turn.ensures.value))))
     refl refl)
@@ -51,30 +51,30 @@ returns-in-Turn-clause-done c = λ w s.
 pub returns-in-Collect-clause-done : goal.returns-in-Collect-clause-done
 returns-in-Collect-clause-done c = λ w s.
     let whole : length c.collect.new.mixers ≡ c.args.mixers.now.len = search (arith, c.collect.auto.mixers, c.deref_mut-in-Collect.ensures.len, c.deref_mut-in-Collect.ensures.value) in
-    subst (λ (e : Event). RunsOr (running_of c.collect.new.core c.args.doors.now.items (with_items c.args.mixers.now c.collect.new.mixers).items) w e c.collect.result) (sym c.in-Collect.is)
-    (runs-sink (running_of c.args.core.now c.args.doors.now.items c.args.mixers.now.items)
-    (running_of c.collect.new.core c.args.doors.now.items (with_items c.args.mixers.now c.collect.new.mixers).items)
+    subst (λ (e : Event). RunsOr (running_of c.collect.new.core.state c.args.doors.now.items (with_items c.args.mixers.now c.collect.new.mixers).items) w e c.collect.result) (sym c.in-Collect.is)
+    (runs-sink (running_of c.args.core.now.state c.args.doors.now.items c.args.mixers.now.items)
+    (running_of c.collect.new.core.state c.args.doors.now.items (with_items c.args.mixers.now c.collect.new.mixers).items)
     w (Collect c.in-Collect.sink c.in-Collect.take) s c.collect.result
-    (subst (λ (ps : List Playing). PlaysOr c.args.core.now c.collect.new.core (map mixer_of ps) w (Collect c.in-Collect.sink c.in-Collect.take) c.collect.result)
+    (subst (λ (ps : List Playing). PlaysOr c.args.core.now.state c.collect.new.core.state (map mixer_of ps) w (Collect c.in-Collect.sink c.in-Collect.take) c.collect.result)
     (sym (with_items_is c.args.mixers.now c.collect.new.mixers whole))
     (c.collect.ensures.done w (sym s.core) (sym s.mixers ∙ ap (λ (ps : List Playing). map mixer_of ps) (sym c.deref_mut-in-Collect.ensures.value))))
     refl refl)
 
 pub returns-in-Connect-clause-kept : goal.returns-in-Connect-clause-kept
 returns-in-Connect-clause-kept c =
-    kept-silent c.args.core.now c.connect.new.core _ _ (map mixer_of c.args.mixers.now.items) c.connect.result c.silent.result c.silent.ensures c.connect.ensures.stays c.connect.ensures.kept c.requires.kept
+    kept-silent c.args.core.now.state c.connect.new.core.state _ _ (map mixer_of c.args.mixers.now.items) c.connect.result c.silent.result c.silent.ensures c.connect.ensures.stays c.connect.ensures.kept c.requires.kept
 
 pub returns-in-Bytes-clause-kept : goal.returns-in-Bytes-clause-kept
 returns-in-Bytes-clause-kept c =
-    kept-silent c.args.core.now c.bytes.new.core _ _ (map mixer_of c.args.mixers.now.items) c.bytes.result c.silent-in-Bytes.result c.silent-in-Bytes.ensures c.bytes.ensures.stays c.bytes.ensures.kept c.requires.kept
+    kept-silent c.args.core.now.state c.bytes.new.core.state _ _ (map mixer_of c.args.mixers.now.items) c.bytes.result c.silent-in-Bytes.result c.silent-in-Bytes.ensures c.bytes.ensures.stays c.bytes.ensures.kept c.requires.kept
 
 pub returns-in-Close-clause-kept : goal.returns-in-Close-clause-kept
 returns-in-Close-clause-kept c =
-    kept-silent c.args.core.now c.close.new.core _ _ (map mixer_of c.args.mixers.now.items) c.close.result c.silent-in-Close.result c.silent-in-Close.ensures c.close.ensures.stays c.close.ensures.kept c.requires.kept
+    kept-silent c.args.core.now.state c.close.new.core.state _ _ (map mixer_of c.args.mixers.now.items) c.close.result c.silent-in-Close.result c.silent-in-Close.ensures c.close.ensures.stays c.close.ensures.kept c.requires.kept
 
 pub returns-in-Cut-clause-kept : goal.returns-in-Cut-clause-kept
 returns-in-Cut-clause-kept c =
-    kept-silent c.args.core.now c.cut.new.core _ _ (map mixer_of c.args.mixers.now.items) c.cut.result c.silent-in-Cut.result c.silent-in-Cut.ensures c.cut.ensures.stays c.cut.ensures.kept c.requires.kept
+    kept-silent c.args.core.now.state c.cut.new.core.state _ _ (map mixer_of c.args.mixers.now.items) c.cut.result c.silent-in-Cut.result c.silent-in-Cut.ensures c.cut.ensures.stays c.cut.ensures.kept c.requires.kept
 
 pub returns-in-Connect-clause-playing : goal.returns-in-Connect-clause-playing
 returns-in-Connect-clause-playing c = keeps-it c.silent.result _ c.requires.playing

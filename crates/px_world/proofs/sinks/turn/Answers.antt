@@ -10,7 +10,7 @@ use Rattle.px_world.proofs.sinks.turn.Goals as goal
 pub turn_of-requires-clause-kept : goal.turn_of-requires-clause-kept
 turn_of-requires-clause-kept c =
     let within : c.args.sink < length c.args.mixers.now = omega (arith, c.if-mixers-place.false) in
-    sink-kept mixer_of c.args.mixers.now c.args.sink c.index-mixers-place-in-None.result within c.args.core.now c.requires.kept
+    sink-kept mixer_of c.args.mixers.now c.args.sink c.index-mixers-place-in-None.result within c.args.core.now.state c.requires.kept
 
 pub turn_of-requires-clause-playing : goal.turn_of-requires-clause-playing
 turn_of-requires-clause-playing c =
@@ -20,31 +20,31 @@ turn_of-requires-clause-playing c =
 pub turn_of-requires-clause-there : goal.turn_of-requires-clause-there
 turn_of-requires-clause-there c =
     let within : c.args.sink < length c.args.mixers.now = omega (arith, c.if-mixers-place.false) in
-    goes-there (mixer_of (get_or c.args.mixers.now c.args.sink c.index-mixers-place-in-None.result)) c.args.frames c.args.count (length (waiting_for c.args.core.now (record { 0 = c.args.sink })))
-    (goes-on mixer_of c.args.mixers.now c.args.sink c.index-mixers-place.result c.index-mixers-place-in-None.result within c.args.core.now c.args.frames c.args.count _ c.outgoing-waiting.ensures c.in-None.ensures)
+    goes-there (mixer_of (get_or c.args.mixers.now c.args.sink c.index-mixers-place-in-None.result)) c.args.frames c.args.count (length (waiting_for c.args.core.now.state (record { 0 = c.args.sink })))
+    (goes-on mixer_of c.args.mixers.now c.args.sink c.index-mixers-place.result c.index-mixers-place-in-None.result within c.args.core.now.state c.args.frames c.args.count _ c.outgoing-waiting.ensures c.in-None.ensures)
 
 pub turn_of-requires-clause-countable : goal.turn_of-requires-clause-countable
 turn_of-requires-clause-countable c =
     let within : c.args.sink < length c.args.mixers.now = omega (arith, c.if-mixers-place.false) in
-    goes-fresh (mixer_of (get_or c.args.mixers.now c.args.sink c.index-mixers-place-in-None.result)) c.args.frames c.args.count (length (waiting_for c.args.core.now (record { 0 = c.args.sink })))
-    (goes-on mixer_of c.args.mixers.now c.args.sink c.index-mixers-place.result c.index-mixers-place-in-None.result within c.args.core.now c.args.frames c.args.count _ c.outgoing-waiting.ensures c.in-None.ensures)
+    goes-fresh (mixer_of (get_or c.args.mixers.now c.args.sink c.index-mixers-place-in-None.result)) c.args.frames c.args.count (length (waiting_for c.args.core.now.state (record { 0 = c.args.sink })))
+    (goes-on mixer_of c.args.mixers.now c.args.sink c.index-mixers-place.result c.index-mixers-place-in-None.result within c.args.core.now.state c.args.frames c.args.count _ c.outgoing-waiting.ensures c.in-None.ensures)
 
 pub turn_of-requires-clause-few : goal.turn_of-requires-clause-few
 turn_of-requires-clause-few c =
     let within : c.args.sink < length c.args.mixers.now = omega (arith, c.if-mixers-place.false) in
-    goes-few (mixer_of (get_or c.args.mixers.now c.args.sink c.index-mixers-place-in-None.result)) c.args.frames c.args.count (length (waiting_for c.args.core.now (record { 0 = c.args.sink })))
-    (goes-on mixer_of c.args.mixers.now c.args.sink c.index-mixers-place.result c.index-mixers-place-in-None.result within c.args.core.now c.args.frames c.args.count _ c.outgoing-waiting.ensures c.in-None.ensures)
+    goes-few (mixer_of (get_or c.args.mixers.now c.args.sink c.index-mixers-place-in-None.result)) c.args.frames c.args.count (length (waiting_for c.args.core.now.state (record { 0 = c.args.sink })))
+    (goes-on mixer_of c.args.mixers.now c.args.sink c.index-mixers-place.result c.index-mixers-place-in-None.result within c.args.core.now.state c.args.frames c.args.count _ c.outgoing-waiting.ensures c.in-None.ensures)
 
 pub turn_of-requires-clause-messages : goal.turn_of-requires-clause-messages
 turn_of-requires-clause-messages c =
     let within : c.args.sink < length c.args.mixers.now = omega (arith, c.if-mixers-place.false) in
-    turn-for mixer_of c.args.mixers.now c.args.sink c.index-mixers-place-in-None.result within c.args.core.now c.requires.kept c.args.count
+    turn-for mixer_of c.args.mixers.now c.args.sink c.index-mixers-place-in-None.result within c.args.core.now.state c.requires.kept c.args.count
 
 pub returns-in-Some-clause-done : goal.returns-in-Some-clause-done
 returns-in-Some-clause-done c = λ w same_core same_mixers.
     let within : c.args.sink < length c.args.mixers.now = omega (arith, c.if-mixers-place.false) in
     unless-it c.in-Some.fault _
-    (turn-refusal w c.args.core.now _ same_core same_mixers c.args.sink (mixer_of (get_or c.args.mixers.now c.args.sink c.index-mixers-place.result))
+    (turn-refusal w c.args.core.now.state _ same_core same_mixers c.args.sink (mixer_of (get_or c.args.mixers.now c.args.sink c.index-mixers-place.result))
     (seen-at mixer_of c.args.mixers.now c.args.sink c.index-mixers-place.result within) c.args.frames c.args.count
     ∙ ap (turn_refusal (Some (mixer_of (get_or c.args.mixers.now c.args.sink c.index-mixers-place.result))) c.args.frames c.args.count) (sym c.outgoing-waiting.ensures)
     ∙ sym c.in-Some.ensures)
@@ -55,20 +55,20 @@ returns-in-Some-clause-still c = unless-it c.in-Some.fault _ (refl, refl)
 pub returns-in-Ok-clause-done : goal.returns-in-Ok-clause-done
 returns-in-Ok-clause-done c = λ w same_core same_mixers.
     let within : c.args.sink < length c.args.mixers.now = omega (arith, c.if-mixers-place.false) in
-    plays w c.args.core.now _ same_core same_mixers c.args.sink (mixer_of (get_or c.args.mixers.now c.args.sink c.index-mixers-place-in-None.result))
-    (seen-at mixer_of c.args.mixers.now c.args.sink c.index-mixers-place-in-None.result within) c.turn_of.new.core _ c.args.frames c.args.count c.in-Ok.outcome
-    (goes-on mixer_of c.args.mixers.now c.args.sink c.index-mixers-place.result c.index-mixers-place-in-None.result within c.args.core.now c.args.frames c.args.count _ c.outgoing-waiting.ensures c.in-None.ensures)
+    plays w c.args.core.now.state _ same_core same_mixers c.args.sink (mixer_of (get_or c.args.mixers.now c.args.sink c.index-mixers-place-in-None.result))
+    (seen-at mixer_of c.args.mixers.now c.args.sink c.index-mixers-place-in-None.result within) c.turn_of.new.core.state _ c.args.frames c.args.count c.in-Ok.outcome
+    (goes-on mixer_of c.args.mixers.now c.args.sink c.index-mixers-place.result c.index-mixers-place-in-None.result within c.args.core.now.state c.args.frames c.args.count _ c.outgoing-waiting.ensures c.in-None.ensures)
     c.in-Ok.ensures.core
     (changed-at mixer_of c.args.mixers.now c.args.sink c.index-mixers-place-in-None.result within c.turn_of.new.playing
-    (λ x. mixer_turned x c.args.frames (map (message_of (λ p. p)) (take c.args.count (waiting_for c.args.core.now (record { 0 = c.args.sink }))))) c.in-Ok.ensures.mixer)
+    (λ x. mixer_turned x c.args.frames (map (message_of (λ p. p)) (take c.args.count (waiting_for c.args.core.now.state (record { 0 = c.args.sink }))))) c.in-Ok.ensures.mixer)
     c.in-Ok.ensures.effects c.in-Ok.ensures.frames c.in-Ok.ensures.played
 
 pub returns-in-Ok-clause-kept : goal.returns-in-Ok-clause-kept
 returns-in-Ok-clause-kept c =
     let within : c.args.sink < length c.args.mixers.now = omega (arith, c.if-mixers-place.false) in
-    turned-kept mixer_of c.args.mixers.now c.args.sink c.index-mixers-place-in-None.result within c.args.core.now c.requires.kept c.turn_of.new.core c.args.frames c.args.count c.turn_of.new.playing
-    (goes-there (mixer_of (get_or c.args.mixers.now c.args.sink c.index-mixers-place-in-None.result)) c.args.frames c.args.count (length (waiting_for c.args.core.now (record { 0 = c.args.sink })))
-    (goes-on mixer_of c.args.mixers.now c.args.sink c.index-mixers-place.result c.index-mixers-place-in-None.result within c.args.core.now c.args.frames c.args.count _ c.outgoing-waiting.ensures c.in-None.ensures))
+    turned-kept mixer_of c.args.mixers.now c.args.sink c.index-mixers-place-in-None.result within c.args.core.now.state c.requires.kept c.turn_of.new.core.state c.args.frames c.args.count c.turn_of.new.playing
+    (goes-there (mixer_of (get_or c.args.mixers.now c.args.sink c.index-mixers-place-in-None.result)) c.args.frames c.args.count (length (waiting_for c.args.core.now.state (record { 0 = c.args.sink })))
+    (goes-on mixer_of c.args.mixers.now c.args.sink c.index-mixers-place.result c.index-mixers-place-in-None.result within c.args.core.now.state c.args.frames c.args.count _ c.outgoing-waiting.ensures c.in-None.ensures))
     c.in-Ok.ensures.mixer c.in-Ok.ensures.core
 
 pub returns-in-Ok-clause-playing : goal.returns-in-Ok-clause-playing

@@ -13,20 +13,20 @@ use Rattle.px_world.proofs.sinks.turn_of.Goals as goal
 pub turn-requires-clause-messages : goal.turn-requires-clause-messages
 turn-requires-clause-messages c =
     subst (AreFor c.args.playing.now.lane.sink)
-    (sym (c.in_ok-take_messages.ensures.messages ∙ ap (λ l. l ++ map (message_of (λ p. p)) (take c.args.count (waiting_for c.args.core.now c.args.sink))) c.new-messages.ensures))
+    (sym (c.in_ok-take_messages.ensures.messages ∙ ap (λ l. l ++ map (message_of (λ p. p)) (take c.args.count (waiting_for c.args.core.now.state c.args.sink))) c.new-messages.ensures))
     c.requires.messages
 
 pub returns-clause-core : goal.returns-clause-core
 returns-clause-core c =
-    steps-behind Stream.spec c.args.core.now _ _ (replicate c.args.count (out c.args.sink)) (sweep ∷ []) c.in_ok-take_messages.ensures.core c.in_ok-effects.ensures.core
+    steps-behind Stream.spec c.args.core.now.state _ _ (replicate c.args.count (out c.args.sink)) (sweep ∷ []) c.in_ok-take_messages.ensures.core c.in_ok-effects.ensures.core
 
 pub returns-clause-effects : goal.returns-clause-effects
 returns-clause-effects c =
-    effects-behind Stream.spec c.args.core.now _ (replicate c.args.count (out c.args.sink)) (sweep ∷ []) _ _ c.in_ok-take_messages.ensures.core
-    (c.new-none.ensures ∙ sym (out-silent Stream.spec c.args.sink c.args.core.now c.args.count)) c.in_ok-effects.ensures.effects
+    effects-behind Stream.spec c.args.core.now.state _ (replicate c.args.count (out c.args.sink)) (sweep ∷ []) _ _ c.in_ok-take_messages.ensures.core
+    (c.new-none.ensures ∙ sym (out-silent Stream.spec c.args.sink c.args.core.now.state c.args.count)) c.in_ok-effects.ensures.effects
 
 pub returns-clause-mixer : goal.returns-clause-mixer
 returns-clause-mixer c =
     c.in_ok-sound.ensures.mixer
     ∙ ap (mixer_turned (mixer_of c.args.playing.now) c.args.frames)
-    (c.in_ok-take_messages.ensures.messages ∙ ap (λ l. l ++ map (message_of (λ p. p)) (take c.args.count (waiting_for c.args.core.now c.args.sink))) c.new-messages.ensures)
+    (c.in_ok-take_messages.ensures.messages ∙ ap (λ l. l ++ map (message_of (λ p. p)) (take c.args.count (waiting_for c.args.core.now.state c.args.sink))) c.new-messages.ensures)

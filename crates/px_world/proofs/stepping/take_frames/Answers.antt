@@ -16,12 +16,12 @@ loop-frame-preserved c =
     let rest = c.pop_front.new.self.items in
     let front : all ≡ c.in-Some.frame ∷ rest = c.in-Some.ensures.items in
     record {
-      core = map-first Stream.spec (λ (f : Frame). frame c.args.conn f) c.loop-frame.core c.take_frame.new.core
-          (stepped_by Stream.spec c.args.core.now (map (λ (f : Frame). frame c.args.conn f) c.args.frames.items)) c.in-Some.frame rest all front
+      core = map-first Stream.spec (λ (f : Frame). frame c.args.conn f) c.loop-frame.core.state c.take_frame.new.core.state
+          (stepped_by Stream.spec c.args.core.now.state (map (λ (f : Frame). frame c.args.conn f) c.args.frames.items)) c.in-Some.frame rest all front
           c.in_ok-take_frame.ensures.core c.loop-frame.invariant.core;
-      effects = map-effects-first Stream.spec (λ (f : Frame). frame c.args.conn f) c.loop-frame.core c.take_frame.new.core c.in-Some.frame rest all
+      effects = map-effects-first Stream.spec (λ (f : Frame). frame c.args.conn f) c.loop-frame.core.state c.take_frame.new.core.state c.in-Some.frame rest all
           c.loop-frame.effects c.take_frame.new.effects
-          (c.args.effects.now ++ effects_by Stream.spec c.args.core.now (map (λ (f : Frame). frame c.args.conn f) c.args.frames.items)) front
+          (c.args.effects.now ++ effects_by Stream.spec c.args.core.now.state (map (λ (f : Frame). frame c.args.conn f) c.args.frames.items)) front
           c.in_ok-take_frame.ensures.core c.in_ok-take_frame.ensures.effects c.loop-frame.invariant.effects;
       bodies = all-rest (λ (f : Frame). IsBody f.body) c.in-Some.frame rest all front c.loop-frame.invariant.bodies;
     }

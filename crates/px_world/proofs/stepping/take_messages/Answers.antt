@@ -10,12 +10,12 @@ pub loop-left-preserved : goal.loop-left-preserved
 loop-left-preserved c =
     let more : 0 < c.loop-left.left = omega (arith, c.loop-left-test.true) in
     record {
-      core = outs-next Stream.spec c.args.sink c.loop-left.core c.sent.new.self (stepped_by Stream.spec c.args.core.now (replicate c.args.count (out c.args.sink)))
-          c.loop-left.left more c.sent.ensures.after c.loop-left.invariant.core;
-      messages = messages-next (message_of (λ s. s)) c.args.sink c.loop-left.core c.sent.new.self c.in-Some.message c.loop-left.left
-          c.loop-left.messages c.push.new.self (c.args.messages.now ++ map (message_of (λ s. s)) (take c.args.count (waiting_for c.args.core.now c.args.sink)))
-          more c.sent.ensures.after (sym c.in-Some.ensures.next)
+      core = outs-next Stream.spec c.args.sink c.loop-left.core.state c.sent.new.self.state (stepped_by Stream.spec c.args.core.now.state (replicate c.args.count (out c.args.sink)))
+          c.loop-left.left more (λ i. (c.sent.ensures.after i).state) c.loop-left.invariant.core;
+      messages = messages-next (message_of (λ s. s)) c.args.sink c.loop-left.core.state c.sent.new.self.state c.in-Some.message c.loop-left.left
+          c.loop-left.messages c.push.new.self (c.args.messages.now ++ map (message_of (λ s. s)) (take c.args.count (waiting_for c.args.core.now.state c.args.sink)))
+          more (λ i. (c.sent.ensures.after i).state) (sym c.in-Some.ensures.next)
           (c.in_ok-push.ensures.ok ∙ ap (λ m. c.loop-left.messages ++ m ∷ []) c.taken_over.ensures)
           c.loop-left.invariant.messages;
-      few = few-next c.args.sink c.loop-left.core c.sent.new.self c.in-Some.message c.loop-left.left more c.sent.ensures.after (sym c.in-Some.ensures.next) c.loop-left.invariant.few;
+      few = few-next c.args.sink c.loop-left.core.state c.sent.new.self.state c.in-Some.message c.loop-left.left more (λ i. (c.sent.ensures.after i).state) (sym c.in-Some.ensures.next) c.loop-left.invariant.few;
     }

@@ -8,10 +8,10 @@ use Rattle.px_world.proofs.stepping.take_messages.Given as goal
 -- the messages so far and those that are left are all of them
 abbrev pub invariant-loop-left : goal.invariant-loop-left
 invariant-loop-left l = record {
-  core : stepped_by Stream.spec l.core (replicate l.left (out l.sink)) ≡ stepped_by Stream.spec l.fn.core (replicate l.fn.count (out l.sink));
-  messages : l.messages ++ map (message_of (λ s. s)) (take l.left (waiting_for l.core l.sink))
-      ≡ l.fn.messages ++ map (message_of (λ s. s)) (take l.fn.count (waiting_for l.fn.core l.sink));
-  few : l.left ≤ length (waiting_for l.core l.sink);
+  core : stepped_by Stream.spec l.core.state (replicate l.left (out l.sink)) ≡ stepped_by Stream.spec l.fn.core.state (replicate l.fn.count (out l.sink));
+  messages : l.messages ++ map (message_of (λ s. s)) (take l.left (waiting_for l.core.state l.sink))
+      ≡ l.fn.messages ++ map (message_of (λ s. s)) (take l.fn.count (waiting_for l.fn.core.state l.sink));
+  few : l.left ≤ length (waiting_for l.core.state l.sink);
 }
 
 abbrev pub decreases-loop-left : goal.decreases-loop-left

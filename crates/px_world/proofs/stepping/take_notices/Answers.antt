@@ -15,12 +15,12 @@ loop-left-preserved c =
     let first = plain_notice c.in-Some.notice in
     let front : all ≡ first ∷ rest = c.in-Some.ensures.value in
     record {
-      core = takes-next Stream.spec (λ (n : Notice Stream). notice c.args.sink (notice_for n)) c.loop-left.core c.take_notice.new.core
-          (stepped_by Stream.spec c.args.core.now (map (λ (n : Notice Stream). notice c.args.sink (notice_for n)) (take c.args.count c.args.notices.now.notices)))
+      core = takes-next Stream.spec (λ (n : Notice Stream). notice c.args.sink (notice_for n)) c.loop-left.core.state c.take_notice.new.core.state
+          (stepped_by Stream.spec c.args.core.now.state (map (λ (n : Notice Stream). notice c.args.sink (notice_for n)) (take c.args.count c.args.notices.now.notices)))
           first rest all c.loop-left.left more front c.in_ok-take_notice.ensures.core c.loop-left.invariant.core;
-      effects = takes-effects-next Stream.spec (λ (n : Notice Stream). notice c.args.sink (notice_for n)) c.loop-left.core c.take_notice.new.core first rest all c.loop-left.left
+      effects = takes-effects-next Stream.spec (λ (n : Notice Stream). notice c.args.sink (notice_for n)) c.loop-left.core.state c.take_notice.new.core.state first rest all c.loop-left.left
           c.loop-left.effects c.take_notice.new.effects
-          (c.args.effects.now ++ effects_by Stream.spec c.args.core.now (map (λ (n : Notice Stream). notice c.args.sink (notice_for n)) (take c.args.count c.args.notices.now.notices)))
+          (c.args.effects.now ++ effects_by Stream.spec c.args.core.now.state (map (λ (n : Notice Stream). notice c.args.sink (notice_for n)) (take c.args.count c.args.notices.now.notices)))
           more front c.in_ok-take_notice.ensures.core c.in_ok-take_notice.ensures.effects c.loop-left.invariant.effects;
       notices = sym (drop-next c.loop-left.left first rest all more front) ∙ c.loop-left.invariant.notices;
       few = fewer c.loop-left.left first rest all more c.loop-left.invariant.few front;

@@ -8,10 +8,10 @@ use Rattle.px_world.proofs.stepping.take_notices.Given as goal
 -- the notices so far and those that are left are all of them
 abbrev pub invariant-loop-left : goal.invariant-loop-left
 invariant-loop-left l = record {
-  core : stepped_by Stream.spec l.core (map (λ (n : Notice Stream). notice l.sink (notice_for n)) (take l.left l.notices.notices))
-      ≡ stepped_by Stream.spec l.fn.core (map (λ (n : Notice Stream). notice l.sink (notice_for n)) (take l.fn.count l.fn.notices.notices));
-  effects : l.effects ++ effects_by Stream.spec l.core (map (λ (n : Notice Stream). notice l.sink (notice_for n)) (take l.left l.notices.notices))
-      ≡ l.fn.effects ++ effects_by Stream.spec l.fn.core (map (λ (n : Notice Stream). notice l.sink (notice_for n)) (take l.fn.count l.fn.notices.notices));
+  core : stepped_by Stream.spec l.core.state (map (λ (n : Notice Stream). notice l.sink (notice_for n)) (take l.left l.notices.notices))
+      ≡ stepped_by Stream.spec l.fn.core.state (map (λ (n : Notice Stream). notice l.sink (notice_for n)) (take l.fn.count l.fn.notices.notices));
+  effects : l.effects ++ effects_by Stream.spec l.core.state (map (λ (n : Notice Stream). notice l.sink (notice_for n)) (take l.left l.notices.notices))
+      ≡ l.fn.effects ++ effects_by Stream.spec l.fn.core.state (map (λ (n : Notice Stream). notice l.sink (notice_for n)) (take l.fn.count l.fn.notices.notices));
   notices : drop l.left l.notices.notices ≡ drop l.fn.count l.fn.notices.notices;
   few : l.left ≤ length l.notices.notices;
 }
