@@ -15,7 +15,7 @@ returns-in_err-write_effects-clause-err g c =
     let played = played_part c.args.sink c.args.outcome.now.frames c.args.outcome.now.played in
     let old = g.K.Sink.held c.args.output.now in
     let now = g.K.Sink.held c.write_effects.new.output in
-    let cut = subst (λ (es : List Effect). AddsFront (flat_map effect_record es) old now) c.as_slice.ensures c.in_err-write_effects.ensures.err in
+    let cut = subst (λ (es : List Effect). AddsFront (flat_map effect_record es) old now) c.as_slice.ensures.items c.in_err-write_effects.ensures.err in
     let p = err_from_is_err_and c.from_residual.result c.from_residual.ensures.1 in
     rw (p.1) (first_cut effects played old now cut)
 
@@ -25,7 +25,7 @@ returns-clause-err g c =
     let old = g.K.Sink.held c.args.output.now in
     let mid = g.K.Sink.held c.write_effects.new.output in
     let now = g.K.Sink.held c.write_played.new.output in
-    let first : mid ≡ after_adding old effects = c.in_ok-write_effects.ensures.ok ∙ ap (λ (es : List Effect). after_adding old (flat_map effect_record es)) c.as_slice.ensures in
+    let first : mid ≡ after_adding old effects = c.in_ok-write_effects.ensures.ok ∙ ap (λ (es : List Effect). after_adding old (flat_map effect_record es)) c.as_slice.ensures.items in
     on_err_weaker c.write_played.result
     (λ cut. second_cut effects (played_part c.args.sink c.args.outcome.now.frames c.args.outcome.now.played) old mid now first
     (subst (λ (bytes : List ℕ). AddsFront (played_part c.args.sink c.args.outcome.now.frames bytes) mid now) c.as_slice-2.ensures cut)) c.write_played.ensures.err
