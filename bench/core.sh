@@ -8,11 +8,10 @@ work=$(mktemp -d)
 trap 'rm -rf "$work"' EXIT
 . "$top/bench/times.sh"
 
-build core
-program="$top/crates/bench_core/out/bench_core"
+build
 for inputs in 1 1000; do
-    made=$(least "$program" "$inputs" 1)
-    all=$(least "$program" "$inputs" "$frames")
+    made=$(least "$bench" core "$inputs" 1)
+    all=$(least "$bench" core "$inputs" "$frames")
     awk -v i="$inputs" -v n="$frames" -v a="$made" -v b="$all" 'BEGIN {
         printf "%4d inputs  %.0f data frames a second\n", i, n / (b - a) * 1000000000
     }'

@@ -1,4 +1,4 @@
-//! What `bench_frame` does, in plain Rust: frames of 64 KiB decoded from pieces, as many rounds as the first
+//! What `bench frame` does, in plain Rust: frames of 64 KiB decoded from pieces, as many rounds as the first
 //! word says and in pieces of as many bytes as the second says.
 
 const FRAMES: usize = 16;

@@ -1,4 +1,4 @@
-//! What `bench_sound` does, in plain Rust: S16LE samples to 32-bit work values and back, as many times
+//! What `bench sound` does, in plain Rust: S16LE samples to 32-bit work values and back, as many times
 //! as the first word says, and a sum over the bytes.
 
 const SAMPLES: usize = 4096;

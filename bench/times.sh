@@ -12,19 +12,22 @@ least() {
     echo "$best"
 }
 
-# Builds the proved program of a crate bench_NAME.
+# The proved program, whose first word says what it does.
+bench="$top/crates/bench/out/bench"
+
+# Proves and builds it.
 build() {
-    (cd "$top/crates/bench_$1" && rt run <"${input:-/dev/null}" >/dev/null 2>&1)
+    (cd "$top/crates/bench" && rt run <stdin >/dev/null 2>&1)
 }
 
-# compare NAME LABEL COUNT UNIT WORD..: builds the crate bench_NAME and the plain bench/NAME.rs, runs both with the words, and prints
+# compare NAME LABEL COUNT UNIT WORD..: builds the proved program and the plain bench/NAME.rs, runs both with the words, and prints
 # how many of the unit each does in a second, where a run does COUNT, and their ratio (above 1: the proved code is faster).
 compare() {
     name=$1 label=$2 count=$3 unit=$4
     shift 4
-    build "$name"
+    build
     rustc --edition 2021 -O -C target-cpu=x86-64-v2 -o "$work/plain" "$top/bench/$name.rs"
-    proved=$(least "$top/crates/bench_$name/out/bench_$name" "$@")
+    proved=$(least "$bench" "$name" "$@")
     mv "$work/says" "$work/proved_says"
     plain=$(least "$work/plain" "$@")
     if ! cmp -s "$work/proved_says" "$work/says"; then

@@ -7,7 +7,7 @@ rounds=${1:-400000}
 top=$(cd "$(dirname "$0")/.." && pwd)
 work=$(mktemp -d)
 trap 'rm -rf "$work"' EXIT
-input="$top/crates/bench_wire/stdin"
+input="$top/crates/bench/stdin"
 . "$top/bench/times.sh"
 
 compare wire "px_cmd, px_reply" "$rounds" rounds "$rounds"

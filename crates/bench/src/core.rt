@@ -1,7 +1,4 @@
-//! Sends data frames, as many as its second word says, through a core that has as many inputs as its first word says, each
-//! frame to the next stream, and prints the messages that waited for the sinks. `bench/core.sh` times it.
-#![tactic(auto)]
-
+// Data frames through a core.
 ghost use Rattle.std.specs.Prelude.{◌≡◌, ◌≢◌, ◌<◌, ◌≤◌, length, IfOk};
 ghost use Rattle.px_msg.specs.View.{sample_spec};
 
@@ -14,27 +11,26 @@ use px_sample::Spec;
 use px_session::{Reader, Step};
 use px_types::{ConnId, Mem, NoMemory, SinkId, Text};
 use std::alloc::Global;
-use std::{env, io};
 
-/// The sinks of the core, and the inputs on each at most.
+// The sinks of the core, and the inputs on each at most.
 const SINKS: u8 = 4;
 
 const ON_SINK: u32 = 250;
 
-/// The one client.
+// The one client.
 const CLIENT: ConnId = ConnId(1);
 
-/// AUTH of version 13, up to the cookie.
+// AUTH of version 13, up to the cookie.
 const AUTH: &[u8] = b"L\x00\x00\x00\x08L\x00\x00\x00\x01L\x00\x00\x00\x0Dx\x00\x00\x01\x00";
 
-/// CREATE_PLAYBACK_STREAM of S16LE, mono, up to the index of its sink, and what stands behind that.
+// CREATE_PLAYBACK_STREAM of S16LE, mono, up to the index of its sink, and what stands behind that.
 const CREATE: &[u8] =
     b"L\x00\x00\x00\x03L\x00\x00\x00\x02a\x03\x01\x00\x00\xBB\x80m\x01\x00L\x00\x00\x00";
 
 const ON_IT: &[u8] =
     b"NL\xFF\xFF\xFF\xFF0L\xFF\xFF\xFF\xFFL\x00\x00\x00\x00L\xFF\xFF\xFF\xFFL\x00\x00\x00\x00v\x01\x00\x01\x00\x00000000000PN";
 
-/// A parcel that is a sample spec and nothing else.
+// A parcel that is a sample spec and nothing else.
 #[derive(Drop)]
 struct Stub {
     spec: Spec,
@@ -48,7 +44,7 @@ impl Parcel for Stub {
     }
 }
 
-/// A header of four sinks: S16LE, mono, 48,000 frames a second.
+// A header of four sinks: S16LE, mono, 48,000 frames a second.
 fn header(alloc: Global) -> Mem<Text> {
     let mut bytes = Vec::new(alloc);
     bytes.extend_from_slice(b"PRS1")?;
@@ -61,8 +57,8 @@ fn header(alloc: Global) -> Mem<Text> {
     Ok(Text::from_vec(bytes))
 }
 
-/// A core before its first step.
-fn core(alloc: Global) -> Mem<Core<Stub>> {
+// A core before its first step.
+fn new_core(alloc: Global) -> Mem<Core<Stub>> {
     let mut source = MemSource::new(header(alloc)?, Calls::none(alloc));
     let mut reader = Reader::new(alloc)?;
     match reader.next(&mut source) {
@@ -71,7 +67,7 @@ fn core(alloc: Global) -> Mem<Core<Stub>> {
     }
 }
 
-/// The client asks by a control packet.
+// The client asks by a control packet.
 fn ask(core: &mut Core<Stub>, packet: Vec<u8>) -> Mem<()> {
     if packet.is_empty() || packet.len() > 400 {
         return Err(NoMemory);
@@ -83,7 +79,7 @@ fn ask(core: &mut Core<Stub>, packet: Vec<u8>) -> Mem<()> {
     }
 }
 
-/// The client is let in.
+// The client is let in.
 fn enter(alloc: Global, core: &mut Core<Stub>) -> Mem<()> {
     core.admit(CLIENT)?;
     let mut packet = Vec::from_slice(alloc, AUTH)?;
@@ -91,7 +87,7 @@ fn enter(alloc: Global, core: &mut Core<Stub>) -> Mem<()> {
     ask(core, packet)
 }
 
-/// A stream on a sink.
+// A stream on a sink.
 fn create(alloc: Global, core: &mut Core<Stub>, sink: u8) -> Mem<()> {
     let mut packet = Vec::from_slice(alloc, CREATE)?;
     packet.push(sink)?;
@@ -99,21 +95,18 @@ fn create(alloc: Global, core: &mut Core<Stub>, sink: u8) -> Mem<()> {
     ask(core, packet)
 }
 
-/// A core with the client and its streams.
+// A core with the client and its streams.
 fn with_streams(alloc: Global, streams: u32) -> Mem<Core<Stub>> {
-    let mut core = core(alloc)?;
+    let mut core = new_core(alloc)?;
     enter(alloc, &mut core)?;
     for stream in 0..streams {
-        create(
-            alloc,
-            &mut core,
-            (stream / ON_SINK % u32::from(SINKS)) as u8,
-        )?;
+        let sink = (stream / ON_SINK % u32::from(SINKS)) as u8;
+        create(alloc, &mut core, sink)?;
     }
     Ok(core)
 }
 
-/// Four bytes.
+// Four bytes.
 fn blocks(alloc: Global) -> Mem<Blocks>
     ensures some { IfOk result (λ made. 0 < length made) }
     ensures few { IfOk result (λ made. length made ≤ 65536) }
@@ -125,7 +118,7 @@ fn blocks(alloc: Global) -> Mem<Blocks>
     }
 }
 
-/// A data frame for a stream.
+// A data frame for a stream.
 fn write(alloc: Global, core: &mut Core<Stub>, stream: u32) -> Mem<()> {
     if stream == u32::MAX {
         return Ok(());
@@ -142,7 +135,7 @@ fn write(alloc: Global, core: &mut Core<Stub>, stream: u32) -> Mem<()> {
     }
 }
 
-/// The sink takes all messages that wait for it: how many.
+// The sink takes all messages that wait for it: how many.
 fn take_all(core: &mut Core<Stub>, sink: SinkId) -> u64 {
     let waiting = core.outgoing(sink);
     let mut taken = 0_u64;
@@ -154,7 +147,7 @@ fn take_all(core: &mut Core<Stub>, sink: SinkId) -> u64 {
     taken
 }
 
-/// All sinks take their messages: how many.
+// All sinks take their messages: how many.
 fn deliver(core: &mut Core<Stub>) -> u64 {
     let mut taken = 0_u64;
     for sink in 0..SINKS {
@@ -163,7 +156,7 @@ fn deliver(core: &mut Core<Stub>) -> u64 {
     taken
 }
 
-/// The messages of so many data frames, each to the next stream.
+// The messages of so many data frames, each to the next stream.
 fn send(alloc: Global, core: &mut Core<Stub>, streams: u32, frames: u32) -> Mem<u64> {
     let mut messages = deliver(core);
     for frame in 0..frames {
@@ -173,22 +166,10 @@ fn send(alloc: Global, core: &mut Core<Stub>, streams: u32, frames: u32) -> Mem<
     Ok(messages)
 }
 
-/// The messages that a core with so many inputs has after so many data frames.
-fn messages(alloc: Global, inputs: u32, frames: u32) -> Mem<u64> {
+/// Sends so many data frames through a core that has so many inputs, each frame to the next stream, and says how many messages
+/// waited for the sinks. Takes memory.
+pub fn core_line(alloc: Global, inputs: u32, frames: u32) -> Mem<String> {
     let mut core = with_streams(alloc, inputs)?;
-    send(alloc, &mut core, inputs, frames)
-}
-
-fn main(rt: HostRuntime) -> io::Result<()> {
-    let mut words = env::args(&rt)?;
-    let inputs: u32 = words
-        .nth(1)
-        .map_or(1, |word| word.as_str().parse().unwrap_or(1));
-    let frames: u32 = words
-        .next()
-        .map_or(1, |word| word.as_str().parse().unwrap_or(1));
-    match messages(rt.alloc(), inputs, frames) {
-        Ok(messages) => println!(rt; "{inputs} inputs, {frames} frames, {messages} messages"),
-        Err(_) => Err(io::Error::from(io::ErrorKind::OutOfMemory)),
-    }
+    let messages = send(alloc, &mut core, inputs, frames)?;
+    Ok(format!(in alloc; "{inputs} inputs, {frames} frames, {messages} messages")?)
 }

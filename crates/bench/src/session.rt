@@ -1,18 +1,14 @@
-//! Reads a session of as many Bytes events of 64 KiB as its first word says, and prints the events and their bytes.
-//! `bench/session.sh` times it.
-#![tactic(auto)]
-
+// A session's events.
 use px_ends::{Calls, MemSource, Source};
 use px_session::{Event, ReadError, Reader, Step};
-use px_types::Text;
-use std::alloc::{AllocError, Global};
-use std::{env, io};
+use px_types::{Mem, NoMemory, Text};
+use std::alloc::Global;
 
-/// The bytes of an event.
+// The bytes of an event.
 const PAYLOAD: usize = 65_536;
 
-/// A header, a connection that sends so many events, and the end byte.
-fn session(alloc: Global, events: u32) -> Result<Vec<u8>, AllocError> {
+// A header, a connection that sends so many events, and the end byte.
+fn session(alloc: Global, events: u32) -> Mem<Vec<u8>> {
     let payload = vec![in alloc; 7u8; PAYLOAD]?;
     let mut bytes = Vec::new(alloc);
     bytes.extend_from_slice(b"PRS1")?;
@@ -29,14 +25,14 @@ fn session(alloc: Global, events: u32) -> Result<Vec<u8>, AllocError> {
     Ok(bytes)
 }
 
-/// How many events there are, and how many bytes they have.
+// How many events there are, and how many bytes they have.
 #[derive(Clone, Copy)]
 struct Count {
     events: u64,
     bytes: u64,
 }
 
-/// The count with an event.
+// The count with an event.
 fn counted(before: Count, event: &Event) -> Count {
     let mut count = before;
     count.events = count.events.wrapping_add(1);
@@ -46,7 +42,7 @@ fn counted(before: Count, event: &Event) -> Count {
     count
 }
 
-/// What is read of the session, up to its end.
+// What is read of the session, up to its end.
 fn read<S: Source>(alloc: Global, source: &mut S) -> Result<Count, ReadError> {
     let mut reader = Reader::new(alloc)?;
     let mut count = Count {
@@ -63,14 +59,12 @@ fn read<S: Source>(alloc: Global, source: &mut S) -> Result<Count, ReadError> {
     Ok(count)
 }
 
-fn main(rt: HostRuntime) -> io::Result<()> {
-    let events: u32 = env::args(&rt)?
-        .nth(1)
-        .map_or(1, |word| word.as_str().parse().unwrap_or(1));
-    let session = session(rt.alloc(), events)?;
-    let mut source = MemSource::new(Text::from_vec(session), Calls::none(rt.alloc()));
-    match read(rt.alloc(), &mut source) {
-        Ok(count) => println!(rt; "{} events, {} bytes", count.events, count.bytes),
-        Err(_) => Err(io::Error::from(io::ErrorKind::InvalidData)),
+/// Reads a session of so many Bytes events of 64 KiB, made in memory, and says how many events and bytes there were. Takes memory.
+pub fn session_line(alloc: Global, events: u32) -> Mem<String> {
+    let session = session(alloc, events)?;
+    let mut source = MemSource::new(Text::from_vec(session), Calls::none(alloc));
+    match read(alloc, &mut source) {
+        Ok(count) => Ok(format!(in alloc; "{} events, {} bytes", count.events, count.bytes)?),
+        Err(_) => Err(NoMemory),
     }
 }

@@ -1,15 +1,13 @@
-//! Carries S16LE samples to 32-bit work values and back, as many times as its first word says, and
-//! prints a sum over the bytes. `bench/sound.sh` times it.
-#![tactic(auto)]
-
+// Samples to work values and back.
 ghost use Rattle.std.specs.Prelude.{◌≡◌, ◌*◌, length};
 
 use px_sample::{Format, Width, pack, to_work, unpack};
-use std::{env, io};
+use px_types::Mem;
+use std::alloc::Global;
 
 const SAMPLES: usize = 4096;
 
-/// The bytes of all samples, from a small generator.
+// The bytes of all samples, from a small generator.
 fn fill(bytes: &mut [u8], seed: u32) {
     let mut state = seed;
     for byte in bytes.iter_mut() {
@@ -18,7 +16,7 @@ fn fill(bytes: &mut [u8], seed: u32) {
     }
 }
 
-/// So many times there and back.
+// So many times there and back.
 fn carry(rounds: u32, bytes: &mut [u8], values: &mut [i32])
     requires { length bytes.old ≡ 2 * length values.old }
 {
@@ -38,15 +36,11 @@ fn sum(bytes: &[u8]) -> u32 {
     sum
 }
 
-fn main(rt: HostRuntime) -> io::Result<()> {
-    let mut rounds: u32 = 1;
-    for word in env::args(&rt)?.skip(1) {
-        rounds = word.as_str().parse().unwrap_or(1);
-    }
-    let mut bytes = vec![in rt.alloc(); 0u8; 2 * SAMPLES]?;
-    let mut values = vec![in rt.alloc(); 0i32; SAMPLES]?;
+/// Carries S16LE samples to 32-bit work values and back, so many times 4,096 of them, and says a sum over the bytes. Takes memory.
+pub fn sound_line(alloc: Global, rounds: u32) -> Mem<String> {
+    let mut bytes = vec![in alloc; 0u8; 2 * SAMPLES]?;
+    let mut values = vec![in alloc; 0i32; SAMPLES]?;
     fill(&mut bytes, rounds);
     carry(rounds, &mut bytes, &mut values);
-    println!(rt; "{}", sum(&bytes))?;
-    Ok(())
+    Ok(format!(in alloc; "{}", sum(&bytes))?)
 }

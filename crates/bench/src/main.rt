@@ -1,0 +1,88 @@
+//! What the scripts of bench/ time. Words: what to do (`sound`, `frame`, `wire`, `session` or `core`), how often, and for `frame` the
+//! bytes of a piece, for `core` how many frames; `wire` reads a packet from standard input. It prints a line on what it did, so that
+//! no work is left out and a plain program can be compared. Without words each is done once.
+#![tactic(auto)]
+
+mod core;
+mod frame;
+mod session;
+mod sound;
+mod wire;
+
+use core::core_line;
+use frame::frame_line;
+use px_types::{Mem, NoMemory};
+use session::session_line;
+use sound::sound_line;
+use std::alloc::Global;
+use std::io::Read;
+use std::{env, io};
+use wire::wire_line;
+
+// What is to be done.
+#[derive(Clone, Copy)]
+enum Work {
+    Sound,
+    Frame,
+    Wire,
+    Session,
+    Core,
+}
+
+const ALL: [Work; 5] = [
+    Work::Sound,
+    Work::Frame,
+    Work::Wire,
+    Work::Session,
+    Work::Core,
+];
+
+fn work_of(word: &str) -> Option<Work> {
+    match word {
+        "sound" => Some(Work::Sound),
+        "frame" => Some(Work::Frame),
+        "wire" => Some(Work::Wire),
+        "session" => Some(Work::Session),
+        "core" => Some(Work::Core),
+        _ => None,
+    }
+}
+
+// The line of a work that is done so often.
+fn line(alloc: Global, work: Work, first: u32, second: Option<u32>, packet: &[u8]) -> Mem<String> {
+    match work {
+        Work::Sound => sound_line(alloc, first),
+        Work::Frame => frame_line(alloc, first, second.unwrap_or(4_096)),
+        Work::Wire => wire_line(alloc, first, packet),
+        Work::Session => session_line(alloc, first),
+        Work::Core => core_line(alloc, first, second.unwrap_or(1)),
+    }
+}
+
+fn print(rt: &HostRuntime, line: Mem<String>) -> io::Result<()> {
+    match line {
+        Ok(line) => println!(rt; "{line}"),
+        Err(NoMemory) => Err(io::Error::from(io::ErrorKind::OutOfMemory)),
+    }
+}
+
+fn main(rt: HostRuntime) -> io::Result<()> {
+    let alloc = rt.alloc();
+    let mut words = env::args(&rt)?.skip(1);
+    let work = words.next().map_or(None, |word| work_of(word.as_str()));
+    let first: u32 = words
+        .next()
+        .map_or(1, |word| word.as_str().parse().unwrap_or(1));
+    let second: Option<u32> = words.next().map_or(None, |word| word.as_str().parse().ok());
+    let mut packet = Vec::new(alloc);
+    rt.stdin().read_to_end(&mut packet)?;
+    match work {
+        Some(work) => print(&rt, line(alloc, work, first, second, &packet)),
+        None => {
+            for work in ALL {
+                print(&rt, line(alloc, work, first, second, &packet))?;
+            }
+            Ok(())
+        }
+    }
+}
