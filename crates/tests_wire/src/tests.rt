@@ -1,0 +1,5 @@
+mod commands;
+mod frames;
+mod items;
+mod replies;
+mod sessions;

@@ -1,0 +1,163 @@
+use px_tag::{
+    Mem, Mode, Packet, PropList, RawMap, RawSpec, RawVolume, TagFault, TagReader, TagWriter,
+    TimeVal, one_spelling,
+};
+use std::alloc::Global;
+
+// One item of each kind but property lists.
+const ITEMS: &[u8] =
+    b"L\x00\x00\xbb\x80B\xfeR\x00\x00\x00\x00\x00\x00\x06\x82r\xff\xff\xff\xff\xff\xff\xff\xfe10tout\x00Nx\x00\x00\x00\x02\x00\xffU\x00\x00\x00\x00\x00\x00\x08\x23a\x03\x20\x00\x00\xbb\x80m\x02\x01\x02m\x00v\x01\x00\x01\x00\x00T\x00\x00\x00\x01\x00\x00\x00\x02V\x00\x01\x00\x00";
+
+const SPEC: RawSpec = RawSpec {
+    format: 3,
+    channels: 32,
+    rate: 48_000,
+};
+
+const TIME: TimeVal = TimeVal {
+    seconds: 1,
+    micros: 2,
+};
+
+fn reads_numbers(reader: &mut TagReader) -> bool {
+    reader.number() == Ok(48_000)
+        && reader.byte() == Ok(254)
+        && reader.wide() == Ok(0x682)
+        && reader.signed() == Ok(-2)
+        && reader.flag() == Ok(true)
+        && reader.flag() == Ok(false)
+}
+
+// An item that isn't read is still there: two bytes where three should be, and another tag.
+fn reads_bytes(reader: &mut TagReader) -> bool {
+    reader.text() == Ok(Some(b"out".as_slice()))
+        && reader.text() == Ok(None)
+        && reader.arbitrary_of(3) == Err(TagFault::BadValue { at: 33 })
+        && reader.text() == Err(TagFault::WrongTag { at: 33 })
+        && reader.arbitrary() == Ok(b"\x00\xff".as_slice())
+        && reader.usec() == Ok(0x823)
+        && reader.spec() == Ok(SPEC)
+}
+
+fn reads_lists(reader: &mut TagReader) -> bool {
+    matches!(reader.map(), Ok(map) if map.as_slice() == [1, 2].as_slice())
+        && matches!(reader.map(), Ok(map) if map.as_slice().is_empty())
+        && matches!(reader.cvolume(), Ok(volume) if volume.as_slice() == [65_536].as_slice())
+        && reader.end() == Err(TagFault::Left { at: 68 })
+        && reader.time() == Ok(TIME)
+}
+
+fn write_numbers(writer: &mut TagWriter) -> Mem<()> {
+    writer.number(48_000)?;
+    writer.byte(254)?;
+    writer.wide(0x682)?;
+    writer.signed(-2)?;
+    writer.flag(true)?;
+    writer.flag(false)
+}
+
+fn write_bytes(writer: &mut TagWriter) -> Mem<()> {
+    writer.text(Some(b"out"))?;
+    writer.text(None)?;
+    writer.arbitrary(b"\x00\xff")?;
+    writer.usec(0x823)?;
+    writer.spec(&SPEC)
+}
+
+fn write_lists(writer: &mut TagWriter) -> Mem<()> {
+    writer.map(&RawMap::new(&[1, 2]))?;
+    writer.map(&RawMap::new(&[]))?;
+    writer.cvolume(&RawVolume::new(&[65_536]))?;
+    writer.time(&TIME)?;
+    writer.volume(0x10000)
+}
+
+fn write_all(writer: &mut TagWriter) -> Mem<()> {
+    write_numbers(writer)?;
+    write_bytes(writer)?;
+    write_lists(writer)
+}
+
+fn written(alloc: Global) -> Mem<Packet> {
+    let mut writer = TagWriter::new(alloc);
+    write_all(&mut writer)?;
+    Ok(writer.finish())
+}
+
+#[test]
+fn items_are_read_and_written(rt: HostRuntime) {
+    let mut reader = TagReader::new(ITEMS);
+    let read = reads_numbers(&mut reader) && reads_bytes(&mut reader) && reads_lists(&mut reader);
+    one_spelling();
+    assert!(rt; read && matches!(written(rt.alloc()), Ok(packet) if packet.as_slice() == ITEMS));
+}
+
+// `media.name` is `x` and a zero byte, `a` is empty, and `media.name` is `y`.
+const LIST: &[u8] =
+    b"Ptmedia.name\x00L\x00\x00\x00\x02x\x00\x00\x00\x02x\x00ta\x00L\x00\x00\x00\x00x\x00\x00\x00\x00tmedia.name\x00L\x00\x00\x00\x01x\x00\x00\x00\x01yN";
+
+// The same list, each key once.
+const SHORTER: &[u8] =
+    b"Ptmedia.name\x00L\x00\x00\x00\x01x\x00\x00\x00\x01yta\x00L\x00\x00\x00\x00x\x00\x00\x00\x00N";
+
+fn copied(alloc: Global, list: &PropList) -> Mem<Packet> {
+    let mut writer = TagWriter::new(alloc);
+    writer.proplist(list)?;
+    Ok(writer.finish())
+}
+
+fn is_read(alloc: Global) -> bool {
+    let mut reader = TagReader::new(LIST);
+    match reader.proplist(alloc) {
+        Ok(list) => matches!(copied(alloc, &list), Ok(packet) if packet.as_slice() == SHORTER),
+        Err(_) => false,
+    }
+}
+
+#[test]
+fn lists_are_read_and_written(rt: HostRuntime) {
+    assert!(rt; is_read(rt.alloc()));
+}
+
+fn set_old(list: &mut PropList) -> Mem<()> {
+    list.set(b"a", b"1")?;
+    list.set(b"b", b"1")
+}
+
+fn set_new(list: &mut PropList) -> Mem<()> {
+    list.set(b"b", b"2")?;
+    list.set(b"c", b"2")
+}
+
+// What the first key of a list is after an update by another, and the values of `a` and `b`; in each mode `c` comes from the other.
+fn becomes(list: &PropList, first: &[u8], a: Option<&[u8]>, b: Option<&[u8]>) -> bool {
+    matches!(list.get_index(0), Some((key, _)) if key == first)
+        && list.get(b"a") == a
+        && list.get(b"b") == b
+        && list.get(b"c") == Some(b"2".as_slice())
+}
+
+fn update(list: &mut PropList, mode: Mode, other: &PropList) -> Mem<()> {
+    set_old(list)?;
+    list.update(mode, other)
+}
+
+fn updates(alloc: Global, other: &PropList) -> Mem<bool> {
+    let mut list = PropList::new(alloc);
+    update(&mut list, Mode::Replace, other)?;
+    let replaced = becomes(&list, b"a", Some(b"1"), Some(b"2"));
+    update(&mut list, Mode::Merge, other)?;
+    let merged = becomes(&list, b"a", Some(b"1"), Some(b"1"));
+    let removed = list.remove(b"c") && !list.remove(b"c") && !list.contains(b"c");
+    update(&mut list, Mode::Set, other)?;
+    let whole = list.copy()?;
+    Ok(replaced && merged && removed && whole.len() == 2 && becomes(&whole, b"b", None, Some(b"2")))
+}
+
+#[test]
+fn lists_are_updated_in_three_ways(rt: HostRuntime) -> Mem<()> {
+    let mut other = PropList::new(rt.alloc());
+    set_new(&mut other)?;
+    assert!(rt; matches!(updates(rt.alloc(), &other), Ok(true)));
+    Ok(())
+}
