@@ -1,3 +1,4 @@
 mod channels;
+mod groups;
 mod samples;
 mod volumes;

@@ -1,0 +1,5 @@
+pub mod ByChannel
+pub mod Found
+pub mod EachOne
+pub mod Kept
+pub mod TrueTo

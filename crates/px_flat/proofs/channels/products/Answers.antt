@@ -1,0 +1,11 @@
+use Rattle.std.proofs.Common.{◌≡◌, ◌∙◌, length, refl, ℕ, arith, rules}
+use Rattle.px_vol.specs.Volume.{product_of}
+use Rattle.px_flat.specs.Channels.{at}
+use Rattle.px_flat.proofs.ByChannel.{listed}
+use Rattle.px_flat.proofs.channels.products.Goals as goal
+
+pub returns : goal.returns
+returns c =
+    let long : length c.loop-c.values ≡ length c.values-ratios.result.now = search rules in
+    let listing = listed (λ (k : ℕ). product_of (at c.values-ratios.result.now k) (at c.values-volumes.result.now k)) c.loop-c.values (length c.values-ratios.result.now) long (λ k below. c.loop-c.invariant.is k (omega arith)) in
+    c.in_channels.ensures ∙ listing ∙ rw (c.values-ratios.ensures.value, c.values-volumes.ensures.value) refl

@@ -1,0 +1,10 @@
+use Rattle.std.proofs.Common.{arith}
+use Rattle.px_flat.specs.Member.{to_real}
+use Rattle.px_flat.proofs.EachOne.{done_more}
+use Rattle.px_flat.proofs.members.each_follows_real.Goals as goal
+
+pub loop-member-preserved : goal.loop-member-preserved
+loop-member-preserved c =
+    let l = c.loop-member in
+    done_more (to_real c.args.real.now) c.args.members.now l.members l.member-index c.member-item.result c.follow_real.new.self
+    l.invariant (omega (arith, l.auto.members, c.loop-member-test.true)) l.auto.members c.follow_real.ensures

@@ -1,0 +1,17 @@
+-- What a group keeps.
+use Rattle.std.specs.Prelude.{ℕ, ◌≡◌, ◌≤◌, ◌<◌, List, length}
+use Rattle.std.specs.List.{AllByRecursion}
+use Rattle.px_vol.specs.Volume.{norm, product_of}
+use Rattle.px_flat.specs.declared.member.Member.{Member}
+use Rattle.px_flat.specs.Channels.{at, value_for}
+use Rattle.px_flat.specs.Member.{IsMember}
+use Rattle.px_flat.specs.FlatVolume.{FlatGroup, real_of}
+
+-- where the real volume for a channel leaves or lowers sound, the ratio to it gives the member's volume again, exactly
+abbrev pub IsTrueTo : List ℕ → Member → Type 0
+IsTrueTo real m = (c : ℕ) → c < length m.volume → value_for m.feed real c ≤ norm
+    → product_of (at m.ratios.real c) (value_for m.feed real c) ≡ at m.volume c
+
+pub record IsGroup (group : FlatGroup) : Type 0 where
+  pub members : AllByRecursion (IsMember (length group.reference)) group.members
+  pub true_to : AllByRecursion (IsTrueTo (real_of group)) group.members

@@ -1,0 +1,4 @@
+pub mod Channels
+pub mod Member
+pub mod FlatVolume
+pub mod Keeps

@@ -1,0 +1,189 @@
+//! A sink's group.
+ghost use Rattle.std.specs.Prelude.{◌≡◌, ◌<◌, ◌≤◌, length, IsSome, IfSome, None, IfOk, OnOk, OnErr};
+ghost use Rattle.std.specs.List.{AllByRecursion};
+ghost use Rattle.px_chmap.specs.Plan.{FeedsAll};
+ghost use Rattle.px_flat.specs.Member.{channels_of, SuitsChannels, SuitsHow};
+ghost use Rattle.px_flat.specs.FlatVolume.{new_group, member_of, attached, detached, with_input_volume, with_sink_volume, with_input_mute, with_sink_mute, factors_of, real_of};
+ghost use Rattle.px_flat.specs.Keeps.{IsTrueTo};
+
+use crate::channels::{neutral, widened};
+use crate::member::{How, Member, Ratios, coming, factors_under};
+use crate::members::{follow, forget, member_of, mute, real_of, set_all, set_volume, settle};
+use px_chmap::Feed;
+use px_types::{InputId, Mem};
+use px_vol::{CVolume, Factors, dividing_is_undone};
+use std::alloc::Global;
+use std::marker::Model;
+
+/// The volumes of a sink and its inputs under flat volumes: the sink's real volume is that of its loudest input, and each input's
+/// is a ratio of it. Volumes are PulseAudio's, `0x10000` leaves the sound as it is; ratios and factors are in 16.16. Contracts see
+/// the reference volume, the mute and the list of inputs. Source: `pulsecore/sink.c` and `sink-input.c`; the exact ratios are own.
+#[derive(Drop)]
+pub struct Group {
+    reference: CVolume,
+    muted: bool,
+    members: Vec<Member>,
+}
+
+impl Model for Group {
+    ghost use Rattle.px_flat.specs.FlatVolume.{FlatGroup};
+    ghost use Rattle.px_flat.specs.Keeps.{IsGroup};
+
+    ghost Value = { FlatGroup };
+
+    ghost view = { λ g. record { reference = g.reference; muted = g.muted; members = g.members.items } };
+
+    ghost invariant = { λ g. IsGroup (record { reference = g.reference; muted = g.muted; members = g.members.items }) };
+}
+
+impl Group {
+    /// The group of a sink of 1 to 32 channels that has no input, at the volume that leaves the sound as it is. Takes no memory.
+    pub fn new(alloc: Global, channels: u8) -> Group
+        requires some { 0 < channels }
+        requires few { channels ≤ 32 }
+        ensures { result ≡ new_group channels }
+    {
+        Group {
+            reference: neutral(usize::from(channels)),
+            muted: false,
+            members: Vec::new(alloc),
+        }
+    }
+
+    /// An input comes that isn't there, with the stream channel that feeds each channel of the sink, and a volume: one for all
+    /// channels of its stream, or one each. The reference volume is raised to the real volume. Where there is no memory for it,
+    /// nothing has changed.
+    pub fn attach(
+        &mut self,
+        input: InputId,
+        given: &CVolume,
+        how: How,
+        muted: bool,
+        feed: &Feed,
+    ) -> Mem<()>
+        requires new { member_of self.old.members input ≡ None }
+        requires feeds { FeedsAll (channels_of feed.now) (length self.old.reference) feed.now }
+        requires given { SuitsChannels given.now (channels_of feed.now) }
+        requires how { SuitsHow how (channels_of feed.now) }
+        ensures attached { OnOk result (self.new ≡ attached input given.now how muted feed.now self.old) }
+        ensures unchanged { OnErr result (self.new ≡ self.old) }
+    {
+        dividing_is_undone();
+        self.members
+            .push(coming(input, &self.reference, given, &how, muted, feed))?;
+        settle(&mut self.reference, &mut self.members);
+        Ok(())
+    }
+
+    /// An input that is there leaves, with its ratios. The real volume follows, the reference volume stays. Takes no memory.
+    pub fn detach(&mut self, input: InputId) -> Ratios
+        requires { IsSome (member_of self.old.members input) }
+        ensures group { self.new ≡ detached input self.old }
+        ensures ratios { IfSome (member_of self.old.members input) (λ m. result ≡ m.ratios) }
+    {
+        dividing_is_undone();
+        let ratios = member_of(self.members.as_slice(), input).ratios;
+        forget(&mut self.members, input);
+        follow(&self.reference, &mut self.members);
+        ratios
+    }
+
+    /// An input that is there has this volume: one for all channels, or one each. The reference volume is raised to the real
+    /// volume, and all ratios follow. Takes no memory.
+    pub fn set_input(&mut self, input: InputId, volume: &CVolume)
+        requires there { IsSome (member_of self.old.members input) }
+        requires suits { IfSome (member_of self.old.members input) (λ m. SuitsChannels volume.now (length m.volume)) }
+        ensures { self.new ≡ with_input_volume input volume.now self.old }
+    {
+        dividing_is_undone();
+        set_volume(&mut self.members, input, volume);
+        settle(&mut self.reference, &mut self.members);
+    }
+
+    /// The sink has this volume: one for all channels, or one each. Each input keeps its ratio to it. Takes no memory.
+    pub fn set_sink(&mut self, volume: &CVolume)
+        requires { SuitsChannels volume.now (length self.old.reference) }
+        ensures { self.new ≡ with_sink_volume volume.now self.old }
+    {
+        dividing_is_undone();
+        self.reference = widened(volume, self.reference.values().len());
+        set_all(&self.reference, &mut self.members);
+    }
+
+    /// An input that is there is muted, or not. Its volume stays. Takes no memory.
+    pub fn mute_input(&mut self, input: InputId, on: bool)
+        requires { IsSome (member_of self.old.members input) }
+        ensures { self.new ≡ with_input_mute input on self.old }
+    {
+        mute(&mut self.members, input, on);
+    }
+
+    /// The sink is muted, or not. Its volume stays. Takes no memory.
+    pub fn mute_sink(&mut self, on: bool)
+        ensures { self.new ≡ with_sink_mute on self.old }
+    {
+        self.muted = on;
+    }
+
+    /// The linear factors of an input that is there, one a channel of the sink; 0 where it or the sink is muted. Takes no memory.
+    pub fn factors(&self, input: InputId) -> Factors
+        requires { IsSome (member_of self.now.members input) }
+        ensures { IfSome (member_of self.now.members input) (λ m. result ≡ factors_of self.now m) }
+    {
+        let member = member_of(self.members.as_slice(), input);
+        let real = real_of(&self.reference, self.members.as_slice());
+        factors_under(&real, self.muted || member.muted, member)
+    }
+
+    /// The volume of an input that is there, one number a channel of its stream. Takes no memory.
+    pub fn volume(&self, input: InputId) -> CVolume
+        requires { IsSome (member_of self.now.members input) }
+        ensures { IfSome (member_of self.now.members input) (λ m. result ≡ m.volume) }
+    {
+        member_of(self.members.as_slice(), input).volume
+    }
+
+    /// The reference volume, one number a channel of the sink: what the sink's user has set, raised to its loudest input. Takes no
+    /// memory.
+    pub fn reference(&self) -> CVolume
+        ensures { result ≡ self.now.reference }
+    {
+        self.reference
+    }
+
+    /// The real volume, one number a channel of the sink: that of its loudest input; the reference volume where it has none. Where
+    /// it leaves or lowers the sound, each input's ratio to it gives the input's volume again, exactly. Takes no memory.
+    pub fn real(&self) -> CVolume
+        ensures value { result ≡ real_of self.now }
+        ensures exact { AllByRecursion (IsTrueTo (real_of self.now)) self.now.members }
+    {
+        real_of(&self.reference, self.members.as_slice())
+    }
+
+    /// Whether the sink is muted. Takes no memory.
+    pub fn muted(&self) -> bool
+        ensures { result ≡ self.now.muted }
+    {
+        self.muted
+    }
+
+    /// The inputs, in the order in which they came. Takes no memory.
+    pub fn members(&self) -> &[Member]
+        ensures { result.now ≡ self.now.members }
+    {
+        self.members.as_slice()
+    }
+
+    /// A copy of the group.
+    pub fn copy(&self, alloc: Global) -> Mem<Group>
+        ensures { IfOk result (λ copy. copy ≡ self.now) }
+    {
+        let mut members = Vec::with_capacity(alloc, self.members.len())?;
+        members.extend_from_slice(self.members.as_slice())?;
+        Ok(Group {
+            reference: self.reference,
+            muted: self.muted,
+            members,
+        })
+    }
+}
