@@ -1,4 +1,4 @@
-use px_block::{BLOCK_SIZE, Block, BlockSource, Blocks, Fresh, Mem, NoMemory};
+use px_block::{Block, BlockSource, Blocks, Fresh, Mem, NoMemory};
 use std::alloc::Global;
 
 // A block is filled, cleared and filled anew.
@@ -21,21 +21,6 @@ fn a_block_taken_again_shows_no_old_bytes(rt: HostRuntime) -> Mem<()> {
     let mut block = source.take()?;
     let used = is_used_again(&mut block) && block.bytes() == b"new".as_slice();
     assert!(rt; used && hides(&mut source, block));
-    Ok(())
-}
-
-// The bytes that are offered to a block one after the other, and those that went in.
-const OFFERED: [(usize, usize); 4] = [(65_535, 65_535), (3, 1), (1, 0), (0, 0)];
-
-fn takes_what_fits(block: &mut Block) -> bool {
-    let most = [7; 65_535];
-    OFFERED.iter().all(|(length, fit)| *length <= 65_535 && block.put(&most[..*length]) == *fit)
-}
-
-#[test]
-fn a_block_takes_what_it_has_room_for(rt: HostRuntime) -> Mem<()> {
-    let mut block = Block::new(rt.alloc())?;
-    assert!(rt; takes_what_fits(&mut block) && block.bytes().len() == BLOCK_SIZE);
     Ok(())
 }
 
