@@ -1,8 +1,9 @@
 // A run of bytes that lies in blocks.
 
-ghost use Rattle.std.specs.Prelude.{◌≡◌, ℕ, ◌+◌, ◌*◌, ◌-◌, ◌/◌, ◌%◌, ◌^◌, ◌<◌, ◌++◌, [], length, take, drop, min, vec_len, vec_capacity, IfOk, OnOk, OnErr, MatchOption};
+ghost use Rattle.std.specs.Prelude.{◌≡◌, ℕ, ◌+◌, ◌*◌, ◌-◌, ◌%◌, ◌^◌, ◌<◌, ◌++◌, [], length, take, drop, min, vec_len, vec_capacity, IfOk, OnOk, OnErr, MatchOption};
 ghost use Rattle.std.specs.List.{concat};
 ghost use Rattle.px_block.specs.Packed.{IsPacked, AreFull};
+ghost use Rattle.px_block.specs.Given.{after_giving, blocks_for};
 
 use crate::block::{BLOCK_SIZE, Block, Mem, NoMemory};
 use crate::source::BlockSource;
@@ -57,7 +58,7 @@ impl Blocks {
 
     /// How many blocks there are. Takes no memory.
     pub fn count(&self) -> usize
-        ensures { result ≡ (length self.now + (BLOCK_SIZE - 1)) / BLOCK_SIZE }
+        ensures { result ≡ blocks_for (length self.now) }
     {
         self.blocks.len()
     }
@@ -78,12 +79,28 @@ impl Blocks {
         self.blocks.as_slice()
     }
 
-    /// The blocks themselves, in order, as to give each back to its source. Takes no memory.
+    /// Gives each block to a source. Takes no memory.
+    pub fn give_back<B: BlockSource>(self, source: &mut B)
+        ensures { B.given source.new ≡ after_giving (B.given source.old) (blocks_for (length self)) }
+    {
+        give_all(self.blocks, source);
+    }
+
+    /// The blocks themselves, in order. Takes no memory.
     pub fn into_vec(self) -> Vec<Block>
         ensures bytes { concat result.items ≡ self }
         ensures packed { IsPacked result.items }
     {
         self.blocks
+    }
+}
+
+// Gives each of these blocks to a source.
+fn give_all<B: BlockSource>(mut blocks: Vec<Block>, source: &mut B)
+    ensures { B.given source.new ≡ after_giving (B.given source.old) (vec_len blocks) }
+{
+    while let Some(block) = blocks.pop() {
+        source.give(block);
     }
 }
 

@@ -1,21 +1,27 @@
 // Where blocks come from, and where they go when they were used.
 
-ghost use Rattle.std.specs.Prelude.{◌≡◌, [], IfOk};
+ghost use Rattle.std.specs.Prelude.{◌≡◌, ℕ, [], Option, None, IfOk};
+ghost use Rattle.px_block.specs.Given.{after_giving};
 
 use crate::block::{Block, Mem};
 use std::alloc::Global;
 
 /// Hands out blocks and takes them back, as a memory pool does (`pa_mempool`).
 pub trait BlockSource {
+    /// How many blocks it was given back, where it tells.
+    ghost given: { Self → Option ℕ };
+
     /// A block that shows no bytes, whatever its memory held before.
     fn take(&mut self) -> Mem<Block>
-        ensures { IfOk result (λ block. block ≡ []) };
+        ensures block { IfOk result (λ block. block ≡ []) }
+        ensures given { given self.new ≡ given self.old };
 
     /// Takes back a block that isn't needed any more. Takes no memory.
-    fn give(&mut self, block: Block);
+    fn give(&mut self, block: Block)
+        ensures { given self.new ≡ after_giving (given self.old) 1 };
 }
 
-/// The source that makes each block anew and drops each one that comes back.
+/// The source that makes each block anew and drops each one that comes back. It doesn't tell how many came back.
 #[derive(Clone, Copy, Debug)]
 pub struct Fresh {
     alloc: Global,
@@ -29,6 +35,8 @@ impl Fresh {
 }
 
 impl BlockSource for Fresh {
+    ghost given = { λ _. None };
+
     fn take(&mut self) -> Mem<Block> {
         Block::new(self.alloc)
     }

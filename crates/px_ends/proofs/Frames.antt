@@ -9,6 +9,12 @@ use Rattle.px_ends.specs.MemoryDevice.{due_of, left_after}
 pub frames_inside : (len n c f w : ℕ) → len + c * w ≡ f * w → n + c ≤ f → n * w ≤ len
 frames_inside len n c f w full fit = omega (arith, full, add-mul n c w, mul-le-mul_right w fit)
 
+-- the buffer's bytes are those of the frames between
+pub frames_between : (len c f w : ℕ) → len + c * w ≡ f * w → c ≤ f → len ≡ (f - c) * w
+frames_between len c f w full order =
+    let whole : (f - c) + c ≡ f = omega (arith, order) in
+    omega (arith, full, add-mul (f - c) c w, ap (λ (x : ℕ). x * w) whole)
+
 -- what is left without them
 pub frames_left : (bytes : List ℕ) (n c f w : ℕ) → length bytes + c * w ≡ f * w → n + c ≤ f → length (drop (n * w) bytes) + (c + n) * w ≡ f * w
 frames_left bytes n c f w full fit =

@@ -3,7 +3,7 @@
 use Rattle.std.specs.Prelude.{◌≡◌, ℕ, ◌+◌, ◌-◌, ◌*◌, ◌/◌, ◌^◌, ◌≤◌, min, Bool, true, IsFalse, List, ◌++◌, length, take, drop, Option, None, Some, ⊤, false}
 use Rattle.px_ends.specs.declared.device.DeviceShape.{DeviceShape}
 use Rattle.px_ends.specs.Faults.{Rose}
-use Rattle.px_ends.specs.Told.{after_adding}
+use Rattle.px_ends.specs.Told.{after_adding, WhereTold}
 
 -- what a sync does: it consumes so many frames, or all that wait if those are fewer, or it fails
 pub data Next : Type 0 where
@@ -37,6 +37,10 @@ pub record IsShape (shape : DeviceShape) : Type 0 where
   pub some_depth : 1 ≤ shape.depth
   pub low_depth : shape.depth ≤ 65536
   pub guard_within : shape.guard ≤ shape.depth
+
+-- the buffer holds the frames from consumed to filled, where it is told
+abbrev pub HoldsFrames : DeviceState → Type 0
+HoldsFrames d = WhereTold d.buffer (λ bytes. length bytes ≡ (d.filled - d.consumed) * d.frame)
 
 -- ---- a sync
 

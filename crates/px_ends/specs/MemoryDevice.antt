@@ -1,5 +1,6 @@
 -- A device in memory, which tells all of its bytes and consumes what it was set to.
 use Rattle.std.specs.Prelude.{ℕ, ◌+◌, ◌-◌, ◌*◌, ◌/◌, min, Bool, true, false, ◌||◌, List, [], ◌++◌, length, take, drop, Option, None, Some}
+use Rattle.std.specs.Option.{unwrap_or}
 use Rattle.px_ends.specs.Faults.{next_count}
 use Rattle.px_ends.specs.declared.device.DeviceShape.{DeviceShape}
 use Rattle.px_ends.specs.Device.{DeviceState, Next, consume, fail}
@@ -98,6 +99,10 @@ after_put at bytes d = record d {
   buffer = take ((at - d.consumed) * d.frame) d.buffer ++ bytes;
 }
 
--- after what was played was taken: its room went with it, so nothing is set any more
+-- after what was played was taken
 abbrev pub taken : MemoryDevice → MemoryDevice
-taken d = record d { played = []; armed = None; each = 0; left = 0 }
+taken d = record d { played = [] }
+
+-- how many frames later syncs are set to consume at the most
+abbrev pub set_in : MemoryDevice → ℕ
+set_in d = unwrap_or d.armed 0 + d.left

@@ -1,6 +1,6 @@
 // What plays the frames of a sink.
 ghost use Rattle.std.specs.Prelude.{◌≡◌, ℕ, IfOk, OnErr};
-ghost use Rattle.px_ends.specs.Device.{DeviceState, Plays, Fails, IsPut, put_at};
+ghost use Rattle.px_ends.specs.Device.{DeviceState, HoldsFrames, Plays, Fails, IsPut, put_at};
 
 /// The numbers by which a device is made.
 #[derive(Clone, Copy, Debug, PartialEq, Eq)]
@@ -19,7 +19,8 @@ pub struct DeviceShape {
 #[derive(Clone, Copy, Debug, PartialEq, Eq)]
 pub struct DeviceFault;
 
-/// A device with a buffer of frames, from those consumed to those filled.
+/// A device with a buffer of frames, from those consumed to those filled: each call tells of the device before it and after it that
+/// the buffer holds just these.
 pub trait Device {
     /// All its numbers, and its bytes where it tells them.
     ghost now: { Self → DeviceState };
@@ -29,11 +30,13 @@ pub trait Device {
     /// may have been played then.
     fn sync(&mut self) -> Result<u64, DeviceFault>
         ensures ok { IfOk result (λ consumed. Plays consumed (now self.old) (now self.new)) }
-        ensures err { OnErr result (Fails (now self.old) (now self.new)) };
+        ensures err { OnErr result (Fails (now self.old) (now self.new)) }
+        ensures full { HoldsFrames (now self.old) × HoldsFrames (now self.new) };
 
     /// Puts these bytes in place of the buffer's frames from frame `at` on, counted from the first frame ever put. Takes no memory:
     /// the room was taken when the device was made.
     fn put(&mut self, at: u64, bytes: &[u8])
         requires { IsPut (now self.old) at bytes.now }
-        ensures { now self.new ≡ put_at at bytes.now (now self.old) };
+        ensures state { now self.new ≡ put_at at bytes.now (now self.old) }
+        ensures full { HoldsFrames (now self.old) × HoldsFrames (now self.new) };
 }

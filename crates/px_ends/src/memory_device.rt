@@ -1,8 +1,8 @@
 // A device in memory.
-ghost use Rattle.std.specs.Prelude.{◌≡◌, ◌+◌, ◌-◌, ◌*◌, ◌^◌, ◌≤◌, ◌||◌, min, true, None, Some, IfOk, OnOk, OnErr, IsErr, IsTrue, ◌↔◌};
+ghost use Rattle.std.specs.Prelude.{◌≡◌, ◌+◌, ◌-◌, ◌*◌, ◌^◌, ◌<◌, ◌≤◌, ◌||◌, min, true, None, Some, IfOk, OnOk, OnErr, IsErr, IsTrue, ◌↔◌};
 ghost use Rattle.std.specs.Option.{unwrap_or};
-ghost use Rattle.px_ends.specs.Device.{DeviceState, IsShape, Plays, Fails, IsPut, put_at};
-ghost use Rattle.px_ends.specs.MemoryDevice.{MemoryDevice, state_of, new_memory_device, due_of, due_in, left_after, synced, sync_failed, after_put, taken};
+ghost use Rattle.px_ends.specs.Device.{DeviceState, HoldsFrames, IsShape, Plays, Fails, IsPut, put_at};
+ghost use Rattle.px_ends.specs.MemoryDevice.{MemoryDevice, state_of, new_memory_device, due_of, due_in, left_after, synced, sync_failed, after_put, taken, set_in};
 
 use crate::front::{play_front, put_behind};
 use crate::{Device, DeviceFault, DeviceShape, Played};
@@ -146,16 +146,20 @@ impl MemDevice {
         self.stopping = true;
     }
 
-    /// Hands out the bytes that were played since the last take. The room for further frames goes with them, so that nothing is set any
-    /// more. Takes no memory.
-    pub fn take_played(&mut self, alloc: Global) -> Played
-        ensures played { result ≡ self.old.played }
-        ensures after { self.new ≡ taken self.old }
+    /// Hands out the bytes that were played since the last take. What is set stays set: the room to play it is taken anew, so the call
+    /// takes memory only where frames are still set. Without it nothing changes.
+    pub fn take_played(&mut self, alloc: Global) -> Mem<Played>
+        ensures ok { IfOk result (λ played. played ≡ self.old.played) }
+        ensures after { OnOk result (self.new ≡ taken self.old) }
+        ensures err { OnErr result (self.new ≡ self.old) }
+        ensures still_set { OnErr result (0 < set_in self.old) }
     {
-        self.armed = None;
-        self.each = 0;
-        self.left = 0;
-        Played::from_vec(mem::replace(&mut self.played, Vec::new(alloc)))
+        let due = self.armed.unwrap_or(0) as u64 + self.left as u64;
+        let mut room = Vec::new(alloc);
+        if due > 0 {
+            room.reserve(bytes_of(due, self.frame))?;
+        }
+        Ok(Played::from_vec(mem::replace(&mut self.played, room)))
     }
 }
 
@@ -165,6 +169,7 @@ impl Device for MemDevice {
     fn sync(&mut self) -> Result<u64, DeviceFault>
         ensures ok { IfOk result (λ consumed. Plays consumed (state_of self.old) (state_of self.new)) }
         ensures err { OnErr result (Fails (state_of self.old) (state_of self.new)) }
+        ensures full { HoldsFrames (state_of self.old) × HoldsFrames (state_of self.new) }
         ensures fails { IsErr result ↔ IsTrue (self.old.stopping || self.old.failed) }
         ensures value { IfOk result (λ consumed. consumed ≡ self.old.consumed + due_in self.old) }
         ensures after { OnOk result (self.new ≡ synced (due_in self.old) self.old) }
@@ -195,6 +200,7 @@ impl Device for MemDevice {
     fn put(&mut self, at: u64, bytes: &[u8])
         requires { IsPut (state_of self.old) at bytes.now }
         ensures state { state_of self.new ≡ put_at at bytes.now (state_of self.old) }
+        ensures full { HoldsFrames (state_of self.old) × HoldsFrames (state_of self.new) }
         ensures after { self.new ≡ after_put at bytes.now self.old }
     {
         let from = bytes_of(at - self.consumed, self.frame);

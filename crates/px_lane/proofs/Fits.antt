@@ -12,7 +12,8 @@ use Rattle.px_model.specs.Message.{Message, InputFactors}
 use Rattle.px_model.specs.Notice.{Notice}
 use Rattle.px_model.specs.Sink.{Input as Stands, AllAbove, IsRising, stream_at, with_input, with_stream, with_change}
 use Rattle.px_model.specs.Write.{Outcome, stored, overflow, outside}
-use Rattle.px_model.specs.Turn.{going_notices, has_started, has_run_out, has_ended, missing_of, asked_notices, written_by, write_outcome, refusal_of, latency_of, notices_from, with_each_factors, inputs_with, inputs_with_all, message_notices, all_message_notices}
+use Rattle.px_model.specs.Applied.{written_by, write_outcome}
+use Rattle.px_model.specs.Turn.{going_notices, has_started, has_run_out, has_ended, missing_of, asked_notices, refusal_of, latency_of, notices_from, with_each_factors, inputs_with, inputs_with_all, message_notices, all_message_notices}
 use Rattle.px_model.proofs.Streams.{stream_by}
 use Rattle.px_lane.specs.Needed.{needed_by_input, needed_by, needed}
 use Rattle.px_lane.proofs.Places.{above_change}
@@ -53,7 +54,7 @@ message_few : (mixed buffered : ℕ) (m : Message Stream) (xs : List Stands) →
 message_few mixed buffered (Message.new n) xs = omega arith
 message_few mixed buffered (Message.attach i parcel feed factors) xs = omega arith
 message_few mixed buffered (Message.detach i) xs = from_few (stream_at i xs) (λ s. Notice.detached i s ∷ []) (λ s. omega arith)
-message_few mixed buffered (Message.write w) xs = from_few (stream_at w.input xs) (λ s. refusal_of w.input (write_outcome s w mixed)) (λ s. refused_few w.input (write_outcome s w mixed))
+message_few mixed buffered (Message.write w) xs = from_few (stream_at w.input xs) (λ s. refusal_of w.input (write_outcome s w.seek w.offset w.frames w.bytes mixed)) (λ s. refused_few w.input (write_outcome s w.seek w.offset w.frames w.bytes mixed))
 message_few mixed buffered (Message.cork i on) xs = omega arith
 message_few mixed buffered (Message.flush i) xs = omega arith
 message_few mixed buffered (Message.trigger i) xs = omega arith
@@ -125,7 +126,7 @@ pub rising_message : (mixed : ℕ) (m : Message Stream) (xs : List Stands) → I
 rising_message mixed (Message.new n) xs h = rising_with n.input (new_stream n.spec n.feed n.factors n.attr n.corked) xs h
 rising_message mixed (Message.attach i parcel feed factors) xs h = rising_with i (attached parcel feed factors) xs h
 rising_message mixed (Message.detach i) xs h = rising_without i xs h
-rising_message mixed (Message.write w) xs h = rising_change w.input (written_by w mixed) xs h
+rising_message mixed (Message.write w) xs h = rising_change w.input (written_by w.seek w.offset w.frames w.bytes mixed) xs h
 rising_message mixed (Message.cork i on) xs h = rising_change i (λ s. corked_to s on) xs h
 rising_message mixed (Message.flush i) xs h = rising_change i flushed xs h
 rising_message mixed (Message.trigger i) xs h = rising_change i triggered xs h
@@ -139,7 +140,7 @@ message_leaves : (mixed : ℕ) (m : Message Stream) (xs : List Stands) → IsRis
 message_leaves mixed (Message.new n) xs h = omega (arith, left_with n.input (new_stream n.spec n.feed n.factors n.attr n.corked) xs)
 message_leaves mixed (Message.attach i parcel feed factors) xs h = omega (arith, left_with i (attached parcel feed factors) xs)
 message_leaves mixed (Message.detach i) xs h = omega (arith, left_without (λ x. not (Stands.index x == i)) xs)
-message_leaves mixed (Message.write w) xs h = omega (arith, left_change w.input (written_by w mixed) (λ s. refl) xs)
+message_leaves mixed (Message.write w) xs h = omega (arith, left_change w.input (written_by w.seek w.offset w.frames w.bytes mixed) (λ s. refl) xs)
 message_leaves mixed (Message.cork i on) xs h = omega (arith, left_change i (λ s. corked_to s on) (λ s. refl) xs)
 message_leaves mixed (Message.flush i) xs h = omega (arith, left_change i flushed (λ s. refl) xs)
 message_leaves mixed (Message.trigger i) xs h = omega (arith, left_change i triggered (λ s. refl) xs)

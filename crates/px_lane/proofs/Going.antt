@@ -4,7 +4,7 @@ use Rattle.std.specs.Prelude.{ℤ, ◌==◌}
 use Rattle.std.proofs.lemmas.Int.{ints}
 use Rattle.px_model.specs.Index.{onward, above, LAST, IsIndex}
 use Rattle.px_model.specs.Frame.{Frame}
-use Rattle.px_model.specs.Queue.{Queue, IsQueue, left_of, is_held_short}
+use Rattle.px_model.specs.Queue.{Queue, IsQueue, left_of, is_short}
 use Rattle.px_model.specs.Going.{queue_after}
 use Rattle.px_model.proofs.Forward.{moved, moved_same, step_of, runs_out, on_step, after_on, left_fits}
 use Rattle.px_lane.specs.Written.{Written, held_of, queue_of, step_by}
@@ -18,7 +18,7 @@ moved_on writes read write hold on prebuf d =
     (held_onward read d writes) refl refl
 
 pub gone : (writes : List Written) (read write : ℤ) (hold : Bool) (prebuf k d : ℕ) (on : Bool)
-    → IsQueue (queue_of writes read write hold prebuf) → is_held_short (queue_of writes read write hold prebuf) ≡ false → 0 < k
+    → IsQueue (queue_of writes read write hold prebuf) → is_short (queue_of writes read write hold prebuf) ≡ false → 0 < k
     → d ≡ step_of (queue_of writes read write hold prebuf) k → on ≡ runs_out (queue_of writes read write hold prebuf) k
     → queue_of writes (onward read d) write on prebuf ≡ queue_after (queue_of writes read write hold prebuf) k
 gone writes read write hold prebuf k d on keeps long some step out =

@@ -9,10 +9,11 @@ use Rattle.px_model.specs.Message.{Message, FrameWrite}
 use Rattle.px_model.specs.Notice.{Notice}
 use Rattle.px_model.specs.Sink.{Input as Stands, stream_at}
 use Rattle.px_model.specs.Write.{Outcome, stored, overflow, outside}
-use Rattle.px_model.specs.Turn.{write_outcome, refusal_of, notices_from, inputs_with, message_notices, all_message_notices}
+use Rattle.px_model.specs.Applied.{write_outcome}
+use Rattle.px_model.specs.Turn.{refusal_of, notices_from, inputs_with, message_notices, all_message_notices}
 use Rattle.px_lane.specs.declared.change.Change.TheVariants.{Write}
 use Rattle.px_lane.specs.declared.ready.Ready.TheVariants.{Change as Changes}
-use Rattle.px_lane.specs.Changes.{frame_write, is_refused, refused_at, SuitsAt, overflow_if}
+use Rattle.px_lane.specs.Changes.{is_refused, refused_at, SuitsAt, overflow_if}
 use Rattle.px_lane.specs.declared.ready.Ready.{Ready}
 use Rattle.px_lane.specs.Taking.{AreWhole, IsReadyFor, ready_notices}
 
@@ -25,9 +26,9 @@ module _ (input : InputId) (seek : ℕ) (offset : ℤ) (frames : ℕ) (bytes : V
   brings : FrameWrite
   brings = record { input = input.0; seek = seek; offset = offset; frames = frames; bytes = bytes.items }
 
-  write_notices : (mixed : ℕ) (o : Option Stream) → overflow_if input.0 (refused_at o (Write seek offset frames bytes) mixed) ≡ notices_from o (λ s. refusal_of input.0 (write_outcome s (record { input = input.0; seek = seek; offset = offset; frames = frames; bytes = bytes.items }) mixed))
+  write_notices : (mixed : ℕ) (o : Option Stream) → overflow_if input.0 (refused_at o (Write seek offset frames bytes) mixed) ≡ notices_from o (λ s. refusal_of input.0 (write_outcome s seek offset frames bytes.items mixed))
   write_notices mixed None = refl
-  write_notices mixed (Some s) = refusal input.0 (write_outcome s (frame_write seek offset frames bytes.items) mixed)
+  write_notices mixed (Some s) = refusal input.0 (write_outcome s seek offset frames bytes.items mixed)
 
   write_suits : (o : Option Stream) → AreWhole o (record { input = input.0; seek = seek; offset = offset; frames = frames; bytes = bytes.items }) → SuitsAt o (Write seek offset frames bytes)
   write_suits None h = tt

@@ -24,7 +24,7 @@ use Rattle.px_lane.proofs.Whole.{frames_within}
 use Rattle.px_sample.proofs.FormatLemmas.{size_of-some}
 use Rattle.px_sample.proofs.RunLemmas.{whole_samples}
 use Rattle.px_model.specs.Frame.{Frame, SampleSpec, frames_of, frame_size, sample_size, sample_of}
-use Rattle.px_model.specs.Queue.{Ahead, nothing, silence, sound}
+use Rattle.px_model.specs.Queue.{FrameAhead, nothing, silence, sound}
 use Rattle.px_model.specs.Stream.{Stream}
 use Rattle.px_model.specs.Mix.{Samples, value_of, scaled, share_of}
 use Rattle.px_lane.specs.Heard.{heard}
@@ -73,12 +73,12 @@ frame_size_known spec = ap (λ (n : ℕ). spec.channels * n) (size_known spec.fo
 
 -- ---- the frame that is heard
 
-pub share_none : (m : Samples) (sink : SampleSpec) (s : Stream) (c : ℕ) (a : Ahead) → heard a ≡ None → share_of m sink s c a ≡ pos 0
+pub share_none : (m : Samples) (sink : SampleSpec) (s : Stream) (c : ℕ) (a : FrameAhead) → heard a ≡ None → share_of m sink s c a ≡ pos 0
 share_none m sink s c nothing is = refl
 share_none m sink s c silence is = refl
 share_none m sink s c (sound f) is = cc
 
-pub share_heard : (m : Samples) (sink : SampleSpec) (s : Stream) (c : ℕ) (a : Ahead) (f : Frame) → heard a ≡ Some f
+pub share_heard : (m : Samples) (sink : SampleSpec) (s : Stream) (c : ℕ) (a : FrameAhead) (f : Frame) → heard a ≡ Some f
     → share_of m sink s c a ≡ scaled (value_of m sink s f c) (slice_index s.factors c)
 share_heard m sink s c nothing f is = cc
 share_heard m sink s c silence f is = cc
@@ -132,7 +132,7 @@ value_known sink spec i frame =
     (work_value_of spec.format (take (size_of spec.format) (drop (i * size_of spec.format) frame)))) (width_known (width_of sink.format))
 
 -- what a stream adds, by the values of the frame that it gives
-pub share_by_values : (sink spec : Spec) (s : Stream) (c : ℕ) (a : Ahead) (frame : Frame) (values : List ℤ)
+pub share_by_values : (sink spec : Spec) (s : Stream) (c : ℕ) (a : FrameAhead) (frame : Frame) (values : List ℤ)
     → sample_spec spec ≡ s.spec → heard a ≡ Some frame → length frame ≡ frame_size_of spec → slice_index s.feed c < spec.channels
     → values ≡ map (at_width (width_of spec.format) (width_of sink.format)) (work_values_of spec.format frame)
     → scaled (get_or values (slice_index s.feed c) (pos 0)) (slice_index s.factors c) ≡ share_of samples (sample_spec sink) s c a

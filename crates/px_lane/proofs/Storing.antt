@@ -1,6 +1,6 @@
 -- Frames are held over what is held, and the newest write that has an index is found.
 use Rattle.std.proofs.Common.{◌≡◌, ℕ, suc, ◌<◌, ◌≤◌, max, List, [], ◌∷◌, ◌++◌, length, take, get_or, Bool, false, true, refl, ap, sym, ◌∙◌, subst, arith, cond, rules, Option, Some, None, inl, inr, ⊎_elim}
-use Rattle.std.specs.Prelude.{ℤ, nat_lt, not, ◌&&◌, int_lt, ◌≤ℤ◌, slice_get, IsSome}
+use Rattle.std.specs.Prelude.{ℤ, pos, ◌-ℤ◌, not, ◌&&◌, int_lt, ◌≤ℤ◌, slice_get, IsSome}
 use Rattle.std.proofs.lemmas.Int.{ints, by_lt_z}
 use Rattle.std.proofs.lemmas.Bool.{cases_lt}
 use Rattle.std.proofs.lemmas.Bool.Decides.{nat_tests}
@@ -9,8 +9,8 @@ use Rattle.std.proofs.Math.Seq.{take-suc}
 use Rattle.px_model.specs.Index.{onward, above, LAST, IsIndex, is_index}
 use Rattle.px_model.specs.Frame.{Frame}
 use Rattle.px_model.specs.Held.{frame_of}
-use Rattle.px_model.specs.Queue.{Queue, IsQueue, end_of as queue_end}
-use Rattle.px_model.specs.Write.{Outcome, queue_with, outcome_of, stored, overflow, outside}
+use Rattle.px_model.specs.Queue.{Queue, IsQueue}
+use Rattle.px_model.specs.Write.{Outcome, queue_with, passes_end, outcome_of, stored, overflow, outside}
 use Rattle.px_model.proofs.Places.{got_some}
 use Rattle.px_lane.specs.Written.{Written, end_of, frame_in, over, held_of, queue_of, reach_of}
 use Rattle.px_lane.proofs.Log.{held_more, held_trimmed, length_over, length_over_none, found_in, not_found_in, frame_there}
@@ -99,17 +99,17 @@ index_shown i range = grind (arith, ints, range.0, range.1)
 
 -- frames in the range of indices are held, unless they go past the end and the limit
 pub outcome_in : (q : Queue) (limit : ℕ) (w : Written) (ahead : ℤ) → IsIndex w.at → IsIndex (end_of w)
-    → outcome_of q limit w.at (length w.frames) ahead ≡ cond (int_lt (queue_end q) (end_of w) && nat_lt limit (above (end_of w) ahead)) overflow stored
+    → outcome_of q (pos limit) w.at (length w.frames) ahead ≡ cond (passes_end q w.at (length w.frames) && int_lt (pos limit) (end_of w -ℤ ahead)) overflow stored
 outcome_in q limit w ahead first last =
-    ap (λ (b : Bool). cond (not (b && is_index (end_of w))) outside (cond (int_lt (queue_end q) (end_of w) && nat_lt limit (above (end_of w) ahead)) overflow stored)) (index_shown w.at first)
-    ∙ ap (λ (b : Bool). cond (not (true && b)) outside (cond (int_lt (queue_end q) (end_of w) && nat_lt limit (above (end_of w) ahead)) overflow stored)) (index_shown (end_of w) last)
+    ap (λ (b : Bool). cond (not (b && is_index (end_of w))) outside (cond (passes_end q w.at (length w.frames) && int_lt (pos limit) (end_of w -ℤ ahead)) overflow stored)) (index_shown w.at first)
+    ∙ ap (λ (b : Bool). cond (not (true && b)) outside (cond (passes_end q w.at (length w.frames) && int_lt (pos limit) (end_of w -ℤ ahead)) overflow stored)) (index_shown (end_of w) last)
 
-pub overflows_in : (q : Queue) (limit : ℕ) (w : Written) (ahead : ℤ) → IsIndex w.at → IsIndex (end_of w) → (int_lt (queue_end q) (end_of w) && nat_lt limit (above (end_of w) ahead)) ≡ true
-    → outcome_of q limit w.at (length w.frames) ahead ≡ overflow
+pub overflows_in : (q : Queue) (limit : ℕ) (w : Written) (ahead : ℤ) → IsIndex w.at → IsIndex (end_of w) → (passes_end q w.at (length w.frames) && int_lt (pos limit) (end_of w -ℤ ahead)) ≡ true
+    → outcome_of q (pos limit) w.at (length w.frames) ahead ≡ overflow
 overflows_in q limit w ahead first last e = outcome_in q limit w ahead first last ∙ ap (λ (b : Bool). cond b overflow stored) e
 
-pub stores_in : (q : Queue) (limit : ℕ) (w : Written) (ahead : ℤ) → IsIndex w.at → IsIndex (end_of w) → (int_lt (queue_end q) (end_of w) && nat_lt limit (above (end_of w) ahead)) ≡ false
-    → outcome_of q limit w.at (length w.frames) ahead ≡ stored
+pub stores_in : (q : Queue) (limit : ℕ) (w : Written) (ahead : ℤ) → IsIndex w.at → IsIndex (end_of w) → (passes_end q w.at (length w.frames) && int_lt (pos limit) (end_of w -ℤ ahead)) ≡ false
+    → outcome_of q (pos limit) w.at (length w.frames) ahead ≡ stored
 stores_in q limit w ahead first last e = outcome_in q limit w ahead first last ∙ ap (λ (b : Bool). cond b overflow stored) e
 
 pub same_prebuf : (o : Outcome) (q : Queue) (p : ℤ) (frames : List Frame) → q.prebuf ≡ Queue.prebuf (queue_with o q p frames)

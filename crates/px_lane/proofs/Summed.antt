@@ -14,12 +14,12 @@ use Rattle.px_sample.specs.Format.{code_of, width_of}
 use Rattle.px_sample.specs.WorkValue.{sample_of, packed_of}
 use Rattle.px_model.specs.Frame.{SampleSpec}
 use Rattle.px_model.specs.Stream.{Stream, frame_at}
-use Rattle.px_model.specs.Mix.{share_of, mix_of}
+use Rattle.px_model.specs.Mix.{share_of, sum_of, mix_of}
 use Rattle.px_model.specs.Sink.{Input as Stands, streams_of}
 use Rattle.px_lane.specs.declared.input.Input.{Input}
 use Rattle.px_lane.specs.Room.{RoomyStream}
 use Rattle.px_lane.specs.Inputs.{input_of, inputs_of}
-use Rattle.px_lane.specs.Samples.{samples, sum_of, format_with, bit_width}
+use Rattle.px_lane.specs.Samples.{samples, format_with, bit_width}
 use Rattle.px_msg.specs.View.{sample_spec}
 use Rattle.px_lane.proofs.Shares.{format_known}
 
@@ -35,12 +35,12 @@ shares sink k c streams = map (λ s. share_of samples sink s c (frame_at s k)) s
 
 -- one more input adds what its stream gives
 pub sum_more : (sink : SampleSpec) (inputs : List Input) (i : ℕ) (x : Input) (k c : ℕ) → i < length inputs → x ≡ get_or inputs i x
-    → sum_of sink (streams_of (inputs_of (take (i + 1) inputs))) k c
-    ≡ sum_of sink (streams_of (inputs_of (take i inputs))) k c +ℤ share_of samples sink x.stream.stream c (frame_at x.stream.stream k)
+    → sum_of samples sink (streams_of (inputs_of (take (i + 1) inputs))) k c
+    ≡ sum_of samples sink (streams_of (inputs_of (take i inputs))) k c +ℤ share_of samples sink x.stream.stream c (frame_at x.stream.stream k)
 sum_more sink inputs i x k c less is =
-    ap (λ (xs : List Input). sum_of sink (streams_of (inputs_of xs)) k c)
+    ap (λ (xs : List Input). sum_of samples sink (streams_of (inputs_of xs)) k c)
     (take_more inputs i x less ∙ ap (λ (y : Input). take i inputs ++ y ∷ []) (sym is))
-    ∙ ap (λ (xs : List Stream). sum_of sink xs k c)
+    ∙ ap (λ (xs : List Stream). sum_of samples sink xs k c)
     (ap streams_of (map-append input_of (take i inputs) (x ∷ [])) ∙ map-append (λ y. y.stream) (inputs_of (take i inputs)) (input_of x ∷ []))
     ∙ ap (λ (xs : List ℤ). fold ◌+ℤ◌ (pos 0) xs) (map-append (λ s. share_of samples sink s c (frame_at s k)) (streams_of (inputs_of (take i inputs))) (x.stream.stream ∷ []))
     ∙ fold-append ◌+ℤ◌ (pos 0) (shares sink k c (streams_of (inputs_of (take i inputs)))) (shares sink k c (x.stream.stream ∷ []))
@@ -53,13 +53,13 @@ sums_listed f sums n size each =
 
 -- the sums, clipped and packed, are the frame of the definition
 pub packed_mix : (sink : Spec) (streams : List Stream) (k : ℕ)
-    → packed_of sink.format (map (saturate_signed (bit_width (width_of sink.format))) (map (sum_of (sample_spec sink) streams k) (range_with_len 0 sink.channels)))
+    → packed_of sink.format (map (saturate_signed (bit_width (width_of sink.format))) (map (sum_of samples (sample_spec sink) streams k) (range_with_len 0 sink.channels)))
     ≡ mix_of samples (sample_spec sink) streams k
 packed_mix sink streams k =
     let clip = λ (x : ℤ). saturate_signed (bit_width (width_of (format_with (code_of sink.format)))) x in
-    ap (λ (g : Format). packed_of g (map (saturate_signed (bit_width (width_of g))) (map (sum_of (sample_spec sink) streams k) (range_with_len 0 sink.channels)))) (sym (format_known sink.format))
-    ∙ flat_map-map (λ (x : ℤ). sample_of (format_with (code_of sink.format)) x) clip (map (sum_of (sample_spec sink) streams k) (range_with_len 0 sink.channels))
-    ∙ flat_map-map (λ (x : ℤ). sample_of (format_with (code_of sink.format)) (clip x)) (sum_of (sample_spec sink) streams k) (range_with_len 0 sink.channels)
+    ap (λ (g : Format). packed_of g (map (saturate_signed (bit_width (width_of g))) (map (sum_of samples (sample_spec sink) streams k) (range_with_len 0 sink.channels)))) (sym (format_known sink.format))
+    ∙ flat_map-map (λ (x : ℤ). sample_of (format_with (code_of sink.format)) x) clip (map (sum_of samples (sample_spec sink) streams k) (range_with_len 0 sink.channels))
+    ∙ flat_map-map (λ (x : ℤ). sample_of (format_with (code_of sink.format)) (clip x)) (sum_of samples (sample_spec sink) streams k) (range_with_len 0 sink.channels)
 
 -- one more frame stands behind those before it
 pub frames_more : (f : ℕ → List ℕ) (out ys : List ℕ) (ahead k a n m : ℕ) → a ≤ length out → m ≡ a + length ys

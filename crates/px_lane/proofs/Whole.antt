@@ -6,7 +6,7 @@ use Rattle.std.proofs.Math.Nat.{add-mul}
 use Rattle.std.proofs.lemmas.List.{length-take-le}
 use Rattle.px_model.specs.Frame.{Frame, frames_of}
 use Rattle.px_model.specs.Held.{place, overlay}
-use Rattle.px_model.specs.Queue.{Queue, nothing, sound_of, is_held_short, left_of, queue_frame}
+use Rattle.px_model.specs.Queue.{Queue, nothing, sound_of, is_short, left_of, queue_frame}
 use Rattle.px_model.specs.Going.{queue_after, queue_on, read_after}
 use Rattle.px_model.specs.Write.{Outcome, queue_with, stored, overflow, outside}
 use Rattle.px_lane.specs.Heard.{heard}
@@ -59,7 +59,7 @@ written_whole size outside q p frames are all = all
 
 pub queue_after_whole : (size : ℕ) (q : Queue) (k : ℕ) → HoldFramesOf size q.held → HoldFramesOf size (Queue.held (queue_after q k))
 queue_after_whole size q zero all = all
-queue_after_whole size q (suc k) all = by (is_held_short q)
+queue_after_whole size q (suc k) all = by (is_short q)
   where
     by : (short : Bool) → HoldFramesOf size (Queue.held (cond short q (queue_on q (suc k))))
     by true = all
@@ -91,7 +91,7 @@ heard_place false true (Some g) f is = is
 
 pub heard_whole : (size : ℕ) (q : Queue) (k : ℕ) (f : Frame) → HoldFramesOf size q.held → heard (queue_frame q k) ≡ Some f → length f ≡ size
 heard_whole size q k f all is =
-    place_whole size q.held k f all (heard_place (is_held_short q) (nat_lt k (left_of q)) (place q.held k) f is)
+    place_whole size q.held k f all (heard_place (is_short q) (nat_lt k (left_of q)) (place q.held k) f is)
 
 -- a fact of the frame that is there, if one is
 pub if_there : {B : Type 0} (now : B → Frame) (P : Type 0) (Q R : Frame → Type 0) (r : Option B) → ((f : Frame) → Q f → R f)

@@ -7,7 +7,7 @@ use Rattle.px_model.specs.Control.{corked_to, triggered, prebuffered, flushed, d
 use Rattle.px_model.specs.Message.{FrameWrite}
 use Rattle.px_model.specs.Notice.{Notice}
 use Rattle.px_model.specs.Orderly.{IsRepaired}
-use Rattle.px_model.specs.Turn.{written_by, write_outcome}
+use Rattle.px_model.specs.Applied.{written_by, write_outcome}
 use Rattle.px_lane.specs.declared.change.Change.{Change}
 use Rattle.px_lane.specs.declared.change.Change.TheVariants.{Write, Cork, Flush, Trigger, Prebuf, Drain, Attr, Factors}
 
@@ -17,7 +17,7 @@ frame_write seek offset frames bytes = record { input = 0; seek = seek; offset =
 
 -- the stream after it, where so many frames are mixed ahead
 abbrev pub changed_by : Change → ℕ → Stream → Stream
-changed_by (Write seek offset frames bytes) mixed s = written_by (frame_write seek offset frames bytes.items) mixed s
+changed_by (Write seek offset frames bytes) mixed s = written_by seek offset frames bytes.items mixed s
 changed_by (Cork on) mixed s = corked_to s on
 changed_by Flush mixed s = flushed s
 changed_by Trigger mixed s = triggered s
@@ -44,7 +44,7 @@ is_refused overflow = true
 is_refused outside = true
 
 abbrev pub refuses : Change → ℕ → Stream → Bool
-refuses (Write seek offset frames bytes) mixed s = is_refused (write_outcome s (frame_write seek offset frames bytes.items) mixed)
+refuses (Write seek offset frames bytes) mixed s = is_refused (write_outcome s seek offset frames bytes.items mixed)
 refuses (Cork on) mixed s = false
 refuses Flush mixed s = false
 refuses Trigger mixed s = false

@@ -1,16 +1,13 @@
 -- What a mix asks of the sample formats, out of the formats' own definitions.
-use Rattle.std.specs.Prelude.{ℕ, ◌*◌, ◌^◌, List, [], ◌∷◌, slice_index_or, map, ℤ, pos, ◌+ℤ◌, ◌≤ℤ◌, neg_ℤ}
+use Rattle.std.specs.Prelude.{ℕ, ◌*◌, ◌^◌, List, [], ◌∷◌, slice_index_or, ℤ, pos, ◌≤ℤ◌, neg_ℤ}
 use Rattle.std.specs.Int.{Width as BitWidth, w8, w16, w32}
-use Rattle.std.specs.List.{fold}
 use Rattle.px_sample.specs.declared.format.Format.{Format}
 use Rattle.px_sample.specs.declared.format.Format.TheVariants.{U8, Alaw, Ulaw, S16Le, S16Be, Float32Le, Float32Be, S32Le, S32Be, S24Le, S24Be, S24In32Le, S24In32Be}
 use Rattle.px_sample.specs.declared.format.Width.{Width}
 use Rattle.px_sample.specs.declared.format.Width.TheVariants.{W8, W16, W32}
 use Rattle.px_sample.specs.Format.{width_of}
 use Rattle.px_sample.specs.WorkValue.{work_value_of, at_width, sample_of}
-use Rattle.px_model.specs.Frame.{SampleSpec}
-use Rattle.px_model.specs.Stream.{Stream, frame_at}
-use Rattle.px_model.specs.Mix.{Samples, share_of}
+use Rattle.px_model.specs.Mix.{Samples}
 
 -- the formats in the order of their codes, and the format with a code
 abbrev pub formats : List Format
@@ -37,10 +34,6 @@ samples = record {
   to = λ from to value. at_width (work_width from) (work_width to) value;
   packed = λ code value. sample_of (format_with code) value;
 }
-
--- what the streams add to a sink channel k frames ahead, before it is clipped
-abbrev pub sum_of : SampleSpec → List Stream → ℕ → ℕ → ℤ
-sum_of sink streams k channel = fold ◌+ℤ◌ (pos 0) (map (λ s. share_of samples sink s channel (frame_at s k)) streams)
 
 -- the range of a sum of n shares: a work value has 32 bits, and so has a factor, of which 16 are a fraction
 pub record IsSumOf (n : ℕ) (sum : ℤ) : Type 0 where

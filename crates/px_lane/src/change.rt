@@ -1,8 +1,8 @@
 // What a message does to a stream.
 ghost use Rattle.std.specs.Prelude.{◌≡◌, ◌≤◌, ◌+◌, ◌*◌, length};
 ghost use Rattle.px_model.specs.Frame.{frame_size};
-ghost use Rattle.px_model.specs.Turn.{written_by, write_outcome};
-ghost use Rattle.px_lane.specs.Changes.{changed_by, cost_of, refuses, is_refused, frame_write, Suits};
+ghost use Rattle.px_model.specs.Applied.{written_by, write_outcome};
+ghost use Rattle.px_lane.specs.Changes.{changed_by, cost_of, refuses, is_refused, Suits};
 
 use crate::{Chunk, Stored, Stream};
 use px_model::Attr;
@@ -74,8 +74,8 @@ impl Stream {
     ) -> bool
         requires room { 1 ≤ self.old.room }
         requires whole { length bytes.items ≡ frames * frame_size self.old.stream.spec }
-        ensures after { self.new.stream ≡ written_by (frame_write seek offset frames bytes.items) mixed self.old.stream }
-        ensures refused { result ≡ is_refused (write_outcome self.old.stream (frame_write seek offset frames bytes.items) mixed) }
+        ensures after { self.new.stream ≡ written_by seek offset frames bytes.items mixed self.old.stream }
+        ensures refused { result ≡ is_refused (write_outcome self.old.stream seek offset frames bytes.items mixed) }
         ensures room { self.old.room ≤ self.new.room + 1 }
     {
         let Some(at) = self.target(seek, offset) else {

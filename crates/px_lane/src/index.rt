@@ -1,5 +1,5 @@
 // Indices of a stream.
-ghost use Rattle.std.specs.Prelude.{◌≡◌, pos, ◌+ℤ◌, IsSome, IfSome, IsTrue, int_lt, ◌↔◌};
+ghost use Rattle.std.specs.Prelude.{◌≡◌, pos, ◌+ℤ◌, ◌-ℤ◌, IsSome, IfSome, IsTrue, int_lt, ◌↔◌};
 ghost use Rattle.px_model.specs.Index.{LAST, above, onward, is_index, IsIndex};
 
 use std::marker::Model;
@@ -63,6 +63,13 @@ impl Index {
         ensures { result ≡ int_lt self other }
     {
         self.frame < other.frame
+    }
+
+    /// Whether it lies more than so many frames above another.
+    pub fn is_past(self, other: Index, frames: u32) -> bool
+        ensures { result ≡ int_lt (pos frames) (self -ℤ other) }
+    {
+        self.frame - other.frame > frames as i64
     }
 
     /// The index so many frames past it, or before it where the offset is negative. `None` where that is no index.

@@ -5,11 +5,11 @@ ghost use Rattle.std.specs.List.{concat, range_with_len, AllByRecursion};
 ghost use Rattle.px_sample.specs.Format.{width_of, size_of, frame_size_of, IsWhole, IsLinear};
 ghost use Rattle.px_sample.specs.WorkValue.{work_values_of, at_width, IsWithin};
 ghost use Rattle.px_model.specs.Stream.{frame_at};
-ghost use Rattle.px_model.specs.Mix.{mix_of, share_of, scaled};
+ghost use Rattle.px_model.specs.Mix.{mix_of, share_of, sum_of, scaled};
 ghost use Rattle.px_model.specs.Sink.{Input as Stands, IsStreamOf, streams_of};
 ghost use Rattle.px_msg.specs.View.{sample_spec};
 ghost use Rattle.px_lane.specs.Inputs.{inputs_of};
-ghost use Rattle.px_lane.specs.Samples.{samples, bit_width, IsSumOf, sum_of};
+ghost use Rattle.px_lane.specs.Samples.{samples, bit_width, IsSumOf};
 
 use crate::share::scaled;
 use crate::{Input, Stream};
@@ -90,7 +90,7 @@ fn add_all(sink: &Spec, inputs: &[Input], ahead: u64, sums: &mut [i64])
     requires mixable { AllByRecursion (λ x. IsStreamOf (sample_spec sink.now) (Stands.stream x)) (inputs_of inputs.now) }
     requires places { length sums.old ≡ sink.now.channels }
     ensures bounds { All (IsSumOf 256) sums.new }
-    ensures sums { sums.new ≡ map (sum_of (sample_spec sink.now) (streams_of (inputs_of inputs.now)) ahead) (range_with_len 0 sink.now.channels) }
+    ensures sums { sums.new ≡ map (sum_of samples (sample_spec sink.now) (streams_of (inputs_of inputs.now)) ahead) (range_with_len 0 sink.now.channels) }
 {
     sums.fill(0);
     for input in inputs {

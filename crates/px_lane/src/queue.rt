@@ -1,11 +1,11 @@
 // The frames of a stream that wait to be played.
-ghost use Rattle.std.specs.Prelude.{◌≡◌, ◌≤◌, ◌+◌, ◌-◌, ◌≤ℤ◌, ◌&&◌, vec_len, vec_capacity, int_lt, nat_lt, length, IsTrue, IsSome, IfSome, ◌↔◌, OnOk, MatchOption, None, Some, true, false};
+ghost use Rattle.std.specs.Prelude.{◌≡◌, ◌≤◌, ◌+◌, ◌-◌, ◌==◌, pos, ◌≤ℤ◌, ◌-ℤ◌, ◌&&◌, ◌||◌, vec_len, vec_capacity, int_lt, nat_lt, length, IsTrue, IsSome, IfSome, ◌↔◌, OnOk, MatchOption, None, Some, true, false};
 ghost use Rattle.px_model.specs.Index.{above, onward, is_index, LAST};
 ghost use Rattle.px_model.specs.Held.{place, frame_of};
-ghost use Rattle.px_model.specs.Queue.{Queue, end_of, left_of, is_held_short, queue_frame};
+ghost use Rattle.px_model.specs.Queue.{Queue, end_of, left_of, is_short, queue_frame};
 ghost use Rattle.px_model.specs.Going.{queue_given, queue_after};
 ghost use Rattle.px_model.specs.Write.{seek_of, origin_of, target_of, outcome_of, queue_with, stored, overflow};
-ghost use Rattle.px_model.specs.Control.{new_queue, not_held, held_again, emptied, with_prebuf};
+ghost use Rattle.px_model.specs.Control.{new_queue, prebuf_disabled, prebuf_forced, emptied, with_prebuf};
 ghost use Rattle.px_lane.specs.Heard.{heard};
 ghost use Rattle.px_lane.specs.Outcomes.{outcome_for};
 ghost use Rattle.px_lane.specs.Written.{Written, held_of, queue_of, step_by};
@@ -112,8 +112,8 @@ impl FrameQueue {
     }
 
     /// Whether it waits for more frames before it plays.
-    pub fn is_held_short(&self) -> bool
-        ensures { result ≡ is_held_short self.now.queue }
+    pub fn is_short(&self) -> bool
+        ensures { result ≡ is_short self.now.queue }
     {
         self.hold && self.write.above(self.read) < self.prebuf as u64
     }
@@ -122,7 +122,7 @@ impl FrameQueue {
     pub fn given(&self, frames: u64) -> u64
         ensures { result ≡ queue_given self.now.queue frames }
     {
-        if self.is_held_short() {
+        if self.is_short() {
             0
         } else {
             frames.min(self.left())
@@ -143,7 +143,7 @@ impl FrameQueue {
     pub fn ahead(&self, frames: u64) -> Index
         ensures { result ≡ (queue_after self.now.queue frames).read }
     {
-        if frames == 0 || self.is_held_short() {
+        if frames == 0 || self.is_short() {
             return self.read;
         }
         let step = step(
@@ -159,7 +159,7 @@ impl FrameQueue {
     pub fn frame(&self, ahead: u64) -> Option<&[u8]>
         ensures { MatchOption result (heard (queue_frame self.now.queue ahead) ≡ None) (λ frame. heard (queue_frame self.now.queue ahead) ≡ Some frame.now) }
     {
-        if self.is_held_short() {
+        if self.is_short() {
             return None;
         }
         let left = self.left();
@@ -174,7 +174,7 @@ impl FrameQueue {
         ensures value { self.new.queue ≡ queue_after self.old.queue frames }
         ensures room { self.new.room ≡ self.old.room }
     {
-        if frames == 0 || self.is_held_short() {
+        if frames == 0 || self.is_short() {
             return;
         }
         let left = self.left();
@@ -194,7 +194,7 @@ impl FrameQueue {
 
     /// Plays without waiting (PulseAudio: `pa_memblockq_prebuf_disable`).
     pub fn play_now(&mut self)
-        ensures value { self.new.queue ≡ not_held self.old.queue }
+        ensures value { self.new.queue ≡ prebuf_disabled self.old.queue }
         ensures room { self.new.room ≡ self.old.room }
     {
         self.hold = false;
@@ -202,7 +202,7 @@ impl FrameQueue {
 
     /// Waits again, where it has prebuffering (PulseAudio: `pa_memblockq_prebuf_force`).
     pub fn wait_again(&mut self)
-        ensures value { self.new.queue ≡ held_again self.old.queue }
+        ensures value { self.new.queue ≡ prebuf_forced self.old.queue }
         ensures room { self.new.room ≡ self.old.room }
     {
         self.hold = self.prebuf > 0;
@@ -240,9 +240,9 @@ impl FrameQueue {
 
     /// Writes frames, where at most `limit` frames may wait past the ahead index. The write index goes behind them also where they
     /// aren't held. Takes room for one write, and no memory. (Own: PulseAudio counts from the read index.)
-    pub fn write(&mut self, chunk: Chunk, limit: u64, ahead: Index) -> Stored
+    pub fn write(&mut self, chunk: Chunk, limit: u32, ahead: Index) -> Stored
         requires { 1 ≤ self.old.room }
-        ensures outcome { outcome_of self.old.queue limit chunk.at (length chunk.frames) ahead ≡ outcome_for result }
+        ensures outcome { outcome_of self.old.queue (pos limit) chunk.at (length chunk.frames) ahead ≡ outcome_for result }
         ensures after { self.new.queue ≡ queue_with (outcome_for result) self.old.queue chunk.at chunk.frames }
         ensures room { self.old.room ≤ self.new.room + 1 }
     {
@@ -256,10 +256,10 @@ impl FrameQueue {
     }
 
     // Whether frames that end there go past the end of what is held and past the limit.
-    fn overflows(&self, end: Index, limit: u64, ahead: Index) -> bool
-        ensures { result ≡ (int_lt (end_of self.now.queue) end && nat_lt limit (above end ahead)) }
+    fn overflows(&self, end: Index, limit: u32, ahead: Index) -> bool
+        ensures { result ≡ ((length self.now.queue.held == 0 || int_lt (end_of self.now.queue) end) && int_lt (pos limit) (end -ℤ ahead)) }
     {
-        self.end().is_below(end) && end.above(ahead) > limit
+        (self.held == 0 || self.end().is_below(end)) && end.is_past(ahead, limit)
     }
 
     // Holds frames over what is held, and goes on writing behind them.

@@ -1,5 +1,5 @@
 // A stream of a sink.
-ghost use Rattle.std.specs.Prelude.{◌≡◌, ◌≤◌, ◌+◌, ◌-◌, length, nat_le, IsTrue, IsSome, IfSome, ◌↔◌, OnOk, MatchOption, None, Some};
+ghost use Rattle.std.specs.Prelude.{◌≡◌, ◌≤◌, ◌+◌, ◌-◌, length, pos, nat_le, IsTrue, IsSome, IfSome, ◌↔◌, OnOk, MatchOption, None, Some};
 ghost use Rattle.px_model.specs.Going.{after, given_of, ahead_of};
 ghost use Rattle.px_model.specs.Control.{new_stream, attached, drained_by, corked_to, flushed, triggered, prebuffered, with_attr, with_factors};
 ghost use Rattle.px_model.specs.Orderly.{IsRepaired};
@@ -167,13 +167,13 @@ impl Stream {
     pub fn write(&mut self, chunk: Chunk, mixed: u64) -> Stored
         requires room { 1 ≤ self.old.room }
         requires whole { AreFramesOf (frame_size self.old.stream.spec) chunk.frames }
-        ensures outcome { outcome_of self.old.stream.queue self.old.stream.maxlength chunk.at (length chunk.frames) (ahead_of self.old.stream mixed) ≡ outcome_for result }
+        ensures outcome { outcome_of self.old.stream.queue (pos self.old.stream.maxlength) chunk.at (length chunk.frames) (ahead_of self.old.stream mixed) ≡ outcome_for result }
         ensures after { self.new.stream ≡ written self.old.stream chunk.at chunk.frames (ahead_of self.old.stream mixed) }
         ensures room { self.old.room ≤ self.new.room + 1 }
     {
         let ahead = self.ahead(mixed);
         let count = chunk.len();
-        let how = self.queue.write(chunk, self.maxlength as u64, ahead);
+        let how = self.queue.write(chunk, self.maxlength, ahead);
         self.requested = less(self.requested, count);
         how
     }

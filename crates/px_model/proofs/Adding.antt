@@ -6,7 +6,7 @@ use Rattle.std.proofs.lemmas.Bool.Decides.{nat_tests}
 use Rattle.std.proofs.lemmas.List.{drop-drop}
 use Rattle.px_model.specs.Index.{onward, above, LAST}
 use Rattle.px_model.specs.Held.{place}
-use Rattle.px_model.specs.Queue.{Queue, IsQueue, left_of, is_held_short, Ahead, sound_of, nothing, queue_frame}
+use Rattle.px_model.specs.Queue.{Queue, IsQueue, left_of, is_short, FrameAhead, sound_of, nothing, queue_frame}
 use Rattle.px_model.specs.Going.{queue_after, queue_on, queue_given}
 use Rattle.px_model.proofs.Bridge.{onward-onward, above_onward}
 use Rattle.px_model.proofs.Places.{place-drop}
@@ -14,14 +14,14 @@ use Rattle.px_model.proofs.Forward.{moved, moved_same, runs_out, step_of, left_f
 
 -- ---- the frames given
 
-pub given_short : (q : Queue) (k : ℕ) → is_held_short q ≡ true → queue_given q k ≡ 0
-given_short q k h = cond-true (is_held_short q) 0 (min k (left_of q)) h
+pub given_short : (q : Queue) (k : ℕ) → is_short q ≡ true → queue_given q k ≡ 0
+given_short q k h = cond-true (is_short q) 0 (min k (left_of q)) h
 
-pub given_on : (q : Queue) (k : ℕ) → is_held_short q ≡ false → queue_given q k ≡ min k (left_of q)
-given_on q k h = cond-false (is_held_short q) 0 (min k (left_of q)) h
+pub given_on : (q : Queue) (k : ℕ) → is_short q ≡ false → queue_given q k ≡ min k (left_of q)
+given_on q k h = cond-false (is_short q) 0 (min k (left_of q)) h
 
 pub given_none : (q : Queue) → queue_given q 0 ≡ 0
-given_none q = cond_both (is_held_short q) 0 (min 0 (left_of q)) (λ x. x ≡ 0) (λ e. refl) (λ e. omega arith)
+given_none q = cond_both (is_short q) 0 (min 0 (left_of q)) (λ x. x ≡ 0) (λ e. refl) (λ e. omega arith)
 
 given_splits : (p n a b : ℕ) → min (a + b) n ≡ min a n + cond (nat_lt 0 p && nat_lt n a) 0 (min b (n - a))
 given_splits p n a b = grind (arith, nat_tests)
@@ -53,10 +53,10 @@ gave_all q keeps (suc a) b k l =
 
 -- ---- the frame k ahead
 
-frame_inside : (p n a k : ℕ) (x : Ahead) → a + k < n → cond (nat_lt 0 p && nat_lt n a) nothing (cond (nat_lt k (n - a)) x nothing) ≡ cond (nat_lt (a + k) n) x nothing
+frame_inside : (p n a k : ℕ) (x : FrameAhead) → a + k < n → cond (nat_lt 0 p && nat_lt n a) nothing (cond (nat_lt k (n - a)) x nothing) ≡ cond (nat_lt (a + k) n) x nothing
 frame_inside p n a k x h = grind (arith, nat_tests)
 
-frame_outside : (p n a k : ℕ) (x y : Ahead) → n ≤ a + k → cond (nat_lt 0 p && nat_lt n a) nothing (cond (nat_lt k (n - a)) x nothing) ≡ cond (nat_lt (a + k) n) y nothing
+frame_outside : (p n a k : ℕ) (x y : FrameAhead) → n ≤ a + k → cond (nat_lt 0 p && nat_lt n a) nothing (cond (nat_lt k (n - a)) x nothing) ≡ cond (nat_lt (a + k) n) y nothing
 frame_outside p n a k x y h = grind (arith, nat_tests)
 
 step_inside : (b : Bool) (n m a : ℕ) → n ≤ m → a ≤ n → min a (cond b m n) ≡ a
@@ -71,11 +71,11 @@ place_on q keeps a k h =
 frame_next : (q : Queue) → IsQueue q → (a k : ℕ) → queue_frame (queue_on q a) k ≡ cond (runs_out q a) nothing (cond (nat_lt k (left_of q - a)) (sound_of (place (queue_on q a).held k)) nothing)
 frame_next q keeps a k = λ i. cond (short_on q keeps a i) nothing (cond (nat_lt k (left_on q keeps a i)) (sound_of (place (queue_on q a).held k)) nothing)
 
-frame_on : (q : Queue) (k : ℕ) → is_held_short q ≡ false → queue_frame q k ≡ cond (nat_lt k (left_of q)) (sound_of (place q.held k)) nothing
-frame_on q k h = cond-false (is_held_short q) nothing (cond (nat_lt k (left_of q)) (sound_of (place q.held k)) nothing) h
+frame_on : (q : Queue) (k : ℕ) → is_short q ≡ false → queue_frame q k ≡ cond (nat_lt k (left_of q)) (sound_of (place q.held k)) nothing
+frame_on q k h = cond-false (is_short q) nothing (cond (nat_lt k (left_of q)) (sound_of (place q.held k)) nothing) h
 
-frame_short : (q : Queue) (k : ℕ) → is_held_short q ≡ true → queue_frame q k ≡ nothing
-frame_short q k h = cond-true (is_held_short q) nothing (cond (nat_lt k (left_of q)) (sound_of (place q.held k)) nothing) h
+frame_short : (q : Queue) (k : ℕ) → is_short q ≡ true → queue_frame q k ≡ nothing
+frame_short q k h = cond-true (is_short q) nothing (cond (nat_lt k (left_of q)) (sound_of (place q.held k)) nothing) h
 
 pub queue_frame_ahead : (q : Queue) → IsQueue q → (a k : ℕ) → queue_frame (queue_after q a) k ≡ queue_frame q (a + k)
 queue_frame_ahead q keeps zero k = let e : k ≡ 0 + k = omega arith in ap (queue_frame q) e
@@ -142,8 +142,8 @@ module _ (q : Queue) (keeps : IsQueue q) (a b : ℕ) (some_b : 0 < b) where
       (ap (λ n. drop n q.held) steps) (ap (onward q.read) steps) (holds_out q.prebuf (left_of q) a b e)
       ∙ sym (on_step q keeps (a + b))
 
-  next_short : (x : Bool) → runs_out q a ≡ x → is_held_short next ≡ x
-  next_short x e = ap is_held_short (sym (on_step q keeps a)) ∙ short_on q keeps a ∙ e
+  next_short : (x : Bool) → runs_out q a ≡ x → is_short next ≡ x
+  next_short x e = ap is_short (sym (on_step q keeps a)) ∙ short_on q keeps a ∙ e
 
   after_next : queue_after (queue_on q a) b ≡ queue_on q (a + b)
   after_next =
@@ -158,10 +158,10 @@ queue_after_adds q keeps zero b = let e : b ≡ 0 + b = omega arith in ap (queue
 queue_after_adds q keeps (suc a) zero = let e : suc a ≡ suc a + 0 = omega arith in ap (queue_after q) e
 queue_after_adds q keeps (suc a) (suc b) =
     ⊎_elim
-    (λ (h : is_held_short q ≡ true). ap (λ t. queue_after t (suc b)) (after_short q (suc a) h) ∙ after_short q (suc b) h ∙ sym (after_short q (suc a + suc b) h))
-    (λ (h : is_held_short q ≡ false).
+    (λ (h : is_short q ≡ true). ap (λ t. queue_after t (suc b)) (after_short q (suc a) h) ∙ after_short q (suc b) h ∙ sym (after_short q (suc a + suc b) h))
+    (λ (h : is_short q ≡ false).
     ap (λ t. queue_after t (suc b)) (after_on q (suc a) h (omega arith)) ∙ after_next q keeps (suc a) (suc b) (omega arith) ∙ sym (after_on q (suc a + suc b) h (omega arith)))
-    (cases_Bool (is_held_short q))
+    (cases_Bool (is_short q))
 
 -- ---- what was given before
 
@@ -169,5 +169,5 @@ queue_after_adds q keeps (suc a) (suc b) =
 given_rest : (p n a b : ℕ) → cond (nat_lt 0 p && nat_lt n a) 0 (min b (n - a)) ≡ min b (n - a)
 given_rest p n a b = grind (arith, nat_tests)
 
-pub given_later : (q : Queue) → IsQueue q → (a b : ℕ) → is_held_short q ≡ false → 0 < a → queue_given (queue_after q a) b ≡ min b (left_of q - a)
+pub given_later : (q : Queue) → IsQueue q → (a b : ℕ) → is_short q ≡ false → 0 < a → queue_given (queue_after q a) b ≡ min b (left_of q - a)
 given_later q keeps a b h l = ap (λ t. queue_given t b) (after_on q a h l) ∙ given_next q keeps a b ∙ given_rest q.prebuf (left_of q) a b

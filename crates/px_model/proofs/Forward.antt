@@ -1,4 +1,4 @@
--- A queue going forward: one that is held short, and one that isn't, by how far its read index goes.
+-- A queue going forward: one that is short, and one that isn't, by how far its read index goes.
 use Rattle.std.proofs.Common.{◌≡◌, ℕ, zero, suc, ◌-◌, ◌<◌, ◌≤◌, min, List, drop, Option, Bool, true, false, refl, ap, subst, sym, ◌∙◌, arith, ⊎_elim, length-drop, cond}
 use Rattle.std.specs.Prelude.{ℤ, ◌≤ℤ◌, nat_lt, ◌&&◌, ◌==◌}
 use Rattle.std.specs.Int.{int_min}
@@ -7,7 +7,7 @@ use Rattle.std.proofs.lemmas.Bool.Decides.{nat_tests}
 use Rattle.std.proofs.lemmas.Int.{ints, clamps}
 use Rattle.px_model.specs.Index.{onward, above, LAST}
 use Rattle.px_model.specs.Frame.{Frame}
-use Rattle.px_model.specs.Queue.{Queue, IsQueue, left_of, is_held_short}
+use Rattle.px_model.specs.Queue.{Queue, IsQueue, left_of, is_short}
 use Rattle.px_model.specs.Going.{queue_after, queue_on, read_after}
 use Rattle.px_model.proofs.Bridge.{above-onward}
 use Rattle.px_model.proofs.Overlay.{drop_trimmed}
@@ -23,7 +23,7 @@ moved_same q h h' i i' b b' p r t = λ x. moved q (p x) (r x) (t x)
 abbrev pub runs_out : Queue → ℕ → Bool
 runs_out q k = nat_lt 0 q.prebuf && nat_lt (left_of q) k
 
--- how far the read index of one that isn't held short goes
+-- how far the read index of one that isn't short goes
 abbrev pub step_of : Queue → ℕ → ℕ
 step_of q k = min k (cond (q.prebuf == 0) (above LAST q.read) (left_of q))
 
@@ -37,7 +37,7 @@ read_step_when false r k n h = refl
 pub read_step : (q : Queue) → IsQueue q → (k : ℕ) → read_after q k ≡ onward q.read (step_of q k)
 read_step q keeps k = read_step_when (q.prebuf == 0) q.read k (left_of q) keeps.read_in_range.1
 
--- one that isn't held short, by its step
+-- one that isn't short, by its step
 pub on_step : (q : Queue) → IsQueue q → (k : ℕ) → queue_on q k ≡ moved q (drop (step_of q k) q.held) (onward q.read (step_of q k)) (runs_out q k)
 on_step q keeps k =
     moved_same q (drop (above (read_after q k) q.read) q.held) (drop (step_of q k) q.held) (read_after q k) (onward q.read (step_of q k)) (runs_out q k) (runs_out q k)
@@ -58,37 +58,37 @@ left_on q keeps k =
     ∙ left_moved q (step_of q k) (runs_out q k)
     ∙ left_less (q.prebuf == 0) (left_of q) (above LAST q.read) k (left_fits q keeps)
 
--- one that holds from then on, with nothing left, is held short; one that doesn't is not
-short_moved : (q : Queue) (n : ℕ) (b : Bool) → (b ≡ true → above q.write (onward q.read n) < q.prebuf) → is_held_short (moved q (drop n q.held) (onward q.read n) b) ≡ b
+-- one that holds from then on, with nothing left, is short; one that doesn't is not
+short_moved : (q : Queue) (n : ℕ) (b : Bool) → (b ≡ true → above q.write (onward q.read n) < q.prebuf) → is_short (moved q (drop n q.held) (onward q.read n) b) ≡ b
 short_moved q n true h = lt-ltb (above q.write (onward q.read n)) q.prebuf (h refl)
 short_moved q n false h = refl
 
 ran_short : (p n m k : ℕ) → (nat_lt 0 p && nat_lt n k) ≡ true → n - min k (cond (p == 0) m n) < p
 ran_short p n m k e = grind (arith, nat_tests)
 
-pub short_on : (q : Queue) → IsQueue q → (k : ℕ) → is_held_short (queue_on q k) ≡ runs_out q k
+pub short_on : (q : Queue) → IsQueue q → (k : ℕ) → is_short (queue_on q k) ≡ runs_out q k
 short_on q keeps k =
-    ap is_held_short (on_step q keeps k)
+    ap is_short (on_step q keeps k)
     ∙ short_moved q (step_of q k) (runs_out q k)
     (λ e. let short : left_of q - step_of q k < q.prebuf = ran_short q.prebuf (left_of q) (above LAST q.read) k e in omega (arith, ints, short))
 
 -- ---- the two kinds of queue
 
-pub after_short : (q : Queue) (k : ℕ) → is_held_short q ≡ true → queue_after q k ≡ q
+pub after_short : (q : Queue) (k : ℕ) → is_short q ≡ true → queue_after q k ≡ q
 after_short q zero h = refl
-after_short q (suc k) h = cond-true (is_held_short q) q (queue_on q (suc k)) h
+after_short q (suc k) h = cond-true (is_short q) q (queue_on q (suc k)) h
 
-pub after_on : (q : Queue) (k : ℕ) → is_held_short q ≡ false → 0 < k → queue_after q k ≡ queue_on q k
+pub after_on : (q : Queue) (k : ℕ) → is_short q ≡ false → 0 < k → queue_after q k ≡ queue_on q k
 after_on q zero h l = absurd (omega arith)
-after_on q (suc k) h l = cond-false (is_held_short q) q (queue_on q (suc k)) h
+after_on q (suc k) h l = cond-false (is_short q) q (queue_on q (suc k)) h
 
 -- a fact of the queue after k frames
-pub after_by : (P : Queue → Type 0) (q : Queue) (k : ℕ) → 0 < k → (is_held_short q ≡ true → P q) → (is_held_short q ≡ false → P (queue_on q k)) → P (queue_after q k)
+pub after_by : (P : Queue → Type 0) (q : Queue) (k : ℕ) → 0 < k → (is_short q ≡ true → P q) → (is_short q ≡ false → P (queue_on q k)) → P (queue_after q k)
 after_by P q k l short on =
     ⊎_elim
-    (λ (h : is_held_short q ≡ true). subst P (sym (after_short q k h)) (short h))
-    (λ (h : is_held_short q ≡ false). subst P (sym (after_on q k h l)) (on h))
-    (cases_Bool (is_held_short q))
+    (λ (h : is_short q ≡ true). subst P (sym (after_short q k h)) (short h))
+    (λ (h : is_short q ≡ false). subst P (sym (after_on q k h l)) (on h))
+    (cases_Bool (is_short q))
 
 -- ---- what a queue keeps
 

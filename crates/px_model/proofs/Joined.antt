@@ -7,7 +7,7 @@ use Rattle.std.proofs.lemmas.Bool.{false≢true, cases_Bool, ltb-false, cond-tru
 use Rattle.std.proofs.lemmas.Int.{ints}
 use Rattle.px_model.specs.Index.{onward, above, LAST}
 use Rattle.px_model.specs.Frame.{SampleSpec}
-use Rattle.px_model.specs.Queue.{Queue, IsQueue, left_of, is_held_short}
+use Rattle.px_model.specs.Queue.{Queue, IsQueue, left_of, is_short}
 use Rattle.px_model.specs.Stream.{Stream, IsStream}
 use Rattle.px_model.specs.Going.{after, given_of, queue_given, queue_after, queue_on}
 use Rattle.px_model.specs.Mix.{Samples}
@@ -58,12 +58,12 @@ abbrev Ends : ℤ → ℕ → Bool → ℤ → Type 0
 Ends from n ran i = ((i ≡ onward from n) ⊎ IsTrue ran) × (onward from n ≤ℤ i)
 
 abbrev queue_ran : Queue → ℕ → Bool
-queue_ran q k = not (is_held_short q) && q.prebuf == 0 && nat_lt (left_of q) k
+queue_ran q k = not (is_short q) && q.prebuf == 0 && nat_lt (left_of q) k
 
 ends_still : (from : ℤ) (n : ℕ) (ran : Bool) → n ≡ 0 → Ends from n ran from
 ends_still from n ran e = (inl (onward_none from n e), rises_none from n e)
 
-ends_on : (q : Queue) → IsQueue q → (k : ℕ) → is_held_short q ≡ false → Ends q.read (queue_given q k) (queue_ran q k) (queue_on q k).read
+ends_on : (q : Queue) → IsQueue q → (k : ℕ) → is_short q ≡ false → Ends q.read (queue_given q k) (queue_ran q k) (queue_on q k).read
 ends_on q keeps k w =
     let given : queue_given q k ≡ min k (left_of q) = given_on q k w in
     let read : (queue_on q k).read ≡ onward q.read (step_of q k) = ap Queue.read (on_step q keeps k) in
@@ -90,7 +90,7 @@ meets_open : (s : Stream) → IsStream s → (k : ℕ) → s.corked ≡ false �
 meets_open s keeps k c =
     let ends : Ends s.queue.read (queue_given s.queue k) (queue_ran s.queue k) (queue_after s.queue k).read = queue_ends s.queue keeps.queue_kept k in
     subst (λ n. Ends s.queue.read n (stretch_of s k).ran_on (queue_after s.queue k).read) (sym (given_open s k c))
-    (subst (λ b. Ends s.queue.read (queue_given s.queue k) (not b && not (is_held_short s.queue) && s.queue.prebuf == 0 && nat_lt (left_of s.queue) k) (queue_after s.queue k).read) (sym c) ends)
+    (subst (λ b. Ends s.queue.read (queue_given s.queue k) (not b && not (is_short s.queue) && s.queue.prebuf == 0 && nat_lt (left_of s.queue) k) (queue_after s.queue k).read) (sym c) ends)
 
 meets : (s : Stream) → IsStream s → (k : ℕ) → Meets s k (after s k)
 meets s keeps zero = ends_still s.queue.read (given_of s 0) (stretch_of s 0).ran_on (given_none s)

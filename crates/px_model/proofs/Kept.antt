@@ -1,17 +1,17 @@
 -- What a queue and a stream keep, they keep under every message and step.
 use Rattle.std.proofs.Common.{◌≡◌, ℕ, ◌+◌, ◌-◌, ◌<◌, ◌≤◌, max, List, [], ◌∷◌, length, drop, Option, Bool, true, false, refl, sym, subst, arith, cond, length-drop}
-use Rattle.std.specs.Prelude.{ℤ, nat_lt, nat_le, ◌&&◌, not, int_lt, int_le}
+use Rattle.std.specs.Prelude.{ℤ, pos, ◌-ℤ◌, nat_lt, nat_le, ◌&&◌, not, int_lt, int_le}
 use Rattle.std.proofs.lemmas.Int.{ints}
 use Rattle.std.proofs.lemmas.Bool.{cond_both, and_parts, false≢true, not-false, ltb-true}
 use Rattle.px_model.specs.declared.data.Attr.{Attr}
 use Rattle.px_model.specs.Index.{onward, above, LAST, FIRST, IsIndex, is_index}
 use Rattle.px_model.specs.Frame.{Frame, SampleSpec}
 use Rattle.px_model.specs.Held.{written_over, overlay}
-use Rattle.px_model.specs.Queue.{Queue, IsQueue, end_of}
+use Rattle.px_model.specs.Queue.{Queue, IsQueue}
 use Rattle.px_model.specs.Stream.{Stream, IsStream, with_queue}
 use Rattle.px_model.specs.Going.{ahead_of}
-use Rattle.px_model.specs.Write.{Outcome, stored, overflow, outside, outcome_of, queue_with, requested_with, written}
-use Rattle.px_model.specs.Control.{new_queue, not_held, held_again, emptied, with_prebuf, new_stream, attached, corked_to, triggered, prebuffered, flushed, drained_by, with_attr, with_factors}
+use Rattle.px_model.specs.Write.{Outcome, stored, overflow, outside, passes_end, outcome_of, queue_with, requested_with, written}
+use Rattle.px_model.specs.Control.{new_queue, prebuf_disabled, prebuf_forced, emptied, with_prebuf, new_stream, attached, corked_to, triggered, prebuffered, flushed, drained_by, with_attr, with_factors}
 use Rattle.px_model.specs.Orderly.{IsRepaired}
 use Rattle.px_model.specs.Turn.{asked_stream, missing_of}
 use Rattle.px_model.proofs.Overlay.{length-overlay, write_trimmed}
@@ -24,14 +24,14 @@ index_holds i e =
     (omega (arith, ints, parts.0), omega (arith, ints, parts.1))
 
 -- an outcome other than outside has both ends in the range of indices
-pub outcome_by : (P : Outcome → Type 0) (q : Queue) (limit : ℕ) (p : ℤ) (l : ℕ) (a : ℤ) → P outside → (IsIndex p → IsIndex (onward p l) → P overflow) → (IsIndex p → IsIndex (onward p l) → P stored) → P (outcome_of q limit p l a)
+pub outcome_by : (P : Outcome → Type 0) (q : Queue) (limit : ℤ) (p : ℤ) (l : ℕ) (a : ℤ) → P outside → (IsIndex p → IsIndex (onward p l) → P overflow) → (IsIndex p → IsIndex (onward p l) → P stored) → P (outcome_of q limit p l a)
 outcome_by P q limit p l a out over store =
     cond_both (not (is_index p && is_index (onward p l))) outside
-    (cond (int_lt (end_of q) (onward p l) && nat_lt limit (above (onward p l) a)) overflow stored) P
+    (cond (passes_end q p l && int_lt limit (onward p l -ℤ a)) overflow stored) P
     (λ e. out)
     (λ e.
     let parts = and_parts (is_index p) (is_index (onward p l)) (not-false (is_index p && is_index (onward p l)) e) in
-    cond_both (int_lt (end_of q) (onward p l) && nat_lt limit (above (onward p l) a)) overflow stored P
+    cond_both (passes_end q p l && int_lt limit (onward p l -ℤ a)) overflow stored P
     (λ x. over (index_holds p parts.0) (index_holds (onward p l) parts.1))
     (λ x. store (index_holds p parts.0) (index_holds (onward p l) parts.1)))
 
@@ -65,7 +65,7 @@ stored_keeps q keeps p frames i = record {
   hold_has_prebuf = keeps.hold_has_prebuf;
 }
 
-pub queue_written_keeps : (q : Queue) → IsQueue q → (limit : ℕ) (p : ℤ) (frames : List Frame) (a : ℤ) → IsQueue (queue_with (outcome_of q limit p (length frames) a) q p frames)
+pub queue_written_keeps : (q : Queue) → IsQueue q → (limit : ℤ) (p : ℤ) (frames : List Frame) (a : ℤ) → IsQueue (queue_with (outcome_of q limit p (length frames) a) q p frames)
 queue_written_keeps q keeps limit p frames a =
     outcome_by (λ o. IsQueue (queue_with o q p frames)) q limit p (length frames) a keeps (λ i j. overflow_keeps q keeps p frames j) (λ i j. stored_keeps q keeps p frames j)
 
@@ -76,12 +76,12 @@ requested_falls outside requested l = omega arith
 
 pub written_keeps : (s : Stream) → IsStream s → (p : ℤ) (frames : List Frame) (a : ℤ) → IsStream (written s p frames a)
 written_keeps s keeps p frames a = record {
-  queue_kept = queue_written_keeps s.queue keeps.queue_kept s.maxlength p frames a;
-  prebuf_bounded = subst (λ n. n ≤ s.tlength) (same_prebuf (outcome_of s.queue s.maxlength p (length frames) a) s.queue p frames) keeps.prebuf_bounded;
+  queue_kept = queue_written_keeps s.queue keeps.queue_kept (pos s.maxlength) p frames a;
+  prebuf_bounded = subst (λ n. n ≤ s.tlength) (same_prebuf (outcome_of s.queue (pos s.maxlength) p (length frames) a) s.queue p frames) keeps.prebuf_bounded;
   tlength_bounded = keeps.tlength_bounded;
   maxlength_bounded = keeps.maxlength_bounded;
   minreq_positive = keeps.minreq_positive;
-  requested_bounded = omega (arith, keeps.requested_bounded, requested_falls (outcome_of s.queue s.maxlength p (length frames) a) s.requested (length frames));
+  requested_bounded = omega (arith, keeps.requested_bounded, requested_falls (outcome_of s.queue (pos s.maxlength) p (length frames) a) s.requested (length frames));
 }
 
 -- ---- the queue's other steps
@@ -98,8 +98,8 @@ new_queue_keeps prebuf = record {
   hold_has_prebuf = positive prebuf;
 }
 
-not_held_keeps : (q : Queue) → IsQueue q → IsQueue (not_held q)
-not_held_keeps q keeps = record {
+prebuf_disabled_keeps : (q : Queue) → IsQueue q → IsQueue (prebuf_disabled q)
+prebuf_disabled_keeps q keeps = record {
   trimmed = keeps.trimmed;
   read_in_range = keeps.read_in_range;
   write_in_range = keeps.write_in_range;
@@ -107,8 +107,8 @@ not_held_keeps q keeps = record {
   hold_has_prebuf = λ e. absurd (false≢true e);
 }
 
-held_again_keeps : (q : Queue) → IsQueue q → IsQueue (held_again q)
-held_again_keeps q keeps = record {
+prebuf_forced_keeps : (q : Queue) → IsQueue q → IsQueue (prebuf_forced q)
+prebuf_forced_keeps q keeps = record {
   trimmed = keeps.trimmed;
   read_in_range = keeps.read_in_range;
   write_in_range = keeps.write_in_range;
@@ -134,8 +134,8 @@ with_prebuf_keeps q keeps prebuf = record {
   hold_has_prebuf = λ e. positive prebuf (and_parts q.hold (nat_lt 0 prebuf) e).1;
 }
 
-pub queue_steps_keep : (q : Queue) → IsQueue q → (prebuf : ℕ) → IsQueue (new_queue prebuf) × IsQueue (not_held q) × IsQueue (held_again q) × IsQueue (emptied q) × IsQueue (with_prebuf q prebuf)
-queue_steps_keep q keeps prebuf = (new_queue_keeps prebuf, not_held_keeps q keeps, held_again_keeps q keeps, emptied_keeps q keeps, with_prebuf_keeps q keeps prebuf)
+pub queue_steps_keep : (q : Queue) → IsQueue q → (prebuf : ℕ) → IsQueue (new_queue prebuf) × IsQueue (prebuf_disabled q) × IsQueue (prebuf_forced q) × IsQueue (emptied q) × IsQueue (with_prebuf q prebuf)
+queue_steps_keep q keeps prebuf = (new_queue_keeps prebuf, prebuf_disabled_keeps q keeps, prebuf_forced_keeps q keeps, emptied_keeps q keeps, with_prebuf_keeps q keeps prebuf)
 
 -- ---- the other messages
 
@@ -181,17 +181,17 @@ corked_keeps s keeps on = record {
 }
 
 pub triggered_keeps : (s : Stream) → IsStream s → IsStream (triggered s)
-triggered_keeps s keeps = with_queue_keeps s keeps (not_held s.queue) (not_held_keeps s.queue keeps.queue_kept) refl
+triggered_keeps s keeps = with_queue_keeps s keeps (prebuf_disabled s.queue) (prebuf_disabled_keeps s.queue keeps.queue_kept) refl
 
 pub prebuffered_keeps : (s : Stream) → IsStream s → IsStream (prebuffered s)
-prebuffered_keeps s keeps = with_queue_keeps s keeps (held_again s.queue) (held_again_keeps s.queue keeps.queue_kept) refl
+prebuffered_keeps s keeps = with_queue_keeps s keeps (prebuf_forced s.queue) (prebuf_forced_keeps s.queue keeps.queue_kept) refl
 
 pub flushed_keeps : (s : Stream) → IsStream s → IsStream (flushed s)
 flushed_keeps s keeps = with_queue_keeps s keeps (emptied s.queue) (emptied_keeps s.queue keeps.queue_kept) refl
 
 pub drained_keeps : (s : Stream) → IsStream s → (tag : ℕ) → IsStream (drained_by s tag)
 drained_keeps s keeps tag = record {
-  queue_kept = not_held_keeps s.queue keeps.queue_kept;
+  queue_kept = prebuf_disabled_keeps s.queue keeps.queue_kept;
   prebuf_bounded = keeps.prebuf_bounded;
   tlength_bounded = keeps.tlength_bounded;
   maxlength_bounded = keeps.maxlength_bounded;

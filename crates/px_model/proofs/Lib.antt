@@ -16,3 +16,5 @@ pub mod Joined
 pub mod Shown
 pub mod Replays
 pub mod Parcels
+pub mod Whole
+pub mod Counts

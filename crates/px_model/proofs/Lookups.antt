@@ -11,7 +11,8 @@ use Rattle.px_model.specs.Control.{corked_to, triggered, prebuffered, flushed, d
 use Rattle.px_model.specs.Message.{Message, InputFactors}
 use Rattle.px_model.specs.Mix.{Samples}
 use Rattle.px_model.specs.Sink.{Sink, Input, stream_at, with_input, without_input, with_stream, with_change}
-use Rattle.px_model.specs.Turn.{next_horizon, inputs_with, inputs_with_all, with_each_factors, written_by, write_outcome, asked_stream}
+use Rattle.px_model.specs.Applied.{written_by, write_outcome}
+use Rattle.px_model.specs.Turn.{next_horizon, inputs_with, inputs_with_all, with_each_factors, asked_stream}
 use Rattle.px_model.specs.Deciding.{Entry, turn, stop, sink_after, messages_of}
 use Rattle.px_model.specs.Track.{forward_by, presence_of, opens, all_opens}
 
@@ -146,7 +147,7 @@ message_reads i mixed (Message.attach j parcel feed factors) xs e =
     keeps_equal (stream_at i xs) _ (same_with i j (attached parcel feed factors) xs (not_opened (j == i) e))
 message_reads i mixed (Message.detach j) xs e = at_without i j xs
 message_reads i mixed (Message.write w) xs e =
-    at_change i w.input (written_by w mixed) (λ s. written_read (write_outcome s w mixed) s.queue (target_of s.queue (seek_of w.seek) w.offset) (frames_of (frame_size s.spec) w.frames w.bytes)) xs
+    at_change i w.input (written_by w.seek w.offset w.frames w.bytes mixed) (λ s. written_read (write_outcome s w.seek w.offset w.frames w.bytes mixed) s.queue (target_of s.queue (seek_of w.seek) w.offset) (frames_of (frame_size s.spec) w.frames w.bytes)) xs
 message_reads i mixed (Message.cork j on) xs e = at_change i j (λ s. corked_to s on) (λ s. refl) xs
 message_reads i mixed (Message.flush j) xs e = at_change i j flushed (λ s. refl) xs
 message_reads i mixed (Message.trigger j) xs e = at_change i j triggered (λ s. refl) xs

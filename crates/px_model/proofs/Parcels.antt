@@ -9,7 +9,8 @@ use Rattle.px_model.specs.Message.{Message}
 use Rattle.px_model.specs.Notice.{Notice}
 use Rattle.px_model.specs.Mix.{Samples}
 use Rattle.px_model.specs.Sink.{Sink, Input, stream_at, with_stream}
-use Rattle.px_model.specs.Turn.{going_notices, has_started, has_run_out, message_notices, all_message_notices, notices_from, refusal_of, write_outcome, latency_of, asked_notices, has_ended, missing_of, inputs_with, inputs_with_all, settled, halted, told, next_horizon}
+use Rattle.px_model.specs.Applied.{write_outcome}
+use Rattle.px_model.specs.Turn.{going_notices, has_started, has_run_out, message_notices, all_message_notices, notices_from, refusal_of, latency_of, asked_notices, has_ended, missing_of, inputs_with, inputs_with_all, settled, halted, told, next_horizon}
 use Rattle.px_model.specs.Deciding.{Entry, turn, stop, sink_after, notices_of, messages_of}
 use Rattle.px_model.specs.Track.{StandsAt, HandsOverAt, all_opens, forward_by}
 use Rattle.px_model.proofs.Lookups.{KeepsRead, message_reads, messages_read, at_each, entry_reads, gone}
@@ -74,7 +75,7 @@ message_hands i mixed buffered read (Message.new n) xs h = tt
 message_hands i mixed buffered read (Message.attach j parcel feed factors) xs h = tt
 message_hands i mixed buffered read (Message.detach j) xs h = detached_at i j read (stream_at j xs) (λ e. subst (λ k. StandsAt read (stream_at k xs)) (sym e) h)
 message_hands i mixed buffered read (Message.write w) xs h =
-    from_any i read (stream_at w.input xs) (λ s. refusal_of w.input (write_outcome s w mixed)) (λ s. refusals i read w.input (write_outcome s w mixed))
+    from_any i read (stream_at w.input xs) (λ s. refusal_of w.input (write_outcome s w.seek w.offset w.frames w.bytes mixed)) (λ s. refusals i read w.input (write_outcome s w.seek w.offset w.frames w.bytes mixed))
 message_hands i mixed buffered read (Message.cork j on) xs h = tt
 message_hands i mixed buffered read (Message.flush j) xs h = tt
 message_hands i mixed buffered read (Message.trigger j) xs h = tt

@@ -6,7 +6,7 @@ use Rattle.std.specs.Int.{saturate_signed}
 use Rattle.std.specs.List.{AllByRecursion, range_with_len}
 use Rattle.std.proofs.lemmas.List.FromFn.{length-map-range_with_len}
 use Rattle.px_model.specs.Frame.{Frame, SampleSpec, frame_size, frames_of}
-use Rattle.px_model.specs.Queue.{Ahead, nothing, silence, sound}
+use Rattle.px_model.specs.Queue.{FrameAhead, nothing, silence, sound}
 use Rattle.px_model.specs.Stream.{Stream, IsStream, frame_at}
 use Rattle.px_model.specs.Going.{after, ahead_of}
 use Rattle.px_model.specs.Write.{seek_of, target_of}
@@ -15,7 +15,8 @@ use Rattle.px_model.specs.Message.{Message, InputFactors}
 use Rattle.px_model.specs.Orderly.{IsOrderly, Fits, Inputs, inputs_left, IsPlayable, IsFeed, AreFactors}
 use Rattle.px_model.specs.Mix.{Samples, mix_of, share_of}
 use Rattle.px_model.specs.Sink.{Sink, Input, IsSink, IsStreamOf, empty_sink, streams_of, specs_of, with_stream, with_change, frame_in}
-use Rattle.px_model.specs.Turn.{AreFor, BringsStream, inputs_with, inputs_with_all, with_each_factors, written_by, next_horizon, settled, told, fresh_mix, asked_stream, turned, halted, stopped_turn, frame_mixed}
+use Rattle.px_model.specs.Applied.{written_by}
+use Rattle.px_model.specs.Turn.{AreFor, BringsStream, inputs_with, inputs_with_all, with_each_factors, next_horizon, settled, told, fresh_mix, asked_stream, turned, halted, stopped_turn, frame_mixed}
 use Rattle.px_model.proofs.Streams.{after_keeps, stream_by}
 use Rattle.px_model.proofs.Kept.{written_keeps, new_keeps, attached_keeps, corked_keeps, triggered_keeps, prebuffered_keeps, flushed_keeps, drained_keeps, attr_keeps, factors_keep, asked_keeps}
 use Rattle.px_model.proofs.Inputs.{AreInputs, each_keeps, change_keeps, without_keeps, with_keeps}
@@ -61,7 +62,7 @@ message_keeps sink there mixed (Message.attach i parcel feed factors) f b inputs
     (record { kept = attached_keeps parcel b feed factors; playable = f.playable; feed_fits = f.feed_fits; factors_fit = f.factors_fit }) h
 message_keeps sink there mixed (Message.detach i) f b inputs h = without_keeps (IsStreamOf sink) i inputs h
 message_keeps sink there mixed (Message.write w) f b inputs h =
-    change_suits sink w.input (written_by w mixed) (λ s k. written_keeps s k (target_of s.queue (seek_of w.seek) w.offset) (frames_of (frame_size s.spec) w.frames w.bytes) (ahead_of s mixed))
+    change_suits sink w.input (written_by w.seek w.offset w.frames w.bytes mixed) (λ s k. written_keeps s k (target_of s.queue (seek_of w.seek) w.offset) (frames_of (frame_size s.spec) w.frames w.bytes) (ahead_of s mixed))
     (λ s. refl) (λ s. refl) (λ s. refl) inputs h
 message_keeps sink there mixed (Message.cork i on) f b inputs h = change_suits sink i (λ s. corked_to s on) (λ s k. corked_keeps s k on) (λ s. refl) (λ s. refl) (λ s. refl) inputs h
 message_keeps sink there mixed (Message.flush i) f b inputs h = change_suits sink i flushed flushed_keeps (λ s. refl) (λ s. refl) (λ s. refl) inputs h
@@ -144,7 +145,7 @@ empty_keeps spec guard depth = record {
 
 -- ---- the mix doesn't see the fourth step
 
-share_asked : (samples : Samples) (sink : SampleSpec) (m : ℕ) (s : Stream) (channel : ℕ) (x : Ahead) → share_of samples sink (asked_stream m s) channel x ≡ share_of samples sink s channel x
+share_asked : (samples : Samples) (sink : SampleSpec) (m : ℕ) (s : Stream) (channel : ℕ) (x : FrameAhead) → share_of samples sink (asked_stream m s) channel x ≡ share_of samples sink s channel x
 share_asked samples sink m s channel nothing = refl
 share_asked samples sink m s channel silence = refl
 share_asked samples sink m s channel (sound frame) = refl

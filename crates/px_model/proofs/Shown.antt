@@ -15,7 +15,8 @@ use Rattle.px_model.specs.Message.{Message, InputFactors}
 use Rattle.px_model.specs.Orderly.{IsOrderly, Inputs, inputs_left, inputs_left_by}
 use Rattle.px_model.specs.Mix.{Samples}
 use Rattle.px_model.specs.Sink.{Sink, Input, stream_at, specs_of, with_input, without_input, with_stream, with_change}
-use Rattle.px_model.specs.Turn.{inputs_with, inputs_with_all, with_each_factors, written_by, asked_stream, turned, stopped_turn, next_horizon, settled, halted, BringsStream}
+use Rattle.px_model.specs.Applied.{written_by}
+use Rattle.px_model.specs.Turn.{inputs_with, inputs_with_all, with_each_factors, asked_stream, turned, stopped_turn, next_horizon, settled, halted, BringsStream}
 use Rattle.px_model.specs.Deciding.{Entry, turn, stop, sink_after, messages_of, IsOrderlyHistory}
 use Rattle.px_model.proofs.Lookups.{none_without, same_without, same_with}
 use Rattle.px_model.proofs.Streams.{after_corked, after_open}
@@ -106,7 +107,7 @@ message_shows : (mixed : ℕ) (m : Message Stream) (inputs : Inputs) (xs : List 
 message_shows mixed (Message.new n) inputs xs h = shows_inserted inputs xs n.input (new_stream n.spec n.feed n.factors n.attr n.corked) h
 message_shows mixed (Message.attach j parcel feed factors) inputs xs h = shows_inserted inputs xs j (attached parcel feed factors) h
 message_shows mixed (Message.detach j) inputs xs h = shows_removed inputs xs j h
-message_shows mixed (Message.write w) inputs xs h = λ i. h i ∙ sym (spec_change i w.input (written_by w mixed) (λ s. refl) xs)
+message_shows mixed (Message.write w) inputs xs h = λ i. h i ∙ sym (spec_change i w.input (written_by w.seek w.offset w.frames w.bytes mixed) (λ s. refl) xs)
 message_shows mixed (Message.cork j on) inputs xs h = λ i. h i ∙ sym (spec_change i j (λ s. corked_to s on) (λ s. refl) xs)
 message_shows mixed (Message.flush j) inputs xs h = λ i. h i ∙ sym (spec_change i j flushed (λ s. refl) xs)
 message_shows mixed (Message.trigger j) inputs xs h = λ i. h i ∙ sym (spec_change i j triggered (λ s. refl) xs)

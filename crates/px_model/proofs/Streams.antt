@@ -3,7 +3,7 @@ use Rattle.std.proofs.Common.{◌≡◌, ℕ, zero, suc, ◌+◌, ◌<◌, ◌�
 use Rattle.std.specs.List.{range_with_len}
 use Rattle.std.proofs.lemmas.Bool.{cases_Bool, cond-true, cond-false, cond_both}
 use Rattle.px_model.specs.declared.data.Run.{Run}
-use Rattle.px_model.specs.Queue.{Queue, IsQueue, left_of, is_held_short, nothing, queue_frame}
+use Rattle.px_model.specs.Queue.{Queue, IsQueue, left_of, is_short, nothing, queue_frame}
 use Rattle.px_model.specs.Stream.{Stream, IsStream, frame_at}
 use Rattle.px_model.specs.Going.{queue_after, queue_given, run_after, given_of, frames_given, after}
 use Rattle.px_model.proofs.Runs.{silence_adds, runs_add}
@@ -102,22 +102,22 @@ frames_join s keeps a b =
     ∙ join_range (frame_at s) (frame_at (after s a)) (given_of s a) (given_of (after s a) b)
     (λ k h. frame_ahead s keeps a k ∙ ap (λ n. frame_at s (n + k)) (sym (gave_all s keeps a b k h)))
 
--- the run, by whether the queue is held short
+-- the run, by whether the queue is short
 runs_join : (r : Run) (q : Queue) → IsQueue q → (a b : ℕ) → 0 < a → 0 < b → run_after (run_after r (queue_given q a) a) (queue_given (queue_after q a) b) b ≡ run_after r (queue_given q (a + b)) (a + b)
 runs_join r q keeps a b l m =
     ⊎_elim
-    (λ (h : is_held_short q ≡ true).
+    (λ (h : is_short q ≡ true).
     ap (λ n. run_after (run_after r n a) (queue_given (queue_after q a) b) b) (given_short q a h)
     ∙ ap (λ t. run_after (run_after r 0 a) (queue_given t b) b) (after_short q a h)
     ∙ ap (λ n. run_after (run_after r 0 a) n b) (given_short q b h)
     ∙ silence_adds r a b l m
     ∙ ap (λ n. run_after r n (a + b)) (sym (given_short q (a + b) h)))
-    (λ (h : is_held_short q ≡ false).
+    (λ (h : is_short q ≡ false).
     ap (λ n. run_after (run_after r n a) (queue_given (queue_after q a) b) b) (given_on q a h)
     ∙ ap (λ n. run_after (run_after r (min a (left_of q)) a) n b) (given_later q keeps a b h l)
     ∙ runs_add r (left_of q) a b l m
     ∙ ap (λ n. run_after r n (a + b)) (sym (given_on q (a + b) h)))
-    (cases_Bool (is_held_short q))
+    (cases_Bool (is_short q))
 
 pub after_adds : (s : Stream) → IsStream s → (a b : ℕ) → after (after s a) b ≡ after s (a + b)
 after_adds s keeps zero b = let e : b ≡ 0 + b = omega arith in ap (after s) e

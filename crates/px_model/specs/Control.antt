@@ -13,16 +13,16 @@ abbrev pub new_queue : ℕ → Queue
 new_queue prebuf = record { held = []; read = pos 0; write = pos 0; hold = nat_lt 0 prebuf; prebuf = prebuf }
 
 -- play without waiting
-abbrev pub not_held : Queue → Queue
-not_held q = record q { hold = false }
+abbrev pub prebuf_disabled : Queue → Queue
+prebuf_disabled q = record q { hold = false }
 
 -- wait again, with prebuffering
-abbrev pub held_again : Queue → Queue
-held_again q = record q { hold = nat_lt 0 q.prebuf }
+abbrev pub prebuf_forced : Queue → Queue
+prebuf_forced q = record q { hold = nat_lt 0 q.prebuf }
 
 -- nothing is held, the write index goes to the read index, and the queue waits again
 abbrev pub emptied : Queue → Queue
-emptied q = held_again (record q { held = []; write = q.read })
+emptied q = prebuf_forced (record q { held = []; write = q.read })
 
 -- another prebuf; without prebuffering nothing waits
 abbrev pub with_prebuf : Queue → ℕ → Queue
@@ -60,15 +60,15 @@ flushed s = with_queue s (emptied s.queue)
 
 -- Trigger
 abbrev pub triggered : Stream → Stream
-triggered s = with_queue s (not_held s.queue)
+triggered s = with_queue s (prebuf_disabled s.queue)
 
 -- Prebuf
 abbrev pub prebuffered : Stream → Stream
-prebuffered s = with_queue s (held_again s.queue)
+prebuffered s = with_queue s (prebuf_forced s.queue)
 
 -- Drain: play what is there without waiting, and answer the tag at its end
 abbrev pub drained_by : Stream → ℕ → Stream
-drained_by s tag = record s { queue = not_held s.queue; draining = s.draining ++ tag ∷ [] }
+drained_by s tag = record s { queue = prebuf_disabled s.queue; draining = s.draining ++ tag ∷ [] }
 
 -- Attr: the four numbers are replaced
 abbrev pub with_attr : Stream → Attr → Stream

@@ -5,20 +5,20 @@ use Rattle.std.specs.List.{range_with_len}
 use Rattle.px_model.specs.declared.data.Run.{Run}
 use Rattle.px_model.specs.declared.data.Run.TheVariants.{Quiet, Playing}
 use Rattle.px_model.specs.Index.{above, onward, LAST}
-use Rattle.px_model.specs.Queue.{Queue, Ahead, left_of, is_held_short}
+use Rattle.px_model.specs.Queue.{Queue, FrameAhead, left_of, is_short}
 use Rattle.px_model.specs.Stream.{Stream, frame_at}
 
 -- ---- the queue
 
 -- how many of the next k frames the queue gives, the first of them
 abbrev pub queue_given : Queue → ℕ → ℕ
-queue_given q k = if is_held_short q then 0 else min k (left_of q)
+queue_given q k = if is_short q then 0 else min k (left_of q)
 
--- the read index of one that isn't held short: it runs on without prebuffering, up to the last index, and stops at the last frame with it
+-- the read index of one that isn't short: it runs on without prebuffering, up to the last index, and stops at the last frame with it
 abbrev pub read_after : Queue → ℕ → ℤ
 read_after q k = if q.prebuf == 0 then int_min (onward q.read k) LAST else onward q.read (min k (left_of q))
 
--- one that isn't held short, k frames on. It holds again exactly where it ran out and has prebuffering
+-- one that isn't short, k frames on. It holds again exactly where it ran out and has prebuffering
 abbrev pub queue_on : Queue → ℕ → Queue
 queue_on q k = record q {
   held = drop (above (read_after q k) q.read) q.held;
@@ -26,10 +26,10 @@ queue_on q k = record q {
   hold = nat_lt 0 q.prebuf && nat_lt (left_of q) k;
 }
 
--- the queue after k frames; one that is held short stays as it is
+-- the queue after k frames; one that is short stays as it is
 abbrev pub queue_after : Queue → ℕ → Queue
 queue_after q zero = q
-queue_after q (suc k) = if is_held_short q then q else queue_on q (suc k)
+queue_after q (suc k) = if is_short q then q else queue_on q (suc k)
 
 -- ---- the run
 
@@ -56,7 +56,7 @@ abbrev pub given_of : Stream → ℕ → ℕ
 given_of s k = if s.corked then 0 else queue_given s.queue k
 
 -- and these frames
-abbrev pub frames_given : Stream → ℕ → List Ahead
+abbrev pub frames_given : Stream → ℕ → List FrameAhead
 frames_given s k = map (frame_at s) (range_with_len 0 (given_of s k))
 
 -- the stream after k frames; a corked one stays as it is

@@ -5,6 +5,7 @@ pub mod Queue
 pub mod Stream
 pub mod Going
 pub mod Write
+pub mod Applied
 pub mod Control
 pub mod Message
 pub mod Notice

@@ -43,3 +43,18 @@ pub data Message (P : Type 0) : Type 0 where
   factors : List InputFactors → Message P
   -- an input and a tag
   query : ℕ → ℕ → Message P
+
+-- what a message does to a stream that is there, without the input that it names
+pub data StreamMessage : Type 0 where
+  -- a feed and factors for the sink that it has come to
+  attach : List ℕ → List ℕ → StreamMessage
+  -- the mode of the seek, its offset in frames, how many frames they are, and their bytes
+  write : ℕ → ℤ → ℕ → List ℕ → StreamMessage
+  cork : Bool → StreamMessage
+  flush : StreamMessage
+  trigger : StreamMessage
+  prebuf : StreamMessage
+  drain : ℕ → StreamMessage
+  attr : Attr → StreamMessage
+  factors : List ℕ → StreamMessage
+  query : ℕ → StreamMessage

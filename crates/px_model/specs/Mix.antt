@@ -3,7 +3,7 @@ use Rattle.std.specs.Prelude.{ℕ, ℤ, pos, ◌+ℤ◌, ◌*ℤ◌, List, map, 
 use Rattle.std.specs.Int.{Width, int_div_euclid, saturate_signed}
 use Rattle.std.specs.List.{range_with_len}
 use Rattle.px_model.specs.Frame.{Frame, SampleSpec, sample_of}
-use Rattle.px_model.specs.Queue.{Ahead, nothing, silence, sound}
+use Rattle.px_model.specs.Queue.{FrameAhead, nothing, silence, sound}
 use Rattle.px_model.specs.Stream.{Stream, frame_at}
 
 -- What the mix asks of the sample formats, each by its code. The laws hold for any.
@@ -28,16 +28,18 @@ abbrev pub scaled : ℤ → ℕ → ℤ
 scaled x factor = int_div_euclid (x *ℤ pos factor) (pos 65536)
 
 -- what a stream adds to a sink channel: nothing where it has no frame, and 0 for silence
-abbrev pub share_of : Samples → SampleSpec → Stream → ℕ → Ahead → ℤ
+abbrev pub share_of : Samples → SampleSpec → Stream → ℕ → FrameAhead → ℤ
 share_of samples sink s channel nothing = pos 0
 share_of samples sink s channel silence = pos 0
 share_of samples sink s channel (sound frame) = scaled (value_of samples sink s frame channel) (slice_index s.factors channel)
 
--- one sample of the mix k frames ahead: all that the streams add, clipped once
+-- all that the streams add to a sink channel k frames ahead
+abbrev pub sum_of : Samples → SampleSpec → List Stream → ℕ → ℕ → ℤ
+sum_of samples sink streams k channel = fold ◌+ℤ◌ (pos 0) (map (λ s. share_of samples sink s channel (frame_at s k)) streams)
+
+-- one sample of the mix k frames ahead: that sum, clipped once
 abbrev pub sample_mix : Samples → SampleSpec → List Stream → ℕ → ℕ → ℤ
-sample_mix samples sink streams k channel =
-    saturate_signed (samples.width sink.format)
-    (fold ◌+ℤ◌ (pos 0) (map (λ s. share_of samples sink s channel (frame_at s k)) streams))
+sample_mix samples sink streams k channel = saturate_signed (samples.width sink.format) (sum_of samples sink streams k channel)
 
 -- the mix k frames ahead, packed channel by channel
 abbrev pub mix_of : Samples → SampleSpec → List Stream → ℕ → Frame

@@ -31,24 +31,24 @@ edge_of q = if length q.held == 0 then q.write else int_max q.write (end_of q)
 abbrev pub left_of : Queue → ℕ
 left_of q = max (above q.write q.read) (length q.held)
 
--- it holds, and fewer than prebuf frames wait
-abbrev pub is_held_short : Queue → Bool
-is_held_short q = q.hold && nat_lt (above q.write q.read) q.prebuf
+-- it holds, and fewer than prebuf frames wait: the queue is short
+abbrev pub is_short : Queue → Bool
+is_short q = q.hold && nat_lt (above q.write q.read) q.prebuf
 
--- what stands at a place ahead
-pub data Ahead : Type 0 where
-  nothing : Ahead
-  silence : Ahead
-  sound : Frame → Ahead
+-- the frame at a place ahead: none, silence, or one that is held
+pub data FrameAhead : Type 0 where
+  nothing : FrameAhead
+  silence : FrameAhead
+  sound : Frame → FrameAhead
 
 -- a place's frame, or silence in a hole
-abbrev pub sound_of : Option Frame → Ahead
+abbrev pub sound_of : Option Frame → FrameAhead
 sound_of None = silence
 sound_of (Some frame) = sound frame
 
--- the frame k ahead of the read index: nothing where it is held short, or past the edge
-abbrev pub queue_frame : Queue → ℕ → Ahead
-queue_frame q k = if is_held_short q then nothing else (if nat_lt k (left_of q) then sound_of (place q.held k) else nothing)
+-- the frame k ahead of the read index: nothing where it is short, or past the edge
+abbrev pub queue_frame : Queue → ℕ → FrameAhead
+queue_frame q k = if is_short q then nothing else (if nat_lt k (left_of q) then sound_of (place q.held k) else nothing)
 
 -- what a queue keeps
 pub record IsQueue (q : Queue) : Type 0 where

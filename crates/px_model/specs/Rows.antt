@@ -4,6 +4,7 @@ use Rattle.std.specs.Int.{w16, cast_signed, cast_unsigned}
 use Rattle.px_model.specs.declared.data.Attr.{Attr}
 use Rattle.px_model.specs.declared.data.Run.TheVariants.{Quiet, Playing}
 use Rattle.px_model.specs.Frame.{Frame, SampleSpec}
+use Rattle.px_model.specs.Queue.{Queue}
 use Rattle.px_model.specs.Stream.{Stream}
 use Rattle.px_model.specs.Message.{Message}
 use Rattle.px_model.specs.Notice.{Notice, Latency}
@@ -33,6 +34,10 @@ s16_samples = record {
 -- n frames of a value
 abbrev pub tone : ℤ → ℕ → List Frame
 tone x n = replicate n (s16 x)
+
+-- a queue without prebuffering that holds nothing, with both its indices here
+abbrev pub empty_at : ℤ → Queue
+empty_at read = record { held = []; read = read; write = read; hold = false; prebuf = 0 }
 
 -- a sink with a guard of 10 frames and a depth of 100
 abbrev pub small_sink : Sink

@@ -2,7 +2,7 @@
 use Rattle.std.specs.Prelude.{ℕ, ◌<◌, ◌≤◌, Bool, List, if◌then◌else◌}
 use Rattle.px_model.specs.declared.data.Run.{Run}
 use Rattle.px_model.specs.Frame.{SampleSpec}
-use Rattle.px_model.specs.Queue.{Queue, IsQueue, Ahead, nothing, queue_frame}
+use Rattle.px_model.specs.Queue.{Queue, IsQueue, FrameAhead, nothing, queue_frame}
 
 pub record Stream : Type 0 where
   pub queue : Queue
@@ -25,7 +25,7 @@ abbrev pub with_queue : Stream → Queue → Stream
 with_queue s q = record s { queue = q }
 
 -- the frame k ahead of the read index; a corked stream has none
-abbrev pub frame_at : Stream → ℕ → Ahead
+abbrev pub frame_at : Stream → ℕ → FrameAhead
 frame_at s k = if s.corked then nothing else queue_frame s.queue k
 
 -- what a stream keeps

@@ -1,15 +1,15 @@
 -- The track of an input: the stream indices that it settles over a history of one sink. Own.
 use Rattle.std.specs.Prelude.{ℕ, ◌+◌, ◌-◌, ◌≡◌, ◌⊎◌, ℤ, ◌≤ℤ◌, Bool, not, ◌&&◌, IsTrue, List, [], ◌∷◌, ◌++◌, map, flat_map, Option, Some, None, nat_lt, ◌==◌, if◌then◌else◌, ⊤}
-use Rattle.std.specs.List.{range_with_len}
+use Rattle.std.specs.List.{range_with_len, AllByRecursion}
 use Rattle.px_model.specs.Index.{onward}
-use Rattle.px_model.specs.Queue.{left_of, is_held_short}
+use Rattle.px_model.specs.Queue.{left_of, is_short}
 use Rattle.px_model.specs.Stream.{Stream}
 use Rattle.px_model.specs.Going.{given_of}
 use Rattle.px_model.specs.Message.{Message}
 use Rattle.px_model.specs.Notice.{Notice}
 use Rattle.px_model.specs.Mix.{Samples}
-use Rattle.px_model.specs.Sink.{Sink, stream_at}
-use Rattle.px_model.specs.Turn.{next_horizon}
+use Rattle.px_model.specs.Sink.{Sink, Input, stream_at}
+use Rattle.px_model.specs.Turn.{next_horizon, inputs_with, message_notices}
 use Rattle.px_model.specs.Deciding.{Entry, turn, stop, sink_after, messages_of}
 
 -- one going forward: from an index so many frames on, and whether the read index ran on past them, without prebuffering
@@ -22,7 +22,7 @@ abbrev pub stretch_of : Stream → ℕ → Stretch
 stretch_of s k = record {
   from = s.queue.read;
   count = given_of s k;
-  ran_on = not s.corked && not (is_held_short s.queue) && s.queue.prebuf == 0 && nat_lt (left_of s.queue) k;
+  ran_on = not s.corked && not (is_short s.queue) && s.queue.prebuf == 0 && nat_lt (left_of s.queue) k;
 }
 
 -- how far a turn goes forward
@@ -110,3 +110,19 @@ HandsOverAt i read (Notice.started j) = ⊤
 HandsOverAt i read (Notice.drained j tag) = ⊤
 HandsOverAt i read (Notice.detached j parcel) = j ≡ i → parcel.queue.read ≡ read
 HandsOverAt i read (Notice.latency j tag answer) = ⊤
+
+-- a notice that hands over a parcel hands over the whole stream of the input that it names, as it is among these inputs
+abbrev pub HandsOver : List Input → Notice Stream → Type 0
+HandsOver inputs (Notice.request j frames) = ⊤
+HandsOver inputs (Notice.overflow j) = ⊤
+HandsOver inputs (Notice.underflow j) = ⊤
+HandsOver inputs (Notice.started j) = ⊤
+HandsOver inputs (Notice.drained j tag) = ⊤
+HandsOver inputs (Notice.detached j parcel) = stream_at j inputs ≡ Some parcel
+HandsOver inputs (Notice.latency j tag answer) = ⊤
+
+-- each message's notices do, of the inputs as the messages before it left them
+abbrev pub AllHandOver : ℕ → ℕ → List (Message Stream) → List Input → Type 0
+AllHandOver mixed buffered [] inputs = ⊤
+AllHandOver mixed buffered (m ∷ messages) inputs =
+    AllByRecursion (HandsOver inputs) (message_notices mixed buffered m inputs) × AllHandOver mixed buffered messages (inputs_with mixed m inputs)

@@ -4,13 +4,14 @@ use Rattle.std.specs.List.{range_with_len, AllByRecursion}
 use Rattle.px_model.specs.declared.data.Run.{Run}
 use Rattle.px_model.specs.declared.data.Run.TheVariants.{Quiet, Playing}
 use Rattle.px_model.specs.Index.{above}
-use Rattle.px_model.specs.Frame.{Frame, frame_size, frames_of}
+use Rattle.px_model.specs.Frame.{Frame}
 use Rattle.px_model.specs.Queue.{left_of}
 use Rattle.px_model.specs.Stream.{Stream, IsStream}
 use Rattle.px_model.specs.Going.{after, ahead_of, given_of}
-use Rattle.px_model.specs.Write.{Outcome, stored, overflow, outside, outcome_of, seek_of, target_of, written}
-use Rattle.px_model.specs.Control.{new_stream, attached, corked_to, triggered, prebuffered, flushed, drained_by, with_attr, with_factors}
-use Rattle.px_model.specs.Message.{Message, FrameWrite, InputFactors}
+use Rattle.px_model.specs.Write.{Outcome, stored, overflow, outside}
+use Rattle.px_model.specs.Control.{new_stream, with_factors}
+use Rattle.px_model.specs.Applied.{applied, write_outcome}
+use Rattle.px_model.specs.Message.{Message, StreamMessage, InputFactors}
 use Rattle.px_model.specs.Notice.{Notice, Latency}
 use Rattle.px_model.specs.Mix.{Samples, mix_of}
 use Rattle.px_model.specs.Orderly.{IsOrderly}
@@ -50,13 +51,6 @@ going_notices k x =
 
 -- ---- 2. the messages in order, at the horizon
 
--- how a write to a stream ends, and the stream after it, where so many frames are mixed past the horizon
-abbrev pub write_outcome : Stream → FrameWrite → ℕ → Outcome
-write_outcome s w ahead = outcome_of s.queue s.maxlength (target_of s.queue (seek_of w.seek) w.offset) (length (frames_of (frame_size s.spec) w.frames w.bytes)) (ahead_of s ahead)
-
-abbrev pub written_by : FrameWrite → ℕ → Stream → Stream
-written_by w ahead s = written s (target_of s.queue (seek_of w.seek) w.offset) (frames_of (frame_size s.spec) w.frames w.bytes) (ahead_of s ahead)
-
 -- Factors skips inputs that aren't there
 abbrev pub with_each_factors : List InputFactors → List Input → List Input
 with_each_factors [] inputs = inputs
@@ -64,18 +58,18 @@ with_each_factors (f ∷ each) inputs = with_each_factors each (with_change f.in
 
 -- the inputs after a message
 abbrev pub inputs_with : ℕ → Message Stream → List Input → List Input
-inputs_with ahead (Message.new n) inputs = with_input n.input (new_stream n.spec n.feed n.factors n.attr n.corked) inputs
-inputs_with ahead (Message.attach i parcel feed factors) inputs = with_input i (attached parcel feed factors) inputs
-inputs_with ahead (Message.detach i) inputs = without_input i inputs
-inputs_with ahead (Message.write w) inputs = with_change w.input (written_by w ahead) inputs
-inputs_with ahead (Message.cork i on) inputs = with_change i (λ s. corked_to s on) inputs
-inputs_with ahead (Message.flush i) inputs = with_change i flushed inputs
-inputs_with ahead (Message.trigger i) inputs = with_change i triggered inputs
-inputs_with ahead (Message.prebuf i) inputs = with_change i prebuffered inputs
-inputs_with ahead (Message.drain i tag) inputs = with_change i (λ s. drained_by s tag) inputs
-inputs_with ahead (Message.attr i attr) inputs = with_change i (λ s. with_attr s attr) inputs
-inputs_with ahead (Message.factors each) inputs = with_each_factors each inputs
-inputs_with ahead (Message.query i tag) inputs = inputs
+inputs_with mixed (Message.new n) inputs = with_input n.input (new_stream n.spec n.feed n.factors n.attr n.corked) inputs
+inputs_with mixed (Message.attach i parcel feed factors) inputs = with_input i (applied mixed (StreamMessage.attach feed factors) parcel) inputs
+inputs_with mixed (Message.detach i) inputs = without_input i inputs
+inputs_with mixed (Message.write w) inputs = with_change w.input (applied mixed (StreamMessage.write w.seek w.offset w.frames w.bytes)) inputs
+inputs_with mixed (Message.cork i on) inputs = with_change i (applied mixed (StreamMessage.cork on)) inputs
+inputs_with mixed (Message.flush i) inputs = with_change i (applied mixed StreamMessage.flush) inputs
+inputs_with mixed (Message.trigger i) inputs = with_change i (applied mixed StreamMessage.trigger) inputs
+inputs_with mixed (Message.prebuf i) inputs = with_change i (applied mixed StreamMessage.prebuf) inputs
+inputs_with mixed (Message.drain i tag) inputs = with_change i (applied mixed (StreamMessage.drain tag)) inputs
+inputs_with mixed (Message.attr i attr) inputs = with_change i (applied mixed (StreamMessage.attr attr)) inputs
+inputs_with mixed (Message.factors each) inputs = with_each_factors each inputs
+inputs_with mixed (Message.query i tag) inputs = inputs
 
 -- a write that isn't stored is told
 abbrev pub refusal_of : ℕ → Outcome → List (Notice Stream)
@@ -85,12 +79,12 @@ refusal_of i outside = Notice.overflow i ∷ []
 
 -- where a stream stands, with so many frames mixed past the horizon and so many in the buffer
 abbrev pub latency_of : ℕ → ℕ → Stream → Latency
-latency_of ahead buffered s = record {
+latency_of mixed buffered s = record {
   write = s.queue.write;
-  read = ahead_of s ahead;
+  read = ahead_of s mixed;
   buffered = buffered;
-  playing = not s.corked && is_playing (after s ahead).run;
-  run = (after s ahead).run;
+  playing = not s.corked && is_playing (after s mixed).run;
+  run = (after s mixed).run;
 }
 
 -- the notices of a stream that is there
@@ -100,28 +94,28 @@ notices_from (Some s) notices = notices s
 
 -- the notices of a message
 abbrev pub message_notices : ℕ → ℕ → Message Stream → List Input → List (Notice Stream)
-message_notices ahead buffered (Message.new n) inputs = []
-message_notices ahead buffered (Message.attach i parcel feed factors) inputs = []
-message_notices ahead buffered (Message.detach i) inputs = notices_from (stream_at i inputs) (λ s. Notice.detached i s ∷ [])
-message_notices ahead buffered (Message.write w) inputs = notices_from (stream_at w.input inputs) (λ s. refusal_of w.input (write_outcome s w ahead))
-message_notices ahead buffered (Message.cork i on) inputs = []
-message_notices ahead buffered (Message.flush i) inputs = []
-message_notices ahead buffered (Message.trigger i) inputs = []
-message_notices ahead buffered (Message.prebuf i) inputs = []
-message_notices ahead buffered (Message.drain i tag) inputs = []
-message_notices ahead buffered (Message.attr i attr) inputs = []
-message_notices ahead buffered (Message.factors each) inputs = []
-message_notices ahead buffered (Message.query i tag) inputs = notices_from (stream_at i inputs) (λ s. Notice.latency i tag (latency_of ahead buffered s) ∷ [])
+message_notices mixed buffered (Message.new n) inputs = []
+message_notices mixed buffered (Message.attach i parcel feed factors) inputs = []
+message_notices mixed buffered (Message.detach i) inputs = notices_from (stream_at i inputs) (λ s. Notice.detached i s ∷ [])
+message_notices mixed buffered (Message.write w) inputs = notices_from (stream_at w.input inputs) (λ s. refusal_of w.input (write_outcome s w.seek w.offset w.frames w.bytes mixed))
+message_notices mixed buffered (Message.cork i on) inputs = []
+message_notices mixed buffered (Message.flush i) inputs = []
+message_notices mixed buffered (Message.trigger i) inputs = []
+message_notices mixed buffered (Message.prebuf i) inputs = []
+message_notices mixed buffered (Message.drain i tag) inputs = []
+message_notices mixed buffered (Message.attr i attr) inputs = []
+message_notices mixed buffered (Message.factors each) inputs = []
+message_notices mixed buffered (Message.query i tag) inputs = notices_from (stream_at i inputs) (λ s. Notice.latency i tag (latency_of mixed buffered s) ∷ [])
 
 -- all of them, in order
 abbrev pub inputs_with_all : ℕ → List (Message Stream) → List Input → List Input
-inputs_with_all ahead [] inputs = inputs
-inputs_with_all ahead (m ∷ messages) inputs = inputs_with_all ahead messages (inputs_with ahead m inputs)
+inputs_with_all mixed [] inputs = inputs
+inputs_with_all mixed (m ∷ messages) inputs = inputs_with_all mixed messages (inputs_with mixed m inputs)
 
 abbrev pub all_message_notices : ℕ → ℕ → List (Message Stream) → List Input → List (Notice Stream)
-all_message_notices ahead buffered [] inputs = []
-all_message_notices ahead buffered (m ∷ messages) inputs =
-    message_notices ahead buffered m inputs ++ all_message_notices ahead buffered messages (inputs_with ahead m inputs)
+all_message_notices mixed buffered [] inputs = []
+all_message_notices mixed buffered (m ∷ messages) inputs =
+    message_notices mixed buffered m inputs ++ all_message_notices mixed buffered messages (inputs_with mixed m inputs)
 
 -- the sink after the second step
 abbrev pub told : Sink → List (Message Stream) → Sink
@@ -153,22 +147,22 @@ has_ended s = left_of s.queue == 0
 
 -- the frames that tlength asks for past those that wait and those asked for already, with so many frames mixed past the horizon
 abbrev pub missing_of : Stream → ℕ → ℕ
-missing_of s ahead = s.tlength - above s.queue.write (ahead_of s ahead) - s.requested
+missing_of s mixed = s.tlength - above s.queue.write (ahead_of s mixed) - s.requested
 
 -- the frames of the request: all that are missing, where they are at least minreq
 abbrev pub request_of : Stream → ℕ → ℕ
-request_of s ahead = if nat_le s.minreq (missing_of s ahead) then missing_of s ahead else 0
+request_of s mixed = if nat_le s.minreq (missing_of s mixed) then missing_of s mixed else 0
 
 abbrev pub asked_stream : ℕ → Stream → Stream
-asked_stream ahead s = record s {
+asked_stream mixed s = record s {
   draining = if has_ended s then [] else s.draining;
-  requested = s.requested + request_of s ahead;
+  requested = s.requested + request_of s mixed;
 }
 
 abbrev pub asked_notices : ℕ → Input → List (Notice Stream)
-asked_notices ahead x =
+asked_notices mixed x =
     (if has_ended x.stream then map (λ tag. Notice.drained x.index tag) x.stream.draining else [])
-    ++ (if nat_le x.stream.minreq (missing_of x.stream ahead) then Notice.request x.index (missing_of x.stream ahead) ∷ [] else [])
+    ++ (if nat_le x.stream.minreq (missing_of x.stream mixed) then Notice.request x.index (missing_of x.stream mixed) ∷ [] else [])
 
 -- the sink after the fourth step
 abbrev pub asked : Sink → Sink

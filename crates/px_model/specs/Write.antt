@@ -1,5 +1,5 @@
 -- A write of frames with a seek, and its three outcomes (PulseAudio: `pa_memblockq_seek` and `pa_memblockq_push` of pulsecore/memblockq.c). That the bound counts from the ahead index, and what falls from requested, is own.
-use Rattle.std.specs.Prelude.{ℕ, zero, suc, ◌-◌, ℤ, pos, ◌+ℤ◌, int_lt, not, ◌&&◌, List, length, nat_lt, if◌then◌else◌}
+use Rattle.std.specs.Prelude.{ℕ, zero, suc, ◌-◌, ℤ, pos, ◌+ℤ◌, ◌-ℤ◌, int_lt, Bool, not, ◌&&◌, ◌||◌, List, length, nat_lt, ◌==◌, if◌then◌else◌}
 use Rattle.px_model.specs.declared.data.Seek.{Seek}
 use Rattle.px_model.specs.declared.data.Seek.TheVariants.{Relative, Absolute, RelativeOnRead, RelativeEnd}
 use Rattle.px_model.specs.Index.{above, onward, is_index}
@@ -31,10 +31,20 @@ pub data Outcome : Type 0 where
   overflow : Outcome
   outside : Outcome
 
+-- l frames at index p go past the end of what is held: always where nothing is held
+abbrev pub passes_end : Queue → ℤ → ℕ → Bool
+passes_end q p l = length q.held == 0 || int_lt (end_of q) (onward p l)
+
 -- how a write of l frames at index p ends, where at most limit frames may wait past the ahead index a:
 -- outside where it leaves the range of indices; overflow where it goes past the end and past that limit; else stored
-abbrev pub outcome_of : Queue → ℕ → ℤ → ℕ → ℤ → Outcome
+abbrev pub outcome_of : Queue → ℤ → ℤ → ℕ → ℤ → Outcome
 outcome_of q limit p l a =
+    if not (is_index p && is_index (onward p l)) then outside
+    else (if passes_end q p l && int_lt limit (onward p l -ℤ a) then overflow else stored)
+
+-- the same with counts of frames for a limit and an ahead index that isn't below the read index, without a case for a queue that holds nothing
+abbrev pub outcome_by_counts : Queue → ℕ → ℤ → ℕ → ℤ → Outcome
+outcome_by_counts q limit p l a =
     if not (is_index p && is_index (onward p l)) then outside
     else (if int_lt (end_of q) (onward p l) && nat_lt limit (above (onward p l) a) then overflow else stored)
 
@@ -53,6 +63,6 @@ requested_with stored requested l = requested - l
 -- the stream after a write at index p, where a is the ahead index
 abbrev pub written : Stream → ℤ → List Frame → ℤ → Stream
 written s p frames a = record s {
-  queue = queue_with (outcome_of s.queue s.maxlength p (length frames) a) s.queue p frames;
-  requested = requested_with (outcome_of s.queue s.maxlength p (length frames) a) s.requested (length frames);
+  queue = queue_with (outcome_of s.queue (pos s.maxlength) p (length frames) a) s.queue p frames;
+  requested = requested_with (outcome_of s.queue (pos s.maxlength) p (length frames) a) s.requested (length frames);
 }

@@ -7,7 +7,7 @@ ghost use Rattle.px_model.specs.Queue.{Queue, IsQueue};
 ghost use Rattle.px_model.specs.Stream.{Stream, IsStream};
 ghost use Rattle.px_model.specs.Going.{queue_after, after};
 ghost use Rattle.px_model.specs.Write.{outcome_of, queue_with, written};
-ghost use Rattle.px_model.specs.Control.{new_queue, not_held, held_again, emptied, with_prebuf, new_stream, attached, corked_to, triggered, prebuffered, flushed, drained_by, with_attr, with_factors};
+ghost use Rattle.px_model.specs.Control.{new_queue, prebuf_disabled, prebuf_forced, emptied, with_prebuf, new_stream, attached, corked_to, triggered, prebuffered, flushed, drained_by, with_attr, with_factors};
 ghost use Rattle.px_model.specs.Orderly.{IsRepaired};
 ghost use Rattle.px_model.specs.Turn.{asked_stream};
 
@@ -15,11 +15,11 @@ ghost use Rattle.px_model.specs.Turn.{asked_stream};
 /// the messages do to it. Source: own.
 pub fn queue_keeps()
     ensures going { (q : Queue) → IsQueue q → (k : ℕ) → IsQueue (queue_after q k) }
-    ensures write { (q : Queue) → IsQueue q → (limit : ℕ) (p : ℤ) (frames : List Frame) (a : ℤ)
+    ensures write { (q : Queue) → IsQueue q → (limit : ℤ) (p : ℤ) (frames : List Frame) (a : ℤ)
         → IsQueue (queue_with (outcome_of q limit p (length frames) a) q p frames) }
     ensures others { (q : Queue) → IsQueue q → (prebuf : ℕ)
-        → IsQueue (new_queue prebuf) × IsQueue (not_held q)
-        × IsQueue (held_again q) × IsQueue (emptied q) × IsQueue (with_prebuf q prebuf) }
+        → IsQueue (new_queue prebuf) × IsQueue (prebuf_disabled q)
+        × IsQueue (prebuf_forced q) × IsQueue (emptied q) × IsQueue (with_prebuf q prebuf) }
 {}
 
 /// A stream keeps what it keeps under every message and every step of a turn. Source: own.

@@ -12,6 +12,7 @@ mod orderly;
 mod rows;
 mod tracks;
 mod turns;
+mod writing;
 
 pub use data::{Attr, Run, Seek};
 pub use deciding::{histories_join, played_frames_are_decided};
@@ -20,5 +21,6 @@ pub use held::{going_drops_the_past, places_are_a_map, write_changes_its_indices
 pub use keeping::{queue_keeps, stream_keeps};
 pub use orderly::orderly_messages_go_on;
 pub use rows::worked_rows;
-pub use tracks::{parcels_stand_at_the_horizon, tracks_are_joined};
+pub use tracks::{parcels_are_whole, parcels_stand_at_the_horizon, tracks_are_joined};
 pub use turns::{sink_keeps, turn_mixes_from_its_horizon};
+pub use writing::overflow_is_counted;

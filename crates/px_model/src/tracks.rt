@@ -9,7 +9,7 @@ ghost use Rattle.px_model.specs.Mix.{Samples};
 ghost use Rattle.px_model.specs.Sink.{Sink, Input, IsSink, stream_at};
 ghost use Rattle.px_model.specs.Turn.{inputs_with};
 ghost use Rattle.px_model.specs.Deciding.{Entry, IsHistory, IsOrderlyHistory, sink_after, notices_of, messages_of};
-ghost use Rattle.px_model.specs.Track.{StandsAt, HandsOverAt, all_opens, forward_by, track_of, IsJoined, Rise, indices_of_all, presence_of, history_opens};
+ghost use Rattle.px_model.specs.Track.{StandsAt, HandsOverAt, AllHandOver, all_opens, forward_by, track_of, IsJoined, Rise, indices_of_all, presence_of, history_opens};
 
 /// For every sink, history and input that is opened at most once, at the start or by a message: the
 /// stretches of its track are joined, but where the read index ran on without prebuffering, and the
@@ -23,6 +23,13 @@ pub fn tracks_are_joined()
         → IsHistory samples sink history → IsOrderlyHistory samples sink history
         → (i : ℕ) → presence_of (stream_at i sink.inputs) + history_opens i history ≤ 1
         → Rise (indices_of_all (track_of samples sink history i)) }
+{}
+
+/// The parcel that a message hands over is the whole stream of its input at the horizon, as the messages before it left it, also
+/// of an input that was opened in the same turn. Source: own.
+pub fn parcels_are_whole()
+    ensures { (mixed buffered : ℕ) (messages : List (Message Stream)) (inputs : List Input)
+        → AllHandOver mixed buffered messages inputs }
 {}
 
 /// A stream that stays in a sink through a turn, and a parcel that leaves it, stand where the stream

@@ -89,7 +89,7 @@ impl Playing {
         let Ok(turned) = self.lane.turn(alloc, messages, &mut self.notices, blocks) else {
             return Err(NoMemory);
         };
-        let bytes = self.lane.device_mut().take_played(alloc);
+        let bytes = self.lane.device_mut().take_played(alloc)?;
         match turned {
             Turned::Played { frames, .. } => Ok(Sound { frames, bytes }),
             Turned::Stopped { .. } => Ok(Sound {

@@ -1,3 +1,5 @@
+ghost use Rattle.std.specs.Prelude.{None};
+
 use px_block::{Block, BlockSource, Blocks, Fresh, Mem, NoMemory};
 use std::alloc::Global;
 
@@ -70,6 +72,8 @@ struct Short {
 }
 
 impl BlockSource for Short {
+    ghost given = { λ _. None };
+
     fn take(&mut self) -> Mem<Block> {
         self.calls = self.calls.saturating_add(1);
         if self.calls == 1 {

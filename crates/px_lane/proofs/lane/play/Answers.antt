@@ -39,7 +39,7 @@ returns-clause-attached g c =
     c.fresh.ensures ∙ ap (λ (s : Sink). concat (drop (s.horizon - s.consumed) s.buffer)) state in
     let there : n ≤ sink.filled - sink.consumed = omega (arith, c.requires.within, c.requires.forward) in
     let put : g.D.Device.now c.put.new.self ≡ put_at (next_horizon sink n) (concat (drop (next_horizon sink n - (sink.consumed + n)) (turned samples sink n messages).buffer)) d =
-    c.put.ensures ∙ ap (λ (h : ℕ). put_at h c.fresh.result.now d) at ∙ ap (λ (b : List ℕ). put_at (next_horizon sink n) b d) bytes in
+    c.put.ensures.state ∙ ap (λ (h : ℕ). put_at h c.fresh.result.now d) at ∙ ap (λ (b : List ℕ). put_at (next_horizon sink n) b d) bytes in
     subst (λ (s : Sink). IsAttached (g.D.Device.now c.put.new.self) s) (sym state)
     (subst (λ (e : DeviceState). IsAttached e (turned samples sink n messages)) (sym put)
     (put_there samples d sink n messages c.requires.lane (subst IsLane state c.play.ensures.lane) there c.requires.countable c.requires.attached).1)

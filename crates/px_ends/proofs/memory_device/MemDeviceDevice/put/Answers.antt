@@ -1,7 +1,7 @@
-use Rattle.std.proofs.Common.{◌-◌, ◌/◌, ◌≤◌, length, subst, sym, arith}
-use Rattle.px_ends.specs.Device.{IsPut}
+use Rattle.std.proofs.Common.{◌+◌, ◌-◌, ◌/◌, ◌≤◌, length, subst, sym, arith}
+use Rattle.px_ends.specs.Device.{IsPut, HoldsFrames}
 use Rattle.px_ends.specs.MemoryDevice.{state_of}
-use Rattle.px_ends.proofs.Frames.{frames_inside, frames_put, frames_fit}
+use Rattle.px_ends.proofs.Frames.{frames_inside, frames_put, frames_fit, frames_between}
 use Rattle.px_ends.proofs.memory_device.MemDeviceDevice.put.Goals as goal
 
 pub put_behind-requires-clause-inside : goal.put_behind-requires-clause-inside
@@ -34,4 +34,13 @@ invariant_of-self c =
       rw (e.bytes, c.bytes_of-from.ensures) (frames_put d.buffer.items c.args.bytes.now c.args.at (length c.args.bytes.now / d.frame) d.consumed d.filled d.frame h.6 late r.no_gap r.whole),
       omega (arith, h.7, e.room),
       h.8,
+    )
+
+pub returns-clause-full : goal.returns-clause-full
+returns-clause-full c =
+    let d = c.self.inside in
+    let h = c.self.invariant in
+    let n = (invariant_of-self c) in (
+      subst (λ v. HoldsFrames (state_of v)) c.self.view_is (frames_between (length d.buffer.items) d.consumed d.filled d.frame h.6 h.3),
+      frames_between (length c.put_behind.new.buffer.items) d.consumed (c.args.at + length c.args.bytes.now / d.frame) d.frame n.6 n.3,
     )

@@ -1,7 +1,8 @@
-use Rattle.std.proofs.Common.{◌+◌, ◌-◌, ◌*◌, ◌≤◌, ℕ, length, take, ap, arith, length-append}
+use Rattle.std.proofs.Common.{◌+◌, ◌-◌, ◌*◌, ◌≤◌, ℕ, length, take, ap, arith, length-append, subst}
 use Rattle.std.proofs.lemmas.List.{length-take-le}
-use Rattle.px_ends.specs.MemoryDevice.{left_after}
-use Rattle.px_ends.proofs.Frames.{frames_inside, frames_left, due_waits, room_left}
+use Rattle.px_ends.specs.Device.{HoldsFrames}
+use Rattle.px_ends.specs.MemoryDevice.{left_after, state_of}
+use Rattle.px_ends.proofs.Frames.{frames_inside, frames_left, due_waits, room_left, frames_between}
 use Rattle.px_ends.proofs.memory_device.MemDeviceDevice.sync.Goals as goal
 
 pub play_front-requires-clause-inside : goal.play_front-requires-clause-inside
@@ -40,4 +41,20 @@ invariant_of-self-2 c =
         room,
         e.played_room,
       ),
+    )
+
+pub returns-then-self-clause-full : goal.returns-then-self-clause-full
+returns-then-self-clause-full c =
+    let d = c.self.inside in
+    let h = c.self.invariant in
+    let full = frames_between (length d.buffer.items) d.consumed d.filled d.frame h.6 h.3 in
+    (subst (λ v. HoldsFrames (state_of v)) c.self.view_is full, full)
+
+pub returns-clause-full : goal.returns-clause-full
+returns-clause-full c =
+    let d = c.self.inside in
+    let h = c.self.invariant in
+    let n = invariant_of-self-2 c in (
+      subst (λ v. HoldsFrames (state_of v)) c.self.view_is (frames_between (length d.buffer.items) d.consumed d.filled d.frame h.6 h.3),
+      frames_between (length c.play_front.new.buffer.items) (d.consumed + c.due-frames.result) d.filled d.frame n.6 n.3,
     )

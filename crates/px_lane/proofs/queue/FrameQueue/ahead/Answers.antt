@@ -1,7 +1,7 @@
 use Rattle.std.proofs.Common.{◌≡◌, ℕ, ◌<◌, false, ap, sym, ◌∙◌, arith}
 use Rattle.std.specs.Prelude.{ℤ}
 use Rattle.px_model.specs.Index.{onward, above}
-use Rattle.px_model.specs.Queue.{Queue, left_of, is_held_short}
+use Rattle.px_model.specs.Queue.{Queue, left_of, is_short}
 use Rattle.px_model.specs.Going.{queue_after}
 use Rattle.px_model.proofs.Forward.{step_of, on_step, after_on}
 use Rattle.px_lane.specs.Room.{RoomyQueue}
@@ -14,7 +14,7 @@ returns c =
     let d = c.self.inside in
     let q : Queue = queue_of d.writes.items d.read d.write d.hold d.prebuf in
     let left : c.left.result ≡ left_of q = c.left.ensures ∙ sym (ap (λ (v : RoomyQueue). left_of v.queue) c.self.view_is) in
-    let long : is_held_short q ≡ false = ap (λ (v : RoomyQueue). is_held_short v.queue) c.self.view_is ∙ sym c.is_held_short.ensures ∙ c.if-is_held_short.false in
+    let long : is_short q ≡ false = ap (λ (v : RoomyQueue). is_short v.queue) c.self.view_is ∙ sym c.is_short.ensures ∙ c.if-is_short.false in
     let some : 0 < c.args.frames = omega (arith, c.if-frames-eq0.false) in
     let step : c.step-step.result ≡ step_of q c.args.frames =
     c.step-step.ensures

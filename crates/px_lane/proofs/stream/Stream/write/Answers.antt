@@ -1,4 +1,5 @@
 use Rattle.std.proofs.Common.{ℕ, ◌≤◌, sym, subst, arith}
+use Rattle.std.specs.Prelude.{pos}
 use Rattle.px_model.specs.Queue.{Queue, IsQueue}
 use Rattle.px_model.specs.Write.{Outcome, queue_with}
 use Rattle.px_model.proofs.Kept.{queue_written_keeps}
@@ -22,7 +23,7 @@ invariant_of-self c =
       record {
         queue_kept = subst (λ (v : Queue). IsQueue v) (sym c.write-how.ensures.after)
             (subst (λ (o : Outcome). IsQueue (queue_with o d.queue.queue w.at w.frames)) c.write-how.ensures.outcome
-            (queue_written_keeps d.queue.queue h.queue_kept d.maxlength w.at w.frames c.ahead-ahead.result));
+            (queue_written_keeps d.queue.queue h.queue_kept (pos d.maxlength) w.at w.frames c.ahead-ahead.result));
         prebuf_bounded = subst (λ (v : Queue). v.prebuf ≤ d.tlength) (sym c.write-how.ensures.after)
             (subst (λ (n : ℕ). n ≤ d.tlength) (same_prebuf (outcome_for c.write-how.result) d.queue.queue w.at w.frames) h.prebuf_bounded);
         tlength_bounded = h.tlength_bounded;

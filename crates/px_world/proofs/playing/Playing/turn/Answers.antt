@@ -29,9 +29,9 @@ left c =
 pub returns-in-Played-clause-mixer : goal.returns-in-Played-clause-mixer
 returns-in-Played-clause-mixer c =
     let it = left c in
-    let device : c.take_played-bytes.new.self.stopping || c.take_played-bytes.new.self.failed ≡ c.turn.new.self.device.stopping || c.turn.new.self.device.failed =
-    ap (λ (d : MemoryDevice). d.stopping || d.failed) (c.take_played-bytes.ensures.after) ∙ ap (λ (d : MemoryDevice). d.stopping || d.failed) c.device_mut-2.ensures.value in
-    mixer-same (mixer_of c.args.self.now) c.args.frames c.args.messages.now c.turn.new.self.sink c.turn.new.out.notices (c.take_played-bytes.new.self.stopping || c.take_played-bytes.new.self.failed)
+    let device : c.take_played.new.self.stopping || c.take_played.new.self.failed ≡ c.turn.new.self.device.stopping || c.turn.new.self.device.failed =
+    ap (λ (d : MemoryDevice). d.stopping || d.failed) c.in_ok-bytes.ensures.after ∙ ap (λ (d : MemoryDevice). d.stopping || d.failed) c.device_mut-2.ensures.value in
+    mixer-same (mixer_of c.args.self.now) c.args.frames c.args.messages.now c.turn.new.self.sink c.turn.new.out.notices (c.take_played.new.self.stopping || c.take_played.new.self.failed)
     it.going
     ((turns c).0.sink ∙ ap (λ (n : ℕ). after samples c.args.self.now.lane.sink n c.args.messages.now) it.count)
     ((turns c).1 ∙ ap (λ (n : ℕ). c.args.self.now.notices.notices ++ turn_notices samples c.args.self.now.lane.sink n c.args.messages.now) it.count)
@@ -45,4 +45,4 @@ returns-in-Played-clause-frames c =
 pub returns-in-Played-clause-bytes : goal.returns-in-Played-clause-bytes
 returns-in-Played-clause-bytes c =
     let it = left c in
-    c.take_played-bytes.ensures.played ∙ (ap (λ (d : MemoryDevice). d.played) c.device_mut-2.ensures.value ∙ (it.bytes ∙ ap (λ (frames : List (List ℕ)). concat frames) (sym (played-same (mixer_of c.args.self.now) c.args.frames it.going))))
+    c.in_ok-bytes.ensures.ok ∙ (ap (λ (d : MemoryDevice). d.played) c.device_mut-2.ensures.value ∙ (it.bytes ∙ ap (λ (frames : List (List ℕ)). concat frames) (sym (played-same (mixer_of c.args.self.now) c.args.frames it.going))))

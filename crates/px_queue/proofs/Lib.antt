@@ -1,0 +1,5 @@
+pub mod Log
+pub mod Storing
+pub mod Going
+pub mod Packing
+pub mod Copying

@@ -1,0 +1,38 @@
+-- What a peek answers, and what it copies.
+use Rattle.std.specs.Prelude.{◌≡◌, ◌≢◌, ℕ, ◌+◌, ◌*◌, ◌/◌, ◌^◌, ◌-◌, ◌<◌, ◌≤◌, min, Bool, true, false, List, length, take, drop, Option, None, Some}
+use Rattle.px_model.specs.Frame.{Frame}
+use Rattle.px_model.specs.Queue.{nothing, silence, sound, queue_frame}
+use Rattle.px_queue.specs.Kept.{KeptQueue}
+use Rattle.px_queue.specs.declared.peek.Span.{Span}
+use Rattle.px_queue.specs.declared.peek.Span.TheVariants as span
+
+-- how many frames of so many bytes there are in these bytes, at most 2 ^ 32 - 1
+abbrev pub frames_in : ℕ → ℕ → ℕ
+frames_in bytes size = min (bytes / size) (2 ^ 32 - 1)
+
+-- n frames from place k on are held, and stand at the front of the bytes, whose rest stays; there is no further one, or no place for it
+pub record GivesFrames (q : KeptQueue) (k n : ℕ) (old new : List ℕ) : Type 0 where
+  pub some : 0 < n
+  pub fit : n ≤ frames_in (length old) q.frame
+  pub frames : (j : ℕ) → j < n → queue_frame q.queue (k + j) ≡ sound (take q.frame (drop (j * q.frame) new))
+  pub rest : drop (n * q.frame) new ≡ drop (n * q.frame) old
+  pub size : length new ≡ length old
+  pub greatest : n < frames_in (length old) q.frame → (f : Frame) → queue_frame q.queue (k + n) ≢ sound f
+
+-- n places from place k on are silent, and there is no further one, or no place for it
+pub record GivesSilence (q : KeptQueue) (k n : ℕ) (old new : List ℕ) : Type 0 where
+  pub some : 0 < n
+  pub fit : n ≤ frames_in (length old) q.frame
+  pub silent : (j : ℕ) → j < n → queue_frame q.queue (k + j) ≡ silence
+  pub same : new ≡ old
+  pub greatest : n < frames_in (length old) q.frame → queue_frame q.queue (k + n) ≢ silence
+
+abbrev pub Peeks : KeptQueue → ℕ → List ℕ → List ℕ → Span → Type 0
+Peeks q k old new (span.Frames n) = GivesFrames q k n old new
+Peeks q k old new (span.Silence n) = GivesSilence q k n old new
+Peeks q k old new span.Nothing = (queue_frame q.queue k ≡ nothing) × (new ≡ old)
+
+-- a frame was copied over the bytes, or there was none and they stay
+abbrev pub Copies : Bool → Option Frame → List ℕ → List ℕ → Type 0
+Copies true o old new = o ≡ Some new
+Copies false o old new = (o ≡ None) × (new ≡ old)

@@ -1,0 +1,109 @@
+// Frames that were written at once.
+ghost use Rattle.std.specs.Prelude.{◌≡◌, ◌+◌, ◌*◌, ◌^◌, ◌<◌, length, IsTrue, IsFalse, IsSome, None, Some};
+ghost use Rattle.px_block.specs.Given.{after_giving, blocks_for};
+ghost use Rattle.px_model.specs.Index.{onward, IsIndex};
+ghost use Rattle.px_model.specs.Frame.{frames_of};
+ghost use Rattle.px_queue.specs.Written.{end_of, frame_in, reach_of};
+
+use crate::bytes::copy_bytes;
+use crate::index::Index;
+use px_block::{BlockSource, Blocks};
+use std::marker::Model;
+
+/// Frames that were written at once, and the index at which the first of them stands.
+#[derive(Debug, Drop)]
+pub(crate) struct Chunk {
+    at: Index,
+    size: u32,
+    count: u32,
+    bytes: Blocks,
+}
+
+impl Model for Chunk {
+    ghost use Rattle.std.specs.Prelude.{◌≡◌, ◌*◌, length};
+    ghost use Rattle.px_block.specs.Given.{blocks_for};
+    ghost use Rattle.px_model.specs.Index.{onward, IsIndex};
+    ghost use Rattle.px_model.specs.Frame.{frames_of};
+    ghost use Rattle.px_queue.specs.Written.{Written};
+
+    ghost Value = { Written };
+
+    ghost view = { λ c. record { at = c.at; frames = frames_of c.size c.count c.bytes; size = c.size; blocks = blocks_for (length c.bytes) } };
+
+    ghost invariant = { λ c. (length c.bytes ≡ c.count * c.size) × IsIndex (onward c.at c.count) × IsIndex c.at };
+}
+
+// Where frame k of so many begins.
+fn start(k: u64, count: u32, size: u32) -> usize
+    requires { k < count }
+    ensures place { result ≡ k * size }
+    ensures countable { result + size < 2 ^ 64 }
+{
+    k as usize * size as usize
+}
+
+#[tactic(auto, using(crate::proofs::Log::length_frames))]
+impl Chunk {
+    /// So many frames of `size` bytes each, the first at index `at`. Takes no memory.
+    pub(crate) fn new(at: Index, size: u32, count: u32, bytes: Blocks) -> Chunk
+        requires whole { length bytes ≡ count * size }
+        requires first { IsIndex at }
+        requires last { IsIndex (onward at count) }
+        ensures { result ≡ record { at = at; frames = frames_of size count bytes; size = size; blocks = blocks_for (length bytes) } }
+    {
+        Chunk {
+            at,
+            size,
+            count,
+            bytes,
+        }
+    }
+
+    /// One past the index of its last frame.
+    pub(crate) fn end(&self) -> Index
+        ensures value { result ≡ end_of self.now }
+        ensures in_range { IsIndex (end_of self.now) }
+        ensures first_in_range { IsIndex self.now.at }
+    {
+        self.at.onward(self.count as u64)
+    }
+
+    /// How far its frames reach past a read index, 0 where it has none.
+    pub(crate) fn reach(&self, read: Index) -> u64
+        ensures { result ≡ reach_of self.now read }
+    {
+        if self.count > 0 {
+            self.end().above(read)
+        } else {
+            0
+        }
+    }
+
+    /// Whether it has a frame at this index.
+    pub(crate) fn has(&self, index: Index) -> bool
+        ensures has { IsTrue result → IsSome (frame_in self.now index) }
+        ensures none { IsFalse result → frame_in self.now index ≡ None }
+    {
+        if index.is_below(self.at) {
+            return false;
+        }
+        index.above(self.at) < self.count as u64
+    }
+
+    /// Copies its frame at this index, which it has.
+    pub(crate) fn copy(&self, index: Index, out: &mut [u8])
+        requires has { IsSome (frame_in self.now index) }
+        requires size { length out.old ≡ self.now.size }
+        ensures { frame_in self.now index ≡ Some out.new }
+    {
+        let start = start(index.above(self.at), self.count, self.size);
+        copy_bytes(self.bytes.as_slice(), start, out);
+    }
+
+    /// Gives its blocks back to their source.
+    pub(crate) fn give_back<B: BlockSource>(self, source: &mut B)
+        ensures { B.given source.new ≡ after_giving (B.given source.old) self.blocks }
+    {
+        self.bytes.give_back(source);
+    }
+}

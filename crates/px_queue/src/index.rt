@@ -1,0 +1,122 @@
+// Indices of a stream.
+ghost use Rattle.std.specs.Prelude.{◌≡◌, pos, ◌+ℤ◌, ◌-ℤ◌, ◌<ℤ◌, ◌≤ℤ◌, IsOk, IfOk, IfErr, IsTrue, IsFalse, int_lt, ◌↔◌};
+ghost use Rattle.px_model.specs.Index.{LAST, above, onward, is_index, IsIndex};
+
+use std::marker::Model;
+
+const GREATEST: i64 = 1 << 60;
+
+/// An index of a stream: the number of a frame, from -2^60 to 2^60.
+#[derive(Clone, Copy, Debug)]
+pub(crate) struct Index {
+    frame: i64,
+}
+
+impl Model for Index {
+    ghost use Rattle.std.specs.Prelude.{ℤ};
+    ghost use Rattle.px_model.specs.Index.{IsIndex};
+
+    ghost Value = { ℤ };
+
+    ghost view = { λ i. i.frame };
+
+    ghost invariant = { λ i. IsIndex i.frame };
+
+    ghost inverse = { λ z. record { frame = z } };
+}
+
+impl Index {
+    /// Index 0.
+    pub(crate) fn zero() -> Index
+        ensures { result ≡ pos 0 }
+    {
+        Index { frame: 0 }
+    }
+
+    /// The greatest index, 2^60.
+    pub(crate) fn last() -> Index
+        ensures { result ≡ LAST }
+    {
+        Index { frame: GREATEST }
+    }
+
+    /// It as a number.
+    pub(crate) fn number(self) -> i64
+        ensures { result ≡ self }
+    {
+        self.frame
+    }
+
+    /// How many frames it lies above another, 0 where it doesn't.
+    pub(crate) fn above(self, other: Index) -> u64
+        ensures { result ≡ above self other }
+    {
+        if self.frame > other.frame {
+            (self.frame - other.frame) as u64
+        } else {
+            0
+        }
+    }
+
+    /// Whether it lies below another.
+    pub(crate) fn is_below(self, other: Index) -> bool
+        ensures { result ≡ int_lt self other }
+    {
+        self.frame < other.frame
+    }
+
+    /// Whether it lies more than so many frames above a number.
+    pub(crate) fn is_past(self, number: i64, frames: i64) -> bool
+        ensures { result ≡ int_lt frames (self -ℤ number) }
+    {
+        self.passes(number, frames)
+    }
+
+    // The same, by what it says of the numbers.
+    fn passes(self, number: i64, frames: i64) -> bool
+        ensures yes { IsTrue result → frames <ℤ (self -ℤ number) }
+        ensures no { IsFalse result → (self -ℤ number) ≤ℤ frames }
+    {
+        self.frame as i128 - number as i128 > frames as i128
+    }
+
+    /// The index so many frames past it, or before it where the offset is negative; the number itself where that is no index.
+    pub(crate) fn shifted(self, offset: i64) -> Result<Index, i128>
+        ensures is { IsOk result ↔ IsTrue (is_index (self +ℤ offset)) }
+        ensures ok { IfOk result (λ index. index ≡ self +ℤ offset) }
+        ensures err { IfErr result (λ number. number ≡ self +ℤ offset) }
+    {
+        let frame = self.frame as i128 + offset as i128;
+        if frame < -(GREATEST as i128) || frame > GREATEST as i128 {
+            return Err(frame);
+        }
+        Ok(Index {
+            frame: frame as i64,
+        })
+    }
+
+    /// The index so many frames on; the number itself where that is no index.
+    pub(crate) fn after(self, frames: u32) -> Result<Index, i128>
+        ensures is { IsOk result ↔ IsTrue (is_index (onward self frames)) }
+        ensures ok { IfOk result (λ index. index ≡ onward self frames) }
+        ensures err { IfErr result (λ number. number ≡ onward self frames) }
+    {
+        let frame = self.frame as i128 + frames as i128;
+        if frame > GREATEST as i128 {
+            return Err(frame);
+        }
+        Ok(Index {
+            frame: frame as i64,
+        })
+    }
+
+    /// The index so many frames on, where that is one.
+    pub(crate) fn onward(self, frames: u64) -> Index
+        requires { IsIndex (onward self frames) }
+        ensures { result ≡ onward self frames }
+    {
+        Index {
+            frame: self.frame + frames as i64,
+        }
+    }
+}

@@ -1,0 +1,104 @@
+// Frames are copied out.
+ghost use Rattle.std.specs.Prelude.{◌≡◌, ℕ, ◌+◌, ◌*◌, ◌<◌, ◌≤◌, length, take, drop, IsTrue, IsFalse, IsSome, None, Some};
+ghost use Rattle.px_model.specs.Held.{place};
+ghost use Rattle.px_queue.specs.Peeked.{Peeks, Copies};
+
+use crate::FrameQueue;
+use crate::finding::newest;
+
+/// What stands at a place ahead of the read index.
+#[derive(Clone, Copy, Debug, PartialEq, Eq)]
+pub enum Span {
+    /// So many frames, at least one.
+    Frames(u32),
+    /// So many places, at least one, at which none is held.
+    Silence(u32),
+    /// Nothing: the queue waits for more frames, or ends before.
+    Nothing,
+}
+
+impl FrameQueue {
+    /// Copies the frames that are held from `k` frames past the read index on to the front of `out`, as many as there are one after
+    /// another and fit, or says how many places there are silent. The rest of `out` stays. Takes no memory.
+    /// (PulseAudio: `pa_memblockq_peek`, which lends a block; own: frames are copied.)
+    pub fn peek(&self, k: u32, out: &mut [u8]) -> Span
+        requires some { self.now.frame ≤ length out.old }
+        requires whole { (n : ℕ) × (length out.old ≡ n * self.now.frame) }
+        ensures { Peeks self.now k out.old out.new result }
+    {
+        let left = self.left();
+        if self.is_short() || left <= k as u64 {
+            return Span::Nothing;
+        }
+        let most = (out.len() / self.frame as usize)
+            .min(u32::MAX as usize)
+            .min((left - k as u64) as usize) as u32;
+        let frames = self.copy_frames(k, most, out);
+        if frames > 0 {
+            return Span::Frames(frames);
+        }
+        Span::Silence(self.holes(k, most))
+    }
+
+    // Copies the frames held from place k on, one after another, at most so many, and answers how many there are.
+    fn copy_frames(&self, k: u32, most: u32, out: &mut [u8]) -> u32
+        requires { most * self.now.frame ≤ length out.old }
+        ensures few { result ≤ most }
+        ensures frames { (j : ℕ) → j < result → place self.now.queue.held (k + j) ≡ Some (take self.now.frame (drop (j * self.now.frame) out.new)) }
+        ensures rest { drop (result * self.now.frame) out.new ≡ drop (result * self.now.frame) out.old }
+        ensures end { result < most → place self.now.queue.held (k + result) ≡ None }
+    {
+        let size = self.frame as usize;
+        let mut count: u32 = 0;
+        while count < most {
+            let at = count as usize * size;
+            if !self.copy_frame(k as u64 + count as u64, &mut out[at..at + size]) {
+                return count;
+            }
+            count += 1;
+        }
+        count
+    }
+
+    // How many places from place k on have no frame, one after another, at most so many.
+    fn holes(&self, k: u32, most: u32) -> u32
+        ensures few { result ≤ most }
+        ensures holes { (j : ℕ) → j < result → place self.now.queue.held (k + j) ≡ None }
+        ensures end { result < most → IsSome (place self.now.queue.held (k + result)) }
+    {
+        let mut count: u32 = 0;
+        while count < most {
+            if self.has_frame(k as u64 + count as u64) {
+                return count;
+            }
+            count += 1;
+        }
+        count
+    }
+
+    // Whether a frame is held at a place past the read index.
+    fn has_frame(&self, k: u64) -> bool
+        ensures some { IsTrue result → IsSome (place self.now.queue.held k) }
+        ensures none { IsFalse result → place self.now.queue.held k ≡ None }
+    {
+        k < self.held && newest(self.writes.as_slice(), self.read, self.read.onward(k)).is_some()
+    }
+
+    // Copies the frame held at a place past the read index, and answers whether one is.
+    fn copy_frame(&self, k: u64, out: &mut [u8]) -> bool
+        requires { length out.old ≡ self.now.frame }
+        ensures { Copies result (place self.now.queue.held k) out.old out.new }
+    {
+        if k >= self.held {
+            return false;
+        }
+        let index = self.read.onward(k);
+        match newest(self.writes.as_slice(), self.read, index) {
+            Some(write) => {
+                write.copy(index, out);
+                true
+            }
+            None => false,
+        }
+    }
+}

@@ -1,0 +1,125 @@
+// Frames are written.
+ghost use Rattle.std.specs.Prelude.{◌≡◌, ℤ, List, ◌+◌, ◌*◌, ◌≤◌, ◌-ℤ◌, int_lt, length, ◌==◌, ◌&&◌, ◌||◌, IfOk, IfErr};
+ghost use Rattle.px_block.specs.Given.{after_giving, blocks_for};
+ghost use Rattle.px_model.specs.Frame.{Frame, frames_of};
+ghost use Rattle.px_model.specs.Index.{onward};
+ghost use Rattle.px_model.specs.Queue.{end_of};
+ghost use Rattle.px_model.specs.Write.{stored, overflow, seek_of, origin_of, target_of, outcome_of, queue_with};
+ghost use Rattle.px_queue.specs.Pushed.{outcome_for, Carries, IsPlaced, IsMissed};
+
+use crate::FrameQueue;
+use crate::chunk::Chunk;
+use crate::index::Index;
+use px_block::{BlockSource, Blocks};
+
+/// How a write ended.
+#[derive(Clone, Copy, Debug, PartialEq, Eq)]
+pub enum Pushed {
+    /// The frames are held.
+    Stored,
+    /// They end at this index, past the end of what is held, and more than the limit past the ahead index. They aren't held, and the
+    /// write index stands behind them.
+    Overflow { end: i64, limit: i64 },
+    /// They would begin or end at this number, which is no index. Nothing changes.
+    Outside { at: i128 },
+}
+
+impl FrameQueue {
+    /// Writes so many frames at the index that a seek goes to, where at most `limit` frames may wait past the index `ahead`: the mode of
+    /// the seek as on the wire, 0 to 3, and its offset in frames. They replace what is held there; what lies before the read index
+    /// is dropped. Frames that aren't held give their blocks back to the source. Takes room for one write, and no memory.
+    /// (PulseAudio: `pa_memblockq_seek` and `pa_memblockq_push`; own: the limit counts from the ahead index.)
+    pub fn push<B: BlockSource>(
+        &mut self,
+        seek: u8,
+        offset: i64,
+        bytes: Blocks,
+        frames: u32,
+        ahead: i64,
+        limit: i64,
+        blocks: &mut B,
+    ) -> Pushed
+        requires room { 1 ≤ self.old.room }
+        requires seek { seek ≤ 3 }
+        requires whole { length bytes ≡ frames * self.old.frame }
+        ensures outcome { outcome_for result ≡ outcome_of self.old.queue limit (target_of self.old.queue (seek_of seek) offset) frames ahead }
+        ensures carries { Carries (target_of self.old.queue (seek_of seek) offset) frames limit result }
+        ensures queue { self.new.queue ≡ queue_with (outcome_for result) self.old.queue (target_of self.old.queue (seek_of seek) offset) (frames_of self.old.frame frames bytes) }
+        ensures frame { self.new.frame ≡ self.old.frame }
+        ensures room { self.old.room ≤ self.new.room + 1 }
+        ensures given { after_giving (B.given blocks.new) self.new.blocks ≡ after_giving (B.given blocks.old) (self.old.blocks + blocks_for (length bytes)) }
+    {
+        let (at, end) = match self.place(seek, offset, frames) {
+            Ok(both) => both,
+            Err(at) => {
+                bytes.give_back(blocks);
+                return Pushed::Outside { at };
+            }
+        };
+        if self.overflows(end, ahead, limit) {
+            self.skip_to(end);
+            bytes.give_back(blocks);
+            return Pushed::Overflow {
+                end: end.number(),
+                limit,
+            };
+        }
+        self.store(Chunk::new(at, self.frame, frames, bytes));
+        Pushed::Stored
+    }
+
+    // The indices at which so many frames begin and end; the first of the two numbers that is no index.
+    fn place(&self, seek: u8, offset: i64, frames: u32) -> Result<(Index, Index), i128>
+        ensures ok { IfOk result (λ both. IsPlaced (target_of self.now.queue (seek_of seek) offset) frames both.0 both.1) }
+        ensures err { IfErr result (λ at. IsMissed (target_of self.now.queue (seek_of seek) offset) frames at) }
+    {
+        let at = self.origin(seek).shifted(offset)?;
+        let end = at.after(frames)?;
+        Ok((at, end))
+    }
+
+    // What the offset of a seek of this mode counts from.
+    fn origin(&self, seek: u8) -> Index
+        ensures { result ≡ origin_of self.now.queue (seek_of seek) }
+    {
+        match seek {
+            0 => self.write,
+            1 => Index::zero(),
+            2 => self.read,
+            _ => self.end(),
+        }
+    }
+
+    // Whether frames that end there go past the end of what is held and past the limit.
+    fn overflows(&self, end: Index, ahead: i64, limit: i64) -> bool
+        ensures { result ≡ ((length self.now.queue.held == 0 || int_lt (end_of self.now.queue) end) && int_lt limit (end -ℤ ahead)) }
+    {
+        (self.held == 0 || self.end().is_below(end)) && end.is_past(ahead, limit)
+    }
+
+    // Goes on writing at an index, with nothing stored before it.
+    fn skip_to(&mut self, end: Index)
+        ensures queue { (p : ℤ) (frames : List Frame) → end ≡ onward p (length frames) → self.new.queue ≡ queue_with overflow self.old.queue p frames }
+        ensures frame { self.new.frame ≡ self.old.frame }
+        ensures room { self.new.room ≡ self.old.room }
+        ensures blocks { self.new.blocks ≡ self.old.blocks }
+    {
+        self.write = end;
+    }
+
+    // Holds frames over what is held, and goes on writing behind them.
+    fn store(&mut self, chunk: Chunk)
+        requires room { 1 ≤ self.old.room }
+        requires size { chunk.size ≡ self.old.frame }
+        ensures queue { self.new.queue ≡ queue_with stored self.old.queue chunk.at chunk.frames }
+        ensures frame { self.new.frame ≡ self.old.frame }
+        ensures room { self.old.room ≤ self.new.room + 1 }
+        ensures blocks { self.new.blocks ≡ self.old.blocks + chunk.blocks }
+    {
+        let end = chunk.end();
+        let reach = chunk.reach(self.read);
+        self.writes.push_reserved(chunk);
+        self.held = self.held.max(reach);
+        self.write = end;
+    }
+}

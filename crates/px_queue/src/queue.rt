@@ -1,0 +1,258 @@
+// The frames of a stream that wait to be played.
+ghost use Rattle.std.specs.Prelude.{◌≡◌, ◌≤◌, ◌<◌, nat_lt, ◌&&◌, IsTrue, OnOk};
+ghost use Rattle.px_block.specs.Given.{after_giving};
+ghost use Rattle.px_model.specs.Queue.{end_of, edge_of, left_of, is_short};
+ghost use Rattle.px_model.specs.Going.{queue_given, queue_after};
+ghost use Rattle.px_model.specs.Control.{new_queue, emptied, with_prebuf};
+ghost use Rattle.px_queue.specs.Kept.{with_hold};
+ghost use Rattle.px_queue.specs.Written.{step_by};
+
+use crate::chunk::Chunk;
+use crate::finding::{forget_all, forget_past};
+use crate::index::Index;
+use px_block::BlockSource;
+use px_types::{Mem, NoMemory};
+use std::alloc::Global;
+use std::marker::Model;
+
+/// A queue of frames (PulseAudio: `pa_memblockq`). Indices are frames, and its bytes whole frames of one size.
+#[derive(Debug, Drop)]
+pub struct FrameQueue {
+    pub(crate) frame: u32,
+    pub(crate) writes: Vec<Chunk>,
+    pub(crate) read: Index,
+    pub(crate) write: Index,
+    pub(crate) held: u64,
+    hold: bool,
+    prebuf: u32,
+}
+
+impl Model for FrameQueue {
+    ghost use Rattle.std.specs.Prelude.{◌≡◌, ◌≤◌, ◌-◌, length, vec_len, vec_capacity};
+    ghost use Rattle.px_model.specs.Queue.{IsQueue};
+    ghost use Rattle.px_queue.specs.Kept.{KeptQueue};
+    ghost use Rattle.px_queue.specs.Written.{held_of, queue_of, blocks_in, AreOf};
+
+    ghost Value = { KeptQueue };
+
+    ghost view = { λ q. record {
+      queue = queue_of q.writes.items q.read q.write q.hold q.prebuf;
+      frame = q.frame;
+      room = vec_capacity q.writes - vec_len q.writes;
+      blocks = blocks_in q.writes.items;
+    } };
+
+    ghost invariant = { λ q. (q.held ≡ length (held_of q.read q.writes.items))
+        × IsQueue (queue_of q.writes.items q.read q.write q.hold q.prebuf)
+        × (1 ≤ q.frame) × AreOf q.frame q.writes.items };
+}
+
+impl FrameQueue {
+    /// An empty queue of frames of so many bytes, at least one, with both indices at 0 and without prebuffering. Takes no memory.
+    pub fn new(alloc: Global, frame_size: u32) -> FrameQueue
+        requires { 1 ≤ frame_size }
+        ensures queue { result.queue ≡ new_queue 0 }
+        ensures frame { result.frame ≡ frame_size }
+        ensures blocks { result.blocks ≡ 0 }
+    {
+        FrameQueue {
+            frame: frame_size,
+            writes: Vec::new(alloc),
+            read: Index::zero(),
+            write: Index::zero(),
+            held: 0,
+            hold: false,
+            prebuf: 0,
+        }
+    }
+
+    /// Takes room for so many more writes, with so many blocks in all: a write brings the room of its blocks, so they need none here.
+    /// Without memory nothing changes.
+    pub fn reserve(&mut self, writes: u32, _blocks: u32) -> Mem<()>
+        ensures ok { OnOk result (writes ≤ self.new.room) }
+        ensures queue { self.new.queue ≡ self.old.queue }
+        ensures frame { self.new.frame ≡ self.old.frame }
+        ensures blocks { self.new.blocks ≡ self.old.blocks }
+        ensures room { self.old.room ≤ self.new.room }
+    {
+        self.writes.reserve(writes as usize)?;
+        Ok(())
+    }
+
+    /// The next frame to read.
+    pub fn read_index(&self) -> i64
+        ensures { result ≡ self.now.queue.read }
+    {
+        self.read.number()
+    }
+
+    /// The next frame to write.
+    pub fn write_index(&self) -> i64
+        ensures { result ≡ self.now.queue.write }
+    {
+        self.write.number()
+    }
+
+    /// Where the queue ends: the greater of the write index and one past the last frame held, the write index where none is held.
+    pub fn end_index(&self) -> i64
+        ensures { result ≡ edge_of self.now.queue }
+    {
+        if self.held == 0 {
+            return self.write.number();
+        }
+        self.write.number().max(self.end().number())
+    }
+
+    // One past the last frame held, and the read index where none is held.
+    pub(crate) fn end(&self) -> Index
+        ensures { result ≡ end_of self.now.queue }
+    {
+        self.read.onward(self.held)
+    }
+
+    // How many frames wait, up to the write index or the last one held.
+    pub(crate) fn left(&self) -> u64
+        ensures { result ≡ left_of self.now.queue }
+    {
+        self.write.above(self.read).max(self.held)
+    }
+
+    // Whether it waits for more frames before it plays.
+    pub(crate) fn is_short(&self) -> bool
+        ensures { result ≡ is_short self.now.queue }
+    {
+        self.hold && self.write.above(self.read) < self.prebuf as u64
+    }
+
+    /// How many of the next frames of its sink it gives, the first of them.
+    pub fn given(&self, frames: u64) -> u64
+        ensures { result ≡ queue_given self.now.queue frames }
+    {
+        if self.is_short() {
+            0
+        } else {
+            frames.min(self.left())
+        }
+    }
+
+    /// Its read index once so many frames of its sink are given.
+    pub fn ahead_index(&self, frames: u64) -> i64
+        ensures { result ≡ (queue_after self.now.queue frames).read }
+    {
+        self.ahead(frames).number()
+    }
+
+    // Its read index so many frames of its sink on.
+    fn ahead(&self, frames: u64) -> Index
+        ensures { result ≡ (queue_after self.now.queue frames).read }
+    {
+        if frames == 0 || self.is_short() {
+            return self.read;
+        }
+        let step = step(
+            self.prebuf,
+            frames,
+            Index::last().above(self.read),
+            self.left(),
+        );
+        self.read.onward(step)
+    }
+
+    /// Goes so many frames of its sink forward, and answers how many of them it gave, the first ones. The oldest writes go while they lie
+    /// wholly before the read index. Takes no memory. (PulseAudio: `pa_memblockq_drop`.)
+    pub fn settle<B: BlockSource>(&mut self, frames: u64, blocks: &mut B) -> u64
+        ensures value { result ≡ queue_given self.old.queue frames }
+        ensures queue { self.new.queue ≡ queue_after self.old.queue frames }
+        ensures frame { self.new.frame ≡ self.old.frame }
+        ensures room { self.old.room ≤ self.new.room }
+        ensures given { after_giving (B.given blocks.new) self.new.blocks ≡ after_giving (B.given blocks.old) self.old.blocks }
+    {
+        let given = self.given(frames);
+        self.go(frames);
+        self.forget(blocks);
+        given
+    }
+
+    // Goes so many frames of its sink forward.
+    fn go(&mut self, frames: u64)
+        ensures queue { self.new.queue ≡ queue_after self.old.queue frames }
+        ensures frame { self.new.frame ≡ self.old.frame }
+        ensures room { self.new.room ≡ self.old.room }
+        ensures blocks { self.new.blocks ≡ self.old.blocks }
+    {
+        if frames == 0 || self.is_short() {
+            return;
+        }
+        let left = self.left();
+        let step = step(self.prebuf, frames, Index::last().above(self.read), left);
+        self.hold = runs_out(self.prebuf, frames, left);
+        self.held = self.held.saturating_sub(step);
+        self.read = self.read.onward(step);
+    }
+
+    // Lets go of the oldest writes that lie wholly before the read index.
+    fn forget<B: BlockSource>(&mut self, blocks: &mut B)
+        ensures queue { self.new.queue ≡ self.old.queue }
+        ensures frame { self.new.frame ≡ self.old.frame }
+        ensures room { self.old.room ≤ self.new.room }
+        ensures given { after_giving (B.given blocks.new) self.new.blocks ≡ after_giving (B.given blocks.old) self.old.blocks }
+    {
+        forget_past(&mut self.writes, self.read, blocks);
+    }
+
+    /// Drops all that is held, and waits again, where it has prebuffering. Each block goes back to its source. Takes no memory.
+    /// (PulseAudio: `pa_memblockq_flush_write`.)
+    pub fn flush<B: BlockSource>(&mut self, blocks: &mut B)
+        ensures queue { self.new.queue ≡ emptied self.old.queue }
+        ensures frame { self.new.frame ≡ self.old.frame }
+        ensures room { self.old.room ≤ self.new.room }
+        ensures none { self.new.blocks ≡ 0 }
+        ensures given { B.given blocks.new ≡ after_giving (B.given blocks.old) self.old.blocks }
+    {
+        forget_all(&mut self.writes, blocks);
+        self.held = 0;
+        self.write = self.read;
+        self.hold = self.prebuf > 0;
+    }
+
+    /// Whether it waits for prebuf frames before it plays; it can only where prebuf is above 0. (PulseAudio: `pa_memblockq_prebuf_force`
+    /// and `pa_memblockq_prebuf_disable`.)
+    pub fn set_hold(&mut self, on: bool)
+        requires { IsTrue on → 0 < self.old.queue.prebuf }
+        ensures queue { self.new.queue ≡ with_hold self.old.queue on }
+        ensures frame { self.new.frame ≡ self.old.frame }
+        ensures room { self.new.room ≡ self.old.room }
+        ensures blocks { self.new.blocks ≡ self.old.blocks }
+    {
+        self.hold = on;
+    }
+
+    /// Waits for so many frames from then on; at 0 for none.
+    pub fn set_prebuf(&mut self, frames: u32)
+        ensures queue { self.new.queue ≡ with_prebuf self.old.queue frames }
+        ensures frame { self.new.frame ≡ self.old.frame }
+        ensures room { self.new.room ≡ self.old.room }
+        ensures blocks { self.new.blocks ≡ self.old.blocks }
+    {
+        self.hold = self.hold && frames > 0;
+        self.prebuf = frames;
+    }
+}
+
+// How far the read index goes: to the last index without prebuffering, and to the last frame with it.
+fn step(prebuf: u32, frames: u64, room: u64, left: u64) -> u64
+    ensures { result ≡ step_by prebuf frames room left }
+{
+    if prebuf == 0 {
+        frames.min(room)
+    } else {
+        frames.min(left)
+    }
+}
+
+// Whether the frames run out with prebuffering.
+fn runs_out(prebuf: u32, frames: u64, left: u64) -> bool
+    ensures { result ≡ (nat_lt 0 prebuf && nat_lt left frames) }
+{
+    prebuf > 0 && left < frames
+}

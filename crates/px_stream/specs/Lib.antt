@@ -1,0 +1,4 @@
+pub mod Samples
+pub mod Kept
+pub mod Messages
+pub mod Values

@@ -1,0 +1,172 @@
+// A stream going forward with its sink, and what it asks for.
+ghost use Rattle.std.specs.Prelude.{◌≡◌, ◌≤◌, ◌+◌, ◌∷◌, ◌×◌, ◌⊎◌, [], length, MatchOption};
+ghost use Rattle.px_block.specs.Given.{after_giving};
+ghost use Rattle.px_model.specs.Going.{after, given_of, ahead_of};
+ghost use Rattle.px_model.specs.Turn.{is_playing, has_ended, has_started, has_run_out, missing_of, request_of};
+
+use crate::Stream;
+use crate::run::run_after;
+use crate::stream::less;
+use px_block::BlockSource;
+use px_model::Run;
+
+/// What is to be told of a stream that went forward.
+#[derive(Clone, Copy, Debug, PartialEq, Eq)]
+pub struct Settled {
+    /// It was silent, and gave a frame.
+    pub started: bool,
+    /// It is silent, played or gave a frame before, and has no drain to answer.
+    pub underflow: bool,
+}
+
+/// Where a stream stands once some frames more of its sink are given.
+#[derive(Clone, Copy, Debug, PartialEq, Eq)]
+pub struct Ahead {
+    /// Its read index then: the ahead index.
+    pub read: i64,
+    /// How long it has played or been silent then.
+    pub run: Run,
+}
+
+impl Stream {
+    /// Goes so many frames of its sink forward. Blocks that fall out of use go back to their source. Takes no memory.
+    pub fn settle<B: BlockSource>(&mut self, frames: u64, blocks: &mut B) -> Settled
+        ensures started { result.started ≡ has_started self.old.stream frames }
+        ensures underflow { result.underflow ≡ has_run_out self.old.stream frames }
+        ensures stream { self.new.stream ≡ after self.old.stream frames }
+        ensures room { self.old.room ≤ self.new.room }
+        ensures given { after_giving (B.given blocks.new) self.new.blocks ≡ after_giving (B.given blocks.old) self.old.blocks }
+    {
+        let settled = Settled {
+            started: self.starts(frames),
+            underflow: self.runs_out(frames),
+        };
+        self.go(frames, blocks);
+        settled
+    }
+
+    // Goes so many frames of its sink forward.
+    fn go<B: BlockSource>(&mut self, frames: u64, blocks: &mut B)
+        ensures stream { self.new.stream ≡ after self.old.stream frames }
+        ensures room { self.old.room ≤ self.new.room }
+        ensures given { after_giving (B.given blocks.new) self.new.blocks ≡ after_giving (B.given blocks.old) self.old.blocks }
+    {
+        if frames == 0 || self.corked {
+            return;
+        }
+        self.run = run_after(self.run, self.queue.given(frames), frames);
+        self.queue.settle(frames, blocks);
+    }
+
+    // How many of the next frames it gives, the first of them.
+    fn given(&self, frames: u64) -> u64
+        ensures { result ≡ given_of self.now.stream frames }
+    {
+        if self.corked {
+            0
+        } else {
+            self.queue.given(frames)
+        }
+    }
+
+    fn starts(&self, frames: u64) -> bool
+        ensures { result ≡ has_started self.now.stream frames }
+    {
+        !is_playing(self.run) && self.given(frames) > 0
+    }
+
+    fn runs_out(&self, frames: u64) -> bool
+        ensures { result ≡ has_run_out self.now.stream frames }
+    {
+        let later = self.run_after(frames);
+        !is_playing(later)
+            && (is_playing(self.run) || self.given(frames) > 0)
+            && self.draining.is_empty()
+    }
+
+    fn run_after(&self, frames: u64) -> Run
+        ensures { result ≡ (after self.now.stream frames).run }
+    {
+        if self.corked || frames == 0 {
+            self.run
+        } else {
+            run_after(self.run, self.given(frames), frames)
+        }
+    }
+
+    /// Where it stands once so many frames more of its sink are given.
+    pub fn ahead(&self, frames: u64) -> Ahead
+        ensures read { result.read ≡ ahead_of self.now.stream frames }
+        ensures run { result.run ≡ (after self.now.stream frames).run }
+    {
+        Ahead {
+            read: self.ahead_index(frames),
+            run: self.run_after(frames),
+        }
+    }
+
+    pub(crate) fn ahead_index(&self, frames: u64) -> i64
+        ensures { result ≡ ahead_of self.now.stream frames }
+    {
+        if self.corked {
+            self.queue.read_index()
+        } else {
+            self.queue.ahead_index(frames)
+        }
+    }
+
+    /// The frames that it asks for where so many are mixed past its read index: all that are missing of `tlength`, where they are at
+    /// least `minreq`, else 0.
+    pub fn request(&mut self, mixed: u64) -> u32
+        ensures frames { result ≡ request_of self.old.stream mixed }
+        ensures stream { self.new.stream ≡ record self.old.stream { requested = self.old.stream.requested + request_of self.old.stream mixed } }
+        ensures room { self.new.room ≡ self.old.room }
+        ensures blocks { self.new.blocks ≡ self.old.blocks }
+    {
+        let frames = self.asks(mixed);
+        self.requested += frames;
+        frames
+    }
+
+    fn asks(&self, mixed: u64) -> u32
+        ensures { result ≡ request_of self.now.stream mixed }
+    {
+        let missing = self.missing(mixed);
+        if self.minreq <= missing { missing } else { 0 }
+    }
+
+    fn missing(&self, mixed: u64) -> u32
+        ensures { result ≡ missing_of self.now.stream mixed }
+    {
+        let waiting = above(self.queue.write_index(), self.ahead_index(mixed));
+        less(less(self.tlength, waiting), self.requested as u64)
+    }
+
+    /// The first tag of the drains that wait for an answer, which then waits no more. `None` where frames are left to play, or no tag
+    /// waits. Takes no memory.
+    pub fn drained(&mut self) -> Option<u32>
+        ensures tag { MatchOption result (((has_ended self.old.stream ≡ false) ⊎ (self.old.stream.draining ≡ [])) × (self.new.stream ≡ self.old.stream))
+            (λ tag. (has_ended self.old.stream ≡ true) × (self.old.stream.draining ≡ tag ∷ self.new.stream.draining)
+            × (self.new.stream ≡ record self.old.stream { draining = self.new.stream.draining })) }
+        ensures room { self.old.room ≤ self.new.room }
+        ensures blocks { self.new.blocks ≡ self.old.blocks }
+    {
+        if self.draining.is_empty() || !self.has_ended() {
+            return None;
+        }
+        Some(self.draining.remove(0))
+    }
+
+    fn has_ended(&self) -> bool
+        ensures { result ≡ has_ended self.now.stream }
+    {
+        self.queue.end_index() <= self.queue.read_index()
+    }
+}
+
+// Whether a run is one of playing.
+fn is_playing(run: Run) -> bool
+    ensures { result ≡ is_playing run }
+{
+    matches!(run, Run::Playing(_))
+}
