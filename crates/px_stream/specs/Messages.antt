@@ -1,5 +1,5 @@
 -- Messages to a stream as those of the definitions, and what they bring.
-use Rattle.std.specs.Prelude.{◌≡◌, ℕ, ◌*◌, ◌<◌, ◌≤◌, Bool, true, false, List, length, All, ⊤}
+use Rattle.std.specs.Prelude.{◌≡◌, ℕ, ◌*◌, ◌<◌, ◌≤◌, Bool, true, false, length, All, ⊤}
 use Rattle.px_block.specs.Given.{blocks_for}
 use Rattle.px_model.specs.Frame.{frame_size}
 use Rattle.px_model.specs.Message.{StreamMessage}

@@ -1,6 +1,6 @@
 -- The work values of frames ahead, a run of them for each channel of a sink.
-use Rattle.std.specs.Prelude.{◌≡◌, ◌≢◌, ℕ, ◌+◌, ◌*◌, ◌<◌, ◌≤◌, ℤ, pos, List, length, slice_index, slice_index_or}
-use Rattle.px_sample.specs.declared.width.Width.{Width}
+use Rattle.std.specs.Prelude.{◌≡◌, ◌≢◌, ℕ, ◌+◌, ◌-◌, ◌*◌, ◌^◌, ◌<◌, ◌≤◌, ℤ, pos, List, length, slice_index, slice_index_or}
+use Rattle.px_sample.specs.declared.format.Width.{Width}
 use Rattle.px_model.specs.Frame.{Frame, sample_of}
 use Rattle.px_model.specs.Queue.{FrameAhead, nothing, silence, sound}
 use Rattle.px_model.specs.Stream.{Stream, frame_at}
@@ -18,11 +18,11 @@ value_at width s channel silence = pos 0
 value_at width s channel (sound frame) = value_in width s channel frame
 
 -- g frames from place k on are given, and their values stand at the front of each run of n values; the rest of each run stays. No further
--- frame is given, or there is no place for it
+-- frame is given, or there is no place for it, or its place ahead is past 32 bits
 pub record GivesValues (width : Width) (s : Stream) (k n g : ℕ) (old new : List ℤ) : Type 0 where
   pub few : g ≤ n
   pub size : length new ≡ length old
   pub there : (j : ℕ) → j < g → frame_at s (k + j) ≢ nothing
-  pub greatest : g < n → frame_at s (k + g) ≡ nothing
+  pub greatest : g < n → k + g < 2 ^ 32 - 1 → frame_at s (k + g) ≡ nothing
   pub values : (c j : ℕ) → c < length s.feed → j < g → slice_index_or new (c * n + j) (pos 0) ≡ value_at width s c (frame_at s (k + j))
   pub rest : (c j : ℕ) → c < length s.feed → g ≤ j → j < n → slice_index_or new (c * n + j) (pos 0) ≡ slice_index_or old (c * n + j) (pos 0)

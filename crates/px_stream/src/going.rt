@@ -1,7 +1,8 @@
 // A stream going forward with its sink, and what it asks for.
-ghost use Rattle.std.specs.Prelude.{◌≡◌, ◌≤◌, ◌+◌, ◌∷◌, ◌×◌, ◌⊎◌, [], length, MatchOption};
+ghost use Rattle.std.specs.Prelude.{◌≡◌, ◌≤◌, ◌+◌, ◌∷◌, ◌⊎◌, [], true, false, MatchOption};
 ghost use Rattle.px_block.specs.Given.{after_giving};
 ghost use Rattle.px_model.specs.Going.{after, given_of, ahead_of};
+ghost use Rattle.px_model.specs.Index.{above};
 ghost use Rattle.px_model.specs.Turn.{is_playing, has_ended, has_started, has_run_out, missing_of, request_of};
 
 use crate::Stream;
@@ -169,4 +170,15 @@ fn is_playing(run: Run) -> bool
     ensures { result ≡ is_playing run }
 {
     matches!(run, Run::Playing(_))
+}
+
+// How far an index lies above another, 0 where it doesn't.
+fn above(index: i64, other: i64) -> u64
+    ensures { result ≡ above index other }
+{
+    if index > other {
+        (index as i128 - other as i128) as u64
+    } else {
+        0
+    }
 }

@@ -8,7 +8,10 @@ use px_vol::Factors;
 #[derive(Debug, Drop)]
 pub enum StreamMsg {
     /// It has come from another sink, and has this feed and these factors from then on.
-    Attach { feed: Feed, factors: Factors },
+    Attach {
+        feed: Feed,
+        factors: Factors,
+    },
     /// Frames: the mode of the seek as on the wire, 0 to 3, its offset in frames, how many frames they are, and their bytes.
     Write {
         seek: u8,
@@ -17,7 +20,9 @@ pub enum StreamMsg {
         bytes: Blocks,
     },
     /// It is corked or goes on.
-    Cork { on: bool },
+    Cork {
+        on: bool,
+    },
     /// What it holds is dropped.
     Flush,
     /// It plays without waiting.
@@ -25,13 +30,21 @@ pub enum StreamMsg {
     /// It waits again.
     Prebuf,
     /// The tag is answered once all is played.
-    Drain { tag: u32 },
+    Drain {
+        tag: u32,
+    },
     /// New buffer attributes, in frames, repaired.
-    Attr { attr: Attr },
+    Attr {
+        attr: Attr,
+    },
     /// New factors, one a channel of the sink.
-    Factors { factors: Factors },
+    Factors {
+        factors: Factors,
+    },
     /// Its sink answers the tag; the stream stays what it is.
-    Query { tag: u32 },
+    Query {
+        tag: u32,
+    },
 }
 
 /// What a message led to.

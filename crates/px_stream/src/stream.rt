@@ -1,5 +1,5 @@
 // A stream, and what a message does to it.
-ghost use Rattle.std.specs.Prelude.{◌≡◌, ◌×◌, ◌≤◌, ◌+◌, ◌*◌, ℕ, length, All, ◌<◌, OnOk};
+ghost use Rattle.std.specs.Prelude.{◌≡◌, ◌≤◌, ◌+◌, ◌-◌, ◌*◌, ℕ, length, All, ◌<◌, OnOk};
 ghost use Rattle.px_block.specs.Given.{after_giving, blocks_for};
 ghost use Rattle.px_msg.specs.View.{sample_spec, opened};
 ghost use Rattle.px_model.specs.Applied.{applied, overflows, written_by, write_outcome, is_told};
@@ -96,7 +96,12 @@ impl Stream {
 
     /// Applies a message, where so many frames of its sink are mixed past its read index. It fits the stream. Blocks that fall out of
     /// use go back to their source. Takes room for one message, and no memory.
-    pub fn apply<B: BlockSource>(&mut self, message: StreamMsg, mixed: u64, blocks: &mut B) -> Applied
+    pub fn apply<B: BlockSource>(
+        &mut self,
+        message: StreamMsg,
+        mixed: u64,
+        blocks: &mut B,
+    ) -> Applied
         requires room { 1 ≤ self.old.room }
         requires suits { Suits self.old.stream (message_of message) }
         ensures stream { self.new.stream ≡ applied mixed (message_of message) self.old.stream }
@@ -144,7 +149,10 @@ impl Stream {
     {
         let ahead = self.ahead_index(mixed);
         let limit = self.maxlength as i64;
-        match self.queue.push(seek, offset, bytes, frames, ahead, limit, blocks) {
+        match self
+            .queue
+            .push(seek, offset, bytes, frames, ahead, limit, blocks)
+        {
             Pushed::Stored => {
                 self.requested = less(self.requested, frames as u64);
                 Applied::Quiet

@@ -1,0 +1,5 @@
+pub mod Sounds
+pub mod Runs
+pub mod Keeping
+pub mod Writing
+pub mod Reading
