@@ -1,0 +1,7 @@
+use Rattle.crossbeam_queue.specs.Passes.{view}
+use Rattle.px_mail.proofs.Deliveries.{posts, fills}
+use Rattle.px_mail.proofs.mailbox.Mailbox.post.Goals as goal
+
+pub push_as-requires-clause-rule : goal.push_as-requires-clause-rule
+push_as-requires-clause-rule g c =
+    (posts g.T.Letter.lawful _ _ (view c.args.pass.now.pass) c.args.item c.args.pass.now.posts c.requires.lawful, fills g.T.Letter.lawful _ (view c.args.pass.now.pass) c.args.pass.now.posts)

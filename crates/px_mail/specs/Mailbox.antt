@@ -1,0 +1,80 @@
+-- A mailbox: what was posted is what was taken and then what it holds. One pass may post and has the list of all that was posted, one may take and has the list of all that was taken.
+use Rattle.std.specs.Prelude.{◌≡◌, ℕ, Bool, true, false, List, [], ◌∷◌, ◌++◌, Option, Some, None, IfSome}
+use mathlib.Core.Option.{some}
+use lib.ListN.{get_elem?}
+use Rattle.crossbeam_queue.specs.Passes.{Pass, view}
+use Rattle.px_mail.specs.declared.step.Account.{Account}
+
+module _ {T : Type 0} where
+  -- some of what was posted was taken, and this is the rest
+  abbrev pub IsHeldOf : List T → List T → Type 0
+  IsHeldOf posted held = (taken : List T) × (posted ≡ taken ++ held)
+
+module _ {T K : Type 0} where
+  -- ---- passes
+
+  abbrev pub key_of : Pass T (Account T K) → Option K
+  key_of p = (view p).key
+
+  abbrev pub posted_by : Pass T (Account T K) → List T
+  posted_by p = (view p).posted
+
+  abbrev pub taken_by : Pass T (Account T K) → List T
+  taken_by p = (view p).taken
+
+  -- ---- accounts
+
+  abbrev pub account : Bool → Bool → Option K → List T → List T → Account T K
+  account a b key posted taken = record { posts = a; takes = b; key = key; posted = posted; taken = taken }
+
+  -- before there is a key: the one pass may do both, and has done neither
+  abbrev pub unkeyed : Account T K
+  unkeyed = account true true None [] []
+
+  abbrev pub poster : Option K → List T → Account T K
+  poster key posted = account true false key posted []
+
+  abbrev pub taker : Option K → List T → Account T K
+  taker key taken = account false true key [] taken
+
+  -- both passes in one hand
+  abbrev pub closer : Option K → List T → List T → Account T K
+  closer key posted taken = account true true key posted taken
+
+  -- it may do nothing more
+  abbrev pub idle : Account T K
+  idle = account false false None [] []
+
+  abbrev pub after_posting : Account T K → T → Account T K
+  after_posting v item = record v { posted = v.posted ++ item ∷ [] }
+
+  abbrev pub after_taking : Account T K → T → Account T K
+  after_taking v item = record v { taken = v.taken ++ item ∷ [] }
+
+  -- ---- what a mailbox holds
+
+  -- what an account says is so of the mailbox
+  abbrev pub Fits : ℕ → ℕ → Option K → List T → List T → ℕ → Account T K → Type 0
+  Fits at_post at_take key posted taken port v =
+      (v.posts ≡ true → (port ≡ at_post) × (v.key ≡ key) × (v.posted ≡ posted))
+      × (v.takes ≡ true → (port ≡ at_take) × (v.key ≡ key) × (v.taken ≡ taken))
+
+module _ {T K : Type 0} (lawful : K → List T → Type 0) where
+  -- lawful under the key, once there is one
+  abbrev pub IsLawful : Option K → List T → Type 0
+  IsLawful key letters = IfSome key (λ k. lawful k letters)
+
+  -- what was taken and then some held items are lawful
+  abbrev pub GoesOn : Option K → List T → Type 0
+  GoesOn key taken = (held : List T) × IsLawful key (taken ++ held)
+
+  -- what was taken is a front of what was posted, and all that was posted is lawful
+  abbrev pub Delivered : Option K → List T → List T → Type 0
+  Delivered key posted taken = (held : List T) × (posted ≡ taken ++ held) × IsLawful key posted
+
+  -- the rule: what was posted is what was taken and then what is held, all of it is lawful, one pass at most posts and one takes
+  abbrev pub Delivers : List T → List (Account T K) → Type 0
+  Delivers held accounts =
+      (at_post : ℕ) × (at_take : ℕ) × (key : Option K) × (posted : List T) × (taken : List T)
+      × (posted ≡ taken ++ held) × IsLawful key posted
+      × ((port : ℕ) (v : Account T K) → get_elem? accounts port ≡ some v → Fits at_post at_take key posted taken port v)

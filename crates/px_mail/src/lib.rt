@@ -1,0 +1,13 @@
+//! Mailboxes: ordered queues between two threads, whose every schedule delivers what was posted in order, each item once. `letter`
+//! says what a mailbox may carry, `pass` what each of the two threads holds, `mailbox` the queue itself.
+#![tactic(auto)]
+
+mod letter;
+mod mailbox;
+mod pass;
+mod step;
+
+pub use letter::Letter;
+pub use mailbox::{CAPACITY, Full, Mailbox};
+pub use pass::{PostPass, TakePass};
+pub use step::{Account, Delivery};

@@ -1,0 +1,95 @@
+//! The mailbox.
+ghost use Rattle.std.specs.Prelude.{◌≡◌, ◌++◌, [], ◌∷◌, Some, IfOk, MatchOption, MatchResult};
+ghost use Rattle.crossbeam_queue.specs.Fifo.{Held};
+ghost use Rattle.crossbeam_queue.specs.Passes.{IsPassOf, ruled_capacity};
+ghost use Rattle.px_mail.specs.Mailbox.{key_of, posted_by, taken_by, IsLawful, IsHeldOf, GoesOn, Delivered};
+
+use crate::letter::Letter;
+use crate::pass::{PostPass, TakePass};
+use crate::step::{Account, Delivery, Keyed, MakesPost, MakesTake, Posts, Takes, Total, Whole};
+use crossbeam_queue::RuledArrayQueue;
+use px_types::Mem;
+use std::alloc::Global;
+use std::marker::Brand;
+use std::sync::Wait;
+
+/// How many items a mailbox holds at most.
+pub const CAPACITY: usize = 256;
+
+/// The item that a full mailbox didn't take.
+#[derive(Debug, Drop)]
+pub struct Full<T>(pub T);
+
+/// An ordered queue of at most 256 items from one thread to another (PulseAudio: `pulsecore/asyncmsgq.c`). In every schedule what was
+/// posted is what was taken and then what it holds.
+#[derive(Drop)]
+pub struct Mailbox<T: Letter> {
+    queue: RuledArrayQueue<T, Account<T, T::Key>, Delivery>,
+    ghost room: { ruled_capacity queue ≡ 256 },
+}
+
+impl<T: Letter + Drop> Mailbox<T> {
+    /// An empty mailbox that delivers under the key, and its two passes. It takes all memory that the mailbox will need.
+    pub fn new(alloc: Global, key: T::Key) -> Mem<(Mailbox<T>, PostPass<T>, TakePass<T>)>
+        ensures post { IfOk result (λ made. IsPassOf made.0.queue made.1.pass × (key_of made.1.pass ≡ Some key) × (posted_by made.1.pass ≡ [])) }
+        ensures take { IfOk result (λ made. IsPassOf made.0.queue made.2.pass × (key_of made.2.pass ≡ Some key) × (taken_by made.2.pass ≡ [])) }
+    {
+        made::<T, Brand>(alloc, key)
+    }
+
+    /// Puts an item at the end of all that was posted. A full mailbox hands it back, only where it held 256 items at one moment of
+    /// this call, and nothing has changed. Takes no memory.
+    pub fn post<R: Wait>(&self, rt: &R, pass: &mut PostPass<T>, item: T) -> Result<(), Full<T>>
+        requires pass { IsPassOf self.now.queue pass.old.pass }
+        requires lawful { IsLawful T.lawful (key_of pass.old.pass) (posted_by pass.old.pass ++ item ∷ []) }
+        ensures pass { IsPassOf self.now.queue pass.new.pass × (key_of pass.new.pass ≡ key_of pass.old.pass) }
+        ensures posted { MatchResult result (λ _. posted_by pass.new.pass ≡ posted_by pass.old.pass ++ item ∷ []) (λ full. (full.0 ≡ item) × (posted_by pass.new.pass ≡ posted_by pass.old.pass) × Held 256 (IsHeldOf (posted_by pass.old.pass))) }
+    {
+        self.queue
+            .push_as::<Posts, R>(rt, &mut pass.pass, item)
+            .map_err(Full)
+    }
+
+    /// Takes the next item of all that was posted. None only where the mailbox held nothing at one moment of this call, and nothing
+    /// has changed. Takes no memory.
+    pub fn take<R: Wait>(&self, rt: &R, pass: &mut TakePass<T>) -> Option<T>
+        requires pass { IsPassOf self.now.queue pass.old.pass }
+        ensures pass { IsPassOf self.now.queue pass.new.pass × (key_of pass.new.pass ≡ key_of pass.old.pass) }
+        ensures taken { MatchOption result ((taken_by pass.new.pass ≡ taken_by pass.old.pass) × Held 0 (λ held. IsLawful T.lawful (key_of pass.old.pass) (taken_by pass.old.pass ++ held))) (λ item. (taken_by pass.new.pass ≡ taken_by pass.old.pass ++ item ∷ []) × GoesOn T.lawful (key_of pass.old.pass) (taken_by pass.new.pass)) }
+    {
+        self.queue.pop_as::<Takes, R>(rt, &mut pass.pass)
+    }
+
+    /// Takes both passes in, and shows that what was taken is a front of what was posted. What the mailbox still holds stays there
+    /// until it is dropped. Takes no memory.
+    pub fn close(&self, post: PostPass<T>, take: TakePass<T>)
+        requires post { IsPassOf self.now.queue post.pass }
+        requires take { IsPassOf self.now.queue take.pass }
+        ensures { Delivered T.lawful (key_of post.pass) (posted_by post.pass) (taken_by take.pass) }
+    {
+        let mut both = post.pass;
+        self.queue.absorb::<Whole>(&mut both, take.pass);
+        self.queue.learn_as::<Total>(&mut both);
+    }
+}
+
+// The key is picked by the call, since no type may name a value that is made as the program runs.
+fn made<T: Letter + Drop, B: Keyed<T::Key>>(
+    alloc: Global,
+    key: T::Key,
+) -> Mem<(Mailbox<T>, PostPass<T>, TakePass<T>)>
+    requires { B.picked ≡ Some key }
+    ensures post { IfOk result (λ made. IsPassOf made.0.queue made.1.pass × (key_of made.1.pass ≡ Some key) × (posted_by made.1.pass ≡ [])) }
+    ensures take { IfOk result (λ made. IsPassOf made.0.queue made.2.pass × (key_of made.2.pass ≡ Some key) × (taken_by made.2.pass ≡ [])) }
+{
+    let (queue, mut maker) = RuledArrayQueue::<T, Account<T, T::Key>, Delivery>::ruled(
+        alloc, CAPACITY,
+    )?;
+    let post = queue.another::<MakesPost<B>>(&mut maker);
+    let take = queue.another::<MakesTake>(&mut maker);
+    Ok((
+        Mailbox { queue },
+        PostPass { pass: post },
+        TakePass { pass: take },
+    ))
+}

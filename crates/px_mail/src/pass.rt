@@ -1,0 +1,25 @@
+//! What the two threads at a mailbox hold.
+ghost use Rattle.std.specs.Prelude.{◌≡◌, true, IsSome};
+ghost use Rattle.crossbeam_queue.specs.Passes.{view};
+
+use crate::letter::Letter;
+use crate::step::Account;
+use crossbeam_queue::Pass;
+
+/// The right to post to one mailbox. There is one such pass a mailbox, and it has no bytes. Contracts see its key and the list of
+/// all that was posted.
+#[derive(Drop)]
+pub struct PostPass<T: Letter> {
+    pub(crate) pass: Pass<T, Account<T, T::Key>>,
+    ghost posts: { (view pass).posts ≡ true },
+    ghost keyed: { IsSome (view pass).key },
+}
+
+/// The right to take from one mailbox. There is one such pass a mailbox, and it has no bytes. Contracts see its key and the list of
+/// all that was taken.
+#[derive(Drop)]
+pub struct TakePass<T: Letter> {
+    pub(crate) pass: Pass<T, Account<T, T::Key>>,
+    ghost takes: { (view pass).takes ≡ true },
+    ghost keyed: { IsSome (view pass).key },
+}
