@@ -1,5 +1,5 @@
 -- A session that is played isn't refused, and what isn't played is refused.
-use Rattle.std.proofs.Common.{◌≡◌, inl, inr, ℕ, List, [], ◌∷◌, ◌++◌, Option, None, Some, Result, Ok, Err, refl, sym, ap, subst, ◌∙◌}
+use Rattle.std.proofs.Common.{◌≡◌, ◌≢◌, inl, inr, ℕ, List, [], ◌∷◌, ◌++◌, Option, None, Some, Result, Ok, Err, refl, sym, ap, subst, ◌∙◌}
 use Rattle.std.proofs.lemmas.List.{append-nil}
 use Rattle.px_types.specs.declared.status.Status.{Status}
 use Rattle.px_types.specs.declared.status.Status.TheVariants as status
@@ -22,26 +22,30 @@ use Rattle.px_world.proofs.Runs.{admitted-split}
 use Rattle.px_app.specs.declared.refusal.Refusal.{Refusal}
 use Rattle.px_app.specs.Built.{IsBuilt}
 use Rattle.px_app.specs.Session.{IsPlayed, Begins, NoneBegins, StopsHere, IsRefused}
-use Rattle.px_app.specs.Replay.{PlayedWhole, WasRefused, Completes, IsReplayStatus}
+use Rattle.px_app.specs.declared.ending.Ending.{Ending}
+use Rattle.px_app.specs.declared.ending.Ending.TheVariants as ending
+use Rattle.px_app.specs.Ends.{Ends}
+use Rattle.px_app.specs.Ending.{status_of, IsReplayStatus}
+use Rattle.px_app.specs.Replay.{PlayedWhole, WasRefused, Completes}
 
 -- ---- one answer
 
-not_both : {A : Type 0} (r : Result (A × Place) Broken) (x : A × Place) (f : Broken) → r ≡ Ok x → r ≡ Err f → ⊥
+pub not_both : {A : Type 0} (r : Result (A × Place) Broken) (x : A × Place) (f : Broken) → r ≡ Ok x → r ≡ Err f → ⊥
 not_both r x f a b = never x f (sym a ∙ b)
   where
     never : {A : Type 0} (x : A × Place) (f : Broken) → answer x ≡ refused f → ⊥
     never x f e = cc
 
-same_answer : {A : Type 0} (r : Result (A × Place) Broken) (x y : A × Place) → r ≡ Ok x → r ≡ Ok y → x ≡ y
+pub same_answer : {A : Type 0} (r : Result (A × Place) Broken) (x y : A × Place) → r ≡ Ok x → r ≡ Ok y → x ≡ y
 same_answer r x y a b = ok_is x y (sym a ∙ b)
 
 end_no_event : (e : Event) → step.End ≡ step.Event e → ⊥
 end_no_event e same = cc
 
-event_is : (d e : Event) → step.Event d ≡ step.Event e → d ≡ e
+pub event_is : (d e : Event) → step.Event d ≡ step.Event e → d ≡ e
 event_is d e same = cc
 
-none_no_some : (fault : WorldFault) → (let r : Option WorldFault = None in r) ≡ Some fault → ⊥
+pub none_no_some : (fault : WorldFault) → (let r : Option WorldFault = None in r) ≡ Some fault → ⊥
 none_no_some fault e = cc
 
 -- ---- played, and not refused
@@ -65,7 +69,7 @@ goes_past header before events start here refusal are split (inl none) = stands_
 goes_past header before events start here refusal are split (inr barred) =
     admits_next (new_world header) before split.0 here barred.1 barred.0 barred.2 (subst (AreAdmitted (new_world header)) split.1 are) split.2 barred.3 barred.4
 
-headers_are : (g h : Header) (a b : Place) → (let x : Header × Place = (g, a) in x) ≡ (h, b) → (g ≡ h) × (a ≡ b)
+pub headers_are : (g h : Header) (a b : Place) → (let x : Header × Place = (g, a) in x) ≡ (h, b) → (g ≡ h) × (a ≡ b)
 headers_are g h a b same = (ap (λ (z : Header × Place). z.0) same, ap (λ (z : Header × Place). z.1) same)
 
 begins_none : (bytes : List ℕ) (header : Header) (events : List Event) (refusal : Refusal) → IsPlayed bytes header events → NoneBegins bytes refusal → ⊥
@@ -100,31 +104,40 @@ OkFor answered bytes = answered ≡ status.Ok → (header : Header) × (events :
 abbrev RefusedFor : Status → List ℕ → Type 0
 RefusedFor answered bytes = answered ≡ status.Refused → (refusal : Refusal) × (records : List ℕ) × IsRefused bytes refusal records
 
-completes : (answered : Status) (bytes : List ℕ) → OkFor answered bytes → RefusedFor answered bytes → (answered ≡ status.ReadFault → ⊥) → (answered ≡ status.WriteFault → ⊥) → IsReplayStatus answered → Completes answered bytes
-completes status.Ok bytes ok refused read write among = record {
+completes : (ended : Ending) (bytes : List ℕ) → OkFor (status_of ended) bytes → RefusedFor (status_of ended) bytes → (status_of ended ≡ status.ReadFault → ⊥) → (status_of ended ≡ status.WriteFault → ⊥) → ended ≢ ending.Usage → Completes (status_of ended) bytes
+completes ending.Done bytes ok refused read write other = record {
   played = λ header events p. inl refl;
   not_played = λ none. (let s = ok refl in absurd (none s.0 s.1 s.2));
 }
-completes status.Refused bytes ok refused read write among = record {
+completes (ending.Refused refusal) bytes ok refused read write other = record {
   played = λ header events p. (let s = refused refl in absurd (not_refused bytes header events s.0 s.1 p s.2));
   not_played = λ none. inl refl;
 }
-completes status.Memory bytes ok refused read write among = record { played = λ header events p. inr refl; not_played = λ none. inr refl }
-completes status.ReadFault bytes ok refused read write among = absurd (read refl)
-completes status.WriteFault bytes ok refused read write among = absurd (write refl)
-completes status.Usage bytes ok refused read write among = absurd among
-completes status.Device bytes ok refused read write among = absurd among
-completes status.Host bytes ok refused read write among = absurd among
-completes status.NoSuchSink bytes ok refused read write among = absurd among
-completes status.HistoryFull bytes ok refused read write among = absurd among
+completes ending.Memory bytes ok refused read write other = record { played = λ header events p. inr refl; not_played = λ none. inr refl }
+completes ending.ReadFault bytes ok refused read write other = absurd (read refl)
+completes ending.WriteFault bytes ok refused read write other = absurd (write refl)
+completes ending.Usage bytes ok refused read write other = absurd (other refl)
 
-ok_told : (answered : Status) (bytes : List ℕ) (left_after held_before held_after : Option (List ℕ)) → (answered ≡ status.Ok → PlayedWhole (Some bytes) left_after held_before held_after) → OkFor answered bytes
-ok_told answered bytes left_after held_before held_after ok is =
+ok_told : (answered : Status) (bytes : List ℕ) (before after : Ends) → before.left ≡ Some bytes → (answered ≡ status.Ok → PlayedWhole before after) → OkFor answered bytes
+ok_told answered bytes before after told ok is =
     let w = ok is in
-    (w.header, w.events, played_told w.bytes w.header w.events (Some bytes) left_after w.departed w.at_end w.played)
+    (w.header, w.events, subst (λ (b : Option (List ℕ)). WhereTold b (λ all. IsPlayed all w.header w.events)) told (played_told w.bytes w.header w.events before.left after.left w.departed w.at_end w.played))
 
-pub complete : (answered : Status) (left_before left_after held_before held_after : Option (List ℕ)) → (answered ≡ status.Ok → PlayedWhole left_before left_after held_before held_after) → (answered ≡ status.Refused → (refusal : Refusal) × WasRefused refusal left_before left_after held_before held_after)
-    → (answered ≡ status.ReadFault → ⊥) → (answered ≡ status.WriteFault → ⊥) → IsReplayStatus answered → WhereTold left_before (Completes answered)
-complete answered None left_after held_before held_after ok refused read write among = tt
-complete answered (Some bytes) left_after held_before held_after ok refused read write among =
-    completes answered bytes (ok_told answered bytes left_after held_before held_after ok) (λ is. (let s = refused is in (s.0, s.1.records, s.1.whole))) read write among
+refused_told : (answered : Status) (bytes : List ℕ) (before after : Ends) → before.left ≡ Some bytes → (answered ≡ status.Refused → (refusal : Refusal) × WasRefused refusal before after) → RefusedFor answered bytes
+refused_told answered bytes before after told refused is =
+    let s = refused is in
+    (s.0, s.1.records, subst (λ (b : Option (List ℕ)). WhereTold b (λ all. IsRefused all s.0 s.1.records)) told s.1.whole)
+
+told_by : (left : Option (List ℕ)) (fact : List ℕ → Type 0) → ((bytes : List ℕ) → left ≡ Some bytes → fact bytes) → WhereTold left fact
+told_by None fact by = tt
+told_by (Some bytes) fact by = by bytes refl
+
+pub complete : (answered : Status) (before after : Ends) → (answered ≡ status.Ok → PlayedWhole before after) → (answered ≡ status.Refused → (refusal : Refusal) × WasRefused refusal before after)
+    → (answered ≡ status.ReadFault → ⊥) → (answered ≡ status.WriteFault → ⊥) → IsReplayStatus answered → WhereTold before.left (Completes answered)
+complete answered before after ok refused read write among =
+    told_by before.left (Completes answered) (λ bytes told.
+    (let e = among.0 in
+    let is = among.2 in
+    let ok_there = subst (λ (s : Status). OkFor s bytes) is (ok_told answered bytes before after told ok) in
+    let refused_there = subst (λ (s : Status). RefusedFor s bytes) is (refused_told answered bytes before after told refused) in
+    subst (λ (s : Status). Completes s bytes) (sym is) (completes e bytes ok_there refused_there (λ f. read (is ∙ f)) (λ f. write (is ∙ f)) among.1)))

@@ -10,4 +10,6 @@ pub mod PlayLaws
 pub mod ReportLaws
 pub mod CompleteLaws
 pub mod ReplayLaws
+pub mod UsageLaws
 pub mod EitherLaws
+pub mod FinalLaws

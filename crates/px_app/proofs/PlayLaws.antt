@@ -1,6 +1,7 @@
 -- What each step of a replay leaves.
 use Rattle.std.proofs.Common.{◌≡◌, inl, inr, ℕ, Bool, false, List, [], ◌∷◌, ◌++◌, Option, Result, Ok, Err, refl, sym, ap, subst, ◌∙◌}
 use Rattle.px_ends.specs.Told.{before_taking, after_adding, IsAtEnd}
+use Rattle.px_ends.specs.Faults.{Rose}
 use Rattle.px_ends.specs.Whole.{AddsFront}
 use Rattle.px_ends.proofs.ToldBytes.{taking_both, adding_nothing, adding_both}
 use Rattle.px_session.specs.declared.header.Header.{Header}
@@ -33,7 +34,8 @@ use Rattle.px_app.specs.declared.ending.Ending.TheVariants as ending
 use Rattle.px_app.specs.Refusal.{of_bytes, not_built, of_event}
 use Rattle.px_app.specs.Built.{IsBuilt}
 use Rattle.px_app.specs.Session.{Begins}
-use Rattle.px_app.specs.Replay.{WasRefused, PlayedFront, InputPlayed}
+use Rattle.px_app.specs.Ends.{Ends, AreQuiet}
+use Rattle.px_app.specs.Replay.{WasRefused, PlayedFront, InputPlayed, InputCounted}
 use Rattle.px_app.specs.Step.{unread, Closes, EventCut, EventPlayed, Reached, Stepped}
 use Rattle.px_app.proofs.FrontLaws.{second_cut, whole_front, no_front}
 use Rattle.px_app.proofs.ReadLaws.{header_first}
@@ -71,22 +73,22 @@ first_err place f e =
     never x f e = cc
 
 -- nothing was gained
-pub nothing_played : (bytes : List ℕ) (before after held : Option (List ℕ)) → before ≡ before_taking bytes after → PlayedFront before after held held
-nothing_played bytes before after held departed = record { bytes = bytes; given = []; departed = departed; gives = inl refl; gained = no_front [] held held refl }
+pub nothing_played : (bytes : List ℕ) (before after : Ends) → before.left ≡ before_taking bytes after.left → after.held ≡ before.held → PlayedFront before after
+nothing_played bytes before after departed kept = record { bytes = bytes; given = []; departed = departed; gives = inl refl; gained = no_front [] before.held after.held kept }
 
 abbrev new_reader : Reader
 new_reader = record { at = 0; ahead = []; begun = false }
 
-unread_first : (new : Reader) (e : ReadError) (before after held : Option (List ℕ)) → Takes (Err e) new_reader new before after → InputPlayed (unread e) before after held held
-unread_first new (error.Refused at c) before after held t =
-    was_refused t.taken (of_bytes (record { at = at; cause = c })) [] before after held held t.departed
+unread_first : (new : Reader) (e : ReadError) (before after : Ends) → Takes (Err e) new_reader new before.left after.left → after.held ≡ before.held → InputPlayed (unread e) before after
+unread_first new (error.Refused at c) before after t kept =
+    was_refused t.taken (of_bytes (record { at = at; cause = c })) [] before after t.departed
     (inl (inl (record { at = at; cause = c }, first_err (start_of t.taken) (record { at = at; cause = c }) t.stepped, refl), refl))
-    (ended_early at c after t.ended) (sym (adding_nothing held))
-unread_first new error.Failed before after held t = nothing_played t.taken before after held t.departed
-unread_first new error.NoMemory before after held t = nothing_played t.taken before after held t.departed
+    (ended_early at c after.left t.ended) (kept ∙ sym (adding_nothing before.held))
+unread_first new error.Failed before after t kept = nothing_played t.taken before after t.departed kept
+unread_first new error.NoMemory before after t kept = nothing_played t.taken before after t.departed kept
 
-pub new_unread : (old new : Reader) (e : ReadError) (before after : Option (List ℕ)) → IsNew old → Takes (Err e) old new before after → (held : Option (List ℕ)) → InputPlayed (unread e) before after held held
-new_unread old new e before after is t held = unread_first new e before after held (subst (λ (r : Reader). Takes (Err e) r new before after) is t)
+pub new_unread : (old new : Reader) (e : ReadError) (before after : Ends) → IsNew old → Takes (Err e) old new before.left after.left → after.held ≡ before.held → InputPlayed (unread e) before after
+new_unread old new e before after is t kept = unread_first new e before after (subst (λ (r : Reader). Takes (Err e) r new before.left after.left) is t) kept
 
 abbrev TookHeader : Reader → Reader → Header → Option (List ℕ) → Option (List ℕ) → Type 0
 TookHeader old new h before after = Takes (Ok (step.Header h)) old new before after
@@ -94,19 +96,19 @@ TookHeader old new h before after = Takes (Ok (step.Header h)) old new before af
 as_first : (old new : Reader) (h : Header) (before after : Option (List ℕ)) → IsNew old → TookHeader old new h before after → TookHeader new_reader new h before after
 as_first old new h before after is t = subst (λ (r : Reader). TookHeader r new h before after) is t
 
-pub new_unbuilt : (old new : Reader) (h : Header) (before after : Option (List ℕ)) → IsNew old → TookHeader old new h before after → (IsBuilt h → ⊥) → (held : Option (List ℕ)) → WasRefused not_built before after held held
-new_unbuilt old new h before after is took unbuilt held =
-    let t = as_first old new h before after is took in
-    was_refused t.taken not_built [] before after held held t.departed
+pub new_unbuilt : (old new : Reader) (h : Header) (before after : Ends) → IsNew old → TookHeader old new h before.left after.left → (IsBuilt h → ⊥) → after.held ≡ before.held → WasRefused not_built before after
+new_unbuilt old new h before after is took unbuilt kept =
+    let t = as_first old new h before.left after.left is took in
+    was_refused t.taken not_built [] before after t.departed
     (inl (inr (h, place_with new new.ahead, header_first (start_of t.taken) h (place_with new new.ahead) t.stepped.0, unbuilt, refl), refl))
-    (λ early. absurd (unearly (same_cause cause.NotBuilt cause.Truncated early))) (sym (adding_nothing held))
+    (λ early. absurd (unearly (same_cause cause.NotBuilt cause.Truncated early))) (kept ∙ sym (adding_nothing before.held))
   where
     unearly : cause.NotBuilt ≡ cause.Truncated → ⊥
     unearly e = cc
 
-pub new_reached : (old new : Reader) (h : Header) (world : Running) (before after : Option (List ℕ)) → IsNew old → TookHeader old new h before after → IsBuilt h → StandsFor world (new_world h) → (held : Option (List ℕ)) → Reached (record { reader = new; world = world }) before after held held
-new_reached old new h world before after is took built stands held =
-    let t = as_first old new h before after is took in
+pub new_reached : (old new : Reader) (h : Header) (world : Running) (before after : Ends) → IsNew old → TookHeader old new h before.left after.left → IsBuilt h → StandsFor world (new_world h) → after.held ≡ before.held → Reached (record { reader = new; world = world }) before after
+new_reached old new h world before after is took built stands kept =
+    let t = as_first old new h before.left after.left is took in
     record {
       bytes = t.taken;
       header = h;
@@ -121,20 +123,21 @@ new_reached old new h world before after is took built stands held =
       };
       begun = t.stepped.1;
       stands = stands;
-      gained = sym (adding_nothing held);
+      gained = kept ∙ sym (adding_nothing before.held);
     }
 
 -- ---- what was taken behind the bytes that were read before
 
-module _ (playing : Playing) (new : Reader) (left_before left left_after held_before held : Option (List ℕ)) (r : Reached playing left_before left held_before held) where
+-- first are the ends before the replay, now those before this step, and after those behind it
+module _ (playing : Playing) (new : Reader) (first now after : Ends) (r : Reached playing first now) where
   abbrev all_of : List ℕ → List ℕ
   all_of taken = r.bytes ++ taken
 
   abbrev here_of : List ℕ → Place
   here_of taken = place_with playing.reader (playing.reader.ahead ++ taken)
 
-  both_departed : (taken : List ℕ) → left ≡ before_taking taken left_after → left_before ≡ before_taking (all_of taken) left_after
-  both_departed taken departed = r.departed ∙ ap (before_taking r.bytes) departed ∙ taking_both r.bytes taken left_after
+  both_departed : (taken : List ℕ) → now.left ≡ before_taking taken after.left → first.left ≡ before_taking (all_of taken) after.left
+  both_departed taken departed = r.departed ∙ ap (before_taking r.bytes) departed ∙ taking_both r.bytes taken after.left
 
   begins_so : (taken : List ℕ) → Begins (all_of taken) r.header r.events (here_of taken)
   begins_so taken = begins_more r.bytes r.header r.events (place_with playing.reader playing.reader.ahead) taken r.begins
@@ -143,66 +146,66 @@ module _ (playing : Playing) (new : Reader) (left_before left left_after held_be
   records = records_by (new_world r.header) r.events
 
   -- no event was played
-  kept_front : (taken : List ℕ) (held_after : Option (List ℕ)) → left ≡ before_taking taken left_after → held_after ≡ held → PlayedFront left_before left_after held_before held_after
-  kept_front taken held_after departed kept = record {
+  kept_front : (taken : List ℕ) → now.left ≡ before_taking taken after.left → after.held ≡ now.held → PlayedFront first after
+  kept_front taken departed kept = record {
     bytes = all_of taken;
     given = records;
     departed = both_departed taken departed;
     gives = inr (inl (r.header, r.events, here_of taken, begins_so taken, refl));
-    gained = whole_front records held_before held_after (kept ∙ r.gained);
+    gained = whole_front records first.held after.held (kept ∙ r.gained);
   }
 
   as_event : (taken : List ℕ) (x : Result (Step × Place) Broken) → step_at playing.reader.begun (here_of taken) ≡ x → event_at (here_of taken) ≡ x
   as_event taken x e = subst (λ (b : Bool). step_at b (here_of taken) ≡ x) r.begun e
 
-  pub stop_read : (e : ReadError) → Takes (Err e) playing.reader new left left_after → InputPlayed (unread e) left_before left_after held_before held
-  stop_read (error.Refused at c) t =
-      was_refused (all_of t.taken) (of_bytes (record { at = at; cause = c })) records left_before left_after held_before held (both_departed t.taken t.departed)
+  pub stop_read : (e : ReadError) → Takes (Err e) playing.reader new now.left after.left → after.held ≡ now.held → InputPlayed (unread e) first after
+  stop_read (error.Refused at c) t kept =
+      was_refused (all_of t.taken) (of_bytes (record { at = at; cause = c })) records first after (both_departed t.taken t.departed)
       (inr (r.header, r.events, here_of t.taken, begins_so t.taken, inl (record { at = at; cause = c }, as_event t.taken (Err (record { at = at; cause = c })) t.stepped, refl), refl))
-      (ended_early at c left_after t.ended) r.gained
-  stop_read error.Failed t = kept_front t.taken held t.departed refl
-  stop_read error.NoMemory t = kept_front t.taken held t.departed refl
+      (ended_early at c after.left t.ended) (kept ∙ r.gained)
+  stop_read error.Failed t kept = kept_front t.taken t.departed kept
+  stop_read error.NoMemory t kept = kept_front t.taken t.departed kept
 
-  pub stop_end : (ended : Ending) (held_after : Option (List ℕ)) → Takes (Ok step.End) playing.reader new left left_after → Closes ended held held_after → InputPlayed ended left_before left_after held_before held_after
-  stop_end ending.Done held_after t closes = record {
+  pub stop_end : (ended : Ending) → Takes (Ok step.End) playing.reader new now.left after.left → Closes ended now.held after.held → InputPlayed ended first after
+  stop_end ending.Done t closes = record {
     bytes = all_of t.taken;
     header = r.header;
     events = r.events;
     played = ends_played (all_of t.taken) r.header r.events (here_of t.taken) (place_with new new.ahead) (begins_so t.taken) (as_event t.taken (Ok (step.End, place_with new new.ahead)) t.stepped.0);
     departed = both_departed t.taken t.departed;
     at_end = t.ended;
-    gained = closes ∙ ap (λ (m : Option (List ℕ)). after_adding m (end_byte ∷ [])) r.gained ∙ adding_both records (end_byte ∷ []) held_before;
+    gained = closes ∙ ap (λ (m : Option (List ℕ)). after_adding m (end_byte ∷ [])) r.gained ∙ adding_both records (end_byte ∷ []) first.held;
     decided = λ k s there. is-decided r.header r.events k s there r.begins.admitted;
   }
-  stop_end ending.WriteFault held_after t closes = record {
+  stop_end ending.WriteFault t closes = record {
     bytes = all_of t.taken;
     given = output_of r.header r.events;
     departed = both_departed t.taken t.departed;
     gives = inr (inr (r.header, r.events, ends_played (all_of t.taken) r.header r.events (here_of t.taken) (place_with new new.ahead) (begins_so t.taken) (as_event t.taken (Ok (step.End, place_with new new.ahead)) t.stepped.0), t.ended, refl));
-    gained = second_cut records (end_byte ∷ []) held_before held held_after r.gained closes;
+    gained = second_cut records (end_byte ∷ []) first.held now.held after.held r.gained closes;
   }
-  stop_end (ending.Refused refusal) held_after t closes = absurd closes
-  stop_end ending.Usage held_after t closes = absurd closes
-  stop_end ending.Memory held_after t closes = absurd closes
-  stop_end ending.ReadFault held_after t closes = absurd closes
+  stop_end (ending.Refused refusal) t closes = absurd closes
+  stop_end ending.Usage t closes = absurd closes
+  stop_end ending.Memory t closes = absurd closes
+  stop_end ending.ReadFault t closes = absurd closes
 
-  module _ (e : Event) (world : Running) (held_after : Option (List ℕ)) (t : Takes (Ok (step.Event e)) playing.reader new left left_after) where
+  module _ (e : Event) (world : Running) (t : Takes (Ok (step.Event e)) playing.reader new now.left after.left) where
     abbrev w : World
     w = world_by (new_world r.header) r.events
 
     read : event_at (here_of t.taken) ≡ Ok (step.Event e, place_with new new.ahead)
     read = as_event t.taken (Ok (step.Event e, place_with new new.ahead)) t.stepped.0
 
-    cut_front : EventCut w e held held_after → PlayedFront left_before left_after held_before held_after
+    cut_front : EventCut w e now.held after.held → PlayedFront first after
     cut_front cut = record {
       bytes = all_of t.taken;
       given = records_by (new_world r.header) (r.events ++ e ∷ []);
       departed = both_departed t.taken t.departed;
       gives = inr (inl (r.header, r.events ++ e ∷ [], place_with new new.ahead, begins_next (all_of t.taken) r.header r.events (here_of t.taken) (place_with new new.ahead) e (begins_so t.taken) read cut.admitted, refl));
-      gained = subst (λ (g : List ℕ). AddsFront g held_before held_after) (sym (records-push (new_world r.header) r.events e)) (second_cut records (records_of w e) held_before held held_after r.gained cut.gained);
+      gained = subst (λ (g : List ℕ). AddsFront g first.held after.held) (sym (records-push (new_world r.header) r.events e)) (second_cut records (records_of w e) first.held now.held after.held r.gained cut.gained);
     }
 
-    pub go_on : (result : Result Unit Ending) → EventPlayed result playing.reader.at w e world held held_after → Stepped result (record { reader = new; world = world }) left_before left_after held_before held_after
+    pub go_on : (result : Result Unit Ending) → EventPlayed result playing.reader.at w e world now.held after.held → Stepped result (record { reader = new; world = world }) first after
     go_on (Ok done) played = record {
       bytes = all_of t.taken;
       header = r.header;
@@ -213,18 +216,26 @@ module _ (playing : Playing) (new : Reader) (left_before left left_after held_be
       stands = subst (λ (v : World). StandsFor world v) (sym (world-push (new_world r.header) r.events e)) played.stands;
       gained = played.gained
           ∙ ap (λ (m : Option (List ℕ)). after_adding m (records_of w e)) r.gained
-          ∙ adding_both records (records_of w e) held_before
-          ∙ ap (after_adding held_before) (sym (records-push (new_world r.header) r.events e));
+          ∙ adding_both records (records_of w e) first.held
+          ∙ ap (after_adding first.held) (sym (records-push (new_world r.header) r.events e));
     }
     go_on (Err (ending.Refused refusal)) played =
-        was_refused (all_of t.taken) refusal records left_before left_after held_before held_after (both_departed t.taken t.departed)
+        was_refused (all_of t.taken) refusal records first after (both_departed t.taken t.departed)
         (inr (r.header, r.events, here_of t.taken, begins_so t.taken, inr (e, place_with new new.ahead, played.0, read, played.1, played.2), refl))
         (λ early. absurd (event_not_early playing.reader.at e played.0 refusal played.2 early)) (played.3 ∙ r.gained)
-    go_on (Err ending.Memory) played = elim played [
-      | inl kept ↦ kept_front t.taken held_after t.departed kept
-      | inr cut ↦ cut_front cut
-    ]
+    go_on (Err ending.Memory) played = kept_front t.taken t.departed played
     go_on (Err ending.WriteFault) played = cut_front played
     go_on (Err ending.Done) played = absurd played
     go_on (Err ending.Usage) played = absurd played
     go_on (Err ending.ReadFault) played = absurd played
+
+-- ---- counts
+
+-- where no call had failed before, those counted are the same from the first on
+pub counted_from : (ended : Ending) (first now after : Ends) → AreQuiet first now → InputCounted ended now after → InputCounted ended first after
+counted_from ending.ReadFault first now after quiet counted = (subst (λ (n : ℕ). Rose n after.read_faults) quiet.0 counted.0, counted.1 ∙ quiet.1)
+counted_from ending.WriteFault first now after quiet counted = (counted.0 ∙ quiet.0, subst (λ (n : ℕ). Rose n after.write_faults) quiet.1 counted.1)
+counted_from ending.Done first now after quiet counted = (counted.0 ∙ quiet.0, counted.1 ∙ quiet.1)
+counted_from (ending.Refused refusal) first now after quiet counted = (counted.0 ∙ quiet.0, counted.1 ∙ quiet.1)
+counted_from ending.Usage first now after quiet counted = (counted.0 ∙ quiet.0, counted.1 ∙ quiet.1)
+counted_from ending.Memory first now after quiet counted = (counted.0 ∙ quiet.0, counted.1 ∙ quiet.1)

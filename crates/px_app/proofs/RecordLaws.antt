@@ -1,38 +1,35 @@
 -- The records that are written are those of the effects and of a turn's frames.
-use Rattle.std.proofs.Common.{◌≡◌, ◌<◌, ℕ, List, ◌++◌, length, Bor, Some, refl, sym, ap, ◌∙◌, arith, eqb, false}
+use Rattle.std.proofs.Common.{◌≡◌, ◌<◌, ◌+◌, ◌^◌, ℕ, List, ◌++◌, length, length-append, Bor, Some, refl, sym, ap, ◌∙◌, arith, eqb, false}
 use Rattle.std.proofs.lemmas.Bool.{ne_eqb}
 use Rattle.std.specs.List.{concat, flat_map}
 use Rattle.px_types.specs.declared.ids.ConnId.{ConnId}
 use Rattle.px_session.specs.declared.event.Event.{Event}
 use Rattle.px_session.specs.declared.event.Event.TheVariants.{Connect, Bytes, Close, Cut, Turn, Collect}
 use Rattle.px_session.specs.declared.output.OutRecord.TheVariants as written
-use Rattle.px_session.specs.Spelling.{record_of}
+use Rattle.px_session.specs.Output.{record_of}
 use Rattle.px_core.specs.declared.effect.Reason.{Reason}
 use Rattle.px_core.specs.declared.effect.Effect.{Effect}
 use Rattle.px_core.specs.declared.effect.Effect.TheVariants as effect
-use Rattle.px_core.specs.Effect.{reason_code}
+use Rattle.px_frame.specs.Descriptor.{descriptor_bytes, control_descriptor}
+use Rattle.px_core.specs.Effect.{reason_code, framed, IsSendable}
 use Rattle.px_world.specs.World.{World}
 use Rattle.px_world.specs.Event.{effects_after, frames_played}
-use Rattle.px_world.specs.Output.{effect_record, played_record, turn_record, records_of}
+use Rattle.px_world.specs.Output.{effect_record, turn_record, records_of}
 use Rattle.px_app.specs.Step.{turn_sink, played_part}
 
 pub sent_is : (conn : ConnId) (packet : List ℕ) (bytes : Bor (List ℕ)) → bytes.now ≡ packet → record_of (written.Sent conn bytes) ≡ effect_record (effect.Sent conn packet)
-unfolding effect_record record_of
 sent_is conn packet bytes same = rw same refl
 
 pub closed_is : (conn : ConnId) (reason : Reason) (code fault at : ℕ) → code ≡ reason_code reason → record_of (written.Closed conn code fault at) ≡ effect_record (effect.Closed conn reason fault at)
-unfolding effect_record record_of
 closed_is conn reason code fault at same = rw same refl
 
 pub played_is : (sink frames : ℕ) (bytes : Bor (List ℕ)) → 0 < frames → record_of (written.Played sink frames bytes) ≡ played_part (Some sink) frames bytes.now
-unfolding record_of
 played_is sink frames bytes some =
     let not_zero : eqb frames 0 ≡ false = ne_eqb frames 0 (λ e. omega (arith, some, e)) in
     rw not_zero refl
 
 -- the record of what a turn consumed, from its frames' count and bytes
 pub turn_is : (w : World) (e : Event) → turn_record w e ≡ played_part (turn_sink e) (length (frames_played w e)) (concat (frames_played w e))
-unfolding played_record
 turn_is w (Connect conn) = refl
 turn_is w (Bytes conn bytes) = refl
 turn_is w (Close conn) = refl
@@ -48,3 +45,13 @@ outcome_is w e effects frames played same count bytes =
     ∙ ap (λ (n : ℕ). flat_map effect_record (effects_after w e) ++ played_part (turn_sink e) n played) count
     ∙ ap (λ (b : List ℕ). flat_map effect_record (effects_after w e) ++ played_part (turn_sink e) (length (frames_played w e)) b) bytes
     ∙ ap (λ (r : List ℕ). flat_map effect_record (effects_after w e) ++ r) (sym (turn_is w e))
+
+-- ---- how long a record is
+
+framed_length : (packet : List ℕ) → length (framed packet) ≡ 20 + length packet
+unfolding framed descriptor_bytes
+framed_length packet = length-append (descriptor_bytes (control_descriptor (length packet))) packet
+
+-- a frame that a client is sent has a length of four bytes
+pub sendable_fits : (conn : ConnId) (packet bytes : List ℕ) → bytes ≡ packet → IsSendable (effect.Sent conn packet) → length bytes < 2 ^ 32
+sendable_fits conn packet bytes same frame = omega (arith, ap (length {A = ℕ}) same, ap (length {A = ℕ}) frame.is, framed_length frame.packet, frame.few)

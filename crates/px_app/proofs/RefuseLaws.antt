@@ -13,6 +13,7 @@ use Rattle.px_app.specs.declared.refusal.Refusal.{Refusal}
 use Rattle.px_app.specs.declared.refusal.Why.TheVariants as why
 use Rattle.px_app.specs.Refusal.{of_bytes}
 use Rattle.px_app.specs.Session.{NoneBegins, StopsHere, IsRefused}
+use Rattle.px_app.specs.Ends.{Ends}
 use Rattle.px_app.specs.Replay.{WasRefused}
 use Rattle.px_app.proofs.BeginLaws.{header_more, event_more, begins_more, broken_more}
 
@@ -39,14 +40,14 @@ refused_told : (bytes : List ℕ) (refusal : Refusal) (records : List ℕ) (befo
 refused_told bytes refusal records before None same is ends = subst (λ (b : Option (List ℕ)). WhereTold b (λ all. IsRefused all refusal records)) (sym same) tt
 refused_told bytes refusal records before (Some left) same is ends = subst (λ (b : Option (List ℕ)). WhereTold b (λ all. IsRefused all refusal records)) (sym same) (refused_more bytes refusal records left is ends)
 
-pub was_refused : (bytes : List ℕ) (refusal : Refusal) (records : List ℕ) (left_before left_after held_before held_after : Option (List ℕ)) → left_before ≡ before_taking bytes left_after → IsRefused bytes refusal records → (IsEarly refusal → IsAtEnd left_after) → held_after ≡ after_adding held_before records
-    → WasRefused refusal left_before left_after held_before held_after
-was_refused bytes refusal records left_before left_after held_before held_after departed is ends gained = record {
+pub was_refused : (bytes : List ℕ) (refusal : Refusal) (records : List ℕ) (before after : Ends) → before.left ≡ before_taking bytes after.left → IsRefused bytes refusal records → (IsEarly refusal → IsAtEnd after.left) → after.held ≡ after_adding before.held records
+    → WasRefused refusal before after
+was_refused bytes refusal records before after departed is ends gained = record {
   bytes = bytes;
   records = records;
   refused = is;
   departed = departed;
   at_end = ends;
-  whole = refused_told bytes refusal records left_before left_after departed is ends;
+  whole = refused_told bytes refusal records before.left after.left departed is ends;
   gained = gained;
 }

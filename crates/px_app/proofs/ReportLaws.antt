@@ -1,5 +1,5 @@
 -- What a status says of how a run ended, and of the log.
-use Rattle.std.proofs.Common.{◌≡◌, ◌≢◌, ◌⊎◌, inl, inr, ℕ, List, Option, sym, ap, ◌∙◌}
+use Rattle.std.proofs.Common.{◌≡◌, ◌≢◌, ◌⊎◌, inl, inr, sym, ap, subst, ◌∙◌}
 use Rattle.px_types.specs.declared.status.Status.{Status}
 use Rattle.px_types.specs.declared.status.Status.TheVariants as status
 use Rattle.px_ends.specs.Told.{after_adding}
@@ -9,9 +9,9 @@ use Rattle.px_app.specs.declared.refusal.Refusal.{Refusal}
 use Rattle.px_app.specs.declared.ending.Ending.{Ending}
 use Rattle.px_app.specs.declared.ending.Ending.TheVariants as ending
 use Rattle.px_app.specs.Refusal.{refusal_line}
-use Rattle.px_app.specs.Ending.{status_of, line_of}
-use Rattle.px_app.specs.Report.{Reported}
-use Rattle.px_app.proofs.FrontLaws.{whole_front}
+use Rattle.px_app.specs.Ends.{Log}
+use Rattle.px_app.specs.Ending.{status_of, line_of, IsRefusal}
+use Rattle.px_app.specs.Report.{Says, Logged, LogFailed, Reported}
 
 -- ---- the endings of a status
 
@@ -48,17 +48,38 @@ write_fault_is ending.Usage e = absurd cc
 write_fault_is ending.Memory e = absurd cc
 write_fault_is ending.ReadFault e = absurd cc
 
+done_no_memory : ending.Done ≡ ending.Memory → ⊥
+done_no_memory e = cc
+
+refused_no_memory : (refusal : Refusal) → ending.Refused refusal ≡ ending.Memory → ⊥
+refused_no_memory refusal e = cc
+
+read_no_memory : ending.ReadFault ≡ ending.Memory → ⊥
+read_no_memory e = cc
+
+write_no_memory : ending.WriteFault ≡ ending.Memory → ⊥
+write_no_memory e = cc
+
+ok_no_write : status.Ok ≡ status.WriteFault → ⊥
+ok_no_write e = cc
+
+refused_no_write : status.Refused ≡ status.WriteFault → ⊥
+refused_no_write e = cc
+
+read_no_write : status.ReadFault ≡ status.WriteFault → ⊥
+read_no_write e = cc
+
 -- ---- what was reported
 
-module _ (ended : Ending) (answered : Status) (before after : Option (List ℕ)) (faults_before faults_after : ℕ) (r : Reported ended answered before after faults_before faults_after) where
+module _ (ended : Ending) (answered : Status) (before after : Log) (r : Reported ended answered before after) where
   abbrev said : Ending
   said = r.0
 
-  -- where the log could be written the status is that of what is said
-  said_status : (answered ≢ status.WriteFault) → (answered ≡ status_of said) × (after ≡ after_adding before (line_of said))
-  said_status other = elim r.2 [
-    | inl whole ↦ (whole.0, whole.1)
-    | inr cut ↦ absurd (other cut.0)
+  -- where no write of the log failed the status is that of what is said
+  pub logged_unless : (answered ≢ status.WriteFault) → Logged said answered before after
+  logged_unless other = elim r.2 [
+    | inl whole ↦ whole
+    | inr cut ↦ absurd (other cut.answer)
   ]
 
   -- what is said is the ending, unless it is want of memory
@@ -70,66 +91,41 @@ module _ (ended : Ending) (answered : Status) (before after : Option (List ℕ))
 
   pub ended_done : answered ≡ status.Ok → ended ≡ ending.Done
   ended_done is =
-      let s = said_status (λ e. wrong (sym is ∙ e)) in
-      let d = done_is said (sym s.0 ∙ is) in
-      sym (said_is (λ e. other (sym d ∙ e))) ∙ d
-    where
-      wrong : status.Ok ≡ status.WriteFault → ⊥
-      wrong e = cc
+      let s = logged_unless (λ e. ok_no_write (sym is ∙ e)) in
+      let d = done_is said (sym s.answer ∙ is) in
+      sym (said_is (λ e. done_no_memory (sym d ∙ e))) ∙ d
 
-      other : ending.Done ≡ ending.Memory → ⊥
-      other e = cc
-
-  pub ended_refused : answered ≡ status.Refused → (refusal : Refusal) × (ended ≡ ending.Refused refusal) × (after ≡ after_adding before (refusal_line refusal))
+  pub ended_refused : answered ≡ status.Refused → (refusal : Refusal) × (ended ≡ ending.Refused refusal) × (after.held ≡ after_adding before.held (refusal_line refusal))
   ended_refused is =
-      let s = said_status (λ e. wrong (sym is ∙ e)) in
-      let d = refused_is said (sym s.0 ∙ is) in
-      (d.0, sym (said_is (λ e. other d.0 (sym d.1 ∙ e))) ∙ d.1, s.1 ∙ ap (λ (x : Ending). after_adding before (line_of x)) d.1)
-    where
-      wrong : status.Refused ≡ status.WriteFault → ⊥
-      wrong e = cc
+      let s = logged_unless (λ e. refused_no_write (sym is ∙ e)) in
+      let d = refused_is said (sym s.answer ∙ is) in
+      (d.0, sym (said_is (λ e. refused_no_memory d.0 (sym d.1 ∙ e))) ∙ d.1, s.line ∙ ap (λ (x : Ending). after_adding before.held (line_of x)) d.1)
 
-      other : (refusal : Refusal) → ending.Refused refusal ≡ ending.Memory → ⊥
-      other refusal e = cc
-
-  pub ended_read_fault : answered ≡ status.ReadFault → ended ≡ ending.ReadFault
+  pub ended_read_fault : answered ≡ status.ReadFault → (ended ≡ ending.ReadFault) × (after.faults ≡ before.faults)
   ended_read_fault is =
-      let s = said_status (λ e. wrong (sym is ∙ e)) in
-      let d = read_fault_is said (sym s.0 ∙ is) in
-      sym (said_is (λ e. other (sym d ∙ e))) ∙ d
-    where
-      wrong : status.ReadFault ≡ status.WriteFault → ⊥
-      wrong e = cc
+      let s = logged_unless (λ e. read_no_write (sym is ∙ e)) in
+      let d = read_fault_is said (sym s.answer ∙ is) in
+      (sym (said_is (λ e. read_no_memory (sym d ∙ e))) ∙ d, s.quiet)
 
-      other : ending.ReadFault ≡ ending.Memory → ⊥
-      other e = cc
-
-  pub ended_write_fault : answered ≡ status.WriteFault → (ended ≡ ending.WriteFault) ⊎ Rose faults_before faults_after
+  -- the line of a failed write, or a front of a line
+  pub ended_write_fault : answered ≡ status.WriteFault → ((ended ≡ ending.WriteFault) × (after.faults ≡ before.faults) × (after.held ≡ after_adding before.held (line_of ending.WriteFault)))
+      ⊎ ((x : Ending) × Says ended x × AddsFront (line_of x) before.held after.held × Rose before.faults after.faults)
   ended_write_fault is = elim r.2 [
-    | inl whole ↦ (let d = write_fault_is said (sym whole.0 ∙ is) in inl (sym (said_is (λ e. other (sym d ∙ e))) ∙ d))
-    | inr cut ↦ inr cut.3
+    | inl whole ↦ (let d = write_fault_is said (sym whole.answer ∙ is) in
+        inl (sym (said_is (λ e. write_no_memory (sym d ∙ e))) ∙ d, whole.quiet, whole.line ∙ ap (λ (x : Ending). after_adding before.held (line_of x)) d))
+    | inr cut ↦ inr (said, r.1, cut.front, cut.rose)
   ]
-    where
-      other : ending.WriteFault ≡ ending.Memory → ⊥
-      other e = cc
 
   -- the log gained the line of what is said
-  pub logged : answered ≢ status.WriteFault → (x : Ending) × (answered ≡ status_of x) × (after ≡ after_adding before (line_of x))
-  logged other = let s = said_status other in (said, s.0, s.1)
+  pub logged : answered ≢ status.WriteFault → (x : Ending) × (answered ≡ status_of x) × (after.held ≡ after_adding before.held (line_of x))
+  logged other = let s = logged_unless other in (said, s.answer, s.line)
 
-  -- or a front of it
-  pub log_front : (x : Ending) × AddsFront (line_of x) before after
-  log_front = elim r.2 [
-    | inl whole ↦ (said, whole_front (line_of said) before after whole.1)
-    | inr cut ↦ (said, cut.2)
-  ]
-
-  -- the status is that of the ending, or of want of memory, or of a write that failed
-  pub status_among : (answered ≡ status_of ended) ⊎ ((answered ≡ status.Memory) ⊎ (answered ≡ status.WriteFault))
+  -- the status is that of the ending, or of want of memory in place of a refusal, or of a write that failed
+  pub status_among : (answered ≡ status_of ended) ⊎ ((IsRefusal ended × (answered ≡ status.Memory)) ⊎ (answered ≡ status.WriteFault))
   status_among = elim r.2 [
     | inl whole ↦ (elim r.1 [
-      | inl same ↦ inl (whole.0 ∙ ap status_of same)
-      | inr short ↦ inr (inl (whole.0 ∙ ap status_of short.1))
+      | inl same ↦ inl (whole.answer ∙ ap status_of same)
+      | inr short ↦ inr (inl (short.0, whole.answer ∙ ap status_of short.1))
     ])
-    | inr cut ↦ inr (inr cut.0)
+    | inr cut ↦ inr (inr cut.answer)
   ]

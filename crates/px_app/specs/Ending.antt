@@ -1,5 +1,5 @@
--- How a run ends, and the line that the log has of it.
-use Rattle.std.specs.Prelude.{ℕ, List, [], codes, ⊤}
+-- How a run ends, its status, and the line that the log has of it.
+use Rattle.std.specs.Prelude.{◌≡◌, ◌≢◌, ℕ, List, [], codes, ⊤}
 use Rattle.px_types.specs.declared.status.Status.{Status}
 use Rattle.px_types.specs.declared.status.Status.TheVariants as status
 use Rattle.px_app.specs.declared.ending.Ending.{Ending}
@@ -13,6 +13,14 @@ status_of ending.Usage = status.Usage
 status_of ending.Memory = status.Memory
 status_of ending.ReadFault = status.ReadFault
 status_of ending.WriteFault = status.WriteFault
+
+-- the statuses of a run are those of the endings
+abbrev pub IsRunStatus : Status → Type 0
+IsRunStatus answered = (ended : Ending) × (answered ≡ status_of ended)
+
+-- and a replay has words that are its own
+abbrev pub IsReplayStatus : Status → Type 0
+IsReplayStatus answered = (ended : Ending) × (ended ≢ ending.Usage) × (answered ≡ status_of ended)
 
 -- nothing where all went well
 abbrev pub line_of : Ending → List ℕ

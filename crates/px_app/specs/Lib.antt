@@ -1,3 +1,4 @@
+pub mod Ends
 pub mod Refusal
 pub mod Built
 pub mod Session

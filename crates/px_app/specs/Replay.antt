@@ -1,5 +1,5 @@
--- What a replay of a session leaves: what was read of the input, and what the output gained.
-use Rattle.std.specs.Prelude.{◌≡◌, ◌⊎◌, ℕ, List, [], Option, ⊤}
+-- What a replay of a session leaves: what was read of the input, what the output gained, which calls failed, and what was reported.
+use Rattle.std.specs.Prelude.{◌≡◌, ◌⊎◌, ℕ, List, [], Option}
 use Rattle.px_types.specs.declared.status.Status.{Status}
 use Rattle.px_types.specs.declared.status.Status.TheVariants as status
 use Rattle.px_ends.specs.Told.{before_taking, after_adding, IsAtEnd, WhereTold}
@@ -16,29 +16,31 @@ use Rattle.px_app.specs.declared.refusal.Refusal.{Refusal}
 use Rattle.px_app.specs.declared.refusal.Why.TheVariants as why
 use Rattle.px_app.specs.declared.ending.Ending.{Ending}
 use Rattle.px_app.specs.declared.ending.Ending.TheVariants as ending
+use Rattle.px_app.specs.Ends.{Ends, Log, AreQuiet}
+use Rattle.px_app.specs.Report.{Reported}
 use Rattle.px_app.specs.Session.{IsPlayed, Begins, IsRefused}
 
 -- The source was read to its end, its bytes are a session that is played, and the output gained exactly its records and the end byte. Each frame that a sink played is the mix of its streams as the deciding turn left them.
-pub record PlayedWhole (left_before left_after held_before held_after : Option (List ℕ)) : Type 0 where
+pub record PlayedWhole (before after : Ends) : Type 0 where
   pub bytes : List ℕ
   pub header : Header
   pub events : List Event
   pub played : IsPlayed bytes header events
-  pub departed : left_before ≡ before_taking bytes left_after
-  pub at_end : IsAtEnd left_after
-  pub gained : held_after ≡ after_adding held_before (output_of header events)
+  pub departed : before.left ≡ before_taking bytes after.left
+  pub at_end : IsAtEnd after.left
+  pub gained : after.held ≡ after_adding before.held (output_of header events)
   pub decided : AreDecided header events
 
 -- The bytes that were read are refused, whatever follows them, and so are all that the source had, where it tells. The output gained the records of the events before, and no end byte.
-pub record WasRefused (refusal : Refusal) (left_before left_after held_before held_after : Option (List ℕ)) : Type 0 where
+pub record WasRefused (refusal : Refusal) (before after : Ends) : Type 0 where
   pub bytes : List ℕ
   pub records : List ℕ
   pub refused : IsRefused bytes refusal records
-  pub departed : left_before ≡ before_taking bytes left_after
+  pub departed : before.left ≡ before_taking bytes after.left
   -- an early end is told only where the source has ended
-  pub at_end : refusal.why ≡ why.Session Truncated → IsAtEnd left_after
-  pub whole : WhereTold left_before (λ all. IsRefused all refusal records)
-  pub gained : held_after ≡ after_adding held_before records
+  pub at_end : refusal.why ≡ why.Session Truncated → IsAtEnd after.left
+  pub whole : WhereTold before.left (λ all. IsRefused all refusal records)
+  pub gained : after.held ≡ after_adding before.held records
 
 -- what bytes give: nothing before a header that is built, then the records of the events that were read, and with the end byte where the source has ended
 abbrev pub Gives : List ℕ → Option (List ℕ) → List ℕ → Type 0
@@ -48,46 +50,40 @@ Gives bytes left given =
     ⊎ ((header : Header) × (events : List Event) × IsPlayed bytes header events × IsAtEnd left × (given ≡ output_of header events))
 
 -- The output gained a front of what the bytes that were read give.
-pub record PlayedFront (left_before left_after held_before held_after : Option (List ℕ)) : Type 0 where
+pub record PlayedFront (before after : Ends) : Type 0 where
   pub bytes : List ℕ
   pub given : List ℕ
-  pub departed : left_before ≡ before_taking bytes left_after
-  pub gives : Gives bytes left_after given
-  pub gained : AddsFront given held_before held_after
+  pub departed : before.left ≡ before_taking bytes after.left
+  pub gives : Gives bytes after.left given
+  pub gained : AddsFront given before.held after.held
 
 -- how playing an input ends
-abbrev pub InputPlayed : Ending → Option (List ℕ) → Option (List ℕ) → Option (List ℕ) → Option (List ℕ) → Type 0
-InputPlayed ending.Done left_before left_after held_before held_after = PlayedWhole left_before left_after held_before held_after
-InputPlayed (ending.Refused refusal) left_before left_after held_before held_after = WasRefused refusal left_before left_after held_before held_after
-InputPlayed ending.Memory left_before left_after held_before held_after = PlayedFront left_before left_after held_before held_after
-InputPlayed ending.ReadFault left_before left_after held_before held_after = PlayedFront left_before left_after held_before held_after
-InputPlayed ending.WriteFault left_before left_after held_before held_after = PlayedFront left_before left_after held_before held_after
-InputPlayed ending.Usage left_before left_after held_before held_after = ⊥
+abbrev pub InputPlayed : Ending → Ends → Ends → Type 0
+InputPlayed ending.Done before after = PlayedWhole before after
+InputPlayed (ending.Refused refusal) before after = WasRefused refusal before after
+InputPlayed ending.Memory before after = PlayedFront before after
+InputPlayed ending.ReadFault before after = PlayedFront before after
+InputPlayed ending.WriteFault before after = PlayedFront before after
+InputPlayed ending.Usage before after = ⊥
 
--- the counts of faults of the input and of the output
-abbrev pub InputCounted : Ending → ℕ → ℕ → ℕ → ℕ → Type 0
-InputCounted ending.ReadFault read_before read_after written_before written_after = Rose read_before read_after × (written_after ≡ written_before)
-InputCounted ending.WriteFault read_before read_after written_before written_after = (read_after ≡ read_before) × Rose written_before written_after
-InputCounted other read_before read_after written_before written_after = (read_after ≡ read_before) × (written_after ≡ written_before)
+-- of the input and the output exactly the end whose call failed has counted it
+abbrev pub InputCounted : Ending → Ends → Ends → Type 0
+InputCounted ending.ReadFault before after = Rose before.read_faults after.read_faults × (after.write_faults ≡ before.write_faults)
+InputCounted ending.WriteFault before after = (after.read_faults ≡ before.read_faults) × Rose before.write_faults after.write_faults
+InputCounted other before after = AreQuiet before after
+
+-- A replay answered this status: it ended so, and that was reported.
+pub record Replayed (answered : Status) (before after : Ends) (log_before log_after : Log) : Type 0 where
+  pub ended : Ending
+  pub played : InputPlayed ended before after
+  pub counted : InputCounted ended before after
+  pub reported : Reported ended answered log_before log_after
 
 -- no session that is played has these bytes
 abbrev pub IsNotPlayed : List ℕ → Type 0
 IsNotPlayed bytes = (header : Header) (events : List Event) → ¬ IsPlayed bytes header events
 
--- how an input must end where no read and no write fails
+-- the status of an input where no read and no write fails
 pub record Completes (answered : Status) (bytes : List ℕ) : Type 0 where
   pub played : (header : Header) (events : List Event) → IsPlayed bytes header events → (answered ≡ status.Ok) ⊎ (answered ≡ status.Memory)
   pub not_played : IsNotPlayed bytes → (answered ≡ status.Refused) ⊎ (answered ≡ status.Memory)
-
--- a status that a replay can end with
-abbrev pub IsReplayStatus : Status → Type 0
-IsReplayStatus status.Ok = ⊤
-IsReplayStatus status.Refused = ⊤
-IsReplayStatus status.Memory = ⊤
-IsReplayStatus status.ReadFault = ⊤
-IsReplayStatus status.WriteFault = ⊤
-IsReplayStatus status.Usage = ⊥
-IsReplayStatus status.Device = ⊥
-IsReplayStatus status.Host = ⊥
-IsReplayStatus status.NoSuchSink = ⊥
-IsReplayStatus status.HistoryFull = ⊥

@@ -9,7 +9,7 @@ use Rattle.px_session.specs.EventReading.{event_at}
 use Rattle.px_session.specs.Session.{Ended, Events, IsSession}
 use Rattle.px_session.specs.SessionLaw.{Lead}
 use Rattle.px_world.specs.declared.fault.WorldFault.{WorldFault}
-use Rattle.px_world.specs.World.{new_world}
+use Rattle.px_world.specs.World.{World, new_world}
 use Rattle.px_world.specs.Admission.{refusal_of}
 use Rattle.px_world.specs.Output.{world_by, records_by, AreAdmitted}
 use Rattle.px_app.specs.declared.refusal.Refusal.{Refusal}
@@ -36,11 +36,15 @@ NoneBegins bytes refusal =
     ((broken : Broken) × (header_at (start_of bytes) ≡ Err broken) × (refusal ≡ of_bytes broken))
     ⊎ ((header : Header) × (after : Place) × (header_at (start_of bytes) ≡ Ok (header, after)) × (¬ IsBuilt header) × (refusal ≡ not_built))
 
--- no event stands here, or it is one that the world after the events before doesn't admit; then its kind byte is here
-abbrev pub StopsHere : Header → List Event → Place → Refusal → Type 0
-StopsHere header before here refusal =
+-- no event stands here, or it is one that the world doesn't admit; then its kind byte is here
+abbrev pub StopsIn : World → Place → Refusal → Type 0
+StopsIn w here refusal =
     ((broken : Broken) × (event_at here ≡ Err broken) × (refusal ≡ of_bytes broken))
-    ⊎ ((e : Event) × (after : Place) × (fault : WorldFault) × (event_at here ≡ Ok (step.Event e, after)) × (refusal_of (world_by (new_world header) before) e ≡ Some fault) × (refusal ≡ of_event here.at e fault))
+    ⊎ ((e : Event) × (after : Place) × (fault : WorldFault) × (event_at here ≡ Ok (step.Event e, after)) × (refusal_of w e ≡ Some fault) × (refusal ≡ of_event here.at e fault))
+
+-- so it is in the world after these events
+abbrev pub StopsHere : Header → List Event → Place → Refusal → Type 0
+StopsHere header before here refusal = StopsIn (world_by (new_world header) before) here refusal
 
 -- the bytes are refused so, behind these records
 abbrev pub IsRefused : List ℕ → Refusal → List ℕ → Type 0

@@ -1,5 +1,5 @@
 -- How far a replay has come, and what reading and playing an event leaves.
-use Rattle.std.specs.Prelude.{◌≡◌, ◌⊎◌, ℕ, cond, nat_eq, true, List, [], ◌∷◌, ◌++◌, Option, None, Some, Result, Ok, Err, ⊤}
+use Rattle.std.specs.Prelude.{◌≡◌, ℕ, cond, nat_eq, true, List, [], ◌∷◌, Option, None, Some, Result, Ok, Err, ⊤}
 use Rattle.px_ends.specs.Told.{before_taking, after_adding}
 use Rattle.px_ends.specs.Faults.{Rose}
 use Rattle.px_ends.specs.Whole.{AddsFront}
@@ -11,7 +11,8 @@ use Rattle.px_session.specs.declared.event.Step.TheVariants as step
 use Rattle.px_session.specs.declared.fault.ReadError.{ReadError}
 use Rattle.px_session.specs.declared.fault.ReadError.TheVariants as error
 use Rattle.px_session.specs.Reader.{place_with}
-use Rattle.px_session.specs.Spelling.{word, end_byte}
+use Rattle.px_session.specs.Spelling.{end_byte}
+use Rattle.px_session.specs.Output.{played_record}
 use Rattle.px_world.specs.declared.fault.WorldFault.{WorldFault}
 use Rattle.px_world.specs.declared.fault.WorldFault.TheVariants.{NoMemory}
 use Rattle.px_world.specs.World.{World, new_world}
@@ -25,6 +26,7 @@ use Rattle.px_app.specs.declared.ending.Ending.TheVariants as ending
 use Rattle.px_app.specs.declared.playing.Playing.{Playing}
 use Rattle.px_app.specs.Refusal.{of_bytes, of_event}
 use Rattle.px_app.specs.Session.{Begins}
+use Rattle.px_app.specs.Ends.{Ends, AreQuiet}
 use Rattle.px_app.specs.Replay.{InputPlayed, InputCounted}
 
 -- ---- reading
@@ -57,9 +59,8 @@ abbrev pub WriteCounts : Result Unit Ending → ℕ → ℕ → Type 0
 WriteCounts (Ok done) before now = now ≡ before
 WriteCounts (Err ended) before now = EndCounts ended before now
 
--- a write ends a run only where it failed, or for want of memory
+-- a write ends a run only where it failed
 abbrev pub IsUnwritten : Ending → Type 0
-IsUnwritten ending.Memory = ⊤
 IsUnwritten ending.WriteFault = ⊤
 IsUnwritten other = ⊥
 
@@ -77,7 +78,7 @@ turn_sink other = None
 -- the record of so many frames that a turn consumed, if there are any
 abbrev pub played_part : Option ℕ → ℕ → List ℕ → List ℕ
 played_part None frames bytes = []
-played_part (Some sink) frames bytes = cond (nat_eq frames 0) [] (3 ∷ sink ∷ word frames ++ bytes)
+played_part (Some sink) frames bytes = cond (nat_eq frames 0) [] (played_record sink frames bytes)
 
 -- ---- an event
 
@@ -100,7 +101,7 @@ barred at number fault = ending.Refused (record { at = at; why = why.World fault
 -- why the event, whose kind byte is at an offset, ends the run
 abbrev pub EventEnds : Ending → ℕ → World → Event → Option (List ℕ) → Option (List ℕ) → Type 0
 EventEnds (ending.Refused refusal) at w e before now = (fault : WorldFault) × (refusal_of w e ≡ Some fault) × (refusal ≡ of_event at e fault) × (now ≡ before)
-EventEnds ending.Memory at w e before now = (now ≡ before) ⊎ EventCut w e before now
+EventEnds ending.Memory at w e before now = now ≡ before
 EventEnds ending.WriteFault at w e before now = EventCut w e before now
 EventEnds other at w e before now = ⊥
 
@@ -111,29 +112,27 @@ EventPlayed (Err ended) at w e world before now = EventEnds ended at w e before 
 -- ---- a replay
 
 -- The bytes that were read so far begin with a header that is built and with events that were played: the reader stands behind them, the world is the one that they left, and the output gained their records.
-pub record Reached (playing : Playing) (left_before left held_before held : Option (List ℕ)) : Type 0 where
+pub record Reached (playing : Playing) (first now : Ends) : Type 0 where
   pub bytes : List ℕ
   pub header : Header
   pub events : List Event
-  pub departed : left_before ≡ before_taking bytes left
+  pub departed : first.left ≡ before_taking bytes now.left
   pub begins : Begins bytes header events (place_with playing.reader playing.reader.ahead)
   pub begun : playing.reader.begun ≡ true
   pub stands : StandsFor playing.world (world_by (new_world header) events)
-  pub gained : held ≡ after_adding held_before (records_by (new_world header) events)
+  pub gained : now.held ≡ after_adding first.held (records_by (new_world header) events)
 
-abbrev pub Begun : Result Playing Ending → Option (List ℕ) → Option (List ℕ) → Option (List ℕ) → Type 0
-Begun (Ok playing) left_before left held = Reached playing left_before left held held
-Begun (Err ended) left_before left held = InputPlayed ended left_before left held held
-
-abbrev pub BeginCounts : Result Playing Ending → ℕ → ℕ → ℕ → Type 0
-BeginCounts (Ok playing) read_before read_after written = read_after ≡ read_before
-BeginCounts (Err ended) read_before read_after written = InputCounted ended read_before read_after written written
+-- a replay has begun, or has ended
+abbrev pub Begun : Result Playing Ending → Ends → Ends → Type 0
+Begun (Ok playing) first now = Reached playing first now
+Begun (Err ended) first now = InputPlayed ended first now
 
 -- a step of a replay: it has come further, or has ended
-abbrev pub Stepped : Result Unit Ending → Playing → Option (List ℕ) → Option (List ℕ) → Option (List ℕ) → Option (List ℕ) → Type 0
-Stepped (Ok done) playing left_before left held_before held = Reached playing left_before left held_before held
-Stepped (Err ended) playing left_before left held_before held = InputPlayed ended left_before left held_before held
+abbrev pub Stepped : Result Unit Ending → Playing → Ends → Ends → Type 0
+Stepped (Ok done) playing first now = Reached playing first now
+Stepped (Err ended) playing first now = InputPlayed ended first now
 
-abbrev pub StepCounts : Result Unit Ending → ℕ → ℕ → ℕ → ℕ → Type 0
-StepCounts (Ok done) read_before read_after written_before written_after = (read_after ≡ read_before) × (written_after ≡ written_before)
-StepCounts (Err ended) read_before read_after written_before written_after = InputCounted ended read_before read_after written_before written_after
+-- no call failed, or the one that ended it
+abbrev pub Counts : {A : Type 0} → Result A Ending → Ends → Ends → Type 0
+Counts (Ok done) before now = AreQuiet before now
+Counts (Err ended) before now = InputCounted ended before now

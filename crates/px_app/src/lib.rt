@@ -1,6 +1,6 @@
 //! The program's top call, `run`, and what it does by the words of the command line: `replay` plays a recorded session.
 //! It exports these two, `View`, `Ending`, the `Refusal`s of a session, `report`, which writes to a log how a run ended, and the
-//! law on inputs.
+//! laws on inputs and refusals.
 #![tactic(auto)]
 
 mod ending;
@@ -15,7 +15,7 @@ mod replaying;
 
 pub use crate::log::report;
 pub use ending::Ending;
-pub use law::inputs_are_played_or_refused;
+pub use law::{inputs_are_played_or_refused, refusals_are_final};
 pub use program::run;
 pub use refusal::{Refusal, Why};
 pub use replaying::{View, replay};

@@ -1,8 +1,9 @@
 //! The line that the log gains of how a run ended.
 
-ghost use Rattle.std.specs.Prelude.{◌≡◌, ◌≢◌};
+ghost use Rattle.std.specs.Prelude.{◌≡◌, ◌≢◌, ◌⊎◌};
 ghost use Rattle.px_app.specs.Ending.{line_of, IsRefusal};
-ghost use Rattle.px_app.specs.Report.{Wrote, Reported};
+ghost use Rattle.px_app.specs.Ends.{log_end};
+ghost use Rattle.px_app.specs.Report.{Logged, LogFailed, Reported};
 ghost use Rattle.px_app.specs.declared.ending.Ending.TheVariants as ending;
 
 use crate::ending::Ending;
@@ -31,7 +32,8 @@ fn fixed_line(ended: Ending) -> &'static [u8]
 fn write_line<L: Sink>(ended: Ending, line: &[u8], log: &mut L) -> Status
     requires line { line.now ≡ line_of ended }
     requires other { ended ≢ ending.Done }
-    ensures { Wrote ended result (L.held log.old) (L.held log.new) (L.faults log.old) (L.faults log.new) }
+    ensures { Logged ended result (log_end (L.held log.old) (L.faults log.old)) (log_end (L.held log.new) (L.faults log.new))
+        ⊎ LogFailed ended result (log_end (L.held log.old) (L.faults log.old)) (log_end (L.held log.new) (L.faults log.new)) }
 {
     match write_all(log, line) {
         Ok(()) => ended.status(),
@@ -42,7 +44,7 @@ fn write_line<L: Sink>(ended: Ending, line: &[u8], log: &mut L) -> Status
 /// Writes the line of how a run ended to the log, if it has one, and answers the run's status. A refusal's line takes memory:
 /// where there is none, the run has ended for want of memory. Where the log can't be written, the status is `WriteFault`.
 pub fn report<L: Sink>(alloc: Global, ended: Ending, log: &mut L) -> Status
-    ensures { Reported ended result (L.held log.old) (L.held log.new) (L.faults log.old) (L.faults log.new) }
+    ensures { Reported ended result (log_end (L.held log.old) (L.faults log.old)) (log_end (L.held log.new) (L.faults log.new)) }
 {
     match ended {
         Ending::Done => Status::Ok,

@@ -1,21 +1,20 @@
 //! A replay under way: the reader of the session, and the world that its events are played in.
 
 ghost use Rattle.std.specs.Prelude.{◌≡◌, ◌<◌, ◌≤◌, ◌^◌, ℕ, List, Option, true, IfOk, OnOk, IsTrue, ◌↔◌};
-ghost use Rattle.px_ends.specs.Told.{after_adding};
-ghost use Rattle.px_session.specs.EventRules.{IsEvent};
 ghost use Rattle.px_world.specs.World.{World as SpecWorld};
 ghost use Rattle.px_world.specs.Running.{StandsFor};
 ghost use Rattle.px_app.specs.Built.{IsBuilt};
+ghost use Rattle.px_app.specs.Ends.{Ends, ends_of};
 ghost use Rattle.px_app.specs.Replay.{InputPlayed, InputCounted};
-ghost use Rattle.px_app.specs.Step.{turn_sink, barred, WriteCounts, EndCounts, Closes, EventPlayed, Reached, Begun, BeginCounts, Stepped, StepCounts};
+ghost use Rattle.px_app.specs.Step.{turn_sink, barred, WriteCounts, EndCounts, Closes, EventPlayed, Reached, Begun, Stepped, Counts};
 
 use crate::ending::Ending;
 use crate::reading::{next_event, next_header, unread};
 use crate::records::write_outcome;
 use crate::refusal::{Refusal, Why, number_of};
-use px_ends::{Sink, Source, write_all};
+use px_ends::{Sink, Source};
 use px_sample::Format;
-use px_session::{Cause, Event, Header, Reader};
+use px_session::{Cause, Event, Header, Reader, write_end};
 use px_world::{World, WorldFault};
 use std::alloc::Global;
 
@@ -25,9 +24,6 @@ pub(crate) struct Playing {
     reader: Reader,
     world: World,
 }
-
-/// The byte that ends an output.
-const END: u8 = 0;
 
 // Whether the header is one of those that are built.
 fn is_built(header: &Header) -> bool
@@ -70,7 +66,6 @@ fn play_event<K: Sink>(
     e: Event,
     output: &mut K,
 ) -> Result<(), Ending>
-    requires { IsEvent e }
     ensures played { (w : SpecWorld) → StandsFor world.old w → EventPlayed result at w e world.new (K.held output.old) (K.held output.new) }
     ensures counts { WriteCounts result (K.faults output.old) (K.faults output.new) }
 {
@@ -87,7 +82,7 @@ fn close<K: Sink>(output: &mut K) -> Ending
     ensures closes { Closes result (K.held output.old) (K.held output.new) }
     ensures counts { EndCounts result (K.faults output.old) (K.faults output.new) }
 {
-    match write_all(output, &[END]) {
+    match write_end(output) {
         Ok(()) => Ending::Done,
         Err(_) => Ending::WriteFault,
     }
@@ -96,9 +91,9 @@ fn close<K: Sink>(output: &mut K) -> Ending
 impl Playing {
     // Reads the header, and makes its world.
     fn new<S: Source>(alloc: Global, input: &mut S) -> Result<Playing, Ending>
-        ensures begun { (held : Option (List ℕ)) → Begun result (S.left input.old) (S.left input.new) held }
+        ensures begun { (held : Option (List ℕ)) (written : ℕ) → Begun result (ends_of (S.left input.old) (S.faults input.old) held written) (ends_of (S.left input.new) (S.faults input.new) held written) }
         ensures ready { IfOk result (λ playing. playing.reader.begun ≡ true) }
-        ensures counts { (written : ℕ) → BeginCounts result (S.faults input.old) (S.faults input.new) written }
+        ensures counts { (held : Option (List ℕ)) (written : ℕ) → Counts result (ends_of (S.left input.old) (S.faults input.old) held written) (ends_of (S.left input.new) (S.faults input.new) held written) }
     {
         let Ok(mut reader) = Reader::new(alloc) else {
             return Err(Ending::Memory);
@@ -128,11 +123,13 @@ impl Playing {
         output: &mut K,
     ) -> Result<(), Ending>
         requires { self.old.reader.begun ≡ true }
-        ensures stepped { (left held : Option (List ℕ)) → Reached self.old left (S.left input.old) held (K.held output.old)
-            → Stepped result self.new left (S.left input.new) held (K.held output.new) }
+        ensures stepped { (first : Ends) → Reached self.old first (ends_of (S.left input.old) (S.faults input.old) (K.held output.old) (K.faults output.old))
+            → Stepped result self.new first (ends_of (S.left input.new) (S.faults input.new) (K.held output.new) (K.faults output.new)) }
         ensures forward { OnOk result ((self.old.reader.at < self.new.reader.at) × (self.new.reader.at ≤ 2 ^ 40)) }
         ensures begun { OnOk result (self.new.reader.begun ≡ true) }
-        ensures counts { StepCounts result (S.faults input.old) (S.faults input.new) (K.faults output.old) (K.faults output.new) }
+        ensures counts { Counts result
+            (ends_of (S.left input.old) (S.faults input.old) (K.held output.old) (K.faults output.old))
+            (ends_of (S.left input.new) (S.faults input.new) (K.held output.new) (K.faults output.new)) }
     {
         let at = self.reader.at();
         match next_event(&mut self.reader, input) {
@@ -145,9 +142,11 @@ impl Playing {
     // Reads and plays to the end.
     fn run<S: Source, K: Sink>(&mut self, alloc: Global, input: &mut S, output: &mut K) -> Ending
         requires { self.old.reader.begun ≡ true }
-        ensures played { (left held : Option (List ℕ)) → Reached self.old left (S.left input.old) held (K.held output.old)
-            → InputPlayed result left (S.left input.new) held (K.held output.new) }
-        ensures counted { InputCounted result (S.faults input.old) (S.faults input.new) (K.faults output.old) (K.faults output.new) }
+        ensures played { (first : Ends) → Reached self.old first (ends_of (S.left input.old) (S.faults input.old) (K.held output.old) (K.faults output.old))
+            → InputPlayed result first (ends_of (S.left input.new) (S.faults input.new) (K.held output.new) (K.faults output.new)) }
+        ensures counted { InputCounted result
+            (ends_of (S.left input.old) (S.faults input.old) (K.held output.old) (K.faults output.old))
+            (ends_of (S.left input.new) (S.faults input.new) (K.held output.new) (K.faults output.new)) }
     {
         loop {
             if let Err(ended) = self.step(alloc, input, output) {
@@ -159,8 +158,12 @@ impl Playing {
 
 /// Plays an input: reads its session, and writes the records of its events and the end byte.
 pub(crate) fn play<S: Source, K: Sink>(alloc: Global, input: &mut S, output: &mut K) -> Ending
-    ensures played { InputPlayed result (S.left input.old) (S.left input.new) (K.held output.old) (K.held output.new) }
-    ensures counted { InputCounted result (S.faults input.old) (S.faults input.new) (K.faults output.old) (K.faults output.new) }
+    ensures played { InputPlayed result
+        (ends_of (S.left input.old) (S.faults input.old) (K.held output.old) (K.faults output.old))
+        (ends_of (S.left input.new) (S.faults input.new) (K.held output.new) (K.faults output.new)) }
+    ensures counted { InputCounted result
+        (ends_of (S.left input.old) (S.faults input.old) (K.held output.old) (K.faults output.old))
+        (ends_of (S.left input.new) (S.faults input.new) (K.held output.new) (K.faults output.new)) }
 {
     match Playing::new(alloc, input) {
         Ok(mut playing) => playing.run(alloc, input, output),

@@ -4,8 +4,9 @@ ghost use Rattle.std.specs.Prelude.{◌≡◌, ◌++◌, OnOk, OnErr, IfErr};
 ghost use Rattle.std.specs.List.{flat_map};
 ghost use Rattle.px_ends.specs.Told.{after_adding};
 ghost use Rattle.px_ends.specs.Whole.{AddsFront};
-ghost use Rattle.px_session.specs.Spelling.{record_of};
+ghost use Rattle.px_session.specs.Output.{record_of};
 ghost use Rattle.px_session.specs.Writing.{FitsRecord};
+ghost use Rattle.px_core.specs.Effect.{IsSendable, AreSendable};
 ghost use Rattle.px_world.specs.Output.{effect_record};
 ghost use Rattle.px_app.specs.Step.{WriteCounts, IsUnwritten, played_part};
 
@@ -29,10 +30,9 @@ fn write_one<K: Sink>(output: &mut K, what: &OutRecord<'_>) -> Result<(), Ending
     }
 }
 
-/// The greatest length that a record's field can have. No frame of the protocol is that long.
-const MOST: usize = 0xFFFF_FFFF;
-
+// A frame that a client was sent is short enough for its record.
 fn write_effect_record<K: Sink>(output: &mut K, effect: &Effect) -> Result<(), Ending>
+    requires { IsSendable effect.now }
     ensures ok { OnOk result (K.held output.new ≡ after_adding (K.held output.old) (effect_record effect.now)) }
     ensures err { OnErr result (AddsFront (effect_record effect.now) (K.held output.old) (K.held output.new)) }
     ensures counts { WriteCounts result (K.faults output.old) (K.faults output.new) }
@@ -41,9 +41,6 @@ fn write_effect_record<K: Sink>(output: &mut K, effect: &Effect) -> Result<(), E
     match effect {
         Effect::Sent { conn, packet } => {
             let bytes = packet.bytes();
-            if bytes.len() > MOST {
-                return Err(Ending::Memory);
-            }
             write_one(output, &OutRecord::Sent { conn: *conn, bytes })
         }
         Effect::Closed {
@@ -64,6 +61,7 @@ fn write_effect_record<K: Sink>(output: &mut K, effect: &Effect) -> Result<(), E
 }
 
 fn write_effects<K: Sink>(output: &mut K, effects: &[Effect]) -> Result<(), Ending>
+    requires { AreSendable effects.now }
     ensures ok { OnOk result (K.held output.new ≡ after_adding (K.held output.old) (flat_map effect_record effects.now)) }
     ensures err { OnErr result (AddsFront (flat_map effect_record effects.now) (K.held output.old) (K.held output.new)) }
     ensures counts { WriteCounts result (K.faults output.old) (K.faults output.new) }
@@ -100,8 +98,7 @@ fn write_played<K: Sink>(
     }
 }
 
-/// Writes the records of what an event did; of a turn, the sink is given. Takes no memory, and answers `Memory` only of a frame
-/// whose length has no field.
+/// Writes the records of what an event did; of a turn, the sink is given. Takes no memory.
 pub(crate) fn write_outcome<K: Sink>(
     output: &mut K,
     sink: Option<u8>,

@@ -1,15 +1,18 @@
 //! The replay of a recorded session.
 
-ghost use Rattle.std.specs.Prelude.{◌≡◌, ◌⊎◌, ◌≢◌, ℕ};
+ghost use Rattle.std.specs.Prelude.{◌≡◌, ◌⊎◌, ◌≢◌};
 ghost use Rattle.px_types.specs.declared.status.Status.{Status as Answered};
 ghost use Rattle.px_ends.specs.Told.{after_adding, WhereTold};
 ghost use Rattle.px_ends.specs.Faults.{Rose};
 ghost use Rattle.px_ends.specs.Whole.{AddsFront};
 ghost use Rattle.px_app.specs.declared.ending.Ending.{Ending as Ended};
+ghost use Rattle.px_app.specs.declared.ending.Ending.TheVariants as ending;
 ghost use Rattle.px_app.specs.declared.refusal.Refusal.{Refusal as Refused};
 ghost use Rattle.px_app.specs.Refusal.{refusal_line};
-ghost use Rattle.px_app.specs.Ending.{status_of, line_of};
-ghost use Rattle.px_app.specs.Replay.{PlayedWhole, WasRefused, PlayedFront, Completes, IsReplayStatus};
+ghost use Rattle.px_app.specs.Ends.{ends_of, log_end};
+ghost use Rattle.px_app.specs.Ending.{status_of, line_of, IsReplayStatus};
+ghost use Rattle.px_app.specs.Report.{Says};
+ghost use Rattle.px_app.specs.Replay.{PlayedWhole, WasRefused, PlayedFront, InputCounted, Replayed, Completes};
 
 use crate::log::report;
 use crate::playing::play;
@@ -38,18 +41,38 @@ pub fn replay<S: Source, K: Sink, L: Sink>(
     output: &mut K,
     log: &mut L,
 ) -> Status
-    ensures ok { result ≡ Answered.Ok → PlayedWhole (S.left input.old) (S.left input.new) (K.held output.old) (K.held output.new) }
-    ensures refused { result ≡ Answered.Refused → (refusal : Refused)
-        × WasRefused refusal (S.left input.old) (S.left input.new) (K.held output.old) (K.held output.new)
+    // What was read and written, which calls failed, and what was reported; the clauses behind it follow from it.
+    ensures exact { Replayed result
+        (ends_of (S.left input.old) (S.faults input.old) (K.held output.old) (K.faults output.old))
+        (ends_of (S.left input.new) (S.faults input.new) (K.held output.new) (K.faults output.new))
+        (log_end (L.held log.old) (L.faults log.old)) (log_end (L.held log.new) (L.faults log.new)) }
+    ensures ok { result ≡ Answered.Ok → PlayedWhole
+        (ends_of (S.left input.old) (S.faults input.old) (K.held output.old) (K.faults output.old))
+        (ends_of (S.left input.new) (S.faults input.new) (K.held output.new) (K.faults output.new)) }
+    ensures refused { result ≡ Answered.Refused → (refusal : Refused) × WasRefused refusal
+        (ends_of (S.left input.old) (S.faults input.old) (K.held output.old) (K.faults output.old))
+        (ends_of (S.left input.new) (S.faults input.new) (K.held output.new) (K.faults output.new))
         × (L.held log.new ≡ after_adding (L.held log.old) (refusal_line refusal)) }
-    ensures memory { result ≡ Answered.Memory → PlayedFront (S.left input.old) (S.left input.new) (K.held output.old) (K.held output.new) }
-    ensures read_fault { result ≡ Answered.ReadFault → Rose (S.faults input.old) (S.faults input.new)
-        × PlayedFront (S.left input.old) (S.left input.new) (K.held output.old) (K.held output.new) }
-    ensures write_fault { result ≡ Answered.WriteFault → Rose (K.faults output.old) (K.faults output.new) ⊎ Rose (L.faults log.old) (L.faults log.new) }
-    ensures written { result ≡ Answered.WriteFault → PlayedFront (S.left input.old) (S.left input.new) (K.held output.old) (K.held output.new) }
-    ensures logged { result ≢ Answered.WriteFault → (ended : Ended) × (result ≡ status_of ended)
+    // With every other status the output gained a front of what the bytes that were read give.
+    ensures front { PlayedFront
+        (ends_of (S.left input.old) (S.faults input.old) (K.held output.old) (K.faults output.old))
+        (ends_of (S.left input.new) (S.faults input.new) (K.held output.new) (K.faults output.new)) }
+    // With every status but those of a failed read or write no call failed, and the log's line is the status's.
+    ensures quiet { result ≢ Answered.ReadFault → result ≢ Answered.WriteFault
+        → (S.faults input.new ≡ S.faults input.old) × (K.faults output.new ≡ K.faults output.old) × (L.faults log.new ≡ L.faults log.old) }
+    ensures read_fault { result ≡ Answered.ReadFault
+        → Rose (S.faults input.old) (S.faults input.new) × (K.faults output.new ≡ K.faults output.old) × (L.faults log.new ≡ L.faults log.old) }
+    ensures line { result ≢ Answered.WriteFault → (ended : Ended) × (result ≡ status_of ended)
         × (L.held log.new ≡ after_adding (L.held log.old) (line_of ended)) }
-    ensures log_front { result ≡ Answered.WriteFault → (ended : Ended) × AddsFront (line_of ended) (L.held log.old) (L.held log.new) }
+    // A write of the output failed and the log has the line of it, or one of the log did, behind a front of the line of how it ended.
+    ensures write_fault { result ≡ Answered.WriteFault
+        → ((S.faults input.new ≡ S.faults input.old) × Rose (K.faults output.old) (K.faults output.new) × (L.faults log.new ≡ L.faults log.old)
+        × (L.held log.new ≡ after_adding (L.held log.old) (line_of ending.WriteFault)))
+        ⊎ ((ended : Ended) × (said : Ended) × Says ended said
+        × InputCounted ended
+        (ends_of (S.left input.old) (S.faults input.old) (K.held output.old) (K.faults output.old))
+        (ends_of (S.left input.new) (S.faults input.new) (K.held output.new) (K.faults output.new))
+        × AddsFront (line_of said) (L.held log.old) (L.held log.new) × Rose (L.faults log.old) (L.faults log.new)) }
     ensures others { IsReplayStatus result }
     // Where no read and no write fails, a session that is played ends so, unless memory ran out, and each other input is refused.
     ensures complete { ¬ Rose (S.faults input.old) (S.faults input.new) → ¬ Rose (K.faults output.old) (K.faults output.new)

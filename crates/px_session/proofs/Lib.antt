@@ -12,3 +12,4 @@ pub mod MapLemmas
 pub mod EventLaws
 pub mod SessionLaws
 pub mod Answered
+pub mod FinalLaws

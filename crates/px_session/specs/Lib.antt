@@ -13,3 +13,4 @@ pub mod Reader
 pub mod Spelling
 pub mod SessionLaw
 pub mod Writing
+pub mod Output

@@ -1,14 +1,12 @@
--- The one spelling of a header, of an event, of a session, and of an output record. Numbers have their highest byte first.
+-- The one spelling of a header, of an event, and of a session. Numbers have their highest byte first.
 use Rattle.std.specs.Prelude.{ℕ, List, [], ◌∷◌, ◌++◌, length}
 use Rattle.std.specs.List.{flat_map}
-use Rattle.std.specs.Int.{w32, w64, to_be_bytes}
+use Rattle.std.specs.Int.{w32, to_be_bytes}
 use Rattle.px_sample.specs.Format.{code_of}
 use Rattle.px_session.specs.declared.header.SinkSpec.{SinkSpec}
 use Rattle.px_session.specs.declared.header.Header.{Header}
 use Rattle.px_session.specs.declared.event.Event.{Event}
 use Rattle.px_session.specs.declared.event.Event.TheVariants.{Connect, Bytes, Close, Cut, Turn, Collect}
-use Rattle.px_session.specs.declared.output.OutRecord.{OutRecord}
-use Rattle.px_session.specs.declared.output.OutRecord.TheVariants.{Sent, Closed, Played}
 
 abbrev pub word : ℕ → List ℕ
 word n = to_be_bytes w32 n
@@ -36,14 +34,9 @@ event (Cut conn) = 4 ∷ word conn.0
 event (Turn sink frames messages) = 5 ∷ sink ∷ word frames ++ word messages
 event (Collect sink notices) = 6 ∷ sink ∷ word notices
 
--- the byte that ends a session, and the output of a replay
+-- the byte that ends a session, and an output
 abbrev pub end_byte : ℕ
 end_byte = 0
 
 abbrev pub session : Header → List Event → List ℕ
 session h events = header h ++ flat_map event events ++ (end_byte ∷ [])
-
-unfoldable pub record_of : OutRecord → List ℕ
-record_of (Sent conn bytes) = 1 ∷ word conn.0 ++ word (length bytes.now) ++ bytes.now
-record_of (Closed conn reason fault at) = 2 ∷ word conn.0 ++ (reason ∷ fault ∷ to_be_bytes w64 at)
-record_of (Played sink frames bytes) = 3 ∷ sink ∷ word frames ++ bytes.now

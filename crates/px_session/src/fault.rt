@@ -3,47 +3,60 @@
 use px_ends::WriteFailed;
 use px_types::NoMemory;
 use std::alloc::{AllocError, AllocFailed};
+use thiserror::Error;
 
 /// Why a session is refused: the first rule that its bytes break, from left to right. Own: PulseAudio records no sessions.
-#[derive(Clone, Copy, Debug, PartialEq, Eq)]
+#[derive(Clone, Copy, Debug, PartialEq, Eq, Error)]
 pub enum Cause {
     /// The first four bytes, or all of a shorter input, are no front of `PRS1`. At byte 0.
+    #[error("magic")]
     Magic,
     /// A field of the header breaks its rule. At the field's first byte.
+    #[error("header")]
     Header,
     /// The input ends inside the session. At the input's length.
+    #[error("truncated")]
     Truncated,
     /// 2^40 bytes were read and the session goes on. At byte 2^40.
+    #[error("endless")]
     Endless,
     /// A byte follows the end byte. At that byte.
+    #[error("trailing")]
     Trailing,
     /// No event has this kind. At its kind byte.
+    #[error("kind {0}")]
     Kind(u8),
     /// A Bytes event has this length, which is above 65,536. At its kind byte.
+    #[error("too long {0}")]
     TooLong(u64),
     /// The session is lawful, and the server can't play it yet. Given by the top call, never by a reader.
+    #[error("not built")]
     NotBuilt,
 }
 
 /// Why a reader gives nothing more.
-#[derive(Clone, Copy, Debug, PartialEq, Eq)]
+#[derive(Clone, Copy, Debug, PartialEq, Eq, Error)]
 pub enum ReadError {
     /// The bytes are no session.
+    #[error("refused at {at}: {cause}")]
     Refused {
         /// The offset from the session's first byte.
         at: u64,
         cause: Cause,
     },
     /// A read of the source failed.
+    #[error("read failed")]
     Failed,
     /// Want of memory.
+    #[error("out of memory")]
     NoMemory,
 }
 
 /// Why a writer stopped.
-#[derive(Clone, Copy, Debug, PartialEq, Eq)]
+#[derive(Clone, Copy, Debug, PartialEq, Eq, Error)]
 pub enum WriteError {
     /// A write of the sink failed. The sink took a front of what was to be written, maybe nothing.
+    #[error("write failed")]
     Failed,
 }
 

@@ -1,6 +1,6 @@
-//! That sessions have one reading and one spelling.
+//! That sessions have one reading and one spelling, and refusals one place.
 
-ghost use Rattle.std.specs.Prelude.{◌≡◌, ◌≤◌, ◌<◌, ℕ, List, ◌++◌, length};
+ghost use Rattle.std.specs.Prelude.{◌≡◌, ◌≢◌, ◌≤◌, ◌<◌, ℕ, List, ◌++◌, length};
 ghost use Rattle.std.specs.List.{AllByRecursion};
 ghost use Rattle.px_session.specs.declared.header.Header.{Header};
 ghost use Rattle.px_session.specs.declared.event.Event.{Event};
@@ -45,4 +45,13 @@ pub fn reading_in_steps()
         → Stand rest ending after → Stand (given ++ rest) ending place }
     ensures first { (given whole : List Event) (ending : Ending) (place after : Place) → Lead given place after
         → Stand whole ending place → (rest : List Event) × (whole ≡ given ++ rest) × Stand rest ending after }
+{}
+
+/// Bytes are refused at one place for one cause, and for a cause other than an early end they are so whatever follows them. It
+/// does nothing: its contract is the law.
+pub fn refusals_are_final()
+    ensures one { (bytes : List ℕ) (s t : Session) (f g : Refusal) → IsSession bytes s → IsSession bytes t → IsRefusedBy s f
+        → IsRefusedBy t g → f ≡ g }
+    ensures stays { (bytes behind : List ℕ) (s : Session) (f : Refusal) → IsSession bytes s → IsRefusedBy s f
+        → f.cause ≢ cause.Truncated → IsSession (bytes ++ behind) s }
 {}

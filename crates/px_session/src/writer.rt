@@ -1,12 +1,13 @@
 //! Headers, events and output records, written in their one spelling.
 
-ghost use Rattle.std.specs.Prelude.{◌≡◌, OnOk, OnErr};
+ghost use Rattle.std.specs.Prelude.{◌≡◌, [], ◌∷◌, OnOk, OnErr};
 ghost use Rattle.std.specs.List.{flat_map, AllByRecursion};
 ghost use Rattle.px_ends.specs.Told.{after_adding};
 ghost use Rattle.px_ends.specs.Faults.{Rose};
 ghost use Rattle.px_ends.specs.Whole.{AddsFront};
-ghost use Rattle.px_session.specs.Spelling.{sink, event, record_of};
+ghost use Rattle.px_session.specs.Spelling.{sink, event, end_byte};
 ghost use Rattle.px_session.specs.Spelling as spelling;
+ghost use Rattle.px_session.specs.Output.{record_of};
 ghost use Rattle.px_session.specs.Writing.{FitsSink, FitsHeader, FitsEvent, FitsRecord};
 
 use crate::event::Event;
@@ -14,6 +15,9 @@ use crate::fault::WriteError;
 use crate::header::{Header, SinkSpec};
 use crate::output::OutRecord;
 use px_ends::{Sink, write_all};
+
+/// The byte that ends a session, and an output.
+const END: u8 = 0;
 
 // Writes the pieces in order.
 fn write_pieces<K: Sink>(out: &mut K, pieces: &[&[u8]]) -> Result<(), WriteError>
@@ -108,7 +112,7 @@ pub fn write_event<K: Sink>(out: &mut K, e: &Event) -> Result<(), WriteError>
 }
 
 /// Writes the spelling of an output record. After `Failed` the sink took a front of it. Takes no memory.
-#[tactic(auto, unfolding(crate::specs::Spelling::record_of))]
+#[tactic(auto, unfolding(crate::specs::Output::sent_record, crate::specs::Output::closed_record, crate::specs::Output::played_record))]
 pub fn write_effect<K: Sink>(out: &mut K, effect: &OutRecord) -> Result<(), WriteError>
     requires { FitsRecord effect.now }
     ensures ok { OnOk result (K.held out.new ≡ after_adding (K.held out.old) (record_of effect.now)) }
@@ -144,4 +148,15 @@ pub fn write_effect<K: Sink>(out: &mut K, effect: &OutRecord) -> Result<(), Writ
             bytes,
         } => { write_pieces(out, &[&[3, *sink], &frames.to_be_bytes(), bytes]) }
     }
+}
+
+/// Writes the byte that ends a session, and an output. After `Failed` the sink took nothing. Takes no memory.
+pub fn write_end<K: Sink>(out: &mut K) -> Result<(), WriteError>
+    ensures ok { OnOk result (K.held out.new ≡ after_adding (K.held out.old) (end_byte ∷ [])) }
+    ensures ok_count { OnOk result (K.faults out.new ≡ K.faults out.old) }
+    ensures err { OnErr result (AddsFront (end_byte ∷ []) (K.held out.old) (K.held out.new)) }
+    ensures err_count { OnErr result (Rose (K.faults out.old) (K.faults out.new)) }
+{
+    write_all(out, &[END])?;
+    Ok(())
 }

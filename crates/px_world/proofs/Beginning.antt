@@ -24,7 +24,7 @@ use Rattle.px_world.specs.Playing.{mixer_of}
 use Rattle.px_world.specs.Admission.{refusal_of}
 use Rattle.px_world.specs.Running.{Running, StandsFor}
 use Rattle.px_world.specs.Keeping.{IsMixerOf, AreKept}
-use Rattle.px_world.specs.Doing.{Unless, RunsOr, RestsOr, loses, running_of}
+use Rattle.px_world.specs.Doing.{Unless, loses, running_of, Answered, IsRefused, Runs}
 use Rattle.px_world.proofs.Kept.{kept-notices}
 use Rattle.px_world.proofs.Sounding.{seen-at}
 use Rattle.px_world.proofs.Standing.{stands-first}
@@ -76,11 +76,11 @@ unless-lost Worn A a going = a
 unless-lost (TooMany asked there) A a going = a
 unless-lost NoMemory A a going = absurd cc
 
-pub refused-by : (after : Running) (w : World) (e : Event) (result : Result Outcome WorldFault) (fault : WorldFault) → RunsOr after w e result → result ≡ Err fault → (fault ≡ NoMemory → ⊥) → refusal_of w e ≡ Some fault
-refused-by after w e result fault runs is memory = unless-memory fault (refusal_of w e ≡ Some fault) memory (subst (RunsOr after w e) is runs)
+pub refused-by : (after : Running) (w : World) (e : Event) (result : Result Outcome WorldFault) (fault : WorldFault) → Answered result (Runs after w e) (IsRefused w e) → result ≡ Err fault → (fault ≡ NoMemory → ⊥) → refusal_of w e ≡ Some fault
+refused-by after w e result fault runs is memory = unless-memory fault (refusal_of w e ≡ Some fault) memory (subst (λ (r : Result Outcome WorldFault). Answered r (Runs after w e) (IsRefused w e)) is runs)
 
-pub unchanged-by : (before after : Running) (result : Result Outcome WorldFault) (fault : WorldFault) → RestsOr before after result → result ≡ Err fault → (fault ≡ NoMemory → ⊥) → after ≡ before
-unchanged-by before after result fault rests is memory = unless-memory fault (after ≡ before) memory (subst (RestsOr before after) is rests)
+pub unchanged-by : (before after : Running) (result : Result Outcome WorldFault) (fault : WorldFault) → Answered result (λ _. Unit {0}) (λ _. after ≡ before) → result ≡ Err fault → (fault ≡ NoMemory → ⊥) → after ≡ before
+unchanged-by before after result fault rests is memory = unless-memory fault (after ≡ before) memory (subst (λ (r : Result Outcome WorldFault). Answered r (λ _. Unit {0}) (λ _. after ≡ before)) is rests)
 
 -- ---- a mixer whose device alone changes
 

@@ -3,7 +3,8 @@ use Rattle.std.proofs.Common.{◌≡◌, refl}
 use Rattle.px_frame.specs.Descriptor.{descriptor_in}
 use Rattle.px_frame.specs.Meaning.{meaning_of}
 use Rattle.px_world.specs.World.{new_world}
-use Rattle.px_world.specs.Output.{effect_record, played_record, AreAdmitted, output_of}
+use Rattle.px_session.specs.Output.{sent_record, closed_record, played_record}
+use Rattle.px_world.specs.Output.{AreAdmitted, output_of}
 use Rattle.px_world.specs.Worked.{small_header, small_events, small_output}
 
 pub small-admitted : AreAdmitted (new_world small_header) small_events
@@ -11,5 +12,5 @@ unfolding meaning_of descriptor_in
 small-admitted = (refl, (refl, (refl, (refl, (refl, (refl, (refl, tt)))))))
 
 pub small-given : output_of small_header small_events ≡ small_output
-unfolding meaning_of descriptor_in effect_record played_record
+unfolding meaning_of descriptor_in sent_record closed_record played_record
 small-given = refl

@@ -18,7 +18,7 @@ use Rattle.px_world.specs.declared.fault.WorldFault.{WorldFault}
 use Rattle.px_world.specs.declared.fault.WorldFault.TheVariants.{TooMany}
 use Rattle.px_world.specs.World.{World, Mixer}
 use Rattle.px_world.specs.Admission.{LAST_FILLED, too_many, or_else, refusal_of, turn_refusal}
-use Rattle.px_world.specs.Event.{world_after, mixers_after, change_at, mixer_turned, mixer_collected, messages_taken, is_to_stop, frames_played}
+use Rattle.px_world.specs.Event.{world_after, mixers_after, change_at, mixer_stopped, mixer_played, mixer_turned, mixer_collected, messages_taken, is_to_stop, frames_played}
 use Rattle.px_world.specs.Event as world
 use Rattle.px_world.specs.Output.{world_by, AreAdmitted}
 use Rattle.px_world.specs.History.{entry_of, entries_of, played_on, history_by, played_by_run}
@@ -95,13 +95,13 @@ turned-sink : (m : Mixer) (frames : ℕ) (messages : List (Message Stream)) (b :
 turned-sink m frames messages true e =
     ap (λ x. Mixer.sink x)
     (cond-true (is_to_stop m)
-    (record m { sink = stopped_turn m.sink messages; notices = m.notices ++ stopped_notices m.sink messages })
-    (record m { sink = turned samples m.sink frames messages; notices = m.notices ++ turn_notices samples m.sink frames messages }) e)
+    (mixer_stopped m messages)
+    (mixer_played m frames messages) e)
 turned-sink m frames messages false e =
     ap (λ x. Mixer.sink x)
     (cond-false (is_to_stop m)
-    (record m { sink = stopped_turn m.sink messages; notices = m.notices ++ stopped_notices m.sink messages })
-    (record m { sink = turned samples m.sink frames messages; notices = m.notices ++ turn_notices samples m.sink frames messages }) e)
+    (mixer_stopped m messages)
+    (mixer_played m frames messages) e)
 
 turn-played : (m : Mixer) (frames : ℕ) (messages : List (Message Stream)) (b : Bool) → is_to_stop m ≡ b
     → cond (is_to_stop m) [] (played_by m.sink frames) ≡ played_of m.sink (cond b (stop messages) (turn frames messages)) ++ []

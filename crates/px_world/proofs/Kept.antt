@@ -26,7 +26,7 @@ use Rattle.px_core.specs.Step.{Step, sweep, out, stepped_by}
 use Rattle.px_core.proofs.HearingLaws.{Heard, heard_by, told_joined, untold, outs_take, steps_sinks}
 use Rattle.px_core.proofs.StepLaws.{steps_keep}
 use Rattle.px_world.specs.World.{Mixer}
-use Rattle.px_world.specs.Event.{is_to_stop, mixer_turned}
+use Rattle.px_world.specs.Event.{is_to_stop, mixer_stopped, mixer_played, mixer_turned}
 use Rattle.px_world.specs.Keeping.{IsMixerOf, AreKept}
 use Rattle.px_world.proofs.Histories.{get-set_same, get-set_other}
 
@@ -131,8 +131,8 @@ turned_is : (core after : State Stream) (k : ℕ) (s : SinkSpec) (m : Mixer) (fr
     → inputs_there after (sink_id k) ≡ inputs_left_by Stream.spec (specs_of m.sink.inputs) messages → IsMixerOf after k s (mixer_turned m frames messages)
 turned_is core after k s m frames messages h are few left =
     cond_both (is_to_stop m)
-    (record m { sink = stopped_turn m.sink messages; notices = m.notices ++ stopped_notices m.sink messages })
-    (record m { sink = turned samples m.sink frames messages; notices = m.notices ++ turn_notices samples m.sink frames messages })
+    (mixer_stopped m messages)
+    (mixer_played m frames messages)
     (IsMixerOf after k s)
     (λ e. record { spec = h.spec; kept = rounds.stop_keeps m.sink h.kept messages are; inputs = sym (shown.stop_leaves m.sink messages) ∙ sym left })
     (λ e. record { spec = h.spec; kept = rounds.turn_keeps samples m.sink h.kept frames few messages are; inputs = sym (shown.turn_leaves samples m.sink frames messages) ∙ sym left })

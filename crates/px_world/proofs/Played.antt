@@ -1,6 +1,6 @@
 -- A turn whose device was set to consume so many frames.
 use Rattle.std.proofs.Common.{◌≡◌, ℕ, ◌-◌, ◌≤◌, min, List, [], ◌++◌, Bool, true, false, Option, Some, refl, ap, sym, ◌∙◌, arith}
-use Rattle.std.specs.Prelude.{IsFalse, ◌||◌, length}
+use Rattle.std.specs.Prelude.{IsFalse, cond, ◌||◌, length}
 use Rattle.std.specs.List.{concat}
 use Rattle.std.proofs.lemmas.Bool.{cond-false}
 use Rattle.std.proofs.lemmas.List.{length-take-le}
@@ -14,7 +14,7 @@ use Rattle.px_model.specs.Turn.{turned, turn_notices, stopped_turn, stopped_noti
 use Rattle.px_lane.specs.Lane.{IsAttached}
 use Rattle.px_lane.specs.Samples.{samples}
 use Rattle.px_lane.specs.Turned.{Plays}
-use Rattle.px_world.specs.Event.{is_to_stop, mixer_turned, played_of}
+use Rattle.px_world.specs.Event.{is_to_stop, mixer_stopped, mixer_played, mixer_turned, played_of}
 use Rattle.px_world.specs.World.{Mixer}
 
 consumes : (b : Bool) (set waiting n : ℕ) → Consumes (Some (next_of b set)) waiting n → (b ≡ false) × (n ≡ min set waiting)
@@ -25,19 +25,23 @@ failing : (b : Bool) (set : ℕ) → is_failing (Some (next_of b set)) ≡ b
 failing true set = refl
 failing false set = refl
 
-neither : (a b : Bool) → IsFalse a → b ≡ false → (a || b) ≡ false
+neither : (a b : Bool) → IsFalse a → b ≡ false → (a || cond a false b) ≡ false
 neither true b h e = h
 neither false b h e = e
+
+pub unmarked : (a b : Bool) → b ≡ false → cond a false b ≡ false
+unmarked true b e = refl
+unmarked false b e = e
 
 same_some : (x y : List ℕ) → ◌≡◌ {A = Option (List ℕ)} (Some x) (Some y) → x ≡ y
 same_some x y e = cc
 
 -- what the turn leaves, where the device before it had this setting
 pub record Leaves (sink : Sink) (d d' : MemoryDevice) (frames n : ℕ) : Type 0 where
-  pub going : (sink.stopped || (d.stopping || d.failed)) ≡ false
+  pub going : (sink.stopped || cond sink.stopped false (d.stopping || d.failed)) ≡ false
   pub count : n ≡ frames
   pub bytes : d'.played ≡ concat (played_by sink frames)
-  pub quiet : (d'.stopping || d'.failed) ≡ (d.stopping || d.failed)
+  pub quiet : (d'.stopping || d'.failed) ≡ false
 
 armed : MemoryDevice → ℕ → MemoryDevice
 armed d frames = record d { armed = Some (min frames d.depth) }
@@ -54,17 +58,17 @@ leaves sink sink' d d' frames consumed n before after messages kept there taken 
       going = neither sink.stopped (d.stopping || d.failed) plays.going told.0;
       count = count;
       bytes = same_some d'.played (d.played ++ concat (played_by sink n)) plays.played ∙ ap (λ bytes. bytes ++ concat (played_by sink n)) taken ∙ ap (λ k. concat (played_by sink k)) count;
-      quiet = sym (failing (d'.stopping || d'.failed) (set_of d'.armed d'.each d'.left)) ∙ plays.steady ∙ failing (d.stopping || d.failed) (min frames d.depth);
+      quiet = sym (failing (d'.stopping || d'.failed) (set_of d'.armed d'.each d'.left)) ∙ plays.steady ∙ failing (d.stopping || d.failed) (min frames d.depth) ∙ told.0;
     }
 
 pub mixer-same : (m : Mixer) (frames : ℕ) (messages : List (Message Stream)) (sink : Sink) (notices : List (Notice Stream)) (fails : Bool) → is_to_stop m ≡ false → sink ≡ turned samples m.sink frames messages
-    → notices ≡ m.notices ++ turn_notices samples m.sink frames messages → fails ≡ m.failing
+    → notices ≡ m.notices ++ turn_notices samples m.sink frames messages → fails ≡ false
     → record { sink = sink; notices = notices; failing = fails } ≡ mixer_turned m frames messages
 mixer-same m frames messages sink notices fails going a b f =
     (λ i. record { sink = a i; notices = b i; failing = f i })
     ∙ sym (cond-false (is_to_stop m)
-    (record m { sink = stopped_turn m.sink messages; notices = m.notices ++ stopped_notices m.sink messages })
-    (record m { sink = turned samples m.sink frames messages; notices = m.notices ++ turn_notices samples m.sink frames messages }) going)
+    (mixer_stopped m messages)
+    (mixer_played m frames messages) going)
 
 pub played-same : (m : Mixer) (frames : ℕ) → is_to_stop m ≡ false → played_of (Some m) frames ≡ played_by m.sink frames
 played-same m frames going = cond-false (is_to_stop m) [] (played_by m.sink frames) going

@@ -1,7 +1,7 @@
 -- An event that is done leaves a world that stands for the world after it.
-use Rattle.std.proofs.Common.{◌≡◌, List, [], length, Some, Result, Ok, Err, refl, ap, sym, subst, ◌∙◌}
+use Rattle.std.proofs.Common.{◌≡◌, ℕ, List, [], length, Some, Result, Ok, Err, refl, ap, sym, subst, ◌∙◌}
 use Rattle.std.specs.Prelude.{OnOk}
-use Rattle.std.specs.List.{concat}
+use Rattle.std.specs.List.{concat, slice_get}
 use Rattle.px_session.specs.declared.event.Event.{Event}
 use Rattle.px_model.specs.Stream.{Stream}
 use Rattle.px_core.specs.declared.effect.Effect.{Effect}
@@ -13,9 +13,9 @@ use Rattle.px_core.specs.State.{State}
 use Rattle.px_world.specs.declared.doors.Door.{Door}
 use Rattle.px_world.specs.World.{World, Mixer}
 use Rattle.px_world.specs.Admission.{refusal_of}
-use Rattle.px_world.specs.Event.{all_steps, links_after, mixers_after, frames_played}
+use Rattle.px_world.specs.Event.{all_steps, links_after, mixers_after, change_at, frames_played}
 use Rattle.px_world.specs.Running.{Running, Open, StandsFor}
-use Rattle.px_world.specs.Doing.{Unless, Does, DoesOr, StaysOr, Plays, PlaysOr, StillOr, HasNoSound, IsSilent, Runs, RunsOr, RestsOr, Keeps}
+use Rattle.px_world.specs.Doing.{Unless, Does, Plays, HasNoSound, IsSilent, Runs, Answered, IsRefused, told_to_fail, world_stopping}
 use Rattle.px_world.specs.Keeping.{AreKept}
 use Rattle.px_world.proofs.Standing.{stands-after}
 
@@ -33,8 +33,8 @@ module _ (before after : Running) (w : World) (e : Event) (s : StandsFor before 
   }
 
   -- an event of a connection
-  pub runs-connection : (given : Result (List Effect) WorldFault) (result : Result Outcome WorldFault) → IsSilent given result → DoesOr before.core after.core after.doors w e given
-      → after.mixers ≡ before.mixers → mixers_after w e ≡ w.mixers → frames_played w e ≡ [] → RunsOr after w e result
+  pub runs-connection : (given : Result (List Effect) WorldFault) (result : Result Outcome WorldFault) → IsSilent given result → Answered given (Does before.core after.core after.doors w e) (IsRefused w e)
+      → after.mixers ≡ before.mixers → mixers_after w e ≡ w.mixers → frames_played w e ≡ [] → Answered result (Runs after w e) (IsRefused w e)
   runs-connection (Ok effects) (Ok outcome) silent d same unchanged soundless = done-connection effects outcome silent d same unchanged soundless
   runs-connection (Ok effects) (Err fault) silent d same unchanged soundless = absurd silent
   runs-connection (Err fault) (Ok outcome) silent d same unchanged soundless = absurd silent
@@ -53,7 +53,7 @@ module _ (before after : Running) (w : World) (e : Event) (s : StandsFor before 
   }
 
   -- an event of a sink
-  pub runs-sink : (result : Result Outcome WorldFault) → PlaysOr before.core after.core after.mixers w e result → after.doors ≡ before.doors → links_after w.links e ≡ w.links → RunsOr after w e result
+  pub runs-sink : (result : Result Outcome WorldFault) → Answered result (Plays before.core after.core after.mixers w e) (IsRefused w e) → after.doors ≡ before.doors → links_after w.links e ≡ w.links → Answered result (Runs after w e) (IsRefused w e)
   runs-sink (Ok outcome) p same unchanged = done-sink outcome p same unchanged
   runs-sink (Err fault) p same unchanged = p
 
@@ -84,8 +84,8 @@ module _ (before after : Running) where
   same-running core doors mixers =
       ap (λ c. made_of c after.doors after.mixers) core ∙ ap (λ d. made_of before.core d after.mixers) doors ∙ ap (λ m. made_of before.core before.doors m) mixers
 
-  pub rests-connection : (given : Result (List Effect) WorldFault) (result : Result Outcome WorldFault) → IsSilent given result → StaysOr before.core after.core before.doors after.doors given
-      → after.mixers ≡ before.mixers → RestsOr before after result
+  pub rests-connection : (given : Result (List Effect) WorldFault) (result : Result Outcome WorldFault) → IsSilent given result → Answered given (λ _. Unit {0}) (λ _. (after.core ≡ before.core) × (after.doors ≡ before.doors))
+      → after.mixers ≡ before.mixers → Answered result (λ _. Unit {0}) (λ _. after ≡ before)
   rests-connection (Ok effects) (Ok outcome) silent stays same = tt
   rests-connection (Ok effects) (Err fault) silent stays same = absurd silent
   rests-connection (Err fault) (Ok outcome) silent stays same = absurd silent
@@ -93,7 +93,7 @@ module _ (before after : Running) where
       subst (λ f. Unless f (after ≡ before)) (sym silent)
       (unless-map fault ((after.core ≡ before.core) × (after.doors ≡ before.doors)) (after ≡ before) (λ p. same-running p.0 p.1 same) stays)
 
-  pub rests-sink : (result : Result Outcome WorldFault) → StillOr before.core after.core before.mixers after.mixers result → after.doors ≡ before.doors → RestsOr before after result
+  pub rests-sink : (result : Result Outcome WorldFault) → Answered result (λ _. Unit {0}) (λ _. (after.core ≡ before.core) × (after.mixers ≡ before.mixers)) → after.doors ≡ before.doors → Answered result (λ _. Unit {0}) (λ _. after ≡ before)
   rests-sink (Ok outcome) still same = tt
   rests-sink (Err fault) still same =
       unless-map fault ((after.core ≡ before.core) × (after.mixers ≡ before.mixers)) (after ≡ before) (λ p. same-running p.0 same p.1) still
@@ -101,7 +101,7 @@ module _ (before after : Running) where
 -- ---- what is kept where there is no sound
 
 pub kept-silent : (core after : State Stream) (doors later : List Door) (mixers : List Mixer) (given : Result (List Effect) WorldFault) (result : Result Outcome WorldFault) → IsSilent given result
-    → StaysOr core after doors later given → OnOk given ((ms : List Mixer) → AreKept core ms → AreKept after ms) → AreKept core mixers → Keeps result (AreKept after mixers)
+    → Answered given (λ _. Unit {0}) (λ _. (after ≡ core) × (later ≡ doors)) → OnOk given ((ms : List Mixer) → AreKept core ms → AreKept after ms) → AreKept core mixers → Answered result (λ _. AreKept after mixers) (λ _. AreKept after mixers)
 kept-silent core after doors later mixers (Ok effects) (Ok outcome) silent stays kept h = kept mixers h
 kept-silent core after doors later mixers (Ok effects) (Err fault) silent stays kept h = absurd silent
 kept-silent core after doors later mixers (Err fault) (Ok outcome) silent stays kept h = absurd silent
@@ -109,7 +109,7 @@ kept-silent core after doors later mixers (Err fault) (Err other) silent stays k
     subst (λ f. Unless f (AreKept after mixers)) (sym silent)
     (unless-map fault ((after ≡ core) × (later ≡ doors)) (AreKept after mixers) (λ p. subst (λ t. AreKept t mixers) (sym p.0) h) stays)
 
-pub keeps-it : (result : Result Outcome WorldFault) (A : Type 0) → A → Keeps result A
+pub keeps-it : (result : Result Outcome WorldFault) (A : Type 0) → A → Answered result (λ _. A) (λ _. A)
 keeps-it (Ok outcome) A a = a
 keeps-it (Err Live) A a = a
 keeps-it (Err NotLive) A a = a
@@ -117,3 +117,13 @@ keeps-it (Err NoSink) A a = a
 keeps-it (Err Worn) A a = a
 keeps-it (Err (TooMany asked there)) A a = a
 keeps-it (Err NoMemory) A a = tt
+
+-- ---- a device that is to fail
+
+pub stops-stand : (before after : Running) (w : World) (k : ℕ) → StandsFor before w → after ≡ record before { mixers = change_at before.mixers k (slice_get before.mixers k) told_to_fail } → StandsFor after (world_stopping w k)
+stops-stand before after w k s same = subst (λ (r : Running). StandsFor r (world_stopping w k)) (sym same) (record {
+  core = s.core;
+  doors = s.doors;
+  distinct = s.distinct;
+  mixers = ap (λ (ms : List Mixer). change_at ms k (slice_get ms k) told_to_fail) s.mixers;
+})

@@ -1,6 +1,6 @@
 -- What an event does to the parts of a world that runs.
-use Rattle.std.specs.Prelude.{◌≡◌, Bool, true, false, List, [], map, None, Some, length, Result, Ok, Err}
-use Rattle.std.specs.List.{concat}
+use Rattle.std.specs.Prelude.{◌≡◌, ℕ, Bool, true, false, cond, List, [], map, None, Some, length, Result, Ok, Err}
+use Rattle.std.specs.List.{concat, slice_get}
 use Rattle.px_session.specs.declared.event.Event.{Event}
 use Rattle.px_model.specs.Stream.{Stream}
 use Rattle.px_core.specs.declared.effect.Effect.{Effect}
@@ -14,11 +14,11 @@ use Rattle.px_world.specs.declared.playing.Playing.{Playing}
 use Rattle.px_world.specs.World.{World, Mixer}
 use Rattle.px_world.specs.Playing.{mixer_of}
 use Rattle.px_world.specs.Admission.{refusal_of}
-use Rattle.px_world.specs.Event.{all_steps, links_after, mixers_after, world_after, frames_played}
+use Rattle.px_world.specs.Event.{all_steps, links_after, mixers_after, change_at, world_after, frames_played}
 use Rattle.px_world.specs.Outcome.{IsOutcome}
 use Rattle.px_world.specs.Running.{Running, Open, StandsFor}
 
--- what holds unless there was no memory
+-- a fact that holds unless there was no memory
 abbrev pub Unless : WorldFault → Type 0 → Type 0
 Unless Live fact = fact
 Unless NotLive fact = fact
@@ -26,6 +26,15 @@ Unless NoSink fact = fact
 Unless Worn fact = fact
 Unless (TooMany asked there) fact = fact
 Unless NoMemory fact = Unit {0}
+
+-- What an answer says: what was done, or why the event was refused; nothing where there was no memory.
+abbrev pub Answered : {A : Type 0} → Result A WorldFault → (A → Type 0) → (WorldFault → Type 0) → Type 0
+Answered (Ok x) done refused = done x
+Answered (Err fault) done refused = Unless fault (refused fault)
+
+-- the world doesn't admit the event, for this cause
+abbrev pub IsRefused : World → Event → WorldFault → Type 0
+IsRefused w e fault = refusal_of w e ≡ Some fault
 
 -- there was none, so what was under way is lost
 abbrev pub loses : WorldFault → Bool
@@ -49,16 +58,6 @@ pub record Does (before after : State Stream) (doors : List Door) (w : World) (e
   pub opened : Open doors (links_after w.links e)
   pub told : effects ≡ effects_by Stream.spec before (all_steps w e)
 
--- or it wasn't
-abbrev pub DoesOr : State Stream → State Stream → List Door → World → Event → Result (List Effect) WorldFault → Type 0
-DoesOr before after doors w e (Ok effects) = Does before after doors w e effects
-DoesOr before after doors w e (Err fault) = Unless fault (refusal_of w e ≡ Some fault)
-
--- where it wasn't, nothing has changed
-abbrev pub StaysOr : State Stream → State Stream → List Door → List Door → Result (List Effect) WorldFault → Type 0
-StaysOr before after doors later (Ok effects) = Unit {0}
-StaysOr before after doors later (Err fault) = Unless fault ((after ≡ before) × (later ≡ doors))
-
 -- ---- an event of a sink
 
 -- it was admitted: the core has done its steps, and the sink's mixer its part
@@ -70,19 +69,12 @@ pub record Plays (before after : State Stream) (mixers : List Mixer) (w : World)
   pub counted : outcome.frames ≡ length (frames_played w e)
   pub bytes : outcome.played ≡ concat (frames_played w e)
 
--- or it wasn't
-abbrev pub PlaysOr : State Stream → State Stream → List Mixer → World → Event → Result Outcome WorldFault → Type 0
-PlaysOr before after mixers w e (Ok outcome) = Plays before after mixers w e outcome
-PlaysOr before after mixers w e (Err fault) = Unless fault (refusal_of w e ≡ Some fault)
-
--- where it wasn't, nothing has changed
-abbrev pub StillOr : State Stream → State Stream → List Mixer → List Mixer → Result Outcome WorldFault → Type 0
-StillOr before after mixers later (Ok outcome) = Unit {0}
-StillOr before after mixers later (Err fault) = Unless fault ((after ≡ before) × (later ≡ mixers))
-
--- its device is to fail at its next turn
+-- its device is to fail at the next turn, unless the sink is stopped
 abbrev pub told_to_fail : Mixer → Mixer
-told_to_fail m = record m { failing = true }
+told_to_fail m = cond m.sink.stopped m (record m { failing = true })
+
+abbrev pub world_stopping : World → ℕ → World
+world_stopping w sink = record w { mixers = change_at w.mixers sink (slice_get w.mixers sink) told_to_fail }
 
 -- ---- an outcome with no sound
 
@@ -103,18 +95,3 @@ IsSilent (Err fault) (Err other) = other ≡ fault
 pub record Runs (after : Running) (w : World) (e : Event) (outcome : Outcome) : Type 0 where
   pub done : IsOutcome outcome w e
   pub stands : StandsFor after (world_after w e)
-
--- or it wasn't
-abbrev pub RunsOr : Running → World → Event → Result Outcome WorldFault → Type 0
-RunsOr after w e (Ok outcome) = Runs after w e outcome
-RunsOr after w e (Err fault) = Unless fault (refusal_of w e ≡ Some fault)
-
--- what holds whether it was or not, unless there was no memory
-abbrev pub Keeps : Result Outcome WorldFault → Type 0 → Type 0
-Keeps (Ok outcome) fact = fact
-Keeps (Err fault) fact = Unless fault fact
-
--- where it wasn't, nothing has changed
-abbrev pub RestsOr : Running → Running → Result Outcome WorldFault → Type 0
-RestsOr before after (Ok outcome) = Unit {0}
-RestsOr before after (Err fault) = Unless fault (after ≡ before)

@@ -1,5 +1,5 @@
 -- What an event does to a world: it is a list of steps of the core with a sweep behind them, and a turn of a sink, or none.
-use Rattle.std.specs.Prelude.{ℕ, Bool, cond, ◌||◌, List, [], ◌∷◌, ◌++◌, map, filter, not, length, take, drop, replicate, set, Option, None, Some}
+use Rattle.std.specs.Prelude.{ℕ, Bool, false, cond, ◌||◌, List, [], ◌∷◌, ◌++◌, map, filter, not, length, take, drop, replicate, set, Option, None, Some}
 use Rattle.std.specs.List.{slice_get}
 use Rattle.px_types.specs.declared.ids.ConnId.{ConnId}
 use Rattle.px_frame.specs.declared.frame.Frame.{Frame}
@@ -74,14 +74,18 @@ links_after links (Collect sink take_notices) = links
 abbrev pub messages_taken : World → ℕ → ℕ → List (Message Stream)
 messages_taken w sink n = map (message_of (λ p. p)) (take n (waiting_for w.core (record { 0 = sink })))
 
--- a turn; where the device fails, or has failed before, the sink is stopped
+-- a turn; where the device is to fail, or the sink has stopped before, the sink is stopped then
 abbrev pub is_to_stop : Mixer → Bool
 is_to_stop m = m.sink.stopped || m.failing
 
+abbrev pub mixer_stopped : Mixer → List (Message Stream) → Mixer
+mixer_stopped m messages = record { sink = stopped_turn m.sink messages; notices = m.notices ++ stopped_notices m.sink messages; failing = false }
+
+abbrev pub mixer_played : Mixer → ℕ → List (Message Stream) → Mixer
+mixer_played m frames messages = record { sink = turned samples m.sink frames messages; notices = m.notices ++ turn_notices samples m.sink frames messages; failing = false }
+
 abbrev pub mixer_turned : Mixer → ℕ → List (Message Stream) → Mixer
-mixer_turned m frames messages = cond (is_to_stop m)
-    (record m { sink = stopped_turn m.sink messages; notices = m.notices ++ stopped_notices m.sink messages })
-    (record m { sink = turned samples m.sink frames messages; notices = m.notices ++ turn_notices samples m.sink frames messages })
+mixer_turned m frames messages = cond (is_to_stop m) (mixer_stopped m messages) (mixer_played m frames messages)
 
 abbrev pub mixer_collected : Mixer → ℕ → Mixer
 mixer_collected m n = record m { notices = drop n m.notices }
@@ -100,7 +104,7 @@ mixers_after w (Collect sink n) = change_at w.mixers sink (slice_get w.mixers si
 
 -- ---- the event
 
--- how the core reads a parcel's sample spec
+-- the world that it leaves
 abbrev pub world_after : World → Event → World
 world_after w e = record {
   core = stepped_by Stream.spec w.core (all_steps w e);

@@ -1,11 +1,10 @@
 -- What a replay writes: the records of each event's effects and of the frames that it played, in order, and then the end byte.
 use Rattle.std.specs.Prelude.{◌≡◌, ℕ, cond, nat_eq, List, [], ◌∷◌, ◌++◌, length, None}
 use Rattle.std.specs.List.{concat, flat_map}
-use Rattle.std.specs.Int.{w64, to_be_bytes}
 use Rattle.px_session.specs.declared.header.Header.{Header}
 use Rattle.px_session.specs.declared.event.Event.{Event}
 use Rattle.px_session.specs.declared.event.Event.TheVariants.{Connect, Bytes, Close, Cut, Turn, Collect}
-use Rattle.px_session.specs.Spelling.{word, end_byte}
+use Rattle.px_session.specs.Output.{sent_record, closed_record, played_record, ended_output}
 use Rattle.px_core.specs.declared.effect.Effect.{Effect}
 use Rattle.px_core.specs.declared.effect.Effect.TheVariants.{Sent, Closed}
 use Rattle.px_core.specs.Effect.{reason_code}
@@ -16,17 +15,13 @@ use Rattle.px_world.specs.Event.{world_after, effects_after, frames_played}
 -- ---- records
 
 -- a frame was sent to a connection, or the server has ended one
-unfoldable pub effect_record : Effect → List ℕ
-effect_record (Sent conn packet) = 1 ∷ word conn.0 ++ word (length packet) ++ packet
-effect_record (Closed conn reason fault at) = 2 ∷ word conn.0 ++ (reason_code reason ∷ fault ∷ to_be_bytes w64 at)
-
--- a sink's device has consumed frames
-unfoldable pub played_record : ℕ → List (List ℕ) → List ℕ
-played_record sink frames = 3 ∷ sink ∷ word (length frames) ++ concat frames
+abbrev pub effect_record : Effect → List ℕ
+effect_record (Sent conn packet) = sent_record conn.0 packet
+effect_record (Closed conn reason fault at) = closed_record conn.0 (reason_code reason) fault at
 
 -- one for a turn that consumed a frame at least
 abbrev pub if_played : ℕ → List (List ℕ) → List ℕ
-if_played sink frames = cond (nat_eq (length frames) 0) [] (played_record sink frames)
+if_played sink frames = cond (nat_eq (length frames) 0) [] (played_record sink (length frames) (concat frames))
 
 abbrev pub turn_record : World → Event → List ℕ
 turn_record w (Connect conn) = []
@@ -58,4 +53,4 @@ AreAdmitted w (e ∷ events) = (refusal_of w e ≡ None) × AreAdmitted (world_a
 
 -- what a session of admitted events gives
 abbrev pub output_of : Header → List Event → List ℕ
-output_of header events = records_by (new_world header) events ++ end_byte ∷ []
+output_of header events = ended_output (records_by (new_world header) events)

@@ -1,13 +1,13 @@
 -- A sink's mixer of the code as the mixer of a world.
-use Rattle.std.specs.Prelude.{◌≡◌, ◌||◌, IsFalse, []}
+use Rattle.std.specs.Prelude.{◌≡◌, ◌||◌, false, cond, IsFalse, []}
 use Rattle.px_ends.specs.MemoryDevice.{state_of}
 use Rattle.px_lane.specs.Lane.{IsAttached}
 use Rattle.px_world.specs.declared.playing.Playing.{Playing}
 use Rattle.px_world.specs.World.{Mixer}
 
--- its device is to fail, or has failed
+-- unless the sink is stopped, its device is to fail, or has failed
 abbrev pub mixer_of : Playing → Mixer
-mixer_of p = record { sink = p.lane.sink; notices = p.notices.notices; failing = p.lane.device.stopping || p.lane.device.failed }
+mixer_of p = record { sink = p.lane.sink; notices = p.notices.notices; failing = cond p.lane.sink.stopped false (p.lane.device.stopping || p.lane.device.failed) }
 
 -- all that its device has played was taken, and while the sink isn't stopped the device plays the sink's frames
 pub record IsPlaying (p : Playing) : Type 0 where

@@ -15,7 +15,7 @@ pub record Link : Type 0 where
   pub conn : ConnId
   pub received : List ℕ
 
--- a sink with its mixer: the notices that the core hasn't taken yet, and whether its device is to fail
+-- a sink with its mixer: the notices that the core hasn't taken yet, and whether its device is to fail at the next turn, which no sink that is stopped has
 pub record Mixer : Type 0 where
   pub sink : Sink
   pub notices : List (Notice Stream)

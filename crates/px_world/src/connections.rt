@@ -9,14 +9,14 @@ ghost use Rattle.px_world.specs.World.{World, Mixer};
 ghost use Rattle.px_world.specs.Running.{is_door, Open, AreDistinct};
 ghost use Rattle.px_world.specs.Keeping.{AreKept};
 ghost use Rattle.px_world.specs.declared.doors.Door.{Door};
-ghost use Rattle.px_world.specs.Doing.{Does, DoesOr, StaysOr};
+ghost use Rattle.px_world.specs.Doing.{Does, Answered, IsRefused};
 
 use crate::WorldFault;
 use crate::doors::{Door, add, drop_at, feed, place_of};
 use crate::stepping::{WorldCore, swept, take_given};
 use px_block::Fresh;
 use px_core::{Effect, Effects};
-use px_types::{ConnId, Mem, NoMemory};
+use px_types::{ConnId, Mem};
 use std::alloc::Global;
 
 // A client connects whose number isn't named.
@@ -38,16 +38,13 @@ pub(crate) fn connect(
     alloc: Global,
     conn: ConnId,
 ) -> Result<Effects, WorldFault>
-    ensures done { (w : World) → Open doors.old.items w.links → DoesOr core.old.state core.new.state doors.new.items w (Connect conn) result }
-    ensures stays { StaysOr core.old.state core.new.state doors.old.items doors.new.items result }
+    ensures done { (w : World) → Open doors.old.items w.links → Answered result (Does core.old.state core.new.state doors.new.items w (Connect conn)) (IsRefused w (Connect conn)) }
+    ensures stays { Answered result (λ _. Unit {0}) (λ _. (core.new.state ≡ core.old.state) × (doors.new.items ≡ doors.old.items)) }
     ensures kept { OnOk result ((mixers : List Mixer) → AreKept core.old.state mixers → AreKept core.new.state mixers) }
 {
     match place_of(doors.as_slice(), conn) {
         Some(_) => Err(WorldFault::Live),
-        None => match admit(core, doors, alloc, conn) {
-            Ok(effects) => Ok(effects),
-            Err(NoMemory) => Err(WorldFault::NoMemory),
-        },
+        None => Ok(admit(core, doors, alloc, conn)?),
     }
 }
 
@@ -79,16 +76,13 @@ pub(crate) fn bytes(
     conn: ConnId,
     bytes: &[u8],
 ) -> Result<Effects, WorldFault>
-    ensures done { (w : World) → Open doors.old w.links → AreDistinct w.links → DoesOr core.old.state core.new.state doors.new w (Bytes conn bytes.now) result }
-    ensures stays { StaysOr core.old.state core.new.state doors.old doors.new result }
+    ensures done { (w : World) → Open doors.old w.links → AreDistinct w.links → Answered result (Does core.old.state core.new.state doors.new w (Bytes conn bytes.now)) (IsRefused w (Bytes conn bytes.now)) }
+    ensures stays { Answered result (λ _. Unit {0}) (λ _. (core.new.state ≡ core.old.state) × (doors.new ≡ doors.old)) }
     ensures kept { OnOk result ((mixers : List Mixer) → AreKept core.old.state mixers → AreKept core.new.state mixers) }
 {
     match place_of(doors, conn) {
         None => Err(WorldFault::NotLive),
-        Some(place) => match hear(core, doors, alloc, conn, place, bytes) {
-            Ok(effects) => Ok(effects),
-            Err(NoMemory) => Err(WorldFault::NoMemory),
-        },
+        Some(place) => Ok(hear(core, doors, alloc, conn, place, bytes)?),
     }
 }
 
@@ -118,16 +112,13 @@ pub(crate) fn close(
     alloc: Global,
     conn: ConnId,
 ) -> Result<Effects, WorldFault>
-    ensures done { (w : World) → Open doors.old.items w.links → AreDistinct w.links → DoesOr core.old.state core.new.state doors.new.items w (Close conn) result }
-    ensures stays { StaysOr core.old.state core.new.state doors.old.items doors.new.items result }
+    ensures done { (w : World) → Open doors.old.items w.links → AreDistinct w.links → Answered result (Does core.old.state core.new.state doors.new.items w (Close conn)) (IsRefused w (Close conn)) }
+    ensures stays { Answered result (λ _. Unit {0}) (λ _. (core.new.state ≡ core.old.state) × (doors.new.items ≡ doors.old.items)) }
     ensures kept { OnOk result ((mixers : List Mixer) → AreKept core.old.state mixers → AreKept core.new.state mixers) }
 {
     match place_of(doors.as_slice(), conn) {
         None => Err(WorldFault::NotLive),
-        Some(place) => match leave(core, doors, alloc, conn, place) {
-            Ok(effects) => Ok(effects),
-            Err(NoMemory) => Err(WorldFault::NoMemory),
-        },
+        Some(place) => Ok(leave(core, doors, alloc, conn, place)?),
     }
 }
 
@@ -160,15 +151,12 @@ pub(crate) fn cut(
     alloc: Global,
     conn: ConnId,
 ) -> Result<Effects, WorldFault>
-    ensures done { (w : World) → Open doors.now w.links → DoesOr core.old.state core.new.state doors.now w (Cut conn) result }
-    ensures stays { StaysOr core.old.state core.new.state doors.now doors.now result }
+    ensures done { (w : World) → Open doors.now w.links → Answered result (Does core.old.state core.new.state doors.now w (Cut conn)) (IsRefused w (Cut conn)) }
+    ensures stays { Answered result (λ _. Unit {0}) (λ _. (core.new.state ≡ core.old.state) × (doors.now ≡ doors.now)) }
     ensures kept { OnOk result ((mixers : List Mixer) → AreKept core.old.state mixers → AreKept core.new.state mixers) }
 {
     match place_of(doors, conn) {
         None => Err(WorldFault::NotLive),
-        Some(_) => match cut_off(core, alloc, conn) {
-            Ok(effects) => Ok(effects),
-            Err(NoMemory) => Err(WorldFault::NoMemory),
-        },
+        Some(_) => Ok(cut_off(core, alloc, conn)?),
     }
 }

@@ -1,5 +1,6 @@
 //! Why an event isn't done.
 
+use px_types::NoMemory;
 use thiserror::Error;
 
 /// Why an event isn't done: it names a state that the world hasn't. Own: PulseAudio records no sessions.
@@ -23,4 +24,15 @@ pub enum WorldFault {
     /// There was no memory.
     #[error("out of memory")]
     NoMemory,
+}
+
+impl From<NoMemory> for WorldFault {
+    ghost use Rattle.std.specs.Prelude.{◌≡◌};
+    ghost use Rattle.px_world.specs.declared.fault.WorldFault.TheVariants as fault;
+
+    ghost from_gives = { λ _ f. f ≡ fault.NoMemory };
+
+    fn from(_: NoMemory) -> Self {
+        WorldFault::NoMemory
+    }
 }

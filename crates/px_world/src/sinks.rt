@@ -14,7 +14,7 @@ ghost use Rattle.px_world.specs.Admission.{turn_refusal};
 ghost use Rattle.px_world.specs.Event.{mixer_turned, played_of};
 ghost use Rattle.px_world.specs.Playing.{mixer_of, IsPlaying};
 ghost use Rattle.px_world.specs.Keeping.{AreKept};
-ghost use Rattle.px_world.specs.Doing.{PlaysOr, StillOr, Keeps};
+ghost use Rattle.px_world.specs.Doing.{Answered, IsRefused, Plays};
 
 use crate::playing::Playing;
 use crate::stepping::{WorldCore, swept, take_messages, take_notices};
@@ -23,7 +23,7 @@ use px_block::Fresh;
 use px_core::Effects;
 use px_ends::Played;
 use px_lane::{MsgList, NoticeList};
-use px_types::{Mem, NoMemory, SinkId};
+use px_types::{Mem, SinkId};
 use std::alloc::Global;
 
 /// The filled count past which a sink takes no more turns: the last index of a stream.
@@ -74,10 +74,10 @@ pub(crate) fn collect(
     requires kept { AreKept core.old.state (map mixer_of mixers.old) }
     requires playing { AllByRecursion IsPlaying mixers.old }
     ensures done { (w : World) → w.core ≡ core.old.state → w.mixers ≡ map mixer_of mixers.old
-        → PlaysOr core.old.state core.new.state (map mixer_of mixers.new) w (Collect sink count) result }
-    ensures still { StillOr core.old.state core.new.state (map mixer_of mixers.old) (map mixer_of mixers.new) result }
-    ensures kept { Keeps result (AreKept core.new.state (map mixer_of mixers.new)) }
-    ensures playing { Keeps result (AllByRecursion IsPlaying mixers.new) }
+        → Answered result (Plays core.old.state core.new.state (map mixer_of mixers.new) w (Collect sink count)) (IsRefused w (Collect sink count)) }
+    ensures still { Answered result (λ _. Unit {0}) (λ _. (core.new.state ≡ core.old.state) × (map mixer_of mixers.new ≡ map mixer_of mixers.old)) }
+    ensures kept { Answered result (λ _. AreKept core.new.state (map mixer_of mixers.new)) (λ _. AreKept core.new.state (map mixer_of mixers.new)) }
+    ensures playing { Answered result (λ _. AllByRecursion IsPlaying mixers.new) (λ _. AllByRecursion IsPlaying mixers.new) }
 {
     let place = sink as usize;
     if mixers.len() <= place {
@@ -91,14 +91,12 @@ pub(crate) fn collect(
             there,
         });
     }
-    match collect_from(core, &mut mixers[place].notices, alloc, SinkId(sink), count) {
-        Ok(effects) => Ok(Outcome {
-            effects,
-            played: silence(alloc),
-            frames: 0,
-        }),
-        Err(NoMemory) => Err(WorldFault::NoMemory),
-    }
+    let effects = collect_from(core, &mut mixers[place].notices, alloc, SinkId(sink), count)?;
+    Ok(Outcome {
+        effects,
+        played: silence(alloc),
+        frames: 0,
+    })
 }
 
 // Why a mixer takes no such turn, if so many messages wait.
@@ -175,10 +173,10 @@ pub(crate) fn turn(
     requires kept { AreKept core.old.state (map mixer_of mixers.old) }
     requires playing { AllByRecursion IsPlaying mixers.old }
     ensures done { (w : World) → w.core ≡ core.old.state → w.mixers ≡ map mixer_of mixers.old
-        → PlaysOr core.old.state core.new.state (map mixer_of mixers.new) w (Turn sink frames count) result }
-    ensures still { StillOr core.old.state core.new.state (map mixer_of mixers.old) (map mixer_of mixers.new) result }
-    ensures kept { Keeps result (AreKept core.new.state (map mixer_of mixers.new)) }
-    ensures playing { Keeps result (AllByRecursion IsPlaying mixers.new) }
+        → Answered result (Plays core.old.state core.new.state (map mixer_of mixers.new) w (Turn sink frames count)) (IsRefused w (Turn sink frames count)) }
+    ensures still { Answered result (λ _. Unit {0}) (λ _. (core.new.state ≡ core.old.state) × (map mixer_of mixers.new ≡ map mixer_of mixers.old)) }
+    ensures kept { Answered result (λ _. AreKept core.new.state (map mixer_of mixers.new)) (λ _. AreKept core.new.state (map mixer_of mixers.new)) }
+    ensures playing { Answered result (λ _. AllByRecursion IsPlaying mixers.new) (λ _. AllByRecursion IsPlaying mixers.new) }
 {
     let place = sink as usize;
     if mixers.len() <= place {
@@ -187,9 +185,9 @@ pub(crate) fn turn(
     let waiting = core.outgoing(SinkId(sink));
     match turn_fault(&mixers[place], frames, count, waiting) {
         Some(fault) => Err(fault),
-        None => match turn_of(core, &mut mixers[place], alloc, SinkId(sink), frames, count) {
-            Ok(outcome) => Ok(outcome),
-            Err(NoMemory) => Err(WorldFault::NoMemory),
-        },
+        None => {
+            let outcome = turn_of(core, &mut mixers[place], alloc, SinkId(sink), frames, count)?;
+            Ok(outcome)
+        }
     }
 }

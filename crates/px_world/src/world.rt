@@ -4,7 +4,6 @@ ghost use Rattle.std.specs.Prelude.{◌≡◌, ◌≢◌, ◌<◌, List, All, le
 ghost use Rattle.std.specs.List.{AllByRecursion, slice_get};
 ghost use Rattle.px_session.specs.HeaderRules.{IsHeader, IsSink};
 ghost use Rattle.px_session.specs.declared.header.SinkSpec.{SinkSpec as Spec};
-ghost use Rattle.px_session.specs.EventRules.{IsEvent};
 ghost use Rattle.px_world.specs.World.{World as SpecWorld, new_mixer, new_world};
 ghost use Rattle.px_world.specs.Admission.{refusal_of};
 ghost use Rattle.px_world.specs.Event.{world_after, change_at};
@@ -14,7 +13,7 @@ ghost use Rattle.px_world.specs.Playing.{mixer_of, IsPlaying};
 ghost use Rattle.px_model.specs.Stream.{Stream as Plain};
 ghost use Rattle.px_core.specs.State.{State};
 ghost use Rattle.px_world.specs.Keeping.{AreKept};
-ghost use Rattle.px_world.specs.Doing.{loses, told_to_fail};
+ghost use Rattle.px_world.specs.Doing.{loses, told_to_fail, world_stopping};
 ghost use Rattle.px_world.specs.declared.fault.WorldFault.{WorldFault};
 ghost use Rattle.px_world.specs.declared.fault.WorldFault.TheVariants.{NoMemory};
 
@@ -100,7 +99,6 @@ impl World {
     /// One event. A fault other than `NoMemory` leaves the world unchanged; after `NoMemory` it isn't used again: each later event
     /// answers it too.
     pub fn event(&mut self, alloc: Global, e: Event) -> Result<Outcome, WorldFault>
-        requires { IsEvent e }
         ensures done { (w : SpecWorld) → StandsFor self.old w → IfOk result (λ outcome. IsOutcome outcome w e) }
         ensures after { (w : SpecWorld) → StandsFor self.old w → OnOk result (StandsFor self.new (world_after w e)) }
         ensures refused { (w : SpecWorld) (fault : WorldFault) → StandsFor self.old w → result ≡ Err fault → fault ≢ NoMemory → refusal_of w e ≡ Some fault }
@@ -118,12 +116,22 @@ impl World {
         }
     }
 
-    /// Makes the sink's device fail at its next turn. Takes no memory.
-    pub fn stop(&mut self, sink: SinkId)
+    // Marks the mixer of a sink whose device is to fail.
+    fn mark(&mut self, sink: SinkId)
         requires { sink.0 < length self.old.mixers }
         ensures { self.new ≡ record self.old { mixers = change_at self.old.mixers sink.0 (slice_get self.old.mixers sink.0) told_to_fail } }
     {
         stop_at(&mut self.mixers, sink.0 as usize);
+    }
+
+    /// Makes the sink's device fail at its next turn, which then stops the sink; of a sink that is stopped already nothing changes.
+    /// Takes no memory.
+    pub fn stop(&mut self, sink: SinkId)
+        requires { sink.0 < length self.old.mixers }
+        ensures after { self.new ≡ record self.old { mixers = change_at self.old.mixers sink.0 (slice_get self.old.mixers sink.0) told_to_fail } }
+        ensures stands { (w : SpecWorld) → StandsFor self.old w → StandsFor self.new (world_stopping w sink.0) }
+    {
+        self.mark(sink);
     }
 }
 

@@ -1,16 +1,20 @@
 use Rattle.std.proofs.Common.{◌≡◌, ℕ, List, OnOk, OnErr, subst}
 use Rattle.px_ends.specs.Told.{after_adding}
 use Rattle.px_ends.specs.Whole.{AddsFront}
-use Rattle.px_app.proofs.RecordLaws.{sent_is, closed_is}
+use Rattle.px_core.specs.Effect.{IsSendable}
+use Rattle.px_app.proofs.RecordLaws.{sent_is, closed_is, sendable_fits}
 use Rattle.px_app.proofs.records.write_effect_record.Goals as goal
 
-pub returns-else-bytes-gt-MOST-clause-ok : goal.returns-else-bytes-gt-MOST-clause-ok
-returns-else-bytes-gt-MOST-clause-ok g c =
+pub write_one-requires : goal.write_one-requires
+write_one-requires g c = sendable_fits c.in-Sent.conn c.in-Sent.packet c.bytes-bytes.result.now c.bytes-bytes.ensures (subst IsSendable c.in-Sent.is c.requires)
+
+pub returns-in-Sent-clause-ok : goal.returns-in-Sent-clause-ok
+returns-in-Sent-clause-ok g c =
     rw c.in-Sent.is (subst (λ (bytes : List ℕ). OnOk c.write_one.result (g.K.Sink.held c.write_one.new.output ≡ after_adding (g.K.Sink.held c.args.output.now) bytes))
     (sent_is c.in-Sent.conn c.in-Sent.packet c.bytes-bytes.result c.bytes-bytes.ensures) c.write_one.ensures.ok)
 
-pub returns-else-bytes-gt-MOST-clause-err : goal.returns-else-bytes-gt-MOST-clause-err
-returns-else-bytes-gt-MOST-clause-err g c =
+pub returns-in-Sent-clause-err : goal.returns-in-Sent-clause-err
+returns-in-Sent-clause-err g c =
     rw c.in-Sent.is (subst (λ (bytes : List ℕ). OnErr c.write_one.result (AddsFront bytes (g.K.Sink.held c.args.output.now) (g.K.Sink.held c.write_one.new.output)))
     (sent_is c.in-Sent.conn c.in-Sent.packet c.bytes-bytes.result c.bytes-bytes.ensures) c.write_one.ensures.err)
 

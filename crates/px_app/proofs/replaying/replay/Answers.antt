@@ -1,43 +1,78 @@
-use Rattle.px_app.proofs.ReportLaws.{logged, log_front}
-use Rattle.px_app.proofs.ReplayLaws.{front_of, ok_by, refused_by, read_fault_by, write_fault_by, among_by, complete_by}
+use Rattle.px_app.specs.Ends.{ends_of, log_end}
+use Rattle.px_app.proofs.ReplayLaws.{front_by, ok_by, refused_by, quiet_by, read_fault_by, line_by, write_fault_by, among_by, complete_by}
 use Rattle.px_app.proofs.replaying.replay.Goals as goal
+
+pub returns-clause-exact : goal.returns-clause-exact
+returns-clause-exact g c = record { ended = c.play-ended.result; played = c.play-ended.ensures.played; counted = c.play-ended.ensures.counted; reported = c.report.ensures }
 
 pub returns-clause-ok : goal.returns-clause-ok
 returns-clause-ok g c =
-    ok_by c.play-ended.result c.report.result (g.S.Source.left c.args.input.now) (g.S.Source.left c.play-ended.new.input) (g.K.Sink.held c.args.output.now) (g.K.Sink.held c.play-ended.new.output) (g.S.Source.faults c.args.input.now) (g.S.Source.faults c.play-ended.new.input) (g.K.Sink.faults c.args.output.now) (g.K.Sink.faults c.play-ended.new.output) (g.L.Sink.held c.args.log.now) (g.L.Sink.held c.report.new.log) (g.L.Sink.faults c.args.log.now) (g.L.Sink.faults c.report.new.log) c.play-ended.ensures.played c.play-ended.ensures.counted c.report.ensures
+    ok_by c.report.result
+    (ends_of (g.S.Source.left c.args.input.now) (g.S.Source.faults c.args.input.now) (g.K.Sink.held c.args.output.now) (g.K.Sink.faults c.args.output.now))
+    (ends_of (g.S.Source.left c.play-ended.new.input) (g.S.Source.faults c.play-ended.new.input) (g.K.Sink.held c.play-ended.new.output) (g.K.Sink.faults c.play-ended.new.output))
+    (log_end (g.L.Sink.held c.args.log.now) (g.L.Sink.faults c.args.log.now)) (log_end (g.L.Sink.held c.report.new.log) (g.L.Sink.faults c.report.new.log))
+    (record { ended = c.play-ended.result; played = c.play-ended.ensures.played; counted = c.play-ended.ensures.counted; reported = c.report.ensures })
 
 pub returns-clause-refused : goal.returns-clause-refused
 returns-clause-refused g c =
-    refused_by c.play-ended.result c.report.result (g.S.Source.left c.args.input.now) (g.S.Source.left c.play-ended.new.input) (g.K.Sink.held c.args.output.now) (g.K.Sink.held c.play-ended.new.output) (g.S.Source.faults c.args.input.now) (g.S.Source.faults c.play-ended.new.input) (g.K.Sink.faults c.args.output.now) (g.K.Sink.faults c.play-ended.new.output) (g.L.Sink.held c.args.log.now) (g.L.Sink.held c.report.new.log) (g.L.Sink.faults c.args.log.now) (g.L.Sink.faults c.report.new.log) c.play-ended.ensures.played c.play-ended.ensures.counted c.report.ensures
+    refused_by c.report.result
+    (ends_of (g.S.Source.left c.args.input.now) (g.S.Source.faults c.args.input.now) (g.K.Sink.held c.args.output.now) (g.K.Sink.faults c.args.output.now))
+    (ends_of (g.S.Source.left c.play-ended.new.input) (g.S.Source.faults c.play-ended.new.input) (g.K.Sink.held c.play-ended.new.output) (g.K.Sink.faults c.play-ended.new.output))
+    (log_end (g.L.Sink.held c.args.log.now) (g.L.Sink.faults c.args.log.now)) (log_end (g.L.Sink.held c.report.new.log) (g.L.Sink.faults c.report.new.log))
+    (record { ended = c.play-ended.result; played = c.play-ended.ensures.played; counted = c.play-ended.ensures.counted; reported = c.report.ensures })
 
-pub returns-clause-memory : goal.returns-clause-memory
-returns-clause-memory g c =
-    λ is. (front_of c.play-ended.result (g.S.Source.left c.args.input.now) (g.S.Source.left c.play-ended.new.input) (g.K.Sink.held c.args.output.now) (g.K.Sink.held c.play-ended.new.output) c.play-ended.ensures.played)
+pub returns-clause-front : goal.returns-clause-front
+returns-clause-front g c =
+    front_by c.report.result
+    (ends_of (g.S.Source.left c.args.input.now) (g.S.Source.faults c.args.input.now) (g.K.Sink.held c.args.output.now) (g.K.Sink.faults c.args.output.now))
+    (ends_of (g.S.Source.left c.play-ended.new.input) (g.S.Source.faults c.play-ended.new.input) (g.K.Sink.held c.play-ended.new.output) (g.K.Sink.faults c.play-ended.new.output))
+    (log_end (g.L.Sink.held c.args.log.now) (g.L.Sink.faults c.args.log.now)) (log_end (g.L.Sink.held c.report.new.log) (g.L.Sink.faults c.report.new.log))
+    (record { ended = c.play-ended.result; played = c.play-ended.ensures.played; counted = c.play-ended.ensures.counted; reported = c.report.ensures })
+
+pub returns-clause-quiet : goal.returns-clause-quiet
+returns-clause-quiet g c =
+    quiet_by c.report.result
+    (ends_of (g.S.Source.left c.args.input.now) (g.S.Source.faults c.args.input.now) (g.K.Sink.held c.args.output.now) (g.K.Sink.faults c.args.output.now))
+    (ends_of (g.S.Source.left c.play-ended.new.input) (g.S.Source.faults c.play-ended.new.input) (g.K.Sink.held c.play-ended.new.output) (g.K.Sink.faults c.play-ended.new.output))
+    (log_end (g.L.Sink.held c.args.log.now) (g.L.Sink.faults c.args.log.now)) (log_end (g.L.Sink.held c.report.new.log) (g.L.Sink.faults c.report.new.log))
+    (record { ended = c.play-ended.result; played = c.play-ended.ensures.played; counted = c.play-ended.ensures.counted; reported = c.report.ensures })
 
 pub returns-clause-read_fault : goal.returns-clause-read_fault
 returns-clause-read_fault g c =
-    λ is. (read_fault_by c.play-ended.result c.report.result (g.S.Source.left c.args.input.now) (g.S.Source.left c.play-ended.new.input) (g.K.Sink.held c.args.output.now) (g.K.Sink.held c.play-ended.new.output) (g.S.Source.faults c.args.input.now) (g.S.Source.faults c.play-ended.new.input) (g.K.Sink.faults c.args.output.now) (g.K.Sink.faults c.play-ended.new.output) (g.L.Sink.held c.args.log.now) (g.L.Sink.held c.report.new.log) (g.L.Sink.faults c.args.log.now) (g.L.Sink.faults c.report.new.log) c.play-ended.ensures.played c.play-ended.ensures.counted c.report.ensures is, (front_of c.play-ended.result (g.S.Source.left c.args.input.now) (g.S.Source.left c.play-ended.new.input) (g.K.Sink.held c.args.output.now) (g.K.Sink.held c.play-ended.new.output) c.play-ended.ensures.played))
+    read_fault_by c.report.result
+    (ends_of (g.S.Source.left c.args.input.now) (g.S.Source.faults c.args.input.now) (g.K.Sink.held c.args.output.now) (g.K.Sink.faults c.args.output.now))
+    (ends_of (g.S.Source.left c.play-ended.new.input) (g.S.Source.faults c.play-ended.new.input) (g.K.Sink.held c.play-ended.new.output) (g.K.Sink.faults c.play-ended.new.output))
+    (log_end (g.L.Sink.held c.args.log.now) (g.L.Sink.faults c.args.log.now)) (log_end (g.L.Sink.held c.report.new.log) (g.L.Sink.faults c.report.new.log))
+    (record { ended = c.play-ended.result; played = c.play-ended.ensures.played; counted = c.play-ended.ensures.counted; reported = c.report.ensures })
+
+pub returns-clause-line : goal.returns-clause-line
+returns-clause-line g c =
+    line_by c.report.result
+    (ends_of (g.S.Source.left c.args.input.now) (g.S.Source.faults c.args.input.now) (g.K.Sink.held c.args.output.now) (g.K.Sink.faults c.args.output.now))
+    (ends_of (g.S.Source.left c.play-ended.new.input) (g.S.Source.faults c.play-ended.new.input) (g.K.Sink.held c.play-ended.new.output) (g.K.Sink.faults c.play-ended.new.output))
+    (log_end (g.L.Sink.held c.args.log.now) (g.L.Sink.faults c.args.log.now)) (log_end (g.L.Sink.held c.report.new.log) (g.L.Sink.faults c.report.new.log))
+    (record { ended = c.play-ended.result; played = c.play-ended.ensures.played; counted = c.play-ended.ensures.counted; reported = c.report.ensures })
 
 pub returns-clause-write_fault : goal.returns-clause-write_fault
 returns-clause-write_fault g c =
-    write_fault_by c.play-ended.result c.report.result (g.S.Source.left c.args.input.now) (g.S.Source.left c.play-ended.new.input) (g.K.Sink.held c.args.output.now) (g.K.Sink.held c.play-ended.new.output) (g.S.Source.faults c.args.input.now) (g.S.Source.faults c.play-ended.new.input) (g.K.Sink.faults c.args.output.now) (g.K.Sink.faults c.play-ended.new.output) (g.L.Sink.held c.args.log.now) (g.L.Sink.held c.report.new.log) (g.L.Sink.faults c.args.log.now) (g.L.Sink.faults c.report.new.log) c.play-ended.ensures.played c.play-ended.ensures.counted c.report.ensures
-
-pub returns-clause-written : goal.returns-clause-written
-returns-clause-written g c =
-    λ is. (front_of c.play-ended.result (g.S.Source.left c.args.input.now) (g.S.Source.left c.play-ended.new.input) (g.K.Sink.held c.args.output.now) (g.K.Sink.held c.play-ended.new.output) c.play-ended.ensures.played)
-
-pub returns-clause-logged : goal.returns-clause-logged
-returns-clause-logged g c =
-    logged c.play-ended.result c.report.result (g.L.Sink.held c.args.log.now) (g.L.Sink.held c.report.new.log) (g.L.Sink.faults c.args.log.now) (g.L.Sink.faults c.report.new.log) c.report.ensures
-
-pub returns-clause-log_front : goal.returns-clause-log_front
-returns-clause-log_front g c =
-    λ is. log_front c.play-ended.result c.report.result (g.L.Sink.held c.args.log.now) (g.L.Sink.held c.report.new.log) (g.L.Sink.faults c.args.log.now) (g.L.Sink.faults c.report.new.log) c.report.ensures
+    write_fault_by c.report.result
+    (ends_of (g.S.Source.left c.args.input.now) (g.S.Source.faults c.args.input.now) (g.K.Sink.held c.args.output.now) (g.K.Sink.faults c.args.output.now))
+    (ends_of (g.S.Source.left c.play-ended.new.input) (g.S.Source.faults c.play-ended.new.input) (g.K.Sink.held c.play-ended.new.output) (g.K.Sink.faults c.play-ended.new.output))
+    (log_end (g.L.Sink.held c.args.log.now) (g.L.Sink.faults c.args.log.now)) (log_end (g.L.Sink.held c.report.new.log) (g.L.Sink.faults c.report.new.log))
+    (record { ended = c.play-ended.result; played = c.play-ended.ensures.played; counted = c.play-ended.ensures.counted; reported = c.report.ensures })
 
 pub returns-clause-others : goal.returns-clause-others
 returns-clause-others g c =
-    among_by c.play-ended.result c.report.result (g.S.Source.left c.args.input.now) (g.S.Source.left c.play-ended.new.input) (g.K.Sink.held c.args.output.now) (g.K.Sink.held c.play-ended.new.output) (g.S.Source.faults c.args.input.now) (g.S.Source.faults c.play-ended.new.input) (g.K.Sink.faults c.args.output.now) (g.K.Sink.faults c.play-ended.new.output) (g.L.Sink.held c.args.log.now) (g.L.Sink.held c.report.new.log) (g.L.Sink.faults c.args.log.now) (g.L.Sink.faults c.report.new.log) c.play-ended.ensures.played c.play-ended.ensures.counted c.report.ensures
+    among_by c.report.result
+    (ends_of (g.S.Source.left c.args.input.now) (g.S.Source.faults c.args.input.now) (g.K.Sink.held c.args.output.now) (g.K.Sink.faults c.args.output.now))
+    (ends_of (g.S.Source.left c.play-ended.new.input) (g.S.Source.faults c.play-ended.new.input) (g.K.Sink.held c.play-ended.new.output) (g.K.Sink.faults c.play-ended.new.output))
+    (log_end (g.L.Sink.held c.args.log.now) (g.L.Sink.faults c.args.log.now)) (log_end (g.L.Sink.held c.report.new.log) (g.L.Sink.faults c.report.new.log))
+    (record { ended = c.play-ended.result; played = c.play-ended.ensures.played; counted = c.play-ended.ensures.counted; reported = c.report.ensures })
 
 pub returns-clause-complete : goal.returns-clause-complete
 returns-clause-complete g c =
-    complete_by c.play-ended.result c.report.result (g.S.Source.left c.args.input.now) (g.S.Source.left c.play-ended.new.input) (g.K.Sink.held c.args.output.now) (g.K.Sink.held c.play-ended.new.output) (g.S.Source.faults c.args.input.now) (g.S.Source.faults c.play-ended.new.input) (g.K.Sink.faults c.args.output.now) (g.K.Sink.faults c.play-ended.new.output) (g.L.Sink.held c.args.log.now) (g.L.Sink.held c.report.new.log) (g.L.Sink.faults c.args.log.now) (g.L.Sink.faults c.report.new.log) c.play-ended.ensures.played c.play-ended.ensures.counted c.report.ensures
+    complete_by c.report.result
+    (ends_of (g.S.Source.left c.args.input.now) (g.S.Source.faults c.args.input.now) (g.K.Sink.held c.args.output.now) (g.K.Sink.faults c.args.output.now))
+    (ends_of (g.S.Source.left c.play-ended.new.input) (g.S.Source.faults c.play-ended.new.input) (g.K.Sink.held c.play-ended.new.output) (g.K.Sink.faults c.play-ended.new.output))
+    (log_end (g.L.Sink.held c.args.log.now) (g.L.Sink.faults c.args.log.now)) (log_end (g.L.Sink.held c.report.new.log) (g.L.Sink.faults c.report.new.log))
+    (record { ended = c.play-ended.result; played = c.play-ended.ensures.played; counted = c.play-ended.ensures.counted; reported = c.report.ensures })

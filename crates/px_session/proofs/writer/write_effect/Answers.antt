@@ -1,6 +1,6 @@
-use Rattle.px_session.specs.Spelling.{record_of}
+use Rattle.px_session.specs.Output.{closed_record}
 use Rattle.px_session.proofs.writer.write_effect.Goals as goal
 
 pub returns-in-Closed-clause-ok : goal.returns-in-Closed-clause-ok
-unfolding record_of
+unfolding closed_record
 returns-in-Closed-clause-ok g c = rw (c.in-Closed.is) (rw (c.to_be_bytes-in-Closed.ensures, c.to_be_bytes-in-Closed-2.ensures) at c.write_pieces-in-Closed.ensures.ok)

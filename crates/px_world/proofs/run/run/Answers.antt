@@ -7,13 +7,13 @@ use Rattle.px_world.specs.declared.doors.Door.{Door}
 use Rattle.px_world.specs.declared.playing.Playing.{Playing}
 use Rattle.px_world.specs.Playing.{mixer_of}
 use Rattle.px_world.specs.Running.{Open}
-use Rattle.px_world.specs.Doing.{RunsOr, DoesOr, PlaysOr, running_of}
+use Rattle.px_world.specs.Doing.{running_of, Answered, IsRefused, Does, Plays, Runs}
 use Rattle.px_world.proofs.Standings.{runs-connection, runs-sink, kept-silent, keeps-it}
 use Rattle.px_world.proofs.run.run.Goals as goal
 
 pub returns-in-Connect-clause-done : goal.returns-in-Connect-clause-done
 returns-in-Connect-clause-done c = λ w s.
-    subst (λ (e : Event). RunsOr (running_of c.connect.new.core.state c.connect.new.doors.items c.args.mixers.now.items) w e c.silent.result) (sym c.in-Connect.is)
+    subst (λ (e : Event). Answered c.silent.result (Runs (running_of c.connect.new.core.state c.connect.new.doors.items c.args.mixers.now.items) w e) (IsRefused w e)) (sym c.in-Connect.is)
     (runs-connection (running_of c.args.core.now.state c.args.doors.now.items c.args.mixers.now.items) (running_of c.connect.new.core.state c.connect.new.doors.items c.args.mixers.now.items)
     w (Connect c.in-Connect.conn) s c.connect.result c.silent.result c.silent.ensures (c.connect.ensures.done w s.doors) refl refl refl)
 
@@ -21,29 +21,29 @@ pub returns-in-Bytes-clause-done : goal.returns-in-Bytes-clause-done
 returns-in-Bytes-clause-done c = λ w s.
     let whole : length c.bytes.new.doors ≡ c.args.doors.now.len = search (arith, c.bytes.auto.doors, c.deref_mut.ensures.len, c.deref_mut.ensures.value) in
     let same : c.as_slice.result.now ≡ c.in-Bytes.text = search (c.as_slice.ensures) in
-    subst (λ (e : Event). RunsOr (running_of c.bytes.new.core.state (with_items c.args.doors.now c.bytes.new.doors).items c.args.mixers.now.items) w e c.silent-in-Bytes.result) (sym c.in-Bytes.is)
+    subst (λ (e : Event). Answered c.silent-in-Bytes.result (Runs (running_of c.bytes.new.core.state (with_items c.args.doors.now c.bytes.new.doors).items c.args.mixers.now.items) w e) (IsRefused w e)) (sym c.in-Bytes.is)
     (runs-connection (running_of c.args.core.now.state c.args.doors.now.items c.args.mixers.now.items)
     (running_of c.bytes.new.core.state (with_items c.args.doors.now c.bytes.new.doors).items c.args.mixers.now.items)
     w (Bytes c.in-Bytes.conn c.in-Bytes.text) s c.bytes.result c.silent-in-Bytes.result c.silent-in-Bytes.ensures
-    (subst (λ (ds : List Door). DoesOr c.args.core.now.state c.bytes.new.core.state ds w (Bytes c.in-Bytes.conn c.in-Bytes.text) c.bytes.result) (sym (with_items_is c.args.doors.now c.bytes.new.doors whole))
-    (subst (λ (t : List ℕ). DoesOr c.args.core.now.state c.bytes.new.core.state c.bytes.new.doors w (Bytes c.in-Bytes.conn t) c.bytes.result) same
+    (subst (λ (ds : List Door). Answered c.bytes.result (Does c.args.core.now.state c.bytes.new.core.state ds w (Bytes c.in-Bytes.conn c.in-Bytes.text)) (IsRefused w (Bytes c.in-Bytes.conn c.in-Bytes.text))) (sym (with_items_is c.args.doors.now c.bytes.new.doors whole))
+    (subst (λ (t : List ℕ). Answered c.bytes.result (Does c.args.core.now.state c.bytes.new.core.state c.bytes.new.doors w (Bytes c.in-Bytes.conn t)) (IsRefused w (Bytes c.in-Bytes.conn t))) same
     (c.bytes.ensures.done w (subst (λ (ds : List Door). Open ds w.links) (sym c.deref_mut.ensures.value) s.doors) s.distinct)))
     refl refl refl)
 
 pub returns-in-Close-clause-done : goal.returns-in-Close-clause-done
 returns-in-Close-clause-done c = λ w s.
-    subst (λ (e : Event). RunsOr (running_of c.close.new.core.state c.close.new.doors.items c.args.mixers.now.items) w e c.silent-in-Close.result) (sym c.in-Close.is)
+    subst (λ (e : Event). Answered c.silent-in-Close.result (Runs (running_of c.close.new.core.state c.close.new.doors.items c.args.mixers.now.items) w e) (IsRefused w e)) (sym c.in-Close.is)
     (runs-connection (running_of c.args.core.now.state c.args.doors.now.items c.args.mixers.now.items) (running_of c.close.new.core.state c.close.new.doors.items c.args.mixers.now.items)
     w (Close c.in-Close.conn) s c.close.result c.silent-in-Close.result c.silent-in-Close.ensures (c.close.ensures.done w s.doors s.distinct) refl refl refl)
 
 pub returns-in-Turn-clause-done : goal.returns-in-Turn-clause-done
 returns-in-Turn-clause-done c = λ w s.
     let whole : length c.turn.new.mixers ≡ c.args.mixers.now.len = search (arith, c.turn.auto.mixers, c.deref_mut-in-Turn.ensures.len, c.deref_mut-in-Turn.ensures.value) in
-    subst (λ (e : Event). RunsOr (running_of c.turn.new.core.state c.args.doors.now.items (with_items c.args.mixers.now c.turn.new.mixers).items) w e c.turn.result) (sym c.in-Turn.is)
+    subst (λ (e : Event). Answered c.turn.result (Runs (running_of c.turn.new.core.state c.args.doors.now.items (with_items c.args.mixers.now c.turn.new.mixers).items) w e) (IsRefused w e)) (sym c.in-Turn.is)
     (runs-sink (running_of c.args.core.now.state c.args.doors.now.items c.args.mixers.now.items)
     (running_of c.turn.new.core.state c.args.doors.now.items (with_items c.args.mixers.now c.turn.new.mixers).items)
     w (Turn c.in-Turn.sink c.in-Turn.frames c.in-Turn.take) s c.turn.result
-    (subst (λ (ps : List Playing). PlaysOr c.args.core.now.state c.turn.new.core.state (map mixer_of ps) w (Turn c.in-Turn.sink c.in-Turn.frames c.in-Turn.take) c.turn.result)
+    (subst (λ (ps : List Playing). Answered c.turn.result (Plays c.args.core.now.state c.turn.new.core.state (map mixer_of ps) w (Turn c.in-Turn.sink c.in-Turn.frames c.in-Turn.take)) (IsRefused w (Turn c.in-Turn.sink c.in-Turn.frames c.in-Turn.take)))
     (sym (with_items_is c.args.mixers.now c.turn.new.mixers whole))
     (c.turn.ensures.done w (sym s.core) (sym s.mixers ∙ ap (λ (ps : List Playing). map mixer_of ps) (sym c.deref_mut-in-Turn.ensures.value))))
     refl refl)
@@ -51,11 +51,11 @@ returns-in-Turn-clause-done c = λ w s.
 pub returns-in-Collect-clause-done : goal.returns-in-Collect-clause-done
 returns-in-Collect-clause-done c = λ w s.
     let whole : length c.collect.new.mixers ≡ c.args.mixers.now.len = search (arith, c.collect.auto.mixers, c.deref_mut-in-Collect.ensures.len, c.deref_mut-in-Collect.ensures.value) in
-    subst (λ (e : Event). RunsOr (running_of c.collect.new.core.state c.args.doors.now.items (with_items c.args.mixers.now c.collect.new.mixers).items) w e c.collect.result) (sym c.in-Collect.is)
+    subst (λ (e : Event). Answered c.collect.result (Runs (running_of c.collect.new.core.state c.args.doors.now.items (with_items c.args.mixers.now c.collect.new.mixers).items) w e) (IsRefused w e)) (sym c.in-Collect.is)
     (runs-sink (running_of c.args.core.now.state c.args.doors.now.items c.args.mixers.now.items)
     (running_of c.collect.new.core.state c.args.doors.now.items (with_items c.args.mixers.now c.collect.new.mixers).items)
     w (Collect c.in-Collect.sink c.in-Collect.take) s c.collect.result
-    (subst (λ (ps : List Playing). PlaysOr c.args.core.now.state c.collect.new.core.state (map mixer_of ps) w (Collect c.in-Collect.sink c.in-Collect.take) c.collect.result)
+    (subst (λ (ps : List Playing). Answered c.collect.result (Plays c.args.core.now.state c.collect.new.core.state (map mixer_of ps) w (Collect c.in-Collect.sink c.in-Collect.take)) (IsRefused w (Collect c.in-Collect.sink c.in-Collect.take)))
     (sym (with_items_is c.args.mixers.now c.collect.new.mixers whole))
     (c.collect.ensures.done w (sym s.core) (sym s.mixers ∙ ap (λ (ps : List Playing). map mixer_of ps) (sym c.deref_mut-in-Collect.ensures.value))))
     refl refl)

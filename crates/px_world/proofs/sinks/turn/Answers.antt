@@ -52,27 +52,27 @@ returns-in-Some-clause-done c = λ w same_core same_mixers.
 pub returns-in-Some-clause-still : goal.returns-in-Some-clause-still
 returns-in-Some-clause-still c = unless-it c.in-Some.fault _ (refl, refl)
 
-pub returns-in-Ok-clause-done : goal.returns-in-Ok-clause-done
-returns-in-Ok-clause-done c = λ w same_core same_mixers.
+pub returns-in_ok-outcome-in-None-clause-done : goal.returns-in_ok-outcome-in-None-clause-done
+returns-in_ok-outcome-in-None-clause-done c = λ w same_core same_mixers.
     let within : c.args.sink < length c.args.mixers.now = omega (arith, c.if-mixers-place.false) in
     plays w c.args.core.now.state _ same_core same_mixers c.args.sink (mixer_of (get_or c.args.mixers.now c.args.sink c.index-mixers-place-in-None.result))
-    (seen-at mixer_of c.args.mixers.now c.args.sink c.index-mixers-place-in-None.result within) c.turn_of.new.core.state _ c.args.frames c.args.count c.in-Ok.outcome
+    (seen-at mixer_of c.args.mixers.now c.args.sink c.index-mixers-place-in-None.result within) c.turn_of.new.core.state _ c.args.frames c.args.count c.in_ok-outcome-in-None.outcome
     (goes-on mixer_of c.args.mixers.now c.args.sink c.index-mixers-place.result c.index-mixers-place-in-None.result within c.args.core.now.state c.args.frames c.args.count _ c.outgoing-waiting.ensures c.in-None.ensures)
-    c.in-Ok.ensures.core
+    c.in_ok-outcome-in-None.ensures.core
     (changed-at mixer_of c.args.mixers.now c.args.sink c.index-mixers-place-in-None.result within c.turn_of.new.playing
-    (λ x. mixer_turned x c.args.frames (map (message_of (λ p. p)) (take c.args.count (waiting_for c.args.core.now.state (record { 0 = c.args.sink }))))) c.in-Ok.ensures.mixer)
-    c.in-Ok.ensures.effects c.in-Ok.ensures.frames c.in-Ok.ensures.played
+    (λ x. mixer_turned x c.args.frames (map (message_of (λ p. p)) (take c.args.count (waiting_for c.args.core.now.state (record { 0 = c.args.sink }))))) c.in_ok-outcome-in-None.ensures.mixer)
+    c.in_ok-outcome-in-None.ensures.effects c.in_ok-outcome-in-None.ensures.frames c.in_ok-outcome-in-None.ensures.played
 
-pub returns-in-Ok-clause-kept : goal.returns-in-Ok-clause-kept
-returns-in-Ok-clause-kept c =
+pub returns-in_ok-outcome-in-None-clause-kept : goal.returns-in_ok-outcome-in-None-clause-kept
+returns-in_ok-outcome-in-None-clause-kept c =
     let within : c.args.sink < length c.args.mixers.now = omega (arith, c.if-mixers-place.false) in
     turned-kept mixer_of c.args.mixers.now c.args.sink c.index-mixers-place-in-None.result within c.args.core.now.state c.requires.kept c.turn_of.new.core.state c.args.frames c.args.count c.turn_of.new.playing
     (goes-there (mixer_of (get_or c.args.mixers.now c.args.sink c.index-mixers-place-in-None.result)) c.args.frames c.args.count (length (waiting_for c.args.core.now.state (record { 0 = c.args.sink })))
     (goes-on mixer_of c.args.mixers.now c.args.sink c.index-mixers-place.result c.index-mixers-place-in-None.result within c.args.core.now.state c.args.frames c.args.count _ c.outgoing-waiting.ensures c.in-None.ensures))
-    c.in-Ok.ensures.mixer c.in-Ok.ensures.core
+    c.in_ok-outcome-in-None.ensures.mixer c.in_ok-outcome-in-None.ensures.core
 
-pub returns-in-Ok-clause-playing : goal.returns-in-Ok-clause-playing
-returns-in-Ok-clause-playing c = each-set IsPlaying c.args.mixers.now c.args.sink c.turn_of.new.playing c.requires.playing c.in-Ok.ensures.playing
+pub returns-in_ok-outcome-in-None-clause-playing : goal.returns-in_ok-outcome-in-None-clause-playing
+returns-in_ok-outcome-in-None-clause-playing c = each-set IsPlaying c.args.mixers.now c.args.sink c.turn_of.new.playing c.requires.playing c.in_ok-outcome-in-None.ensures.playing
 
 pub returns-in-Some-clause-kept : goal.returns-in-Some-clause-kept
 returns-in-Some-clause-kept c = unless-it c.in-Some.fault _ c.requires.kept

@@ -1,11 +1,13 @@
-use Rattle.std.proofs.Common.{◌≡◌, ◌^◌, ◌-◌, ℕ, List, Option, true}
+use Rattle.std.proofs.Common.{◌≡◌, ◌^◌, ◌-◌, true}
+use Rattle.px_app.specs.Ends.{Ends, ends_of, AreQuiet}
 use Rattle.px_app.specs.Step.{Reached}
 use Rattle.px_app.proofs.playing.Playing.run.Given as goal
 
 -- what was reached at first has gone on, and no read or write has failed
 abbrev pub invariant-loop-ended : goal.invariant-loop-ended
 invariant-loop-ended g l = record {
-  reached : (left held : Option (List ℕ)) → Reached l.fn.self left (g.S.Source.left l.fn.input) held (g.K.Sink.held l.fn.output) → Reached l.self left (g.S.Source.left l.input) held (g.K.Sink.held l.output);
+  reached : (first : Ends) → Reached l.fn.self first (ends_of (g.S.Source.left l.fn.input) (g.S.Source.faults l.fn.input) (g.K.Sink.held l.fn.output) (g.K.Sink.faults l.fn.output))
+      → Reached l.self first (ends_of (g.S.Source.left l.input) (g.S.Source.faults l.input) (g.K.Sink.held l.output) (g.K.Sink.faults l.output));
   begun : l.self.reader.begun ≡ true;
   read : g.S.Source.faults l.input ≡ g.S.Source.faults l.fn.input;
   written : g.K.Sink.faults l.output ≡ g.K.Sink.faults l.fn.output;

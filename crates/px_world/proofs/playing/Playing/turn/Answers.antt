@@ -1,4 +1,4 @@
-use Rattle.std.proofs.Common.{◌≡◌, ℕ, List, length, min, ap, sym, subst, ◌∙◌}
+use Rattle.std.proofs.Common.{◌≡◌, ℕ, List, length, min, false, cond, ap, sym, subst, ◌∙◌}
 use Rattle.std.specs.Prelude.{◌||◌, ◌++◌, Some}
 use Rattle.std.specs.List.{concat}
 use Rattle.px_ends.specs.MemoryDevice.{MemoryDevice, state_of}
@@ -7,7 +7,7 @@ use Rattle.px_lane.specs.Samples.{samples}
 use Rattle.px_lane.specs.Turned.{Turns}
 use Rattle.px_lane.specs.declared.lane.Turned.{Turned}
 use Rattle.px_world.specs.Playing.{mixer_of}
-use Rattle.px_world.proofs.Played.{Leaves, leaves, mixer-same, played-same, played-count}
+use Rattle.px_world.proofs.Played.{Leaves, leaves, unmarked, mixer-same, played-same, played-count}
 use Rattle.px_world.proofs.playing.Playing.turn.Goals as goal
 
 armed_is : (c : goal.In-Played) → c.arm.new.self ≡ record c.args.self.now.lane.device { armed = Some (min c.args.frames c.args.self.now.lane.device.depth) }
@@ -29,13 +29,14 @@ left c =
 pub returns-in-Played-clause-mixer : goal.returns-in-Played-clause-mixer
 returns-in-Played-clause-mixer c =
     let it = left c in
-    let device : c.take_played.new.self.stopping || c.take_played.new.self.failed ≡ c.turn.new.self.device.stopping || c.turn.new.self.device.failed =
+    let fails = c.take_played.new.self.stopping || c.take_played.new.self.failed in
+    let device : fails ≡ c.turn.new.self.device.stopping || c.turn.new.self.device.failed =
     ap (λ (d : MemoryDevice). d.stopping || d.failed) c.in_ok-bytes.ensures.after ∙ ap (λ (d : MemoryDevice). d.stopping || d.failed) c.device_mut-2.ensures.value in
-    mixer-same (mixer_of c.args.self.now) c.args.frames c.args.messages.now c.turn.new.self.sink c.turn.new.out.notices (c.take_played.new.self.stopping || c.take_played.new.self.failed)
+    mixer-same (mixer_of c.args.self.now) c.args.frames c.args.messages.now c.turn.new.self.sink c.turn.new.out.notices (cond c.turn.new.self.sink.stopped false fails)
     it.going
     ((turns c).0.sink ∙ ap (λ (n : ℕ). after samples c.args.self.now.lane.sink n c.args.messages.now) it.count)
     ((turns c).1 ∙ ap (λ (n : ℕ). c.args.self.now.notices.notices ++ turn_notices samples c.args.self.now.lane.sink n c.args.messages.now) it.count)
-    (device ∙ it.quiet)
+    (unmarked c.turn.new.self.sink.stopped fails (device ∙ it.quiet))
 
 pub returns-in-Played-clause-frames : goal.returns-in-Played-clause-frames
 returns-in-Played-clause-frames c =

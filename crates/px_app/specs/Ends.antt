@@ -1,0 +1,27 @@
+-- The ends of the outside that a run has, as their traits tell of them: bytes, where they are told, and how many calls have failed.
+use Rattle.std.specs.Prelude.{◌≡◌, ℕ, List, Option}
+
+-- the input and the output
+pub record Ends : Type 0 where
+  -- what the input has left
+  pub left : Option (List ℕ)
+  pub read_faults : ℕ
+  -- what the output holds
+  pub held : Option (List ℕ)
+  pub write_faults : ℕ
+
+-- the log
+pub record Log : Type 0 where
+  -- what it holds
+  pub held : Option (List ℕ)
+  pub faults : ℕ
+
+abbrev pub ends_of : Option (List ℕ) → ℕ → Option (List ℕ) → ℕ → Ends
+ends_of left read_faults held write_faults = record { left = left; read_faults = read_faults; held = held; write_faults = write_faults }
+
+abbrev pub log_end : Option (List ℕ) → ℕ → Log
+log_end held faults = record { held = held; faults = faults }
+
+-- no read and no write has failed
+abbrev pub AreQuiet : Ends → Ends → Type 0
+AreQuiet before after = (after.read_faults ≡ before.read_faults) × (after.write_faults ≡ before.write_faults)
