@@ -1,0 +1,3 @@
+mod ends;
+mod faults;
+mod worlds;
