@@ -1,5 +1,5 @@
 -- A sink's mixer over the device that plays its frames.
-use Rattle.std.specs.Prelude.{◌≡◌, ℕ, ◌≤◌, Bool, true, false, IsFalse, List, Option, Some, None}
+use Rattle.std.specs.Prelude.{◌≡◌, ℕ, ◌≤◌, Bool, true, false, IsTrue, IsFalse, List, Option, Some, None}
 use Rattle.std.specs.List.{concat}
 use Rattle.std.specs.FinMap as map
 use Rattle.px_ends.specs.Faults.{next_count}
@@ -43,3 +43,7 @@ played_more (Some buffer) played bytes = after_adding played bytes
 abbrev pub StopsOver : {D : Type 0} → Bool → (D → DeviceState) → Mixer D → Mixer D → Type 0
 StopsOver true now before after = (after.device ≡ before.device) × (after.faults ≡ before.faults)
 StopsOver false now before after = Fails (now before.device) (now after.device) × (after.faults ≡ next_count before.faults)
+
+-- one that has stopped has counted a failed sync
+abbrev pub HasCounted : Sink → ℕ → Type 0
+HasCounted sink faults = IsTrue sink.stopped → 1 ≤ faults

@@ -31,6 +31,8 @@ pub record Stops {D : Type 0} (now : D → DeviceState) (before after : Mixer D)
   pub sink : after.sink ≡ stopped_turn before.sink messages
   pub device : StopsOver before.sink.stopped now before after
   pub counted : faults ≡ after.faults
+  -- so a sync failed, in this turn or an earlier one
+  pub cause : 1 ≤ faults
 
 -- what a turn does and tells, by its answer
 abbrev pub Turns : {D : Type 0} → (D → DeviceState) → Mixer D → Mixer D → List (Message Stream) → List (Notice Stream) → List (Notice Stream) → Turned → Type 0

@@ -7,7 +7,7 @@ ghost use Rattle.px_lane.specs.Mixing.{IsMixed};
 ghost use Rattle.px_model.specs.Turn.{AreFor, settled, turned, turn_notices};
 ghost use Rattle.px_lane.specs.Samples.{samples};
 ghost use Rattle.px_lane.specs.Needed.{needed};
-ghost use Rattle.px_lane.specs.Lane.{IsLane, IsAttached};
+ghost use Rattle.px_lane.specs.Lane.{IsLane, IsAttached, HasCounted};
 ghost use Rattle.px_lane.specs.Turned.{Turns, Refuses};
 ghost use Rattle.px_lane.specs.contracts.lane.Lane.{the_row};
 
@@ -27,7 +27,7 @@ const MOST_FILLED: u64 = 1 << 60;
 pub enum Turned {
     /// The device consumed so many frames in this turn, and so many in all.
     Played { consumed: u64, frames: u32 },
-    /// The sink has stopped; so many syncs of its device failed.
+    /// The sink has stopped; so many syncs of its device failed, at least one.
     Stopped { faults: u64 },
 }
 
@@ -49,13 +49,13 @@ pub struct Lane<D> {
 }
 
 impl<D> Model for Lane<D> {
-    ghost use Rattle.px_lane.specs.Lane.{Mixer, IsLane};
+    ghost use Rattle.px_lane.specs.Lane.{Mixer, IsLane, HasCounted};
 
     ghost Value = { Mixer D };
 
     ghost view = { λ l. record { sink = l.mixer.sink; device = l.device; faults = l.faults } };
 
-    ghost invariant = { λ l. IsLane l.mixer.sink };
+    ghost invariant = { λ l. IsLane l.mixer.sink × HasCounted l.mixer.sink l.faults };
 }
 
 impl<D: Device + Drop> Lane<D> {
@@ -150,6 +150,7 @@ fn run<D: Device>(
     out: &mut NoticeList,
 ) -> Turned
     requires lane { IsLane mixer.old.sink }
+    requires counted { HasCounted mixer.old.sink faults.old }
     requires attached { IsFalse mixer.old.sink.stopped → IsAttached (D.now device.old) mixer.old.sink }
     requires countable { mixer.old.sink.filled ≤ 2 ^ 60 }
     requires messages { AreFor mixer.old.sink messages.old.messages }
@@ -158,6 +159,7 @@ fn run<D: Device>(
     requires capacity { length out.old.notices + needed mixer.old.sink.inputs messages.old.messages ≤ out.old.capacity }
     ensures turns { Turns D.now (record { sink = mixer.old.sink; device = device.old; faults = faults.old }) (record { sink = mixer.new.sink; device = device.new; faults = faults.new }) messages.old.messages out.old.notices out.new.notices result }
     ensures lane { IsLane mixer.new.sink }
+    ensures counted { HasCounted mixer.new.sink faults.new }
     ensures messages { messages.new.messages ≡ [] }
 {
     if mixer.is_stopped() {

@@ -52,3 +52,6 @@ returns-in-Ok-clause-turns g c =
       },
       c.play.ensures.notices,
     )
+
+pub returns-in-Ok-clause-counted : goal.returns-in-Ok-clause-counted
+returns-in-Ok-clause-counted g c = λ stops. c.requires.counted (sym (ap (λ (s : Sink). s.stopped) c.play.ensures.value) ∙ stops)
