@@ -3,13 +3,13 @@
 //! no work is left out and a plain program can be compared. Without words each is done once.
 #![tactic(auto)]
 
-mod core;
+mod data;
 mod frame;
 mod session;
 mod sound;
 mod wire;
 
-use core::core_line;
+use data::core_line;
 use frame::frame_line;
 use px_types::{Mem, NoMemory};
 use session::session_line;
