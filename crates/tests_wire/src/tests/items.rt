@@ -1,6 +1,6 @@
 use px_tag::{
-    Mem, Mode, Packet, PropList, RawMap, RawSpec, RawVolume, TagFault, TagReader, TagWriter,
-    TimeVal, one_spelling,
+    Mem, Packet, PropList, RawMap, RawSpec, RawVolume, TagFault, TagReader, TagWriter, TimeVal,
+    one_spelling,
 };
 use std::alloc::Global;
 
@@ -117,47 +117,4 @@ fn is_read(alloc: Global) -> bool {
 #[test]
 fn lists_are_read_and_written(rt: HostRuntime) {
     assert!(rt; is_read(rt.alloc()));
-}
-
-fn set_old(list: &mut PropList) -> Mem<()> {
-    list.set(b"a", b"1")?;
-    list.set(b"b", b"1")
-}
-
-fn set_new(list: &mut PropList) -> Mem<()> {
-    list.set(b"b", b"2")?;
-    list.set(b"c", b"2")
-}
-
-// What the first key of a list is after an update by another, and the values of `a` and `b`; in each mode `c` comes from the other.
-fn becomes(list: &PropList, first: &[u8], a: Option<&[u8]>, b: Option<&[u8]>) -> bool {
-    matches!(list.get_index(0), Some((key, _)) if key == first)
-        && list.get(b"a") == a
-        && list.get(b"b") == b
-        && list.get(b"c") == Some(b"2".as_slice())
-}
-
-fn update(list: &mut PropList, mode: Mode, other: &PropList) -> Mem<()> {
-    set_old(list)?;
-    list.update(mode, other)
-}
-
-fn updates(alloc: Global, other: &PropList) -> Mem<bool> {
-    let mut list = PropList::new(alloc);
-    update(&mut list, Mode::Replace, other)?;
-    let replaced = becomes(&list, b"a", Some(b"1"), Some(b"2"));
-    update(&mut list, Mode::Merge, other)?;
-    let merged = becomes(&list, b"a", Some(b"1"), Some(b"1"));
-    let removed = list.remove(b"c") && !list.remove(b"c") && !list.contains(b"c");
-    update(&mut list, Mode::Set, other)?;
-    let whole = list.copy()?;
-    Ok(replaced && merged && removed && whole.len() == 2 && becomes(&whole, b"b", None, Some(b"2")))
-}
-
-#[test]
-fn lists_are_updated_in_three_ways(rt: HostRuntime) -> Mem<()> {
-    let mut other = PropList::new(rt.alloc());
-    set_new(&mut other)?;
-    assert!(rt; matches!(updates(rt.alloc(), &other), Ok(true)));
-    Ok(())
 }
