@@ -14,15 +14,15 @@ use Rattle.px_model.specs.Frame.{SampleSpec}
 use Rattle.px_msg.specs.declared.message.Msg.{Msg}
 use Rattle.px_msg.specs.declared.message.Msg.TheVariants.{New, Attach, Detach, Write, Cork, Flush, Trigger, Prebuf, Drain, Attr, Factors, Query}
 use Rattle.px_msg.specs.View.{sample_spec}
-use Rattle.px_core.specs.declared.input.Input.{Input}
-use Rattle.px_core.specs.declared.input.Way.{Way}
-use Rattle.px_core.specs.declared.input.Way.TheVariants.{Coming, There, Left}
+use Rattle.px_plan.specs.declared.input.Input.{Input}
+use Rattle.px_plan.specs.declared.input.Way.{Way}
+use Rattle.px_plan.specs.declared.input.Way.TheVariants.{Coming, There, Left}
 use Rattle.px_core.specs.State.{State, has_index}
 use Rattle.px_core.specs.Change.{change_first}
-use Rattle.px_core.specs.Orderly.{specs_of, is_held_by, is_there}
+use Rattle.px_core.specs.Orderly.{spec_in, specs_of, is_held_by, is_there}
 use Rattle.px_core.specs.Out.{first_of, rest_of, next_for, on_way, with_way, inputs_past, inputs_before, past, handed_out, put_back, Roomy, room_for, room_past, with_more_room, with_less_room, sent, unsent, sent_by, unsent_by}
-use Rattle.px_core.specs.Keeps.{AreInStep, IsKept, IsRising, is_coming_to, is_coming, brought_by, messages_out}
-use Rattle.px_core.proofs.EntryLaws.{FirstGone, first_gone, Found, found_in, get_in, spec_in}
+use Rattle.px_core.specs.Keeps.{AreInStep, IsKept, IsRising, is_coming_to, is_coming, brought_of, messages_out}
+use Rattle.px_core.proofs.EntryLaws.{first_brought, Found, found_in, get_in}
 use Rattle.px_core.proofs.ChangeLaws.{sink_at}
 use Rattle.px_core.proofs.HandingLaws.{sink_there, list_there, some_of, out_keeps}
 use Rattle.px_core.proofs.Waiting.{set_past}
@@ -53,8 +53,13 @@ stands Coming e = absurd (false≢true e)
 stands There e = refl
 stands Left e = absurd (false≢true e)
 
-arrival_back : (k : ℕ) (j : InputId) (s : SampleSpec) (rest : List (ℕ × SampleSpec)) (inputs : List Input) → FirstGone (is_coming_to (sink_at k)) (on_way There) j s rest inputs → with_way j Coming (with_way j There inputs) ≡ inputs
-arrival_back k j s rest inputs it =
+arrival_back : {P : Type 0} (spec_of : P → SampleSpec) (k : ℕ) (j : InputId) (s : SampleSpec) (m : Msg P) (rest : List (Msg P)) (inputs : List Input)
+    → ((i : ℕ) → brought_of spec_of i m ≡ cond (nat_eq j.0 i) (s ∷ []) [])
+    → ((i : ℕ) → brought_of spec_of i m ++ flat_map (brought_of spec_of i) rest ≡ option_to_list (spec_in (is_coming_to (sink_at k)) i inputs))
+    → with_way j Coming (with_way j There inputs) ≡ inputs
+arrival_back spec_of k j s m rest inputs brings bring =
+    let first = first_brought spec_of (is_coming_to (sink_at k)) (on_way There) (λ x. refl) (λ x. and_right (nat_eq x.sink.0 k) false refl) j s m rest inputs brings bring in
+    let it : Found (is_coming_to (sink_at k)) j inputs s = first.it in
     change_back j (on_way Coming) (on_way There) (λ x. refl) inputs it.input it.here
     (way_back Coming There it.input (comes it.input.way (and_parts (nat_eq it.input.sink.0 k) (is_coming it.input.way) it.passes).1))
 
@@ -66,12 +71,8 @@ departure_back k j inputs r names =
     (way_back There Left it.input (stands it.input.way (and_parts (nat_eq it.input.sink.0 k) (is_there it.input.way) it.passes).1))
 
 inputs_back : {P : Type 0} (spec_of : P → SampleSpec) (k : ℕ) (s : SinkSpec) (inputs : List Input) (m : Msg P) (rest : List (Msg P)) → IsRising inputs → AreInStep spec_of (sink_at k) s inputs (m ∷ rest) → inputs_before m (inputs_past m inputs) ≡ inputs
-inputs_back spec_of k s inputs (New n) rest r h =
-    arrival_back k n.input (sample_spec n.spec) (flat_map (brought_by spec_of) rest) inputs
-    (first_gone (is_coming_to (sink_at k)) (on_way There) (λ x. and_right (nat_eq x.sink.0 k) false refl) n.input (sample_spec n.spec) (flat_map (brought_by spec_of) rest) inputs r h.bring)
-inputs_back spec_of k s inputs (Attach j parcel feed factors) rest r h =
-    arrival_back k j (spec_of parcel) (flat_map (brought_by spec_of) rest) inputs
-    (first_gone (is_coming_to (sink_at k)) (on_way There) (λ x. and_right (nat_eq x.sink.0 k) false refl) j (spec_of parcel) (flat_map (brought_by spec_of) rest) inputs r h.bring)
+inputs_back spec_of k s inputs (New n) rest r h = arrival_back spec_of k n.input (sample_spec n.spec) (New n) rest inputs (λ i. refl) h.bring
+inputs_back spec_of k s inputs (Attach j parcel feed factors) rest r h = arrival_back spec_of k j (spec_of parcel) (Attach j parcel feed factors) rest inputs (λ i. refl) h.bring
 inputs_back spec_of k s inputs (Detach j) rest r h = departure_back k j inputs r h.orderly.0
 inputs_back spec_of k s inputs (Write input seek offset frames bytes) rest r h = refl
 inputs_back spec_of k s inputs (Cork input on) rest r h = refl

@@ -1,14 +1,14 @@
 -- The first input of each stream, where an input changes, goes or comes.
-use Rattle.std.proofs.Common.{◌≡◌, ◌&&◌, not, nat_eq, Bool, true, false, cond, List, [], ◌∷◌, ◌++◌, Option, None, Some, IsSome, refl, ap, sym, subst, ◌∙◌}
+use Rattle.std.proofs.Common.{rules, arith, ◌≡◌, ◌<◌, ◌⊎◌, ℕ, ◌&&◌, not, nat_eq, Bool, true, false, cond, List, [], ◌∷◌, ◌++◌, Option, None, Some, IsSome, refl, ap, sym, subst, ◌∙◌}
 use Rattle.std.proofs.lemmas.Bool.{cond-true, cond-false, eqb-true, false≢true}
 use Rattle.std.proofs.lemmas.Option.{none-some, same_Some}
 use Rattle.std.specs.List.{find}
 use Rattle.std.specs.Option.{option_map}
-use Rattle.indexmap.specs.IndexMap.{IndexMap, get, ContainsKey}
-use Rattle.px_core.specs.declared.input.Input.{Input}
+use Rattle.indexmap.specs.IndexMap.{IndexMap, get, spare, ContainsKey}
+use Rattle.px_plan.specs.declared.input.Input.{Input}
 use Rattle.px_core.specs.declared.input_table.StreamKey.{StreamKey}
 use Rattle.px_core.specs.Change.{change_first, drop_first, leaving}
-use Rattle.px_core.specs.State.{is_stream}
+use Rattle.px_core.specs.State.{goes_on, is_stream}
 use Rattle.px_core.specs.InputTable.{key_of, same_stream, first_of, AreByStream}
 
 -- ---- a choice at the head of a list
@@ -102,7 +102,7 @@ either_false false b c h = refl
 pub apart : (key other : StreamKey) (x : Input) → key_of x ≡ key → same_stream key other ≡ false → is_stream other.conn other.stream x ≡ false
 apart key other x is_key differ =
     let here : same_stream (key_of x) other ≡ false = ap (λ k. same_stream k other) is_key ∙ differ in
-    either_false (nat_eq x.conn.0 other.conn.0) (nat_eq x.stream other.stream) (not x.leaving) here
+    either_false (nat_eq x.conn.0 other.conn.0) (nat_eq x.stream other.stream) (goes_on x) here
 
 both : (a b : Bool) → (a && b) ≡ true → (a ≡ true) × (b ≡ true)
 both true true h = (refl, refl)
@@ -114,7 +114,7 @@ same_first inputs key other same =
     let h = both (nat_eq key.conn.0 other.conn.0) (nat_eq key.stream other.stream) same in
     let conn : key.conn.0 ≡ other.conn.0 = eqb-true key.conn.0 other.conn.0 h.0 in
     let stream : key.stream ≡ other.stream = eqb-true key.stream other.stream h.1 in
-    λ i. find (λ x. nat_eq (Input.conn x).0 (conn i) && nat_eq x.stream (stream i) && not x.leaving) inputs
+    λ i. find (λ x. nat_eq (Input.conn x).0 (conn i) && nat_eq x.stream (stream i) && goes_on x) inputs
 
 -- a table stays one where only the inputs of a stream change, and that stream's entry is renewed
 pub renewed : {S : Type 0} (was now : List Input) (table new : IndexMap StreamKey Input S) (key : StreamKey) → AreByStream was table

@@ -1,4 +1,4 @@
--- CREATE keeps what the state keeps.
+-- The changes of CREATE are lawful.
 use Rattle.std.proofs.Common.{◌≡◌, ℕ, zero, suc, ◌<◌, ◌≤◌, List, [], ◌∷◌, ◌++◌, length, min, max, Option, Some, None, Bool, true, false, refl, ap, sym, subst, ◌∙◌, arith, cond}
 use Rattle.std.specs.Prelude.{◌+◌, ◌-◌, ◌*◌, ◌/◌, ◌≢◌, ◌&&◌, ◌||◌, not, nat_eq, nat_lt, nat_le, slice_get, slice_index, Result, Ok, Err}
 use Rattle.std.specs.List.{All, list_all, range_with_len}
@@ -23,18 +23,18 @@ use Rattle.px_model.specs.Orderly.{IsPlayable, IsRepaired, IsNewStream}
 use Rattle.px_msg.specs.Repair.{UNSET, MAXLENGTH, repaired, frames_asked, between_one_and, maxlength_of, tlength_of, minreq_of, prebuf_of}
 use Rattle.px_msg.specs.View.{sample_spec}
 use Rattle.px_vol.specs.Volume.{norm}
-use Rattle.px_core.specs.declared.input.Connection.{Connection}
-use Rattle.px_core.specs.declared.input.Input.{Input}
-use Rattle.px_core.specs.State.{State, is_settled, settled_on, going_of}
-use Rattle.px_core.specs.Change.{with_streams, with_connection, changed, committed}
-use Rattle.px_core.specs.declared.change.Change.TheVariants.{Posted}
+use Rattle.px_plan.specs.declared.input.Connection.{Connection}
+use Rattle.px_plan.specs.declared.input.Input.{Input}
+use Rattle.px_core.specs.State.{State, is_settled, settled_on, bound_for, going_of}
+use Rattle.px_core.specs.Change.{changed}
+use Rattle.px_plan.specs.declared.change.Change.TheVariants.{Made}
 use Rattle.px_core.specs.Create.{is_spec, is_map, are_volumes, format_on, channels_on, positions_on, rate_on, same_positions, format_with, spec_on, attr_on, is_unsupported, has_no_room, is_not_built, input_made, created, created_or, create_on, create_there, create_named, create, is_lawful, straight, unity_on, new_of, UNITY, MOST_ON_SINK, MOST_IN_ALL, LAST_INDEX}
 use Rattle.px_core.specs.Reply.{refused}
-use Rattle.px_core.specs.Keeps.{IsInput, IsKept}
+use Rattle.px_core.specs.Keeps.{IsInput, IsKept, IsRising}
+use Rattle.px_core.specs.Lawful.{IsNew}
 use Rattle.px_core.proofs.ListLaws.{all_weaken}
 use Rattle.px_core.proofs.EntryLaws.{rising_push}
-use Rattle.px_core.proofs.ChangeLaws.{with_input, new_keeps, new_held}
-use Rattle.px_core.proofs.AnswerLaws.{Keeps, unchanged, connection_keeps, factors_keep, rising_filter, all_filter}
+use Rattle.px_core.proofs.AnswerLaws.{IsLawful, regroups, rising_filter, all_filter}
 
 -- ---- attributes as repaired
 
@@ -173,22 +173,19 @@ new_fits sink s e a few asked input = record {
   attr_repaired = repaired_fits (spec_on sink a) a.asked;
 }
 
-room_on : (inputs : List Input) (made : ℕ) (c : Connection) (sink : SinkId) → has_no_room inputs made c sink ≡ false → length (settled_on inputs sink) < MOST_ON_SINK
+room_on : (inputs : List Input) (made : ℕ) (c : Connection) (sink : SinkId) → has_no_room inputs made c sink ≡ false → length (bound_for inputs sink) < MOST_ON_SINK
 room_on inputs made c sink e =
-    let parts = or_parts (nat_le MOST_ON_SINK (length (settled_on inputs sink)) || nat_le MOST_IN_ALL (length (going_of inputs)) || nat_le LAST_INDEX made) (nat_le LAST_INDEX c.streams) e in
-    let more = or_parts (nat_le MOST_ON_SINK (length (settled_on inputs sink)) || nat_le MOST_IN_ALL (length (going_of inputs))) (nat_le LAST_INDEX made) parts.0 in
-    let last = or_parts (nat_le MOST_ON_SINK (length (settled_on inputs sink))) (nat_le MOST_IN_ALL (length (going_of inputs))) more.0 in
-    leb-false MOST_ON_SINK (length (settled_on inputs sink)) last.0
+    let parts = or_parts (nat_le MOST_ON_SINK (length (bound_for inputs sink)) || nat_le MOST_IN_ALL (length (going_of inputs)) || nat_le LAST_INDEX made) (nat_le LAST_INDEX c.streams) e in
+    let more = or_parts (nat_le MOST_ON_SINK (length (bound_for inputs sink)) || nat_le MOST_IN_ALL (length (going_of inputs))) (nat_le LAST_INDEX made) parts.0 in
+    let last = or_parts (nat_le MOST_ON_SINK (length (bound_for inputs sink))) (nat_le MOST_IN_ALL (length (going_of inputs))) more.0 in
+    leb-false MOST_ON_SINK (length (bound_for inputs sink)) last.0
 
 -- ---- the row
 
-created_keeps : {P : Type 0} (spec_of : P → SampleSpec) (state : State P) → IsKept spec_of state → (c : Connection) (tag : ℕ) (index : SinkId) (sink : SinkSpec) (a : CreateFields) → slice_get state.sinks index.0 ≡ Some sink → is_lawful a ≡ true → is_unsupported sink a ≡ false → has_no_room state.inputs state.inputs_made c index ≡ false → is_not_built sink a ≡ false
-    → Keeps spec_of state (created state.inputs state.inputs_made c tag sink a (input_made state.inputs_made c index sink a))
-created_keeps {P} spec_of state h c tag index sink a there lawful supported room built =
-    record {
-      keeps = made;
-      held = new_held state.inputs (input_made state.inputs_made c index sink a) refl;
-    }
+created_lawful : {P : Type 0} (spec_of : P → SampleSpec) (state : State P) → IsKept spec_of state → (c : Connection) (tag : ℕ) (index : SinkId) (sink : SinkSpec) (a : CreateFields) → slice_get state.sinks index.0 ≡ Some sink → is_lawful a ≡ true → is_unsupported sink a ≡ false → has_no_room state.inputs state.inputs_made c index ≡ false → is_not_built sink a ≡ false
+    → IsLawful state (created state.inputs state.inputs_made c tag sink a (input_made state.inputs_made c index sink a))
+created_lawful {P} spec_of state h c tag index sink a there lawful supported room built =
+    ((new, refl), (regroups (changed state (Made x (new_of sink x) (c.streams + 1) (state.inputs_made + 1))) index sink there (settled_on state.inputs index ++ x ∷ []) rising, tt))
   where
     x : Input
     x = input_made state.inputs_made c index sink a
@@ -199,48 +196,49 @@ created_keeps {P} spec_of state h c tag index sink a there lawful supported room
     asked : Asked sink a
     asked = asked_by sink a rules.1.map_size lawful supported built
 
-    made : IsKept spec_of (committed state (created {P = P} state.inputs state.inputs_made c tag sink a (input_made state.inputs_made c index sink a)).changes)
-    made =
-        factors_keep spec_of (changed (with_input x (with_connection c.conn (with_streams (c.streams + 1)) state)) (Posted index (new_of sink x)))
-        (new_keeps spec_of (with_connection c.conn (with_streams (c.streams + 1)) state) x (record { input = x.index; spec = x.spec; feed = straight sink.spec.channels; factors = unity_on sink; attr = x.attr; corked = false })
-        (connection_keeps spec_of state h c.conn (with_streams (c.streams + 1)) (λ d. refl))
-        refl refl refl
-        (record {
-          given = omega arith;
-          sink_there = slice_get_within state.sinks index.0 sink there;
-          playable = playable sink a rules.1.channels asked;
-          repaired = repaired_fits (spec_on sink a) a.asked;
-        })
-        refl refl
-        (room_on state.inputs state.inputs_made c index room)
-        (λ s e. new_fits sink s (same_Some sink s (sym there ∙ e)) a rules.1.channels asked state.inputs_made))
-        index sink there (settled_on state.inputs index ++ x ∷ [])
-        (rising_push (settled_on state.inputs index) x (rising_filter (is_settled index) state.inputs h.rising) (all_filter (λ y. (Input.index y).0 < state.inputs_made) (is_settled index) state.inputs
-        (all_weaken (IsInput state.sinks state.inputs_made) (λ y. (Input.index y).0 < state.inputs_made) (λ y i. i.given) state.inputs h.inputs)))
+    new : IsNew state x (new_of sink x)
+    new = record {
+      next = refl;
+      way = refl;
+      standing = refl;
+      is = record {
+        given = omega arith;
+        sink_there = slice_get_within state.sinks index.0 sink there;
+        goes_there = tt;
+        playable = playable sink a rules.1.channels asked;
+        repaired = repaired_fits (spec_on sink a) a.asked;
+      };
+      room = room_on state.inputs state.inputs_made c index room;
+      brings = λ s e. (refl, refl, new_fits sink s (same_Some sink s (sym there ∙ e)) a rules.1.channels asked state.inputs_made);
+    }
 
-created_or_keeps : {P : Type 0} (spec_of : P → SampleSpec) (state : State P) → IsKept spec_of state → (c : Connection) (tag : ℕ) (index : SinkId) (sink : SinkSpec) (a : CreateFields) → slice_get state.sinks index.0 ≡ Some sink → is_lawful a ≡ true
-    → Keeps spec_of state (create_on state.inputs state.inputs_made c tag index sink a)
-created_or_keeps {P} spec_of state h c tag index sink a there lawful =
-    cond_both (is_unsupported sink a) (Some NotSupported) (cond (has_no_room state.inputs state.inputs_made c index) (Some TooLarge) (cond (is_not_built sink a) (Some NotImplemented) None)) (λ o. Keeps spec_of state (created_or o state.inputs state.inputs_made c tag index sink a))
-    (λ e. unchanged h)
+    rising : IsRising (settled_on state.inputs index ++ x ∷ [])
+    rising = rising_push (settled_on state.inputs index) x (rising_filter (is_settled index) state.inputs h.rising) (all_filter (λ y. (Input.index y).0 < state.inputs_made) (is_settled index) state.inputs
+        (all_weaken (IsInput state.sinks state.inputs_made) (λ y. (Input.index y).0 < state.inputs_made) (λ y i. i.given) state.inputs h.inputs))
+
+created_or_lawful : {P : Type 0} (spec_of : P → SampleSpec) (state : State P) → IsKept spec_of state → (c : Connection) (tag : ℕ) (index : SinkId) (sink : SinkSpec) (a : CreateFields) → slice_get state.sinks index.0 ≡ Some sink → is_lawful a ≡ true
+    → IsLawful state (create_on state.inputs state.inputs_made c tag index sink a)
+created_or_lawful {P} spec_of state h c tag index sink a there lawful =
+    cond_both (is_unsupported sink a) (Some NotSupported) (cond (has_no_room state.inputs state.inputs_made c index) (Some TooLarge) (cond (is_not_built sink a) (Some NotImplemented) None)) (λ o. IsLawful state (created_or o state.inputs state.inputs_made c tag index sink a))
+    (λ e. tt)
     (λ supported.
-    cond_both (has_no_room state.inputs state.inputs_made c index) (Some TooLarge) (cond (is_not_built sink a) (Some NotImplemented) None) (λ o. Keeps spec_of state (created_or o state.inputs state.inputs_made c tag index sink a))
-    (λ e. unchanged h)
+    cond_both (has_no_room state.inputs state.inputs_made c index) (Some TooLarge) (cond (is_not_built sink a) (Some NotImplemented) None) (λ o. IsLawful state (created_or o state.inputs state.inputs_made c tag index sink a))
+    (λ e. tt)
     (λ room.
-    cond_both (is_not_built sink a) (Some NotImplemented) None (λ o. Keeps spec_of state (created_or o state.inputs state.inputs_made c tag index sink a))
-    (λ e. unchanged h)
-    (λ built. created_keeps spec_of state h c tag index sink a there lawful supported room built)))
+    cond_both (is_not_built sink a) (Some NotImplemented) None (λ o. IsLawful state (created_or o state.inputs state.inputs_made c tag index sink a))
+    (λ e. tt)
+    (λ built. created_lawful spec_of state h c tag index sink a there lawful supported room built)))
 
-create_there_keeps : {P : Type 0} (spec_of : P → SampleSpec) (state : State P) → IsKept spec_of state → (c : Connection) (tag : ℕ) (index : SinkId) (a : CreateFields) → is_lawful a ≡ true → (o : Option SinkSpec) → slice_get state.sinks index.0 ≡ o → Keeps spec_of state (create_there state.inputs state.inputs_made c tag index o a)
-create_there_keeps spec_of state h c tag index a lawful None e = unchanged h
-create_there_keeps spec_of state h c tag index a lawful (Some sink) e = created_or_keeps spec_of state h c tag index sink a e lawful
+create_there_lawful : {P : Type 0} (spec_of : P → SampleSpec) (state : State P) → IsKept spec_of state → (c : Connection) (tag : ℕ) (index : SinkId) (a : CreateFields) → is_lawful a ≡ true → (o : Option SinkSpec) → slice_get state.sinks index.0 ≡ o → IsLawful state (create_there state.inputs state.inputs_made c tag index o a)
+create_there_lawful spec_of state h c tag index a lawful None e = tt
+create_there_lawful spec_of state h c tag index a lawful (Some sink) e = created_or_lawful spec_of state h c tag index sink a e lawful
 
-create_named_keeps : {P : Type 0} (spec_of : P → SampleSpec) (state : State P) → IsKept spec_of state → (c : Connection) (tag : ℕ) (a : CreateFields) → is_lawful a ≡ true → (r : Result SinkId ErrorCode) → Keeps spec_of state (create_named state.sinks state.inputs state.inputs_made c tag r a)
-create_named_keeps spec_of state h c tag a lawful (Err code) = unchanged h
-create_named_keeps spec_of state h c tag a lawful (Ok index) = create_there_keeps spec_of state h c tag index a lawful (slice_get state.sinks index.0) refl
+create_named_lawful : {P : Type 0} (spec_of : P → SampleSpec) (state : State P) → IsKept spec_of state → (c : Connection) (tag : ℕ) (a : CreateFields) → is_lawful a ≡ true → (r : Result SinkId ErrorCode) → IsLawful state (create_named state.sinks state.inputs state.inputs_made c tag r a)
+create_named_lawful spec_of state h c tag a lawful (Err code) = tt
+create_named_lawful spec_of state h c tag a lawful (Ok index) = create_there_lawful spec_of state h c tag index a lawful (slice_get state.sinks index.0) refl
 
-pub create_keeps : {P : Type 0} (spec_of : P → SampleSpec) (state : State P) → IsKept spec_of state → (c : Connection) (tag : ℕ) (a : CreateFields) → Keeps spec_of state (create state.names state.sinks state.inputs state.inputs_made c tag a)
-create_keeps spec_of state h c tag a =
-    cond_both (is_lawful a) (create_named state.sinks state.inputs state.inputs_made c tag (sink_named state.names a.sink.index a.sink.name true) a) (refused c.conn tag Invalid) (Keeps spec_of state)
-    (λ lawful. create_named_keeps spec_of state h c tag a lawful (sink_named state.names a.sink.index a.sink.name true))
-    (λ e. unchanged h)
+pub create_lawful : {P : Type 0} (spec_of : P → SampleSpec) (state : State P) → IsKept spec_of state → (c : Connection) (tag : ℕ) (a : CreateFields) → IsLawful state (create state.names state.sinks state.inputs state.inputs_made c tag a)
+create_lawful spec_of state h c tag a =
+    cond_both (is_lawful a) (create_named state.sinks state.inputs state.inputs_made c tag (sink_named state.names a.sink.index a.sink.name true) a) (refused c.conn tag Invalid) (IsLawful state)
+    (λ lawful. create_named_lawful spec_of state h c tag a lawful (sink_named state.names a.sink.index a.sink.name true))
+    (λ e. tt)

@@ -27,33 +27,35 @@ use Rattle.px_reply.specs.Front.{reply_to}
 use Rattle.px_model.specs.Frame.{SampleSpec}
 use Rattle.px_msg.specs.declared.notice.Notice.{Notice}
 use Rattle.px_msg.specs.declared.notice.Notice.TheVariants.{Request, Overflow, Underflow, Started, Drained, Detached, Latency}
-use Rattle.px_core.specs.declared.change.Change.{Change}
-use Rattle.px_core.specs.declared.change.Change.TheVariants.{Authed, Marked, Forgotten}
+use Rattle.px_plan.specs.declared.change.Change.TheVariants.{Authed, Leaves, Said, Ended, Forgotten}
+use Rattle.px_plan.specs.declared.sending.Reason.{Reason}
 use Rattle.px_core.specs.declared.effect.Effect.{Effect}
-use Rattle.px_core.specs.declared.effect.Reason.TheVariants.{Limit, Cut as ForMemory}
-use Rattle.px_core.specs.declared.input.Connection.{Connection}
-use Rattle.px_core.specs.declared.input.Input.{Input}
+use Rattle.px_core.specs.declared.effect.Effect.TheVariants.{Closed}
+use Rattle.px_plan.specs.declared.sending.Reason.TheVariants.{Protocol as Breach, Limit, Cut as ForMemory}
+use Rattle.px_plan.specs.declared.input.Connection.{Connection}
+use Rattle.px_plan.specs.declared.input.Input.{Input}
 use Rattle.px_msg.specs.declared.message.Msg.{Msg}
 use Rattle.px_frame.specs.Fault.{code_of as rule_of}
 use Rattle.px_sample.specs.Format.{frame_size_of}
-use Rattle.px_core.specs.declared.change.Change.TheVariants.{Posted}
+use Rattle.px_plan.specs.declared.input.Standing.{Standing}
+use Rattle.px_plan.specs.declared.input.Standing.TheVariants.{Settled, Moving, Leaving}
 use Rattle.px_core.specs.Client.{SERVER_VERSION, version_in, let_in, auth_after, auth, set_name}
 use Rattle.px_core.specs.Command.{create_in, number_in, as_bytes, as_properties, field, row, read_answer, is_barred, is_waiting_for_work, command_answer, head_answer}
 use Rattle.px_core.specs.Create.{created, created_or, create_there, create_named, create, is_lawful, refusal_on, input_made}
 use Rattle.px_core.specs.Data.{are_frames, write_of, data_for}
 use Rattle.px_core.specs.Told.{told_to, told_of, input_on, gives_up, given_up_on, given_up, notice_answer, request_message, overflow_message, underflow_message, started_message}
 use Rattle.px_core.specs.Out.{next_for, past}
-use Rattle.px_core.specs.State.{State, has_number, connection_of, is_from, marked_of, stream_of}
-use Rattle.px_core.specs.Change.{change_first, drop_first, authed, marked, with_streams, changed, committed}
-use Rattle.px_core.specs.Effect.{closed_at, closed_for, fault_code, fault_place, offset_behind}
-use Rattle.px_core.specs.Reply.{Answer, ignored, refused, done, broken_off}
+use Rattle.px_core.specs.State.{State, goes_on as is_going, has_number, connection_of, input_of, is_from, marked_of, stream_of}
+use Rattle.px_core.specs.Change.{Change, change_first, drop_first, authed, marked, with_streams, ending, ending_of, saying, saying_of, changed, committed}
+use Rattle.px_core.specs.Effect.{closed_for, fault_code, fault_place, offset_behind}
+use Rattle.px_core.specs.Reply.{Answer, ignored, refused, done, broken_off, closed_by}
 use Rattle.px_core.specs.Delete.{ends, delete_of, delete}
-use Rattle.px_core.specs.Connecting.{is_full, joined, new_connection, connected, connect_effects, unmarked, going_on, ended, broken_effects, close_effects, cut_effects, swept}
+use Rattle.px_core.specs.Connecting.{is_full, joined, new_connection, connected, connect_effects, unmarked, going_on, ended, swept}
 use Rattle.px_core.specs.Keeps.{AreDistinct, IsKept, IsStep}
 use Rattle.px_core.specs.Ending.{is_end_of, ends_of, goes_on, begins_with, begins_of, begins_by}
 use Rattle.px_core.specs.Step.{Step, connect, frame, broken, close, cut, sweep, notice, out, body_answer, frame_of, stepped, effects_of, stepped_by, effects_by}
 use Rattle.px_core.proofs.ListLaws.{found_test}
-use Rattle.px_core.proofs.AnswerLaws.{distinct_drop}
+use Rattle.px_core.proofs.VerbLaws.{distinct_drop}
 use Rattle.px_core.proofs.StepLaws.{step_keeps}
 
 -- 1 where it goes on
@@ -193,8 +195,12 @@ found_number cs n c e = inner (connection_of cs n) refl e
 going_by_own : (cs : List Connection) (n : ConnId) (c : Connection) → going_on cs n ≡ Some c → going_on cs c.conn ≡ Some c
 going_by_own cs n c e = ap (λ k. going_on cs (record { 0 = k })) (found_number cs n c e) ∙ e
 
-marked_once : {P : Type 0} (conn : ConnId) (state : State P) (c : Connection) → going_on state.connections c.conn ≡ Some c → (effects : List Effect) → ends_of conn effects ≤ same c.conn conn → ends_of conn effects + goes_on (committed {P = P} state (Marked c.conn ∷ [])).connections conn ≤ goes_on state.connections conn
-marked_once conn state c e effects l = omega (arith, l, marked_goes c.conn conn c state.connections e)
+closed_once : (conn n : ConnId) (reason : Option Reason) (fault at : ℕ) → ends_of conn (closed_by n reason fault at) ≤ same n conn
+closed_once conn n None fault at = omega arith
+closed_once conn n (Some reason) fault at = omega (arith, one_end (nat_eq n.0 conn.0) (Closed n reason fault at))
+
+marked_once : {P : Type 0} (conn : ConnId) (state : State P) (c : Connection) → going_on state.connections c.conn ≡ Some c → (reason : Option Reason) (fault at : ℕ) → ends_of conn (closed_by c.conn reason fault at) + goes_on (committed {P = P} state (Ended c.conn reason fault at ∷ [])).connections conn ≤ goes_on state.connections conn
+marked_once conn state c e reason fault at = omega (arith, closed_once conn c.conn reason fault at, marked_goes c.conn conn c state.connections e)
 
 -- an answer whose effects end none, and that lets the connections go on as they did
 quiet : {P : Type 0} (conn : ConnId) (state : State P) (answer : Answer P) → ends_of conn answer.effects ≡ 0 → goes_on (committed state answer.changes).connections conn ≡ goes_on state.connections conn → Once conn state answer
@@ -231,9 +237,28 @@ create_once conn state c tag a =
     (λ e. create_named_once conn state c tag a (sink_named state.names a.sink.index a.sink.name true))
     (λ e. no_end (goes_on state.connections conn))
 
+said_stays : {P : Type 0} (o : Option Input) (m : Msg P) (state : State P) → (saying_of o m state).connections ≡ state.connections
+said_stays None m state = refl
+said_stays (Some x) m state = by x.standing
+  where
+    by : (standing : Standing) → (saying standing x m state).connections ≡ state.connections
+    by Settled = refl
+    by (Moving to) = refl
+    by Leaving = refl
+
+left_stays : {P : Type 0} (o : Option Input) (state : State P) → (ending_of o state).connections ≡ state.connections
+left_stays None state = refl
+left_stays (Some x) state = by x.standing
+  where
+    by : (standing : Standing) → (ending standing x state).connections ≡ state.connections
+    by Settled = refl
+    by (Moving to) = refl
+    by Leaving = refl
+
 delete_once : {P : Type 0} (conn : ConnId) (state : State P) (o : Option Input) (c : Connection) (tag : ℕ) → Once conn state (delete_of o c tag)
 delete_once conn state None c tag = no_end (goes_on state.connections conn)
-delete_once conn state (Some x) c tag = no_end (goes_on state.connections conn)
+delete_once {P} conn state (Some x) c tag =
+    quiet conn state (delete_of {P = P} (Some x) c tag) refl (ap (λ connections. goes_on connections conn) (left_stays (input_of state.inputs x.index) state))
 
 row_once : {P : Type 0} (conn : ConnId) (state : State P) (c : Connection) (tag command : ℕ) (fields : List Field) → Once conn state (row state c tag command fields)
 row_once conn state c tag command fields =
@@ -257,8 +282,7 @@ row_once conn state c tag command fields =
     (λ i. no_end (goes_on state.connections conn)))))
 
 broken_off_once : {P : Type 0} (conn : ConnId) (state : State P) (c : Connection) → going_on state.connections c.conn ≡ Some c → (at : ℕ) (fault : TagFault) → Once conn state (broken_off c.conn at fault)
-broken_off_once conn state c here at fault =
-    marked_once conn state c here (closed_at c.conn (fault_code fault) (offset_behind at (fault_place fault)) ∷ []) (omega (arith, one_end (nat_eq c.conn.0 conn.0) (closed_at c.conn (fault_code fault) (offset_behind at (fault_place fault)))))
+broken_off_once conn state c here at fault = marked_once conn state c here (Some Breach) (fault_code fault) (offset_behind at (fault_place fault))
 
 read_once : {P : Type 0} (conn : ConnId) (state : State P) (c : Connection) → going_on state.connections c.conn ≡ Some c → (at tag : ℕ) (r : Result (ℕ × List Field) CmdFault) → Once conn state (read_answer state c at tag r)
 read_once conn state c here at tag (Ok packet) = row_once conn state c tag packet.0 packet.1
@@ -282,8 +306,10 @@ head_once conn state c here at packet (Ok head) = command_once conn state c here
 data_once : {P : Type 0} (conn : ConnId) (state : State P) (o : Option Input) (offset : ℤ) (seek : ℕ) (bytes : List ℕ) → Once conn state (data_for o offset seek bytes)
 data_once conn state None offset seek bytes = no_end (goes_on state.connections conn)
 data_once conn state (Some x) offset seek bytes =
-    cond_both (are_frames (frame_size_of x.spec) offset (length bytes)) (record { changes = Posted x.sink (write_of x offset seek bytes) ∷ []; effects = [] }) ignored (Once conn state)
-    (λ e. no_end (goes_on state.connections conn)) (λ e. no_end (goes_on state.connections conn))
+    cond_both (are_frames (frame_size_of x.spec) offset (length bytes)) (record { changes = Said x.index (write_of x offset seek bytes) ∷ []; effects = [] }) ignored (Once conn state)
+    (λ e. quiet conn state (record { changes = Said x.index (write_of x offset seek bytes) ∷ []; effects = [] }) refl
+    (ap (λ connections. goes_on connections conn) (said_stays (input_of state.inputs x.index) (write_of x offset seek bytes) state)))
+    (λ e. no_end (goes_on state.connections conn))
 
 body_once : {P : Type 0} (conn : ConnId) (state : State P) (c : Connection) → going_on state.connections c.conn ≡ Some c → (at : ℕ) (body : Body) → Once conn state (body_answer state c at body)
 body_once conn state c here at (Control packet) = head_once conn state c here at packet (head_at (start_of packet))
@@ -293,9 +319,9 @@ frame_once : {P : Type 0} (conn n : ConnId) (state : State P) (o : Option Connec
 frame_once conn n state None here f = no_end (goes_on state.connections conn)
 frame_once conn n state (Some c) here f = body_once conn state c (going_by_own state.connections n c here) f.at f.body
 
-ended_once : {P : Type 0} (conn n : ConnId) (state : State P) (o : Option Connection) → going_on state.connections n ≡ o → (effects : ConnId → List Effect) → ((c : ConnId) → ends_of conn (effects c) ≤ same c conn) → Once conn state (ended o effects)
-ended_once conn n state None here effects few = no_end (goes_on state.connections conn)
-ended_once conn n state (Some c) here effects few = marked_once conn state c (going_by_own state.connections n c here) (effects c.conn) (few c.conn)
+ended_once : {P : Type 0} (conn n : ConnId) (state : State P) (o : Option Connection) → going_on state.connections n ≡ o → (reason : Option Reason) (fault at : ℕ) → Once conn state (ended o reason fault at)
+ended_once conn n state None here reason fault at = no_end (goes_on state.connections conn)
+ended_once conn n state (Some c) here reason fault at = marked_once conn state c (going_by_own state.connections n c here) reason fault at
 
 told_end : (conn : ConnId) (o : Option Connection) (packet : List ℕ) → ends_of conn (told_to o packet) ≡ 0
 told_end conn None packet = refl
@@ -304,9 +330,9 @@ told_end conn (Some c) packet = refl
 told_once : {P : Type 0} (conn : ConnId) (state : State P) (o : Option Input) (packet : Input → List ℕ) → Once conn state (told_of state.connections o packet)
 told_once conn state None packet = no_end (goes_on state.connections conn)
 told_once conn state (Some x) packet =
-    cond_both x.leaving ignored (record { changes = []; effects = told_to (going_on state.connections x.conn) (packet x) }) (Once conn state)
-    (λ e. no_end (goes_on state.connections conn))
+    cond_both (is_going x) (record { changes = []; effects = told_to (going_on state.connections x.conn) (packet x) }) ignored (Once conn state)
     (λ e. quiet conn state (record { changes = []; effects = told_to (going_on state.connections x.conn) (packet x) }) (told_end conn (going_on state.connections x.conn) (packet x)) refl)
+    (λ e. no_end (goes_on state.connections conn))
 
 given_up_on_once : {P : Type 0} (conn : ConnId) (state : State P) (o : Option SinkSpec) (x : Input) → Once conn state (given_up_on state o x)
 given_up_on_once conn state None x = no_end (goes_on state.connections conn)
@@ -330,7 +356,7 @@ notice_once conn spec_of state sink (Latency input tag write read buffered playi
 
 ended_inputs_stay : {P : Type 0} (xs : List Input) (state : State P) → (committed state (flat_map ends xs)).connections ≡ state.connections
 ended_inputs_stay [] state = refl
-ended_inputs_stay (x ∷ xs) state = ended_inputs_stay xs (committed state (ends x))
+ended_inputs_stay (x ∷ xs) state = ended_inputs_stay xs (committed state (ends x)) ∙ left_stays (input_of state.inputs x.index) state
 
 one_swept : {P : Type 0} (before : List Input) (c : Connection) (rest : List (Change P)) (state : State P) → (committed state (swept before c ++ rest)) ≡ committed (changed (committed state (flat_map ends (filter (is_from c.conn) before))) (Forgotten c.conn)) rest
 one_swept {P} before c rest state =
@@ -376,10 +402,9 @@ connect_once {P} conn n state None = either (is_full state)
 pub step_once : {P : Type 0} (conn : ConnId) (spec_of : P → SampleSpec) (state : State P) (s : Step P) → IsKept spec_of state → ends_of conn (effects_of spec_of state s) + goes_on (stepped spec_of state s).connections conn ≤ goes_on state.connections conn + begins_of conn state s
 step_once conn spec_of state (connect n) h = connect_once conn n state (connection_of state.connections n)
 step_once conn spec_of state (frame n f) h = omega (arith, frame_once conn n state (going_on state.connections n) refl f)
-step_once conn spec_of state (broken n fault at) h =
-    omega (arith, ended_once conn n state (going_on state.connections n) refl (broken_effects fault at) (λ c. omega (arith, one_end (nat_eq c.0 conn.0) (closed_at c (rule_of fault) at))))
-step_once conn spec_of state (close n) h = omega (arith, ended_once conn n state (going_on state.connections n) refl close_effects (λ c. omega arith))
-step_once conn spec_of state (cut n) h = omega (arith, ended_once conn n state (going_on state.connections n) refl cut_effects (λ c. omega (arith, one_end (nat_eq c.0 conn.0) (closed_for c ForMemory))))
+step_once conn spec_of state (broken n fault at) h = omega (arith, ended_once conn n state (going_on state.connections n) refl (Some Breach) (rule_of fault) at)
+step_once conn spec_of state (close n) h = omega (arith, ended_once conn n state (going_on state.connections n) refl None 0 0)
+step_once conn spec_of state (cut n) h = omega (arith, ended_once conn n state (going_on state.connections n) refl (Some ForMemory) 0 0)
 step_once conn spec_of state sweep h = omega (arith, all_swept conn state.inputs (marked_of state.connections) state h.distinct)
 step_once conn spec_of state (notice sink n) h = omega (arith, notice_once conn spec_of state sink n)
 step_once conn spec_of state (out sink) h = omega (arith, out_same (next_for state sink) sink state conn)

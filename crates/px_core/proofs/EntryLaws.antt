@@ -1,28 +1,26 @@
 -- Inputs in rising index by their indices: which of those that pass a test a finite map has.
 use Rattle.std.proofs.Common.{◌≡◌, ℕ, ◌<◌, ◌≤◌, List, [], ◌∷◌, ◌++◌, map, length, Option, Some, None, Bool, true, false, refl, ap, sym, subst, ◌∙◌, arith, cond}
-use Rattle.std.specs.Prelude.{filter, nat_eq, ◌+◌}
+use Rattle.std.specs.Prelude.{filter, flat_map, nat_eq, ◌+◌}
+use Rattle.std.specs.Option.{option_to_list}
 use Rattle.std.specs.List.{AllByRecursion, find}
 use Rattle.std.specs.Ordering.{nat_cmp, eq_by_cmp}
 use Rattle.std.specs.FinMap as finite
 use Rattle.std.specs.Cmp.{nat_cmp_total}
 use Rattle.std.proofs.lemmas.Bool.{cond_both, cond-true, cond-false, eqb-true, eqb-false, eq-eqb, ne_eqb}
 use Rattle.std.proofs.lemmas.Bool.Decides.{nat_tests}
+use Rattle.std.proofs.lemmas.List.{append-nil}
 use Rattle.std.proofs.lemmas.Option.{none-some, same_Some}
 use Rattle.px_types.specs.declared.ids.InputId.{InputId}
 use Rattle.px_model.specs.Frame.{SampleSpec}
 use Rattle.px_model.specs.Orderly.{Inputs}
+use Rattle.px_msg.specs.declared.message.Msg.{Msg}
 use Rattle.px_msg.specs.View.{sample_spec}
-use Rattle.px_core.specs.declared.input.Input.{Input}
+use Rattle.px_plan.specs.declared.input.Input.{Input}
 use Rattle.px_core.specs.State.{has_index}
 use Rattle.px_core.specs.Change.{change_first, drop_first}
-use Rattle.px_core.specs.Orderly.{entry_of, specs_of}
-use Rattle.px_core.specs.Keeps.{AllAbove, IsRising}
+use Rattle.px_core.specs.Orderly.{entry_of, spec_in, specs_of}
+use Rattle.px_core.specs.Keeps.{AllAbove, IsRising, brought_of}
 use Rattle.px_core.proofs.ListLaws.{heads, tails, no_cons, found_test, found_all, all_change, all_drop, all_push}
-
--- the sample spec of the input with an index, where it passes
-abbrev pub spec_in : (Input → Bool) → ℕ → List Input → Option SampleSpec
-spec_in p i [] = None
-spec_in p i (x ∷ xs) = cond (nat_eq x.index.0 i) (cond (p x) (Some (sample_spec x.spec)) None) (spec_in p i xs)
 
 -- ---- tests
 
@@ -74,6 +72,10 @@ get_in p xs r i = finite.get-from_entries nat_cmp_total (map entry_of (filter p 
 -- the map is the one that answers so
 pub same_specs : (m : Inputs) (p : Input → Bool) (xs : List Input) → IsRising xs → ((i : ℕ) → finite.get m i ≡ spec_in p i xs) → m ≡ specs_of (filter p xs)
 same_specs m p xs r h = finite.same_map nat_cmp_total finite.nat_cmp-IsAntisymmetric m (specs_of (filter p xs)) (λ i. h i ∙ sym (get_in p xs r i))
+
+-- where the maps are the same, what is found is
+pub in_same : (p : Input → Bool) (xs ys : List Input) → IsRising xs → IsRising ys → map entry_of (filter p xs) ≡ map entry_of (filter p ys) → (i : ℕ) → spec_in p i xs ≡ spec_in p i ys
+in_same p xs ys r s e i = sym (get_in p xs r i) ∙ ap (λ es. finite.get (finite.from_entries {R = nat_cmp} es) i) e ∙ get_in p ys s i
 
 -- ---- the input that is found
 
@@ -204,51 +206,47 @@ pushed p xs r y a t =
     ∙ ap (λ b. cond (nat_eq y.index.0 i) (cond b (Some (sample_spec y.spec)) None) (spec_in p i xs)) (sym t)
     ∙ sym (push_in p xs y a i))
 
--- ---- the first of those that pass
-
--- an entry at the head of theirs is that of an input, and where that doesn't pass any more the others are left
-pub record FirstGone (p : Input → Bool) (f : Input → Input) (j : InputId) (s : SampleSpec) (rest : List (ℕ × SampleSpec)) (xs : List Input) : Type 0 where
-  pub input : Input
-  pub here : find (has_index j) xs ≡ Some input
-  pub passes : p input ≡ true
-  pub spec : sample_spec input.spec ≡ s
-  pub others : rest ≡ map entry_of (filter p (change_first (has_index j) f xs))
-
-pub first_gone : (p : Input → Bool) (f : Input → Input) → ((x : Input) → p (f x) ≡ false) → (j : InputId) (s : SampleSpec) (rest : List (ℕ × SampleSpec)) (xs : List Input) → IsRising xs → (j.0, s) ∷ rest ≡ map entry_of (filter p xs) → FirstGone p f j s rest xs
-first_gone p f k j s rest [] r e = absurd (no_cons (j.0, s) rest e)
-first_gone p f k j s rest (x ∷ xs) r e = step (first_gone p f k j s rest xs r.1) (p x) refl e
+-- what one more gives, that passes
+pub pushed_in : (p : Input → Bool) (xs : List Input) (y : Input) → AllByRecursion (λ x. (Input.index x).0 < y.index.0) xs → p y ≡ true → (i : ℕ) → option_to_list (spec_in p i (xs ++ y ∷ [])) ≡ option_to_list (spec_in p i xs) ++ cond (nat_eq y.index.0 i) (sample_spec y.spec ∷ []) []
+pushed_in p xs y a t i = ap option_to_list (push_in p xs y a i) ∙ step (nat_eq y.index.0 i) refl
   where
-    this : p x ≡ true → nat_eq x.index.0 j.0 ≡ true → sample_spec x.spec ≡ s → rest ≡ map entry_of (filter p xs) → FirstGone p f j s rest (x ∷ xs)
-    this t h q o = record {
-      input = x;
-      here = cond-true (nat_eq x.index.0 j.0) (Some x) (find (has_index j) xs) h;
-      passes = t;
-      spec = q;
-      others = o ∙ sym (ap (λ b. map entry_of (cond b (f x ∷ filter p xs) (filter p xs))) (k x))
-          ∙ sym (ap (λ b. map entry_of (filter p (cond b (f x ∷ xs) (x ∷ change_first (has_index j) f xs)))) h);
-    }
+    step : (b : Bool) → nat_eq y.index.0 i ≡ b → option_to_list (cond b (cond (p y) (Some (sample_spec y.spec)) None) (spec_in p i xs)) ≡ option_to_list (spec_in p i xs) ++ cond b (sample_spec y.spec ∷ []) []
+    step true e =
+        ap (λ b. option_to_list (cond b (Some (sample_spec y.spec)) None)) t
+        ∙ sym (ap (λ (o : Option SampleSpec). option_to_list o ++ sample_spec y.spec ∷ []) (subst (λ n. spec_in p n xs ≡ None) (eqb-true y.index.0 i e) (none_below p y.index.0 xs a)))
+    step false e = sym (append-nil (option_to_list (spec_in p i xs)))
 
-    later : p x ≡ false → FirstGone p f j s rest xs → FirstGone p f j s rest (x ∷ xs)
-    later t it =
-        let y : Input = it.input in
-        let same : nat_eq y.index.0 j.0 ≡ true = found_test (has_index j) xs y it.here in
-        let above : x.index.0 < y.index.0 = found_all (λ (z : Input). x.index.0 < z.index.0) (has_index j) xs y r.0 it.here in
-        let h : nat_eq x.index.0 j.0 ≡ false = ne_eqb x.index.0 j.0 (λ (g : x.index.0 ≡ j.0). absurd (omega (arith, above, g, eqb-true y.index.0 j.0 same))) in
-        record {
-          input = y;
-          here = cond-false (nat_eq x.index.0 j.0) (Some x) (find (has_index j) xs) h ∙ it.here;
-          passes = it.passes;
-          spec = it.spec;
-          others = it.others
-              ∙ sym (ap (λ b. map entry_of (cond b (x ∷ filter p (change_first (has_index j) f xs)) (filter p (change_first (has_index j) f xs)))) t)
-              ∙ sym (ap (λ b. map entry_of (filter p (cond b (f x ∷ xs) (x ∷ change_first (has_index j) f xs)))) h);
-        }
+-- ---- the input that the first message brings
 
-    step : ((j.0, s) ∷ rest ≡ map entry_of (filter p xs) → FirstGone p f j s rest xs) → (b : Bool) → p x ≡ b → (j.0, s) ∷ rest ≡ map entry_of (cond b (x ∷ filter p xs) (filter p xs)) → FirstGone p f j s rest (x ∷ xs)
-    step it true t g =
-        let same : ◌≡◌ {A = ℕ × SampleSpec} (j.0, s) (entry_of x) = heads (j.0, s) (entry_of x) rest (map entry_of (filter p xs)) g in
-        this t (eq-eqb x.index.0 j.0 (sym (ap (λ (z : ℕ × SampleSpec). z.0) same))) (sym (ap (λ (z : ℕ × SampleSpec). z.1) same)) (tails (j.0, s) (entry_of x) rest (map entry_of (filter p xs)) g)
-    step it false t g = later t (it g)
+one_brought : {A : Type 0} (o : Option A) (x : A) (xs : List A) → x ∷ xs ≡ option_to_list o → (o ≡ Some x) × (xs ≡ [])
+one_brought None x xs e = absurd (no_cons x xs e)
+one_brought (Some y) x xs e = (ap Some (sym (heads x y xs [] e)), tails x y xs [] e)
+
+-- it is on its way, and where it passes no more the messages behind bring the others
+pub record FirstBrought {P : Type 0} (spec_of : P → SampleSpec) (p : Input → Bool) (f : Input → Input) (j : InputId) (s : SampleSpec) (rest : List (Msg P)) (xs : List Input) : Type 0 where
+  pub it : Found p j xs s
+  pub others : (i : ℕ) → flat_map (brought_of spec_of i) rest ≡ option_to_list (spec_in p i (change_first (has_index j) f xs))
+
+pub first_brought : {P : Type 0} (spec_of : P → SampleSpec) (p : Input → Bool) (f : Input → Input) → Keeps f → ((x : Input) → p (f x) ≡ false) → (j : InputId) (s : SampleSpec) (m : Msg P) (rest : List (Msg P)) (xs : List Input)
+    → ((i : ℕ) → brought_of spec_of i m ≡ cond (nat_eq j.0 i) (s ∷ []) [])
+    → ((i : ℕ) → brought_of spec_of i m ++ flat_map (brought_of spec_of i) rest ≡ option_to_list (spec_in p i xs))
+    → FirstBrought spec_of p f j s rest xs
+first_brought {P} spec_of p f keeps k j s m rest xs brings bring = record { it = it; others = λ i. step i (nat_eq j.0 i) refl ∙ sym (ap option_to_list (change_in p j f keeps xs it.input it.here i)) }
+  where
+    own : (spec_in p j.0 xs ≡ Some s) × (flat_map (brought_of spec_of j.0) rest ≡ [])
+    own = one_brought (spec_in p j.0 xs) s (flat_map (brought_of spec_of j.0) rest)
+        (sym (ap (λ zs. zs ++ flat_map (brought_of spec_of j.0) rest) (brings j.0 ∙ cond-true (nat_eq j.0 j.0) (s ∷ []) [] (eq-eqb j.0 j.0 refl))) ∙ bring j.0)
+
+    it : Found p j xs s
+    it = found_in p j xs s own.0
+
+    step : (i : ℕ) (b : Bool) → nat_eq j.0 i ≡ b → flat_map (brought_of spec_of i) rest ≡ option_to_list (cond b (cond (p (f it.input)) (Some (sample_spec (f it.input).spec)) None) (spec_in p i xs))
+    step i true e =
+        subst (λ n. flat_map (brought_of spec_of n) rest ≡ []) (eqb-true j.0 i e) own.1
+        ∙ sym (ap (λ b. option_to_list (cond b (Some (sample_spec (f it.input).spec)) None)) (k it.input))
+    step i false e =
+        sym (ap (λ zs. zs ++ flat_map (brought_of spec_of i) rest) (brings i ∙ cond-false (nat_eq j.0 i) (s ∷ []) [] e))
+        ∙ bring i
 
 -- ---- how many there are
 

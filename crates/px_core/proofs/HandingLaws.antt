@@ -15,15 +15,15 @@ use Rattle.px_model.specs.Orderly.{inputs_left, inputs_left_by}
 use Rattle.px_msg.specs.declared.message.Msg.{Msg}
 use Rattle.px_msg.specs.declared.message.Msg.TheVariants.{New, Attach, Detach, Write, Cork, Flush, Trigger, Prebuf, Drain, Attr, Factors, Query}
 use Rattle.px_msg.specs.View.{sample_spec}
-use Rattle.px_core.specs.declared.input.Input.{Input}
-use Rattle.px_core.specs.declared.input.Way.{Way}
-use Rattle.px_core.specs.declared.input.Way.TheVariants.{Coming, There, Left}
-use Rattle.px_core.specs.State.{State, has_index, is_settled, settled_on}
-use Rattle.px_core.specs.Orderly.{entry_of, specs_of, is_held_by, is_there, inputs_there}
+use Rattle.px_plan.specs.declared.input.Input.{Input}
+use Rattle.px_plan.specs.declared.input.Way.{Way}
+use Rattle.px_plan.specs.declared.input.Way.TheVariants.{Coming, There, Left}
+use Rattle.px_core.specs.State.{State, has_index, is_bound_for, is_settled, bound_for, settled_on}
+use Rattle.px_core.specs.Orderly.{entry_of, spec_in, specs_of, is_held_by, is_there, inputs_there}
 use Rattle.px_core.specs.Out.{waiting_for, first_of, rest_of, on_way, with_way, inputs_past, past, handed_out}
-use Rattle.px_core.specs.Keeps.{AreInStep, IsInput, IsKept, IsRising, is_coming_to, is_coming, brought_by, handed_out_by, messages_out}
-use Rattle.px_core.proofs.ListLaws.{no_cons, same_passed, all_change}
-use Rattle.px_core.proofs.EntryLaws.{FirstGone, first_gone, Found, found_in, get_in, spec_in, removed, inserted, rising_change}
+use Rattle.px_core.specs.Keeps.{AreInStep, IsInput, IsKept, IsRising, is_coming_to, is_coming, brought_of, handed_out_by, messages_out}
+use Rattle.px_core.proofs.ListLaws.{no_cons, same_passed, no_more_pass, all_change}
+use Rattle.px_core.proofs.EntryLaws.{FirstBrought, first_brought, Found, found_in, get_in, in_same, removed, inserted, rising_change}
 use Rattle.px_core.proofs.InStepLaws.{view, unmoved, handed}
 use Rattle.px_core.proofs.ChangeLaws.{sink_at, held_on, set_in_step}
 
@@ -34,16 +34,23 @@ pub record Past {P : Type 0} (spec_of : P → SampleSpec) (k : ℕ) (inputs late
   pub each : (sinks : List SinkSpec) (made : ℕ) → AllByRecursion (IsInput sinks made) inputs → AllByRecursion (IsInput sinks made) later
   pub left : inputs_left spec_of (specs_of (filter (is_held_by (sink_at k)) inputs)) (view m) ≡ specs_of (filter (is_held_by (sink_at k)) later)
   pub settled : (index : ℕ) → map entry_of (settled_on later (sink_at index)) ≡ map entry_of (settled_on inputs (sink_at index))
-  pub bring : flat_map (brought_by spec_of) rest ≡ map entry_of (filter (is_coming_to (sink_at k)) later)
+  pub bound : (index : ℕ) → length (bound_for later (sink_at index)) ≤ length (bound_for inputs (sink_at index))
+  pub bring : (i : ℕ) → flat_map (brought_of spec_of i) rest ≡ option_to_list (spec_in (is_coming_to (sink_at k)) i later)
   pub others_held : (index : ℕ) → (index ≡ k → ⊥) → map entry_of (filter (is_held_by (sink_at index)) later) ≡ map entry_of (filter (is_held_by (sink_at index)) inputs)
-  pub others_coming : (index : ℕ) → (index ≡ k → ⊥) → map entry_of (filter (is_coming_to (sink_at index)) later) ≡ map entry_of (filter (is_coming_to (sink_at index)) inputs)
+  pub others_coming : (index : ℕ) → (index ≡ k → ⊥) → (i : ℕ) → spec_in (is_coming_to (sink_at index)) i later ≡ spec_in (is_coming_to (sink_at index)) i inputs
 
 way_each : (j : InputId) (way : Way) (inputs : List Input) (sinks : List SinkSpec) (made : ℕ) → AllByRecursion (IsInput sinks made) inputs → AllByRecursion (IsInput sinks made) (with_way j way inputs)
 way_each j way inputs sinks made h =
-    all_change (IsInput sinks made) (has_index j) (on_way way) (λ y k. record { given = k.given; sink_there = k.sink_there; playable = k.playable; repaired = k.repaired }) inputs h
+    all_change (IsInput sinks made) (has_index j) (on_way way) (λ y k. record { given = k.given; sink_there = k.sink_there; goes_there = k.goes_there; playable = k.playable; repaired = k.repaired }) inputs h
 
 way_settled : (j : InputId) (way : Way) (inputs : List Input) (index : ℕ) → map entry_of (settled_on (with_way j way inputs) (sink_at index)) ≡ map entry_of (settled_on inputs (sink_at index))
 way_settled j way inputs index = same_passed (is_settled (sink_at index)) (has_index j) (on_way way) entry_of inputs (λ y found. refl) (λ y. refl)
+
+way_bound : (j : InputId) (way : Way) (inputs : List Input) (index : ℕ) → length (bound_for (with_way j way inputs) (sink_at index)) ≤ length (bound_for inputs (sink_at index))
+way_bound j way inputs index = no_more_pass (is_bound_for (sink_at index)) (has_index j) (on_way way) (λ y t. t) inputs
+
+way_rising : (j : InputId) (way : Way) (inputs : List Input) → IsRising inputs → IsRising (with_way j way inputs)
+way_rising j way inputs r = rising_change (has_index j) (on_way way) (λ x. refl) inputs r
 
 -- an input of another sink passes no test of this one, wherever it is on its way
 way_other : (p : Way → Bool) (j : InputId) (way : Way) (inputs : List Input) (y : Input) → find (has_index j) inputs ≡ Some y → (k index : ℕ) → y.sink.0 ≡ k → (index ≡ k → ⊥) → map entry_of (filter (λ x. nat_eq (Input.sink x).0 index && p (Input.way x)) (with_way j way inputs)) ≡ map entry_of (filter (λ x. nat_eq (Input.sink x).0 index && p (Input.way x)) inputs)
@@ -55,24 +62,29 @@ way_other p j way inputs y here k index on apart =
     and_left (nat_eq z.sink.0 index) (p way) off ∙ sym (and_left (nat_eq z.sink.0 index) (p z.way) off))
     (λ z. refl)
 
+coming_other : (j : InputId) (way : Way) (inputs : List Input) → IsRising inputs → (y : Input) → find (has_index j) inputs ≡ Some y → (k index : ℕ) → y.sink.0 ≡ k → (index ≡ k → ⊥) → (i : ℕ) → spec_in (is_coming_to (sink_at index)) i (with_way j way inputs) ≡ spec_in (is_coming_to (sink_at index)) i inputs
+coming_other j way inputs r y here k index on apart =
+    in_same (is_coming_to (sink_at index)) (with_way j way inputs) inputs (way_rising j way inputs r) r (way_other is_coming j way inputs y here k index on apart)
+
 -- a stream arrives
 arrived : {P : Type 0} (spec_of : P → SampleSpec) (k : ℕ) (inputs : List Input) (m : Msg P) (rest : List (Msg P)) (j : InputId) (s : SampleSpec) → IsRising inputs
     → inputs_left spec_of (specs_of (filter (is_held_by (sink_at k)) inputs)) (view m) ≡ finite.insert (specs_of (filter (is_held_by (sink_at k)) inputs)) j.0 s
-    → FirstGone (is_coming_to (sink_at k)) (on_way There) j s (flat_map (brought_by spec_of) rest) inputs
+    → FirstBrought spec_of (is_coming_to (sink_at k)) (on_way There) j s rest inputs
     → Past spec_of k inputs (with_way j There inputs) m rest
-arrived spec_of k inputs m rest j s r puts it =
-    let y : Input = it.input in
-    let parts : (nat_eq y.sink.0 k ≡ true) × (is_coming y.way ≡ true) = and_parts (nat_eq y.sink.0 k) (is_coming y.way) it.passes in
+arrived spec_of k inputs m rest j s r puts first =
+    let y : Input = first.it.input in
+    let parts : (nat_eq y.sink.0 k ≡ true) × (is_coming y.way ≡ true) = and_parts (nat_eq y.sink.0 k) (is_coming y.way) first.it.passes in
     let on : y.sink.0 ≡ k = eqb-true y.sink.0 k parts.0 in
     record {
-      rising = rising_change (has_index j) (on_way There) (λ x. refl) inputs r;
+      rising = way_rising j There inputs r;
       each = way_each j There inputs;
-      left = puts ∙ ap (finite.insert (specs_of (filter (is_held_by (sink_at k)) inputs)) j.0) (sym it.spec)
-          ∙ inserted (is_held_by (sink_at k)) j (on_way There) (λ x. refl) inputs r y it.here (and_from (nat_eq y.sink.0 k) true parts.0 refl);
+      left = puts ∙ ap (finite.insert (specs_of (filter (is_held_by (sink_at k)) inputs)) j.0) (sym first.it.spec)
+          ∙ inserted (is_held_by (sink_at k)) j (on_way There) (λ x. refl) inputs r y first.it.here (and_from (nat_eq y.sink.0 k) true parts.0 refl);
       settled = way_settled j There inputs;
-      bring = it.others;
-      others_held = λ index apart. way_other is_there j There inputs y it.here k index on apart;
-      others_coming = λ index apart. way_other is_coming j There inputs y it.here k index on apart;
+      bound = way_bound j There inputs;
+      bring = first.others;
+      others_held = λ index apart. way_other is_there j There inputs y first.it.here k index on apart;
+      others_coming = λ index apart. coming_other j There inputs r y first.it.here k index on apart;
     }
 
 there_no_more_comes : (way : Way) → is_there way ≡ true → is_coming way ≡ false
@@ -87,7 +99,7 @@ some_of (Some s) e = (s, refl)
 -- a stream leaves
 departed : {P : Type 0} (spec_of : P → SampleSpec) (k : ℕ) (inputs : List Input) (rest : List (Msg P)) (j : InputId) → IsRising inputs
     → IsSome (finite.get (specs_of (filter (is_held_by (sink_at k)) inputs)) j.0)
-    → flat_map (brought_by spec_of) rest ≡ map entry_of (filter (is_coming_to (sink_at k)) inputs)
+    → ((i : ℕ) → flat_map (brought_of spec_of i) rest ≡ option_to_list (spec_in (is_coming_to (sink_at k)) i inputs))
     → Past spec_of k inputs (with_way j Left inputs) (Detach j) rest
 departed spec_of k inputs rest j r names bring =
     let some = some_of (spec_in (is_held_by (sink_at k)) j.0 inputs) (subst IsSome (get_in (is_held_by (sink_at k)) inputs r j.0) names) in
@@ -96,39 +108,44 @@ departed spec_of k inputs rest j r names bring =
     let parts : (nat_eq y.sink.0 k ≡ true) × (is_there y.way ≡ true) = and_parts (nat_eq y.sink.0 k) (is_there y.way) it.passes in
     let on : y.sink.0 ≡ k = eqb-true y.sink.0 k parts.0 in
     record {
-      rising = rising_change (has_index j) (on_way Left) (λ x. refl) inputs r;
+      rising = way_rising j Left inputs r;
       each = way_each j Left inputs;
       left = removed (is_held_by (sink_at k)) j (on_way Left) (λ x. refl) inputs r y it.here (and_right (nat_eq y.sink.0 k) false refl);
       settled = way_settled j Left inputs;
-      bring = bring ∙ sym (same_passed (is_coming_to (sink_at k)) (has_index j) (on_way Left) entry_of inputs
+      bound = way_bound j Left inputs;
+      bring = λ i. bring i ∙ ap option_to_list (sym (in_same (is_coming_to (sink_at k)) (with_way j Left inputs) inputs (way_rising j Left inputs r) r
+          (same_passed (is_coming_to (sink_at k)) (has_index j) (on_way Left) entry_of inputs
           (λ z found.
           and_right (nat_eq z.sink.0 k) false refl
           ∙ sym (subst (λ x. is_coming_to (sink_at k) x ≡ false) (same_Some y z (sym it.here ∙ found)) (and_right (nat_eq y.sink.0 k) (is_coming y.way) (there_no_more_comes y.way parts.1))))
-          (λ z. refl));
+          (λ z. refl)) i));
       others_held = λ index apart. way_other is_there j Left inputs y it.here k index on apart;
-      others_coming = λ index apart. way_other is_coming j Left inputs y it.here k index on apart;
+      others_coming = λ index apart. coming_other j Left inputs r y it.here k index on apart;
     }
 
 -- nothing moves
 stayed : {P : Type 0} (spec_of : P → SampleSpec) (k : ℕ) (inputs : List Input) (m : Msg P) (rest : List (Msg P)) → IsRising inputs
     → inputs_left spec_of (specs_of (filter (is_held_by (sink_at k)) inputs)) (view m) ≡ specs_of (filter (is_held_by (sink_at k)) inputs)
-    → flat_map (brought_by spec_of) rest ≡ map entry_of (filter (is_coming_to (sink_at k)) inputs)
+    → ((i : ℕ) → flat_map (brought_of spec_of i) rest ≡ option_to_list (spec_in (is_coming_to (sink_at k)) i inputs))
     → Past spec_of k inputs inputs m rest
 stayed spec_of k inputs m rest r left bring = record {
   rising = r;
   each = λ sinks made h. h;
   left = left;
   settled = λ index. refl;
+  bound = λ index. omega arith;
   bring = bring;
   others_held = λ index apart. refl;
-  others_coming = λ index apart. refl;
+  others_coming = λ index apart i. refl;
 }
 
 pub past_by : {P : Type 0} (spec_of : P → SampleSpec) (k : ℕ) (s : SinkSpec) (inputs : List Input) (m : Msg P) (rest : List (Msg P)) → IsRising inputs → AreInStep spec_of (sink_at k) s inputs (m ∷ rest) → Past spec_of k inputs (inputs_past m inputs) m rest
 past_by spec_of k s inputs (New n) rest r h =
-    arrived spec_of k inputs (New n) rest n.input (sample_spec n.spec) r refl (first_gone (is_coming_to (sink_at k)) (on_way There) (λ x. and_right (nat_eq x.sink.0 k) false refl) n.input (sample_spec n.spec) (flat_map (brought_by spec_of) rest) inputs r h.bring)
+    arrived spec_of k inputs (New n) rest n.input (sample_spec n.spec) r refl
+    (first_brought spec_of (is_coming_to (sink_at k)) (on_way There) (λ x. refl) (λ x. and_right (nat_eq x.sink.0 k) false refl) n.input (sample_spec n.spec) (New n) rest inputs (λ i. refl) h.bring)
 past_by spec_of k s inputs (Attach j parcel feed factors) rest r h =
-    arrived spec_of k inputs (Attach j parcel feed factors) rest j (spec_of parcel) r refl (first_gone (is_coming_to (sink_at k)) (on_way There) (λ x. and_right (nat_eq x.sink.0 k) false refl) j (spec_of parcel) (flat_map (brought_by spec_of) rest) inputs r h.bring)
+    arrived spec_of k inputs (Attach j parcel feed factors) rest j (spec_of parcel) r refl
+    (first_brought spec_of (is_coming_to (sink_at k)) (on_way There) (λ x. refl) (λ x. and_right (nat_eq x.sink.0 k) false refl) j (spec_of parcel) (Attach j parcel feed factors) rest inputs (λ i. refl) h.bring)
 past_by spec_of k s inputs (Detach j) rest r h = departed spec_of k inputs rest j r h.orderly.0 h.bring
 past_by spec_of k s inputs (Write input seek offset frames bytes) rest r h = stayed spec_of k inputs (Write input seek offset frames bytes) rest r refl h.bring
 past_by spec_of k s inputs (Cork input on) rest r h = stayed spec_of k inputs (Cork input on) rest r refl h.bring
@@ -170,10 +187,10 @@ past_keeps spec_of state sink h (m ∷ rest) e =
       in_step = set_in_step spec_of state.sinks (inputs_past m state.inputs) state.posted sink.0 (rest_of (get_or state.posted sink.0 [])) l
           (λ s g.
           subst (λ ms. AreInStep spec_of (sink_at sink.0) s (inputs_past m state.inputs) ms) (sym (ap rest_of e))
-          (handed spec_of (sink_at sink.0) s state.inputs (inputs_past m state.inputs) rest m it.left (it.settled sink.0) it.bring
+          (handed spec_of (sink_at sink.0) s state.inputs (inputs_past m state.inputs) rest m it.left (it.settled sink.0) it.bring (it.bound sink.0)
           (subst (λ ms. AreInStep spec_of (sink_at sink.0) s state.inputs ms) e (h.in_step sink.0 s g))))
           (λ index s apart g.
-          unmoved spec_of (sink_at index) s state.inputs (inputs_past m state.inputs) (get_or state.posted index []) (it.others_held index apart) (it.settled index) (it.others_coming index apart)
+          unmoved spec_of (sink_at index) s state.inputs (inputs_past m state.inputs) (get_or state.posted index []) (it.others_held index apart) (it.settled index) (it.others_coming index apart) (it.bound index)
           (h.in_step index s g));
     }
 

@@ -12,11 +12,13 @@ use Rattle.px_model.specs.Frame.{SampleSpec}
 use Rattle.px_model.specs.Orderly.{Inputs, IsOrderly, inputs_left, inputs_left_by}
 use Rattle.px_msg.specs.declared.message.Msg.{Msg}
 use Rattle.px_msg.specs.View.{sample_spec}
-use Rattle.px_core.specs.declared.change.Change.{Change}
-use Rattle.px_core.specs.declared.change.Change.TheVariants.{Authed, Named, Marked, Forgotten, Made, Leaves, Gone, Posted}
-use Rattle.px_core.specs.declared.input.Connection.{Connection}
-use Rattle.px_core.specs.State.{State, connection_of}
-use Rattle.px_core.specs.Change.{changed, committed}
+use Rattle.px_plan.specs.declared.change.Change.TheVariants.{Authed, Named, Made, Leaves, Said, Regrouped, Gone, Ended, Forgotten}
+use Rattle.px_plan.specs.declared.input.Input.{Input}
+use Rattle.px_plan.specs.declared.input.Standing.{Standing}
+use Rattle.px_plan.specs.declared.input.Standing.TheVariants.{Settled, Moving, Leaving}
+use Rattle.px_plan.specs.declared.input.Connection.{Connection}
+use Rattle.px_core.specs.State.{State, connection_of, input_of}
+use Rattle.px_core.specs.Change.{Change, ending, ending_of, saying, saying_of, changed, committed}
 use Rattle.px_core.specs.Reply.{Answer}
 use Rattle.px_core.specs.Connecting.{is_full, joined, connected}
 use Rattle.px_core.specs.Orderly.{inputs_there}
@@ -31,15 +33,34 @@ use Rattle.px_core.proofs.StepLaws.{step_keeps, step_spares}
 
 -- ---- the sinks stay
 
+ending_sinks : {P : Type 0} (o : Option Input) (state : State P) → (ending_of o state).sinks ≡ state.sinks
+ending_sinks None state = refl
+ending_sinks (Some x) state = by x.standing
+  where
+    by : (standing : Standing) → (ending standing x state).sinks ≡ state.sinks
+    by Settled = refl
+    by (Moving to) = refl
+    by Leaving = refl
+
+saying_sinks : {P : Type 0} (o : Option Input) (m : Msg P) (state : State P) → (saying_of o m state).sinks ≡ state.sinks
+saying_sinks None m state = refl
+saying_sinks (Some x) m state = by x.standing
+  where
+    by : (standing : Standing) → (saying standing x m state).sinks ≡ state.sinks
+    by Settled = refl
+    by (Moving to) = refl
+    by Leaving = refl
+
 change_sinks : {P : Type 0} (state : State P) (c : Change P) → (changed state c).sinks ≡ state.sinks
 change_sinks state (Authed conn version) = refl
 change_sinks state (Named conn list) = refl
-change_sinks state (Marked conn) = refl
-change_sinks state (Forgotten conn) = refl
-change_sinks state (Made x streams inputs) = refl
-change_sinks state (Leaves index) = refl
+change_sinks state (Made x m streams inputs) = refl
+change_sinks state (Leaves index) = ending_sinks (input_of state.inputs index) state
+change_sinks state (Said index m) = saying_sinks (input_of state.inputs index) m state
+change_sinks state (Regrouped sink group m) = refl
 change_sinks state (Gone index) = refl
-change_sinks state (Posted sink m) = refl
+change_sinks state (Ended conn reason fault at) = refl
+change_sinks state (Forgotten conn) = refl
 
 committed_sinks : {P : Type 0} (changes : List (Change P)) (state : State P) → (committed state changes).sinks ≡ state.sinks
 committed_sinks [] state = refl

@@ -1,8 +1,9 @@
 -- A sink, the inputs and the messages that wait for it stay in step.
-use Rattle.std.proofs.Common.{◌≡◌, ◌≤◌, List, [], ◌∷◌, ◌++◌, map, length, refl, ap, sym, subst, ◌∙◌}
+use Rattle.std.proofs.Common.{◌≡◌, ℕ, ◌≤◌, List, [], ◌∷◌, ◌++◌, map, length, refl, ap, sym, subst, ◌∙◌, arith}
 use Rattle.std.specs.Prelude.{filter, flat_map}
+use Rattle.std.specs.Option.{option_to_list}
 use Rattle.std.specs.FinMap as finite
-use Rattle.std.proofs.lemmas.List.{map-append, length-map, append-nil}
+use Rattle.std.proofs.lemmas.List.{map-append, append-nil}
 use Rattle.std.proofs.lemmas.Grind.{flat_map-append}
 use Rattle.px_types.specs.declared.ids.SinkId.{SinkId}
 use Rattle.px_session.specs.declared.header.SinkSpec.{SinkSpec}
@@ -12,11 +13,11 @@ use Rattle.px_model.specs.Orderly.{Inputs, IsOrderly, NamesInput, Fits, inputs_l
 use Rattle.px_model.proofs.Shown.{orderly_joins}
 use Rattle.px_msg.specs.declared.message.Msg.{Msg}
 use Rattle.px_msg.specs.View.{sample_spec, message_of}
-use Rattle.px_core.specs.declared.input.Input.{Input}
-use Rattle.px_core.specs.State.{settled_on}
+use Rattle.px_plan.specs.declared.input.Input.{Input}
+use Rattle.px_core.specs.State.{settled_on, bound_for}
 use Rattle.px_core.specs.Create.{MOST_ON_SINK}
-use Rattle.px_core.specs.Orderly.{entry_of, specs_of, is_held_by}
-use Rattle.px_core.specs.Keeps.{AreInStep, IsPosted, is_coming_to, brought_by}
+use Rattle.px_core.specs.Orderly.{entry_of, spec_in, specs_of, is_held_by}
+use Rattle.px_core.specs.Keeps.{AreInStep, IsPosted, is_coming_to, brought_of}
 use Rattle.px_core.proofs.ListLaws.{all_push}
 
 -- a message, as the definitions of sinks have it
@@ -45,32 +46,30 @@ module _ {P : Type 0} (spec_of : P → SampleSpec) (sink : SinkId) (s : SinkSpec
   Settled = map entry_of (settled_on later sink) ≡ map entry_of (settled_on inputs sink)
 
   abbrev Coming : Type 0
-  Coming = map entry_of (filter (is_coming_to sink) later) ≡ map entry_of (filter (is_coming_to sink) inputs)
+  Coming = (i : ℕ) → spec_in (is_coming_to sink) i later ≡ spec_in (is_coming_to sink) i inputs
 
-  same_few : Settled → length (settled_on inputs sink) ≤ MOST_ON_SINK → length (settled_on later sink) ≤ MOST_ON_SINK
-  same_few e few =
-      subst (λ n. n ≤ MOST_ON_SINK)
-      (sym (length-map (settled_on inputs sink) entry_of) ∙ sym (ap length e) ∙ length-map (settled_on later sink) entry_of) few
+  abbrev Bound : Type 0
+  Bound = length (bound_for later sink) ≤ length (bound_for inputs sink)
 
-  -- nothing changes for this sink
-  pub unmoved : (waiting : List (Msg P)) → Held → Settled → Coming → AreInStep spec_of sink s inputs waiting → AreInStep spec_of sink s later waiting
-  unmoved waiting held settled coming h = record {
+  -- nothing changes for this sink, but that inputs may go that were bound for it
+  pub unmoved : (waiting : List (Msg P)) → Held → Settled → Coming → Bound → AreInStep spec_of sink s inputs waiting → AreInStep spec_of sink s later waiting
+  unmoved waiting held settled coming bound h = record {
     orderly = subst (λ es. IsOrderly spec_of (sample_spec s.spec) (finite.from_entries es) (map view waiting)) (sym held) h.orderly;
     leaves = subst (λ es. inputs_left_by spec_of (finite.from_entries es) (map view waiting) ≡ specs_of (settled_on later sink)) (sym held)
         (h.leaves ∙ ap finite.from_entries (sym settled));
-    bring = h.bring ∙ sym coming;
+    bring = λ i. h.bring i ∙ ap option_to_list (sym (coming i));
     each = h.each;
-    few = same_few settled h.few;
+    few = omega (arith, bound, h.few);
   }
 
   -- a message is posted
   pub posted : (waiting : List (Msg P)) (m : Msg P) → Held
-      → map entry_of (filter (is_coming_to sink) later) ≡ map entry_of (filter (is_coming_to sink) inputs) ++ brought_by spec_of m
+      → ((i : ℕ) → option_to_list (spec_in (is_coming_to sink) i later) ≡ option_to_list (spec_in (is_coming_to sink) i inputs) ++ brought_of spec_of i m)
       → NamesInput (specs_of (settled_on inputs sink)) (view m)
       → Fits spec_of (sample_spec s.spec) (specs_of (settled_on inputs sink)) (view m)
       → inputs_left spec_of (specs_of (settled_on inputs sink)) (view m) ≡ specs_of (settled_on later sink)
       → IsPosted m
-      → length (settled_on later sink) ≤ MOST_ON_SINK
+      → length (bound_for later sink) ≤ MOST_ON_SINK
       → AreInStep spec_of sink s inputs waiting → AreInStep spec_of sink s later (waiting ++ m ∷ [])
   posted waiting m held coming names fits settled is_posted few h = record {
     orderly = subst (λ ms. IsOrderly spec_of (sample_spec s.spec) (there later) ms) (sym (map-append view waiting (m ∷ [])))
@@ -81,9 +80,9 @@ module _ {P : Type 0} (spec_of : P → SampleSpec) (sink : SinkId) (s : SinkSpec
         ∙ ap (λ es. inputs_left spec_of (inputs_left_by spec_of (finite.from_entries es) (map view waiting)) (view m)) held
         ∙ ap (λ left. inputs_left spec_of left (view m)) h.leaves
         ∙ settled;
-    bring = flat_map-append (brought_by spec_of) waiting (m ∷ [])
-        ∙ (λ i. h.bring i ++ append-nil (brought_by spec_of m) i)
-        ∙ sym coming;
+    bring = λ i. flat_map-append (brought_of spec_of i) waiting (m ∷ [])
+        ∙ (λ k. h.bring i k ++ append-nil (brought_of spec_of i m) k)
+        ∙ sym (coming i);
     each = all_push IsPosted waiting m h.each is_posted;
     few = few;
   }
@@ -92,12 +91,13 @@ module _ {P : Type 0} (spec_of : P → SampleSpec) (sink : SinkId) (s : SinkSpec
   pub handed : (waiting : List (Msg P)) (m : Msg P)
       → inputs_left spec_of (there inputs) (view m) ≡ there later
       → Settled
-      → flat_map (brought_by spec_of) waiting ≡ map entry_of (filter (is_coming_to sink) later)
+      → ((i : ℕ) → flat_map (brought_of spec_of i) waiting ≡ option_to_list (spec_in (is_coming_to sink) i later))
+      → Bound
       → AreInStep spec_of sink s inputs (m ∷ waiting) → AreInStep spec_of sink s later waiting
-  handed waiting m left settled bring h = record {
+  handed waiting m left settled bring bound h = record {
     orderly = subst (λ inputs. IsOrderly spec_of (sample_spec s.spec) inputs (map view waiting)) left h.orderly.2;
     leaves = ap (λ left. inputs_left_by spec_of left (map view waiting)) (sym left) ∙ h.leaves ∙ ap finite.from_entries (sym settled);
     bring = bring;
     each = h.each.1;
-    few = same_few settled h.few;
+    few = omega (arith, bound, h.few);
   }

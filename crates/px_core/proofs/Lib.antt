@@ -1,5 +1,6 @@
 pub mod First
 pub mod Lengths
+pub mod Rooms
 pub mod Sendable
 pub mod Row
 pub mod Sinks
@@ -10,10 +11,12 @@ pub mod EntryLaws
 pub mod InStepLaws
 pub mod ChangeLaws
 pub mod HandingLaws
+pub mod VerbLaws
 pub mod AnswerLaws
 pub mod SweepLaws
 pub mod CreateLaws
 pub mod StepLaws
+pub mod CoreLaws
 pub mod BackLaws
 pub mod EndLaws
 pub mod RefusalLaws

@@ -113,3 +113,14 @@ no_more_pass p q f k (x ∷ xs) = step (no_more_pass p q f k xs) (q x)
     step : length (filter p (change_first q f xs)) ≤ length (filter p xs) → (b : Bool) → length (filter p (cond b (f x ∷ xs) (x ∷ change_first q f xs))) ≤ length (filter p (x ∷ xs))
     step later true = passed (p (f x)) (p x) (k x)
     step later false = behind (p x) later
+
+-- a test that lets no more pass than another
+pub fewer_pass : {A : Type 0} (p q : A → Bool) → ((x : A) → p x ≡ true → q x ≡ true) → (xs : List A) → length (filter p xs) ≤ length (filter q xs)
+fewer_pass p q k [] = omega arith
+fewer_pass {A} p q k (x ∷ xs) = step (fewer_pass p q k xs) (p x) (q x) (k x)
+  where
+    step : length (filter p xs) ≤ length (filter q xs) → (a b : Bool) → (a ≡ true → b ≡ true) → length (cond a (x ∷ filter p xs) (filter p xs)) ≤ length (cond b (x ∷ filter q xs) (filter q xs))
+    step later true true e = omega (arith, later)
+    step later true false e = absurd (false≢true (e refl))
+    step later false true e = omega (arith, later)
+    step later false false e = later

@@ -6,7 +6,8 @@ use Rattle.std.proofs.lemmas.Option.{none-some, same_Some}
 use Rattle.px_types.specs.declared.ids.ConnId.{ConnId}
 use Rattle.px_types.specs.declared.ids.SinkId.{SinkId}
 use Rattle.px_types.specs.declared.error_code.ErrorCode.{ErrorCode}
-use Rattle.px_types.specs.declared.error_code.ErrorCode.TheVariants.{Access, Version, Invalid, NotImplemented}
+use Rattle.px_types.specs.declared.error_code.ErrorCode.TheVariants.{Access, BadState, Command as UnknownCommand, Invalid, NoEntity, NotImplemented, NotSupported, Version}
+use Rattle.px_types.specs.ErrorCode.{code_of as error_code}
 use Rattle.px_tag.specs.declared.fault.TagFault.{TagFault}
 use Rattle.px_tag.specs.Place.{Place, start_of}
 use Rattle.px_tag.specs.Item.{number}
@@ -29,27 +30,26 @@ use Rattle.px_model.specs.Frame.{SampleSpec}
 use Rattle.px_sample.specs.Format.{frame_size_of}
 use Rattle.px_msg.specs.declared.notice.Notice.{Notice}
 use Rattle.px_msg.specs.declared.notice.Notice.TheVariants.{Request, Overflow, Underflow, Started, Drained, Detached, Latency}
-use Rattle.px_core.specs.declared.change.Change.{Change}
-use Rattle.px_core.specs.declared.change.Change.TheVariants.{Authed, Marked, Posted}
+use Rattle.px_plan.specs.declared.change.Change.TheVariants.{Authed, Said, Ended}
 use Rattle.px_core.specs.declared.effect.Effect.{Effect}
 use Rattle.px_core.specs.declared.effect.Effect.TheVariants.{Sent, Closed}
-use Rattle.px_core.specs.declared.effect.Reason.{Reason}
-use Rattle.px_core.specs.declared.effect.Reason.TheVariants.{Protocol as Breach, Limit, Cut as ForMemory}
-use Rattle.px_core.specs.declared.input.Connection.{Connection}
-use Rattle.px_core.specs.declared.input.Input.{Input}
-use Rattle.px_core.specs.State.{State, connection_of, stream_of}
-use Rattle.px_core.specs.Change.{committed}
-use Rattle.px_core.specs.Effect.{framed, sent, closed_for, fault_code, fault_place, offset_behind}
-use Rattle.px_core.specs.Reply.{Answer, ignored, refused, done, broken_off}
+use Rattle.px_plan.specs.declared.sending.Reason.{Reason}
+use Rattle.px_plan.specs.declared.sending.Reason.TheVariants.{Protocol as Breach, Limit, Cut as ForMemory}
+use Rattle.px_plan.specs.declared.input.Connection.{Connection}
+use Rattle.px_plan.specs.declared.input.Input.{Input}
+use Rattle.px_core.specs.State.{State, goes_on, connection_of, stream_of}
+use Rattle.px_core.specs.Change.{Change, marked, with_connection, committed}
+use Rattle.px_core.specs.Effect.{reason_code, framed, sent, closed_at, closed_for, fault_code, fault_place, offset_behind}
+use Rattle.px_core.specs.Reply.{Answer, ignored, refused, done, broken_off, closed_by, ended_by}
 use Rattle.px_core.specs.Client.{SERVER_VERSION, version_in, let_in, auth_after, auth, set_name}
 use Rattle.px_core.specs.Command.{create_in, number_in, as_bytes, as_properties, field, row, read_answer, is_barred, is_waiting_for_work, command_answer, head_answer}
 use Rattle.px_core.specs.Create.{created, created_of, created_or, create_there, create_named, create, is_lawful, refusal_on, input_made}
 use Rattle.px_core.specs.Delete.{ends, delete_of, delete}
 use Rattle.px_core.specs.Data.{are_frames, write_of, data_for}
-use Rattle.px_core.specs.Connecting.{is_full, connect_effects, going_on, ended, broken_effects, close_effects, cut_effects}
+use Rattle.px_core.specs.Connecting.{is_full, connect_effects, going_on, ended}
 use Rattle.px_core.specs.Told.{told_to, told_of, input_on, gives_up, given_up_on, given_up, notice_answer, request_message, overflow_message, underflow_message, started_message}
 use Rattle.px_core.specs.Ending.{sender_of}
-use Rattle.px_core.specs.Step.{Step, connect, frame, broken, close, cut, sweep, notice, out, body_answer, frame_of, stepped, effects_of}
+use Rattle.px_core.specs.Step.{Step, connect, frame, broken, close, cut, sweep, notice, out, body_answer, frame_of, answer_of, stepped, effects_of}
 use Rattle.px_core.proofs.ListLaws.{heads, no_cons}
 
 -- ---- an error is no reply
@@ -91,166 +91,252 @@ is_sent (Closed conn reason fault at) = false
 closed_apart : (a b : ConnId) (reason : Reason) (fault at : ℕ) (packet : List ℕ) → Closed a reason fault at ≡ sent b packet → ⊥
 closed_apart a b reason fault at packet e = false≢true (ap is_sent e)
 
+-- ---- what kind of answer each is
+
+pub data Kind {P : Type 0} (answer : Answer P) : Type 0 where
+  -- a packet goes to a client, and nothing changes
+  told : (to : ConnId) (packet : List ℕ) → answer.changes ≡ [] → answer.effects ≡ sent to packet ∷ [] → Kind answer
+  -- who asked has a reply
+  replied : (to : ConnId) (packet : List ℕ) → answer.effects ≡ sent to packet ∷ [] → get_or packet 4 0 ≡ 2 → Kind answer
+  -- nobody is told
+  silent : answer.effects ≡ [] → Kind answer
+  -- a connection ends
+  ending : (to : ConnId) (reason : Option Reason) (fault at : ℕ) → answer ≡ ended_by to reason fault at → Kind answer
+
+refused_kind : {P : Type 0} (to : ConnId) (tag : ℕ) (code : ErrorCode) → Kind {P = P} (refused to tag code)
+refused_kind to tag code = told to (refusal tag (error_code code)) refl refl
+
+done_kind : {P : Type 0} (to : ConnId) (packet : List ℕ) (changes : List (Change P)) → get_or packet 4 0 ≡ 2 → Kind (done to packet changes)
+done_kind to packet changes two = replied to packet refl two
+
+let_in_kind : {P : Type 0} (names : Naming) (c : Connection) (t version : ℕ) (cookie : List ℕ) → Kind {P = P} (let_in names c t version cookie)
+let_in_kind {P} names c t version cookie =
+    cond_both (nat_lt (version_in version) SERVER_VERSION) (refused c.conn t Version) (cond (not (same_text cookie names.cookie)) (refused c.conn t Access) (done c.conn (reply_to t ++ number SERVER_VERSION) (Authed c.conn SERVER_VERSION ∷ []))) (Kind {P = P})
+    (λ e. refused_kind c.conn t Version)
+    (λ e. cond_both (not (same_text cookie names.cookie)) (refused c.conn t Access) (done c.conn (reply_to t ++ number SERVER_VERSION) (Authed c.conn SERVER_VERSION ∷ [])) (Kind {P = P})
+    (λ f. refused_kind c.conn t Access)
+    (λ f. done_kind c.conn (reply_to t ++ number SERVER_VERSION) (Authed c.conn SERVER_VERSION ∷ []) (reply_byte t (number SERVER_VERSION))))
+
+auth_kind : {P : Type 0} (agreed : Option ℕ) (names : Naming) (c : Connection) (t version : ℕ) (cookie : List ℕ) → Kind {P = P} (auth_after agreed names c t version cookie)
+auth_kind None names c t version cookie = let_in_kind names c t version cookie
+auth_kind (Some agreed) names c t version cookie = refused_kind c.conn t BadState
+
+created_kind : {P : Type 0} (state : State P) (o : Option ErrorCode) (c : Connection) (t : ℕ) (index : SinkId) (sink : SinkSpec) (a : CreateFields) → Kind {P = P} (created_or o state.inputs state.inputs_made c t index sink a)
+created_kind state (Some error) c t index sink a = refused_kind c.conn t error
+created_kind {P} state None c t index sink a =
+    done_kind c.conn (created_reply t (created_of sink a (input_made state.inputs_made c index sink a))) (Answer.changes (created {P = P} state.inputs state.inputs_made c t sink a (input_made state.inputs_made c index sink a)))
+    (created_byte t (created_of sink a (input_made state.inputs_made c index sink a)))
+
+create_there_kind : {P : Type 0} (state : State P) (c : Connection) (t : ℕ) (index : SinkId) (a : CreateFields) (o : Option SinkSpec) → Kind {P = P} (create_there state.inputs state.inputs_made c t index o a)
+create_there_kind state c t index a None = refused_kind c.conn t Invalid
+create_there_kind state c t index a (Some sink) = created_kind state (refusal_on state.inputs state.inputs_made c index sink a) c t index sink a
+
+create_named_kind : {P : Type 0} (state : State P) (c : Connection) (t : ℕ) (a : CreateFields) (r : Result SinkId ErrorCode) → Kind {P = P} (create_named state.sinks state.inputs state.inputs_made c t r a)
+create_named_kind state c t a (Err error) = refused_kind c.conn t error
+create_named_kind state c t a (Ok index) = create_there_kind state c t index a (slice_get state.sinks index.0)
+
+create_kind : {P : Type 0} (state : State P) (c : Connection) (t : ℕ) (a : CreateFields) → Kind {P = P} (create state.names state.sinks state.inputs state.inputs_made c t a)
+create_kind {P} state c t a =
+    cond_both (is_lawful a) (create_named state.sinks state.inputs state.inputs_made c t (sink_named state.names a.sink.index a.sink.name true) a) (refused c.conn t Invalid) (Kind {P = P})
+    (λ e. create_named_kind state c t a (sink_named state.names a.sink.index a.sink.name true))
+    (λ e. refused_kind c.conn t Invalid)
+
+delete_kind : {P : Type 0} (o : Option Input) (c : Connection) (t : ℕ) → Kind {P = P} (delete_of o c t)
+delete_kind None c t = refused_kind c.conn t NoEntity
+delete_kind {P} (Some x) c t = done_kind c.conn (reply_to t) (ends {P = P} x) (plain_byte t)
+
+row_kind : {P : Type 0} (state : State P) (c : Connection) (t command : ℕ) (fields : List Field) → Kind (row state c t command fields)
+row_kind {P} state c t command fields =
+    cond_both (nat_eq command 8) (auth state.names c t (number_in fields 0) (as_bytes (field fields 1)))
+    (cond (nat_eq command 9) (set_name state.names c t (as_properties (field fields 0)))
+    (cond (nat_eq command 3) (create state.names state.sinks state.inputs state.inputs_made c t (create_in fields))
+    (cond (nat_eq command 4) (delete state.inputs c t (number_in fields 0))
+    (done c.conn (reply_to t) [])))) (Kind {P = P})
+    (λ e. auth_kind c.version state.names c t (number_in fields 0) (as_bytes (field fields 1)))
+    (λ e. cond_both (nat_eq command 9) (set_name state.names c t (as_properties (field fields 0)))
+    (cond (nat_eq command 3) (create state.names state.sinks state.inputs state.inputs_made c t (create_in fields))
+    (cond (nat_eq command 4) (delete state.inputs c t (number_in fields 0))
+    (done c.conn (reply_to t) []))) (Kind {P = P})
+    (λ f. done_kind c.conn (reply_to t ++ number c.client) (Answer.changes (set_name {P = P} state.names c t (as_properties (field fields 0)))) (reply_byte t (number c.client)))
+    (λ f. cond_both (nat_eq command 3) (create state.names state.sinks state.inputs state.inputs_made c t (create_in fields))
+    (cond (nat_eq command 4) (delete state.inputs c t (number_in fields 0))
+    (done c.conn (reply_to t) [])) (Kind {P = P})
+    (λ g. create_kind state c t (create_in fields))
+    (λ g. cond_both (nat_eq command 4) (delete state.inputs c t (number_in fields 0)) (done c.conn (reply_to t) []) (Kind {P = P})
+    (λ i. delete_kind (stream_of state.inputs c.conn (number_in fields 0)) c t)
+    (λ i. done_kind c.conn (reply_to t) [] (plain_byte t)))))
+
+broken_off_kind : {P : Type 0} (to : ConnId) (at : ℕ) (fault : TagFault) → Kind {P = P} (broken_off to at fault)
+broken_off_kind to at fault = ending to (Some Breach) (fault_code fault) (offset_behind at (fault_place fault)) refl
+
+read_kind : {P : Type 0} (state : State P) (c : Connection) (at t : ℕ) (r : Result (ℕ × List Field) CmdFault) → Kind (read_answer state c at t r)
+read_kind state c at t (Ok packet) = row_kind state c t packet.0 packet.1
+read_kind state c at t (Err (Protocol fault)) = broken_off_kind c.conn at fault
+read_kind state c at t (Err (Unknown command)) = refused_kind c.conn t UnknownCommand
+read_kind state c at t (Err (Unsupported command)) = refused_kind c.conn t NotSupported
+read_kind state c at t (Err NoMemory) = silent refl
+
+command_kind : {P : Type 0} (state : State P) (c : Connection) (at : ℕ) (packet : List ℕ) (command t : ℕ) → Kind (command_answer state c at packet command t)
+command_kind {P} state c at packet command t =
+    cond_both (is_barred c command) (refused c.conn t Access) (cond (is_waiting_for_work command) (refused c.conn t NotImplemented) (read_answer state c at t (meaning packet))) (Kind {P = P})
+    (λ e. refused_kind c.conn t Access)
+    (λ e. cond_both (is_waiting_for_work command) (refused c.conn t NotImplemented) (read_answer state c at t (meaning packet)) (Kind {P = P})
+    (λ f. refused_kind c.conn t NotImplemented)
+    (λ f. read_kind state c at t (meaning packet)))
+
+head_kind : {P : Type 0} (state : State P) (c : Connection) (at : ℕ) (packet : List ℕ) (r : Result ((ℕ × ℕ) × Place) TagFault) → Kind (head_answer state c at packet r)
+head_kind state c at packet (Err fault) = broken_off_kind c.conn at fault
+head_kind state c at packet (Ok head) = command_kind state c at packet head.0.0 head.0.1
+
+data_kind : {P : Type 0} (o : Option Input) (offset : ℤ) (seek : ℕ) (bytes : List ℕ) → Kind {P = P} (data_for o offset seek bytes)
+data_kind None offset seek bytes = silent refl
+data_kind {P} (Some x) offset seek bytes =
+    cond_both (are_frames (frame_size_of x.spec) offset (length bytes)) (record { changes = Said x.index (write_of x offset seek bytes) ∷ []; effects = [] }) ignored (Kind {P = P})
+    (λ e. silent refl)
+    (λ e. silent refl)
+
+body_kind : {P : Type 0} (state : State P) (c : Connection) (at : ℕ) (body : Body) → Kind (body_answer state c at body)
+body_kind state c at (Control packet) = head_kind state c at packet (head_at (start_of packet))
+body_kind state c at (Write stream offset seek bytes) = data_kind (stream_of state.inputs c.conn stream) offset seek bytes
+
+frame_kind : {P : Type 0} (state : State P) (o : Option Connection) (f : Frame) → Kind (frame_of state o f)
+frame_kind state None f = silent refl
+frame_kind state (Some c) f = body_kind state c f.at f.body
+
+ended_kind : {P : Type 0} (o : Option Connection) (reason : Option Reason) (fault at : ℕ) → Kind {P = P} (ended o reason fault at)
+ended_kind None reason fault at = silent refl
+ended_kind (Some c) reason fault at = ending c.conn reason fault at refl
+
+told_to_kind : {P : Type 0} (o : Option Connection) (packet : List ℕ) → Kind {P = P} (record { changes = []; effects = told_to o packet })
+told_to_kind None packet = silent refl
+told_to_kind (Some c) packet = told c.conn packet refl refl
+
+told_kind : {P : Type 0} (connections : List Connection) (o : Option Input) (packet : Input → List ℕ) → Kind {P = P} (told_of connections o packet)
+told_kind connections None packet = silent refl
+told_kind {P} connections (Some x) packet =
+    cond_both (goes_on x) (record { changes = []; effects = told_to (going_on connections x.conn) (packet x) }) ignored (Kind {P = P}) (λ e. told_to_kind (going_on connections x.conn) (packet x)) (λ e. silent refl)
+
+given_up_on_kind : {P : Type 0} (state : State P) (o : Option SinkSpec) (x : Input) → Kind (given_up_on state o x)
+given_up_on_kind state None x = silent refl
+given_up_on_kind state (Some sink) x = silent refl
+
+given_up_kind : {P : Type 0} (state : State P) (o : Option Input) (spec : SampleSpec) → Kind (given_up state o spec)
+given_up_kind state None spec = silent refl
+given_up_kind {P} state (Some x) spec =
+    cond_both (gives_up spec x) (given_up_on state (slice_get state.sinks x.sink.0) x) ignored (Kind {P = P}) (λ e. given_up_on_kind state (slice_get state.sinks x.sink.0) x) (λ e. silent refl)
+
+notice_kind : {P : Type 0} (spec_of : P → SampleSpec) (state : State P) (sink : SinkId) (n : Notice P) → Kind (notice_answer spec_of state sink n)
+notice_kind spec_of state sink (Request input frames) = told_kind state.connections (input_on state.inputs sink input) (request_message frames)
+notice_kind spec_of state sink (Overflow input) = told_kind state.connections (input_on state.inputs sink input) overflow_message
+notice_kind spec_of state sink (Underflow input) = told_kind state.connections (input_on state.inputs sink input) underflow_message
+notice_kind spec_of state sink (Started input) = told_kind state.connections (input_on state.inputs sink input) started_message
+notice_kind spec_of state sink (Drained input t) = silent refl
+notice_kind spec_of state sink (Detached input parcel) = given_up_kind state (input_on state.inputs sink input) (spec_of parcel)
+notice_kind spec_of state sink (Latency input t write read buffered playing run) = silent refl
+
+answer_kind : {P : Type 0} (spec_of : P → SampleSpec) (state : State P) (s : Step P) → Kind (answer_of spec_of state s)
+answer_kind spec_of state (connect n) = silent refl
+answer_kind spec_of state (frame n f) = frame_kind state (going_on state.connections n) f
+answer_kind spec_of state (broken n fault at) = ended_kind (going_on state.connections n) (Some Breach) (rule_of fault) at
+answer_kind spec_of state (close n) = ended_kind (going_on state.connections n) None 0 0
+answer_kind spec_of state (cut n) = ended_kind (going_on state.connections n) (Some ForMemory) 0 0
+answer_kind spec_of state sweep = silent refl
+answer_kind spec_of state (notice sink n) = notice_kind spec_of state sink n
+answer_kind spec_of state (out sink) = silent refl
+
 -- ---- an answer that is an error changes nothing
 
 module _ (conn : ConnId) (tag code : ℕ) where
   abbrev Refuses : List Effect → Type 0
   Refuses effects = effects ≡ sent conn (refusal tag code) ∷ []
 
-  abbrev Changeless : {P : Type 0} → State P → Answer P → Type 0
-  Changeless state answer = Refuses answer.effects → committed state answer.changes ≡ state
+  not_silent : Refuses [] → ⊥
+  not_silent e = no_cons (sent conn (refusal tag code)) [] (sym e)
 
-  -- what is done is told by a reply
-  done_changeless : {P : Type 0} (state : State P) (to : ConnId) (packet : List ℕ) (changes : List (Change P)) → get_or packet 4 0 ≡ 2 → Changeless state (done to packet changes)
-  done_changeless state to packet changes two e = absurd (sent_apart to conn packet (refusal tag code) two (refusal_byte tag code) (heads (sent to packet) (sent conn (refusal tag code)) [] [] e))
+  ended_apart : (to : ConnId) (reason : Option Reason) (fault at : ℕ) → Refuses (closed_by to reason fault at) → ⊥
+  ended_apart to None fault at e = not_silent e
+  ended_apart to (Some reason) fault at e = closed_apart to conn reason fault at (refusal tag code) (heads (Closed to reason fault at) (sent conn (refusal tag code)) [] [] e)
 
-  silent_changeless : {P : Type 0} (state : State P) (changes : List (Change P)) → Changeless state (record { changes = changes; effects = [] })
-  silent_changeless state changes e = absurd (no_cons (sent conn (refusal tag code)) [] (sym e))
-
-  closed_changeless : {P : Type 0} (state : State P) (changes : List (Change P)) (to : ConnId) (reason : Reason) (fault at : ℕ) → Changeless state (record { changes = changes; effects = Closed to reason fault at ∷ [] })
-  closed_changeless state changes to reason fault at e = absurd (closed_apart to conn reason fault at (refusal tag code) (heads (Closed to reason fault at) (sent conn (refusal tag code)) [] [] e))
-
-  let_in_changeless : {P : Type 0} (state : State P) (names : Naming) (c : Connection) (t version : ℕ) (cookie : List ℕ) → Changeless state (let_in names c t version cookie)
-  let_in_changeless state names c t version cookie =
-      cond_both (nat_lt (version_in version) SERVER_VERSION) (refused c.conn t Version) (cond (not (same_text cookie names.cookie)) (refused c.conn t Access) (done c.conn (reply_to t ++ number SERVER_VERSION) (Authed c.conn SERVER_VERSION ∷ []))) (Changeless state)
-      (λ e r. refl)
-      (λ e. cond_both (not (same_text cookie names.cookie)) (refused c.conn t Access) (done c.conn (reply_to t ++ number SERVER_VERSION) (Authed c.conn SERVER_VERSION ∷ [])) (Changeless state)
-      (λ f r. refl)
-      (λ f. done_changeless state c.conn (reply_to t ++ number SERVER_VERSION) (Authed c.conn SERVER_VERSION ∷ []) (reply_byte t (number SERVER_VERSION))))
-
-  auth_changeless : {P : Type 0} (state : State P) (agreed : Option ℕ) (names : Naming) (c : Connection) (t version : ℕ) (cookie : List ℕ) → Changeless state (auth_after agreed names c t version cookie)
-  auth_changeless state None names c t version cookie = let_in_changeless state names c t version cookie
-  auth_changeless state (Some agreed) names c t version cookie = λ r. refl
-
-  created_changeless : {P : Type 0} (state : State P) (o : Option ErrorCode) (c : Connection) (t : ℕ) (index : SinkId) (sink : SinkSpec) (a : CreateFields) → Changeless state (created_or o state.inputs state.inputs_made c t index sink a)
-  created_changeless state (Some error) c t index sink a = λ r. refl
-  created_changeless {P} state None c t index sink a =
-      done_changeless state c.conn (created_reply t (created_of sink a (input_made state.inputs_made c index sink a))) (Answer.changes (created {P = P} state.inputs state.inputs_made c t sink a (input_made state.inputs_made c index sink a)))
-      (created_byte t (created_of sink a (input_made state.inputs_made c index sink a)))
-
-  create_there_changeless : {P : Type 0} (state : State P) (c : Connection) (t : ℕ) (index : SinkId) (a : CreateFields) (o : Option SinkSpec) → Changeless state (create_there state.inputs state.inputs_made c t index o a)
-  create_there_changeless state c t index a None = λ r. refl
-  create_there_changeless state c t index a (Some sink) = created_changeless state (refusal_on state.inputs state.inputs_made c index sink a) c t index sink a
-
-  create_named_changeless : {P : Type 0} (state : State P) (c : Connection) (t : ℕ) (a : CreateFields) (r : Result SinkId ErrorCode) → Changeless state (create_named state.sinks state.inputs state.inputs_made c t r a)
-  create_named_changeless state c t a (Err error) = λ r. refl
-  create_named_changeless state c t a (Ok index) = create_there_changeless state c t index a (slice_get state.sinks index.0)
-
-  create_changeless : {P : Type 0} (state : State P) (c : Connection) (t : ℕ) (a : CreateFields) → Changeless state (create state.names state.sinks state.inputs state.inputs_made c t a)
-  create_changeless state c t a =
-      cond_both (is_lawful a) (create_named state.sinks state.inputs state.inputs_made c t (sink_named state.names a.sink.index a.sink.name true) a) (refused c.conn t Invalid) (Changeless state)
-      (λ e. create_named_changeless state c t a (sink_named state.names a.sink.index a.sink.name true))
-      (λ e r. refl)
-
-  delete_changeless : {P : Type 0} (state : State P) (o : Option Input) (c : Connection) (t : ℕ) → Changeless state (delete_of o c t)
-  delete_changeless state None c t = λ r. refl
-  delete_changeless {P} state (Some x) c t = done_changeless state c.conn (reply_to t) (ends {P = P} x) (plain_byte t)
-
-  row_changeless : {P : Type 0} (state : State P) (c : Connection) (t command : ℕ) (fields : List Field) → Changeless state (row state c t command fields)
-  row_changeless {P} state c t command fields =
-      cond_both (nat_eq command 8) (auth state.names c t (number_in fields 0) (as_bytes (field fields 1)))
-      (cond (nat_eq command 9) (set_name state.names c t (as_properties (field fields 0)))
-      (cond (nat_eq command 3) (create state.names state.sinks state.inputs state.inputs_made c t (create_in fields))
-      (cond (nat_eq command 4) (delete state.inputs c t (number_in fields 0))
-      (done c.conn (reply_to t) [])))) (Changeless state)
-      (λ e. auth_changeless state c.version state.names c t (number_in fields 0) (as_bytes (field fields 1)))
-      (λ e. cond_both (nat_eq command 9) (set_name state.names c t (as_properties (field fields 0)))
-      (cond (nat_eq command 3) (create state.names state.sinks state.inputs state.inputs_made c t (create_in fields))
-      (cond (nat_eq command 4) (delete state.inputs c t (number_in fields 0))
-      (done c.conn (reply_to t) []))) (Changeless state)
-      (λ f. done_changeless state c.conn (reply_to t ++ number c.client) (Answer.changes (set_name {P = P} state.names c t (as_properties (field fields 0)))) (reply_byte t (number c.client)))
-      (λ f. cond_both (nat_eq command 3) (create state.names state.sinks state.inputs state.inputs_made c t (create_in fields))
-      (cond (nat_eq command 4) (delete state.inputs c t (number_in fields 0))
-      (done c.conn (reply_to t) [])) (Changeless state)
-      (λ g. create_changeless state c t (create_in fields))
-      (λ g. cond_both (nat_eq command 4) (delete state.inputs c t (number_in fields 0)) (done c.conn (reply_to t) []) (Changeless state)
-      (λ i. delete_changeless state (stream_of state.inputs c.conn (number_in fields 0)) c t)
-      (λ i r. refl))))
-
-  broken_off_changeless : {P : Type 0} (state : State P) (to : ConnId) (at : ℕ) (fault : TagFault) → Changeless state (broken_off to at fault)
-  broken_off_changeless state to at fault = closed_changeless state (Marked to ∷ []) to Breach (fault_code fault) (offset_behind at (fault_place fault))
-
-  read_changeless : {P : Type 0} (state : State P) (c : Connection) (at t : ℕ) (r : Result (ℕ × List Field) CmdFault) → Changeless state (read_answer state c at t r)
-  read_changeless state c at t (Ok packet) = row_changeless state c t packet.0 packet.1
-  read_changeless state c at t (Err (Protocol fault)) = broken_off_changeless state c.conn at fault
-  read_changeless state c at t (Err (Unknown command)) = λ r. refl
-  read_changeless state c at t (Err (Unsupported command)) = λ r. refl
-  read_changeless state c at t (Err NoMemory) = λ r. refl
-
-  command_changeless : {P : Type 0} (state : State P) (c : Connection) (at : ℕ) (packet : List ℕ) (command t : ℕ) → Changeless state (command_answer state c at packet command t)
-  command_changeless state c at packet command t =
-      cond_both (is_barred c command) (refused c.conn t Access) (cond (is_waiting_for_work command) (refused c.conn t NotImplemented) (read_answer state c at t (meaning packet))) (Changeless state)
-      (λ e r. refl)
-      (λ e. cond_both (is_waiting_for_work command) (refused c.conn t NotImplemented) (read_answer state c at t (meaning packet)) (Changeless state)
-      (λ f r. refl)
-      (λ f. read_changeless state c at t (meaning packet)))
-
-  head_changeless : {P : Type 0} (state : State P) (c : Connection) (at : ℕ) (packet : List ℕ) (r : Result ((ℕ × ℕ) × Place) TagFault) → Changeless state (head_answer state c at packet r)
-  head_changeless state c at packet (Err fault) = broken_off_changeless state c.conn at fault
-  head_changeless state c at packet (Ok head) = command_changeless state c at packet head.0.0 head.0.1
-
-  data_changeless : {P : Type 0} (state : State P) (o : Option Input) (offset : ℤ) (seek : ℕ) (bytes : List ℕ) → Changeless state (data_for o offset seek bytes)
-  data_changeless state None offset seek bytes = λ r. refl
-  data_changeless state (Some x) offset seek bytes =
-      cond_both (are_frames (frame_size_of x.spec) offset (length bytes)) (record { changes = Posted x.sink (write_of x offset seek bytes) ∷ []; effects = [] }) ignored (Changeless state)
-      (λ e. silent_changeless state (Posted x.sink (write_of x offset seek bytes) ∷ []))
-      (λ e r. refl)
-
-  body_changeless : {P : Type 0} (state : State P) (c : Connection) (at : ℕ) (body : Body) → Changeless state (body_answer state c at body)
-  body_changeless state c at (Control packet) = head_changeless state c at packet (head_at (start_of packet))
-  body_changeless state c at (Write stream offset seek bytes) = data_changeless state (stream_of state.inputs c.conn stream) offset seek bytes
-
-  frame_changeless : {P : Type 0} (state : State P) (o : Option Connection) (f : Frame) → Changeless state (frame_of state o f)
-  frame_changeless state None f = λ r. refl
-  frame_changeless state (Some c) f = body_changeless state c f.at f.body
-
-  ended_changeless : {P : Type 0} (state : State P) (o : Option Connection) (effects : ConnId → List Effect) → ((c : ConnId) → Refuses (effects c) → ⊥) → Changeless state (ended o effects)
-  ended_changeless state None effects apart = λ r. refl
-  ended_changeless state (Some c) effects apart = λ r. absurd (apart c.conn r)
-
-  told_changeless : {P : Type 0} (state : State P) (o : Option Input) (packet : Input → List ℕ) → Changeless state (told_of state.connections o packet)
-  told_changeless state None packet = λ r. refl
-  told_changeless state (Some x) packet =
-      cond_both x.leaving ignored (record { changes = []; effects = told_to (going_on state.connections x.conn) (packet x) }) (Changeless state) (λ e r. refl) (λ e r. refl)
-
-  given_up_on_changeless : {P : Type 0} (state : State P) (o : Option SinkSpec) (x : Input) → Changeless state (given_up_on state o x)
-  given_up_on_changeless state None x = λ r. refl
-  given_up_on_changeless state (Some sink) x = silent_changeless state (Answer.changes (given_up_on state (Some sink) x))
-
-  given_up_changeless : {P : Type 0} (state : State P) (o : Option Input) (spec : SampleSpec) → Changeless state (given_up state o spec)
-  given_up_changeless state None spec = λ r. refl
-  given_up_changeless state (Some x) spec =
-      cond_both (gives_up spec x) (given_up_on state (slice_get state.sinks x.sink.0) x) ignored (Changeless state) (λ e. given_up_on_changeless state (slice_get state.sinks x.sink.0) x) (λ e r. refl)
-
-  notice_changeless : {P : Type 0} (spec_of : P → SampleSpec) (state : State P) (sink : SinkId) (n : Notice P) → Changeless state (notice_answer spec_of state sink n)
-  notice_changeless spec_of state sink (Request input frames) = told_changeless state (input_on state.inputs sink input) (request_message frames)
-  notice_changeless spec_of state sink (Overflow input) = told_changeless state (input_on state.inputs sink input) overflow_message
-  notice_changeless spec_of state sink (Underflow input) = told_changeless state (input_on state.inputs sink input) underflow_message
-  notice_changeless spec_of state sink (Started input) = told_changeless state (input_on state.inputs sink input) started_message
-  notice_changeless spec_of state sink (Drained input t) = λ r. refl
-  notice_changeless spec_of state sink (Detached input parcel) = given_up_changeless state (input_on state.inputs sink input) (spec_of parcel)
-  notice_changeless spec_of state sink (Latency input t write read buffered playing run) = λ r. refl
+  kind_changeless : {P : Type 0} (state : State P) (answer : Answer P) → Kind answer → Refuses answer.effects → committed state answer.changes ≡ state
+  kind_changeless state answer (told to packet none effects) e = ap (committed state) none
+  kind_changeless state answer (replied to packet effects two) e =
+      absurd (sent_apart to conn packet (refusal tag code) two (refusal_byte tag code) (heads (sent to packet) (sent conn (refusal tag code)) [] [] (sym effects ∙ e)))
+  kind_changeless state answer (silent effects) e = absurd (not_silent (sym effects ∙ e))
+  kind_changeless {P} state answer (ending to reason fault at is) e = absurd (ended_apart to reason fault at (sym (ap (λ (a : Answer P). a.effects) is) ∙ e))
 
   -- a client that connects is sent nothing
   connect_refuses : {P : Type 0} (o : Option Connection) (n : ConnId) (state : State P) → Refuses (connect_effects o n state) → ⊥
-  connect_refuses (Some c) n state e = no_cons (sent conn (refusal tag code)) [] (sym e)
+  connect_refuses (Some c) n state e = not_silent e
   connect_refuses None n state e = either (is_full state) e
     where
       either : (b : Bool) → Refuses (cond b (closed_for n Limit ∷ []) []) → ⊥
-      either true f = closed_apart n conn Limit 0 0 (refusal tag code) (heads (closed_for n Limit) (sent conn (refusal tag code)) [] [] f)
-      either false f = no_cons (sent conn (refusal tag code)) [] (sym f)
+      either true f = ended_apart n (Some Limit) 0 0 f
+      either false f = not_silent f
 
   pub refusal_changes_nothing : {P : Type 0} (spec_of : P → SampleSpec) (state : State P) (s : Step P) → Refuses (effects_of spec_of state s) → stepped spec_of state s ≡ state
   refusal_changes_nothing spec_of state (connect n) e = absurd (connect_refuses (connection_of state.connections n) n state e)
-  refusal_changes_nothing spec_of state (frame n f) e = frame_changeless state (going_on state.connections n) f e
-  refusal_changes_nothing spec_of state (broken n fault at) e =
-      ended_changeless state (going_on state.connections n) (broken_effects fault at) (λ c r. closed_apart c conn Breach (rule_of fault) at (refusal tag code) (heads (Closed c Breach (rule_of fault) at) (sent conn (refusal tag code)) [] [] r)) e
-  refusal_changes_nothing spec_of state (close n) e = ended_changeless state (going_on state.connections n) close_effects (λ c r. no_cons (sent conn (refusal tag code)) [] (sym r)) e
-  refusal_changes_nothing spec_of state (cut n) e =
-      ended_changeless state (going_on state.connections n) cut_effects (λ c r. closed_apart c conn ForMemory 0 0 (refusal tag code) (heads (closed_for c ForMemory) (sent conn (refusal tag code)) [] [] r)) e
-  refusal_changes_nothing spec_of state sweep e = absurd (no_cons (sent conn (refusal tag code)) [] (sym e))
-  refusal_changes_nothing spec_of state (notice sink n) e = notice_changeless spec_of state sink n e
-  refusal_changes_nothing spec_of state (out sink) e = absurd (no_cons (sent conn (refusal tag code)) [] (sym e))
+  refusal_changes_nothing spec_of state (frame n f) e = kind_changeless state (answer_of spec_of state (frame n f)) (answer_kind spec_of state (frame n f)) e
+  refusal_changes_nothing spec_of state (broken n fault at) e = kind_changeless state (answer_of spec_of state (broken n fault at)) (answer_kind spec_of state (broken n fault at)) e
+  refusal_changes_nothing spec_of state (close n) e = kind_changeless state (answer_of spec_of state (close n)) (answer_kind spec_of state (close n)) e
+  refusal_changes_nothing spec_of state (cut n) e = kind_changeless state (answer_of spec_of state (cut n)) (answer_kind spec_of state (cut n)) e
+  refusal_changes_nothing spec_of state sweep e = absurd (not_silent e)
+  refusal_changes_nothing spec_of state (notice sink n) e = kind_changeless state (answer_of spec_of state (notice sink n)) (answer_kind spec_of state (notice sink n)) e
+  refusal_changes_nothing spec_of state (out sink) e = absurd (not_silent e)
+
+-- ---- a fault of a connection marks it, and changes nothing else
+
+module _ (conn : ConnId) (fault at : ℕ) where
+  abbrev Breaks : List Effect → Type 0
+  Breaks effects = effects ≡ closed_at conn fault at ∷ []
+
+  not_none : Breaks [] → ⊥
+  not_none e = no_cons (closed_at conn fault at) [] (sym e)
+
+  sent_breaks : (to : ConnId) (packet : List ℕ) → Breaks (sent to packet ∷ []) → ⊥
+  sent_breaks to packet e = closed_apart conn to Breach fault at packet (sym (heads (sent to packet) (closed_at conn fault at) [] [] e))
+
+  abbrev number_of : Effect → ℕ
+  number_of (Sent to packet) = to.0
+  number_of (Closed to reason f a) = to.0
+
+  abbrev reason_of : Effect → ℕ
+  reason_of (Sent to packet) = 0
+  reason_of (Closed to reason f a) = reason_code reason
+
+  ended_marks : {P : Type 0} (state : State P) (to : ConnId) (reason : Option Reason) (f a : ℕ) → Breaks (closed_by to reason f a) → committed {P = P} state (Ended to reason f a ∷ []) ≡ with_connection conn marked state
+  ended_marks state to None f a e = absurd (not_none e)
+  ended_marks {P} state to (Some reason) f a e =
+      let same : Closed to reason f a ≡ closed_at conn fault at = heads (Closed to reason f a) (closed_at conn fault at) [] [] e in
+      ap (λ n. with_connection {P = P} (record { 0 = n }) marked state) (ap number_of same)
+
+  kind_marks : {P : Type 0} (state : State P) (answer : Answer P) → Kind answer → Breaks answer.effects → committed state answer.changes ≡ with_connection conn marked state
+  kind_marks state answer (told to packet none effects) e = absurd (sent_breaks to packet (sym effects ∙ e))
+  kind_marks state answer (replied to packet effects two) e = absurd (sent_breaks to packet (sym effects ∙ e))
+  kind_marks state answer (silent effects) e = absurd (not_none (sym effects ∙ e))
+  kind_marks {P} state answer (ending to reason f a is) e =
+      ap (λ (b : Answer P). committed state b.changes) is
+      ∙ ended_marks state to reason f a (sym (ap (λ (b : Answer P). b.effects) is) ∙ e)
+
+  -- a client that isn't taken has broken no rule
+  connect_breaks : {P : Type 0} (o : Option Connection) (n : ConnId) (state : State P) → Breaks (connect_effects o n state) → ⊥
+  connect_breaks (Some c) n state e = not_none e
+  connect_breaks None n state e = either (is_full state) e
+    where
+      either : (b : Bool) → Breaks (cond b (closed_for n Limit ∷ []) []) → ⊥
+      either true f =
+          let code : ◌≡◌ {A = ℕ} 2 1 = ap reason_of (heads (closed_for n Limit) (closed_at conn fault at) [] [] f) in
+          absurd (omega (arith, code))
+      either false f = not_none f
+
+  pub fault_marks_its_own : {P : Type 0} (spec_of : P → SampleSpec) (state : State P) (s : Step P) → Breaks (effects_of spec_of state s) → stepped spec_of state s ≡ with_connection conn marked state
+  fault_marks_its_own spec_of state (connect n) e = absurd (connect_breaks (connection_of state.connections n) n state e)
+  fault_marks_its_own spec_of state (frame n f) e = kind_marks state (answer_of spec_of state (frame n f)) (answer_kind spec_of state (frame n f)) e
+  fault_marks_its_own spec_of state (broken n f a) e = kind_marks state (answer_of spec_of state (broken n f a)) (answer_kind spec_of state (broken n f a)) e
+  fault_marks_its_own spec_of state (close n) e = kind_marks state (answer_of spec_of state (close n)) (answer_kind spec_of state (close n)) e
+  fault_marks_its_own spec_of state (cut n) e = kind_marks state (answer_of spec_of state (cut n)) (answer_kind spec_of state (cut n)) e
+  fault_marks_its_own spec_of state sweep e = absurd (not_none e)
+  fault_marks_its_own spec_of state (notice sink n) e = kind_marks state (answer_of spec_of state (notice sink n)) (answer_kind spec_of state (notice sink n)) e
+  fault_marks_its_own spec_of state (out sink) e = absurd (not_none e)
 
 -- ---- a connection that isn't there, or has ended
 
@@ -261,13 +347,13 @@ ended_is_ignored {P} spec_of state (frame n f) conn e gone =
     (ap (λ o. committed state (Answer.changes (frame_of state o f))) none, ap (λ o. Answer.effects (frame_of state o f)) none)
 ended_is_ignored {P} spec_of state (broken n fault at) conn e gone =
     let none : going_on state.connections n ≡ None = ap (going_on state.connections) (same_Some n conn e) ∙ gone in
-    (ap (λ o. committed state (Answer.changes (ended {P = P} o (broken_effects fault at)))) none, ap (λ o. Answer.effects (ended {P = P} o (broken_effects fault at))) none)
+    (ap (λ o. committed state (Answer.changes (ended {P = P} o (Some Breach) (rule_of fault) at))) none, ap (λ o. Answer.effects (ended {P = P} o (Some Breach) (rule_of fault) at)) none)
 ended_is_ignored {P} spec_of state (close n) conn e gone =
     let none : going_on state.connections n ≡ None = ap (going_on state.connections) (same_Some n conn e) ∙ gone in
-    (ap (λ o. committed state (Answer.changes (ended {P = P} o close_effects))) none, ap (λ o. Answer.effects (ended {P = P} o close_effects)) none)
+    (ap (λ o. committed state (Answer.changes (ended {P = P} o None 0 0))) none, ap (λ o. Answer.effects (ended {P = P} o None 0 0)) none)
 ended_is_ignored {P} spec_of state (cut n) conn e gone =
     let none : going_on state.connections n ≡ None = ap (going_on state.connections) (same_Some n conn e) ∙ gone in
-    (ap (λ o. committed state (Answer.changes (ended {P = P} o cut_effects))) none, ap (λ o. Answer.effects (ended {P = P} o cut_effects)) none)
+    (ap (λ o. committed state (Answer.changes (ended {P = P} o (Some ForMemory) 0 0))) none, ap (λ o. Answer.effects (ended {P = P} o (Some ForMemory) 0 0)) none)
 ended_is_ignored spec_of state sweep conn e gone = absurd (none-some conn e)
 ended_is_ignored spec_of state (notice sink n) conn e gone = absurd (none-some conn e)
 ended_is_ignored spec_of state (out sink) conn e gone = absurd (none-some conn e)

@@ -13,9 +13,9 @@ use Rattle.px_cmd.specs.Command.{create_fields, fields_of, number_of, is_empty_l
 use Rattle.px_names.specs.Names.{sink_named}
 use Rattle.px_reply.specs.Front.{reply_to}
 use Rattle.px_session.specs.declared.header.SinkSpec.{SinkSpec}
-use Rattle.px_core.specs.declared.change.Change.{Change}
-use Rattle.px_core.specs.declared.input.Connection.{Connection}
-use Rattle.px_core.specs.declared.input.Input.{Input}
+use Rattle.px_core.specs.Change.{Change}
+use Rattle.px_plan.specs.declared.input.Connection.{Connection}
+use Rattle.px_plan.specs.declared.input.Input.{Input}
 use Rattle.px_core.specs.State.{State}
 use Rattle.px_core.specs.Reply.{Answer, refused, done}
 use Rattle.px_core.specs.Create.{is_lawful, refusal_on, created_or, create_on, create_there, create_named, create}

@@ -21,36 +21,38 @@ use Rattle.px_frame.specs.Frame.{IsBody}
 use Rattle.px_session.specs.declared.header.Header.{Header}
 use Rattle.px_session.specs.HeaderRules.{IsHeader}
 use Rattle.px_reply.specs.Front.{reply_to}
-use Rattle.px_tag.specs.PropList.{Property}
 use Rattle.px_tag.specs.Item.{number}
 use Rattle.px_names.specs.Names.{Naming, same_text}
-use Rattle.px_names.specs.Clients.{new_client, client_on}
+use Rattle.px_names.specs.Clients.{new_client}
 use Rattle.px_model.specs.Frame.{SampleSpec}
 use Rattle.px_msg.specs.declared.notice.Notice.{Notice}
 use Rattle.px_msg.specs.declared.notice.Notice.TheVariants.{Request, Overflow, Underflow, Started, Drained, Detached, Latency}
 use Rattle.px_types.specs.declared.error_code.ErrorCode.TheVariants.{Access, Version, NotImplemented}
-use Rattle.px_core.specs.declared.change.Change.TheVariants.{Authed, Named, Marked}
-use Rattle.px_core.specs.declared.effect.Effect.{Effect}
-use Rattle.px_core.specs.declared.input.Connection.{Connection}
-use Rattle.px_core.specs.declared.input.Input.{Input}
-use Rattle.px_core.specs.State.{State, new_state, connection_of, stream_of}
-use Rattle.px_core.specs.Change.{authed, marked, renamed, changed}
-use Rattle.px_core.specs.Client.{SERVER_VERSION, version_in, let_in, auth_after, auth, list_with, set_name}
+use Rattle.px_plan.specs.declared.change.Change.TheVariants.{Authed}
+use Rattle.px_plan.specs.declared.sending.Reason.{Reason}
+use Rattle.px_plan.specs.declared.sending.Reason.TheVariants.{Protocol as Breach, Cut as ForMemory}
+use Rattle.px_frame.specs.Fault.{code_of as rule_of}
+use Rattle.px_plan.specs.declared.input.Connection.{Connection}
+use Rattle.px_plan.specs.declared.input.Input.{Input}
+use Rattle.px_core.specs.State.{State, new_state, goes_on, connection_of, stream_of}
+use Rattle.px_core.specs.Change.{committed}
+use Rattle.px_core.specs.Client.{SERVER_VERSION, version_in, let_in, auth_after, auth, set_name}
 use Rattle.px_core.specs.Command.{create_in, number_in, as_bytes, as_properties, field, row, read_answer, is_barred, is_waiting_for_work, command_answer, head_answer}
 use Rattle.px_core.specs.Create.{create}
-use Rattle.px_core.specs.Delete.{delete}
+use Rattle.px_core.specs.Delete.{delete_of, delete}
 use Rattle.px_core.specs.Reply.{Answer, ignored, refused, done}
-use Rattle.px_core.specs.Connecting.{is_full, new_connection, joined, connected, ended, going_on, broken_effects, close_effects, cut_effects}
+use Rattle.px_core.specs.Connecting.{is_full, new_connection, joined, connected, ended, going_on}
 use Rattle.px_core.specs.Told.{told_to, told_of, input_on, notice_answer, request_message, overflow_message, underflow_message, started_message}
 use Rattle.px_core.specs.Orderly.{inputs_there}
-use Rattle.px_core.specs.Keeps.{AreDistinct, AreInStep, IsKept, IsStep, Spares}
+use Rattle.px_core.specs.Keeps.{AreDistinct, AreInStep, IsKept, IsRising, IsStep, Spares}
 use Rattle.px_core.specs.Step.{Step, connect, frame, broken, close, cut, sweep, notice, out, body_answer, frame_of, answered, answer_of, stepped, stepped_by}
 use Rattle.px_core.proofs.ListLaws.{all_push}
 use Rattle.px_core.proofs.ChangeLaws.{sink_at, held_on}
 use Rattle.px_core.proofs.HandingLaws.{out_keeps, out_spares}
-use Rattle.px_core.proofs.AnswerLaws.{Follows, Keeps, same_held, unchanged, others_keep, connection_keeps, delete_keeps, data_keeps, given_up_keeps}
-use Rattle.px_core.proofs.SweepLaws.{sweep_keeps}
-use Rattle.px_core.proofs.CreateLaws.{create_keeps}
+use Rattle.px_core.proofs.VerbLaws.{Follows, others_keep, changes_follow}
+use Rattle.px_core.proofs.AnswerLaws.{IsLawful, data_lawful, given_up_lawful}
+use Rattle.px_core.proofs.SweepLaws.{sweep_lawful}
+use Rattle.px_core.proofs.CreateLaws.{create_lawful}
 
 -- ---- a new state
 
@@ -65,84 +67,82 @@ new_keeps {P} spec_of header h = record {
   inputs = tt;
   lists = length-replicate (length header.sinks) [];
   in_step = λ index s e. subst (AreInStep spec_of (sink_at index) s []) (sym (no_lists [] (length header.sinks) index))
-      (record { orderly = tt; leaves = refl; bring = refl; each = tt; few = omega arith });
+      (record { orderly = tt; leaves = refl; bring = λ i. refl; each = tt; few = omega arith });
 }
 
 -- ---- commands
 
-marked_keeps : {P : Type 0} (spec_of : P → SampleSpec) (state : State P) → IsKept spec_of state → (conn : ConnId) → Follows spec_of state (changed state (Marked conn))
-marked_keeps spec_of state h conn = same_held spec_of state (changed state (Marked conn)) refl (connection_keeps spec_of state h conn marked (λ c. refl))
+let_in_lawful : {P : Type 0} (state : State P) (names : Naming) (c : Connection) (tag version : ℕ) (cookie : List ℕ) → IsLawful state (let_in names c tag version cookie)
+let_in_lawful state names c tag version cookie =
+    cond_both (nat_lt (version_in version) SERVER_VERSION) (refused c.conn tag Version) (cond (not (same_text cookie names.cookie)) (refused c.conn tag Access) (done c.conn (reply_to tag ++ number SERVER_VERSION) (Authed c.conn SERVER_VERSION ∷ []))) (IsLawful state)
+    (λ e. tt)
+    (λ e. cond_both (not (same_text cookie names.cookie)) (refused c.conn tag Access) (done c.conn (reply_to tag ++ number SERVER_VERSION) (Authed c.conn SERVER_VERSION ∷ [])) (IsLawful state)
+    (λ f. tt)
+    (λ f. (tt, tt)))
 
-let_in_keeps : {P : Type 0} (spec_of : P → SampleSpec) (state : State P) → IsKept spec_of state → (names : Naming) (c : Connection) (tag version : ℕ) (cookie : List ℕ) → Keeps spec_of state (let_in names c tag version cookie)
-let_in_keeps spec_of state h names c tag version cookie =
-    cond_both (nat_lt (version_in version) SERVER_VERSION) (refused c.conn tag Version) (cond (not (same_text cookie names.cookie)) (refused c.conn tag Access) (done c.conn (reply_to tag ++ number SERVER_VERSION) (Authed c.conn SERVER_VERSION ∷ []))) (Keeps spec_of state)
-    (λ e. unchanged h)
-    (λ e. cond_both (not (same_text cookie names.cookie)) (refused c.conn tag Access) (done c.conn (reply_to tag ++ number SERVER_VERSION) (Authed c.conn SERVER_VERSION ∷ [])) (Keeps spec_of state)
-    (λ f. unchanged h)
-    (λ f. same_held spec_of state (changed state (Authed c.conn SERVER_VERSION)) refl (connection_keeps spec_of state h c.conn (authed SERVER_VERSION) (λ d. refl))))
+auth_lawful : {P : Type 0} (state : State P) (agreed : Option ℕ) (names : Naming) (c : Connection) (tag version : ℕ) (cookie : List ℕ) → IsLawful state (auth_after agreed names c tag version cookie)
+auth_lawful state None names c tag version cookie = let_in_lawful state names c tag version cookie
+auth_lawful state (Some agreed) names c tag version cookie = tt
 
-auth_keeps : {P : Type 0} (spec_of : P → SampleSpec) (state : State P) → IsKept spec_of state → (agreed : Option ℕ) (names : Naming) (c : Connection) (tag version : ℕ) (cookie : List ℕ) → Keeps spec_of state (auth_after agreed names c tag version cookie)
-auth_keeps spec_of state h None names c tag version cookie = let_in_keeps spec_of state h names c tag version cookie
-auth_keeps spec_of state h (Some agreed) names c tag version cookie = unchanged h
+delete_lawful : {P : Type 0} (state : State P) (o : Option Input) (c : Connection) (tag : ℕ) → IsLawful state (delete_of o c tag)
+delete_lawful state None c tag = tt
+delete_lawful state (Some x) c tag = (tt, tt)
 
-name_keeps : {P : Type 0} (spec_of : P → SampleSpec) (state : State P) → IsKept spec_of state → (conn : ConnId) (list : List Property) → Follows spec_of state (changed state (Named conn list))
-name_keeps spec_of state h conn list = same_held spec_of state (changed state (Named conn list)) refl (others_keep spec_of state h state.connections h.distinct (renamed conn list state.names) state.clients_made)
-
-row_keeps : {P : Type 0} (spec_of : P → SampleSpec) (state : State P) → IsKept spec_of state → (c : Connection) (tag command : ℕ) (fields : List Field) → Keeps spec_of state (row state c tag command fields)
-row_keeps spec_of state h c tag command fields =
+row_lawful : {P : Type 0} (spec_of : P → SampleSpec) (state : State P) → IsKept spec_of state → (c : Connection) (tag command : ℕ) (fields : List Field) → IsLawful state (row state c tag command fields)
+row_lawful spec_of state h c tag command fields =
     cond_both (nat_eq command 8) (auth state.names c tag (number_in fields 0) (as_bytes (field fields 1)))
     (cond (nat_eq command 9) (set_name state.names c tag (as_properties (field fields 0)))
     (cond (nat_eq command 3) (create state.names state.sinks state.inputs state.inputs_made c tag (create_in fields))
     (cond (nat_eq command 4) (delete state.inputs c tag (number_in fields 0))
-    (done c.conn (reply_to tag) [])))) (Keeps spec_of state)
-    (λ e. auth_keeps spec_of state h c.version state.names c tag (number_in fields 0) (as_bytes (field fields 1)))
+    (done c.conn (reply_to tag) [])))) (IsLawful state)
+    (λ e. auth_lawful state c.version state.names c tag (number_in fields 0) (as_bytes (field fields 1)))
     (λ e. cond_both (nat_eq command 9) (set_name state.names c tag (as_properties (field fields 0)))
     (cond (nat_eq command 3) (create state.names state.sinks state.inputs state.inputs_made c tag (create_in fields))
     (cond (nat_eq command 4) (delete state.inputs c tag (number_in fields 0))
-    (done c.conn (reply_to tag) []))) (Keeps spec_of state)
-    (λ f. name_keeps spec_of state h c.conn (list_with (client_on state.names.clients c.conn) (as_properties (field fields 0))))
+    (done c.conn (reply_to tag) []))) (IsLawful state)
+    (λ f. (tt, tt))
     (λ f. cond_both (nat_eq command 3) (create state.names state.sinks state.inputs state.inputs_made c tag (create_in fields))
     (cond (nat_eq command 4) (delete state.inputs c tag (number_in fields 0))
-    (done c.conn (reply_to tag) [])) (Keeps spec_of state)
-    (λ g. create_keeps spec_of state h c tag (create_in fields))
-    (λ g. cond_both (nat_eq command 4) (delete state.inputs c tag (number_in fields 0)) (done c.conn (reply_to tag) []) (Keeps spec_of state)
-    (λ i. delete_keeps spec_of state h c.conn (number_in fields 0) c tag (stream_of state.inputs c.conn (number_in fields 0)) refl)
-    (λ i. unchanged h))))
+    (done c.conn (reply_to tag) [])) (IsLawful state)
+    (λ g. create_lawful spec_of state h c tag (create_in fields))
+    (λ g. cond_both (nat_eq command 4) (delete state.inputs c tag (number_in fields 0)) (done c.conn (reply_to tag) []) (IsLawful state)
+    (λ i. delete_lawful state (stream_of state.inputs c.conn (number_in fields 0)) c tag)
+    (λ i. tt))))
 
-read_keeps : {P : Type 0} (spec_of : P → SampleSpec) (state : State P) → IsKept spec_of state → (c : Connection) (at tag : ℕ) (r : Result (ℕ × List Field) CmdFault) → Keeps spec_of state (read_answer state c at tag r)
-read_keeps spec_of state h c at tag (Ok packet) = row_keeps spec_of state h c tag packet.0 packet.1
-read_keeps spec_of state h c at tag (Err (Protocol fault)) = marked_keeps spec_of state h c.conn
-read_keeps spec_of state h c at tag (Err (Unknown command)) = unchanged h
-read_keeps spec_of state h c at tag (Err (Unsupported command)) = unchanged h
-read_keeps spec_of state h c at tag (Err NoMemory) = unchanged h
+read_lawful : {P : Type 0} (spec_of : P → SampleSpec) (state : State P) → IsKept spec_of state → (c : Connection) (at tag : ℕ) (r : Result (ℕ × List Field) CmdFault) → IsLawful state (read_answer state c at tag r)
+read_lawful spec_of state h c at tag (Ok packet) = row_lawful spec_of state h c tag packet.0 packet.1
+read_lawful spec_of state h c at tag (Err (Protocol fault)) = (tt, tt)
+read_lawful spec_of state h c at tag (Err (Unknown command)) = tt
+read_lawful spec_of state h c at tag (Err (Unsupported command)) = tt
+read_lawful spec_of state h c at tag (Err NoMemory) = tt
 
-command_keeps : {P : Type 0} (spec_of : P → SampleSpec) (state : State P) → IsKept spec_of state → (c : Connection) (at : ℕ) (packet : List ℕ) (command tag : ℕ) → Keeps spec_of state (command_answer state c at packet command tag)
-command_keeps spec_of state h c at packet command tag =
-    cond_both (is_barred c command) (refused c.conn tag Access) (cond (is_waiting_for_work command) (refused c.conn tag NotImplemented) (read_answer state c at tag (meaning packet))) (Keeps spec_of state)
-    (λ e. unchanged h)
-    (λ e. cond_both (is_waiting_for_work command) (refused c.conn tag NotImplemented) (read_answer state c at tag (meaning packet)) (Keeps spec_of state)
-    (λ f. unchanged h)
-    (λ f. read_keeps spec_of state h c at tag (meaning packet)))
+command_lawful : {P : Type 0} (spec_of : P → SampleSpec) (state : State P) → IsKept spec_of state → (c : Connection) (at : ℕ) (packet : List ℕ) (command tag : ℕ) → IsLawful state (command_answer state c at packet command tag)
+command_lawful spec_of state h c at packet command tag =
+    cond_both (is_barred c command) (refused c.conn tag Access) (cond (is_waiting_for_work command) (refused c.conn tag NotImplemented) (read_answer state c at tag (meaning packet))) (IsLawful state)
+    (λ e. tt)
+    (λ e. cond_both (is_waiting_for_work command) (refused c.conn tag NotImplemented) (read_answer state c at tag (meaning packet)) (IsLawful state)
+    (λ f. tt)
+    (λ f. read_lawful spec_of state h c at tag (meaning packet)))
 
-head_keeps : {P : Type 0} (spec_of : P → SampleSpec) (state : State P) → IsKept spec_of state → (c : Connection) (at : ℕ) (packet : List ℕ) (r : Result ((ℕ × ℕ) × Place) TagFault) → Keeps spec_of state (head_answer state c at packet r)
-head_keeps spec_of state h c at packet (Err fault) = marked_keeps spec_of state h c.conn
-head_keeps spec_of state h c at packet (Ok head) = command_keeps spec_of state h c at packet head.0.0 head.0.1
+head_lawful : {P : Type 0} (spec_of : P → SampleSpec) (state : State P) → IsKept spec_of state → (c : Connection) (at : ℕ) (packet : List ℕ) (r : Result ((ℕ × ℕ) × Place) TagFault) → IsLawful state (head_answer state c at packet r)
+head_lawful spec_of state h c at packet (Err fault) = (tt, tt)
+head_lawful spec_of state h c at packet (Ok head) = command_lawful spec_of state h c at packet head.0.0 head.0.1
 
 -- ---- frames
 
-body_keeps : {P : Type 0} (spec_of : P → SampleSpec) (state : State P) → IsKept spec_of state → (c : Connection) (at : ℕ) (body : Body) → IsBody body → Keeps spec_of state (body_answer state c at body)
-body_keeps spec_of state h c at (Control packet) is = head_keeps spec_of state h c at packet (head_at (start_of packet))
-body_keeps spec_of state h c at (Write stream offset seek bytes) is = data_keeps spec_of state h c.conn stream offset seek bytes is.1 (stream_of state.inputs c.conn stream) refl
+body_lawful : {P : Type 0} (spec_of : P → SampleSpec) (state : State P) → IsKept spec_of state → (c : Connection) (at : ℕ) (body : Body) → IsBody body → IsLawful state (body_answer state c at body)
+body_lawful spec_of state h c at (Control packet) is = head_lawful spec_of state h c at packet (head_at (start_of packet))
+body_lawful spec_of state h c at (Write stream offset seek bytes) is = data_lawful state h.rising c.conn stream offset seek bytes is.1 (stream_of state.inputs c.conn stream) refl
 
-frame_keeps : {P : Type 0} (spec_of : P → SampleSpec) (state : State P) → IsKept spec_of state → (o : Option Connection) (f : Frame) → IsBody f.body → Keeps spec_of state (frame_of state o f)
-frame_keeps spec_of state h None f is = unchanged h
-frame_keeps spec_of state h (Some c) f is = body_keeps spec_of state h c f.at f.body is
+frame_lawful : {P : Type 0} (spec_of : P → SampleSpec) (state : State P) → IsKept spec_of state → (o : Option Connection) (f : Frame) → IsBody f.body → IsLawful state (frame_of state o f)
+frame_lawful spec_of state h None f is = tt
+frame_lawful spec_of state h (Some c) f is = body_lawful spec_of state h c f.at f.body is
 
 -- ---- connections
 
-ended_keeps : {P : Type 0} (spec_of : P → SampleSpec) (state : State P) → IsKept spec_of state → (o : Option Connection) (effects : ConnId → List Effect) → Keeps spec_of state (ended o effects)
-ended_keeps spec_of state h None effects = unchanged h
-ended_keeps spec_of state h (Some c) effects = marked_keeps spec_of state h c.conn
+ended_lawful : {P : Type 0} (state : State P) (o : Option Connection) (reason : Option Reason) (fault at : ℕ) → IsLawful state (ended o reason fault at)
+ended_lawful state None reason fault at = tt
+ended_lawful state (Some c) reason fault at = (tt, tt)
 
 distinct_push : (conn : ConnId) (client : ℕ) (cs : List Connection) → connection_of cs conn ≡ None → AreDistinct cs → AreDistinct (cs ++ new_connection conn client ∷ [])
 distinct_push conn client [] e d = (tt, tt)
@@ -163,40 +163,37 @@ connected_keeps spec_of state h None conn e =
 
 -- ---- notices
 
-told_keeps : {P : Type 0} (spec_of : P → SampleSpec) (state : State P) → IsKept spec_of state → (o : Option Input) (packet : Input → List ℕ) → Keeps spec_of state (told_of state.connections o packet)
-told_keeps spec_of state h None packet = unchanged h
-told_keeps spec_of state h (Some x) packet = cond_both x.leaving ignored (record { changes = []; effects = told_to (going_on state.connections x.conn) (packet x) }) (Keeps spec_of state) (λ e. unchanged h) (λ e. unchanged h)
+told_lawful : {P : Type 0} (state : State P) (o : Option Input) (packet : Input → List ℕ) → IsLawful state (told_of state.connections o packet)
+told_lawful state None packet = tt
+told_lawful state (Some x) packet = cond_both (goes_on x) (record { changes = []; effects = told_to (going_on state.connections x.conn) (packet x) }) ignored (IsLawful state) (λ e. tt) (λ e. tt)
 
-notice_keeps : {P : Type 0} (spec_of : P → SampleSpec) (state : State P) → IsKept spec_of state → (sink : SinkId) (n : Notice P) → Keeps spec_of state (notice_answer spec_of state sink n)
-notice_keeps spec_of state h sink (Request input frames) = told_keeps spec_of state h (input_on state.inputs sink input) (request_message frames)
-notice_keeps spec_of state h sink (Overflow input) = told_keeps spec_of state h (input_on state.inputs sink input) overflow_message
-notice_keeps spec_of state h sink (Underflow input) = told_keeps spec_of state h (input_on state.inputs sink input) underflow_message
-notice_keeps spec_of state h sink (Started input) = told_keeps spec_of state h (input_on state.inputs sink input) started_message
-notice_keeps spec_of state h sink (Drained input tag) = unchanged h
-notice_keeps spec_of state h sink (Detached input parcel) = given_up_keeps spec_of state h sink input (spec_of parcel) (input_on state.inputs sink input) refl
-notice_keeps spec_of state h sink (Latency input tag write read buffered playing run) = unchanged h
+notice_lawful : {P : Type 0} (spec_of : P → SampleSpec) (state : State P) → IsRising state.inputs → (sink : SinkId) (n : Notice P) → IsLawful state (notice_answer spec_of state sink n)
+notice_lawful spec_of state r sink (Request input frames) = told_lawful state (input_on state.inputs sink input) (request_message frames)
+notice_lawful spec_of state r sink (Overflow input) = told_lawful state (input_on state.inputs sink input) overflow_message
+notice_lawful spec_of state r sink (Underflow input) = told_lawful state (input_on state.inputs sink input) underflow_message
+notice_lawful spec_of state r sink (Started input) = told_lawful state (input_on state.inputs sink input) started_message
+notice_lawful spec_of state r sink (Drained input tag) = tt
+notice_lawful spec_of state r sink (Detached input parcel) = given_up_lawful state r sink input (spec_of parcel) (input_on state.inputs sink input) refl
+notice_lawful spec_of state r sink (Latency input tag write read buffered playing run) = tt
 
 -- ---- steps
-
-answered_keeps : {P : Type 0} (spec_of : P → SampleSpec) (state : State P) (answer : Answer P) → Keeps spec_of state answer → Follows spec_of state (answered state answer)
-answered_keeps spec_of state answer h = record { keeps = h.keeps; held = h.held }
 
 connected_inputs : {P : Type 0} (o : Option Connection) (conn : ConnId) (state : State P) → (connected o conn state).inputs ≡ state.inputs
 connected_inputs (Some c) conn state = refl
 connected_inputs None conn state = cond_both (is_full state) state (joined conn state) (λ after. after.inputs ≡ state.inputs) (λ e. refl) (λ e. refl)
 
-answer_keeps : {P : Type 0} (spec_of : P → SampleSpec) (state : State P) (s : Step P) → IsStep s → IsKept spec_of state → Keeps spec_of state (answer_of spec_of state s)
-answer_keeps spec_of state (connect conn) is h = unchanged h
-answer_keeps spec_of state (frame conn f) is h = frame_keeps spec_of state h (going_on state.connections conn) f is
-answer_keeps spec_of state (broken conn fault at) is h = ended_keeps spec_of state h (going_on state.connections conn) (broken_effects fault at)
-answer_keeps spec_of state (close conn) is h = ended_keeps spec_of state h (going_on state.connections conn) close_effects
-answer_keeps spec_of state (cut conn) is h = ended_keeps spec_of state h (going_on state.connections conn) cut_effects
-answer_keeps spec_of state sweep is h = sweep_keeps spec_of state h
-answer_keeps spec_of state (notice sink n) is h = notice_keeps spec_of state h sink n
-answer_keeps spec_of state (out sink) is h = unchanged h
+pub answer_lawful : {P : Type 0} (spec_of : P → SampleSpec) (state : State P) (s : Step P) → IsStep s → IsKept spec_of state → IsLawful state (answer_of spec_of state s)
+answer_lawful spec_of state (connect conn) is h = tt
+answer_lawful spec_of state (frame conn f) is h = frame_lawful spec_of state h (going_on state.connections conn) f is
+answer_lawful spec_of state (broken conn fault at) is h = ended_lawful state (going_on state.connections conn) (Some Breach) (rule_of fault) at
+answer_lawful spec_of state (close conn) is h = ended_lawful state (going_on state.connections conn) None 0 0
+answer_lawful spec_of state (cut conn) is h = ended_lawful state (going_on state.connections conn) (Some ForMemory) 0 0
+answer_lawful spec_of state sweep is h = sweep_lawful state
+answer_lawful spec_of state (notice sink n) is h = notice_lawful spec_of state h.rising sink n
+answer_lawful spec_of state (out sink) is h = tt
 
 step_answered : {P : Type 0} (spec_of : P → SampleSpec) (state : State P) (s : Step P) → IsStep s → IsKept spec_of state → Follows spec_of state (answered state (answer_of spec_of state s))
-step_answered spec_of state s is h = answered_keeps spec_of state (answer_of spec_of state s) (answer_keeps spec_of state s is h)
+step_answered spec_of state s is h = changes_follow spec_of state (Answer.changes (answer_of spec_of state s)) h (answer_lawful spec_of state s is h)
 
 pub step_keeps : {P : Type 0} (spec_of : P → SampleSpec) (state : State P) (s : Step P) → IsStep s → IsKept spec_of state → IsKept spec_of (stepped spec_of state s)
 step_keeps spec_of state (connect conn) is h = connected_keeps spec_of state h (connection_of state.connections conn) conn refl

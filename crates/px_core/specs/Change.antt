@@ -1,16 +1,24 @@
 -- The state after each change. A step is a list of changes, made one after the other.
-use Rattle.std.specs.Prelude.{ℕ, Bool, true, cond, List, [], ◌∷◌, ◌++◌, Some, set, get_or}
+use Rattle.std.specs.Prelude.{ℕ, Bool, true, cond, List, [], ◌∷◌, ◌++◌, Option, None, Some, set, get_or}
 use Rattle.std.specs.List.{fold}
 use Rattle.px_types.specs.declared.ids.ConnId.{ConnId}
+use Rattle.px_types.specs.declared.ids.InputId.{InputId}
 use Rattle.px_tag.specs.PropList.{Property}
 use Rattle.px_names.specs.Clients.{is_on, change_first as change_client, without_first as without_client, with_list}
 use Rattle.px_names.specs.Names.{Naming}
 use Rattle.px_msg.specs.declared.message.Msg.{Msg}
-use Rattle.px_core.specs.declared.input.Connection.{Connection}
-use Rattle.px_core.specs.declared.input.Input.{Input}
-use Rattle.px_core.specs.declared.change.Change.{Change}
-use Rattle.px_core.specs.declared.change.Change.TheVariants.{Authed, Named, Marked, Forgotten, Made, Leaves, Gone, Posted}
-use Rattle.px_core.specs.State.{State, has_number, has_index}
+use Rattle.px_msg.specs.declared.message.Msg.TheVariants.{Detach}
+use Rattle.px_plan.specs.declared.input.Connection.{Connection}
+use Rattle.px_plan.specs.declared.input.Input.{Input}
+use Rattle.px_plan.specs.declared.input.Standing.{Standing}
+use Rattle.px_plan.specs.declared.input.Standing.TheVariants.{Settled, Moving, Leaving}
+use Rattle.px_plan.specs.declared.change.Change.{Change as AnyChange}
+use Rattle.px_plan.specs.declared.change.Change.TheVariants.{Authed, Named, Made, Leaves, Said, Regrouped, Gone, Ended, Forgotten}
+use Rattle.px_core.specs.State.{State, has_number, has_index, input_of}
+
+-- a change with the messages of the core; a sink has no group of volumes yet
+abbrev pub Change : Type 0 → Type 0
+Change P = AnyChange (Msg P) (Unit {0})
 
 -- ---- lists, of which the first that is so changes or goes
 
@@ -44,34 +52,59 @@ with_streams streams c = record c { streams = streams }
 abbrev pub with_connection : {P : Type 0} → ConnId → (Connection → Connection) → State P → State P
 with_connection conn change state = record state { connections = change_first (has_number conn) change state.connections }
 
--- ---- inputs
-
-abbrev pub leaving : Input → Input
-leaving x = record x { leaving = true }
-
 -- ---- messages
 
 -- the lists, with one longer by a message
 abbrev pub posted_to : {P : Type 0} → ℕ → Msg P → List (List (Msg P)) → List (List (Msg P))
 posted_to sink m posted = set posted sink (get_or posted sink [] ++ m ∷ [])
 
+abbrev pub posting : {P : Type 0} → ℕ → Msg P → State P → State P
+posting sink m state = record state { posted = posted_to sink m state.posted }
+
+-- ---- inputs
+
+abbrev pub leaving : Input → Input
+leaving x = record x { standing = Leaving }
+
+abbrev pub without_standing : {P : Type 0} → InputId → State P → State P
+without_standing index state = record state { inputs = change_first (has_index index) leaving state.inputs }
+
+-- an input ends: a settled one's sink is told to give up its stream, a moving one's was told already, and one that has ended stays so
+abbrev pub ending : {P : Type 0} → Standing → Input → State P → State P
+ending Settled x state = posting x.sink.0 (Detach x.index) (without_standing x.index state)
+ending (Moving to) x state = without_standing x.index state
+ending Leaving x state = state
+
+abbrev pub ending_of : {P : Type 0} → Option Input → State P → State P
+ending_of None state = state
+ending_of (Some x) state = ending x.standing x state
+
+-- an input's sink is told something, where the input is settled there
+abbrev pub saying : {P : Type 0} → Standing → Input → Msg P → State P → State P
+saying Settled x m state = posting x.sink.0 m state
+saying (Moving to) x m state = state
+saying Leaving x m state = state
+
+abbrev pub saying_of : {P : Type 0} → Option Input → Msg P → State P → State P
+saying_of None m state = state
+saying_of (Some x) m state = saying x.standing x m state
+
 -- ---- the state after a change
 
 abbrev pub changed : {P : Type 0} → State P → Change P → State P
 changed state (Authed conn version) = with_connection conn (authed version) state
 changed state (Named conn list) = record state { names = renamed conn list state.names }
-changed state (Marked conn) = with_connection conn marked state
+changed state (Made x m streams inputs) =
+    posting x.sink.0 m (record (with_connection x.conn (with_streams streams) state) { inputs = state.inputs ++ x ∷ []; inputs_made = inputs })
+changed state (Leaves index) = ending_of (input_of state.inputs index) state
+changed state (Said index m) = saying_of (input_of state.inputs index) m state
+changed state (Regrouped sink group m) = posting sink.0 m state
+changed state (Gone index) = record state { inputs = drop_first (has_index index) state.inputs }
+changed state (Ended conn reason fault at) = with_connection conn marked state
 changed state (Forgotten conn) = record state {
   connections = drop_first (has_number conn) state.connections;
   names = forgotten conn state.names;
 }
-changed state (Made x streams inputs) = record (with_connection x.conn (with_streams streams) state) {
-  inputs = state.inputs ++ x ∷ [];
-  inputs_made = inputs;
-}
-changed state (Leaves index) = record state { inputs = change_first (has_index index) leaving state.inputs }
-changed state (Gone index) = record state { inputs = drop_first (has_index index) state.inputs }
-changed state (Posted sink m) = record state { posted = posted_to sink.0 m state.posted }
 
 -- and after all of them, in order
 abbrev pub committed : {P : Type 0} → State P → List (Change P) → State P

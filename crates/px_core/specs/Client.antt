@@ -8,8 +8,8 @@ use Rattle.px_names.specs.declared.client.Client.{Client}
 use Rattle.px_names.specs.Clients.{client_on}
 use Rattle.px_names.specs.Names.{Naming, same_text}
 use Rattle.px_reply.specs.Front.{reply_to}
-use Rattle.px_core.specs.declared.change.Change.TheVariants.{Authed, Named}
-use Rattle.px_core.specs.declared.input.Connection.{Connection}
+use Rattle.px_plan.specs.declared.change.Change.TheVariants.{Authed, Named}
+use Rattle.px_plan.specs.declared.input.Connection.{Connection}
 use Rattle.px_core.specs.Reply.{Answer, refused, done}
 
 -- the version that the server speaks

@@ -12,7 +12,7 @@ use Rattle.px_cmd.specs.declared.fault.CmdFault.{CmdFault}
 use Rattle.px_cmd.specs.declared.fault.CmdFault.TheVariants.{Protocol, Unknown, Unsupported, NoMemory}
 use Rattle.px_cmd.specs.declared.command.CreateFields.{CreateFields}
 use Rattle.px_reply.specs.Front.{reply_to}
-use Rattle.px_core.specs.declared.input.Connection.{Connection}
+use Rattle.px_plan.specs.declared.input.Connection.{Connection}
 use Rattle.px_core.specs.State.{State}
 use Rattle.px_core.specs.Reply.{Answer, ignored, refused, done, broken_off}
 use Rattle.px_core.specs.Client.{auth, set_name}

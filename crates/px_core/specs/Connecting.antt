@@ -1,18 +1,17 @@
 -- Connections begin and end (PulseAudio: `pa_native_protocol_connect` and `native_connection_unlink` of pulsecore/protocol-native.c; that an ended connection is swept away in a step of its own is own).
-use Rattle.std.specs.Prelude.{ℕ, ◌+◌, Bool, false, cond, ◌||◌, nat_le, List, [], ◌∷◌, ◌++◌, filter, length, flat_map, Option, None, Some}
+use Rattle.std.specs.Prelude.{ℕ, ◌+◌, Bool, false, cond, ◌||◌, nat_le, List, [], ◌∷◌, ◌++◌, map, filter, length, flat_map, Option, None, Some}
 use Rattle.px_types.specs.declared.ids.ConnId.{ConnId}
-use Rattle.px_frame.specs.declared.fault.FrameFault.{FrameFault}
-use Rattle.px_frame.specs.Fault.{code_of}
 use Rattle.px_names.specs.Clients.{new_client}
-use Rattle.px_core.specs.declared.change.Change.{Change}
-use Rattle.px_core.specs.declared.change.Change.TheVariants.{Marked, Forgotten}
+use Rattle.px_plan.specs.declared.change.Change.TheVariants.{Forgotten}
 use Rattle.px_core.specs.declared.effect.Effect.{Effect}
-use Rattle.px_core.specs.declared.effect.Reason.TheVariants.{Limit, Cut as ForMemory}
-use Rattle.px_core.specs.declared.input.Connection.{Connection}
-use Rattle.px_core.specs.declared.input.Input.{Input}
-use Rattle.px_core.specs.Effect.{closed_at, closed_for}
+use Rattle.px_plan.specs.declared.sending.Reason.{Reason}
+use Rattle.px_plan.specs.declared.sending.Reason.TheVariants.{Limit}
+use Rattle.px_plan.specs.declared.input.Connection.{Connection}
+use Rattle.px_plan.specs.declared.input.Input.{Input}
+use Rattle.px_core.specs.Effect.{closed_for}
+use Rattle.px_core.specs.Change.{Change}
 use Rattle.px_core.specs.State.{State, connection_of, marked_of, is_from}
-use Rattle.px_core.specs.Reply.{Answer, ignored}
+use Rattle.px_core.specs.Reply.{Answer, ignored, ended_by}
 use Rattle.px_core.specs.Delete.{ends}
 
 -- ---- a connection begins
@@ -57,22 +56,10 @@ unmarked (Some c) = cond c.marked None (Some c)
 abbrev pub going_on : List Connection → ConnId → Option Connection
 going_on connections conn = unmarked (connection_of connections conn)
 
--- where it goes on it is marked, and that is told
-abbrev pub ended : {P : Type 0} → Option Connection → (ConnId → List Effect) → Answer P
-ended None effects = ignored
-ended (Some c) effects = record { changes = Marked c.conn ∷ []; effects = effects c.conn }
-
--- for a fault in its frames, at an offset of its bytes
-abbrev pub broken_effects : FrameFault → ℕ → ConnId → List Effect
-broken_effects fault at conn = closed_at conn (code_of fault) at ∷ []
-
--- the peer has closed it
-abbrev pub close_effects : ConnId → List Effect
-close_effects conn = []
-
--- the server ends it for want of memory
-abbrev pub cut_effects : ConnId → List Effect
-cut_effects conn = closed_for conn ForMemory ∷ []
+-- where it goes on it ends: by the server for a reason, or by the client
+abbrev pub ended : {P : Type 0} → Option Connection → Option Reason → ℕ → ℕ → Answer P
+ended None reason fault at = ignored
+ended (Some c) reason fault at = ended_by c.conn reason fault at
 
 -- ---- it is swept away: its streams end, in their order, and its client goes
 

@@ -22,12 +22,13 @@ use Rattle.px_msg.specs.declared.message.Msg.{Msg}
 use Rattle.px_msg.specs.declared.message.Msg.TheVariants.{New, Factors}
 use Rattle.px_reply.specs.declared.played.Created.{Created}
 use Rattle.px_reply.specs.Message.{created_reply}
-use Rattle.px_core.specs.declared.change.Change.{Change}
-use Rattle.px_core.specs.declared.change.Change.TheVariants.{Made, Posted}
-use Rattle.px_core.specs.declared.input.Connection.{Connection}
-use Rattle.px_core.specs.declared.input.Input.{Input}
-use Rattle.px_core.specs.declared.input.Way.TheVariants.{Coming}
-use Rattle.px_core.specs.State.{settled_on, going_of}
+use Rattle.px_plan.specs.declared.change.Change.TheVariants.{Made, Regrouped}
+use Rattle.px_plan.specs.declared.input.Standing.TheVariants.{Settled}
+use Rattle.px_plan.specs.declared.input.Connection.{Connection}
+use Rattle.px_plan.specs.declared.input.Input.{Input}
+use Rattle.px_plan.specs.declared.input.Way.TheVariants.{Coming}
+use Rattle.px_core.specs.Change.{Change}
+use Rattle.px_core.specs.State.{settled_on, bound_for, going_of}
 use Rattle.px_core.specs.Reply.{Answer, refused, done}
 
 -- ---- what is asked
@@ -75,7 +76,7 @@ attr_on sink a = repaired (spec_on sink a) a.asked
 
 -- ---- the refusals, in order
 
--- the most inputs that go on, on one sink and in all, and the index that no input has
+-- the most inputs that are bound for one sink and that go on in all, and the index that no input has
 abbrev pub MOST_ON_SINK : ℕ
 MOST_ON_SINK = 256
 
@@ -90,10 +91,10 @@ abbrev pub is_unsupported : SinkSpec → CreateFields → Bool
 is_unsupported sink a =
     nat_eq (format_on sink a) 5 || nat_eq (format_on sink a) 6 || a.variable_rate || not (nat_eq (rate_on sink a) sink.spec.rate)
 
--- too many inputs on the sink or in all, or no number is left that none has had; a connection has no more streams than there were inputs
+-- too many inputs bound for the sink or in all, or no number is left that none has had; a connection has no more streams than there were inputs
 abbrev pub has_no_room : List Input → ℕ → Connection → SinkId → Bool
 has_no_room inputs inputs_made c sink =
-    nat_le MOST_ON_SINK (length (settled_on inputs sink))
+    nat_le MOST_ON_SINK (length (bound_for inputs sink))
     || nat_le MOST_IN_ALL (length (going_of inputs))
     || nat_le LAST_INDEX inputs_made || nat_le LAST_INDEX c.streams
 
@@ -136,7 +137,7 @@ input_made inputs_made c index sink a = record {
   spec = spec_on sink a;
   attr = attr_on sink a;
   way = Coming;
-  leaving = false;
+  standing = Settled;
 }
 
 abbrev pub new_of : {P : Type 0} → SinkSpec → Input → Msg P
@@ -180,7 +181,7 @@ created_of sink a x = record {
 -- the input is there, its sink gets its stream, and then the factors of all inputs on it
 abbrev pub changes_of : {P : Type 0} → List Input → ℕ → Connection → SinkSpec → Input → List (Change P)
 changes_of inputs inputs_made c sink x =
-    Made x (c.streams + 1) (inputs_made + 1) ∷ Posted x.sink (new_of sink x) ∷ Posted x.sink (factors_for sink (settled_on inputs x.sink ++ x ∷ [])) ∷ []
+    Made x (new_of sink x) (c.streams + 1) (inputs_made + 1) ∷ Regrouped x.sink tt (factors_for sink (settled_on inputs x.sink ++ x ∷ [])) ∷ []
 
 abbrev pub created : {P : Type 0} → List Input → ℕ → Connection → ℕ → SinkSpec → CreateFields → Input → Answer P
 created inputs inputs_made c tag sink a x =

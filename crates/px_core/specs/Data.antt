@@ -5,8 +5,8 @@ use Rattle.px_types.specs.declared.ids.ConnId.{ConnId}
 use Rattle.px_sample.specs.Format.{frame_size_of}
 use Rattle.px_msg.specs.declared.message.Msg.{Msg}
 use Rattle.px_msg.specs.declared.message.Msg.TheVariants.{Write}
-use Rattle.px_core.specs.declared.change.Change.TheVariants.{Posted}
-use Rattle.px_core.specs.declared.input.Input.{Input}
+use Rattle.px_plan.specs.declared.change.Change.TheVariants.{Said}
+use Rattle.px_plan.specs.declared.input.Input.{Input}
 use Rattle.px_core.specs.State.{stream_of}
 use Rattle.px_core.specs.Reply.{Answer, ignored}
 
@@ -24,7 +24,7 @@ abbrev pub data_for : {P : Type 0} → Option Input → ℤ → ℕ → List ℕ
 data_for None offset seek bytes = ignored
 data_for (Some x) offset seek bytes =
     cond (are_frames (frame_size_of x.spec) offset (length bytes))
-    (record { changes = Posted x.sink (write_of x offset seek bytes) ∷ []; effects = [] })
+    (record { changes = Said x.index (write_of x offset seek bytes) ∷ []; effects = [] })
     ignored
 
 abbrev pub data_of : {P : Type 0} → List Input → ConnId → ℕ → ℤ → ℕ → List ℕ → Answer P

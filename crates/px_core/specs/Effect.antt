@@ -5,17 +5,11 @@ use Rattle.px_types.specs.declared.ids.ConnId.{ConnId}
 use Rattle.px_tag.specs.declared.fault.TagFault.{TagFault}
 use Rattle.px_tag.specs.declared.fault.TagFault.TheVariants.{WrongTag, Short, BadValue, Left}
 use Rattle.px_frame.specs.Descriptor.{descriptor_bytes, control_descriptor}
-use Rattle.px_core.specs.declared.effect.Reason.{Reason}
-use Rattle.px_core.specs.declared.effect.Reason.TheVariants.{Protocol, Limit, Killed, Cut}
+use Rattle.px_plan.specs.declared.sending.Reason.{Reason}
+use Rattle.px_plan.specs.declared.sending.Reason.TheVariants.{Protocol}
+pub use Rattle.px_plan.specs.Plan.{reason_code}
 use Rattle.px_core.specs.declared.effect.Effect.{Effect}
 use Rattle.px_core.specs.declared.effect.Effect.TheVariants.{Sent, Closed}
-
--- the number of a reason in recorded sessions
-abbrev pub reason_code : Reason → ℕ
-reason_code Protocol = 1
-reason_code Limit = 2
-reason_code Killed = 3
-reason_code Cut = 4
 
 -- a packet as a whole frame: its descriptor and its bytes
 unfoldable pub framed : List ℕ → List ℕ

@@ -1,7 +1,7 @@
 -- The table of the inputs: in rising index, and by their streams.
 use Rattle.std.specs.Prelude.{◌≡◌, ℕ, Bool, ◌&&◌, nat_eq, List, Option}
 use Rattle.indexmap.specs.IndexMap.{IndexMap, get}
-use Rattle.px_core.specs.declared.input.Input.{Input}
+use Rattle.px_plan.specs.declared.input.Input.{Input}
 use Rattle.px_core.specs.declared.input_table.StreamKey.{StreamKey}
 use Rattle.px_core.specs.State.{stream_of}
 

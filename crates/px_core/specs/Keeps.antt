@@ -1,5 +1,5 @@
 -- What the state of the core keeps from step to step.
-use Rattle.std.specs.Prelude.{◌≡◌, ℕ, zero, suc, ◌<◌, ◌≤◌, ◌≢◌, Bool, true, false, ◌&&◌, nat_eq, List, [], ◌∷◌, ◌++◌, map, filter, length, flat_map, slice_get, get_or, Some, ⊤}
+use Rattle.std.specs.Prelude.{◌≡◌, ℕ, zero, suc, ◌<◌, ◌≤◌, ◌≢◌, Bool, true, false, cond, ◌&&◌, nat_eq, List, [], ◌∷◌, ◌++◌, map, filter, length, flat_map, slice_get, get_or, Some, ⊤}
 use Rattle.std.specs.List.{AllByRecursion}
 use Rattle.std.specs.Option.{option_to_list}
 use Rattle.px_types.specs.declared.ids.SinkId.{SinkId}
@@ -12,13 +12,15 @@ use Rattle.px_msg.specs.declared.factors.InputFactors.{InputFactors}
 use Rattle.px_msg.specs.declared.message.Msg.{Msg}
 use Rattle.px_msg.specs.declared.message.Msg.TheVariants.{New, Attach, Detach, Write, Cork, Flush, Trigger, Prebuf, Drain, Attr, Factors, Query}
 use Rattle.px_msg.specs.View.{sample_spec, message_of}
-use Rattle.px_core.specs.declared.input.Connection.{Connection}
-use Rattle.px_core.specs.declared.input.Input.{Input}
-use Rattle.px_core.specs.declared.input.Way.{Way}
-use Rattle.px_core.specs.declared.input.Way.TheVariants.{Coming, There, Left}
-use Rattle.px_core.specs.State.{State, settled_on}
+use Rattle.px_plan.specs.declared.input.Connection.{Connection}
+use Rattle.px_plan.specs.declared.input.Input.{Input}
+use Rattle.px_plan.specs.declared.input.Way.{Way}
+use Rattle.px_plan.specs.declared.input.Way.TheVariants.{Coming, There, Left}
+use Rattle.px_plan.specs.declared.input.Standing.{Standing}
+use Rattle.px_plan.specs.declared.input.Standing.TheVariants.{Settled, Moving, Leaving}
+use Rattle.px_core.specs.State.{State, settled_on, bound_for}
 use Rattle.px_core.specs.Create.{MOST_ON_SINK}
-use Rattle.px_core.specs.Orderly.{entry_of, specs_of, is_held_by}
+use Rattle.px_core.specs.Orderly.{spec_in, specs_of, is_held_by}
 use Rattle.px_core.specs.Out.{next_for, handed_out}
 use Rattle.px_core.specs.Step.{Step, connect, frame, broken, close, cut, sweep, notice, out}
 
@@ -37,10 +39,17 @@ abbrev pub IsRising : List Input → Type 0
 IsRising [] = ⊤
 IsRising (x ∷ inputs) = AllAbove x.index.0 inputs × IsRising inputs
 
--- an input: its index is one of those that were given, its sink is there, and a sink can play it
+-- where it moves to a sink, that is there
+abbrev pub GoesThere : List SinkSpec → Standing → Type 0
+GoesThere sinks Settled = ⊤
+GoesThere sinks (Moving to) = to.0 < length sinks
+GoesThere sinks Leaving = ⊤
+
+-- an input: its index is one of those that were given, its sinks are there, and a sink can play it
 pub record IsInput (sinks : List SinkSpec) (made : ℕ) (x : Input) : Type 0 where
   pub given : x.index.0 < made
   pub sink_there : x.sink.0 < length sinks
+  pub goes_there : GoesThere sinks x.standing
   pub playable : IsPlayable (sample_spec x.spec)
   pub repaired : IsRepaired x.attr
 
@@ -54,20 +63,20 @@ is_coming Left = false
 abbrev pub is_coming_to : SinkId → Input → Bool
 is_coming_to sink x = nat_eq x.sink.0 sink.0 && is_coming x.way
 
--- the input that a message brings, where spec_of reads a parcel's sample spec
-abbrev pub brought_by : {P : Type 0} → (P → SampleSpec) → Msg P → List (ℕ × SampleSpec)
-brought_by spec_of (New n) = (n.input.0, sample_spec n.spec) ∷ []
-brought_by spec_of (Attach input parcel feed factors) = (input.0, spec_of parcel) ∷ []
-brought_by spec_of (Detach input) = []
-brought_by spec_of (Write input seek offset frames bytes) = []
-brought_by spec_of (Cork input on) = []
-brought_by spec_of (Flush input) = []
-brought_by spec_of (Trigger input) = []
-brought_by spec_of (Prebuf input) = []
-brought_by spec_of (Drain input tag) = []
-brought_by spec_of (Attr input attr) = []
-brought_by spec_of (Factors each) = []
-brought_by spec_of (Query input tag) = []
+-- the sample spec of the input with an index, where a message brings it; spec_of reads a parcel's
+abbrev pub brought_of : {P : Type 0} → (P → SampleSpec) → ℕ → Msg P → List SampleSpec
+brought_of spec_of i (New n) = cond (nat_eq n.input.0 i) (sample_spec n.spec ∷ []) []
+brought_of spec_of i (Attach input parcel feed factors) = cond (nat_eq input.0 i) (spec_of parcel ∷ []) []
+brought_of spec_of i (Detach input) = []
+brought_of spec_of i (Write input seek offset frames bytes) = []
+brought_of spec_of i (Cork input on) = []
+brought_of spec_of i (Flush input) = []
+brought_of spec_of i (Trigger input) = []
+brought_of spec_of i (Prebuf input) = []
+brought_of spec_of i (Drain input tag) = []
+brought_of spec_of i (Attr input attr) = []
+brought_of spec_of i (Factors each) = []
+brought_of spec_of i (Query input tag) = []
 
 -- each number lies above those before it
 abbrev pub IsIncreasing : List ℕ → Type 0
@@ -80,14 +89,14 @@ IsPosted (Attach input parcel feed factors) = ⊥
 IsPosted (Factors each) = IsIncreasing (map (λ f. (InputFactors.input f).0) each)
 IsPosted _ = ⊤
 
--- the messages that wait for a sink are orderly from the inputs that it has, and leave there exactly those that are settled on it, no more
--- than a sink can have; and they bring, in order, those that are on their way to it
+-- the messages that wait for a sink are orderly from the inputs that it has, and leave there exactly those that are settled on it; they
+-- bring each input that is on its way to it, once, and no other; and no more are bound for it than a sink can have
 pub record AreInStep {P : Type 0} (spec_of : P → SampleSpec) (sink : SinkId) (s : SinkSpec) (inputs : List Input) (waiting : List (Msg P)) : Type 0 where
   pub orderly : IsOrderly spec_of (sample_spec s.spec) (specs_of (filter (is_held_by sink) inputs)) (map (message_of (λ p. p)) waiting)
   pub leaves : inputs_left_by spec_of (specs_of (filter (is_held_by sink) inputs)) (map (message_of (λ p. p)) waiting) ≡ specs_of (settled_on inputs sink)
-  pub bring : flat_map (brought_by spec_of) waiting ≡ map entry_of (filter (is_coming_to sink) inputs)
+  pub bring : (i : ℕ) → flat_map (brought_of spec_of i) waiting ≡ option_to_list (spec_in (is_coming_to sink) i inputs)
   pub each : AllByRecursion IsPosted waiting
-  pub few : length (settled_on inputs sink) ≤ MOST_ON_SINK
+  pub few : length (bound_for inputs sink) ≤ MOST_ON_SINK
 
 -- for every sink
 abbrev pub AreAllInStep : {P : Type 0} → (P → SampleSpec) → List SinkSpec → List Input → List (List (Msg P)) → Type 0

@@ -1,12 +1,12 @@
 -- A message that was handed out and is put back leaves the state as it was.
-use Rattle.std.specs.Prelude.{◌≡◌, List, IfSome, Some}
+use Rattle.std.specs.Prelude.{◌≡◌, ℕ, List, IfSome, Some}
 use Rattle.px_types.specs.declared.ids.InputId.{InputId}
 use Rattle.px_types.specs.declared.ids.SinkId.{SinkId}
 use Rattle.px_msg.specs.declared.message.Msg.{Msg}
 use Rattle.px_msg.specs.declared.message.Msg.TheVariants.{New, Attach, Detach, Write, Cork, Flush, Trigger, Prebuf, Drain, Attr, Factors, Query}
-use Rattle.px_core.specs.declared.input.Input.{Input}
-use Rattle.px_core.specs.declared.input.Way.{Way}
-use Rattle.px_core.specs.declared.input.Way.TheVariants.{Coming, There}
+use Rattle.px_plan.specs.declared.input.Input.{Input}
+use Rattle.px_plan.specs.declared.input.Way.{Way}
+use Rattle.px_plan.specs.declared.input.Way.TheVariants.{Coming, There}
 use Rattle.px_core.specs.State.{State, input_of}
 use Rattle.px_core.specs.Out.{next_for, handed_out, put_back}
 

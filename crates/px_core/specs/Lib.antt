@@ -16,5 +16,6 @@ pub mod Lending
 pub mod Step
 pub mod Orderly
 pub mod Keeps
+pub mod Lawful
 pub mod Ending
 pub mod Hearing

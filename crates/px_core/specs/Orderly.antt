@@ -1,14 +1,14 @@
 -- What waits for a sink is orderly from what the core knows to be there.
-use Rattle.std.specs.Prelude.{◌≡◌, ℕ, Bool, true, false, ◌&&◌, nat_eq, List, map, filter, slice_get, Some}
+use Rattle.std.specs.Prelude.{◌≡◌, ℕ, Bool, true, false, cond, ◌&&◌, nat_eq, List, [], ◌∷◌, map, filter, slice_get, Option, None, Some}
 use Rattle.std.specs.FinMap as finite
 use Rattle.px_types.specs.declared.ids.SinkId.{SinkId}
 use Rattle.px_session.specs.declared.header.SinkSpec.{SinkSpec}
 use Rattle.px_model.specs.Frame.{SampleSpec}
 use Rattle.px_model.specs.Orderly.{Inputs, IsOrderly}
 use Rattle.px_msg.specs.View.{sample_spec, message_of}
-use Rattle.px_core.specs.declared.input.Input.{Input}
-use Rattle.px_core.specs.declared.input.Way.{Way}
-use Rattle.px_core.specs.declared.input.Way.TheVariants.{Coming, There, Left}
+use Rattle.px_plan.specs.declared.input.Input.{Input}
+use Rattle.px_plan.specs.declared.input.Way.{Way}
+use Rattle.px_plan.specs.declared.input.Way.TheVariants.{Coming, There, Left}
 use Rattle.px_core.specs.State.{State}
 use Rattle.px_core.specs.Out.{waiting_for}
 
@@ -23,6 +23,11 @@ is_held_by sink x = nat_eq x.sink.0 sink.0 && is_there x.way
 -- an input's index, with its sample spec
 abbrev pub entry_of : Input → ℕ × SampleSpec
 entry_of x = (x.index.0, sample_spec x.spec)
+
+-- the sample spec of the first input with an index, where that passes a test
+abbrev pub spec_in : (Input → Bool) → ℕ → List Input → Option SampleSpec
+spec_in p i [] = None
+spec_in p i (x ∷ xs) = cond (nat_eq x.index.0 i) (cond (p x) (Some (sample_spec x.spec)) None) (spec_in p i xs)
 
 -- inputs by their indices, each with its sample spec
 abbrev pub specs_of : List Input → Inputs

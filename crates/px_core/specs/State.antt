@@ -1,15 +1,12 @@
 -- The state of the core: the names, the sinks, the connections with their streams, and the messages that wait for each sink (PulseAudio: `pa_core`, and `pa_native_connection` of pulsecore/protocol-native.c; that messages wait as data is own).
-use Rattle.std.specs.Prelude.{ℕ, Bool, not, ◌&&◌, nat_eq, List, [], map, filter, length, replicate, Option}
-use Rattle.std.specs.List.{find}
-use Rattle.px_types.specs.declared.ids.ConnId.{ConnId}
-use Rattle.px_types.specs.declared.ids.InputId.{InputId}
-use Rattle.px_types.specs.declared.ids.SinkId.{SinkId}
+use Rattle.std.specs.Prelude.{ℕ, List, [], map, filter, length, replicate}
 use Rattle.px_names.specs.Names.{Naming}
 use Rattle.px_session.specs.declared.header.Header.{Header}
 use Rattle.px_session.specs.declared.header.SinkSpec.{SinkSpec}
 use Rattle.px_msg.specs.declared.message.Msg.{Msg}
-use Rattle.px_core.specs.declared.input.Connection.{Connection}
-use Rattle.px_core.specs.declared.input.Input.{Input}
+use Rattle.px_plan.specs.declared.input.Connection.{Connection}
+use Rattle.px_plan.specs.declared.input.Input.{Input}
+pub use Rattle.px_plan.specs.Input.{has_number, connection_of, is_leaving, goes_on, belongs_to, is_bound_for, stays_on, is_settled, has_index, input_of, is_stream, stream_of, is_from, settled_on, bound_for, going_of}
 
 -- P is the type of a parcel: a stream on its way from one sink to another
 pub record State (P : Type 0) : Type 0 where
@@ -39,48 +36,6 @@ new_state header = record {
   inputs_made = 0;
 }
 
--- ---- connections
-
-abbrev pub has_number : ConnId → Connection → Bool
-has_number conn c = nat_eq c.conn.0 conn.0
-
--- the connection with a number
-abbrev pub connection_of : List Connection → ConnId → Option Connection
-connection_of connections conn = find (has_number conn) connections
-
--- those that have ended
+-- the connections that have ended
 abbrev pub marked_of : List Connection → List Connection
 marked_of connections = filter (λ c. Connection.marked c) connections
-
--- ---- inputs
-
-abbrev pub has_index : InputId → Input → Bool
-has_index index x = nat_eq x.index.0 index.0
-
--- the input with an index
-abbrev pub input_of : List Input → InputId → Option Input
-input_of inputs index = find (has_index index) inputs
-
--- it is that stream of the connection, and goes on
-abbrev pub is_stream : ConnId → ℕ → Input → Bool
-is_stream conn stream x = nat_eq x.conn.0 conn.0 && nat_eq x.stream stream && not x.leaving
-
--- the input of a connection's stream
-abbrev pub stream_of : List Input → ConnId → ℕ → Option Input
-stream_of inputs conn stream = find (is_stream conn stream) inputs
-
--- it is the connection's, and goes on
-abbrev pub is_from : ConnId → Input → Bool
-is_from conn x = nat_eq x.conn.0 conn.0 && not x.leaving
-
--- it is on the sink, and goes on
-abbrev pub is_settled : SinkId → Input → Bool
-is_settled sink x = nat_eq x.sink.0 sink.0 && not x.leaving
-
--- the inputs that are settled on a sink
-abbrev pub settled_on : List Input → SinkId → List Input
-settled_on inputs sink = filter (is_settled sink) inputs
-
--- all that go on
-abbrev pub going_of : List Input → List Input
-going_of inputs = filter (λ x. not (Input.leaving x)) inputs

@@ -5,18 +5,20 @@ use Rattle.px_types.specs.declared.ids.ConnId.{ConnId}
 use Rattle.px_types.specs.declared.ids.SinkId.{SinkId}
 use Rattle.px_model.specs.Frame.{SampleSpec}
 use Rattle.px_frame.specs.declared.fault.FrameFault.{FrameFault}
+use Rattle.px_frame.specs.Fault.{code_of}
+use Rattle.px_plan.specs.declared.sending.Reason.TheVariants.{Protocol, Cut}
 use Rattle.px_frame.specs.declared.frame.Frame.{Frame}
 use Rattle.px_frame.specs.declared.frame.Body.{Body}
 use Rattle.px_frame.specs.declared.frame.Body.TheVariants.{Control, Write}
 use Rattle.px_msg.specs.declared.notice.Notice.{Notice}
 use Rattle.px_core.specs.declared.effect.Effect.{Effect}
-use Rattle.px_core.specs.declared.input.Connection.{Connection}
+use Rattle.px_plan.specs.declared.input.Connection.{Connection}
 use Rattle.px_core.specs.State.{State, connection_of}
 use Rattle.px_core.specs.Change.{committed}
 use Rattle.px_core.specs.Reply.{Answer, ignored}
 use Rattle.px_core.specs.Command.{packet_answer}
 use Rattle.px_core.specs.Data.{data_of}
-use Rattle.px_core.specs.Connecting.{connected, connect_effects, going_on, ended, broken_effects, close_effects, cut_effects, sweep_of}
+use Rattle.px_core.specs.Connecting.{connected, connect_effects, going_on, ended, sweep_of}
 use Rattle.px_core.specs.Told.{notice_answer}
 use Rattle.px_core.specs.Out.{handed_out}
 
@@ -59,9 +61,9 @@ pub data Step (P : Type 0) : Type 0 where
 abbrev pub answer_of : {P : Type 0} → (P → SampleSpec) → State P → Step P → Answer P
 answer_of spec_of state (connect conn) = ignored
 answer_of spec_of state (frame conn f) = frame_answer state conn f
-answer_of spec_of state (broken conn fault at) = ended (going_on state.connections conn) (broken_effects fault at)
-answer_of spec_of state (close conn) = ended (going_on state.connections conn) close_effects
-answer_of spec_of state (cut conn) = ended (going_on state.connections conn) cut_effects
+answer_of spec_of state (broken conn fault at) = ended (going_on state.connections conn) (Some Protocol) (code_of fault) at
+answer_of spec_of state (close conn) = ended (going_on state.connections conn) None 0 0
+answer_of spec_of state (cut conn) = ended (going_on state.connections conn) (Some Cut) 0 0
 answer_of spec_of state sweep = sweep_of state
 answer_of spec_of state (notice sink n) = notice_answer spec_of state sink n
 answer_of spec_of state (out sink) = ignored

@@ -1,5 +1,5 @@
 -- What a sink tells of a stream (PulseAudio: `sink_input_process_msg` and the callbacks of pulsecore/protocol-native.c; which notices fit is own).
-use Rattle.std.specs.Prelude.{ℕ, ◌-◌, ◌*◌, ◌^◌, min, Bool, true, false, cond, ◌&&◌, nat_eq, List, [], ◌∷◌, ◌++◌, Option, None, Some}
+use Rattle.std.specs.Prelude.{ℕ, ◌-◌, ◌*◌, ◌^◌, min, Bool, true, false, not, cond, ◌&&◌, nat_eq, List, [], ◌∷◌, ◌++◌, Option, None, Some}
 use Rattle.std.specs.List.{find, slice_get}
 use Rattle.px_types.specs.declared.ids.InputId.{InputId}
 use Rattle.px_types.specs.declared.ids.SinkId.{SinkId}
@@ -11,14 +11,14 @@ use Rattle.px_session.specs.declared.header.SinkSpec.{SinkSpec}
 use Rattle.px_msg.specs.declared.notice.Notice.{Notice}
 use Rattle.px_msg.specs.declared.notice.Notice.TheVariants.{Request, Overflow, Underflow, Started, Drained, Detached, Latency}
 use Rattle.px_reply.specs.Front.{message}
-use Rattle.px_core.specs.declared.change.Change.TheVariants.{Gone, Posted}
+use Rattle.px_plan.specs.declared.change.Change.TheVariants.{Gone, Regrouped}
 use Rattle.px_core.specs.declared.effect.Effect.{Effect}
-use Rattle.px_core.specs.declared.input.Connection.{Connection}
-use Rattle.px_core.specs.declared.input.Input.{Input}
-use Rattle.px_core.specs.declared.input.Way.{Way}
-use Rattle.px_core.specs.declared.input.Way.TheVariants.{Coming, There, Left}
+use Rattle.px_plan.specs.declared.input.Connection.{Connection}
+use Rattle.px_plan.specs.declared.input.Input.{Input}
+use Rattle.px_plan.specs.declared.input.Way.{Way}
+use Rattle.px_plan.specs.declared.input.Way.TheVariants.{Coming, There, Left}
 use Rattle.px_core.specs.Effect.{sent}
-use Rattle.px_core.specs.State.{State, settled_on}
+use Rattle.px_core.specs.State.{State, goes_on, has_index, settled_on}
 use Rattle.px_core.specs.Connecting.{going_on}
 use Rattle.px_core.specs.Create.{factors_for}
 use Rattle.px_core.specs.Reply.{Answer, ignored}
@@ -49,7 +49,7 @@ told_to (Some c) packet = sent c.conn packet ∷ []
 abbrev pub told_of : {P : Type 0} → List Connection → Option Input → (Input → List ℕ) → Answer P
 told_of connections None packet = ignored
 told_of connections (Some x) packet =
-    cond x.leaving ignored (record { changes = []; effects = told_to (going_on connections x.conn) (packet x) })
+    cond (goes_on x) (record { changes = []; effects = told_to (going_on connections x.conn) (packet x) }) ignored
 
 -- the bytes of so many frames, or the last number of 32 bits where they are more
 abbrev pub bytes_asked : Input → ℕ → ℕ
@@ -71,12 +71,12 @@ started_message x = message 86 ++ number x.stream
 
 -- it fits where the sink was told to, and the parcel is of the input
 abbrev pub gives_up : SampleSpec → Input → Bool
-gives_up spec x = x.leaving && has_left x.way && same_spec spec (sample_spec x.spec)
+gives_up spec x = not (goes_on x) && has_left x.way && same_spec spec (sample_spec x.spec)
 
 abbrev pub given_up_on : {P : Type 0} → State P → Option SinkSpec → Input → Answer P
 given_up_on state None x = ignored
 given_up_on state (Some sink) x = record {
-  changes = Gone x.index ∷ Posted x.sink (factors_for sink (settled_on state.inputs x.sink)) ∷ [];
+  changes = Gone x.index ∷ Regrouped x.sink tt (factors_for sink (settled_on state.inputs x.sink)) ∷ [];
   effects = [];
 }
 

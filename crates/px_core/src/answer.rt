@@ -3,7 +3,7 @@
 ghost use Rattle.std.specs.Prelude.{◌≡◌};
 ghost use Rattle.px_core.specs.Reply.{ignored};
 
-use crate::change::Change;
+use crate::change::CoreChange;
 use crate::effects::Effects;
 use std::alloc::Global;
 use std::marker::Model;
@@ -12,7 +12,7 @@ use std::marker::Model;
 /// sink to another. Nothing has changed yet: the core makes the changes once there is room for all of them.
 #[derive(Drop)]
 pub struct Answer<P> {
-    pub changes: Vec<Change<P>>,
+    pub changes: Vec<CoreChange<P>>,
     pub effects: Effects,
 }
 

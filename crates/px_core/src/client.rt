@@ -4,15 +4,15 @@ ghost use Rattle.std.specs.Prelude.{◌≡◌, ◌<◌, ◌≤◌, ◌++◌, [],
 ghost use Rattle.std.specs.Option.{option_map};
 ghost use Rattle.px_tag.specs.Item.{number};
 ghost use Rattle.px_reply.specs.Front.{reply_to};
-ghost use Rattle.px_core.specs.declared.change.Change.TheVariants.{Authed};
+ghost use Rattle.px_plan.specs.declared.change.Change.TheVariants.{Authed};
 ghost use Rattle.px_core.specs.Reply.{done};
 ghost use Rattle.px_core.specs.Client.{let_in, auth, list_with, set_name};
 
 use crate::answer::Answer;
-use crate::change::Change;
-use crate::input::Connection;
+use crate::change::alone;
 use crate::reply::{done, refused};
 use px_names::{Client, Names};
+use px_plan::{Change, Connection};
 use px_tag::{Mode, Packet, PropList};
 use px_types::{ErrorCode, Mem, NoMemory};
 use std::alloc::Global;
@@ -122,7 +122,6 @@ pub(crate) fn set_name<P: Drop>(
 {
     let packet = index_reply(alloc, tag, c.client)?;
     let list = list_with(names.client_on(c.conn), list)?;
-    let mut changes = Vec::new(alloc);
-    changes.push(Change::Named(c.conn, list))?;
+    let changes = alone(alloc, Change::Named(c.conn, list))?;
     done(alloc, c.conn, &packet, changes)
 }

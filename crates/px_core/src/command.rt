@@ -12,10 +12,10 @@ use crate::answer::Answer;
 use crate::client::{SERVER_VERSION, auth, set_name};
 use crate::create::create;
 use crate::delete::delete;
-use crate::input::Connection;
 use crate::reply::{broken_off, done_plainly, refused};
 use crate::tables::Tables;
 use px_cmd::{CmdFault, Command, is_command, read_command, read_head};
+use px_plan::Connection;
 use px_types::{ErrorCode, Mem, NoMemory};
 use std::alloc::Global;
 

@@ -1,16 +1,19 @@
 //! Changes are made, one after the other, in room that was reserved for them.
 
 ghost use Rattle.std.specs.Prelude.{◌≡◌, ◌+◌, ℕ, length, IfOk, OnOk, OnErr};
-ghost use Rattle.px_core.specs.Change.{changed, committed};
+ghost use Rattle.px_plan.specs.declared.change.Change.TheVariants.{Made, Leaves, Said};
+ghost use Rattle.px_core.specs.Change.{changed, committed, posting, saying, ending};
 ghost use Rattle.px_core.specs.Step.{answered};
-ghost use Rattle.px_core.specs.Tables.{state_of, HasRoom};
+ghost use Rattle.px_core.specs.Tables.{state_of, HasRoom, HavePlaces};
 
 use crate::answer::Answer;
-use crate::change::Change;
+use crate::change::CoreChange;
 use crate::effects::Effects;
 use crate::tables::Tables;
 use crate::{queues, verbs};
-use px_types::Mem;
+use px_msg::Msg;
+use px_plan::{Change, Input, Standing};
+use px_types::{InputId, Mem, SinkId};
 use std::collections::VecDeque;
 
 /// Room for so many changes. The state stays.
@@ -22,43 +25,114 @@ pub(crate) fn reserve<P>(tables: &mut Tables<P>, more: usize) -> Mem<()>
     queues::reserve(&mut tables.posted, more)
 }
 
+// A message waits for a sink, behind the others.
+fn post<P: Drop>(tables: &mut Tables<P>, sink: SinkId, msg: Msg<P>)
+    requires { HavePlaces 1 tables.old.posted.items }
+    ensures state { state_of tables.new ≡ posting sink.0 msg (state_of tables.old) }
+    ensures room { (n : ℕ) → HavePlaces (n + 1) tables.old.posted.items → HavePlaces n tables.new.posted.items }
+    ensures inputs { tables.new.inputs ≡ tables.old.inputs }
+{
+    queues::post(&mut tables.posted, sink, msg);
+}
+
+/// A message for an input's sink, where the input is settled there. Takes one place of the room.
+pub(crate) fn tell<P: Drop>(tables: &mut Tables<P>, x: &Input, msg: Msg<P>)
+    requires { HasRoom 1 tables.old }
+    ensures state { state_of tables.new ≡ saying x.now.standing x.now msg (state_of tables.old) }
+    ensures room { (n : ℕ) → HasRoom (n + 1) tables.old → HasRoom n tables.new }
+{
+    match x.standing {
+        Standing::Settled => post(tables, x.sink, msg),
+        Standing::Moving(_) => {}
+        Standing::Leaving => {}
+    }
+}
+
+// A message for the sink of the input with an index.
+fn say<P: Drop>(tables: &mut Tables<P>, index: InputId, msg: Msg<P>)
+    requires { HasRoom 1 tables.old }
+    ensures state { state_of tables.new ≡ changed (state_of tables.old) (Said index msg) }
+    ensures room { (n : ℕ) → HasRoom (n + 1) tables.old → HasRoom n tables.new }
+{
+    match tables.inputs.input_of(index) {
+        None => {}
+        Some(x) => tell(tables, &x, msg),
+    }
+}
+
+// An input ends: a settled one's sink is to give up its stream.
+fn end<P: Drop>(tables: &mut Tables<P>, x: &Input)
+    requires { HasRoom 1 tables.old }
+    ensures state { state_of tables.new ≡ ending x.now.standing x.now (state_of tables.old) }
+    ensures room { (n : ℕ) → HasRoom (n + 1) tables.old → HasRoom n tables.new }
+{
+    match x.standing {
+        Standing::Settled => {
+            tables.inputs.leave(x.index);
+            post(tables, x.sink, Msg::Detach { input: x.index });
+        }
+        Standing::Moving(_) => tables.inputs.leave(x.index),
+        Standing::Leaving => {}
+    }
+}
+
+// The input with an index ends.
+fn leave<P: Drop>(tables: &mut Tables<P>, index: InputId)
+    requires { HasRoom 1 tables.old }
+    ensures state { state_of tables.new ≡ changed (state_of tables.old) (Leaves index) }
+    ensures room { (n : ℕ) → HasRoom (n + 1) tables.old → HasRoom n tables.new }
+{
+    match tables.inputs.input_of(index) {
+        None => {}
+        Some(x) => end(tables, &x),
+    }
+}
+
+// A new input is there, and its sink is to have its stream.
+fn make<P: Drop>(tables: &mut Tables<P>, x: Input, new: Msg<P>, streams: u32, inputs: u32)
+    requires { HasRoom 1 tables.old }
+    ensures state { state_of tables.new ≡ changed (state_of tables.old) (Made x new streams inputs) }
+    ensures room { (n : ℕ) → HasRoom (n + 1) tables.old → HasRoom n tables.new }
+{
+    verbs::set_streams(&mut tables.connections, x.conn, streams);
+    tables.inputs.push(x);
+    tables.inputs_made = inputs;
+    post(tables, x.sink, new);
+}
+
 // One change, which takes one place of the room.
-fn apply<P: Drop>(tables: &mut Tables<P>, change: Change<P>)
+fn apply<P: Drop>(tables: &mut Tables<P>, change: CoreChange<P>)
     requires { HasRoom 1 tables.old }
     ensures state { state_of tables.new ≡ changed (state_of tables.old) change }
     ensures room { (n : ℕ) → HasRoom (n + 1) tables.old → HasRoom n tables.new }
-    ensures sinks { tables.new.sinks ≡ tables.old.sinks }
 {
     match change {
         Change::Authed(conn, version) => {
             verbs::set_version(&mut tables.connections, conn, version);
         }
         Change::Named(conn, list) => tables.names.set_list(conn, list),
-        Change::Marked(conn) => verbs::mark(&mut tables.connections, conn),
+        Change::Made {
+            input,
+            new,
+            streams,
+            inputs,
+        } => make(tables, input, new, streams, inputs),
+        Change::Leaves(index) => leave(tables, index),
+        Change::Said(index, msg) => say(tables, index, msg),
+        Change::Regrouped(sink, _group, msg) => post(tables, sink, msg),
+        Change::Gone(index) => tables.inputs.remove(index),
+        Change::Ended { conn, .. } => verbs::mark(&mut tables.connections, conn),
         Change::Forgotten(conn) => {
             verbs::forget(&mut tables.connections, conn);
             tables.names.forget(conn);
         }
-        Change::Made {
-            input,
-            streams,
-            inputs,
-        } => {
-            verbs::set_streams(&mut tables.connections, input.conn, streams);
-            tables.inputs.push(input);
-            tables.inputs_made = inputs;
-        }
-        Change::Leaves(index) => tables.inputs.leave(index),
-        Change::Gone(index) => tables.inputs.remove(index),
-        Change::Posted(sink, msg) => queues::post(&mut tables.posted, sink, msg),
     }
 }
 
 /// All changes, in order. Takes no memory.
-pub(crate) fn commit<P: Drop>(tables: &mut Tables<P>, changes: Vec<Change<P>>)
+pub(crate) fn commit<P: Drop>(tables: &mut Tables<P>, changes: Vec<CoreChange<P>>)
     requires { HasRoom (length changes.items) tables.old }
     ensures state { state_of tables.new ≡ committed (state_of tables.old) changes.items }
-    ensures sinks { tables.new.sinks ≡ tables.old.sinks }
 {
     let mut changes = VecDeque::from_vec(changes);
     while let Some(change) = changes.pop_front() {
@@ -71,7 +145,6 @@ pub(crate) fn finish<P: Drop>(tables: &mut Tables<P>, answer: Answer<P>) -> Mem<
     ensures effects { IfOk result (λ effects. effects ≡ answer.effects) }
     ensures after { OnOk result (state_of tables.new ≡ answered (state_of tables.old) answer) }
     ensures err { OnErr result (state_of tables.new ≡ state_of tables.old) }
-    ensures sinks { tables.new.sinks ≡ tables.old.sinks }
 {
     let Answer { changes, effects } = answer;
     reserve(tables, changes.len())?;

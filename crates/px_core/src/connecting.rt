@@ -1,30 +1,32 @@
 //! Connections begin and end (PulseAudio: `pa_native_protocol_connect` and `native_connection_unlink` of
 //! `pulsecore/protocol-native.c`; that an ended connection is swept away in a step of its own is own).
 
-ghost use Rattle.std.specs.Prelude.{◌≡◌, ◌<◌, ◌++◌, ◌∷◌, [], List, filter, flat_map, IfOk, OnOk, OnErr};
+ghost use Rattle.std.specs.Prelude.{◌≡◌, ◌<◌, ◌++◌, ◌∷◌, [], ℕ, List, Option, Some, filter, flat_map, IfOk, OnOk, OnErr};
 ghost use Rattle.std.specs.Option.{option_map};
-ghost use Rattle.px_types.specs.declared.ids.ConnId.{ConnId};
+ghost use Rattle.px_plan.specs.declared.sending.Reason.{Reason};
+ghost use Rattle.px_plan.specs.declared.sending.Reason.TheVariants.{Protocol};
 ghost use Rattle.px_frame.specs.Fault.{code_of};
-ghost use Rattle.px_core.specs.declared.effect.Effect.{Effect};
-ghost use Rattle.px_core.specs.declared.input.Connection.{Connection};
-ghost use Rattle.px_core.specs.declared.input.Input.{Input};
+ghost use Rattle.px_plan.specs.declared.input.Connection.{Connection};
+ghost use Rattle.px_plan.specs.declared.input.Input.{Input};
 ghost use Rattle.px_core.specs.State.{connection_of, marked_of, is_from};
-ghost use Rattle.px_core.specs.Connecting.{is_full, new_connection, joined, connected, connect_effects, going_on, ended, broken_effects, swept, sweep_of};
+ghost use Rattle.px_core.specs.Connecting.{is_full, new_connection, joined, connected, connect_effects, going_on, ended, swept, sweep_of};
 ghost use Rattle.px_core.specs.Delete.{ends};
 ghost use Rattle.px_core.specs.Effect.{closed_for, IsSendable};
 ghost use Rattle.px_core.specs.Step.{answered};
 ghost use Rattle.px_core.specs.Tables.{state_of};
 
 use crate::answer::Answer;
-use crate::change::Change;
-use crate::effect::{Effect, Reason};
+use crate::change::CoreChange;
+use crate::commit::finish;
+use crate::effect::Effect;
 use crate::effects::Effects;
 use crate::found::{connection_of, going_on};
-use crate::input::{Connection, Input};
+use crate::reply::closed_at;
+use crate::standing::goes_on;
 use crate::tables::Tables;
 use crate::verbs::mark;
 use px_frame::FrameFault;
-use px_msg::Msg;
+use px_plan::{Change, Connection, Input, Reason};
 use px_types::{ConnId, Mem};
 use std::alloc::Global;
 
@@ -43,7 +45,6 @@ fn join<P>(tables: &mut Tables<P>, conn: ConnId) -> Mem<()>
     requires { tables.old.clients_made < 4294967295 }
     ensures after { OnOk result (state_of tables.new ≡ joined conn (state_of tables.old)) }
     ensures err { OnErr result (state_of tables.new ≡ state_of tables.old) }
-    ensures sinks { tables.new.sinks ≡ tables.old.sinks }
 {
     let client = tables.clients_made;
     tables.connections.reserve(1)?;
@@ -62,9 +63,8 @@ fn join<P>(tables: &mut Tables<P>, conn: ConnId) -> Mem<()>
 /// A connection ends where it goes on: it is marked, and its number is given. Takes no memory.
 pub(crate) fn end<P>(tables: &mut Tables<P>, conn: ConnId) -> Option<ConnId>
     ensures conn { result ≡ option_map (λ c. c.conn) (going_on tables.old.connections.items conn) }
-    ensures after { (effects : ConnId → List Effect) →
-        state_of tables.new ≡ answered (state_of tables.old) (ended (going_on tables.old.connections.items conn) effects) }
-    ensures sinks { tables.new.sinks ≡ tables.old.sinks }
+    ensures after { (reason : Option Reason) (fault at : ℕ) →
+        state_of tables.new ≡ answered (state_of tables.old) (ended (going_on tables.old.connections.items conn) reason fault at) }
 {
     match going_on(&tables.connections, conn) {
         None => None,
@@ -76,19 +76,18 @@ pub(crate) fn end<P>(tables: &mut Tables<P>, conn: ConnId) -> Option<ConnId>
 }
 
 // The changes of one more input, where it is the connection's and goes on.
-fn add_ends<P: Drop>(changes: &mut Vec<Change<P>>, conn: ConnId, input: &Input) -> Mem<()>
+fn add_ends<P: Drop>(changes: &mut Vec<CoreChange<P>>, conn: ConnId, input: &Input) -> Mem<()>
     ensures { OnOk result ((more : List Input) →
         changes.new.items ++ flat_map ends (filter (is_from conn) more) ≡ changes.old.items ++ flat_map ends (filter (is_from conn) (input.now ∷ more))) }
 {
-    if input.conn.0 == conn.0 && !input.leaving {
+    if input.conn.0 == conn.0 && goes_on(input) {
         changes.push(Change::Leaves(input.index))?;
-        changes.push(Change::Posted(input.sink, Msg::Detach { input: input.index }))?;
     }
     Ok(())
 }
 
 // The changes that end all streams of a connection.
-fn add_streams<P: Drop>(changes: &mut Vec<Change<P>>, conn: ConnId, inputs: &[Input]) -> Mem<()>
+fn add_streams<P: Drop>(changes: &mut Vec<CoreChange<P>>, conn: ConnId, inputs: &[Input]) -> Mem<()>
     ensures { OnOk result (changes.new.items ≡ changes.old.items ++ flat_map ends (filter (is_from conn) inputs.now)) }
 {
     for input in inputs {
@@ -98,7 +97,7 @@ fn add_streams<P: Drop>(changes: &mut Vec<Change<P>>, conn: ConnId, inputs: &[In
 }
 
 // The changes of one more connection, where it has ended.
-fn add_swept<P: Drop>(changes: &mut Vec<Change<P>>, inputs: &[Input], c: &Connection) -> Mem<()>
+fn add_swept<P: Drop>(changes: &mut Vec<CoreChange<P>>, inputs: &[Input], c: &Connection) -> Mem<()>
     ensures { OnOk result ((more : List Connection) →
         changes.new.items ++ flat_map (swept inputs.now) (marked_of more) ≡ changes.old.items ++ flat_map (swept inputs.now) (marked_of (c.now ∷ more))) }
 {
@@ -109,12 +108,8 @@ fn add_swept<P: Drop>(changes: &mut Vec<Change<P>>, inputs: &[Input], c: &Connec
     Ok(())
 }
 
-/// The connections that have ended are swept away: the streams of each end, in order, and its client goes.
-pub(crate) fn sweep<P: Drop>(
-    alloc: Global,
-    connections: &[Connection],
-    inputs: &[Input],
-) -> Mem<Answer<P>>
+// What sweeps the connections away that have ended: the streams of each end, in order, and its client goes.
+fn sweep<P: Drop>(alloc: Global, connections: &[Connection], inputs: &[Input]) -> Mem<Answer<P>>
     ensures { IfOk result (λ answer. answer ≡ record { changes = flat_map (swept inputs.now) (marked_of connections.now); effects = [] }) }
 {
     let mut changes = Vec::new(alloc);
@@ -127,13 +122,22 @@ pub(crate) fn sweep<P: Drop>(
     })
 }
 
+/// The connections that have ended are swept away. Where there is no memory for it nothing has changed.
+pub(crate) fn sweep_away<P: Drop>(alloc: Global, tables: &mut Tables<P>) -> Mem<Effects>
+    ensures effects { IfOk result (λ effects. effects ≡ (sweep_of (state_of tables.old)).effects) }
+    ensures after { OnOk result (state_of tables.new ≡ answered (state_of tables.old) (sweep_of (state_of tables.old))) }
+    ensures err { OnErr result (state_of tables.new ≡ state_of tables.old) }
+{
+    let answer = sweep(alloc, &tables.connections, tables.inputs.as_slice())?;
+    finish(tables, answer)
+}
+
 /// A client connects. One that is there already changes nothing; where no more are taken the server ends it. Where there is no
 /// memory for it nothing has changed.
 pub(crate) fn connect<P>(alloc: Global, tables: &mut Tables<P>, conn: ConnId) -> Mem<Effects>
     ensures effects { IfOk result (λ effects. effects ≡ connect_effects (connection_of tables.old.connections.items conn) conn (state_of tables.old)) }
     ensures after { OnOk result (state_of tables.new ≡ connected (connection_of tables.old.connections.items conn) conn (state_of tables.old)) }
     ensures err { OnErr result (state_of tables.new ≡ state_of tables.old) }
-    ensures sinks { tables.new.sinks ≡ tables.old.sinks }
 {
     if connection_of(&tables.connections, conn).is_some() {
         return Ok(Effects::new(alloc));
@@ -168,22 +172,13 @@ pub(crate) fn break_off<P>(
     fault: FrameFault,
     at: u64,
 ) -> Mem<Effects>
-    ensures effects { IfOk result (λ effects. effects ≡ (ended {P = P} (going_on tables.old.connections.items conn) (broken_effects fault at)).effects) }
-    ensures after { OnOk result (state_of tables.new ≡ answered (state_of tables.old) (ended (going_on tables.old.connections.items conn) (broken_effects fault at))) }
+    ensures effects { IfOk result (λ effects. effects ≡ (ended {P = P} (going_on tables.old.connections.items conn) (Some Protocol) (code_of fault) at).effects) }
+    ensures after { OnOk result (state_of tables.new ≡ answered (state_of tables.old) (ended (going_on tables.old.connections.items conn) (Some Protocol) (code_of fault) at)) }
     ensures err { OnErr result (state_of tables.new ≡ state_of tables.old) }
-    ensures sinks { tables.new.sinks ≡ tables.old.sinks }
 {
     let effects = match going_on(&tables.connections, conn) {
         None => Effects::new(alloc),
-        Some(c) => Effects::of(
-            alloc,
-            Effect::Closed {
-                conn: c.conn,
-                reason: Reason::Protocol,
-                fault: fault.code(),
-                at,
-            },
-        )?,
+        Some(c) => Effects::of(alloc, closed_at(c.conn, fault.code(), at))?,
     };
     end(tables, conn);
     Ok(effects)

@@ -10,14 +10,14 @@ ghost use Rattle.px_core.specs.Create.{IsOfHeader, input_made, changes_of, creat
 
 use crate::answer::Answer;
 use crate::asked::{attr_on, is_lawful, spec_on};
-use crate::change::Change;
+use crate::change::CoreChange;
 use crate::created::{new_of, reply_of};
 use crate::factors::factors_for;
-use crate::input::{Connection, Input, Way};
 use crate::refusals::refusal_on;
 use crate::reply::{done, refused};
 use px_cmd::{CreateFields, SinkRef};
 use px_names::Names;
+use px_plan::{Change, Connection, Input, Standing, Way};
 use px_session::SinkSpec;
 use px_types::{ErrorCode, InputId, Mem, SinkId};
 use std::alloc::Global;
@@ -46,7 +46,7 @@ fn input_made(
         spec: spec_on(sink, a),
         attr: attr_on(sink, a),
         way: Way::Coming,
-        leaving: false,
+        standing: Standing::Settled,
     }
 }
 
@@ -58,7 +58,7 @@ fn changes_of<P: Drop>(
     c: &Connection,
     sink: &SinkSpec,
     x: Input,
-) -> Mem<Vec<Change<P>>>
+) -> Mem<Vec<CoreChange<P>>>
     requires sink { IsOfHeader sink.now }
     requires inputs { inputs_made < 4294967295 }
     requires streams { c.now.streams < 4294967295 }
@@ -67,12 +67,12 @@ fn changes_of<P: Drop>(
     let mut changes = Vec::new(alloc);
     changes.push(Change::Made {
         input: x,
+        new: new_of(sink, &x),
         streams: c.streams + 1,
         inputs: inputs_made + 1,
     })?;
-    changes.push(Change::Posted(x.sink, new_of(sink, &x)))?;
     let factors = factors_for(alloc, sink, x.sink, inputs, Some(x.index))?;
-    changes.push(Change::Posted(x.sink, factors))?;
+    changes.push(Change::Regrouped(x.sink, (), factors))?;
     Ok(changes)
 }
 

@@ -9,10 +9,10 @@ ghost use Rattle.px_core.specs.Create.{IsOfHeader, straight, new_of, latency_of,
 
 use crate::asked::positions_on;
 use crate::factors::unity_on;
-use crate::input::Input;
 use px_chmap::Feed;
 use px_cmd::CreateFields;
 use px_msg::{Msg, NewStream, in_bytes};
+use px_plan::Input;
 use px_reply::Created;
 use px_sample::Spec;
 use px_session::SinkSpec;

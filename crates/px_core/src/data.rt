@@ -5,17 +5,18 @@ ghost use Rattle.std.specs.Prelude.{◌≡◌, ◌≤◌, ◌<◌, ◌/◌, ◌�
 ghost use Rattle.std.specs.Int.{int_div_euclid};
 ghost use Rattle.px_sample.specs.Format.{frame_size_of};
 ghost use Rattle.px_msg.specs.declared.message.Msg.TheVariants.{Write};
-ghost use Rattle.px_core.specs.declared.change.Change.TheVariants.{Posted};
+ghost use Rattle.px_plan.specs.declared.change.Change.TheVariants.{Said};
+ghost use Rattle.px_core.specs.State.{input_of};
 ghost use Rattle.px_core.specs.Data.{are_frames, data_for, data_of};
+ghost use Rattle.px_core.specs.Keeps.{IsRising};
 ghost use Rattle.px_core.specs.Step.{answered};
 ghost use Rattle.px_core.specs.Tables.{state_of};
 
-use crate::commit::reserve;
-use crate::input::Input;
-use crate::queues;
+use crate::commit::{reserve, tell};
 use crate::tables::Tables;
 use px_block::Blocks;
 use px_msg::Msg;
+use px_plan::Input;
 use px_sample::Spec;
 use px_types::ConnId;
 
@@ -79,11 +80,11 @@ fn post<P: Drop>(
     seek: u8,
     bytes: Blocks,
 ) -> Result<(), Blocks>
+    requires { input_of tables.old.inputs.items input.index ≡ Some input }
     ensures after { OnOk result (state_of tables.new ≡ answered (state_of tables.old)
-        (record { changes = Posted input.sink (Write input.index seek frames.offset frames.count bytes) ∷ []; effects = [] })) }
+        (record { changes = Said input.index (Write input.index seek frames.offset frames.count bytes) ∷ []; effects = [] })) }
     ensures back { IfErr result (λ back. back ≡ bytes) }
     ensures err { OnErr result (state_of tables.new ≡ state_of tables.old) }
-    ensures sinks { tables.new.sinks ≡ tables.old.sinks }
 {
     match reserve(tables, 1) {
         Err(_) => Err(bytes),
@@ -95,7 +96,7 @@ fn post<P: Drop>(
                 frames: frames.count,
                 bytes,
             };
-            queues::post(&mut tables.posted, input.sink, msg);
+            tell(tables, &input, msg);
             Ok(())
         }
     }
@@ -109,12 +110,12 @@ fn write_to<P: Drop>(
     seek: u8,
     bytes: Blocks,
 ) -> Result<(), Blocks>
-    requires { length bytes ≤ 16777216 }
+    requires there { input_of tables.old.inputs.items input.index ≡ Some input }
+    requires few { length bytes ≤ 16777216 }
     ensures after { OnOk result (state_of tables.new ≡ answered (state_of tables.old) (data_for (Some input) offset seek bytes)) }
     ensures effects { OnOk result ((data_for {P = P} (Some input) offset seek bytes).effects ≡ []) }
     ensures back { IfErr result (λ back. back ≡ bytes) }
     ensures err { OnErr result (state_of tables.new ≡ state_of tables.old) }
-    ensures sinks { tables.new.sinks ≡ tables.old.sinks }
 {
     match frames_of(&input, offset, bytes.len()) {
         None => { Ok(()) }
@@ -133,12 +134,12 @@ pub(crate) fn write<P: Drop>(
     seek: u8,
     bytes: Blocks,
 ) -> Result<(), Blocks>
-    requires { length bytes ≤ 16777216 }
+    requires rising { IsRising tables.old.inputs.items }
+    requires few { length bytes ≤ 16777216 }
     ensures after { OnOk result (state_of tables.new ≡ answered (state_of tables.old) (data_of tables.old.inputs.items conn stream offset seek bytes)) }
     ensures effects { OnOk result ((data_of {P = P} tables.old.inputs.items conn stream offset seek bytes).effects ≡ []) }
     ensures back { IfErr result (λ back. back ≡ bytes) }
     ensures err { OnErr result (state_of tables.new ≡ state_of tables.old) }
-    ensures sinks { tables.new.sinks ≡ tables.old.sinks }
 {
     match tables.inputs.stream_of(conn, stream) {
         None => { Ok(()) }

@@ -4,21 +4,19 @@ ghost use Rattle.std.specs.Prelude.{◌≡◌, IfOk};
 ghost use Rattle.px_core.specs.Delete.{ends, delete};
 
 use crate::answer::Answer;
-use crate::change::Change;
-use crate::input::{Connection, Input};
+use crate::change::CoreChange;
 use crate::input_table::InputTable;
 use crate::reply::{done_plainly, refused};
-use px_msg::Msg;
+use px_plan::{Change, Connection, Input};
 use px_types::{ErrorCode, Mem};
 use std::alloc::Global;
 
-// An input ends: its sink is to give up its stream.
-fn ends<P: Drop>(alloc: Global, x: &Input) -> Mem<Vec<Change<P>>>
+// An input ends.
+fn ends<P: Drop>(alloc: Global, x: &Input) -> Mem<Vec<CoreChange<P>>>
     ensures { IfOk result (λ changes. changes.items ≡ ends x.now) }
 {
     let mut changes = Vec::new(alloc);
     changes.push(Change::Leaves(x.index))?;
-    changes.push(Change::Posted(x.sink, Msg::Detach { input: x.index }))?;
     Ok(changes)
 }
 

@@ -1,38 +1,12 @@
 //! What a step does to the outside.
 
 ghost use Rattle.std.specs.Prelude.{◌≡◌, ◌<◌, ◌≤◌, length, IfOk};
-ghost use Rattle.px_core.specs.Effect.{reason_code, framed, sent, IsSendable};
+ghost use Rattle.px_core.specs.Effect.{framed, sent, IsSendable};
 
 use px_frame::{Packet, write_packet};
+use px_plan::Reason;
 use px_types::{ConnId, Mem, NoMemory};
 use std::alloc::Global;
-
-/// Why the server has ended a connection.
-#[derive(Clone, Copy, Debug, PartialEq, Eq)]
-pub enum Reason {
-    /// What it sent breaks a rule of the protocol.
-    Protocol,
-    /// No more connections are taken.
-    Limit,
-    /// Another client asked for it.
-    Killed,
-    /// There was no memory for it.
-    Cut,
-}
-
-impl Reason {
-    /// Its number in recorded sessions, 1 to 4. Own: PulseAudio has none.
-    pub fn code(self) -> u8
-        ensures { result ≡ reason_code self }
-    {
-        match self {
-            Reason::Protocol => 1,
-            Reason::Limit => 2,
-            Reason::Killed => 3,
-            Reason::Cut => 4,
-        }
-    }
-}
 
 /// What a step does to the outside.
 #[derive(Debug, Drop)]

@@ -3,10 +3,11 @@
 ghost use Rattle.std.specs.Prelude.{◌≡◌, ◌++◌, ◌≤◌, ◌∷◌, [], List, None, Some, IfOk, OnOk, drop};
 ghost use Rattle.px_core.specs.State.{settled_on};
 ghost use Rattle.px_core.specs.Create.{unity_on, factors_of, factors_for};
-ghost use Rattle.px_core.specs.declared.input.Input.{Input};
+ghost use Rattle.px_plan.specs.declared.input.Input.{Input};
 
-use crate::input::Input;
+use crate::standing::is_settled;
 use px_msg::{FactorList, InputFactors, Msg};
+use px_plan::Input;
 use px_session::SinkSpec;
 use px_types::{InputId, Mem, SinkId};
 use px_vol::Factors;
@@ -36,7 +37,7 @@ fn add_settled(
     ensures { OnOk result ((more : List Input) →
         list.new.items ++ factors_of sink.now (settled_on more index) ≡ list.old.items ++ factors_of sink.now (settled_on (input.now ∷ more) index)) }
 {
-    if input.sink.0 == index.0 && !input.leaving {
+    if is_settled(input, index) {
         list.push(InputFactors {
             input: input.index,
             factors: unity_on(sink),

@@ -4,6 +4,7 @@ ghost use Rattle.std.specs.Prelude.{◌≡◌, [], IfOk, IfErr, OnOk, OnErr};
 ghost use Rattle.px_frame.specs.Frame.{IsBody};
 ghost use Rattle.px_session.specs.HeaderRules.{AreSinks};
 ghost use Rattle.px_core.specs.Command.{packet_answer};
+ghost use Rattle.px_core.specs.Keeps.{IsRising};
 ghost use Rattle.px_core.specs.Step.{answered, body_answer, frame_answer};
 ghost use Rattle.px_core.specs.Tables.{state_of};
 
@@ -12,9 +13,9 @@ use crate::commit::finish;
 use crate::data::write;
 use crate::effects::Effects;
 use crate::found::going_on;
-use crate::input::Connection;
 use crate::tables::Tables;
 use px_frame::{Body, Frame};
+use px_plan::Connection;
 use px_types::{ConnId, Mem};
 use std::alloc::Global;
 
@@ -30,7 +31,6 @@ fn control<P: Drop>(
     ensures effects { IfOk result (λ effects. effects ≡ (packet_answer (state_of tables.old) c.now at packet.now).effects) }
     ensures after { OnOk result (state_of tables.new ≡ answered (state_of tables.old) (packet_answer (state_of tables.old) c.now at packet.now)) }
     ensures err { OnErr result (state_of tables.new ≡ state_of tables.old) }
-    ensures sinks { tables.new.sinks ≡ tables.old.sinks }
 {
     let answer = packet_answer(alloc, tables, c, at, packet)?;
     finish(tables, answer)
@@ -45,12 +45,12 @@ fn body<P: Drop>(
     body: Body,
 ) -> Result<Effects, Body>
     requires sinks { AreSinks [] tables.old.sinks }
+    requires rising { IsRising tables.old.inputs.items }
     requires body { IsBody body }
     ensures effects { IfOk result (λ effects. effects ≡ (body_answer (state_of tables.old) c.now at body).effects) }
     ensures after { OnOk result (state_of tables.new ≡ answered (state_of tables.old) (body_answer (state_of tables.old) c.now at body)) }
     ensures back { IfErr result (λ back. back ≡ body) }
     ensures err { OnErr result (state_of tables.new ≡ state_of tables.old) }
-    ensures sinks { tables.new.sinks ≡ tables.old.sinks }
 {
     match body {
         Body::Control(packet) => match control(alloc, tables, c, at, packet.bytes()) {
@@ -83,12 +83,12 @@ pub(crate) fn take<P: Drop>(
     frame: Frame,
 ) -> Result<Effects, Frame>
     requires sinks { AreSinks [] tables.old.sinks }
+    requires rising { IsRising tables.old.inputs.items }
     requires body { IsBody frame.body }
     ensures effects { IfOk result (λ effects. effects ≡ (frame_answer (state_of tables.old) conn frame).effects) }
     ensures after { OnOk result (state_of tables.new ≡ answered (state_of tables.old) (frame_answer (state_of tables.old) conn frame)) }
     ensures back { IfErr result (λ back. back ≡ frame) }
     ensures err { OnErr result (state_of tables.new ≡ state_of tables.old) }
-    ensures sinks { tables.new.sinks ≡ tables.old.sinks }
 {
     match going_on(&tables.connections, conn) {
         None => { Ok(Effects::new(alloc)) }

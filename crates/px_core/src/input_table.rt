@@ -5,14 +5,16 @@ ghost use Rattle.std.specs.List.{find};
 ghost use Rattle.std.specs.Option.{option_map};
 ghost use Rattle.indexmap.specs.IndexMap.{get, spare, ContainsKey};
 ghost use Rattle.px_core.specs.declared.input_table.StreamKey.{StreamKey as Key};
-ghost use Rattle.px_core.specs.State.{has_index, stream_of};
+ghost use Rattle.px_core.specs.State.{has_index, input_of, stream_of};
 ghost use Rattle.px_core.specs.Change.{change_first, drop_first, leaving};
 ghost use Rattle.px_core.specs.InputTable.{same_stream, key_of, first_of};
 ghost use Rattle.px_core.specs.Out.{on_way};
 
-use crate::input::{Input, Way};
+use crate::found::input_of;
+use crate::standing::goes_on;
 use crate::verbs;
 use indexmap::IndexMap;
+use px_plan::{Input, Way};
 use px_types::{ConnId, InputId, Mem};
 use std::alloc::Global;
 use std::marker::Model;
@@ -68,7 +70,7 @@ fn key_at(inputs: &[Input], index: InputId) -> Option<StreamKey>
 fn first_of(inputs: &[Input], key: StreamKey) -> Option<&Input>
     ensures { option_map (λ x. x.now) result ≡ first_of inputs.now key }
 {
-    inputs.iter().find(|x| x.conn.0 == key.conn.0 && x.stream == key.stream && !x.leaving)
+    inputs.iter().find(|x| x.conn.0 == key.conn.0 && x.stream == key.stream && goes_on(x))
 }
 
 // The entry of a stream is its first input that goes on; the others stay.
@@ -111,6 +113,16 @@ impl InputTable {
         ensures { option_map (λ x. x.now) result ≡ stream_of self.now.items conn stream }
     {
         self.by_stream.get(&StreamKey { conn, stream })
+    }
+
+    /// The input with an index. Takes no memory.
+    pub(crate) fn input_of(&self, index: InputId) -> Option<Input>
+        ensures { result ≡ input_of self.now.items index }
+    {
+        match input_of(&self.all, index) {
+            None => None,
+            Some(x) => Some(*x),
+        }
     }
 
     /// Room for so many more. The inputs stay.

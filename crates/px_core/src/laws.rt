@@ -11,7 +11,8 @@ ghost use Rattle.px_model.specs.Orderly.{IsOrderly, inputs_left_by};
 ghost use Rattle.px_msg.specs.declared.message.Msg.{Msg};
 ghost use Rattle.px_msg.specs.View.{sample_spec, message_of};
 ghost use Rattle.px_reply.specs.Front.{refusal};
-ghost use Rattle.px_core.specs.Effect.{sent};
+ghost use Rattle.px_core.specs.Effect.{sent, closed_at};
+ghost use Rattle.px_core.specs.Change.{marked, with_connection};
 ghost use Rattle.px_core.specs.State.{State, new_state};
 ghost use Rattle.px_core.specs.Connecting.{going_on};
 ghost use Rattle.px_core.specs.Out.{Roomy, waiting_for, next_for, handed_out, put_back, sent_by, unsent_by};
@@ -105,11 +106,14 @@ pub fn connections_end_once<P>()
 {}
 
 /// What a connection sends that isn't there, or has ended, has no effect and changes nothing; nor does anything that is
-/// answered by an error. It does nothing: its contract is the law. Source: own.
+/// answered by an error. One that breaks a rule of the protocol marks its own connection, and changes nothing else. It does
+/// nothing: its contract is the law. Source: own.
 pub fn refusals_change_nothing<P>()
     ensures ended { (spec_of : P → SampleSpec) (state : State P) (s : Step P) (conn : ConnId) → sender_of s ≡ Some conn
         → going_on state.connections conn ≡ None
         → (stepped spec_of state s ≡ state) × (effects_of spec_of state s ≡ []) }
     ensures refused { (spec_of : P → SampleSpec) (state : State P) (s : Step P) (conn : ConnId) (tag code : ℕ)
         → effects_of spec_of state s ≡ sent conn (refusal tag code) ∷ [] → stepped spec_of state s ≡ state }
+    ensures broken { (spec_of : P → SampleSpec) (state : State P) (s : Step P) (conn : ConnId) (fault at : ℕ)
+        → effects_of spec_of state s ≡ closed_at conn fault at ∷ [] → stepped spec_of state s ≡ with_connection conn marked state }
 {}

@@ -19,7 +19,6 @@ mod effects;
 mod factors;
 mod found;
 mod frames;
-mod input;
 mod input_table;
 mod laws;
 mod lending;
@@ -28,19 +27,20 @@ mod out;
 mod queues;
 mod refusals;
 mod reply;
+mod standing;
 mod start;
 mod tables;
 mod told;
 mod verbs;
 
 pub use answer::Answer;
-pub use change::Change;
-pub use effect::{Effect, Reason};
+pub use change::CoreChange;
+pub use effect::Effect;
 pub use effects::Effects;
-pub use input::{Connection, Input, Way};
 pub use laws::{
     connections_end_once, refusals_change_nothing, sinks_have_what_they_were_told,
     sinks_hear_step_by_step, sinks_hear_what_is_orderly, states_are_kept,
 };
 pub use lending::put_back_undoes_handing_out;
 pub use machine::Core;
+pub use px_plan::{Connection, Input, Reason, Standing, Way};

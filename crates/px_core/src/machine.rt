@@ -7,19 +7,19 @@ ghost use Rattle.px_session.specs.HeaderRules.{IsHeader};
 ghost use Rattle.px_core.specs.Effect.{IsSendable};
 ghost use Rattle.px_core.specs.State.{new_state};
 ghost use Rattle.px_core.specs.Step.{Step, stepped, effects_of};
-ghost use Rattle.px_core.specs.Out.{waiting_for, next_for, sent, unsent, room_for};
+ghost use Rattle.px_core.specs.Keeps.{IsKept};
+ghost use Rattle.px_core.specs.Out.{waiting_for, next_for, put_back, sent, unsent, room_for};
 
-use crate::commit::finish;
-use crate::connecting::{break_off, closed_for, connect, end, sweep};
-use crate::effect::{Effect, Reason};
+use crate::connecting::{break_off, closed_for, connect, end, sweep_away};
+use crate::effect::Effect;
 use crate::effects::Effects;
 use crate::out::{hand_out, put_back};
 use crate::start::new_tables;
 use crate::tables::Tables;
-use crate::told::notice_answer;
-use crate::{frames, queues};
+use crate::{frames, queues, told};
 use px_frame::{Frame, FrameFault};
 use px_msg::{Msg, Notice, Parcel};
+use px_plan::Reason;
 use px_session::Header;
 use px_types::{ConnId, Mem, SinkId};
 use std::alloc::Global;
@@ -29,22 +29,21 @@ use std::marker::Model;
 /// `pulsecore/protocol-native.c`). Each call is one step of the definitions, with its effects. `P` is the type of a parcel: a
 /// stream on its way from one sink to another.
 #[derive(Drop)]
-pub struct Core<P> {
+pub struct Core<P: Parcel> {
     alloc: Global,
     tables: Tables<P>,
 }
 
-impl<P> Model for Core<P> {
-    ghost use Rattle.std.specs.Prelude.{[]};
-    ghost use Rattle.px_session.specs.HeaderRules.{AreSinks};
+impl<P: Parcel> Model for Core<P> {
     ghost use Rattle.px_core.specs.Out.{Roomy};
-    ghost use Rattle.px_core.specs.Tables.{core_of};
+    ghost use Rattle.px_core.specs.Keeps.{IsKept};
+    ghost use Rattle.px_core.specs.Tables.{core_of, state_of};
 
     ghost Value = { Roomy P };
 
     ghost view = { λ c. core_of c.tables };
 
-    ghost invariant = { λ c. AreSinks [] c.tables.sinks };
+    ghost invariant = { λ c. IsKept P.spec_of (state_of c.tables) };
 }
 
 impl<P: Parcel + Drop> Core<P> {
@@ -116,12 +115,7 @@ impl<P: Parcel + Drop> Core<P> {
         ensures after { OnOk result (self.new.state ≡ stepped P.spec_of self.old.state Step.sweep) }
         ensures err { OnErr result (self.new.state ≡ self.old.state) }
     {
-        let answer = sweep(
-            self.alloc,
-            &self.tables.connections,
-            self.tables.inputs.as_slice(),
-        )?;
-        finish(&mut self.tables, answer)
+        sweep_away(self.alloc, &mut self.tables)
     }
 
     /// A sink's notice. Where there is no memory for it, it is handed back, and nothing has changed.
@@ -131,13 +125,7 @@ impl<P: Parcel + Drop> Core<P> {
         ensures back { IfErr result (λ back. back ≡ notice) }
         ensures err { OnErr result (self.new.state ≡ self.old.state) }
     {
-        let Ok(answer) = notice_answer(self.alloc, &self.tables, sink, &notice) else {
-            return Err(notice);
-        };
-        match finish(&mut self.tables, answer) {
-            Ok(effects) => Ok(effects),
-            Err(_) => Err(notice),
-        }
+        told::take(self.alloc, &mut self.tables, sink, notice)
     }
 
     /// How many messages wait for a sink; 0 for one that isn't there. Takes no memory.
@@ -157,9 +145,10 @@ impl<P: Parcel + Drop> Core<P> {
     }
 
     /// A message that was handed out waits again, before the others. Where several were, the last one is put back first, and
-    /// the core is as it was once all are back. Takes no memory.
+    /// the core is as it was once all are back: a state that a core keeps, as `states_are_kept` says of it. Takes no memory.
     pub fn unsent(&mut self, sink: SinkId, msg: Msg<P>)
-        requires { 0 < room_for sink self.old.room }
+        requires room { 0 < room_for sink self.old.room }
+        requires kept { IsKept P.spec_of (put_back sink msg self.old.state) }
         ensures { self.new ≡ unsent sink msg self.old }
     {
         put_back(&mut self.tables, sink, msg);

@@ -5,11 +5,11 @@ ghost use Rattle.std.specs.Prelude.{◌≡◌, ◌<◌};
 ghost use Rattle.px_core.specs.Out.{inputs_past, inputs_before, next_for, sent, unsent, room_for};
 ghost use Rattle.px_core.specs.Tables.{state_of, core_of, rooms_of};
 
-use crate::input::Way;
 use crate::input_table::InputTable;
 use crate::queues;
 use crate::tables::Tables;
 use px_msg::Msg;
+use px_plan::Way;
 use px_types::SinkId;
 
 // The way of the input that a message names, once it was handed out.
@@ -40,7 +40,6 @@ fn pass_back<P>(inputs: &mut InputTable, msg: &Msg<P>)
 pub(crate) fn hand_out<P>(tables: &mut Tables<P>, sink: SinkId) -> Option<Msg<P>>
     ensures next { result ≡ next_for (state_of tables.old) sink }
     ensures after { core_of tables.new ≡ sent sink (core_of tables.old) }
-    ensures sinks { tables.new.sinks ≡ tables.old.sinks }
 {
     match queues::take_first(&mut tables.posted, sink) {
         None => None,
@@ -55,7 +54,6 @@ pub(crate) fn hand_out<P>(tables: &mut Tables<P>, sink: SinkId) -> Option<Msg<P>
 pub(crate) fn put_back<P: Drop>(tables: &mut Tables<P>, sink: SinkId, msg: Msg<P>)
     requires { 0 < room_for sink (rooms_of tables.old.posted.items) }
     ensures after { core_of tables.new ≡ unsent sink msg (core_of tables.old) }
-    ensures sinks { tables.new.sinks ≡ tables.old.sinks }
 {
     pass_back(&mut tables.inputs, &msg);
     queues::put_first(&mut tables.posted, sink, msg);

@@ -3,17 +3,18 @@
 ghost use Rattle.std.specs.Prelude.{◌≡◌, ◌<◌, ◌≤◌, false, nat_eq, length, None};
 ghost use Rattle.std.specs.List.{list_all};
 ghost use Rattle.px_vol.specs.Volume.{norm};
-ghost use Rattle.px_core.specs.State.{settled_on, going_of};
+ghost use Rattle.px_core.specs.State.{bound_for, going_of};
 ghost use Rattle.px_core.specs.Create.{same_positions, is_unsupported, has_no_room, is_not_built, refusal_on};
 
 use crate::asked::{attr_on, format_on, positions_on, rate_on};
-use crate::input::{Connection, Input};
+use crate::standing::{goes_on, is_bound_for};
 use px_cmd::CreateFields;
+use px_plan::{Connection, Input};
 use px_session::SinkSpec;
 use px_types::{ErrorCode, SinkId};
 use px_vol::NORM;
 
-/// The most inputs that go on, on one sink.
+/// The most inputs that are bound for one sink.
 const MOST_ON_SINK: usize = 256;
 
 /// The most inputs that go on, on all sinks.
@@ -30,21 +31,18 @@ fn is_unsupported(sink: &SinkSpec, a: &CreateFields) -> bool
     format == 5 || format == 6 || a.variable_rate || rate_on(sink, a) != sink.spec.rate
 }
 
-// How many inputs go on, on a sink.
+// How many inputs are bound for a sink.
 fn count_on(inputs: &[Input], sink: SinkId) -> usize
-    ensures { result ≡ length (settled_on inputs.now sink) }
+    ensures { result ≡ length (bound_for inputs.now sink) }
 {
-    inputs
-        .iter()
-        .filter(|x| x.sink.0 == sink.0 && !x.leaving)
-        .count()
+    inputs.iter().filter(|x| is_bound_for(x, sink)).count()
 }
 
 // How many inputs go on, on all sinks.
 fn count_in_all(inputs: &[Input]) -> usize
     ensures { result ≡ length (going_of inputs.now) }
 {
-    inputs.iter().filter(|x| !x.leaving).count()
+    inputs.iter().filter(|x| goes_on(x)).count()
 }
 
 // Too many inputs on the sink or in all, or no number is left that none has had.
@@ -88,7 +86,7 @@ fn is_not_built(sink: &SinkSpec, a: &CreateFields) -> bool
 }
 
 /// Why a stream that could be isn't made on a sink, by the first of these that holds: `NotSupported` for floating point, a
-/// variable rate or another rate than the sink's; `TooLarge` where 256 inputs go on there, or 1,024 in all, or no number is
+/// variable rate or another rate than the sink's; `TooLarge` where 256 inputs are bound for it, or 1,024 in all, or no number is
 /// left; `NotImplemented` for one that isn't built. Takes no memory. Own: PulseAudio resamples, and has no such limits.
 pub(crate) fn refusal_on(
     inputs: &[Input],

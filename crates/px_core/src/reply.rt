@@ -4,13 +4,14 @@ ghost use Rattle.std.specs.Prelude.{◌≡◌, ◌<◌, ◌≤◌, ◌++◌, [],
 ghost use Rattle.px_tag.specs.Item.{number};
 ghost use Rattle.px_reply.specs.Front.{reply_to, refusal};
 ghost use Rattle.px_types.specs.ErrorCode.{code_of};
-ghost use Rattle.px_core.specs.Effect.{closed_at, fault_code, fault_place, offset_behind, IsSendable};
+ghost use Rattle.px_core.specs.Effect.{closed_at, fault_code, fault_place, IsSendable};
 ghost use Rattle.px_core.specs.Reply.{refused, done, broken_off};
 
 use crate::answer::Answer;
-use crate::change::Change;
-use crate::effect::{Effect, Reason, sent};
+use crate::change::CoreChange;
+use crate::effect::{Effect, sent};
 use crate::effects::Effects;
+use px_plan::{Change, Reason};
 use px_reply::error;
 use px_tag::{Packet, TagFault};
 use px_types::{ConnId, ErrorCode, Mem, NoMemory};
@@ -21,7 +22,7 @@ pub(crate) fn done<P: Drop>(
     alloc: Global,
     conn: ConnId,
     packet: &Packet,
-    changes: Vec<Change<P>>,
+    changes: Vec<CoreChange<P>>,
 ) -> Mem<Answer<P>>
     requires some { 0 < length packet.now }
     requires few { length packet.now ≤ 16777216 }
@@ -81,16 +82,16 @@ fn fault_place(fault: TagFault) -> usize
     }
 }
 
-// The connection is ended for a fault in a packet whose first byte has this offset.
-fn closed(conn: ConnId, at: u64, fault: TagFault) -> Effect
-    ensures value { result ≡ closed_at conn (fault_code fault) (offset_behind at (fault_place fault)) }
+/// The connection is ended for breaking a rule of the protocol, at an offset of its bytes. Takes no memory.
+pub(crate) fn closed_at(conn: ConnId, fault: u8, at: u64) -> Effect
+    ensures value { result ≡ closed_at conn fault at }
     ensures sendable { IsSendable result }
 {
     Effect::Closed {
         conn,
         reason: Reason::Protocol,
-        fault: fault_code(fault),
-        at: at.saturating_add(fault_place(fault) as u64),
+        fault,
+        at,
     }
 }
 
@@ -103,9 +104,16 @@ pub(crate) fn broken_off<P: Drop>(
 ) -> Mem<Answer<P>>
     ensures { IfOk result (λ answer. answer ≡ broken_off conn at fault) }
 {
+    let code = fault_code(fault);
+    let at = at.saturating_add(fault_place(fault) as u64);
     let mut changes = Vec::new(alloc);
-    changes.push(Change::Marked(conn))?;
-    let effects = Effects::of(alloc, closed(conn, at, fault))?;
+    changes.push(Change::Ended {
+        conn,
+        reason: Some(Reason::Protocol),
+        fault: code,
+        at,
+    })?;
+    let effects = Effects::of(alloc, closed_at(conn, code, at))?;
     Ok(Answer { changes, effects })
 }
 
@@ -127,7 +135,7 @@ pub(crate) fn done_plainly<P: Drop>(
     alloc: Global,
     conn: ConnId,
     tag: u32,
-    changes: Vec<Change<P>>,
+    changes: Vec<CoreChange<P>>,
 ) -> Mem<Answer<P>>
     ensures { IfOk result (λ answer. answer ≡ done conn (reply_to tag) changes.items) }
 {

@@ -1,9 +1,9 @@
 //! The tables that the core keeps its state in.
 
-use crate::input::Connection;
 use crate::input_table::InputTable;
 use px_msg::Msg;
 use px_names::Names;
+use px_plan::Connection;
 use px_session::SinkSpecs;
 use std::collections::VecDeque;
 

@@ -1,29 +1,32 @@
 //! What a sink tells of a stream (PulseAudio: `sink_input_process_msg` and the callbacks of `pulsecore/protocol-native.c`;
 //! which notices fit is own).
 
-ghost use Rattle.std.specs.Prelude.{◌≡◌, ◌++◌, ◌<◌, ◌≤◌, [], ◌∷◌, length, cond, IfOk, IfSome};
+ghost use Rattle.std.specs.Prelude.{◌≡◌, ◌++◌, ◌<◌, ◌≤◌, [], ◌∷◌, length, cond, IfOk, IfErr, IfSome, OnOk, OnErr};
 ghost use Rattle.std.specs.Option.{option_map};
 ghost use Rattle.px_tag.specs.Item.{number};
 ghost use Rattle.px_msg.specs.View.{sample_spec};
 ghost use Rattle.px_reply.specs.Front.{message};
 ghost use Rattle.px_session.specs.HeaderRules.{AreSinks};
+ghost use Rattle.px_core.specs.State.{goes_on};
 ghost use Rattle.px_core.specs.Connecting.{going_on};
 ghost use Rattle.px_core.specs.Create.{IsOfHeader};
 ghost use Rattle.px_core.specs.Reply.{ignored};
+ghost use Rattle.px_core.specs.Step.{answered};
 ghost use Rattle.px_core.specs.Told.{told_to, told_of, bytes_asked, request_message, overflow_message, underflow_message, started_message, gives_up, given_up_on, given_up, notice_answer};
 ghost use Rattle.px_core.specs.Tables.{state_of};
 
 use crate::answer::{Answer, ignored};
-use crate::change::Change;
+use crate::commit::finish;
 use crate::create::sink_at;
 use crate::data::frame_size;
 use crate::effect::sent;
 use crate::effects::Effects;
 use crate::factors::factors_for;
 use crate::found::{going_on, input_on};
-use crate::input::{Connection, Input, Way};
+use crate::standing::goes_on;
 use crate::tables::Tables;
 use px_msg::{Notice, Parcel};
+use px_plan::{Change, Connection, Input, Way};
 use px_sample::Spec;
 use px_session::SinkSpec;
 use px_tag::Packet;
@@ -57,10 +60,10 @@ fn told<P: Drop>(
 ) -> Mem<Answer<P>>
     requires some { 0 < length packet.now }
     requires few { length packet.now ≤ 16777216 }
-    ensures { IfOk result (λ answer. answer ≡ cond x.now.leaving ignored
-        (record { changes = []; effects = told_to (going_on connections.now x.now.conn) packet.now })) }
+    ensures { IfOk result (λ answer. answer ≡ cond (goes_on x.now)
+        (record { changes = []; effects = told_to (going_on connections.now x.now.conn) packet.now }) ignored) }
 {
-    if x.leaving {
+    if !goes_on(x) {
         return Ok(ignored(alloc));
     }
     told_to(alloc, going_on(connections, x.conn), packet)
@@ -199,7 +202,7 @@ fn tell_started<P: Drop>(
 fn gives_up(spec: Spec, x: &Input) -> bool
     ensures { result ≡ gives_up (sample_spec spec) x.now }
 {
-    x.leaving
+    !goes_on(x)
         && x.way == Way::Left
         && spec.format.code() == x.spec.format.code()
         && spec.channels == x.spec.channels
@@ -222,7 +225,7 @@ fn given_up_on<P: Drop>(
             let mut changes = Vec::new(alloc);
             changes.push(Change::Gone(x.index))?;
             let factors = factors_for(alloc, sink, x.sink, tables.inputs.as_slice(), None)?;
-            changes.push(Change::Posted(x.sink, factors))?;
+            changes.push(Change::Regrouped(x.sink, (), factors))?;
             Ok(Answer {
                 changes,
                 effects: Effects::new(alloc),
@@ -250,9 +253,9 @@ fn given_up<P: Drop>(
     }
 }
 
-/// What a sink's notice is answered. One that doesn't fit is ignored: of an input that isn't on the sink, of one that ends
-/// where something is to be told, and of a stream that wasn't to be given up.
-pub(crate) fn notice_answer<P: Parcel + Drop>(
+// What a sink's notice is answered. One that doesn't fit is ignored: of an input that isn't on the sink, of one that ends
+// where something is to be told, and of a stream that wasn't to be given up.
+fn notice_answer<P: Parcel + Drop>(
     alloc: Global,
     tables: &Tables<P>,
     sink: SinkId,
@@ -280,5 +283,27 @@ pub(crate) fn notice_answer<P: Parcel + Drop>(
             given_up(alloc, tables, input_on(inputs, sink, *input), parcel.spec())
         }
         Notice::Drained { .. } | Notice::Latency { .. } => Ok(ignored(alloc)),
+    }
+}
+
+/// A sink's notice. Where there is no memory for it, it is handed back, and nothing has changed.
+pub(crate) fn take<P: Parcel + Drop>(
+    alloc: Global,
+    tables: &mut Tables<P>,
+    sink: SinkId,
+    notice: Notice<P>,
+) -> Result<Effects, Notice<P>>
+    requires { AreSinks [] tables.old.sinks }
+    ensures effects { IfOk result (λ effects. effects ≡ (notice_answer P.spec_of (state_of tables.old) sink notice).effects) }
+    ensures after { OnOk result (state_of tables.new ≡ answered (state_of tables.old) (notice_answer P.spec_of (state_of tables.old) sink notice)) }
+    ensures back { IfErr result (λ back. back ≡ notice) }
+    ensures err { OnErr result (state_of tables.new ≡ state_of tables.old) }
+{
+    let Ok(answer) = notice_answer(alloc, tables, sink, &notice) else {
+        return Err(notice);
+    };
+    match finish(tables, answer) {
+        Ok(effects) => Ok(effects),
+        Err(_) => Err(notice),
     }
 }

@@ -7,7 +7,7 @@ ghost use Rattle.px_core.specs.State.{has_number, has_index};
 ghost use Rattle.px_core.specs.Change.{change_first, drop_first, authed, marked, with_streams, leaving};
 ghost use Rattle.px_core.specs.Out.{on_way};
 
-use crate::input::{Connection, Input, Way};
+use px_plan::{Connection, Input, Standing, Way};
 use px_types::{ConnId, InputId};
 
 // The place of the connection with a number.
@@ -69,7 +69,7 @@ pub(crate) fn leave(inputs: &mut Vec<Input>, index: InputId)
     ensures len { vec_len inputs.new ≡ vec_len inputs.old }
 {
     if let Some(place) = place_at(inputs, index) {
-        inputs[place].leaving = true;
+        inputs[place].standing = Standing::Leaving;
     }
 }
 

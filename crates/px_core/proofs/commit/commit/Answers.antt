@@ -1,7 +1,6 @@
 use Rattle.std.proofs.Common.{arith, ◌≡◌, ◌+◌, List, ◌∷◌, length, subst, ◌∙◌, ap}
-use Rattle.px_core.specs.declared.change.Change.{Change}
 use Rattle.px_core.specs.State.{State}
-use Rattle.px_core.specs.Change.{changed, committed}
+use Rattle.px_core.specs.Change.{Change, changed, committed}
 use Rattle.px_core.specs.Tables.{state_of, HasRoom}
 use Rattle.px_core.proofs.commit.commit.Goals as goal
 
@@ -20,5 +19,4 @@ loop-change-preserved g c =
     record {
       state = one_committed (state_of c.loop-change.tables) (state_of c.apply.new.tables) (committed (state_of c.args.tables.now) c.args.changes.items) c.in-Some.change rest all front c.loop-change.invariant.state c.apply.ensures.state;
       room = c.apply.ensures.room (length rest) (subst (λ n. HasRoom n c.loop-change.tables) (one_longer c.in-Some.change rest all front) c.loop-change.invariant.room);
-      sinks = c.apply.ensures.sinks ∙ c.loop-change.invariant.sinks;
     }

@@ -8,7 +8,6 @@ abbrev pub invariant-loop-change : goal.invariant-loop-change
 invariant-loop-change g l = record {
   state : committed (state_of l.tables) l.changes.items ≡ committed (state_of l.fn.tables) l.fn.changes.items;
   room : HasRoom (length l.changes.items) l.tables;
-  sinks : l.tables.sinks ≡ l.fn.tables.sinks;
 }
 
 abbrev pub decreases-loop-change : goal.decreases-loop-change

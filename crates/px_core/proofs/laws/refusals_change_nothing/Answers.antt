@@ -6,3 +6,6 @@ returns-clause-ended g c = refusing.ended_is_ignored
 
 pub returns-clause-refused : goal.returns-clause-refused
 returns-clause-refused g c = λ spec_of state s conn tag code e. refusing.refusal_changes_nothing conn tag code spec_of state s e
+
+pub returns-clause-broken : goal.returns-clause-broken
+returns-clause-broken g c = λ spec_of state s conn fault at e. refusing.fault_marks_its_own conn fault at spec_of state s e

@@ -1,0 +1,15 @@
+-- A core keeps what a core keeps, whether a step was done or there was no memory for it.
+use Rattle.std.proofs.Common.{◌≡◌, Result, Ok, Err, sym, subst}
+use Rattle.std.specs.Prelude.{OnOk, OnErr}
+use Rattle.px_model.specs.Frame.{SampleSpec}
+use Rattle.px_core.specs.State.{State}
+use Rattle.px_core.specs.Keeps.{IsKept, IsStep}
+use Rattle.px_core.specs.Step.{Step, stepped}
+use Rattle.px_core.proofs.StepLaws.{step_keeps}
+
+pub done_kept : {P : Type 0} (spec_of : P → SampleSpec) (old new : State P) (s : Step P) → IsStep s → new ≡ stepped spec_of old s → IsKept spec_of old → IsKept spec_of new
+done_kept spec_of old new s is e h = subst (IsKept spec_of) (sym e) (step_keeps spec_of old s is h)
+
+pub step_kept : {P V E : Type 0} (spec_of : P → SampleSpec) (result : Result V E) (old new : State P) (s : Step P) → IsStep s → OnOk result (new ≡ stepped spec_of old s) → OnErr result (new ≡ old) → IsKept spec_of old → IsKept spec_of new
+step_kept spec_of (Ok v) old new s is ok err h = done_kept spec_of old new s is ok h
+step_kept spec_of (Err e) old new s is ok err h = subst (IsKept spec_of) (sym err) h

@@ -1,0 +1,102 @@
+-- What a change asks of the state, so that it keeps what the state keeps.
+use Rattle.std.specs.Prelude.{◌≡◌, ℕ, ◌+◌, ◌<◌, List, [], ◌∷◌, map, length, slice_get, Some, IfSome, ⊤}
+use Rattle.std.specs.List.{AllByRecursion}
+use Rattle.px_types.specs.declared.ids.SinkId.{SinkId}
+use Rattle.px_session.specs.declared.header.SinkSpec.{SinkSpec}
+use Rattle.px_model.specs.Frame.{SampleSpec}
+use Rattle.px_model.specs.Orderly.{IsNewStream, IsRepaired, IsWhole, AreFactors}
+use Rattle.px_model.specs.Message.{InputFactors as Gains}
+use Rattle.px_msg.specs.declared.factors.InputFactors.{InputFactors}
+use Rattle.px_msg.specs.declared.message.Msg.{Msg}
+use Rattle.px_msg.specs.declared.message.Msg.TheVariants.{New, Attach, Detach, Write, Cork, Flush, Trigger, Prebuf, Drain, Attr, Factors, Query}
+use Rattle.px_msg.specs.View.{sample_spec, opened, gains}
+use Rattle.px_plan.specs.declared.input.Input.{Input}
+use Rattle.px_plan.specs.declared.input.Standing.TheVariants.{Settled, Leaving}
+use Rattle.px_plan.specs.declared.input.Way.TheVariants.{Coming, Left}
+use Rattle.px_plan.specs.declared.change.Change.TheVariants.{Authed, Named, Made, Leaves, Said, Regrouped, Gone, Ended, Forgotten}
+use Rattle.px_core.specs.State.{State, input_of, bound_for}
+use Rattle.px_core.specs.Change.{Change, changed}
+use Rattle.px_core.specs.Create.{MOST_ON_SINK}
+use Rattle.px_core.specs.Keeps.{IsInput, IsIncreasing}
+
+-- a message brings a new input's stream to its sink, and fits it
+abbrev pub Brings : {P : Type 0} → Input → SinkSpec → Msg P → Type 0
+Brings x s (New n) = (n.input.0 ≡ x.index.0) × (n.spec ≡ x.spec) × IsNewStream (sample_spec s.spec) (opened n)
+Brings x s (Attach input parcel feed factors) = ⊥
+Brings x s (Detach input) = ⊥
+Brings x s (Write input seek offset frames bytes) = ⊥
+Brings x s (Cork input on) = ⊥
+Brings x s (Flush input) = ⊥
+Brings x s (Trigger input) = ⊥
+Brings x s (Prebuf input) = ⊥
+Brings x s (Drain input tag) = ⊥
+Brings x s (Attr input attr) = ⊥
+Brings x s (Factors each) = ⊥
+Brings x s (Query input tag) = ⊥
+
+-- a new input: its index is the next one, its sink has room for it, and a message brings its stream there
+pub record IsNew {P : Type 0} (state : State P) (x : Input) (m : Msg P) : Type 0 where
+  pub next : x.index.0 ≡ state.inputs_made
+  pub way : x.way ≡ Coming
+  pub standing : x.standing ≡ Settled
+  pub is : IsInput state.sinks (state.inputs_made + 1) x
+  pub room : length (bound_for state.inputs x.sink) < MOST_ON_SINK
+  pub brings : (s : SinkSpec) → slice_get state.sinks x.sink.0 ≡ Some s → Brings x s m
+
+-- a message tells the stream of an input something: it names it, and fits it
+abbrev pub Suits : {P : Type 0} → Input → Msg P → Type 0
+Suits x (New n) = ⊥
+Suits x (Attach input parcel feed factors) = ⊥
+Suits x (Detach input) = ⊥
+Suits x (Write input seek offset frames bytes) =
+    (input.0 ≡ x.index.0) × IsWhole (sample_spec x.spec) (record { input = input.0; seek = seek; offset = offset; frames = frames; bytes = bytes })
+Suits x (Cork input on) = input.0 ≡ x.index.0
+Suits x (Flush input) = input.0 ≡ x.index.0
+Suits x (Trigger input) = input.0 ≡ x.index.0
+Suits x (Prebuf input) = input.0 ≡ x.index.0
+Suits x (Drain input tag) = input.0 ≡ x.index.0
+Suits x (Attr input attr) = (input.0 ≡ x.index.0) × IsRepaired attr
+Suits x (Factors each) = ⊥
+Suits x (Query input tag) = input.0 ≡ x.index.0
+
+-- factors for a sink: one for each of its channels, of inputs in rising index
+abbrev pub AreFor : {P : Type 0} → SinkSpec → Msg P → Type 0
+AreFor s (New n) = ⊥
+AreFor s (Attach input parcel feed factors) = ⊥
+AreFor s (Detach input) = ⊥
+AreFor s (Write input seek offset frames bytes) = ⊥
+AreFor s (Cork input on) = ⊥
+AreFor s (Flush input) = ⊥
+AreFor s (Trigger input) = ⊥
+AreFor s (Prebuf input) = ⊥
+AreFor s (Drain input tag) = ⊥
+AreFor s (Attr input attr) = ⊥
+AreFor s (Factors each) =
+    AllByRecursion (λ f. AreFactors (sample_spec s.spec) (Gains.factors f)) (map gains each) × IsIncreasing (map (λ f. (InputFactors.input f).0) each)
+AreFor s (Query input tag) = ⊥
+
+-- an input has ended, and its sink was told so
+pub record HasLeft (x : Input) : Type 0 where
+  pub standing : x.standing ≡ Leaving
+  pub way : x.way ≡ Left
+
+-- the sink is there, and the factors are for it
+pub record IsRegrouped {P : Type 0} (state : State P) (sink : SinkId) (m : Msg P) : Type 0 where
+  pub there : sink.0 < length state.sinks
+  pub factors : (s : SinkSpec) → slice_get state.sinks sink.0 ≡ Some s → AreFor s m
+
+abbrev pub Lawful : {P : Type 0} → State P → Change P → Type 0
+Lawful state (Authed conn version) = ⊤
+Lawful state (Named conn list) = ⊤
+Lawful state (Made x m streams inputs) = IsNew state x m × (inputs ≡ state.inputs_made + 1)
+Lawful state (Leaves index) = ⊤
+Lawful state (Said index m) = IfSome (input_of state.inputs index) (λ x. Suits x m)
+Lawful state (Regrouped sink group m) = IsRegrouped state sink m
+Lawful state (Gone index) = IfSome (input_of state.inputs index) HasLeft
+Lawful state (Ended conn reason fault at) = ⊤
+Lawful state (Forgotten conn) = ⊤
+
+-- each of them, in the state that those before it leave
+abbrev pub AreLawful : {P : Type 0} → State P → List (Change P) → Type 0
+AreLawful state [] = ⊤
+AreLawful state (c ∷ changes) = Lawful state c × AreLawful (changed state c) changes
