@@ -167,14 +167,9 @@ fn sent_of(msg: &Msg<Stub>) -> Sent {
     }
 }
 
-// The next message is handed out, put back, and handed out again.
+// The next message is handed out.
 fn hands(core: &mut Core<Stub>, wanted: Sent) -> bool {
-    let Some(msg) = core.sent(OUT) else {
-        return false;
-    };
-    let is = sent_of(&msg) == wanted;
-    core.unsent(OUT, msg);
-    is && matches!(core.sent(OUT), Some(msg) if sent_of(&msg) == wanted)
+    matches!(core.sent(OUT), Some(msg) if sent_of(&msg) == wanted)
 }
 
 // The client is let in, makes a stream and writes.
