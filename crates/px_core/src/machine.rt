@@ -135,17 +135,20 @@ impl<P: Parcel + Drop> Core<P> {
         queues::count(&self.tables.posted, sink)
     }
 
-    /// The first message that waits for a sink, handed out. There is room to put it back. Takes no memory.
+    /// The first message that waits for a sink, handed out. There is room to put it back, and put back it leaves the very core
+    /// that was. Takes no memory.
     pub fn sent(&mut self, sink: SinkId) -> Option<Msg<P>>
         ensures next { result ≡ next_for self.old.state sink }
         ensures after { self.new ≡ sent sink self.old }
         ensures room { IsSome result → room_for sink self.new.room ≡ room_for sink self.old.room + 1 }
+        ensures kept { IfSome result (λ msg. IsKept P.spec_of (put_back sink msg self.new.state)) }
+        ensures back { IfSome result (λ msg. unsent sink msg self.new ≡ self.old) }
     {
         hand_out(&mut self.tables, sink)
     }
 
     /// A message that was handed out waits again, before the others. Where several were, the last one is put back first, and
-    /// the core is as it was once all are back: a state that a core keeps, as `states_are_kept` says of it. Takes no memory.
+    /// the core is as it was once all are back: each `sent` says of its message that it can be put back then. Takes no memory.
     pub fn unsent(&mut self, sink: SinkId, msg: Msg<P>)
         requires room { 0 < room_for sink self.old.room }
         requires kept { IsKept P.spec_of (put_back sink msg self.old.state) }
