@@ -8,10 +8,12 @@ use Rattle.std.proofs.lemmas.Bool.{eq-eqb, ne_eqb, false≢true, cases_eq, and_r
 use Rattle.std.proofs.lemmas.List.{append-nil, length-map, length-append, length-set, get_or-set_same, get_or-set_other}
 use Rattle.std.proofs.lemmas.List.Elements.{filter-append}
 use Rattle.std.proofs.lemmas.Option.{same_Some}
+use Rattle.px_types.specs.declared.ids.InputId.{InputId}
 use Rattle.px_types.specs.declared.ids.SinkId.{SinkId}
 use Rattle.px_session.specs.declared.header.SinkSpec.{SinkSpec}
+use Rattle.px_model.specs.declared.data.Attr.{Attr}
 use Rattle.px_model.specs.Frame.{SampleSpec}
-use Rattle.px_model.specs.Orderly.{Inputs, NamesInput, Fits, inputs_left}
+use Rattle.px_model.specs.Orderly.{Inputs, IsRepaired, NamesInput, Fits, inputs_left}
 use Rattle.px_msg.specs.declared.message.Msg.{Msg}
 use Rattle.px_msg.specs.declared.message.Msg.TheVariants.{New, Detach}
 use Rattle.px_msg.specs.declared.message.NewStream.{NewStream}
@@ -21,13 +23,14 @@ use Rattle.px_plan.specs.declared.input.Standing.{Standing}
 use Rattle.px_plan.specs.declared.input.Standing.TheVariants.{Settled, Moving, Leaving}
 use Rattle.px_plan.specs.declared.input.Way.TheVariants.{Coming, Left}
 use Rattle.px_core.specs.State.{State, has_index, input_of, belongs_to, stays_on, is_bound_for, is_settled, bound_for, settled_on}
-use Rattle.px_core.specs.Change.{change_first, drop_first, leaving, posting, without_standing, ending}
+use Rattle.px_core.specs.Change.{change_first, drop_first, leaving, with_attr, posting, without_standing, ending}
 use Rattle.px_core.specs.Create.{MOST_ON_SINK}
 use Rattle.px_core.specs.Orderly.{entry_of, spec_in, specs_of, is_held_by, is_there}
 use Rattle.px_core.specs.Keeps.{AreInStep, AreAllInStep, IsInput, IsKept, IsRising, IsPosted, is_coming_to, is_coming, brought_of}
 use Rattle.px_core.proofs.ListLaws.{same_passed, same_left, no_more_pass, fewer_pass, all_change, all_drop, all_push, all_weaken, found_all}
 use Rattle.px_core.proofs.EntryLaws.{get_in, here_in, in_same, removed, pushed, pushed_in, none_below, few_specs, rising_change, rising_drop, rising_push}
 use Rattle.px_core.proofs.InStepLaws.{view, unmoved, posted}
+use Rattle.px_core.proofs.GoingLaws.{still_waits, pushed_waits, others_wait, none_gone}
 
 abbrev pub sink_at : ℕ → SinkId
 sink_at k = record { 0 = k }
@@ -102,6 +105,7 @@ telling_keeps spec_of state sink m h there tells = record {
   distinct = h.distinct;
   rising = h.rising;
   inputs = h.inputs;
+  waiting = h.waiting;
   lists = length-set state.posted sink.0 (get_or state.posted sink.0 [] ++ m ∷ []) ∙ h.lists;
   in_step = set_in_step spec_of state.sinks state.inputs state.posted sink.0 (get_or state.posted sink.0 [] ++ m ∷ []) (subst (λ n. sink.0 < n) (sym h.lists) there)
       (λ s e.
@@ -110,6 +114,45 @@ telling_keeps spec_of state sink m h there tells = record {
       (λ i. sym (append-nil (option_to_list (spec_in (is_coming_to (sink_at sink.0)) i state.inputs))) ∙ ap (λ more. option_to_list (spec_in (is_coming_to (sink_at sink.0)) i state.inputs) ++ more) (sym (it.brings i)))
       it.names it.fits it.left it.is_posted (h.in_step sink.0 s e).few (h.in_step sink.0 s e))
       (λ index s apart e. h.in_step index s e);
+}
+
+-- ---- an input has other buffer attributes
+
+attr_input : (sinks : List SinkSpec) (made : ℕ) (attr : Attr) → IsRepaired attr → (y : Input) → IsInput sinks made y → IsInput sinks made (with_attr attr y)
+attr_input sinks made attr repaired y k = record { given = k.given; sink_there = k.sink_there; goes_there = k.goes_there; playable = k.playable; repaired = repaired }
+
+module _ (index : InputId) (attr : Attr) (inputs : List Input) where
+  abbrev with_own : List Input
+  with_own = change_first (has_index index) (with_attr attr) inputs
+
+  pub attr_held : (k : ℕ) → held_on k with_own ≡ held_on k inputs
+  attr_held k = same_passed (is_held_by (sink_at k)) (has_index index) (with_attr attr) entry_of inputs (λ y found. refl) (λ y. refl)
+
+  attr_settled : (k : ℕ) → map entry_of (settled_on with_own (sink_at k)) ≡ map entry_of (settled_on inputs (sink_at k))
+  attr_settled k = same_passed (is_settled (sink_at k)) (has_index index) (with_attr attr) entry_of inputs (λ y found. refl) (λ y. refl)
+
+  attr_rising : IsRising inputs → IsRising with_own
+  attr_rising r = rising_change (has_index index) (with_attr attr) (λ y. refl) inputs r
+
+  attr_coming : IsRising inputs → (k i : ℕ) → spec_in (is_coming_to (sink_at k)) i with_own ≡ spec_in (is_coming_to (sink_at k)) i inputs
+  attr_coming r k i =
+      in_same (is_coming_to (sink_at k)) with_own inputs (attr_rising r) r
+      (same_passed (is_coming_to (sink_at k)) (has_index index) (with_attr attr) entry_of inputs (λ y found. refl) (λ y. refl)) i
+
+  attr_bound : (k : ℕ) → length (bound_for with_own (sink_at k)) ≤ length (bound_for inputs (sink_at k))
+  attr_bound k = no_more_pass (is_bound_for (sink_at k)) (has_index index) (with_attr attr) (λ y t. t) inputs
+
+pub attr_keeps : {P : Type 0} (spec_of : P → SampleSpec) (state : State P) (index : InputId) (attr : Attr) → IsRepaired attr → IsKept spec_of state → IsKept spec_of (record state { inputs = change_first (has_index index) (with_attr attr) state.inputs })
+attr_keeps spec_of state index attr repaired h = record {
+  sinks = h.sinks;
+  distinct = h.distinct;
+  rising = attr_rising index attr state.inputs h.rising;
+  inputs = all_change (IsInput state.sinks state.inputs_made) (has_index index) (with_attr attr) (attr_input state.sinks state.inputs_made attr repaired) state.inputs h.inputs;
+  waiting = still_waits (has_index index) (with_attr attr) (λ y. refl) (λ y t. t) state.inputs state.waiting h.waiting;
+  lists = h.lists;
+  in_step = λ k s e. unmoved spec_of (sink_at k) s state.inputs (with_own index attr state.inputs) (get_or state.posted k []) (attr_held index attr state.inputs k)
+      (attr_settled index attr state.inputs k)
+      (attr_coming index attr state.inputs h.rising k) (attr_bound index attr state.inputs k) (h.in_step k s e);
 }
 
 -- ---- an input ends
@@ -145,6 +188,7 @@ settled_ends {P} spec_of state x h here settled = record {
   distinct = h.distinct;
   rising = ended_rising state.inputs x h.rising;
   inputs = all_change (IsInput state.sinks state.inputs_made) (has_index x.index) leaving (still_input state.sinks state.inputs_made) state.inputs h.inputs;
+  waiting = others_wait state.inputs x here state.waiting h.waiting;
   lists = length-set state.posted x.sink.0 (get_or state.posted x.sink.0 [] ++ Detach x.index ∷ []) ∙ h.lists;
   in_step = set_in_step spec_of state.sinks (change_first (has_index x.index) leaving state.inputs) state.posted x.sink.0 (get_or state.posted x.sink.0 [] ++ Detach x.index ∷ []) (subst (λ n. x.sink.0 < n) (sym h.lists) (found_all (IsInput state.sinks state.inputs_made) (has_index x.index) state.inputs x h.inputs here).sink_there)
       (λ s e. posted spec_of (sink_at x.sink.0) s state.inputs (change_first (has_index x.index) leaving state.inputs) (get_or state.posted x.sink.0 []) (Detach x.index) (ended_held state.inputs x x.sink.0)
@@ -166,6 +210,7 @@ moving_ends {P} spec_of state x to h here moves = record {
   distinct = h.distinct;
   rising = ended_rising state.inputs x h.rising;
   inputs = all_change (IsInput state.sinks state.inputs_made) (has_index x.index) leaving (still_input state.sinks state.inputs_made) state.inputs h.inputs;
+  waiting = others_wait state.inputs x here state.waiting h.waiting;
   lists = h.lists;
   in_step = λ index s e. unmoved spec_of (sink_at index) s state.inputs (change_first (has_index x.index) leaving state.inputs) (get_or state.posted index []) (ended_held state.inputs x index)
       (ended_settled state.inputs x here index (unsettled index x (Moving to) moves (λ sink on. refl)))
@@ -190,6 +235,7 @@ gone_keeps {P} spec_of state x h here leaves left = record {
   distinct = h.distinct;
   rising = rising_drop (has_index x.index) state.inputs h.rising;
   inputs = all_drop (IsInput state.sinks state.inputs_made) (has_index x.index) state.inputs h.inputs;
+  waiting = none_gone state.inputs x here leaves state.waiting h.waiting;
   lists = h.lists;
   in_step = λ index s e. unmoved spec_of (sink_at index) s state.inputs (drop_first (has_index x.index) state.inputs) (get_or state.posted index [])
       (ap (map entry_of) (without (is_held_by (sink_at index)) (and_right (nat_eq x.sink.0 index) (is_there x.way) (ap is_there left))))
@@ -238,6 +284,7 @@ new_keeps {P} spec_of state x n h fresh coming goes is same_index same_spec room
   distinct = h.distinct;
   rising = rising;
   inputs = made_inputs state.sinks state.inputs_made state.inputs x h.inputs is;
+  waiting = pushed_waits state.inputs x state.waiting h.waiting;
   lists = length-set state.posted x.sink.0 (get_or state.posted x.sink.0 [] ++ New n ∷ []) ∙ h.lists;
   in_step = set_in_step spec_of state.sinks (state.inputs ++ x ∷ []) state.posted x.sink.0 (get_or state.posted x.sink.0 [] ++ New n ∷ []) (subst (λ n. x.sink.0 < n) (sym h.lists) is.sink_there)
       (λ s e. posted spec_of (sink_at x.sink.0) s state.inputs (state.inputs ++ x ∷ []) (get_or state.posted x.sink.0 []) (New n)

@@ -18,13 +18,15 @@ use Rattle.px_msg.specs.View.{sample_spec}
 use Rattle.px_plan.specs.declared.input.Input.{Input}
 use Rattle.px_plan.specs.declared.input.Way.{Way}
 use Rattle.px_plan.specs.declared.input.Way.TheVariants.{Coming, There, Left}
+use Rattle.px_plan.specs.declared.waiting.Waiting.{Waiting}
 use Rattle.px_core.specs.State.{State, has_index, is_bound_for, is_settled, bound_for, settled_on}
 use Rattle.px_core.specs.Orderly.{entry_of, spec_in, specs_of, is_held_by, is_there, inputs_there}
 use Rattle.px_core.specs.Out.{waiting_for, first_of, rest_of, on_way, with_way, inputs_past, past, handed_out}
-use Rattle.px_core.specs.Keeps.{AreInStep, IsInput, IsKept, IsRising, is_coming_to, is_coming, brought_of, handed_out_by, messages_out}
+use Rattle.px_core.specs.Keeps.{AreInStep, IsAwaiting, IsInput, IsKept, IsRising, is_coming_to, is_coming, brought_of, handed_out_by, messages_out}
 use Rattle.px_core.proofs.ListLaws.{no_cons, same_passed, no_more_pass, all_change}
 use Rattle.px_core.proofs.EntryLaws.{FirstBrought, first_brought, Found, found_in, get_in, in_same, removed, inserted, rising_change}
 use Rattle.px_core.proofs.InStepLaws.{view, unmoved, handed}
+use Rattle.px_core.proofs.GoingLaws.{still_waits}
 use Rattle.px_core.proofs.ChangeLaws.{sink_at, held_on, set_in_step}
 
 -- ---- the inputs once a message was handed out
@@ -32,6 +34,7 @@ use Rattle.px_core.proofs.ChangeLaws.{sink_at, held_on, set_in_step}
 pub record Past {P : Type 0} (spec_of : P → SampleSpec) (k : ℕ) (inputs later : List Input) (m : Msg P) (rest : List (Msg P)) : Type 0 where
   pub rising : IsRising later
   pub each : (sinks : List SinkSpec) (made : ℕ) → AllByRecursion (IsInput sinks made) inputs → AllByRecursion (IsInput sinks made) later
+  pub waits : (asked : List Waiting) → AllByRecursion (IsAwaiting inputs) asked → AllByRecursion (IsAwaiting later) asked
   pub left : inputs_left spec_of (specs_of (filter (is_held_by (sink_at k)) inputs)) (view m) ≡ specs_of (filter (is_held_by (sink_at k)) later)
   pub settled : (index : ℕ) → map entry_of (settled_on later (sink_at index)) ≡ map entry_of (settled_on inputs (sink_at index))
   pub bound : (index : ℕ) → length (bound_for later (sink_at index)) ≤ length (bound_for inputs (sink_at index))
@@ -42,6 +45,9 @@ pub record Past {P : Type 0} (spec_of : P → SampleSpec) (k : ℕ) (inputs late
 way_each : (j : InputId) (way : Way) (inputs : List Input) (sinks : List SinkSpec) (made : ℕ) → AllByRecursion (IsInput sinks made) inputs → AllByRecursion (IsInput sinks made) (with_way j way inputs)
 way_each j way inputs sinks made h =
     all_change (IsInput sinks made) (has_index j) (on_way way) (λ y k. record { given = k.given; sink_there = k.sink_there; goes_there = k.goes_there; playable = k.playable; repaired = k.repaired }) inputs h
+
+way_waits : (j : InputId) (way : Way) (inputs : List Input) (asked : List Waiting) → AllByRecursion (IsAwaiting inputs) asked → AllByRecursion (IsAwaiting (with_way j way inputs)) asked
+way_waits j way inputs asked h = still_waits (has_index j) (on_way way) (λ y. refl) (λ y t. t) inputs asked h
 
 way_settled : (j : InputId) (way : Way) (inputs : List Input) (index : ℕ) → map entry_of (settled_on (with_way j way inputs) (sink_at index)) ≡ map entry_of (settled_on inputs (sink_at index))
 way_settled j way inputs index = same_passed (is_settled (sink_at index)) (has_index j) (on_way way) entry_of inputs (λ y found. refl) (λ y. refl)
@@ -78,6 +84,7 @@ arrived spec_of k inputs m rest j s r puts first =
     record {
       rising = way_rising j There inputs r;
       each = way_each j There inputs;
+      waits = way_waits j There inputs;
       left = puts ∙ ap (finite.insert (specs_of (filter (is_held_by (sink_at k)) inputs)) j.0) (sym first.it.spec)
           ∙ inserted (is_held_by (sink_at k)) j (on_way There) (λ x. refl) inputs r y first.it.here (and_from (nat_eq y.sink.0 k) true parts.0 refl);
       settled = way_settled j There inputs;
@@ -110,6 +117,7 @@ departed spec_of k inputs rest j r names bring =
     record {
       rising = way_rising j Left inputs r;
       each = way_each j Left inputs;
+      waits = way_waits j Left inputs;
       left = removed (is_held_by (sink_at k)) j (on_way Left) (λ x. refl) inputs r y it.here (and_right (nat_eq y.sink.0 k) false refl);
       settled = way_settled j Left inputs;
       bound = way_bound j Left inputs;
@@ -131,6 +139,7 @@ stayed : {P : Type 0} (spec_of : P → SampleSpec) (k : ℕ) (inputs : List Inpu
 stayed spec_of k inputs m rest r left bring = record {
   rising = r;
   each = λ sinks made h. h;
+  waits = λ asked h. h;
   left = left;
   settled = λ index. refl;
   bound = λ index. omega arith;
@@ -183,6 +192,7 @@ past_keeps spec_of state sink h (m ∷ rest) e =
       distinct = h.distinct;
       rising = it.rising;
       inputs = it.each state.sinks state.inputs_made h.inputs;
+      waiting = it.waits state.waiting h.waiting;
       lists = length-set state.posted sink.0 (rest_of (get_or state.posted sink.0 [])) ∙ h.lists;
       in_step = set_in_step spec_of state.sinks (inputs_past m state.inputs) state.posted sink.0 (rest_of (get_or state.posted sink.0 [])) l
           (λ s g.

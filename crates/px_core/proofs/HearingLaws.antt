@@ -12,7 +12,7 @@ use Rattle.px_model.specs.Frame.{SampleSpec}
 use Rattle.px_model.specs.Orderly.{Inputs, IsOrderly, inputs_left, inputs_left_by}
 use Rattle.px_msg.specs.declared.message.Msg.{Msg}
 use Rattle.px_msg.specs.View.{sample_spec}
-use Rattle.px_plan.specs.declared.change.Change.TheVariants.{Authed, Named, Made, Leaves, Said, Regrouped, Gone, Ended, Forgotten}
+use Rattle.px_plan.specs.declared.change.Change.TheVariants.{Authed, Named, Made, Leaves, Said, Regrouped, Asked, Answered, Gone, Ended, Forgotten}
 use Rattle.px_plan.specs.declared.input.Input.{Input}
 use Rattle.px_plan.specs.declared.input.Standing.{Standing}
 use Rattle.px_plan.specs.declared.input.Standing.TheVariants.{Settled, Moving, Leaving}
@@ -58,6 +58,8 @@ change_sinks state (Made x m streams inputs) = refl
 change_sinks state (Leaves index) = ending_sinks (input_of state.inputs index) state
 change_sinks state (Said index m) = saying_sinks (input_of state.inputs index) m state
 change_sinks state (Regrouped sink group m) = refl
+change_sinks state (Asked w) = refl
+change_sinks state (Answered w) = refl
 change_sinks state (Gone index) = refl
 change_sinks state (Ended conn reason fault at) = refl
 change_sinks state (Forgotten conn) = refl

@@ -9,6 +9,7 @@ pub mod Waiting
 pub mod ListLaws
 pub mod EntryLaws
 pub mod InStepLaws
+pub mod GoingLaws
 pub mod ChangeLaws
 pub mod HandingLaws
 pub mod VerbLaws

@@ -1,5 +1,6 @@
 -- The room that is left once a change has taken its places.
-use Rattle.std.proofs.Common.{arith, ◌≡◌, ℕ, ◌+◌, ◌≤◌, length, refl, subst, sym}
+use Rattle.std.proofs.Common.{arith, ◌≡◌, ℕ, ◌+◌, ◌≤◌, length, ap}
+use Rattle.std.specs.Prelude.{vec_capacity}
 use Rattle.px_core.specs.declared.tables.Tables.{Tables}
 use Rattle.px_core.specs.InputTable.{RoomyInputs}
 use Rattle.px_core.specs.Tables.{HasRoom, HavePlaces}
@@ -7,7 +8,7 @@ use Rattle.px_core.proofs.Waiting.{fewer_places}
 
 -- a place less is there too
 pub less_room : {P : Type 0} (n : ℕ) (t : Tables P) → HasRoom (n + 1) t → HasRoom n t
-less_room n t had = record { places = omega (arith, had.places); streams = omega (arith, had.streams); posted = fewer_places n t.posted.items had.posted }
+less_room n t had = record { places = omega (arith, had.places); streams = omega (arith, had.streams); waiting = omega (arith, had.waiting); posted = fewer_places n t.posted.items had.posted }
 
 -- the inputs have their room still
 pub record StillRoomy (old new : RoomyInputs) : Type 0 where
@@ -15,12 +16,25 @@ pub record StillRoomy (old new : RoomyInputs) : Type 0 where
   pub places : new.places ≡ old.places
   pub streams : old.streams ≤ new.streams + 1
 
-pub same_roomy : (old new : RoomyInputs) → new ≡ old → StillRoomy old new
-same_roomy old new e = subst (StillRoomy old) (sym e) (record { len = omega arith; places = refl; streams = omega arith })
+-- and the requests that are answered later
+pub record StillWaits {P : Type 0} (old new : Tables P) : Type 0 where
+  pub len : length new.waiting.items ≤ length old.waiting.items + 1
+  pub capacity : vec_capacity new.waiting ≡ vec_capacity old.waiting
 
-pub room_left : {P : Type 0} (n : ℕ) (old new : Tables P) → StillRoomy old.inputs new.inputs → HavePlaces n new.posted.items → HasRoom (n + 1) old → HasRoom n new
-room_left n old new still posted had = record {
+pub same_roomy : (old new : RoomyInputs) → new ≡ old → StillRoomy old new
+same_roomy old new e = record {
+  len = omega (arith, ap (λ (t : RoomyInputs). length t.items) e);
+  places = ap (λ (t : RoomyInputs). t.places) e;
+  streams = omega (arith, ap (λ (t : RoomyInputs). t.streams) e);
+}
+
+pub same_waits : {P : Type 0} (old new : Tables P) → new.waiting ≡ old.waiting → StillWaits old new
+same_waits old new e = record { len = omega (arith, ap (λ v. length v.items) e); capacity = ap (λ v. vec_capacity v) e }
+
+pub room_left : {P : Type 0} (n : ℕ) (old new : Tables P) → StillRoomy old.inputs new.inputs → StillWaits old new → HavePlaces n new.posted.items → HasRoom (n + 1) old → HasRoom n new
+room_left n old new still waits posted had = record {
   places = omega (arith, still.len, still.places, had.places);
   streams = omega (arith, still.streams, had.streams);
+  waiting = omega (arith, waits.len, waits.capacity, had.waiting);
   posted = posted;
 }

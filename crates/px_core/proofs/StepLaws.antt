@@ -65,6 +65,7 @@ new_keeps {P} spec_of header h = record {
   distinct = tt;
   rising = tt;
   inputs = tt;
+  waiting = tt;
   lists = length-replicate (length header.sinks) [];
   in_step = λ index s e. subst (AreInStep spec_of (sink_at index) s []) (sym (no_lists [] (length header.sinks) index))
       (record { orderly = tt; leaves = refl; bring = λ i. refl; each = tt; few = omega arith });

@@ -1,13 +1,12 @@
 -- Each lawful change keeps what the state keeps, and so do all of a step.
-use Rattle.std.proofs.Common.{◌≡◌, ℕ, ◌<◌, ◌≤◌, List, [], ◌∷◌, ◌++◌, map, length, Option, Some, None, Bool, true, false, refl, ap, sym, subst, ◌∙◌}
-use Rattle.std.specs.Prelude.{◌+◌, cond, nat_eq, slice_get, IfSome, MatchOption, IsSome, ⊤}
+use Rattle.std.proofs.Common.{◌≡◌, ℕ, List, [], ◌∷◌, ◌++◌, Option, Some, None, Bool, true, false, refl, ap, sym, subst, ◌∙◌}
+use Rattle.std.specs.Prelude.{cond, nat_eq, IfSome, MatchOption, IsSome, ⊤}
 use Rattle.std.specs.List.{AllByRecursion, find}
 use Rattle.std.specs.FinMap as finite
 use Rattle.std.proofs.lemmas.Bool.{cond_both, eqb-true}
 use Rattle.std.proofs.lemmas.Option.{none-some}
 use Rattle.px_types.specs.declared.ids.ConnId.{ConnId}
 use Rattle.px_types.specs.declared.ids.InputId.{InputId}
-use Rattle.px_types.specs.declared.ids.SinkId.{SinkId}
 use Rattle.px_names.specs.Names.{Naming}
 use Rattle.px_session.specs.declared.header.SinkSpec.{SinkSpec}
 use Rattle.px_model.specs.Frame.{SampleSpec}
@@ -20,15 +19,16 @@ use Rattle.px_plan.specs.declared.input.Connection.{Connection}
 use Rattle.px_plan.specs.declared.input.Input.{Input}
 use Rattle.px_plan.specs.declared.input.Standing.{Standing}
 use Rattle.px_plan.specs.declared.input.Standing.TheVariants.{Settled, Moving, Leaving}
-use Rattle.px_plan.specs.declared.change.Change.TheVariants.{Authed, Named, Made, Leaves, Said, Regrouped, Gone, Ended, Forgotten}
-use Rattle.px_core.specs.State.{State, has_index, has_number, input_of, settled_on}
-use Rattle.px_core.specs.Change.{Change, change_first, drop_first, authed, marked, with_streams, with_connection, renamed, forgotten, posting, ending_of, saying, saying_of, changed, committed}
+use Rattle.px_plan.specs.declared.change.Change.TheVariants.{Authed, Named, Made, Leaves, Said, Regrouped, Asked, Answered, Gone, Ended, Forgotten}
+use Rattle.px_plan.specs.declared.waiting.Waiting.{Waiting}
+use Rattle.px_core.specs.State.{State, has_index, has_number, input_of, settled_on, is_as}
+use Rattle.px_core.specs.Change.{Change, change_first, drop_first, authed, marked, with_streams, with_connection, renamed, forgotten, posting, ending_of, telling, saying, saying_of, changed, committed}
 use Rattle.px_core.specs.Orderly.{specs_of}
-use Rattle.px_core.specs.Keeps.{AreDistinct, IsInput, IsKept}
-use Rattle.px_core.specs.Lawful.{Brings, IsNew, Suits, AreFor, HasLeft, IsRegrouped, Lawful, AreLawful}
-use Rattle.px_core.proofs.ListLaws.{all_change, all_drop, found_all, found_test}
+use Rattle.px_core.specs.Keeps.{AreDistinct, IsAwaiting, IsInput, IsKept}
+use Rattle.px_core.specs.Lawful.{Brings, IsNew, Suits, AreFor, HasLeft, Lawful, AreLawful}
+use Rattle.px_core.proofs.ListLaws.{all_change, all_drop, all_push, found_all, found_test}
 use Rattle.px_core.proofs.HandingLaws.{sink_there}
-use Rattle.px_core.proofs.ChangeLaws.{sink_at, held_on, settled_spec, on_own, Tells, telling_keeps, ending_keeps, ending_held, gone_keeps, gone_held, with_input, new_keeps, new_held}
+use Rattle.px_core.proofs.ChangeLaws.{sink_at, held_on, settled_spec, on_own, Tells, telling_keeps, attr_held, attr_keeps, ending_keeps, ending_held, gone_keeps, gone_held, with_input, new_keeps, new_held}
 
 -- ---- connections
 
@@ -53,6 +53,7 @@ others_keep spec_of state h connections d names clients = record {
   distinct = d;
   rising = h.rising;
   inputs = h.inputs;
+  waiting = h.waiting;
   lists = h.lists;
   in_step = h.in_step;
 }
@@ -73,6 +74,12 @@ same_held spec_of before after e h = record { keeps = h; held = λ k. ap (held_o
 
 pub unchanged : {P : Type 0} {spec_of : P → SampleSpec} {state : State P} → IsKept spec_of state → Follows spec_of state state
 unchanged h = record { keeps = h; held = λ k. refl }
+
+-- other requests are answered later
+asked_follow : {P : Type 0} (spec_of : P → SampleSpec) (state : State P) → IsKept spec_of state → (waiting : List Waiting) → AllByRecursion (IsAwaiting state.inputs) waiting → Follows spec_of state (record state { waiting = waiting })
+asked_follow spec_of state h waiting all =
+    same_held spec_of state (record state { waiting = waiting }) refl
+    (record { sinks = h.sinks; distinct = h.distinct; rising = h.rising; inputs = h.inputs; waiting = all; lists = h.lists; in_step = h.in_step })
 
 -- ---- an input is made
 
@@ -123,12 +130,29 @@ tells_input {P} spec_of spec x there get (Attr input attr) suits = record { brin
 tells_input spec_of spec x there get (Factors each) suits = absurd suits
 tells_input {P} spec_of spec x there get (Query input tag) suits = record { brings = λ i. refl; names = named x there get input.0 suits; fits = tt; left = refl; is_posted = tt }
 
+-- new buffer attributes are its own
+told_keeps : {P : Type 0} (spec_of : P → SampleSpec) (state : State P) (x : Input) (m : Msg P) → IsKept spec_of state → Suits x m → Follows spec_of state (telling x.index m state)
+told_keeps spec_of state x (New n) h suits = unchanged h
+told_keeps spec_of state x (Attach input parcel feed factors) h suits = unchanged h
+told_keeps spec_of state x (Detach input) h suits = unchanged h
+told_keeps spec_of state x (Write input seek offset frames bytes) h suits = unchanged h
+told_keeps spec_of state x (Cork input on) h suits = unchanged h
+told_keeps spec_of state x (Flush input) h suits = unchanged h
+told_keeps spec_of state x (Trigger input) h suits = unchanged h
+told_keeps spec_of state x (Prebuf input) h suits = unchanged h
+told_keeps spec_of state x (Drain input tag) h suits = unchanged h
+told_keeps spec_of state x (Attr input attr) h suits = record { keeps = attr_keeps spec_of state x.index attr suits.1 h; held = attr_held x.index attr state.inputs }
+told_keeps spec_of state x (Factors each) h suits = unchanged h
+told_keeps spec_of state x (Query input tag) h suits = unchanged h
+
 saying_keeps : {P : Type 0} (spec_of : P → SampleSpec) (state : State P) (x : Input) (m : Msg P) (standing : Standing) → IsKept spec_of state → input_of state.inputs x.index ≡ Some x → x.standing ≡ standing → Suits x m → Follows spec_of state (saying standing x m state)
-saying_keeps spec_of state x m Settled h here settled suits =
-    same_held spec_of state (posting x.sink.0 m state) refl
-    (telling_keeps spec_of state (sink_at x.sink.0) m h (found_all (IsInput state.sinks state.inputs_made) (has_index x.index) state.inputs x h.inputs here).sink_there
-    (λ s e. tells_input spec_of (sample_spec s.spec) x (specs_of (settled_on state.inputs (sink_at x.sink.0))) (settled_spec state.inputs h.rising x.sink.0 x here (on_own x settled)) m suits))
-saying_keeps spec_of state x m (Moving to) h here e suits = unchanged h
+saying_keeps {P} spec_of state x m Settled h here settled suits =
+    let posted : IsKept spec_of (posting x.sink.0 m state) =
+    telling_keeps spec_of state (sink_at x.sink.0) m h (found_all (IsInput state.sinks state.inputs_made) (has_index x.index) state.inputs x h.inputs here).sink_there
+    (λ s e. tells_input spec_of (sample_spec s.spec) x (specs_of (settled_on state.inputs (sink_at x.sink.0))) (settled_spec state.inputs h.rising x.sink.0 x here (on_own x settled)) m suits) in
+    let told = told_keeps spec_of (posting x.sink.0 m state) x m posted suits in
+    record { keeps = told.keeps; held = told.held }
+saying_keeps spec_of state x m (Moving to) h here e suits = told_keeps spec_of state x m h suits
 saying_keeps spec_of state x m Leaving h here e suits = unchanged h
 
 -- ---- a sink has other factors
@@ -199,6 +223,8 @@ change_follows spec_of state (Said index m) h lawful = said_follow spec_of state
 change_follows spec_of state (Regrouped sink group m) h lawful =
     same_held spec_of state (posting sink.0 m state) refl
     (telling_keeps spec_of state sink m h lawful.there (λ s e. tells_factors spec_of s (specs_of (settled_on state.inputs sink)) m (lawful.factors s e)))
+change_follows spec_of state (Asked w) h lawful = asked_follow spec_of state h (state.waiting ++ w ∷ []) (all_push (IsAwaiting state.inputs) state.waiting w h.waiting lawful)
+change_follows spec_of state (Answered w) h lawful = asked_follow spec_of state h (drop_first (is_as w) state.waiting) (all_drop (IsAwaiting state.inputs) (is_as w) state.waiting h.waiting)
 change_follows spec_of state (Gone index) h lawful = gone_follow spec_of state h index (input_of state.inputs index) refl lawful
 change_follows spec_of state (Ended conn reason fault at) h lawful = same_held spec_of state (changed state (Ended conn reason fault at)) refl (connection_keeps spec_of state h conn marked (λ d. refl))
 change_follows spec_of state (Forgotten conn) h lawful =

@@ -7,14 +7,15 @@ use Rattle.px_tag.specs.PropList.{Property}
 use Rattle.px_names.specs.Clients.{is_on, change_first as change_client, without_first as without_client, with_list}
 use Rattle.px_names.specs.Names.{Naming}
 use Rattle.px_msg.specs.declared.message.Msg.{Msg}
-use Rattle.px_msg.specs.declared.message.Msg.TheVariants.{Detach}
+use Rattle.px_model.specs.declared.data.Attr.{Attr as Attributes}
+use Rattle.px_msg.specs.declared.message.Msg.TheVariants.{New, Attach, Detach, Write, Cork, Flush, Trigger, Prebuf, Drain, Attr, Factors, Query}
 use Rattle.px_plan.specs.declared.input.Connection.{Connection}
 use Rattle.px_plan.specs.declared.input.Input.{Input}
 use Rattle.px_plan.specs.declared.input.Standing.{Standing}
 use Rattle.px_plan.specs.declared.input.Standing.TheVariants.{Settled, Moving, Leaving}
 use Rattle.px_plan.specs.declared.change.Change.{Change as AnyChange}
-use Rattle.px_plan.specs.declared.change.Change.TheVariants.{Authed, Named, Made, Leaves, Said, Regrouped, Gone, Ended, Forgotten}
-use Rattle.px_core.specs.State.{State, has_number, has_index, input_of}
+use Rattle.px_plan.specs.declared.change.Change.TheVariants.{Authed, Named, Made, Leaves, Said, Regrouped, Asked, Answered, Gone, Ended, Forgotten}
+use Rattle.px_core.specs.State.{State, has_number, has_index, input_of, is_as, waiting_of_others}
 
 -- a change with the messages of the core; a sink has no group of volumes yet
 abbrev pub Change : Type 0 → Type 0
@@ -66,8 +67,12 @@ posting sink m state = record state { posted = posted_to sink m state.posted }
 abbrev pub leaving : Input → Input
 leaving x = record x { standing = Leaving }
 
+-- what waited of it waits no more
 abbrev pub without_standing : {P : Type 0} → InputId → State P → State P
-without_standing index state = record state { inputs = change_first (has_index index) leaving state.inputs }
+without_standing index state = record state {
+  inputs = change_first (has_index index) leaving state.inputs;
+  waiting = waiting_of_others state.waiting index;
+}
 
 -- an input ends: a settled one's sink is told to give up its stream, a moving one's was told already, and one that has ended stays so
 abbrev pub ending : {P : Type 0} → Standing → Input → State P → State P
@@ -79,10 +84,31 @@ abbrev pub ending_of : {P : Type 0} → Option Input → State P → State P
 ending_of None state = state
 ending_of (Some x) state = ending x.standing x state
 
--- an input's sink is told something, where the input is settled there
+abbrev pub with_attr : Attributes → Input → Input
+with_attr attr x = record x { attr = attr }
+
+-- new buffer attributes that an input is told of are its own
+abbrev pub inputs_told : {P : Type 0} → InputId → Msg P → List Input → List Input
+inputs_told index (New n) inputs = inputs
+inputs_told index (Attach input parcel feed factors) inputs = inputs
+inputs_told index (Detach input) inputs = inputs
+inputs_told index (Write input seek offset frames bytes) inputs = inputs
+inputs_told index (Cork input on) inputs = inputs
+inputs_told index (Flush input) inputs = inputs
+inputs_told index (Trigger input) inputs = inputs
+inputs_told index (Prebuf input) inputs = inputs
+inputs_told index (Drain input tag) inputs = inputs
+inputs_told index (Attr input attr) inputs = change_first (has_index index) (with_attr attr) inputs
+inputs_told index (Factors each) inputs = inputs
+inputs_told index (Query input tag) inputs = inputs
+
+abbrev pub telling : {P : Type 0} → InputId → Msg P → State P → State P
+telling index m state = record state { inputs = inputs_told index m state.inputs }
+
+-- an input is told something; its sink is, where the input is settled there
 abbrev pub saying : {P : Type 0} → Standing → Input → Msg P → State P → State P
-saying Settled x m state = posting x.sink.0 m state
-saying (Moving to) x m state = state
+saying Settled x m state = posting x.sink.0 m (telling x.index m state)
+saying (Moving to) x m state = telling x.index m state
 saying Leaving x m state = state
 
 abbrev pub saying_of : {P : Type 0} → Option Input → Msg P → State P → State P
@@ -99,6 +125,8 @@ changed state (Made x m streams inputs) =
 changed state (Leaves index) = ending_of (input_of state.inputs index) state
 changed state (Said index m) = saying_of (input_of state.inputs index) m state
 changed state (Regrouped sink group m) = posting sink.0 m state
+changed state (Asked w) = record state { waiting = state.waiting ++ w ∷ [] }
+changed state (Answered w) = record state { waiting = drop_first (is_as w) state.waiting }
 changed state (Gone index) = record state { inputs = drop_first (has_index index) state.inputs }
 changed state (Ended conn reason fault at) = with_connection conn marked state
 changed state (Forgotten conn) = record state {

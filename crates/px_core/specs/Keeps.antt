@@ -1,7 +1,8 @@
 -- What the state of the core keeps from step to step.
-use Rattle.std.specs.Prelude.{◌≡◌, ℕ, zero, suc, ◌<◌, ◌≤◌, ◌≢◌, Bool, true, false, cond, ◌&&◌, nat_eq, List, [], ◌∷◌, ◌++◌, map, filter, length, flat_map, slice_get, get_or, Some, ⊤}
+use Rattle.std.specs.Prelude.{◌≡◌, ℕ, zero, suc, ◌<◌, ◌≤◌, ◌≢◌, Bool, true, false, cond, ◌&&◌, nat_eq, List, [], ◌∷◌, ◌++◌, map, filter, length, flat_map, slice_get, get_or, Some, MatchOption, ⊤}
 use Rattle.std.specs.List.{AllByRecursion}
 use Rattle.std.specs.Option.{option_to_list}
+use Rattle.px_types.specs.declared.ids.InputId.{InputId}
 use Rattle.px_types.specs.declared.ids.SinkId.{SinkId}
 use Rattle.px_session.specs.declared.header.SinkSpec.{SinkSpec}
 use Rattle.px_session.specs.HeaderRules.{AreSinks}
@@ -18,7 +19,8 @@ use Rattle.px_plan.specs.declared.input.Way.{Way}
 use Rattle.px_plan.specs.declared.input.Way.TheVariants.{Coming, There, Left}
 use Rattle.px_plan.specs.declared.input.Standing.{Standing}
 use Rattle.px_plan.specs.declared.input.Standing.TheVariants.{Settled, Moving, Leaving}
-use Rattle.px_core.specs.State.{State, settled_on, bound_for}
+use Rattle.px_plan.specs.declared.waiting.Waiting.{Waiting}
+use Rattle.px_core.specs.State.{State, goes_on, input_of, settled_on, bound_for}
 use Rattle.px_core.specs.Create.{MOST_ON_SINK}
 use Rattle.px_core.specs.Orderly.{spec_in, specs_of, is_held_by}
 use Rattle.px_core.specs.Out.{next_for, handed_out}
@@ -52,6 +54,14 @@ pub record IsInput (sinks : List SinkSpec) (made : ℕ) (x : Input) : Type 0 whe
   pub goes_there : GoesThere sinks x.standing
   pub playable : IsPlayable (sample_spec x.spec)
   pub repaired : IsRepaired x.attr
+
+-- the input with an index is there and goes on
+abbrev pub IsGoing : List Input → InputId → Type 0
+IsGoing inputs index = MatchOption (input_of inputs index) ⊥ (λ x. goes_on x ≡ true)
+
+-- a request that is answered later asks about one that is
+abbrev pub IsAwaiting : List Input → Waiting → Type 0
+IsAwaiting inputs w = IsGoing inputs w.input
 
 -- ---- what a sink has, what waits for it, and what is settled on it
 
@@ -110,6 +120,7 @@ pub record IsKept {P : Type 0} (spec_of : P → SampleSpec) (state : State P) : 
   pub distinct : AreDistinct state.connections
   pub rising : IsRising state.inputs
   pub inputs : AllByRecursion (IsInput state.sinks state.inputs_made) state.inputs
+  pub waiting : AllByRecursion (IsAwaiting state.inputs) state.waiting
   -- one list of messages a sink
   pub lists : length state.posted ≡ length state.sinks
   pub in_step : AreAllInStep spec_of state.sinks state.inputs state.posted

@@ -1,9 +1,8 @@
 -- What a change asks of the state, so that it keeps what the state keeps.
-use Rattle.std.specs.Prelude.{◌≡◌, ℕ, ◌+◌, ◌<◌, List, [], ◌∷◌, map, length, slice_get, Some, IfSome, ⊤}
+use Rattle.std.specs.Prelude.{◌≡◌, ◌+◌, ◌<◌, List, [], ◌∷◌, map, length, slice_get, Some, IfSome, ⊤}
 use Rattle.std.specs.List.{AllByRecursion}
 use Rattle.px_types.specs.declared.ids.SinkId.{SinkId}
 use Rattle.px_session.specs.declared.header.SinkSpec.{SinkSpec}
-use Rattle.px_model.specs.Frame.{SampleSpec}
 use Rattle.px_model.specs.Orderly.{IsNewStream, IsRepaired, IsWhole, AreFactors}
 use Rattle.px_model.specs.Message.{InputFactors as Gains}
 use Rattle.px_msg.specs.declared.factors.InputFactors.{InputFactors}
@@ -13,11 +12,11 @@ use Rattle.px_msg.specs.View.{sample_spec, opened, gains}
 use Rattle.px_plan.specs.declared.input.Input.{Input}
 use Rattle.px_plan.specs.declared.input.Standing.TheVariants.{Settled, Leaving}
 use Rattle.px_plan.specs.declared.input.Way.TheVariants.{Coming, Left}
-use Rattle.px_plan.specs.declared.change.Change.TheVariants.{Authed, Named, Made, Leaves, Said, Regrouped, Gone, Ended, Forgotten}
+use Rattle.px_plan.specs.declared.change.Change.TheVariants.{Authed, Named, Made, Leaves, Said, Regrouped, Asked, Answered, Gone, Ended, Forgotten}
 use Rattle.px_core.specs.State.{State, input_of, bound_for}
 use Rattle.px_core.specs.Change.{Change, changed}
 use Rattle.px_core.specs.Create.{MOST_ON_SINK}
-use Rattle.px_core.specs.Keeps.{IsInput, IsIncreasing}
+use Rattle.px_core.specs.Keeps.{IsInput, IsIncreasing, IsAwaiting}
 
 -- a message brings a new input's stream to its sink, and fits it
 abbrev pub Brings : {P : Type 0} → Input → SinkSpec → Msg P → Type 0
@@ -92,6 +91,8 @@ Lawful state (Made x m streams inputs) = IsNew state x m × (inputs ≡ state.in
 Lawful state (Leaves index) = ⊤
 Lawful state (Said index m) = IfSome (input_of state.inputs index) (λ x. Suits x m)
 Lawful state (Regrouped sink group m) = IsRegrouped state sink m
+Lawful state (Asked w) = IsAwaiting state.inputs w
+Lawful state (Answered w) = ⊤
 Lawful state (Gone index) = IfSome (input_of state.inputs index) HasLeft
 Lawful state (Ended conn reason fault at) = ⊤
 Lawful state (Forgotten conn) = ⊤

@@ -1,5 +1,5 @@
 -- The tables that the core keeps its state in, as the state, and the room that they have.
-use Rattle.std.specs.Prelude.{ℕ, zero, suc, ◌+◌, ◌-◌, ◌≤◌, List, [], ◌∷◌, map, length}
+use Rattle.std.specs.Prelude.{ℕ, zero, suc, ◌+◌, ◌-◌, ◌≤◌, List, [], ◌∷◌, map, length, vec_capacity}
 use Rattle.std.specs.List.{AllByRecursion}
 use Rattle.std.specs.VecDeque.{deque_len, deque_capacity}
 use Rattle.std.specs.declared.collections.VecDeque.{VecDeque}
@@ -18,6 +18,7 @@ state_of t = record {
   sinks = t.sinks;
   connections = t.connections.items;
   inputs = t.inputs.items;
+  waiting = t.waiting.items;
   posted = lists_of t.posted.items;
   clients_made = t.clients_made;
   inputs_made = t.inputs_made;
@@ -49,4 +50,5 @@ HavePlaces n queues = AllByRecursion (HasPlaces n) queues
 pub record HasRoom {P : Type 0} (n : ℕ) (t : Tables P) : Type 0 where
   pub places : length t.inputs.items + n ≤ t.inputs.places
   pub streams : n ≤ t.inputs.streams
+  pub waiting : length t.waiting.items + n ≤ vec_capacity t.waiting
   pub posted : HavePlaces n t.posted.items

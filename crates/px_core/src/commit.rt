@@ -1,16 +1,17 @@
 //! Changes are made, one after the other, in room that was reserved for them.
 
-ghost use Rattle.std.specs.Prelude.{◌≡◌, ◌+◌, ℕ, length, IfOk, OnOk, OnErr};
+ghost use Rattle.std.specs.Prelude.{◌≡◌, ◌≤◌, ◌+◌, ℕ, length, IfOk, OnOk, OnErr};
 ghost use Rattle.px_plan.specs.declared.change.Change.TheVariants.{Made, Leaves, Said};
-ghost use Rattle.px_core.specs.Change.{changed, committed, posting, saying, ending};
+ghost use Rattle.px_core.specs.Change.{changed, committed, inputs_told, posting, saying, ending};
 ghost use Rattle.px_core.specs.Step.{answered};
 ghost use Rattle.px_core.specs.Tables.{state_of, HasRoom, HavePlaces};
 
 use crate::answer::Answer;
 use crate::change::CoreChange;
 use crate::effects::Effects;
+use crate::input_table::InputTable;
 use crate::tables::Tables;
-use crate::{queues, verbs};
+use crate::{awaited, queues, verbs};
 use px_msg::Msg;
 use px_plan::{Change, Input, Standing};
 use px_types::{InputId, Mem, SinkId};
@@ -22,6 +23,7 @@ pub(crate) fn reserve<P>(tables: &mut Tables<P>, more: usize) -> Mem<()>
     ensures room { OnOk result (HasRoom more tables.new) }
 {
     tables.inputs.reserve(more)?;
+    tables.waiting.reserve(more)?;
     queues::reserve(&mut tables.posted, more)
 }
 
@@ -31,19 +33,36 @@ fn post<P: Drop>(tables: &mut Tables<P>, sink: SinkId, msg: Msg<P>)
     ensures state { state_of tables.new ≡ posting sink.0 msg (state_of tables.old) }
     ensures room { (n : ℕ) → HavePlaces (n + 1) tables.old.posted.items → HavePlaces n tables.new.posted.items }
     ensures inputs { tables.new.inputs ≡ tables.old.inputs }
+    ensures waiting { tables.new.waiting ≡ tables.old.waiting }
 {
     queues::post(&mut tables.posted, sink, msg);
 }
 
-/// A message for an input's sink, where the input is settled there. Takes one place of the room.
+// New buffer attributes that an input is told of are its own.
+fn note<P>(inputs: &mut InputTable, index: InputId, msg: &Msg<P>)
+    ensures items { inputs.new.items ≡ inputs_told index msg.now inputs.old.items }
+    ensures len { length inputs.new.items ≤ length inputs.old.items }
+    ensures places { inputs.new.places ≡ inputs.old.places }
+    ensures streams { inputs.old.streams ≤ inputs.new.streams + 1 }
+{
+    match msg {
+        Msg::Attr { attr, .. } => inputs.set_attr(index, *attr),
+        _ => {}
+    }
+}
+
+/// An input is told something; its sink is, where the input is settled there. Takes one place of the room.
 pub(crate) fn tell<P: Drop>(tables: &mut Tables<P>, x: &Input, msg: Msg<P>)
     requires { HasRoom 1 tables.old }
     ensures state { state_of tables.new ≡ saying x.now.standing x.now msg (state_of tables.old) }
     ensures room { (n : ℕ) → HasRoom (n + 1) tables.old → HasRoom n tables.new }
 {
     match x.standing {
-        Standing::Settled => post(tables, x.sink, msg),
-        Standing::Moving(_) => {}
+        Standing::Settled => {
+            note(&mut tables.inputs, x.index, &msg);
+            post(tables, x.sink, msg);
+        }
+        Standing::Moving(_) => note(&mut tables.inputs, x.index, &msg),
         Standing::Leaving => {}
     }
 }
@@ -60,7 +79,7 @@ fn say<P: Drop>(tables: &mut Tables<P>, index: InputId, msg: Msg<P>)
     }
 }
 
-// An input ends: a settled one's sink is to give up its stream.
+// An input ends: a settled one's sink is to give up its stream. What waited of it waits no more.
 fn end<P: Drop>(tables: &mut Tables<P>, x: &Input)
     requires { HasRoom 1 tables.old }
     ensures state { state_of tables.new ≡ ending x.now.standing x.now (state_of tables.old) }
@@ -69,9 +88,13 @@ fn end<P: Drop>(tables: &mut Tables<P>, x: &Input)
     match x.standing {
         Standing::Settled => {
             tables.inputs.leave(x.index);
+            awaited::give_up(&mut tables.waiting, x.index);
             post(tables, x.sink, Msg::Detach { input: x.index });
         }
-        Standing::Moving(_) => tables.inputs.leave(x.index),
+        Standing::Moving(_) => {
+            tables.inputs.leave(x.index);
+            awaited::give_up(&mut tables.waiting, x.index);
+        }
         Standing::Leaving => {}
     }
 }
@@ -120,6 +143,8 @@ fn apply<P: Drop>(tables: &mut Tables<P>, change: CoreChange<P>)
         Change::Leaves(index) => leave(tables, index),
         Change::Said(index, msg) => say(tables, index, msg),
         Change::Regrouped(sink, _group, msg) => post(tables, sink, msg),
+        Change::Asked(w) => tables.waiting.push_reserved(w),
+        Change::Answered(w) => awaited::answer(&mut tables.waiting, &w),
         Change::Gone(index) => tables.inputs.remove(index),
         Change::Ended { conn, .. } => verbs::mark(&mut tables.connections, conn),
         Change::Forgotten(conn) => {

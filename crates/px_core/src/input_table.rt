@@ -6,7 +6,7 @@ ghost use Rattle.std.specs.Option.{option_map};
 ghost use Rattle.indexmap.specs.IndexMap.{get, spare, ContainsKey};
 ghost use Rattle.px_core.specs.declared.input_table.StreamKey.{StreamKey as Key};
 ghost use Rattle.px_core.specs.State.{has_index, input_of, stream_of};
-ghost use Rattle.px_core.specs.Change.{change_first, drop_first, leaving};
+ghost use Rattle.px_core.specs.Change.{change_first, drop_first, leaving, with_attr};
 ghost use Rattle.px_core.specs.InputTable.{same_stream, key_of, first_of};
 ghost use Rattle.px_core.specs.Out.{on_way};
 
@@ -14,6 +14,7 @@ use crate::found::input_of;
 use crate::standing::goes_on;
 use crate::verbs;
 use indexmap::IndexMap;
+use px_model::Attr;
 use px_plan::{Input, Way};
 use px_types::{ConnId, InputId, Mem};
 use std::alloc::Global;
@@ -157,6 +158,19 @@ impl InputTable {
     {
         if let Some(key) = key_at(&self.all, index) {
             verbs::leave(&mut self.all, index);
+            renew(&mut self.by_stream, &self.all, key);
+        }
+    }
+
+    /// The input with an index has these buffer attributes.
+    pub(crate) fn set_attr(&mut self, index: InputId, attr: Attr)
+        ensures items { self.new.items ≡ change_first (has_index index) (with_attr attr) self.old.items }
+        ensures len { length self.new.items ≤ length self.old.items }
+        ensures places { self.new.places ≡ self.old.places }
+        ensures streams { self.old.streams ≤ self.new.streams + 1 }
+    {
+        if let Some(key) = key_at(&self.all, index) {
+            verbs::set_attr(&mut self.all, index, attr);
             renew(&mut self.by_stream, &self.all, key);
         }
     }

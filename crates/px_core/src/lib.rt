@@ -5,6 +5,7 @@
 
 mod answer;
 mod asked;
+mod awaited;
 mod change;
 mod client;
 mod command;

@@ -74,6 +74,7 @@ pub(crate) fn new_tables<P: Drop>(alloc: Global, header: &Header) -> Mem<Tables<
         sinks: SinkSpecs::from_vec(copied_sinks(alloc, sinks)?),
         connections: Vec::new(alloc),
         inputs: InputTable::new(alloc),
+        waiting: Vec::new(alloc),
         posted: queues_for(alloc, sinks)?,
         clients_made: 0,
         inputs_made: 0,

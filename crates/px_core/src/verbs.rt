@@ -4,9 +4,10 @@
 ghost use Rattle.std.specs.Prelude.{◌≡◌, ◌<◌, ◌≤◌, vec_len, vec_capacity};
 ghost use Rattle.std.specs.List.{position};
 ghost use Rattle.px_core.specs.State.{has_number, has_index};
-ghost use Rattle.px_core.specs.Change.{change_first, drop_first, authed, marked, with_streams, leaving};
+ghost use Rattle.px_core.specs.Change.{change_first, drop_first, authed, marked, with_streams, leaving, with_attr};
 ghost use Rattle.px_core.specs.Out.{on_way};
 
+use px_model::Attr;
 use px_plan::{Connection, Input, Standing, Way};
 use px_types::{ConnId, InputId};
 
@@ -70,6 +71,17 @@ pub(crate) fn leave(inputs: &mut Vec<Input>, index: InputId)
 {
     if let Some(place) = place_at(inputs, index) {
         inputs[place].standing = Standing::Leaving;
+    }
+}
+
+/// An input has these buffer attributes.
+pub(crate) fn set_attr(inputs: &mut Vec<Input>, index: InputId, attr: Attr)
+    ensures items { inputs.new.items ≡ change_first (has_index index) (with_attr attr) inputs.old.items }
+    ensures capacity { vec_capacity inputs.new ≡ vec_capacity inputs.old }
+    ensures len { vec_len inputs.new ≡ vec_len inputs.old }
+{
+    if let Some(place) = place_at(inputs, index) {
+        inputs[place].attr = attr;
     }
 }
 

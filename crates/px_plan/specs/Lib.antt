@@ -2,3 +2,4 @@ pub mod Input
 pub mod Target
 pub mod Plan
 pub mod Row
+pub mod Waiting

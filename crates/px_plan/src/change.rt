@@ -2,6 +2,7 @@
 
 use crate::input::Input;
 use crate::sending::Reason;
+use crate::waiting::Waiting;
 use px_tag::PropList;
 use px_types::{ConnId, InputId, SinkId};
 
@@ -21,12 +22,16 @@ pub enum Change<M, G> {
         streams: u32,
         inputs: u32,
     },
-    /// An input has ended. Where it was settled its sink is to give up its stream.
+    /// An input has ended. Where it was settled its sink is to give up its stream. What waited of it waits no more.
     Leaves(InputId),
-    /// An input's sink is told this.
+    /// An input's sink is told this. Where it is told new buffer attributes, they are the input's.
     Said(InputId, M),
     /// A sink has this group, and is told the factors that it gives.
     Regrouped(SinkId, G, M),
+    /// A request is answered later.
+    Asked(Waiting),
+    /// A request that waited is answered now: the first that is as this one waits no more.
+    Answered(Waiting),
     /// An ended input is given up.
     Gone(InputId),
     /// A connection that goes on has ended: by the server for a reason, or by the client. Where the reason is a rule of

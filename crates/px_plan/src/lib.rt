@@ -8,6 +8,7 @@ mod plan;
 mod refusal;
 mod sending;
 mod target;
+mod waiting;
 
 pub use change::Change;
 pub use input::{Connection, Input, Standing, Way};
@@ -15,3 +16,4 @@ pub use plan::Plan;
 pub use refusal::{Refusal, check, present};
 pub use sending::{Reason, Sending};
 pub use target::{Named, Target};
+pub use waiting::{Awaited, Waiting};

@@ -1,4 +1,5 @@
-use Rattle.std.proofs.Common.{arith, ◌≡◌, ◌∙◌, ap, length}
+use Rattle.std.proofs.Common.{arith, ◌∙◌, ap, length}
+use Rattle.std.specs.Prelude.{vec_capacity}
 use Rattle.px_core.specs.InputTable.{RoomyInputs}
 use Rattle.px_core.proofs.Waiting.{fewer_places}
 use Rattle.px_core.proofs.Rooms.{less_room, room_left}
@@ -15,6 +16,10 @@ returns-in-Settled-clause-room g c = λ n had.
       places = places;
       streams = omega (arith, streams, c.leave.ensures.streams);
     })
+    (record {
+      len = omega (arith, ap (λ v. length v.items) c.post.ensures.waiting, c.give_up.ensures.len);
+      capacity = ap (λ v. vec_capacity v) c.post.ensures.waiting ∙ c.give_up.ensures.capacity;
+    })
     (c.post.ensures.room n had.posted) had
 
 pub returns-in-Moving-clause-room : goal.returns-in-Moving-clause-room
@@ -22,6 +27,7 @@ returns-in-Moving-clause-room g c = λ n had.
     record {
       places = omega (arith, had.places, c.leave-in-Moving.ensures.len, c.leave-in-Moving.ensures.places);
       streams = omega (arith, had.streams, c.leave-in-Moving.ensures.streams);
+      waiting = omega (arith, had.waiting, c.give_up-in-Moving.ensures.len, c.give_up-in-Moving.ensures.capacity);
       posted = fewer_places n c.args.tables.now.posted.items had.posted;
     }
 

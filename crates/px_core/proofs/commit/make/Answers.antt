@@ -1,6 +1,6 @@
-use Rattle.std.proofs.Common.{arith, ◌≡◌, ◌∙◌, ◌++◌, ◌∷◌, [], ap, length, length-append}
+use Rattle.std.proofs.Common.{arith, ◌∙◌, ◌∷◌, [], ap, length, length-append}
 use Rattle.px_core.specs.InputTable.{RoomyInputs}
-use Rattle.px_core.proofs.Rooms.{room_left}
+use Rattle.px_core.proofs.Rooms.{same_waits, room_left}
 use Rattle.px_core.proofs.commit.make.Goals as goal
 
 pub returns-clause-room : goal.returns-clause-room
@@ -15,4 +15,5 @@ returns-clause-room g c = λ n had.
       places = places;
       streams = omega (arith, streams, c.push.ensures.streams);
     })
+    (same_waits c.args.tables.now c.post.new.tables c.post.ensures.waiting)
     (c.post.ensures.room n had.posted) had
