@@ -1,3 +1,4 @@
+pub mod Time
 pub mod Asked
 pub mod Factors
 pub mod Create

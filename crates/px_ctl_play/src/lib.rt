@@ -10,6 +10,7 @@ mod deletion;
 mod departure;
 mod factors;
 mod refusals;
+mod time;
 mod told;
 
 pub use creation::create;
