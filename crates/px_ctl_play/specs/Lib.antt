@@ -4,4 +4,6 @@ pub mod Factors
 pub mod Create
 pub mod Delete
 pub mod Data
+pub mod Control
+pub mod Attributes
 pub mod Told

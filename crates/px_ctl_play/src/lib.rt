@@ -3,6 +3,8 @@
 #![tactic(auto)]
 
 mod asked;
+mod buffer_attr;
+mod control;
 mod created;
 mod creation;
 mod data;
@@ -13,6 +15,8 @@ mod refusals;
 mod time;
 mod told;
 
+pub use buffer_attr::attributes;
+pub use control::{cork, flush, prebuf, trigger};
 pub use creation::create;
 pub use data::{Frames, frames_of, write};
 pub use deletion::delete;
