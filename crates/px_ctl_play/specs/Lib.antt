@@ -6,4 +6,7 @@ pub mod Delete
 pub mod Data
 pub mod Control
 pub mod Attributes
+pub mod Answer
+pub mod Drain
+pub mod Latency
 pub mod Told
