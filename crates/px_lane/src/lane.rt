@@ -2,7 +2,9 @@
 ghost use Rattle.std.specs.Prelude.{◌≡◌, ◌≤◌, ◌+◌, ◌-◌, ◌^◌, ◌++◌, [], length, IfOk, OnOk, OnErr, MatchResult, IsFalse};
 ghost use Rattle.std.specs.Borrow.{Lends, sem};
 ghost use Rattle.px_msg.specs.View.{sample_spec};
-ghost use Rattle.px_model.specs.Sink.{empty_sink};
+ghost use Rattle.px_model.specs.Stream.{Stream as Plain};
+ghost use Rattle.px_model.specs.Orderly.{IsOrderly};
+ghost use Rattle.px_model.specs.Sink.{empty_sink, specs_of};
 ghost use Rattle.px_lane.specs.Mixing.{IsMixed};
 ghost use Rattle.px_model.specs.Turn.{AreFor, settled, turned, turn_notices};
 ghost use Rattle.px_stream.specs.Samples.{samples};
@@ -115,12 +117,14 @@ impl<D: Device + Drop> Lane<D> {
         out: &mut NoticeList,
         blocks: &mut B,
     ) -> Result<Turned, LaneFault>
-        requires messages { AreFor self.old.sink messages.old }
+        requires messages { IsOrderly Plain.spec self.old.sink.spec (specs_of self.old.sink.inputs) messages.old.messages }
         requires attached { IsFalse self.old.sink.stopped → IsAttached (D.now self.old.device) self.old.sink }
-        ensures ok { IfOk result (Turns D.now self.old self.new messages.old out.old.notices out.new.notices) }
-        ensures empty { OnOk result (messages.new ≡ []) }
+        ensures ok { IfOk result (Turns D.now self.old self.new messages.old.messages out.old.notices out.new.notices) }
+        ensures empty { OnOk result (messages.new.messages ≡ []) }
         ensures worn { MatchResult result (λ turned. self.old.sink.filled ≤ 2 ^ 60) (Refuses self.old.sink.filled) }
         ensures err { OnErr result ((self.new ≡ self.old) × (messages.new ≡ messages.old) × (out.new.notices ≡ out.old.notices)) }
+        ensures message_room { messages.new.capacity ≡ messages.old.capacity }
+        ensures notice_room { out.old.capacity ≤ out.new.capacity }
     {
         let filled = self.mixer.filled();
         if filled > MOST_FILLED {
@@ -165,6 +169,8 @@ fn run<D: Device, B: BlockSource>(
     ensures lane { IsLane mixer.new.sink }
     ensures counted { HasCounted mixer.new.sink faults.new }
     ensures messages { messages.new.messages ≡ [] }
+    ensures list { messages.new.capacity ≡ messages.old.capacity }
+    ensures capacity { out.new.capacity ≡ out.old.capacity }
 {
     if mixer.is_stopped() {
         mixer.stop(messages, out, blocks);
@@ -203,9 +209,12 @@ fn play<D: Device, B: BlockSource>(
     ensures lane { IsLane mixer.new.sink }
     ensures notices { out.new.notices ≡ out.old.notices ++ turn_notices samples mixer.old.sink (consumed - mixer.old.sink.consumed) messages.old.messages }
     ensures messages { messages.new.messages ≡ [] }
+    ensures list { messages.new.capacity ≡ messages.old.capacity }
+    ensures capacity { out.new.capacity ≡ out.old.capacity }
     ensures attached { IsAttached (D.now device.new) mixer.new.sink }
     ensures played { (D.now device.new).played ≡ (D.now device.old).played }
     ensures faults { (D.now device.new).faults ≡ (D.now device.old).faults }
+    ensures failed { (D.now device.new).failed ≡ (D.now device.old).failed }
     ensures next { (D.now device.new).next ≡ (D.now device.old).next }
 {
     let frames = consumed - mixer.consumed();
