@@ -69,17 +69,17 @@ on_own x settled = ap (stays_on (sink_at x.sink.0) x.sink) settled ∙ eq-eqb x.
 pub on_other : (k : ℕ) (x : Input) (b : Bool) → (k ≡ x.sink.0 → ⊥) → (nat_eq x.sink.0 k && b) ≡ false
 on_other k x b h = and_left (nat_eq x.sink.0 k) b (ne_eqb x.sink.0 k (λ (e : x.sink.0 ≡ k). h (sym e)))
 
-stays_off : (k : ℕ) (on : SinkId) → (k ≡ on.0 → ⊥) → (standing : Standing) → stays_on (sink_at k) on standing ≡ false
+pub stays_off : (k : ℕ) (on : SinkId) → (k ≡ on.0 → ⊥) → (standing : Standing) → stays_on (sink_at k) on standing ≡ false
 stays_off k on h Settled = ne_eqb on.0 k (λ (e : on.0 ≡ k). h (sym e))
 stays_off k on h (Moving to) = refl
 stays_off k on h Leaving = refl
 
 -- one that doesn't stay is settled nowhere
-unsettled : (k : ℕ) (x : Input) (standing : Standing) → x.standing ≡ standing → ((sink on : SinkId) → stays_on sink on standing ≡ false) → is_settled (sink_at k) x ≡ false
+pub unsettled : (k : ℕ) (x : Input) (standing : Standing) → x.standing ≡ standing → ((sink on : SinkId) → stays_on sink on standing ≡ false) → is_settled (sink_at k) x ≡ false
 unsettled k x standing e none = ap (stays_on (sink_at k) x.sink) e ∙ none (sink_at k) x.sink
 
 -- those that are settled on a sink are bound for it
-settled_is_bound : (k : ℕ) (on : SinkId) (standing : Standing) → stays_on (sink_at k) on standing ≡ true → belongs_to (sink_at k) on standing ≡ true
+pub settled_is_bound : (k : ℕ) (on : SinkId) (standing : Standing) → stays_on (sink_at k) on standing ≡ true → belongs_to (sink_at k) on standing ≡ true
 settled_is_bound k on Settled e = e
 settled_is_bound k on (Moving to) e = absurd (false≢true e)
 settled_is_bound k on Leaving e = absurd (false≢true e)

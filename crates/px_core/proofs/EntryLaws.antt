@@ -20,7 +20,7 @@ use Rattle.px_core.specs.State.{has_index}
 use Rattle.px_core.specs.Change.{change_first, drop_first}
 use Rattle.px_core.specs.Orderly.{entry_of, spec_in, specs_of}
 use Rattle.px_core.specs.Keeps.{AllAbove, IsRising, brought_of}
-use Rattle.px_core.proofs.ListLaws.{heads, tails, no_cons, found_test, found_all, all_change, all_drop, all_push}
+use Rattle.px_core.proofs.ListLaws.{heads, tails, no_cons, found_all, all_change, all_drop, all_push}
 
 -- ---- tests
 
@@ -214,6 +214,21 @@ pushed_in p xs y a t i = ap option_to_list (push_in p xs y a i) ∙ step (nat_eq
     step true e =
         ap (λ b. option_to_list (cond b (Some (sample_spec y.spec)) None)) t
         ∙ sym (ap (λ (o : Option SampleSpec). option_to_list o ++ sample_spec y.spec ∷ []) (subst (λ n. spec_in p n xs ≡ None) (eqb-true y.index.0 i e) (none_below p y.index.0 xs a)))
+    step false e = sym (append-nil (option_to_list (spec_in p i xs)))
+
+-- and one that newly passes
+pub arrived_in : (p : Input → Bool) (j : InputId) (f : Input → Input) → Keeps f → ((x : Input) → sample_spec (f x).spec ≡ sample_spec x.spec) → (xs : List Input) (y : Input) → find (has_index j) xs ≡ Some y → p y ≡ false → p (f y) ≡ true
+    → (i : ℕ) → option_to_list (spec_in p i (change_first (has_index j) f xs)) ≡ option_to_list (spec_in p i xs) ++ cond (nat_eq j.0 i) (sample_spec y.spec ∷ []) []
+arrived_in p j f keeps spec xs y here off on i = ap option_to_list (change_in p j f keeps xs y here i) ∙ step (nat_eq j.0 i) refl
+  where
+    none : spec_in p j.0 xs ≡ None
+    none = here_in p j xs y here ∙ ap (λ b. cond b (Some (sample_spec y.spec)) None) off
+
+    step : (b : Bool) → nat_eq j.0 i ≡ b → option_to_list (cond b (cond (p (f y)) (Some (sample_spec (f y).spec)) None) (spec_in p i xs)) ≡ option_to_list (spec_in p i xs) ++ cond b (sample_spec y.spec ∷ []) []
+    step true e =
+        ap (λ b. option_to_list (cond b (Some (sample_spec (f y).spec)) None)) on
+        ∙ ap (λ s. s ∷ []) (spec y)
+        ∙ sym (ap (λ (o : Option SampleSpec). option_to_list o ++ sample_spec y.spec ∷ []) (subst (λ n. spec_in p n xs ≡ None) (eqb-true j.0 i e) none))
     step false e = sym (append-nil (option_to_list (spec_in p i xs)))
 
 -- ---- the input that the first message brings

@@ -51,16 +51,20 @@ module _ {P : Type 0} (spec_of : P → SampleSpec) (sink : SinkId) (s : SinkSpec
   abbrev Bound : Type 0
   Bound = length (bound_for later sink) ≤ length (bound_for inputs sink)
 
-  -- nothing changes for this sink, but that inputs may go that were bound for it
-  pub unmoved : (waiting : List (Msg P)) → Held → Settled → Coming → Bound → AreInStep spec_of sink s inputs waiting → AreInStep spec_of sink s later waiting
-  unmoved waiting held settled coming bound h = record {
+  -- nothing changes for this sink, but how many are bound for it
+  pub still_few : (waiting : List (Msg P)) → Held → Settled → Coming → length (bound_for later sink) ≤ MOST_ON_SINK → AreInStep spec_of sink s inputs waiting → AreInStep spec_of sink s later waiting
+  still_few waiting held settled coming few h = record {
     orderly = subst (λ es. IsOrderly spec_of (sample_spec s.spec) (finite.from_entries es) (map view waiting)) (sym held) h.orderly;
     leaves = subst (λ es. inputs_left_by spec_of (finite.from_entries es) (map view waiting) ≡ specs_of (settled_on later sink)) (sym held)
         (h.leaves ∙ ap finite.from_entries (sym settled));
     bring = λ i. h.bring i ∙ ap option_to_list (sym (coming i));
     each = h.each;
-    few = omega (arith, bound, h.few);
+    few = few;
   }
+
+  -- nor that, but that inputs may go that were
+  pub unmoved : (waiting : List (Msg P)) → Held → Settled → Coming → Bound → AreInStep spec_of sink s inputs waiting → AreInStep spec_of sink s later waiting
+  unmoved waiting held settled coming bound h = still_few waiting held settled coming (omega (arith, bound, h.few)) h
 
   -- a message is posted
   pub posted : (waiting : List (Msg P)) (m : Msg P) → Held

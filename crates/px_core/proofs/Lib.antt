@@ -11,12 +11,14 @@ pub mod EntryLaws
 pub mod InStepLaws
 pub mod GoingLaws
 pub mod ChangeLaws
+pub mod MoveLaws
 pub mod HandingLaws
 pub mod VerbLaws
 pub mod AnswerLaws
 pub mod SweepLaws
 pub mod CreateLaws
 pub mod StepLaws
+pub mod ParcelLaws
 pub mod CoreLaws
 pub mod BackLaws
 pub mod EndLaws

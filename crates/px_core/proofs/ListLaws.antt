@@ -1,6 +1,6 @@
 -- Lists of which the first that is so changes or goes, what is found in them, and what holds of each.
 use Rattle.std.proofs.Common.{◌≡◌, suc, ◌≤◌, List, [], ◌∷◌, ◌++◌, map, length, Some, Bool, true, false, refl, ap, sym, subst, ◌∙◌, arith, cond}
-use Rattle.std.specs.Prelude.{filter}
+use Rattle.std.specs.Prelude.{◌+◌, filter}
 use Rattle.std.specs.List.{AllByRecursion, find}
 use Rattle.std.proofs.lemmas.Bool.{cond_both, false≢true}
 use Rattle.std.proofs.lemmas.Option.{none-some, same_Some}
@@ -114,6 +114,25 @@ no_more_pass p q f k (x ∷ xs) = step (no_more_pass p q f k xs) (q x)
     step later true = passed (p (f x)) (p x) (k x)
     step later false = behind (p x) later
 
+-- a change lets one more pass at the most
+pub one_more_passes : {A : Type 0} (p q : A → Bool) (f : A → A) (xs : List A) → length (filter p (change_first q f xs)) ≤ length (filter p xs) + 1
+one_more_passes p q f [] = omega arith
+one_more_passes p q f (x ∷ xs) = step (one_more_passes p q f xs) (q x)
+  where
+    passed : (b c : Bool) → length (cond b (f x ∷ filter p xs) (filter p xs)) ≤ length (cond c (x ∷ filter p xs) (filter p xs)) + 1
+    passed true true = omega arith
+    passed true false = omega arith
+    passed false true = omega arith
+    passed false false = omega arith
+
+    behind : length (filter p (change_first q f xs)) ≤ length (filter p xs) + 1 → (b : Bool) → length (cond b (x ∷ filter p (change_first q f xs)) (filter p (change_first q f xs))) ≤ length (cond b (x ∷ filter p xs) (filter p xs)) + 1
+    behind e true = omega (arith, e)
+    behind e false = e
+
+    step : length (filter p (change_first q f xs)) ≤ length (filter p xs) + 1 → (b : Bool) → length (filter p (cond b (f x ∷ xs) (x ∷ change_first q f xs))) ≤ length (filter p (x ∷ xs)) + 1
+    step later true = passed (p (f x)) (p x)
+    step later false = behind later (p x)
+
 -- a test that lets no more pass than another
 pub fewer_pass : {A : Type 0} (p q : A → Bool) → ((x : A) → p x ≡ true → q x ≡ true) → (xs : List A) → length (filter p xs) ≤ length (filter q xs)
 fewer_pass p q k [] = omega arith
@@ -124,3 +143,23 @@ fewer_pass {A} p q k (x ∷ xs) = step (fewer_pass p q k xs) (p x) (q x) (k x)
     step later true false e = absurd (false≢true (e refl))
     step later false true e = omega (arith, later)
     step later false false e = later
+
+-- and where one that is found passes the other alone, it lets fewer pass
+pub fewer_by_one : {A : Type 0} (p q : A → Bool) → ((x : A) → p x ≡ true → q x ≡ true) → (r : A → Bool) (xs : List A) (y : A) → find r xs ≡ Some y → p y ≡ false → q y ≡ true → length (filter p xs) + 1 ≤ length (filter q xs)
+fewer_by_one p q k r [] y e off on = absurd (none-some y e)
+fewer_by_one {A} p q k r (x ∷ xs) y e off on = step (λ f. fewer_by_one p q k r xs y f off on) (r x) e
+  where
+    this : length (filter p xs) ≤ length (filter q xs) → (a b : Bool) → a ≡ false → b ≡ true → length (cond a (x ∷ filter p xs) (filter p xs)) + 1 ≤ length (cond b (x ∷ filter q xs) (filter q xs))
+    this less true b f g = absurd (false≢true (sym f))
+    this less false true f g = omega (arith, less)
+    this less false false f g = absurd (false≢true g)
+
+    behind : length (filter p xs) + 1 ≤ length (filter q xs) → (a b : Bool) → (a ≡ true → b ≡ true) → length (cond a (x ∷ filter p xs) (filter p xs)) + 1 ≤ length (cond b (x ∷ filter q xs) (filter q xs))
+    behind less true true f = omega (arith, less)
+    behind less true false f = absurd (false≢true (f refl))
+    behind less false true f = omega (arith, less)
+    behind less false false f = less
+
+    step : (find r xs ≡ Some y → length (filter p xs) + 1 ≤ length (filter q xs)) → (b : Bool) → cond b (Some x) (find r xs) ≡ Some y → length (filter p (x ∷ xs)) + 1 ≤ length (filter q (x ∷ xs))
+    step later true f = this (fewer_pass p q k xs) (p x) (q x) (ap p (same_Some x y f) ∙ off) (ap q (same_Some x y f) ∙ on)
+    step later false f = behind (later f) (p x) (q x) (k x)

@@ -14,6 +14,7 @@ use Rattle.px_plan.specs.declared.input.Connection.{Connection}
 use Rattle.px_plan.specs.declared.input.Input.{Input}
 use Rattle.px_plan.specs.declared.input.Standing.{Standing}
 use Rattle.px_plan.specs.declared.input.Standing.TheVariants.{Settled, Moving, Leaving}
+use Rattle.px_plan.specs.declared.input.Way.TheVariants.{Coming}
 use Rattle.px_plan.specs.declared.change.Change.{Change as AnyChange}
 use Rattle.px_plan.specs.declared.change.Change.TheVariants.{Authed, Named, Masked, Defaulted, Made, Leaves, Said, Regrouped, Asked, Answered, Gone, Ended, Forgotten}
 use Rattle.px_core.specs.State.{State, has_number, has_index, input_of, is_as, waiting_of_others}
@@ -122,6 +123,22 @@ saying Leaving x m state = state
 abbrev pub saying_of : {P : Type 0} → Option Input → Msg P → State P → State P
 saying_of None m state = state
 saying_of (Some x) m state = saying x.standing x m state
+
+-- ---- an input moves between sinks
+
+abbrev pub moving_to : SinkId → Input → Input
+moving_to to x = record x { standing = Moving to }
+
+-- a settled one's sink is told to give up its stream
+abbrev pub departing : {P : Type 0} → SinkId → Input → State P → State P
+departing to x state = posting x.sink.0 (Detach x.index) (record state { inputs = change_first (has_index x.index) (moving_to to) state.inputs })
+
+abbrev pub arrived_at : SinkId → Input → Input
+arrived_at to x = record x { sink = to; standing = Settled; way = Coming }
+
+-- and once it has, a message brings its stream to the other sink
+abbrev pub arriving : {P : Type 0} → SinkId → Input → Msg P → State P → State P
+arriving to x m state = posting to.0 m (record state { inputs = change_first (has_index x.index) (arrived_at to) state.inputs })
 
 -- ---- the state after a change
 

@@ -93,9 +93,8 @@ abbrev pub IsIncreasing : List ℕ → Type 0
 IsIncreasing [] = ⊤
 IsIncreasing (i ∷ indices) = AllByRecursion (λ j. i < j) indices × IsIncreasing indices
 
--- what the core posts: no stream from another sink, and factors that name their inputs in rising index, each once
+-- what the core posts: factors name their inputs in rising index, each once
 abbrev pub IsPosted : {P : Type 0} → Msg P → Type 0
-IsPosted (Attach input parcel feed factors) = ⊥
 IsPosted (Factors each) = IsIncreasing (map (λ f. (InputFactors.input f).0) each)
 IsPosted _ = ⊤
 

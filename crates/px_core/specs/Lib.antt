@@ -16,6 +16,7 @@ pub mod Lending
 pub mod Step
 pub mod Orderly
 pub mod Keeps
+pub mod Parcels
 pub mod Lawful
 pub mod Ending
 pub mod Hearing

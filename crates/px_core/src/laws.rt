@@ -1,5 +1,5 @@
 //! Laws of the core's definitions: what its state keeps, and what a sink is handed out.
-ghost use Rattle.std.specs.Prelude.{◌≡◌, ℕ, ◌+◌, ◌≤◌, List, [], ◌∷◌, ◌++◌, None, Some, map, take, drop, replicate, slice_get};
+ghost use Rattle.std.specs.Prelude.{◌≡◌, ℕ, ◌+◌, ◌<◌, ◌≤◌, List, [], ◌∷◌, ◌++◌, None, Some, map, flat_map, take, drop, length, replicate, slice_get};
 ghost use Rattle.std.specs.List.{AllByRecursion};
 ghost use Rattle.px_types.specs.declared.ids.ConnId.{ConnId};
 ghost use Rattle.px_types.specs.declared.ids.SinkId.{SinkId};
@@ -7,18 +7,24 @@ ghost use Rattle.px_session.specs.declared.header.Header.{Header};
 ghost use Rattle.px_session.specs.declared.header.SinkSpec.{SinkSpec};
 ghost use Rattle.px_session.specs.HeaderRules.{IsHeader};
 ghost use Rattle.px_model.specs.Frame.{SampleSpec};
-ghost use Rattle.px_model.specs.Orderly.{IsOrderly, inputs_left_by};
+ghost use Rattle.px_model.specs.Orderly.{IsOrderly, IsParcel, inputs_left_by};
 ghost use Rattle.px_msg.specs.declared.message.Msg.{Msg};
+ghost use Rattle.px_msg.specs.declared.message.Msg.TheVariants.{Attach};
 ghost use Rattle.px_msg.specs.View.{sample_spec, message_of};
 ghost use Rattle.px_reply.specs.Front.{refusal};
+ghost use Rattle.px_plan.specs.declared.input.Input.{Input};
+ghost use Rattle.px_plan.specs.declared.input.Standing.TheVariants.{Settled, Moving};
+ghost use Rattle.px_plan.specs.declared.input.Way.TheVariants.{Left};
 ghost use Rattle.px_core.specs.Effect.{sent, closed_at};
-ghost use Rattle.px_core.specs.Change.{marked, with_connection};
-ghost use Rattle.px_core.specs.State.{State, new_state};
+ghost use Rattle.px_core.specs.Change.{marked, with_connection, departing, arriving};
+ghost use Rattle.px_core.specs.Create.{MOST_ON_SINK};
+ghost use Rattle.px_core.specs.State.{State, new_state, input_of, bound_for};
 ghost use Rattle.px_core.specs.Connecting.{going_on};
 ghost use Rattle.px_core.specs.Out.{Roomy, waiting_for, next_for, handed_out, put_back, sent_by, unsent_by};
 ghost use Rattle.px_core.specs.Step.{Step, out, stepped, effects_of, stepped_by, effects_by};
 ghost use Rattle.px_core.specs.Orderly.{specs_of, inputs_there, IsOrderlyState};
 ghost use Rattle.px_core.specs.Keeps.{IsKept, IsPosted, IsStep, Spares, handed_out_by, messages_out};
+ghost use Rattle.px_core.specs.Parcels.{given_in, Carries, AllCarry, IsAmong};
 ghost use Rattle.px_core.specs.Hearing.{told_by};
 ghost use Rattle.px_core.specs.Ending.{ends_of, goes_on, begins_of, begins_by, sender_of};
 
@@ -77,6 +83,31 @@ pub fn sinks_hear_what_is_orderly<P>()
         → AllByRecursion IsPosted (told_by spec_of sink state steps) }
     ensures sinks { (spec_of : P → SampleSpec) (state : State P) (steps : List (Step P))
         → (stepped_by spec_of state steps).sinks ≡ state.sinks }
+{}
+
+/// A settled input may move to a sink that has room for it, and one that moves, once its sink has given up its stream, may be
+/// brought to the new sink by a parcel of its sample spec that fits there: both keep what the state keeps. It does nothing: its
+/// contract is the law. Source: own.
+pub fn moves_keep_states<P>()
+    ensures departs { (spec_of : P → SampleSpec) (state : State P) (x : Input) (to : SinkId) → IsKept spec_of state
+        → input_of state.inputs x.index ≡ Some x → x.standing ≡ Settled → to.0 < length state.sinks
+        → length (bound_for state.inputs to) < MOST_ON_SINK → IsKept spec_of (departing to x state) }
+    ensures arrives { (spec_of : P → SampleSpec) (state : State P) (x : Input) (to : SinkId) (parcel : P) (feed factors : List ℕ)
+        → IsKept spec_of state → input_of state.inputs x.index ≡ Some x → x.standing ≡ Moving to → x.way ≡ Left
+        → to.0 < length state.sinks → spec_of parcel ≡ sample_spec x.spec
+        → ((s : SinkSpec) → slice_get state.sinks to.0 ≡ Some s → IsParcel (sample_spec s.spec) (spec_of parcel) feed factors)
+        → IsKept spec_of (arriving to x (Attach x.index parcel feed factors) state) }
+{}
+
+/// No parcel waits for a sink, and none is handed out to it, but those that notices gave up. It does nothing: its contract is the
+/// law. Source: own.
+pub fn parcels_are_those_given_up<P>()
+    ensures waiting { (spec_of : P → SampleSpec) (header : Header) (steps : List (Step P)) → IsHeader header
+        → AllByRecursion IsStep steps
+        → AllCarry (IsAmong (flat_map given_in steps)) (stepped_by spec_of (new_state header) steps) }
+    ensures told { (spec_of : P → SampleSpec) (header : Header) (steps : List (Step P)) (sink : SinkId) → IsHeader header
+        → AllByRecursion IsStep steps
+        → AllByRecursion (Carries (IsAmong (flat_map given_in steps))) (told_by spec_of sink (new_state header) steps) }
 {}
 
 /// What a sink is handed out by some steps and others after them; by steps that hand out nothing to it; and by those that

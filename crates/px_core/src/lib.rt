@@ -39,8 +39,9 @@ pub use change::CoreChange;
 pub use effect::Effect;
 pub use effects::Effects;
 pub use laws::{
-    connections_end_once, refusals_change_nothing, sinks_have_what_they_were_told,
-    sinks_hear_step_by_step, sinks_hear_what_is_orderly, states_are_kept,
+    connections_end_once, moves_keep_states, parcels_are_those_given_up, refusals_change_nothing,
+    sinks_have_what_they_were_told, sinks_hear_step_by_step, sinks_hear_what_is_orderly,
+    states_are_kept,
 };
 pub use lending::put_back_undoes_handing_out;
 pub use machine::Core;

@@ -1,7 +1,8 @@
 -- What a world keeps before its first event, and where an event was refused.
-use Rattle.std.proofs.Common.{◌≡◌, ◌+◌, ◌<◌, ℕ, take, List, [], ◌∷◌, ◌++◌, map, set, get_or, length, Some, Result, Err, refl, ap, sym, subst, ◌∙◌}
+use Rattle.std.proofs.Common.{◌≡◌, ◌+◌, ◌<◌, ℕ, true, take, List, [], ◌∷◌, ◌++◌, map, set, get_or, length, Some, Result, Err, refl, ap, sym, subst, ◌∙◌}
 use Rattle.std.specs.Prelude.{option_map, slice_get, All, IsFalse}
 use Rattle.std.specs.List.{AllByRecursion}
+use Rattle.std.proofs.lemmas.Bool.{cond_both}
 use Rattle.std.proofs.lemmas.List.{length-map, map-set, map_push, map_more}
 use Rattle.std.proofs.lemmas.Option.{slice_get-map, slice_get-get_or, same_Some}
 use Rattle.px_session.specs.declared.header.Header.{Header}
@@ -9,9 +10,10 @@ use Rattle.px_session.specs.declared.header.SinkSpec.{SinkSpec}
 use Rattle.px_session.specs.declared.event.Event.{Event}
 use Rattle.px_session.specs.HeaderRules.{IsHeader, IsSink, AreSinks}
 use Rattle.px_msg.specs.View.{sample_spec}
-use Rattle.px_model.specs.Stream.{Stream}
+use Rattle.px_model.specs.Stream.{Stream, IsStream}
 use Rattle.px_model.proofs.Rounds.{empty_keeps}
 use Rattle.px_core.specs.State.{State, new_state}
+use Rattle.px_core.proofs.ParcelLaws.{new_carry}
 use Rattle.px_core.proofs.StepLaws.{new_keeps}
 use Rattle.px_core.proofs.Sinks.{is_of_header}
 use Rattle.px_world.specs.declared.fault.WorldFault.{WorldFault}
@@ -23,8 +25,8 @@ use Rattle.px_world.specs.World.{World, Mixer, new_mixer, new_world}
 use Rattle.px_world.specs.Playing.{mixer_of}
 use Rattle.px_world.specs.Admission.{refusal_of}
 use Rattle.px_world.specs.Running.{Running, StandsFor}
-use Rattle.px_world.specs.Keeping.{IsMixerOf, AreKept}
-use Rattle.px_world.specs.Doing.{Unless, loses, running_of, Answered, IsRefused, Runs}
+use Rattle.px_world.specs.Keeping.{GivesStream, IsMixerOf, AreKept}
+use Rattle.px_world.specs.Doing.{Unless, loses, running_of, told_to_fail, Answered, IsRefused, Runs}
 use Rattle.px_world.proofs.Kept.{kept-notices}
 use Rattle.px_world.proofs.Sounding.{seen-at}
 use Rattle.px_world.proofs.Standing.{stands-first}
@@ -33,11 +35,12 @@ use Rattle.px_world.proofs.Standings.{unless-memory}
 new-mixer-is : (header : Header) (index : ℕ) (s : SinkSpec) (m : Mixer) → slice_get header.sinks index ≡ Some s → slice_get (map new_mixer header.sinks) index ≡ Some m → IsMixerOf (new_state header) index s m
 new-mixer-is header index s m there mixer =
     let same : new_mixer s ≡ m = same_Some (new_mixer s) m (sym (slice_get-map new_mixer header.sinks index ∙ ap (option_map new_mixer) there) ∙ mixer) in
-    subst (λ x. IsMixerOf (new_state header) index s x) same (record { spec = refl; kept = empty_keeps (sample_spec s.spec) s.guard s.depth; inputs = refl })
+    subst (λ x. IsMixerOf (new_state header) index s x) same (record { spec = refl; kept = empty_keeps (sample_spec s.spec) s.guard s.depth; inputs = refl; gives = tt })
 
 pub kept-first : (header : Header) → IsHeader header → AreKept (new_state header) (map new_mixer header.sinks)
 kept-first header h = record {
   core_kept = new_keeps Stream.spec header h;
+  carried = new_carry IsStream header;
   count = length-map header.sinks new_mixer;
   each = λ index s m there mixer. new-mixer-is header index s m there mixer;
 }
@@ -84,6 +87,9 @@ unchanged-by before after result fault rests is memory = unless-memory fault (af
 
 -- ---- a mixer whose device alone changes
 
-pub kept-device : {X : Type 0} (v : X → Mixer) (xs : List X) (k : ℕ) (d next : X) (core : State Stream) → k < length xs → (v next).sink ≡ (v (get_or xs k d)).sink → AreKept core (map v xs) → AreKept core (map v (set xs k next))
-kept-device v xs k d next core within same h =
-    subst (AreKept core) (sym (map-set v xs k next)) (kept-notices core (map v xs) k (v (get_or xs k d)) (v next) h (seen-at v xs k d within) same)
+pub fail-notices : (m : Mixer) → (told_to_fail m).notices ≡ m.notices
+fail-notices m = cond_both m.sink.stopped m (record m { failing = true }) (λ x. Mixer.notices x ≡ m.notices) (λ e. refl) (λ e. refl)
+
+pub kept-device : {X : Type 0} (v : X → Mixer) (xs : List X) (k : ℕ) (d next : X) (core : State Stream) → k < length xs → (v next).sink ≡ (v (get_or xs k d)).sink → (v next).notices ≡ (v (get_or xs k d)).notices → AreKept core (map v xs) → AreKept core (map v (set xs k next))
+kept-device v xs k d next core within same notices h =
+    subst (AreKept core) (sym (map-set v xs k next)) (kept-notices core (map v xs) k (v (get_or xs k d)) (v next) h (seen-at v xs k d within) same (subst (AllByRecursion GivesStream) (sym notices)))

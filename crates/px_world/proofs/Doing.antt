@@ -11,7 +11,7 @@ use Rattle.px_frame.specs.declared.fault.FrameError.TheVariants.{Fault, Failed, 
 use Rattle.px_frame.specs.declared.frame.Frame.{Frame}
 use Rattle.px_frame.specs.Frame.{IsBody}
 use Rattle.px_frame.specs.Progress.{GivesBodies}
-use Rattle.px_model.specs.Stream.{Stream}
+use Rattle.px_model.specs.Stream.{Stream, IsStream}
 use Rattle.px_model.specs.Frame.{SampleSpec}
 use Rattle.px_core.specs.declared.effect.Effect.{Effect}
 use Rattle.px_plan.specs.declared.input.Connection.{Connection}
@@ -19,6 +19,7 @@ use Rattle.px_core.specs.State.{State}
 use Rattle.px_core.specs.Reply.{Answer}
 use Rattle.px_core.specs.Connecting.{going_on, ended}
 use Rattle.px_core.specs.Keeps.{IsStep, Spares}
+use Rattle.px_core.specs.Parcels.{Takes}
 use Rattle.px_core.specs.Step.{Step, frame, broken, close, sweep, stepped, effects_of, stepped_by, effects_by}
 use Rattle.px_world.specs.declared.doors.Door.{Door}
 use Rattle.px_world.specs.declared.fault.WorldFault.TheVariants.{Live}
@@ -80,6 +81,16 @@ given-are conn (Err (Fault frames fault at)) h = frames-are conn frames (broken 
 given-are conn (Err (Failed fault at)) h = tt
 given-are conn (Err NoMemory) h = tt
 
+frames-take : (conn : ConnId) (frames : List Frame) (rest : List (Step Stream)) → AllByRecursion (Takes IsStream) rest → AllByRecursion (Takes IsStream) (map (frame conn) frames ++ rest)
+frames-take conn [] rest r = r
+frames-take conn (f ∷ frames) rest r = (tt, frames-take conn frames rest r)
+
+given-take : (conn : ConnId) (given : Result (List Frame) FrameError) → AllByRecursion (Takes IsStream) (steps_given conn given)
+given-take conn (Ok frames) = subst (AllByRecursion (Takes IsStream)) (append-nil (map (frame conn) frames)) (frames-take conn frames [] tt)
+given-take conn (Err (Fault frames fault at)) = frames-take conn frames (broken conn fault at ∷ []) (tt, tt)
+given-take conn (Err (Failed fault at)) = tt
+given-take conn (Err NoMemory) = tt
+
 given-spare : (sink : SinkId) (conn : ConnId) (given : Result (List Frame) FrameError) → AllByRecursion (Spares sink) (steps_given conn given)
 given-spare sink conn (Ok frames) = subst (AllByRecursion (Spares sink)) (append-nil (map (frame conn) frames)) (frames-spare sink conn frames [] tt)
 given-spare sink conn (Err (Fault frames fault at)) = frames-spare sink conn frames (broken conn fault at ∷ []) (tt, tt)
@@ -89,14 +100,14 @@ given-spare sink conn (Err NoMemory) = tt
 -- so what is kept stays kept
 
 module _ (core next last : State Stream) (mixers : List Mixer) (h : AreKept core mixers) where
-  pub kept-one : (s : Step Stream) → IsStep s → ((sink : SinkId) → Spares sink s) → next ≡ stepped Stream.spec core s → last ≡ stepped_by Stream.spec next (sweep ∷ []) → AreKept last mixers
-  kept-one s is spares e l =
+  pub kept-one : (s : Step Stream) → IsStep s → Takes IsStream s → ((sink : SinkId) → Spares sink s) → next ≡ stepped Stream.spec core s → last ≡ stepped_by Stream.spec next (sweep ∷ []) → AreKept last mixers
+  kept-one s is takes spares e l =
       subst (λ t. AreKept t mixers) (sym (one-swept Stream.spec core next s last e l))
-      (kept-steps core mixers (s ∷ sweep ∷ []) h (is, (tt, tt)) (λ sink. (spares sink, (tt, tt))))
+      (kept-steps core mixers (s ∷ sweep ∷ []) h (is, (tt, tt)) (takes, (tt, tt)) (λ sink. (spares sink, (tt, tt))))
 
   pub kept-given : (conn : ConnId) (given : Result (List Frame) FrameError) → GivesBodies given → next ≡ stepped_by Stream.spec core (steps_given conn given)
       → last ≡ stepped_by Stream.spec next (sweep ∷ []) → AreKept last mixers
   kept-given conn given bodies e l =
       let first : AreKept next mixers =
-      subst (λ t. AreKept t mixers) (sym e) (kept-steps core mixers (steps_given conn given) h (given-are conn given bodies) (λ sink. given-spare sink conn given)) in
-      subst (λ t. AreKept t mixers) (sym l) (kept-steps next mixers (sweep ∷ []) first (tt, tt) (λ sink. (tt, tt)))
+      subst (λ t. AreKept t mixers) (sym e) (kept-steps core mixers (steps_given conn given) h (given-are conn given bodies) (given-take conn given) (λ sink. given-spare sink conn given)) in
+      subst (λ t. AreKept t mixers) (sym l) (kept-steps next mixers (sweep ∷ []) first (tt, tt) (tt, tt) (λ sink. (tt, tt)))

@@ -12,22 +12,25 @@ use Rattle.px_msg.specs.View.{message_of}
 use Rattle.px_model.specs.Message.{Message}
 use Rattle.px_model.specs.Orderly.{IsOrderly, inputs_left_by}
 use Rattle.px_model.specs.Sink.{Sink, IsSink, specs_of}
-use Rattle.px_model.specs.Stream.{Stream}
-use Rattle.px_model.specs.Turn.{AreFor, BringsStream, turned, stopped_turn, turn_notices, stopped_notices}
+use Rattle.px_model.specs.Stream.{Stream, IsStream}
+use Rattle.px_model.specs.Turn.{AreFor, BringsStream, turn_notices, stopped_notices}
 use Rattle.px_model.proofs.Rounds as rounds
 use Rattle.px_model.proofs.Shown as shown
 use Rattle.px_stream.specs.Samples.{samples}
 use Rattle.px_core.specs.State.{State}
 use Rattle.px_core.specs.Orderly.{inputs_there}
 use Rattle.px_core.specs.Out.{waiting_for}
-use Rattle.px_core.specs.Keeps.{IsKept, IsPosted, IsStep, Spares}
+use Rattle.px_core.specs.Keeps.{IsKept, IsStep, Spares}
+use Rattle.px_core.specs.Parcels.{Carries, Takes, AllCarry}
 use Rattle.px_core.specs.Hearing.{told_by}
 use Rattle.px_core.specs.Step.{Step, sweep, out, stepped_by}
 use Rattle.px_core.proofs.HearingLaws.{Heard, heard_by, told_joined, untold, outs_take, steps_sinks}
+use Rattle.px_core.proofs.ParcelLaws.{steps_carry, told_carry}
 use Rattle.px_core.proofs.StepLaws.{steps_keep}
 use Rattle.px_world.specs.World.{Mixer}
 use Rattle.px_world.specs.Event.{is_to_stop, mixer_stopped, mixer_played, mixer_turned}
-use Rattle.px_world.specs.Keeping.{IsMixerOf, AreKept}
+use Rattle.px_world.specs.Keeping.{GivesStream, IsMixerOf, AreKept}
+use Rattle.px_world.proofs.Giving.{join_gives, turn_gives, stop_gives}
 use Rattle.px_world.proofs.Histories.{get-set_same, get-set_other}
 
 abbrev view : Msg Stream → Message Stream
@@ -47,12 +50,13 @@ same_sinks : (core : State Stream) (steps : List (Step Stream)) (index : ℕ) (s
 same_sinks core steps index s there = sym (ap (λ sinks. slice_get sinks index) (steps_sinks Stream.spec core steps)) ∙ there
 
 same_mixer : (core after : State Stream) (index : ℕ) (s : SinkSpec) (m : Mixer) → inputs_there after (sink_id index) ≡ inputs_there core (sink_id index) → IsMixerOf core index s m → IsMixerOf after index s m
-same_mixer core after index s m e h = record { spec = h.spec; kept = h.kept; inputs = h.inputs ∙ sym e }
+same_mixer core after index s m e h = record { spec = h.spec; kept = h.kept; inputs = h.inputs ∙ sym e; gives = h.gives }
 
-pub kept-steps : (core : State Stream) (mixers : List Mixer) (steps : List (Step Stream)) → AreKept core mixers → AllByRecursion IsStep steps → ((sink : SinkId) → AllByRecursion (Spares sink) steps)
+pub kept-steps : (core : State Stream) (mixers : List Mixer) (steps : List (Step Stream)) → AreKept core mixers → AllByRecursion IsStep steps → AllByRecursion (Takes IsStream) steps → ((sink : SinkId) → AllByRecursion (Spares sink) steps)
     → AreKept (stepped_by Stream.spec core steps) mixers
-kept-steps core mixers steps h is spares = record {
+kept-steps core mixers steps h is takes spares = record {
   core_kept = steps_keep Stream.spec core steps is h.core_kept;
+  carried = steps_carry IsStream Stream.spec steps core is takes h.core_kept h.carried;
   count = h.count ∙ sym (ap length (steps_sinks Stream.spec core steps));
   each = λ index s m there mixer.
       let at = same_sinks core steps index s there in
@@ -61,9 +65,9 @@ kept-steps core mixers steps h is spares = record {
 
 -- ---- the messages of a turn
 
-brings_stream : (m : Msg Stream) → IsPosted m → BringsStream (view m)
+brings_stream : (m : Msg Stream) → Carries IsStream m → BringsStream (view m)
 brings_stream (New n) h = tt
-brings_stream (Attach input parcel feed factors) h = absurd h
+brings_stream (Attach input parcel feed factors) h = h.0
 brings_stream (Detach input) h = tt
 brings_stream (Write input seek offset frames bytes) h = tt
 brings_stream (Cork input on) h = tt
@@ -75,7 +79,7 @@ brings_stream (Attr input attr) h = tt
 brings_stream (Factors each) h = tt
 brings_stream (Query input tag) h = tt
 
-all_bring : (ms : List (Msg Stream)) → AllByRecursion IsPosted ms → AllByRecursion BringsStream (map view ms)
+all_bring : (ms : List (Msg Stream)) → AllByRecursion (Carries IsStream) ms → AllByRecursion BringsStream (map view ms)
 all_bring [] h = tt
 all_bring (m ∷ ms) h = (brings_stream m h.0, all_bring ms h.1)
 
@@ -85,6 +89,16 @@ outs_of n sink = replicate n (out sink)
 outs_are : (n : ℕ) (sink : SinkId) → AllByRecursion IsStep (outs_of n sink)
 outs_are zero sink = tt
 outs_are (suc n) sink = (tt, outs_are n sink)
+
+outs_take_none : (n : ℕ) (sink : SinkId) → AllByRecursion (Takes IsStream) (outs_of n sink)
+outs_take_none zero sink = tt
+outs_take_none (suc n) sink = (tt, outs_take_none n sink)
+
+-- the parcels among them
+carried_outs : (core : State Stream) (k n : ℕ) → IsKept Stream.spec core → AllCarry IsStream core → AllByRecursion (Carries IsStream) (take n (waiting_for core (sink_id k)))
+carried_outs core k n kept carried =
+    subst (AllByRecursion (Carries IsStream)) (outs_take Stream.spec (sink_id k) n core kept)
+    (told_carry IsStream Stream.spec (sink_id k) (outs_of n (sink_id k)) core (outs_are n (sink_id k)) (outs_take_none n (sink_id k)) kept carried)
 
 heard_outs : (core : State Stream) (k : ℕ) (s : SinkSpec) (n : ℕ) → IsKept Stream.spec core → slice_get core.sinks k ≡ Some s
     → Heard Stream.spec s (inputs_there core (sink_id k)) (inputs_there (stepped_by Stream.spec core (replicate n (out (sink_id k)))) (sink_id k)) (take n (waiting_for core (sink_id k)))
@@ -101,7 +115,7 @@ turn-messages core mixers k s m n h there mixer =
     record {
       orderly = subst (λ inputs. IsOrderly Stream.spec m.sink.spec inputs (map view (take n (waiting_for core (sink_id k))))) (sym it.inputs)
           (subst (λ spec. IsOrderly Stream.spec spec (inputs_there core (sink_id k)) (map view (take n (waiting_for core (sink_id k))))) (sym it.spec) heard.orderly);
-      parcels = all_bring (take n (waiting_for core (sink_id k))) heard.each;
+      parcels = all_bring (take n (waiting_for core (sink_id k))) (carried_outs core k n h.core_kept h.carried);
     }
 
 -- ---- a turn
@@ -112,6 +126,10 @@ turn_steps n k = replicate n (out (sink_id k)) ++ sweep ∷ []
 steps_are : (n k : ℕ) → AllByRecursion IsStep (turn_steps n k)
 steps_are zero k = (tt, tt)
 steps_are (suc n) k = (tt, steps_are n k)
+
+steps_take_none : (n k : ℕ) → AllByRecursion (Takes IsStream) (turn_steps n k)
+steps_take_none zero k = (tt, tt)
+steps_take_none (suc n) k = (tt, steps_take_none n k)
 
 spare_others : (n k : ℕ) (sink : SinkId) → (k ≡ sink.0 → ⊥) → AllByRecursion (Spares sink) (turn_steps n k)
 spare_others zero k sink apart = (tt, tt)
@@ -134,8 +152,18 @@ turned_is core after k s m frames messages h are few left =
     (mixer_stopped m messages)
     (mixer_played m frames messages)
     (IsMixerOf after k s)
-    (λ e. record { spec = h.spec; kept = rounds.stop_keeps m.sink h.kept messages are; inputs = sym (shown.stop_leaves m.sink messages) ∙ sym left })
-    (λ e. record { spec = h.spec; kept = rounds.turn_keeps samples m.sink h.kept frames few messages are; inputs = sym (shown.turn_leaves samples m.sink frames messages) ∙ sym left })
+    (λ e. record {
+      spec = h.spec;
+      kept = rounds.stop_keeps m.sink h.kept messages are;
+      inputs = sym (shown.stop_leaves m.sink messages) ∙ sym left;
+      gives = join_gives m.notices (stopped_notices m.sink messages) h.gives (stop_gives m.sink h.kept messages are);
+    })
+    (λ e. record {
+      spec = h.spec;
+      kept = rounds.turn_keeps samples m.sink h.kept frames few messages are;
+      inputs = sym (shown.turn_leaves samples m.sink frames messages) ∙ sym left;
+      gives = join_gives m.notices (turn_notices samples m.sink frames messages) h.gives (turn_gives samples m.sink h.kept frames messages are);
+    })
 
 same_or_not : (i k : ℕ) → (i ≡ k) ⊎ (i ≡ k → ⊥)
 same_or_not zero zero = inl refl
@@ -167,6 +195,7 @@ module _ (core : State Stream) (mixers : List Mixer) (k : ℕ) (s : SinkSpec) (m
   turn_kept : AreKept (stepped_by Stream.spec core (turn_steps n k)) (set mixers k next)
   turn_kept = record {
     core_kept = steps_keep Stream.spec core (turn_steps n k) (steps_are n k) h.core_kept;
+    carried = steps_carry IsStream Stream.spec (turn_steps n k) core (steps_are n k) (steps_take_none n k) h.core_kept h.carried;
     count = length-set mixers k next ∙ (h.count ∙ sym (ap length (steps_sinks Stream.spec core (turn_steps n k))));
     each = λ index t x spec at. each_is index t x spec at (same_or_not k index);
   }
@@ -182,24 +211,27 @@ kept-turn core mixers k s m frames n h there mixer few =
 
 -- ---- a mixer whose notices or device alone change
 
-module _ (core : State Stream) (mixers : List Mixer) (k : ℕ) (m next : Mixer) (h : AreKept core mixers) (mixer : slice_get mixers k ≡ Some m) (same : next.sink ≡ m.sink) where
-  sunk : (index : ℕ) (s : SinkSpec) (x y : Mixer) → y.sink ≡ x.sink → IsMixerOf core index s x → IsMixerOf core index s y
-  sunk index s x y e g = record {
+module _ (core : State Stream) (mixers : List Mixer) (k : ℕ) (m next : Mixer) (h : AreKept core mixers) (mixer : slice_get mixers k ≡ Some m) (same : next.sink ≡ m.sink) (gives : AllByRecursion GivesStream m.notices → AllByRecursion GivesStream next.notices) where
+  sunk : (index : ℕ) (s : SinkSpec) (x y : Mixer) → y.sink ≡ x.sink → AllByRecursion GivesStream y.notices → IsMixerOf core index s x → IsMixerOf core index s y
+  sunk index s x y e given g = record {
     spec = ap Sink.spec e ∙ g.spec;
     kept = subst IsSink (sym e) g.kept;
     inputs = ap (λ sink. specs_of (Sink.inputs sink)) e ∙ g.inputs;
+    gives = given;
   }
 
   noted : (index : ℕ) (s : SinkSpec) (x : Mixer) → slice_get core.sinks index ≡ Some s → slice_get (set mixers k next) index ≡ Some x → (k ≡ index) ⊎ (k ≡ index → ⊥) → IsMixerOf core index s x
   noted index s x there at (inl e) =
       let both : ◌≡◌ {A = Option Mixer} (Some next) (Some x) = sym (get-set_same mixers k m next mixer) ∙ (ap (λ i. slice_get (set mixers k next) i) e ∙ at) in
       let is : next ≡ x = cc in
-      sunk index s m x (sym (ap Mixer.sink is) ∙ same) (h.each index s m there (sym (ap (λ i. slice_get mixers i) e) ∙ mixer))
+      let was = h.each index s m there (sym (ap (λ i. slice_get mixers i) e) ∙ mixer) in
+      sunk index s m x (sym (ap Mixer.sink is) ∙ same) (subst (λ (y : Mixer). AllByRecursion GivesStream y.notices) is (gives was.gives)) was
   noted index s x there at (inr apart) = h.each index s x there (sym (get-set_other mixers k index next apart) ∙ at)
 
   pub kept-notices : AreKept core (set mixers k next)
   kept-notices = record {
     core_kept = h.core_kept;
+    carried = h.carried;
     count = length-set mixers k next ∙ h.count;
     each = λ index s x there at. noted index s x there at (same_or_not k index);
   }

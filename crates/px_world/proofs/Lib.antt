@@ -7,6 +7,7 @@ pub mod Links
 pub mod Openings
 pub mod Standing
 pub mod Computed
+pub mod Giving
 pub mod Kept
 pub mod Played
 pub mod Shapes

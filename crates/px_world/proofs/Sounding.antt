@@ -1,5 +1,5 @@
 -- What the events of a sink do, from what their parts do.
-use Rattle.std.proofs.Common.{◌≡◌, ◌<◌, ◌≤◌, ◌-◌, ℕ, zero, suc, true, false, cond, List, [], ◌∷◌, ◌++◌, map, take, length, set, get_or, Option, None, Some, refl, ap, sym, subst, ◌∙◌, arith, ⊎_elim}
+use Rattle.std.proofs.Common.{◌≡◌, ◌<◌, ◌≤◌, ◌-◌, ℕ, zero, suc, true, false, cond, List, [], ◌∷◌, ◌++◌, map, take, drop, length, set, get_or, Option, None, Some, refl, ap, sym, subst, ◌∙◌, arith, ⊎_elim}
 use Rattle.std.specs.Prelude.{nat_lt, option_map, replicate}
 use Rattle.std.specs.List.{slice_get, concat, AllByRecursion}
 use Rattle.std.proofs.lemmas.Bool.{cases_Bool, cond-true, cond-false, lt-ltb, le-ltb, ltb-false}
@@ -7,7 +7,7 @@ use Rattle.std.proofs.lemmas.List.{length-map, map-set}
 use Rattle.std.proofs.lemmas.Option.{none-some, same_Some, slice_get-map, slice_get-get_or, slice_get_past}
 use Rattle.px_types.specs.declared.ids.SinkId.{SinkId}
 use Rattle.px_session.specs.declared.event.Event.TheVariants.{Turn, Collect}
-use Rattle.px_model.specs.Stream.{Stream}
+use Rattle.px_model.specs.Stream.{Stream, IsStream}
 use Rattle.px_model.specs.Notice.{Notice}
 use Rattle.px_model.specs.Turn.{AreFor}
 use Rattle.px_model.specs.Sink.{IsSink}
@@ -15,6 +15,7 @@ use Rattle.px_msg.specs.View.{message_of, notice_for}
 use Rattle.px_core.specs.State.{State}
 use Rattle.px_core.specs.Out.{waiting_for}
 use Rattle.px_core.specs.Keeps.{IsStep, Spares}
+use Rattle.px_core.specs.Parcels.{Takes}
 use Rattle.px_core.specs.Step.{notice, out, sweep, stepped_by, effects_by}
 use Rattle.px_world.specs.declared.fault.WorldFault.{WorldFault}
 use Rattle.px_world.specs.declared.fault.WorldFault.TheVariants.{Live, NotLive, NoSink, Worn, TooMany, NoMemory}
@@ -23,7 +24,8 @@ use Rattle.px_world.specs.World.{World, Mixer}
 use Rattle.px_world.specs.Admission.{LAST_FILLED, too_many, or_else, refusal_of, turn_refusal, collect_refusal}
 use Rattle.px_world.specs.Event.{notices_of, change_at, mixer_turned, mixer_collected, played_of}
 use Rattle.px_world.specs.Doing.{Unless, Plays}
-use Rattle.px_world.specs.Keeping.{AreKept}
+use Rattle.px_world.specs.Keeping.{GivesStream, AreKept}
+use Rattle.px_world.proofs.Giving.{take_gives, drop_gives}
 use Rattle.px_world.proofs.Kept.{kept-steps, kept-turn, kept-notices, turn-messages}
 
 -- ---- a mixer among the others, each seen as one of the definitions
@@ -189,6 +191,10 @@ notices-are : (sink : SinkId) (ns : List (Notice Stream)) → AllByRecursion IsS
 notices-are sink [] = (tt, tt)
 notices-are sink (n ∷ ns) = (tt, notices-are sink ns)
 
+notices-take : (sink : SinkId) (ns : List (Notice Stream)) → AllByRecursion GivesStream ns → AllByRecursion (Takes IsStream) (map (λ (n : Notice Stream). notice sink (notice_for n)) ns ++ sweep ∷ [])
+notices-take sink [] h = (tt, tt)
+notices-take sink (n ∷ ns) h = (h.0, notices-take sink ns h.1)
+
 notices-spare : (other sink : SinkId) (ns : List (Notice Stream)) → AllByRecursion (Spares other) (map (λ (n : Notice Stream). notice sink (notice_for n)) ns ++ sweep ∷ [])
 notices-spare other sink [] = (tt, tt)
 notices-spare other sink (n ∷ ns) = (tt, notices-spare other sink ns)
@@ -210,14 +216,21 @@ module _ {X : Type 0} (v : X → Mixer) (xs : List X) (k : ℕ) (d : X) (within 
       let sinks = sink-there core.sinks k (omega (arith, within, h.count, length-map xs v)) in
       turn-messages core (map v xs) k sinks.0 (v (get_or xs k d)) count h sinks.1 (seen-at v xs k d within)
 
-  pub collected-kept : (after : State Stream) (sink : SinkId) (ns : List (Notice Stream)) (next : X) → (v next).sink ≡ (v (get_or xs k d)).sink
-      → after ≡ stepped_by Stream.spec core (map (λ (n : Notice Stream). notice sink (notice_for n)) ns ++ sweep ∷ []) → AreKept after (map v (set xs k next))
-  collected-kept after sink ns next same e =
+  given-up : AllByRecursion GivesStream (v (get_or xs k d)).notices
+  given-up =
+      let sinks = sink-there core.sinks k (omega (arith, within, h.count, length-map xs v)) in
+      (h.each k sinks.0 (v (get_or xs k d)) sinks.1 (seen-at v xs k d within)).gives
+
+  pub collected-kept : (after : State Stream) (sink : SinkId) (count : ℕ) (next : X) → (v next).sink ≡ (v (get_or xs k d)).sink → (v next).notices ≡ drop count (v (get_or xs k d)).notices
+      → after ≡ stepped_by Stream.spec core (map (λ (n : Notice Stream). notice sink (notice_for n)) (take count (v (get_or xs k d)).notices) ++ sweep ∷ []) → AreKept after (map v (set xs k next))
+  collected-kept after sink count next same left e =
+      let ns : List (Notice Stream) = take count (v (get_or xs k d)).notices in
       let steps : AreKept after (map v xs) =
       subst (λ t. AreKept t (map v xs)) (sym e)
-      (kept-steps core (map v xs) (map (λ (n : Notice Stream). notice sink (notice_for n)) ns ++ sweep ∷ []) h (notices-are sink ns) (λ other. notices-spare other sink ns)) in
+      (kept-steps core (map v xs) (map (λ (n : Notice Stream). notice sink (notice_for n)) ns ++ sweep ∷ []) h (notices-are sink ns) (notices-take sink ns (take_gives count (v (get_or xs k d)).notices given-up)) (λ other. notices-spare other sink ns)) in
       subst (AreKept after) (sym (map-set v xs k next))
-      (kept-notices after (map v xs) k (v (get_or xs k d)) (v next) steps (seen-at v xs k d within) same)
+      (kept-notices after (map v xs) k (v (get_or xs k d)) (v next) steps (seen-at v xs k d within) same
+      (λ given. subst (AllByRecursion GivesStream) (sym left) (drop_gives count (v (get_or xs k d)).notices given)))
 
   pub turned-kept : (after : State Stream) (frames count : ℕ) (next : X) → frames ≤ (v (get_or xs k d)).sink.filled - (v (get_or xs k d)).sink.consumed
       → v next ≡ mixer_turned (v (get_or xs k d)) frames (map (message_of (λ p. p)) (take count (waiting_for core (record { 0 = k }))))

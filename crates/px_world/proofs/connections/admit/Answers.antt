@@ -13,4 +13,4 @@ returns-clause-done c = λ w opened. record {
 }
 
 pub returns-clause-kept : goal.returns-clause-kept
-returns-clause-kept c = λ mixers h. kept-one c.args.core.now.state _ _ mixers h (connect c.args.conn) tt (λ sink. tt) c.in_ok-first.ensures.after c.in_ok-effects.ensures.core
+returns-clause-kept c = λ mixers h. kept-one c.args.core.now.state _ _ mixers h (connect c.args.conn) tt tt (λ sink. tt) c.in_ok-first.ensures.after c.in_ok-effects.ensures.core

@@ -14,4 +14,4 @@ returns-clause-done c = λ doors place w found opened. record {
 }
 
 pub returns-clause-kept : goal.returns-clause-kept
-returns-clause-kept c = λ mixers h. kept-one c.args.core.now.state _ _ mixers h (cut c.args.conn) tt (λ sink. tt) c.cut-effect.ensures.after c.in_ok-effects.ensures.core
+returns-clause-kept c = λ mixers h. kept-one c.args.core.now.state _ _ mixers h (cut c.args.conn) tt tt (λ sink. tt) c.cut-effect.ensures.after c.in_ok-effects.ensures.core

@@ -17,4 +17,4 @@ returns-clause-done c = λ w opened distinct. record {
 }
 
 pub returns-clause-kept : goal.returns-clause-kept
-returns-clause-kept c = λ mixers h. kept-one c.args.core.now.state _ _ mixers h (close c.args.conn) tt (λ sink. tt) c.close.ensures c.in_ok-effects.ensures.core
+returns-clause-kept c = λ mixers h. kept-one c.args.core.now.state _ _ mixers h (close c.args.conn) tt tt (λ sink. tt) c.close.ensures c.in_ok-effects.ensures.core

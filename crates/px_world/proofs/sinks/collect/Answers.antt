@@ -1,4 +1,4 @@
-use Rattle.std.proofs.Common.{◌<◌, ◌≤◌, List, length, get_or, take, refl, ap, subst, arith}
+use Rattle.std.proofs.Common.{◌<◌, ◌≤◌, List, length, get_or, refl, ap, subst, arith}
 use Rattle.px_model.specs.Stream.{Stream}
 use Rattle.px_model.specs.Notice.{Notice}
 use Rattle.px_world.specs.declared.playing.Playing.{Playing}
@@ -25,4 +25,4 @@ pub returns-clause-kept : goal.returns-clause-kept
 returns-clause-kept c =
     let within : c.args.sink < length c.args.mixers.now = omega (arith, c.if-mixers-place.false) in
     collected-kept mixer_of c.args.mixers.now c.args.sink c.index-mixers-place-2.result within c.args.core.now.state c.requires.kept c.collect_from.new.core.state (record { 0 = c.args.sink })
-    (take c.args.count (get_or c.args.mixers.now c.args.sink c.index-mixers-place-2.result).notices.notices) _ refl c.in_ok-effects.ensures.core
+    c.args.count _ refl c.in_ok-effects.ensures.notices c.in_ok-effects.ensures.core

@@ -1,0 +1,240 @@
+-- No parcel waits for a sink but those that notices gave up.
+use Rattle.std.proofs.Common.{ℕ, zero, suc, List, [], ◌∷◌, ◌++◌, Option, Some, None, inl, inr, refl}
+use Rattle.std.specs.Prelude.{set, get_or, replicate, length, flat_map, nat_eq, IfSome}
+use Rattle.std.specs.List.{AllByRecursion}
+use Rattle.std.specs.Option.{option_to_list}
+use Rattle.std.proofs.lemmas.Bool.{cond_both}
+use Rattle.px_types.specs.declared.ids.ConnId.{ConnId}
+use Rattle.px_types.specs.declared.ids.SinkId.{SinkId}
+use Rattle.px_session.specs.declared.header.Header.{Header}
+use Rattle.px_session.specs.declared.header.SinkSpec.{SinkSpec}
+use Rattle.px_session.specs.HeaderRules.{IsHeader}
+use Rattle.px_model.specs.Frame.{SampleSpec}
+use Rattle.px_msg.specs.declared.message.Msg.{Msg}
+use Rattle.px_msg.specs.declared.message.Msg.TheVariants.{New, Attach, Detach, Write, Cork, Flush, Trigger, Prebuf, Drain, Attr, Factors, Query}
+use Rattle.px_plan.specs.declared.change.Change.TheVariants.{Authed, Named, Masked, Defaulted, Made, Leaves, Said, Regrouped, Asked, Answered, Gone, Ended, Forgotten}
+use Rattle.px_plan.specs.declared.input.Connection.{Connection}
+use Rattle.px_plan.specs.declared.input.Input.{Input}
+use Rattle.px_plan.specs.declared.input.Standing.{Standing}
+use Rattle.px_plan.specs.declared.input.Standing.TheVariants.{Settled, Moving, Leaving}
+use Rattle.px_core.specs.State.{State, new_state, connection_of, input_of}
+use Rattle.px_core.specs.Change.{Change, posting, ending, ending_of, saying, saying_of, changed, committed}
+use Rattle.px_core.specs.Lawful.{Brings, Suits, AreFor, Lawful, AreLawful}
+use Rattle.px_core.specs.Reply.{Answer}
+use Rattle.px_core.specs.Connecting.{is_full, joined, connected}
+use Rattle.px_core.specs.Out.{first_of, rest_of, waiting_for, next_for, past, handed_out}
+use Rattle.px_core.specs.Keeps.{IsKept, IsStep}
+use Rattle.px_core.specs.Parcels.{given_in, Carries, Takes, AllCarry, IsAmong}
+use Rattle.px_core.specs.Hearing.{told_in, told_by}
+use Rattle.px_core.specs.Step.{Step, connect, frame, broken, close, cut, sweep, notice, out, answer_of, stepped, stepped_by}
+use Rattle.px_core.proofs.ListLaws.{all_push}
+use Rattle.px_core.proofs.HandingLaws.{sink_there}
+use Rattle.px_core.proofs.StepLaws.{answer_lawful, step_keeps, new_keeps}
+
+-- ---- lists
+
+all_set : {A : Type 0} (Q : A → Type 0) (xs : List A) (i : ℕ) (y : A) → AllByRecursion Q xs → Q y → AllByRecursion Q (set xs i y)
+all_set Q [] i y h k = tt
+all_set Q (x ∷ xs) zero y h k = (k, h.1)
+all_set Q (x ∷ xs) (suc i) y h k = (h.0, all_set Q xs i y h.1 k)
+
+all_get : {A : Type 0} (Q : A → Type 0) (xs : List A) (i : ℕ) (d : A) → AllByRecursion Q xs → Q d → Q (get_or xs i d)
+all_get Q [] i d h k = k
+all_get Q (x ∷ xs) zero d h k = h.0
+all_get Q (x ∷ xs) (suc i) d h k = all_get Q xs i d h.1 k
+
+all_rest : {A : Type 0} (Q : A → Type 0) (xs : List A) → AllByRecursion Q xs → AllByRecursion Q (rest_of xs)
+all_rest Q [] h = tt
+all_rest Q (x ∷ xs) h = h.1
+
+all_first : {A : Type 0} (Q : A → Type 0) (xs : List A) → AllByRecursion Q xs → AllByRecursion Q (option_to_list (first_of xs))
+all_first Q [] h = tt
+all_first Q (x ∷ xs) h = (h.0, tt)
+
+all_join : {A : Type 0} (Q : A → Type 0) (xs ys : List A) → AllByRecursion Q xs → AllByRecursion Q ys → AllByRecursion Q (xs ++ ys)
+all_join Q [] ys h k = k
+all_join Q (x ∷ xs) ys h k = (h.0, all_join Q xs ys h.1 k)
+
+module _ {P : Type 0} (whole : P → Type 0) where
+  -- ---- messages of lawful changes
+
+  brings_none : (x : Input) (s : SinkSpec) (m : Msg P) → Brings x s m → Carries whole m
+  brings_none x s (New n) b = tt
+  brings_none x s (Attach input parcel feed factors) b = absurd b
+  brings_none x s (Detach input) b = tt
+  brings_none x s (Write input seek offset frames bytes) b = tt
+  brings_none x s (Cork input on) b = tt
+  brings_none x s (Flush input) b = tt
+  brings_none x s (Trigger input) b = tt
+  brings_none x s (Prebuf input) b = tt
+  brings_none x s (Drain input tag) b = tt
+  brings_none x s (Attr input attr) b = tt
+  brings_none x s (Factors each) b = tt
+  brings_none x s (Query input tag) b = tt
+
+  suits_none : (x : Input) (m : Msg P) → Suits x m → Carries whole m
+  suits_none x (New n) b = tt
+  suits_none x (Attach input parcel feed factors) b = absurd b
+  suits_none x (Detach input) b = tt
+  suits_none x (Write input seek offset frames bytes) b = tt
+  suits_none x (Cork input on) b = tt
+  suits_none x (Flush input) b = tt
+  suits_none x (Trigger input) b = tt
+  suits_none x (Prebuf input) b = tt
+  suits_none x (Drain input tag) b = tt
+  suits_none x (Attr input attr) b = tt
+  suits_none x (Factors each) b = tt
+  suits_none x (Query input tag) b = tt
+
+  factors_none : (s : SinkSpec) (m : Msg P) → AreFor s m → Carries whole m
+  factors_none s (New n) b = tt
+  factors_none s (Attach input parcel feed factors) b = absurd b
+  factors_none s (Detach input) b = tt
+  factors_none s (Write input seek offset frames bytes) b = tt
+  factors_none s (Cork input on) b = tt
+  factors_none s (Flush input) b = tt
+  factors_none s (Trigger input) b = tt
+  factors_none s (Prebuf input) b = tt
+  factors_none s (Drain input tag) b = tt
+  factors_none s (Attr input attr) b = tt
+  factors_none s (Factors each) b = tt
+  factors_none s (Query input tag) b = tt
+
+  -- ---- changes
+
+  posting_carries : (sink : ℕ) (m : Msg P) (state : State P) → Carries whole m → AllCarry whole state → AllCarry whole (posting sink m state)
+  posting_carries sink m state c h =
+      all_set (AllByRecursion (Carries whole)) state.posted sink (get_or state.posted sink [] ++ m ∷ []) h
+      (all_push (Carries whole) (get_or state.posted sink []) m (all_get (AllByRecursion (Carries whole)) state.posted sink [] h tt) c)
+
+  ending_carries : (o : Option Input) (state : State P) → AllCarry whole state → AllCarry whole (ending_of o state)
+  ending_carries None state h = h
+  ending_carries (Some x) state h = by x.standing
+    where
+      by : (standing : Standing) → AllCarry whole (ending standing x state)
+      by Settled = posting_carries x.sink.0 (Detach x.index) state tt h
+      by (Moving to) = h
+      by Leaving = h
+
+  saying_carries : (o : Option Input) (m : Msg P) (state : State P) → IfSome o (λ x. Suits x m) → AllCarry whole state → AllCarry whole (saying_of o m state)
+  saying_carries None m state suits h = h
+  saying_carries (Some x) m state suits h = by x.standing
+    where
+      by : (standing : Standing) → AllCarry whole (saying standing x m state)
+      by Settled = posting_carries x.sink.0 m state (suits_none x m suits) h
+      by (Moving to) = h
+      by Leaving = h
+
+  change_carries : (state : State P) (c : Change P) → Lawful state c → AllCarry whole state → AllCarry whole (changed state c)
+  change_carries state (Authed conn version) lawful h = h
+  change_carries state (Named conn list) lawful h = h
+  change_carries state (Masked conn mask) lawful h = h
+  change_carries state (Defaulted sink) lawful h = h
+  change_carries state (Made x m streams inputs) lawful h =
+      let own = sink_there state.sinks x.sink.0 lawful.0.is.sink_there in
+      posting_carries x.sink.0 m state (brings_none x own.0 m (lawful.0.brings own.0 own.1)) h
+  change_carries state (Leaves index) lawful h = ending_carries (input_of state.inputs index) state h
+  change_carries state (Said index m) lawful h = saying_carries (input_of state.inputs index) m state lawful h
+  change_carries state (Regrouped sink group m) lawful h =
+      let own = sink_there state.sinks sink.0 lawful.there in
+      posting_carries sink.0 m state (factors_none own.0 m (lawful.factors own.0 own.1)) h
+  change_carries state (Asked w) lawful h = h
+  change_carries state (Answered w) lawful h = h
+  change_carries state (Gone index) lawful h = h
+  change_carries state (Ended conn reason fault at) lawful h = h
+  change_carries state (Forgotten conn) lawful h = h
+
+  changes_carry : (changes : List (Change P)) (state : State P) → AreLawful state changes → AllCarry whole state → AllCarry whole (committed state changes)
+  changes_carry [] state lawful h = h
+  changes_carry (c ∷ changes) state lawful h = changes_carry changes (changed state c) lawful.1 (change_carries state c lawful.0 h)
+
+  -- ---- steps
+
+  connected_carries : (o : Option Connection) (conn : ConnId) (state : State P) → AllCarry whole state → AllCarry whole (connected o conn state)
+  connected_carries (Some c) conn state h = h
+  connected_carries None conn state h = cond_both (is_full state) state (joined conn state) (AllCarry whole) (λ e. h) (λ e. h)
+
+  out_carries : (sink : SinkId) (state : State P) → AllCarry whole state → AllCarry whole (handed_out sink state)
+  out_carries sink state h = by (next_for state sink)
+    where
+      by : (o : Option (Msg P)) → AllCarry whole (past o sink state)
+      by None = h
+      by (Some m) =
+          all_set (AllByRecursion (Carries whole)) state.posted sink.0 (rest_of (waiting_for state sink)) h
+          (all_rest (Carries whole) (waiting_for state sink) (all_get (AllByRecursion (Carries whole)) state.posted sink.0 [] h tt))
+
+  answer_carries : (spec_of : P → SampleSpec) (state : State P) (s : Step P) → IsStep s → IsKept spec_of state → AllCarry whole state → AllCarry whole (committed state (Answer.changes (answer_of spec_of state s)))
+  answer_carries spec_of state s is kept h = changes_carry (Answer.changes (answer_of spec_of state s)) state (answer_lawful spec_of state s is kept) h
+
+  pub step_carries : (spec_of : P → SampleSpec) (state : State P) (s : Step P) → IsStep s → Takes whole s → IsKept spec_of state → AllCarry whole state → AllCarry whole (stepped spec_of state s)
+  step_carries spec_of state (connect conn) is takes kept h = connected_carries (connection_of state.connections conn) conn state h
+  step_carries spec_of state (frame conn f) is takes kept h = answer_carries spec_of state (frame conn f) is kept h
+  step_carries spec_of state (broken conn fault at) is takes kept h = answer_carries spec_of state (broken conn fault at) is kept h
+  step_carries spec_of state (close conn) is takes kept h = answer_carries spec_of state (close conn) is kept h
+  step_carries spec_of state (cut conn) is takes kept h = answer_carries spec_of state (cut conn) is kept h
+  step_carries spec_of state sweep is takes kept h = answer_carries spec_of state sweep is kept h
+  step_carries spec_of state (notice sink n) is takes kept h = answer_carries spec_of state (notice sink n) is kept h
+  step_carries spec_of state (out sink) is takes kept h = out_carries sink state h
+
+  pub steps_carry : (spec_of : P → SampleSpec) (steps : List (Step P)) (state : State P) → AllByRecursion IsStep steps → AllByRecursion (Takes whole) steps → IsKept spec_of state → AllCarry whole state → AllCarry whole (stepped_by spec_of state steps)
+  steps_carry spec_of [] state is takes kept h = h
+  steps_carry spec_of (s ∷ steps) state is takes kept h =
+      steps_carry spec_of steps (stepped spec_of state s) is.1 takes.1 (step_keeps spec_of state s is.0 kept) (step_carries spec_of state s is.0 takes.0 kept h)
+
+  -- ---- what is handed out
+
+  told_one : (sink : SinkId) (state : State P) (s : Step P) → AllCarry whole state → AllByRecursion (Carries whole) (told_in sink state s)
+  told_one sink state (connect conn) h = tt
+  told_one sink state (frame conn f) h = tt
+  told_one sink state (broken conn fault at) h = tt
+  told_one sink state (close conn) h = tt
+  told_one sink state (cut conn) h = tt
+  told_one sink state sweep h = tt
+  told_one sink state (notice from n) h = tt
+  told_one sink state (out to) h =
+      cond_both (nat_eq to.0 sink.0) (option_to_list (next_for state to)) [] (AllByRecursion (Carries whole))
+      (λ e. all_first (Carries whole) (waiting_for state to) (all_get (AllByRecursion (Carries whole)) state.posted to.0 [] h tt))
+      (λ e. tt)
+
+  pub told_carry : (spec_of : P → SampleSpec) (sink : SinkId) (steps : List (Step P)) (state : State P) → AllByRecursion IsStep steps → AllByRecursion (Takes whole) steps → IsKept spec_of state → AllCarry whole state → AllByRecursion (Carries whole) (told_by spec_of sink state steps)
+  told_carry spec_of sink [] state is takes kept h = tt
+  told_carry spec_of sink (s ∷ steps) state is takes kept h =
+      all_join (Carries whole) (told_in sink state s) (told_by spec_of sink (stepped spec_of state s) steps) (told_one sink state s h)
+      (told_carry spec_of sink steps (stepped spec_of state s) is.1 takes.1 (step_keeps spec_of state s is.0 kept) (step_carries spec_of state s is.0 takes.0 kept h))
+
+  -- ---- a new state
+
+  none_carry : (n : ℕ) → AllByRecursion (AllByRecursion (Carries whole)) (replicate n [])
+  none_carry zero = tt
+  none_carry (suc n) = (tt, none_carry n)
+
+  pub new_carry : (header : Header) → AllCarry whole (new_state header)
+  new_carry header = none_carry (length header.sinks)
+
+-- ---- those that notices gave up
+
+left_among : {P : Type 0} (xs ys : List P) (p : P) → IsAmong xs p → IsAmong (xs ++ ys) p
+left_among [] ys p i = absurd i
+left_among (x ∷ xs) ys p (inl e) = inl e
+left_among (x ∷ xs) ys p (inr i) = inr (left_among xs ys p i)
+
+right_among : {P : Type 0} (xs ys : List P) (p : P) → IsAmong ys p → IsAmong (xs ++ ys) p
+right_among [] ys p i = i
+right_among (x ∷ xs) ys p i = inr (right_among xs ys p i)
+
+each_among : {P : Type 0} (given all : List P) → ((p : P) → IsAmong given p → IsAmong all p) → AllByRecursion (IsAmong all) given
+each_among [] all k = tt
+each_among (p ∷ given) all k = (k p (inl refl), each_among given all (λ q i. k q (inr i)))
+
+steps_among : {P : Type 0} (steps : List (Step P)) (all : List P) → ((p : P) → IsAmong (flat_map given_in steps) p → IsAmong all p) → AllByRecursion (Takes (IsAmong all)) steps
+steps_among [] all k = tt
+steps_among (s ∷ steps) all k =
+    (each_among (given_in s) all (λ p i. k p (left_among (given_in s) (flat_map given_in steps) p i)), steps_among steps all (λ p i. k p (right_among (given_in s) (flat_map given_in steps) p i)))
+
+pub all_carried : {P : Type 0} (spec_of : P → SampleSpec) (header : Header) (steps : List (Step P)) → IsHeader header → AllByRecursion IsStep steps → AllCarry (IsAmong (flat_map given_in steps)) (stepped_by spec_of (new_state header) steps)
+all_carried spec_of header steps h is =
+    steps_carry (IsAmong (flat_map given_in steps)) spec_of steps (new_state header) is (steps_among steps (flat_map given_in steps) (λ p i. i)) (new_keeps spec_of header h) (new_carry (IsAmong (flat_map given_in steps)) header)
+
+pub all_told : {P : Type 0} (spec_of : P → SampleSpec) (header : Header) (steps : List (Step P)) (sink : SinkId) → IsHeader header → AllByRecursion IsStep steps → AllByRecursion (Carries (IsAmong (flat_map given_in steps))) (told_by spec_of sink (new_state header) steps)
+all_told spec_of header steps sink h is =
+    told_carry (IsAmong (flat_map given_in steps)) spec_of sink steps (new_state header) is (steps_among steps (flat_map given_in steps) (λ p i. i)) (new_keeps spec_of header h) (new_carry (IsAmong (flat_map given_in steps)) header)
