@@ -1,6 +1,7 @@
 -- The commands on sinks and their names (PulseAudio: `command_lookup`, `command_set_default_sink_or_source` and `command_get_server_info` of pulsecore/protocol-native.c).
 use Rattle.std.specs.Prelude.{ℕ, false, List, [], ◌∷◌, ◌++◌, Option, Result, Ok, Err}
 use Rattle.px_types.specs.declared.error_code.ErrorCode.{ErrorCode}
+use Rattle.px_types.specs.declared.error_code.ErrorCode.TheVariants.{NoEntity}
 use Rattle.px_types.specs.declared.ids.SinkId.{SinkId}
 use Rattle.px_tag.specs.Item.{number}
 use Rattle.px_names.specs.Names.{Naming, NO_INDEX, sink_named}
@@ -10,9 +11,10 @@ use Rattle.px_reply.specs.Info.{server_reply}
 use Rattle.px_plan.specs.declared.change.Change.TheVariants.{Defaulted}
 use Rattle.px_plan.specs.declared.refusal.Refusal.TheVariants.{Code}
 use Rattle.px_plan.specs.declared.target.Target.{Target}
+use Rattle.px_plan.specs.declared.target.Named.{Named}
 use Rattle.px_plan.specs.Plan.{Planned, replied}
-use Rattle.px_plan.specs.Row.{Row, ◌>>=◌}
-use Rattle.px_plan.specs.Target.{raw_of}
+use Rattle.px_plan.specs.Row.{Row, ◌>>=◌, present}
+use Rattle.px_plan.specs.Target.{raw_of, target_of}
 
 -- what is found, or the error that it isn't
 abbrev pub found : {A : Type 0} → Result A ErrorCode → Row A
@@ -39,6 +41,8 @@ set_default_sink names tag name = do
 abbrev pub server_of : Target → ServerInfo
 server_of sink = record { spec = raw_of sink.spec; name = sink.name; map = sink.map }
 
--- GET_SERVER_INFO
-abbrev pub server_info : {M G : Type 0} → Target → ℕ → Row (Planned M G)
-server_info sink tag = Ok (replied (server_reply tag (server_of sink)) [])
+-- GET_SERVER_INFO, where this names the default sink
+abbrev pub server_info : {M G : Type 0} → Named → ℕ → Row (Planned M G)
+server_info named tag = do
+  sink ← present (target_of named) NoEntity
+  Ok (replied (server_reply tag (server_of sink)) [])

@@ -5,11 +5,11 @@ ghost use Rattle.std.specs.Prelude.{◌≡◌, ◌≤◌, IfOk, IsTrue, length};
 ghost use Rattle.std.specs.Option.{option_map};
 ghost use Rattle.px_tag.specs.Item.{is_text};
 ghost use Rattle.px_plan.specs.Row.{Plans};
-ghost use Rattle.px_plan.specs.Target.{IsTarget};
+ghost use Rattle.px_plan.specs.Target.{IsTarget, IsNamed};
 ghost use Rattle.px_ctl_info.specs.Sinks.{found, sink_called, lookup_sink, set_default_sink, server_of, server_info};
 
 use px_names::Names;
-use px_plan::{Change, Plan, Refusal, Target, raw_of};
+use px_plan::{Change, Named, Plan, Refusal, Target, present, raw_of};
 use px_reply::ServerInfo;
 use px_tag::RawMap;
 use px_types::{ErrorCode, Mem, SinkId, Text};
@@ -77,17 +77,18 @@ fn server_of(alloc: Global, sink: &Target) -> Mem<ServerInfo>
     })
 }
 
-/// GET_SERVER_INFO of a server with this default sink.
+/// GET_SERVER_INFO, where this names the default sink. Refused: `NoEntity` where there is none.
 pub fn server_info<M: Drop, G: Drop>(
     alloc: Global,
-    sink: &Target,
+    named: Named,
     tag: u32,
     version: u16,
 ) -> Result<Plan<M, G>, Refusal>
-    requires { IsTarget sink.now }
-    ensures { Plans result (server_info sink.now tag) }
+    requires { IsNamed named }
+    ensures { Plans result (server_info named tag) }
 {
-    let info = server_of(alloc, sink)?;
+    let sink = present(named.target(), ErrorCode::NoEntity)?;
+    let info = server_of(alloc, &sink)?;
     let reply = px_reply::server_info(alloc, tag, version, &info)?;
     Ok(Plan::replied(alloc, reply, Vec::new(alloc)))
 }
