@@ -8,6 +8,11 @@ use Rattle.px_msg.specs.declared.message.Msg.{Msg}
 use Rattle.px_msg.specs.declared.notice.Notice.{Notice as Kept}
 use Rattle.px_stream.specs.Kept.{KeptStream}
 
+-- messages in order, and how many the list holds without memory
+pub record BoundedMessages : Type 0 where
+  pub messages : List (Message Stream)
+  pub capacity : ℕ
+
 -- notices in order, and how many the list holds without memory
 pub record BoundedNotices : Type 0 where
   pub notices : List (Notice Stream)

@@ -4,10 +4,11 @@ use Rattle.px_model.specs.Stream.{Stream}
 use Rattle.px_model.specs.Message.{Message}
 use Rattle.px_model.specs.Sink.{Input}
 
--- messages with all the memory that they take, and the room of each stream that comes by one
+-- messages with all the memory that they take, the room of each stream that comes by one, and how many their list holds without memory
 pub record ReadyMessages : Type 0 where
   pub messages : List (Message Stream)
   pub room : ℕ
+  pub capacity : ℕ
 
 -- the inputs of a sink, and how many more messages they take without memory
 pub record RoomyInputs : Type 0 where

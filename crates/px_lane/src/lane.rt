@@ -115,12 +115,14 @@ impl<D: Device + Drop> Lane<D> {
         out: &mut NoticeList,
         blocks: &mut B,
     ) -> Result<Turned, LaneFault>
-        requires messages { AreFor self.old.sink messages.old }
+        requires messages { AreFor self.old.sink messages.old.messages }
         requires attached { IsFalse self.old.sink.stopped → IsAttached (D.now self.old.device) self.old.sink }
-        ensures ok { IfOk result (Turns D.now self.old self.new messages.old out.old.notices out.new.notices) }
-        ensures empty { OnOk result (messages.new ≡ []) }
+        ensures ok { IfOk result (Turns D.now self.old self.new messages.old.messages out.old.notices out.new.notices) }
+        ensures empty { OnOk result (messages.new.messages ≡ []) }
         ensures worn { MatchResult result (λ turned. self.old.sink.filled ≤ 2 ^ 60) (Refuses self.old.sink.filled) }
         ensures err { OnErr result ((self.new ≡ self.old) × (messages.new ≡ messages.old) × (out.new.notices ≡ out.old.notices)) }
+        ensures message_room { messages.new.capacity ≡ messages.old.capacity }
+        ensures notice_room { out.old.capacity ≤ out.new.capacity }
     {
         let filled = self.mixer.filled();
         if filled > MOST_FILLED {
@@ -165,6 +167,8 @@ fn run<D: Device, B: BlockSource>(
     ensures lane { IsLane mixer.new.sink }
     ensures counted { HasCounted mixer.new.sink faults.new }
     ensures messages { messages.new.messages ≡ [] }
+    ensures list { messages.new.capacity ≡ messages.old.capacity }
+    ensures capacity { out.new.capacity ≡ out.old.capacity }
 {
     if mixer.is_stopped() {
         mixer.stop(messages, out, blocks);
@@ -203,6 +207,8 @@ fn play<D: Device, B: BlockSource>(
     ensures lane { IsLane mixer.new.sink }
     ensures notices { out.new.notices ≡ out.old.notices ++ turn_notices samples mixer.old.sink (consumed - mixer.old.sink.consumed) messages.old.messages }
     ensures messages { messages.new.messages ≡ [] }
+    ensures list { messages.new.capacity ≡ messages.old.capacity }
+    ensures capacity { out.new.capacity ≡ out.old.capacity }
     ensures attached { IsAttached (D.now device.new) mixer.new.sink }
     ensures played { (D.now device.new).played ≡ (D.now device.old).played }
     ensures faults { (D.now device.new).faults ≡ (D.now device.old).faults }

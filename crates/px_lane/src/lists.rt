@@ -87,16 +87,14 @@ pub struct MsgList {
 }
 
 impl Model for MsgList {
-    ghost use Rattle.std.specs.Prelude.{List};
     ghost use Rattle.std.specs.List.{AllByRecursion};
-    ghost use Rattle.px_model.specs.Stream.{Stream};
-    ghost use Rattle.px_model.specs.Message.{Message};
+    ghost use Rattle.std.specs.VecDeque.{deque_capacity};
     ghost use Rattle.px_model.specs.Turn.{BringsStream};
-    ghost use Rattle.px_lane.specs.Lists.{messages_of};
+    ghost use Rattle.px_lane.specs.Lists.{BoundedMessages, messages_of};
 
-    ghost Value = { List (Message Stream) };
+    ghost Value = { BoundedMessages };
 
-    ghost view = { λ list. messages_of list.items.items };
+    ghost view = { λ list. record { messages = messages_of list.items.items; capacity = deque_capacity list.items } };
 
     ghost invariant = { λ list. AllByRecursion BringsStream (messages_of list.items.items) };
 }
@@ -104,7 +102,7 @@ impl Model for MsgList {
 impl MsgList {
     /// No messages. Takes no memory.
     pub fn new(alloc: Global) -> MsgList
-        ensures { result ≡ [] }
+        ensures { result.messages ≡ [] }
     {
         MsgList {
             items: VecDeque::new(alloc),
@@ -113,20 +111,30 @@ impl MsgList {
 
     /// How many there are. Each parcel that comes by one is a stream with all that a stream keeps.
     pub fn len(&self) -> usize
-        ensures count { result ≡ length self.now }
-        ensures parcels { AllByRecursion BringsStream self.now }
+        ensures count { result ≡ length self.now.messages }
+        ensures parcels { AllByRecursion BringsStream self.now.messages }
     {
         self.items.len()
     }
 
-    /// Adds a message. Without memory the list stays as it is, and the message is lost.
-    pub fn push(&mut self, message: Msg<Stream>) -> Mem<()>
-        ensures ok { OnOk result (self.new ≡ self.old ++ plain_message message ∷ []) }
-        ensures err { OnErr result (self.new ≡ self.old) }
+    /// Makes room for so many more messages. Without memory nothing changes.
+    pub fn reserve(&mut self, messages: usize) -> Mem<()>
+        ensures value { self.new.messages ≡ self.old.messages }
+        ensures ok { OnOk result (length self.new.messages + messages ≤ self.new.capacity) }
+        ensures capacity { self.old.capacity ≤ self.new.capacity }
+    {
+        self.items.reserve(messages)?;
+        Ok(())
+    }
+
+    /// Adds a message, where there is room for it. Takes no memory.
+    pub fn push(&mut self, message: Msg<Stream>)
+        requires { length self.old.messages < self.old.capacity }
+        ensures value { self.new.messages ≡ self.old.messages ++ plain_message message ∷ [] }
+        ensures capacity { self.new.capacity ≡ self.old.capacity }
     {
         brings_stream(&message);
-        self.items.push_back(message)?;
-        Ok(())
+        self.items.push_back_reserved(message);
     }
 
     /// Takes all the memory of a turn with these messages: the stream of each new input, room for all messages in each stream that is
@@ -138,13 +146,15 @@ impl MsgList {
         inputs: &mut Inputs,
         out: &mut NoticeList,
     ) -> Mem<Prepared>
-        requires { AllByRecursion Opens self.old }
+        requires { AllByRecursion Opens self.old.messages }
         ensures inputs { inputs.new.inputs ≡ inputs.old.inputs }
         ensures notices { out.new.notices ≡ out.old.notices }
-        ensures messages { IfOk result (λ prepared. prepared.messages ≡ self.old) }
-        ensures room { IfOk result (λ prepared. (inputs.new.room ≡ length self.old) × (prepared.room ≡ length self.old)) }
-        ensures capacity { OnOk result (length out.old.notices + needed inputs.old.inputs self.old ≤ out.new.capacity) }
-        ensures empty { OnOk result (self.new ≡ []) }
+        ensures messages { IfOk result (λ prepared. prepared.messages ≡ self.old.messages) }
+        ensures room { IfOk result (λ prepared. (inputs.new.room ≡ length self.old.messages) × (prepared.room ≡ length self.old.messages)) }
+        ensures capacity { OnOk result (length out.old.notices + needed inputs.old.inputs self.old.messages ≤ out.new.capacity) }
+        ensures more { out.old.capacity ≤ out.new.capacity }
+        ensures list { IfOk result (λ prepared. prepared.capacity ≡ self.old.capacity) }
+        ensures empty { OnOk result (self.new.messages ≡ []) }
         ensures err { OnErr result (self.new ≡ self.old) }
     {
         let Ok(count) = u32::try_from(self.items.len()) else {
@@ -158,8 +168,9 @@ impl MsgList {
     /// Takes the list of messages back that a turn has taken, for its room. Takes no memory.
     pub(crate) fn give_back(&mut self, prepared: Prepared)
         requires taken { prepared.messages ≡ [] }
-        requires empty { self.old ≡ [] }
-        ensures { self.new ≡ [] }
+        requires empty { self.old.messages ≡ [] }
+        ensures messages { self.new.messages ≡ [] }
+        ensures capacity { self.new.capacity ≡ prepared.capacity }
     {
         self.items = prepared.into_items();
     }
@@ -193,6 +204,7 @@ fn taken(
     ensures streams_room { IfOk result (λ streams. AllByRecursion (IsRoomy count) streams.items) }
     ensures parcels_room { OnOk result (AllByRecursion (BringsRoom count) messages.new) }
     ensures room { OnOk result (inputs.new.room ≡ count) }
+    ensures more { out.old.capacity ≤ out.new.capacity }
     ensures capacity { OnOk result (length out.old.notices + needed inputs.old.inputs (messages_of messages.old) ≤ out.new.capacity) }
 {
     let notices = needed_of(inputs.as_slice(), messages)?;

@@ -150,13 +150,15 @@ impl SinkMixer {
         messages: &mut MsgList,
         out: &mut NoticeList,
     ) -> Mem<Prepared>
-        requires { AllByRecursion Opens messages.old }
+        requires { AllByRecursion Opens messages.old.messages }
         ensures value { self.new.sink ≡ self.old.sink }
         ensures notices { out.new.notices ≡ out.old.notices }
-        ensures messages { IfOk result (λ prepared. prepared.messages ≡ messages.old) }
-        ensures room { IfOk result (λ prepared. (self.new.room ≡ length messages.old) × (prepared.room ≡ length messages.old)) }
-        ensures capacity { OnOk result (length out.old.notices + needed self.old.sink.inputs messages.old ≤ out.new.capacity) }
-        ensures empty { OnOk result (messages.new ≡ []) }
+        ensures messages { IfOk result (λ prepared. prepared.messages ≡ messages.old.messages) }
+        ensures room { IfOk result (λ prepared. (self.new.room ≡ length messages.old.messages) × (prepared.room ≡ length messages.old.messages)) }
+        ensures capacity { OnOk result (length out.old.notices + needed self.old.sink.inputs messages.old.messages ≤ out.new.capacity) }
+        ensures more { out.old.capacity ≤ out.new.capacity }
+        ensures list { IfOk result (λ prepared. prepared.capacity ≡ messages.old.capacity) }
+        ensures empty { OnOk result (messages.new.messages ≡ []) }
         ensures err { OnErr result (messages.new ≡ messages.old) }
     {
         messages.prepare(alloc, &mut self.inputs, out)
@@ -200,6 +202,7 @@ impl SinkMixer {
         ensures notices { out.new.notices ≡ out.old.notices ++ told_notices self.old.sink messages.old.messages }
         ensures capacity { out.new.capacity ≡ out.old.capacity }
         ensures messages { messages.new.messages ≡ [] }
+        ensures list { messages.new.capacity ≡ messages.old.capacity }
     {
         let mixed = self.filled - self.horizon;
         let buffered = (self.filled - self.consumed) as u32;
@@ -278,7 +281,9 @@ impl SinkMixer {
         ensures value { self.new.sink ≡ turned samples self.old.sink frames messages.old.messages }
         ensures lane { IsLane self.new.sink }
         ensures notices { out.new.notices ≡ out.old.notices ++ turn_notices samples self.old.sink frames messages.old.messages }
+        ensures capacity { out.new.capacity ≡ out.old.capacity }
         ensures messages { messages.new.messages ≡ [] }
+        ensures list { messages.new.capacity ≡ messages.old.capacity }
     {
         self.settle(frames, out, blocks);
         self.take_all(messages, out, blocks);
@@ -302,7 +307,9 @@ impl SinkMixer {
         ensures value { self.new.sink ≡ stopped_turn self.old.sink messages.old.messages }
         ensures lane { IsLane self.new.sink }
         ensures notices { out.new.notices ≡ out.old.notices ++ stopped_notices self.old.sink messages.old.messages }
+        ensures capacity { out.new.capacity ≡ out.old.capacity }
         ensures messages { messages.new.messages ≡ [] }
+        ensures list { messages.new.capacity ≡ messages.old.capacity }
     {
         self.settle(0, out, blocks);
         self.give_up();

@@ -1,6 +1,7 @@
 // The messages of a turn, with all the memory that they take.
 ghost use Rattle.std.specs.Prelude.{ℕ, ◌≡◌, ◌≤◌, ◌+◌, ◌-◌, ◌++◌, ◌∷◌, [], List, length, map, take, drop, flat_map, MatchOption, IfOk, OnOk, OnErr};
 ghost use Rattle.std.specs.List.{AllByRecursion};
+ghost use Rattle.std.specs.VecDeque.{deque_capacity};
 ghost use Rattle.px_model.specs.Stream.{Stream as Plain};
 ghost use Rattle.px_model.specs.Message.{Message};
 ghost use Rattle.px_model.specs.Sink.{Input as Stands};
@@ -29,6 +30,7 @@ pub(crate) struct Prepared {
 
 impl Model for Prepared {
     ghost use Rattle.std.specs.Prelude.{◌≡◌, map, flat_map};
+    ghost use Rattle.std.specs.VecDeque.{deque_capacity};
     ghost use Rattle.std.specs.List.{AllByRecursion};
     ghost use Rattle.px_lane.specs.Lists.{messages_of};
     ghost use Rattle.px_stream.specs.Kept.{KeptStream};
@@ -37,7 +39,7 @@ impl Model for Prepared {
 
     ghost Value = { ReadyMessages };
 
-    ghost view = { λ p. record { messages = messages_of p.items.items; room = p.room } };
+    ghost view = { λ p. record { messages = messages_of p.items.items; room = p.room; capacity = deque_capacity p.items } };
 
     ghost invariant = { λ p.
         (map KeptStream.stream p.streams.items ≡ flat_map streams_of (messages_of p.items.items))
@@ -56,7 +58,7 @@ impl Prepared {
         requires streams { map KeptStream.stream streams.items ≡ flat_map streams_of (messages_of items.items) }
         requires streams_room { AllByRecursion (IsRoomy room) streams.items }
         requires parcels_room { AllByRecursion (BringsRoom room) items.items }
-        ensures { result ≡ record { messages = messages_of items.items; room = room } }
+        ensures { result ≡ record { messages = messages_of items.items; room = room; capacity = deque_capacity items } }
     {
         Prepared {
             items,
@@ -67,7 +69,8 @@ impl Prepared {
 
     /// The list of the messages, once all are taken. Takes no memory.
     pub(crate) fn into_items(self) -> VecDeque<Msg<Stream>>
-        ensures { messages_of result.items ≡ self.messages }
+        ensures messages { messages_of result.items ≡ self.messages }
+        ensures capacity { deque_capacity result ≡ self.capacity }
     {
         self.items
     }
@@ -77,6 +80,7 @@ impl Prepared {
         ensures value { MatchOption result ((self.old.messages ≡ []) × (self.new.messages ≡ [])) (λ ready.
             (m : Message Plain) × (self.old.messages ≡ m ∷ self.new.messages) × IsReadyFor ready m × HasRoomLeft self.old.room ready) }
         ensures room { self.new.room ≡ self.old.room }
+        ensures capacity { self.new.capacity ≡ self.old.capacity }
     {
         match self.items.pop_front() {
             Some(message) => Some(ready(message, &mut self.streams)),
@@ -172,6 +176,7 @@ impl Inputs {
         ensures notices { out.new.notices ≡ out.old.notices ++ all_message_notices mixed buffered messages.old.messages self.old.inputs }
         ensures capacity { out.new.capacity ≡ out.old.capacity }
         ensures messages { messages.new.messages ≡ [] }
+        ensures list { messages.new.capacity ≡ messages.old.capacity }
     {
         while let Some(message) = messages.next() {
             self.take(message, mixed, buffered, out, blocks);

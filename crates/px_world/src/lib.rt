@@ -8,6 +8,7 @@ mod doors;
 mod fault;
 mod law;
 mod outcome;
+mod parcel;
 mod playing;
 mod run;
 mod sinks;

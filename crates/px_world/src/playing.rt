@@ -79,8 +79,8 @@ impl Playing {
         requires playing { IsPlaying self.old }
         requires there { frames ≤ self.old.lane.sink.filled - self.old.lane.sink.consumed }
         requires countable { self.old.lane.sink.filled ≤ 2 ^ 60 }
-        requires messages { AreFor self.old.lane.sink messages.old }
-        ensures mixer { OnOk result (mixer_of self.new ≡ mixer_turned (mixer_of self.old) frames messages.old) }
+        requires messages { AreFor self.old.lane.sink messages.old.messages }
+        ensures mixer { OnOk result (mixer_of self.new ≡ mixer_turned (mixer_of self.old) frames messages.old.messages) }
         ensures playing { OnOk result (IsPlaying self.new) }
         ensures frames { IfOk result (λ sound. sound.frames ≡ length (played_of (Some (mixer_of self.old)) frames)) }
         ensures bytes { IfOk result (λ sound. sound.bytes ≡ concat (played_of (Some (mixer_of self.old)) frames)) }

@@ -10,9 +10,10 @@ ghost use Rattle.px_core.specs.Out.{waiting_for};
 ghost use Rattle.px_core.specs.Step.{Step, stepped, effects_of, stepped_by, effects_by};
 ghost use Rattle.px_world.specs.Running.{IsAnswered, steps_given};
 
+use crate::parcel::{Carried, handed_over, taken_over};
 use px_core::{Core, Effects};
 use px_frame::{Frame, FrameError, FrameFault, Frames};
-use px_lane::{Carried, MsgList, NoticeList, handed_over, taken_over};
+use px_lane::{MsgList, NoticeList};
 use px_msg::Notice;
 use px_stream::Stream;
 use px_types::{ConnId, Mem, NoMemory, SinkId};
@@ -107,14 +108,15 @@ pub(crate) fn take_messages(
 ) -> Mem<()>
     requires { count ≤ length (waiting_for core.old.state sink) }
     ensures core { OnOk result (core.new.state ≡ stepped_by Plain.spec core.old.state (replicate count (Step.out sink))) }
-    ensures messages { OnOk result (messages.new ≡ messages.old ++ map (message_of (λ s. s)) (take count (waiting_for core.old.state sink))) }
+    ensures messages { OnOk result (messages.new.messages ≡ messages.old.messages ++ map (message_of (λ s. s)) (take count (waiting_for core.old.state sink))) }
 {
+    messages.reserve(count as usize)?;
     let mut left = count;
     while left > 0 {
         let Some(message) = core.sent(sink) else {
             return Ok(());
         };
-        messages.push(taken_over(message))?;
+        messages.push(taken_over(message));
         left -= 1;
     }
     Ok(())

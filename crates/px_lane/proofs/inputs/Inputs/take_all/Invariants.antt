@@ -11,6 +11,7 @@ invariant-loop-message g l =
     × (length l.messages.messages ≤ l.self.room)
     × (l.self.room ≤ l.messages.room)
     × (l.out.capacity ≡ l.fn.out.capacity)
+    × (l.messages.capacity ≡ l.fn.messages.capacity)
 
 abbrev pub decreases-loop-message : goal.decreases-loop-message
 decreases-loop-message g l = length l.messages.messages

@@ -11,7 +11,7 @@ use std::marker::Model;
 /// A stream between two sinks (PulseAudio: a sink input between `pa_sink_input_start_move` and `pa_sink_input_finish_move`). Contracts see the
 /// stream alone, without the room that it has.
 #[derive(Debug, Drop)]
-pub struct Carried {
+pub(crate) struct Carried {
     stream: Stream,
 }
 
@@ -34,7 +34,7 @@ impl Parcel for Carried {
 }
 
 /// A message of the core as the sink's mixer takes it: a stream that comes is a stream again. Takes no memory.
-pub fn taken_over(message: Msg<Carried>) -> Msg<Stream>
+pub(crate) fn taken_over(message: Msg<Carried>) -> Msg<Stream>
     ensures { plain_message result ≡ message_of (λ s. s) message }
 {
     match message {
@@ -76,7 +76,7 @@ pub fn taken_over(message: Msg<Carried>) -> Msg<Stream>
 }
 
 /// A notice of a sink's mixer as the core takes it: a stream that leaves is carried. Takes no memory.
-pub fn handed_over(notice: Notice<Stream>) -> Notice<Carried>
+pub(crate) fn handed_over(notice: Notice<Stream>) -> Notice<Carried>
     ensures { result ≡ notice_for (plain_notice notice) }
 {
     match notice {
