@@ -4,7 +4,6 @@ use Rattle.std.proofs.Math.Nat.{add-mul, mul-div_cancel}
 use Rattle.std.proofs.lemmas.List.{take-take, take-append-le, take_all, drop_all, take-append-drop}
 use Rattle.std.proofs.lemmas.List.Folds.{concat-append}
 use Rattle.std.proofs.Math.Seq.{drop-append-add, take-append-add}
-use Rattle.std.specs.Prelude.{IsFalse}
 use Rattle.std.specs.List.{concat}
 use Rattle.px_ends.specs.Told.{after_adding, WhereTold}
 use Rattle.px_ends.specs.Device.{DeviceState, Plays, IsPut, played_on, put_at, put_from, without_front, with_front, frames_in}
@@ -71,7 +70,6 @@ synced d d' sink consumed lane at plays =
     let state : d' ≡ record (played_on (consumed - sink.consumed) d) { next = d'.next } =
     plays.state ∙ ap (λ (k : ℕ). let e : DeviceState = record (played_on k d) { next = d'.next } in e) same in
     record {
-      going = subst (λ (e : DeviceState). IsFalse e.failed) (sym state) at.going;
       frame = ap (λ (e : DeviceState). e.frame) state ∙ at.frame;
       guard = ap (λ (e : DeviceState). e.guard) state ∙ at.guard;
       depth = ap (λ (e : DeviceState). e.depth) state ∙ at.depth;
@@ -140,7 +138,6 @@ put_there samples d sink n messages lane after there few at =
     let fits = put_fits d sink n (next_horizon sink n - (sink.consumed + n)) (frame_size sink.spec) (turned samples sink n messages).buffer refl refl lane.kept lane.low_depth lane.some_bytes there few after.whole full at in (
       fits.0,
       record {
-        going = at.going;
         frame = at.frame;
         guard = at.guard;
         depth = at.depth;

@@ -1,5 +1,5 @@
 -- A sink's mixer over the device that plays its frames.
-use Rattle.std.specs.Prelude.{◌≡◌, ℕ, ◌≤◌, Bool, true, false, IsTrue, IsFalse, List, Option, Some, None}
+use Rattle.std.specs.Prelude.{◌≡◌, ℕ, ◌≤◌, Bool, true, false, IsTrue, List, Option, Some, None}
 use Rattle.std.specs.List.{concat}
 use Rattle.std.specs.FinMap as map
 use Rattle.px_ends.specs.Faults.{next_count}
@@ -26,7 +26,6 @@ pub record IsLane (sink : Sink) : Type 0 where
 
 -- a device that plays a sink's frames: its counts are the sink's, and so is its buffer, where it is told
 pub record IsAttached (device : DeviceState) (sink : Sink) : Type 0 where
-  pub going : IsFalse device.failed
   pub frame : device.frame ≡ frame_size sink.spec
   pub guard : device.guard ≡ sink.guard
   pub depth : device.depth ≡ sink.depth

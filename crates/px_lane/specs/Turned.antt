@@ -21,6 +21,7 @@ pub record Plays {D : Type 0} (now : D → DeviceState) (before after : Mixer D)
   pub sink : after.sink ≡ turned samples before.sink frames messages
   pub counted : consumed ≡ after.sink.consumed
   pub attached : IsAttached (now after.device) after.sink
+  pub device_going : IsFalse (now after.device).failed
   pub played : (now after.device).played ≡ played_more (now before.device).buffer (now before.device).played (concat (played_by before.sink frames))
   pub device_faults : (now after.device).faults ≡ (now before.device).faults
   pub steady : is_failing (now after.device).next ≡ is_failing (now before.device).next

@@ -2,7 +2,9 @@
 ghost use Rattle.std.specs.Prelude.{◌≡◌, ◌≤◌, ◌+◌, ◌-◌, ◌^◌, ◌++◌, [], length, IfOk, OnOk, OnErr, MatchResult, IsFalse};
 ghost use Rattle.std.specs.Borrow.{Lends, sem};
 ghost use Rattle.px_msg.specs.View.{sample_spec};
-ghost use Rattle.px_model.specs.Sink.{empty_sink};
+ghost use Rattle.px_model.specs.Stream.{Stream as Plain};
+ghost use Rattle.px_model.specs.Orderly.{IsOrderly};
+ghost use Rattle.px_model.specs.Sink.{empty_sink, specs_of};
 ghost use Rattle.px_lane.specs.Mixing.{IsMixed};
 ghost use Rattle.px_model.specs.Turn.{AreFor, settled, turned, turn_notices};
 ghost use Rattle.px_stream.specs.Samples.{samples};
@@ -115,7 +117,7 @@ impl<D: Device + Drop> Lane<D> {
         out: &mut NoticeList,
         blocks: &mut B,
     ) -> Result<Turned, LaneFault>
-        requires messages { AreFor self.old.sink messages.old.messages }
+        requires messages { IsOrderly Plain.spec self.old.sink.spec (specs_of self.old.sink.inputs) messages.old.messages }
         requires attached { IsFalse self.old.sink.stopped → IsAttached (D.now self.old.device) self.old.sink }
         ensures ok { IfOk result (Turns D.now self.old self.new messages.old.messages out.old.notices out.new.notices) }
         ensures empty { OnOk result (messages.new.messages ≡ []) }
@@ -212,6 +214,7 @@ fn play<D: Device, B: BlockSource>(
     ensures attached { IsAttached (D.now device.new) mixer.new.sink }
     ensures played { (D.now device.new).played ≡ (D.now device.old).played }
     ensures faults { (D.now device.new).faults ≡ (D.now device.old).faults }
+    ensures failed { (D.now device.new).failed ≡ (D.now device.old).failed }
     ensures next { (D.now device.new).next ≡ (D.now device.old).next }
 {
     let frames = consumed - mixer.consumed();

@@ -150,6 +150,7 @@ impl MsgList {
         ensures inputs { inputs.new.inputs ≡ inputs.old.inputs }
         ensures notices { out.new.notices ≡ out.old.notices }
         ensures messages { IfOk result (λ prepared. prepared.messages ≡ self.old.messages) }
+        ensures parcels { AllByRecursion BringsStream self.old.messages }
         ensures room { IfOk result (λ prepared. (inputs.new.room ≡ length self.old.messages) × (prepared.room ≡ length self.old.messages)) }
         ensures capacity { OnOk result (length out.old.notices + needed inputs.old.inputs self.old.messages ≤ out.new.capacity) }
         ensures more { out.old.capacity ≤ out.new.capacity }

@@ -5,7 +5,7 @@ ghost use Rattle.px_sample.specs.Format.{frame_size_of};
 ghost use Rattle.px_msg.specs.View.{sample_spec};
 ghost use Rattle.px_model.specs.Sink.{Input as Stands, IsStreamOf, streams_of, empty_sink};
 ghost use Rattle.px_model.specs.Mix.{mix_of};
-ghost use Rattle.px_model.specs.Turn.{next_horizon, settled, told, told_notices, remixed, asked, going_notices, asked_notices, AreFor, turned, turn_notices, stopped_turn, stopped_notices};
+ghost use Rattle.px_model.specs.Turn.{next_horizon, settled, told, told_notices, remixed, asked, going_notices, asked_notices, AreFor, BringsStream, turned, turn_notices, stopped_turn, stopped_notices};
 ghost use Rattle.px_lane.specs.Mixing.{RoomySink, IsMixed, given_up};
 ghost use Rattle.px_stream.specs.Samples.{samples};
 ghost use Rattle.px_lane.specs.Taking.{CanTakeAll};
@@ -154,6 +154,7 @@ impl SinkMixer {
         ensures value { self.new.sink ≡ self.old.sink }
         ensures notices { out.new.notices ≡ out.old.notices }
         ensures messages { IfOk result (λ prepared. prepared.messages ≡ messages.old.messages) }
+        ensures parcels { AllByRecursion BringsStream messages.old.messages }
         ensures room { IfOk result (λ prepared. (self.new.room ≡ length messages.old.messages) × (prepared.room ≡ length messages.old.messages)) }
         ensures capacity { OnOk result (length out.old.notices + needed self.old.sink.inputs messages.old.messages ≤ out.new.capacity) }
         ensures more { out.old.capacity ≤ out.new.capacity }

@@ -59,7 +59,6 @@ is-shape earlier s h = record {
 
 pub is-attached : (s : SinkSpec) → IsAttached (state_of (new_memory_device (shape_for s))) (empty_sink (sample_spec s.spec) s.guard s.depth)
 is-attached s = record {
-  going = refl;
   frame = sym (same_frame_size s.spec);
   guard = refl;
   depth = refl;

@@ -5,8 +5,9 @@ ghost use Rattle.std.specs.List.{concat};
 ghost use Rattle.px_session.specs.HeaderRules.{IsSink};
 ghost use Rattle.px_session.specs.declared.header.SinkSpec.{SinkSpec as Spec};
 ghost use Rattle.px_sample.specs.Format.{frame_size_of};
-ghost use Rattle.px_model.specs.Sink.{IsSink as IsKeptSink};
-ghost use Rattle.px_model.specs.Turn.{AreFor};
+ghost use Rattle.px_model.specs.Stream.{Stream as Plain};
+ghost use Rattle.px_model.specs.Orderly.{IsOrderly};
+ghost use Rattle.px_model.specs.Sink.{IsSink as IsKeptSink, specs_of};
 ghost use Rattle.px_world.specs.Event.{mixer_turned, played_of};
 ghost use Rattle.px_world.specs.World.{new_mixer};
 ghost use Rattle.px_world.specs.Playing.{mixer_of, IsPlaying};
@@ -79,7 +80,7 @@ impl Playing {
         requires playing { IsPlaying self.old }
         requires there { frames ≤ self.old.lane.sink.filled - self.old.lane.sink.consumed }
         requires countable { self.old.lane.sink.filled ≤ 2 ^ 60 }
-        requires messages { AreFor self.old.lane.sink messages.old.messages }
+        requires messages { IsOrderly Plain.spec self.old.lane.sink.spec (specs_of self.old.lane.sink.inputs) messages.old.messages }
         ensures mixer { OnOk result (mixer_of self.new ≡ mixer_turned (mixer_of self.old) frames messages.old.messages) }
         ensures playing { OnOk result (IsPlaying self.new) }
         ensures frames { IfOk result (λ sound. sound.frames ≡ length (played_of (Some (mixer_of self.old)) frames)) }

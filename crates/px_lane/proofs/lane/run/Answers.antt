@@ -1,4 +1,4 @@
-use Rattle.std.proofs.Common.{◌≡◌, ℕ, ◌-◌, ◌≤◌, length, refl, ap, sym, ◌∙◌, subst, arith, rules}
+use Rattle.std.proofs.Common.{◌≡◌, ℕ, ◌-◌, ◌≤◌, Bool, length, refl, ap, sym, ◌∙◌, subst, arith, rules}
 use Rattle.std.specs.Prelude.{IsFalse, Option}
 use Rattle.px_ends.specs.Device.{DeviceState, Consumes, Next, is_failing}
 use Rattle.px_model.specs.Sink.{Sink}
@@ -45,6 +45,7 @@ returns-in-Ok-clause-turns g c =
         sink = c.play.ensures.value;
         counted = counted;
         attached = c.play.ensures.attached;
+        device_going = subst (λ (b : Bool). IsFalse b) (sym (c.play.ensures.failed ∙ ap (λ (e : DeviceState). e.failed) plays.state)) plays.going;
         played = c.play.ensures.played ∙ synced_played d d' sink c.in-Ok.consumed c.requires.lane at plays;
         device_faults = c.play.ensures.faults ∙ ap (λ (e : DeviceState). e.faults) plays.state;
         steady = ap (λ (next : Option Next). is_failing next) c.play.ensures.next ∙ plays.steady;

@@ -1,6 +1,7 @@
 use Rattle.std.proofs.Common.{[], ◌∷◌, ◌++◌, map, take, replicate, ap, sym, subst, ◌∙◌}
 use Rattle.px_model.specs.Stream.{Stream}
-use Rattle.px_model.specs.Turn.{AreFor}
+use Rattle.px_model.specs.Orderly.{IsOrderly}
+use Rattle.px_model.specs.Sink.{specs_of}
 use Rattle.px_msg.specs.View.{message_of}
 use Rattle.px_core.specs.Out.{waiting_for}
 use Rattle.px_core.specs.Step.{out, sweep}
@@ -12,9 +13,9 @@ use Rattle.px_world.proofs.sinks.turn_of.Goals as goal
 
 pub turn-requires-clause-messages : goal.turn-requires-clause-messages
 turn-requires-clause-messages c =
-    subst (AreFor c.args.playing.now.lane.sink)
+    subst (IsOrderly Stream.spec c.args.playing.now.lane.sink.spec (specs_of c.args.playing.now.lane.sink.inputs))
     (sym (c.in_ok-take_messages.ensures.messages ∙ ap (λ l. l ++ map (message_of (λ p. p)) (take c.args.count (waiting_for c.args.core.now.state c.args.sink))) c.new-messages.ensures))
-    c.requires.messages
+    c.requires.messages.orderly
 
 pub returns-clause-core : goal.returns-clause-core
 returns-clause-core c =
