@@ -1,5 +1,5 @@
 // Frames are copied out.
-ghost use Rattle.std.specs.Prelude.{◌≡◌, ℕ, ◌+◌, ◌*◌, ◌<◌, ◌≤◌, length, take, drop, IsTrue, IsFalse, IsSome, None, Some};
+ghost use Rattle.std.specs.Prelude.{◌≡◌, ℕ, ◌+◌, ◌*◌, ◌/◌, ◌<◌, ◌≤◌, length, take, drop, IsTrue, IsFalse, IsSome, None, Some};
 ghost use Rattle.px_model.specs.Held.{place};
 ghost use Rattle.px_queue.specs.Peeked.{Peeks, Copies};
 
@@ -30,7 +30,7 @@ impl FrameQueue {
         if self.is_short() || left <= k as u64 {
             return Span::Nothing;
         }
-        let most = (out.len() / self.frame as usize)
+        let most = frames_in(out.len(), self.frame as usize)
             .min(u32::MAX as usize)
             .min((left - k as u64) as usize) as u32;
         let frames = self.copy_frames(k, most, out);
@@ -101,4 +101,12 @@ impl FrameQueue {
             None => false,
         }
     }
+}
+
+// How many frames of so many bytes there are in these. One is told without a division.
+fn frames_in(bytes: usize, size: usize) -> usize
+    requires { 1 ≤ size }
+    ensures { result ≡ bytes / size }
+{
+    if bytes == size { 1 } else { bytes / size }
 }

@@ -1,5 +1,5 @@
 // The work values of a stream's frames, for a mix.
-ghost use Rattle.std.specs.Prelude.{◌≡◌, ◌≢◌, ℕ, ◌+◌, ◌*◌, ◌%◌, ◌<◌, pos, length, map, slice_index, slice_index_or, All, FitsSigned, IsTrue, IsFalse};
+ghost use Rattle.std.specs.Prelude.{◌≡◌, ◌≢◌, ℕ, ◌+◌, ◌*◌, ◌/◌, ◌%◌, ◌<◌, ◌≤◌, pos, length, map, slice_index, slice_index_or, All, FitsSigned, IsTrue, IsFalse};
 ghost use Rattle.std.specs.Int.{w32};
 ghost use Rattle.px_sample.specs.Format.{width_of, frame_size_of, IsWhole};
 ghost use Rattle.px_sample.specs.WorkValue.{work_values_of, at_width, IsWithin};
@@ -25,7 +25,7 @@ impl Stream {
         ensures values { (n : ℕ) → length out.old ≡ n * length self.now.stream.feed → GivesValues width self.now.stream from n result out.old out.new }
         ensures words { All (FitsSigned w32) out.old → All (FitsSigned w32) out.new }
     {
-        let run = out.len() / self.feed.channels().len();
+        let run = run_of(out.len(), self.feed.channels().len());
         let mut count: u32 = 0;
         while (count as usize) < run && count < u32::MAX - from {
             if !self.put_values(from + count, width, run, count as usize, out) {
@@ -82,6 +82,14 @@ impl Stream {
             }
         }
     }
+}
+
+// How many places a run has, where there are so many in all. One is told without a division.
+fn run_of(places: usize, runs: usize) -> usize
+    requires { 1 ≤ runs }
+    ensures { result ≡ places / runs }
+{
+    if places == runs { 1 } else { places / runs }
 }
 
 // The work values of a frame, at a width.

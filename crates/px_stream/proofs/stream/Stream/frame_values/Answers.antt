@@ -12,14 +12,14 @@ put_values-requires-clause-runs c =
     let feed = c.args.self.now.stream.feed in
     let same : c.channels.result.now ≡ feed = c.channels.ensures.value ∙ ap (λ (v : KeptStream). v.stream.feed) c.self.view_is in
     let some : 0 < length feed = omega (arith, c.channels.ensures.valid.some, ap (λ (v : KeptStream). length v.stream.feed) c.self.view_is) in
-    let run : length c.args.out.now / length c.channels.result.now ≡ c.requires.0 =
-    ap (λ (xs : List ℕ). length c.args.out.now / length xs) same ∙ run_is (length c.args.out.now) c.requires.0 (length feed) some c.requires.1 in
+    let run : c.run_of-run.result ≡ c.requires.0 =
+    c.run_of-run.ensures ∙ ap (λ (xs : List ℕ). length c.args.out.now / length xs) same ∙ run_is (length c.args.out.now) c.requires.0 (length feed) some c.requires.1 in
     c.loop-count.auto.out ∙ c.requires.1 ∙ ap (λ (n : ℕ). n * length feed) (sym run)
 
 pub loop-count-preserved : goal.loop-count-preserved
 loop-count-preserved c =
     let s = c.args.self.now.stream in
-    let run = length c.args.out.now / length c.channels.result.now in
+    let run = c.run_of-run.result in
     let count = c.loop-count.count in
     let from = c.args.from in
     let inside : count < run = omega (arith, c.loop-count-test.true) in
@@ -48,7 +48,7 @@ pub returns-then-not-put_values-clause-values : goal.returns-then-not-put_values
 returns-then-not-put_values-clause-values c =
     let s = c.args.self.now.stream in
     let feed = s.feed in
-    let run = length c.args.out.now / length c.channels.result.now in
+    let run = c.run_of-run.result in
     let same : c.channels.result.now ≡ feed = c.channels.ensures.value ∙ ap (λ (v : KeptStream). v.stream.feed) c.self.view_is in
     let some : 0 < length feed = omega (arith, c.channels.ensures.valid.some, ap (λ (v : KeptStream). length v.stream.feed) c.self.view_is) in
     let h = c.loop-count.invariant in
@@ -62,14 +62,14 @@ returns-then-not-put_values-clause-values c =
       rest = h.rest;
     } in
     λ n whole.
-    let run_same : run ≡ n = ap (λ (xs : List ℕ). length c.args.out.now / length xs) same ∙ run_is (length c.args.out.now) n (length feed) some whole in
+    let run_same : run ≡ n = c.run_of-run.ensures ∙ ap (λ (xs : List ℕ). length c.args.out.now / length xs) same ∙ run_is (length c.args.out.now) n (length feed) some whole in
     subst (λ (xs : List ℤ). GivesValues c.args.width s c.args.from n c.loop-count.count c.args.out.now xs) (sym none.1) (subst (λ (m : ℕ). GivesValues c.args.width s c.args.from m c.loop-count.count c.args.out.now c.loop-count.out) run_same made)
 
 pub returns-else-count-from-clause-values : goal.returns-else-count-from-clause-values
 returns-else-count-from-clause-values c =
     let s = c.args.self.now.stream in
     let feed = s.feed in
-    let run = length c.args.out.now / length c.channels.result.now in
+    let run = c.run_of-run.result in
     let same : c.channels.result.now ≡ feed = c.channels.ensures.value ∙ ap (λ (v : KeptStream). v.stream.feed) c.self.view_is in
     let some : 0 < length feed = omega (arith, c.channels.ensures.valid.some, ap (λ (v : KeptStream). length v.stream.feed) c.self.view_is) in
     let h = c.loop-count.invariant in
@@ -82,14 +82,14 @@ returns-else-count-from-clause-values c =
       rest = h.rest;
     } in
     λ n whole.
-    let run_same : run ≡ n = ap (λ (xs : List ℕ). length c.args.out.now / length xs) same ∙ run_is (length c.args.out.now) n (length feed) some whole in
+    let run_same : run ≡ n = c.run_of-run.ensures ∙ ap (λ (xs : List ℕ). length c.args.out.now / length xs) same ∙ run_is (length c.args.out.now) n (length feed) some whole in
     subst (λ (m : ℕ). GivesValues c.args.width s c.args.from m c.loop-count.count c.args.out.now c.loop-count.out) run_same made
 
 pub returns-after-loop-count-clause-values : goal.returns-after-loop-count-clause-values
 returns-after-loop-count-clause-values c =
     let s = c.args.self.now.stream in
     let feed = s.feed in
-    let run = length c.args.out.now / length c.channels.result.now in
+    let run = c.run_of-run.result in
     let same : c.channels.result.now ≡ feed = c.channels.ensures.value ∙ ap (λ (v : KeptStream). v.stream.feed) c.self.view_is in
     let some : 0 < length feed = omega (arith, c.channels.ensures.valid.some, ap (λ (v : KeptStream). length v.stream.feed) c.self.view_is) in
     let h = c.loop-count.invariant in
@@ -102,5 +102,5 @@ returns-after-loop-count-clause-values c =
       rest = h.rest;
     } in
     λ n whole.
-    let run_same : run ≡ n = ap (λ (xs : List ℕ). length c.args.out.now / length xs) same ∙ run_is (length c.args.out.now) n (length feed) some whole in
+    let run_same : run ≡ n = c.run_of-run.ensures ∙ ap (λ (xs : List ℕ). length c.args.out.now / length xs) same ∙ run_is (length c.args.out.now) n (length feed) some whole in
     subst (λ (m : ℕ). GivesValues c.args.width s c.args.from m c.loop-count.count c.args.out.now c.loop-count.out) run_same made
