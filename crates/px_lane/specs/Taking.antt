@@ -10,7 +10,7 @@ use Rattle.px_model.specs.Applied.{applied, overflows}
 use Rattle.px_model.specs.Turn.{inputs_with, message_notices, with_each_factors, notices_from, latency_of}
 use Rattle.px_msg.specs.View.{gains}
 use Rattle.px_msg.specs.declared.message.Msg.{Msg}
-use Rattle.px_msg.specs.declared.message.Msg.TheVariants.{New, Attach, Detach, Write, Cork, Flush, Trigger, Prebuf, Drain, Attr, Factors, Query}
+use Rattle.px_msg.specs.declared.message.Msg.TheVariants.{Attach}
 use Rattle.px_stream.specs.Kept.{KeptStream}
 use Rattle.px_stream.specs.Messages.{message_of, Suits}
 use Rattle.px_stream.specs.declared.message.Applied.{Applied}
@@ -37,18 +37,11 @@ pub record FactorsFit (each : List InputFactors) (inputs : List Input) : Type 0 
 
 -- what it brings fits the stream that it names, or that comes by it
 abbrev pub CanTake : Message Stream → List Input → Type 0
-CanTake (Message.new n) inputs = ⊤
 CanTake (Message.attach i parcel feed factors) inputs = Suits parcel (StreamMessage.attach feed factors)
-CanTake (Message.detach i) inputs = ⊤
 CanTake (Message.write w) inputs = SuitsAt (stream_at w.input inputs) (StreamMessage.write w.seek w.offset w.frames w.bytes)
-CanTake (Message.cork i on) inputs = ⊤
-CanTake (Message.flush i) inputs = ⊤
-CanTake (Message.trigger i) inputs = ⊤
-CanTake (Message.prebuf i) inputs = ⊤
-CanTake (Message.drain i tag) inputs = ⊤
 CanTake (Message.attr i attr) inputs = SuitsAt (stream_at i inputs) (StreamMessage.attr attr)
 CanTake (Message.factors each) inputs = FactorsFit each inputs
-CanTake (Message.query i tag) inputs = ⊤
+CanTake _ inputs = ⊤
 
 -- each in order, where so many frames are mixed ahead
 abbrev pub CanTakeAll : ℕ → List (Message Stream) → List Input → Type 0
@@ -58,17 +51,7 @@ CanTakeAll mixed (m ∷ messages) inputs = CanTake m inputs × CanTakeAll mixed 
 -- the stream that is to be made
 abbrev pub streams_of : Message Stream → List Stream
 streams_of (Message.new n) = new_stream n.spec n.feed n.factors n.attr n.corked ∷ []
-streams_of (Message.attach i parcel feed factors) = []
-streams_of (Message.detach i) = []
-streams_of (Message.write w) = []
-streams_of (Message.cork i on) = []
-streams_of (Message.flush i) = []
-streams_of (Message.trigger i) = []
-streams_of (Message.prebuf i) = []
-streams_of (Message.drain i tag) = []
-streams_of (Message.attr i attr) = []
-streams_of (Message.factors each) = []
-streams_of (Message.query i tag) = []
+streams_of _ = []
 
 -- ---- room
 
@@ -77,18 +60,8 @@ IsRoomy room s = room ≤ s.room
 
 -- a parcel that comes has it
 abbrev pub BringsRoom : ℕ → Msg KeptStream → Type 0
-BringsRoom room (New n) = ⊤
 BringsRoom room (Attach input parcel feed factors) = IsRoomy room parcel
-BringsRoom room (Detach input) = ⊤
-BringsRoom room (Write input seek offset frames bytes) = ⊤
-BringsRoom room (Cork input on) = ⊤
-BringsRoom room (Flush input) = ⊤
-BringsRoom room (Trigger input) = ⊤
-BringsRoom room (Prebuf input) = ⊤
-BringsRoom room (Drain input tag) = ⊤
-BringsRoom room (Attr input attr) = ⊤
-BringsRoom room (Factors each) = ⊤
-BringsRoom room (Query input tag) = ⊤
+BringsRoom room _ = ⊤
 
 -- ---- messages with all that they need
 
@@ -109,10 +82,7 @@ overflow_if i told = if told then Notice.overflow i ∷ [] else []
 abbrev pub HasRoomLeft : ℕ → Ready → Type 0
 HasRoomLeft room (Insert input stream) = IsRoomy room stream
 HasRoomLeft room (Join input parcel feed factors) = IsRoomy room parcel
-HasRoomLeft room (Remove input) = ⊤
-HasRoomLeft room (Change input change) = ⊤
-HasRoomLeft room (Each list) = ⊤
-HasRoomLeft room (Answer input tag) = ⊤
+HasRoomLeft room _ = ⊤
 
 abbrev pub ready_inputs : ℕ → Ready → List Input → List Input
 ready_inputs mixed (Insert input stream) inputs = with_input input.0 stream.stream inputs
@@ -123,20 +93,16 @@ ready_inputs mixed (Each list) inputs = with_each_factors (map gains list) input
 ready_inputs mixed (Answer input tag) inputs = inputs
 
 abbrev pub ready_notices : ℕ → ℕ → Ready → List Input → List (Notice Stream)
-ready_notices mixed buffered (Insert input stream) inputs = []
-ready_notices mixed buffered (Join input parcel feed factors) inputs = []
 ready_notices mixed buffered (Remove input) inputs = notices_from (stream_at input.0 inputs) (λ s. Notice.detached input.0 s ∷ [])
 ready_notices mixed buffered (Change input change) inputs = overflow_if input.0 (overflows_at mixed (message_of change) (stream_at input.0 inputs))
-ready_notices mixed buffered (Each list) inputs = []
 ready_notices mixed buffered (Answer input tag) inputs = notices_from (stream_at input.0 inputs) (λ s. Notice.latency input.0 tag (latency_of mixed buffered s) ∷ [])
+ready_notices mixed buffered _ inputs = []
 
 abbrev pub ReadySuits : Ready → List Input → Type 0
-ReadySuits (Insert input stream) inputs = ⊤
 ReadySuits (Join input parcel feed factors) inputs = Suits parcel.stream (StreamMessage.attach feed factors)
-ReadySuits (Remove input) inputs = ⊤
 ReadySuits (Change input change) inputs = SuitsAt (stream_at input.0 inputs) (message_of change)
 ReadySuits (Each list) inputs = FactorsFit (map gains list) inputs
-ReadySuits (Answer input tag) inputs = ⊤
+ReadySuits _ inputs = ⊤
 
 -- it is to every sink what the message is
 pub record IsReadyFor (ready : Ready) (m : Message Stream) : Type 0 where

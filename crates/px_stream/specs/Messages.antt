@@ -27,40 +27,20 @@ message_of (Query tag) = StreamMessage.query tag
 abbrev pub Suits : Stream → StreamMessage → Type 0
 Suits s (StreamMessage.attach feed factors) = All (λ channel. channel < s.spec.channels) feed × (length factors ≡ length feed)
 Suits s (StreamMessage.write seek offset frames bytes) = (seek ≤ 3) × (length bytes ≡ frames * frame_size s.spec)
-Suits s (StreamMessage.cork on) = ⊤
-Suits s StreamMessage.flush = ⊤
-Suits s StreamMessage.trigger = ⊤
-Suits s StreamMessage.prebuf = ⊤
-Suits s (StreamMessage.drain tag) = ⊤
 Suits s (StreamMessage.attr attr) = IsRepaired attr
 Suits s (StreamMessage.factors factors) = length factors ≡ length s.feed
-Suits s (StreamMessage.query tag) = ⊤
+Suits s _ = ⊤
 
 -- the blocks that it brings
 abbrev pub blocks_with : StreamMessage → ℕ
-blocks_with (StreamMessage.attach feed factors) = 0
 blocks_with (StreamMessage.write seek offset frames bytes) = blocks_for (length bytes)
-blocks_with (StreamMessage.cork on) = 0
-blocks_with StreamMessage.flush = 0
-blocks_with StreamMessage.trigger = 0
-blocks_with StreamMessage.prebuf = 0
-blocks_with (StreamMessage.drain tag) = 0
-blocks_with (StreamMessage.attr attr) = 0
-blocks_with (StreamMessage.factors factors) = 0
-blocks_with (StreamMessage.query tag) = 0
+blocks_with _ = 0
 
 -- the room that it takes
 abbrev pub room_for : StreamMessage → ℕ
-room_for (StreamMessage.attach feed factors) = 0
 room_for (StreamMessage.write seek offset frames bytes) = 1
-room_for (StreamMessage.cork on) = 0
-room_for StreamMessage.flush = 0
-room_for StreamMessage.trigger = 0
-room_for StreamMessage.prebuf = 0
 room_for (StreamMessage.drain tag) = 1
-room_for (StreamMessage.attr attr) = 0
-room_for (StreamMessage.factors factors) = 0
-room_for (StreamMessage.query tag) = 0
+room_for _ = 0
 
 -- the answer, by whether frames were written that aren't held
 abbrev pub answer_for : Bool → Applied
