@@ -1,10 +1,8 @@
 pub mod First
-pub mod Lengths
 pub mod Rooms
 pub mod Sendable
-pub mod Row
+pub mod Silent
 pub mod Sinks
-pub mod Straight
 pub mod Waiting
 pub mod ListLaws
 pub mod EntryLaws
@@ -14,9 +12,12 @@ pub mod ChangeLaws
 pub mod MoveLaws
 pub mod HandingLaws
 pub mod VerbLaws
+pub mod RowLaws
+pub mod Going
 pub mod AnswerLaws
 pub mod SweepLaws
 pub mod CreateLaws
+pub mod StreamLaws
 pub mod StepLaws
 pub mod ParcelLaws
 pub mod CoreLaws

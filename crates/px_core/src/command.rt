@@ -1,21 +1,27 @@
 //! What a control packet is answered, and in which order it is refused (PulseAudio: `pa_pdispatch_run` and the handlers of
 //! `pulsecore/protocol-native.c`; the order is own).
 
-ghost use Rattle.std.specs.Prelude.{◌≡◌, [], IfOk};
-ghost use Rattle.px_cmd.specs.Command.{number_of, fields_of, IsNumbered};
-ghost use Rattle.px_cmd.specs.Packet.{meaning};
+ghost use Rattle.std.specs.Prelude.{◌≡◌, ◌≤◌, [], true, IfOk, IfSome};
+ghost use Rattle.px_cmd.specs.Meant.{meant};
+ghost use Rattle.px_plan.specs.Row.{Plans};
 ghost use Rattle.px_session.specs.HeaderRules.{AreSinks};
+ghost use Rattle.px_ctl_play.specs.Create.{create};
+ghost use Rattle.std.specs.List.{AllByRecursion};
+ghost use Rattle.px_core.specs.Keeps.{IsInput};
+ghost use Rattle.px_core.specs.Sinks.{named_by};
+ghost use Rattle.px_core.specs.State.{stream_of};
 ghost use Rattle.px_core.specs.Tables.{state_of};
-ghost use Rattle.px_core.specs.Command.{is_built, is_waiting_for_work, is_barred, row, read_answer, command_answer, packet_answer};
+ghost use Rattle.px_core.specs.Command.{is_built, is_waiting_for_work, is_barred, new_attributes, row, read_answer, command_answer, packet_answer};
 
-use crate::answer::Answer;
-use crate::client::{SERVER_VERSION, auth, set_name};
-use crate::create::create;
-use crate::delete::delete;
-use crate::reply::{broken_off, done_plainly, refused};
+use crate::found::copied;
+use crate::plan::{broken_off, refused, requested};
 use crate::tables::Tables;
-use px_cmd::{CmdFault, Command, is_command, read_command, read_head};
-use px_plan::Connection;
+use crate::targets::{depth_of, named_by, rate_of, sink_of};
+use px_cmd::{CmdFault, Command, CreateFields, is_command, read_command, read_head};
+use px_ctl_info::{SERVER_VERSION, auth, empty_list, set_client_name};
+use px_ctl_play::{attributes, cork, create, delete, drain, flush, latency, prebuf, trigger};
+use px_msg::Msg;
+use px_plan::{Connection, Input, Plan, Refusal};
 use px_types::{ErrorCode, Mem, NoMemory};
 use std::alloc::Global;
 
@@ -26,7 +32,10 @@ const AUTH: u32 = 8;
 fn is_built(command: u32) -> bool
     ensures { result ≡ is_built command }
 {
-    matches!(command, 3 | 4 | 8 | 9 | 24 | 26 | 32 | 34 | 89)
+    matches!(
+        command,
+        3 | 4 | 8 | 9 | 12 | 14 | 24 | 26 | 32 | 34 | 41 | 42 | 43 | 60 | 72 | 89
+    )
 }
 
 // Whether the protocol has the command, and the server hasn't yet.
@@ -43,40 +52,112 @@ fn is_barred(c: &Connection, command: u32) -> bool
     c.version.is_none() && command != AUTH
 }
 
-// What a command that is built is answered; the lists that are always empty have a plain reply.
+// The input of a connection's stream.
+#[tactic(auto, using(crate::proofs::StreamLaws::has_channels))]
+fn stream_of<P>(tables: &Tables<P>, me: &Connection, stream: u32) -> Option<Input>
+    requires { AllByRecursion (IsInput tables.now.sinks tables.now.inputs_made) tables.now.inputs.items }
+    ensures value { result ≡ stream_of tables.now.inputs.items me.now.conn stream }
+    ensures channels { IfSome result (λ x. 1 ≤ x.spec.channels) }
+{
+    copied(tables.inputs.stream_of(me.conn, stream))
+}
+
+// CREATE_PLAYBACK_STREAM on the sink that it names.
+fn create_named<P: Drop>(
+    alloc: Global,
+    tables: &Tables<P>,
+    me: &Connection,
+    tag: u32,
+    fields: &CreateFields,
+) -> Result<Plan<Msg<P>, ()>, Refusal>
+    requires { AreSinks [] tables.now.sinks }
+    ensures { Plans result (create tables.now.inputs.items tables.now.inputs_made me.now tag (named_by tables.now.names tables.now.sinks fields.now.sink true) fields.now) }
+{
+    let sinks = tables.sinks.as_slice();
+    let named = named_by(alloc, &tables.names, sinks, &fields.sink, true)?;
+    let inputs = tables.inputs.as_slice();
+    create(alloc, inputs, tables.inputs_made, me, tag, named, fields)
+}
+
+// New buffer attributes of a stream, with the latency of its sink.
+fn new_attributes<P: Drop>(
+    alloc: Global,
+    tables: &Tables<P>,
+    stream: Option<Input>,
+    asked: [u32; 4],
+    tag: u32,
+) -> Result<Plan<Msg<P>, ()>, Refusal>
+    requires sinks { AreSinks [] tables.now.sinks }
+    requires channels { IfSome stream (λ x. 1 ≤ x.spec.channels) }
+    ensures { Plans result (new_attributes (state_of tables.now) stream asked tag) }
+{
+    let sink = sink_of(tables.sinks.as_slice(), stream);
+    attributes(alloc, stream, depth_of(sink), rate_of(sink), asked, tag)
+}
+
+// A command's row: what it gives on the parts of the state that it reads.
 fn row<P: Drop>(
     alloc: Global,
     tables: &Tables<P>,
-    c: &Connection,
+    me: &Connection,
     tag: u32,
     command: Command,
-) -> Mem<Answer<P>>
+) -> Result<Plan<Msg<P>, ()>, Refusal>
     requires sinks { AreSinks [] tables.now.sinks }
-    requires numbered { IsNumbered command }
-    ensures { IfOk result (λ answer. answer ≡ row (state_of tables.now) c.now tag (number_of command) (fields_of command)) }
+    requires inputs { AllByRecursion (IsInput tables.now.sinks tables.now.inputs_made) tables.now.inputs.items }
+    ensures { Plans result (row (state_of tables.now) me.now tag command) }
 {
-    let names = &tables.names;
-    let inputs = tables.inputs.as_slice();
     match command {
         Command::Auth { version, cookie } => {
-            auth(alloc, names, c, tag, version, cookie.as_slice())
+            auth(alloc, &tables.names, me, tag, version, cookie.as_slice())
         }
-        Command::SetClientName { list } => set_name(alloc, names, c, tag, list),
-        Command::Create(fields) => {
-            let sinks = tables.sinks.as_slice();
-            create(
-                alloc,
-                names,
-                sinks,
-                inputs,
-                tables.inputs_made,
-                c,
-                tag,
-                &fields,
-            )
+        Command::SetClientName { list } => {
+            let client = tables.names.client_on(me.conn);
+            set_client_name(alloc, client, me, tag, list)
         }
-        Command::Delete { stream } => delete(alloc, &tables.inputs, c, tag, stream),
-        _ => done_plainly(alloc, c.conn, tag, Vec::new(alloc)),
+        Command::Create(fields) => create_named(alloc, tables, me, tag, &fields),
+        Command::Delete { stream } => {
+            let stream = stream_of(tables, me, stream);
+            delete(alloc, stream, &tables.waiting, tag)
+        }
+        Command::Drain { stream } => drain(alloc, stream_of(tables, me, stream), tag),
+        Command::Latency { stream, time } => latency(
+            alloc,
+            stream_of(tables, me, stream),
+            time,
+            tag,
+        ),
+        Command::Cork { stream, on } => cork(alloc, stream_of(tables, me, stream), on, tag),
+        Command::Flush { stream } => flush(alloc, stream_of(tables, me, stream), tag),
+        Command::Trigger { stream } => trigger(alloc, stream_of(tables, me, stream), tag),
+        Command::Prebuf { stream } => prebuf(alloc, stream_of(tables, me, stream), tag),
+        Command::Attributes { stream, asked, .. } => {
+            let stream = stream_of(tables, me, stream);
+            new_attributes(alloc, tables, stream, asked, tag)
+        }
+        Command::EmptyList { .. } => empty_list(alloc, tag),
+        Command::LookupSink { .. }
+        | Command::ServerInfo
+        | Command::SinkInfo { .. }
+        | Command::SinkInfoList
+        | Command::ClientInfo { .. }
+        | Command::ClientInfoList
+        | Command::InputInfo { .. }
+        | Command::InputInfoList
+        | Command::Subscribe { .. }
+        | Command::SinkVolume { .. }
+        | Command::InputVolume { .. }
+        | Command::SinkMute { .. }
+        | Command::InputMute { .. }
+        | Command::DefaultSink { .. }
+        | Command::StreamName { .. }
+        | Command::KillClient { .. }
+        | Command::KillInput { .. }
+        | Command::Move { .. }
+        | Command::UpdateStream { .. }
+        | Command::UpdateClient { .. }
+        | Command::RemoveStream { .. }
+        | Command::RemoveClient { .. } => Err(Refusal::Code(ErrorCode::NotImplemented)),
     }
 }
 
@@ -88,15 +169,16 @@ fn read_answer<P: Drop>(
     at: u64,
     tag: u32,
     packet: &[u8],
-) -> Mem<Answer<P>>
-    requires { AreSinks [] tables.now.sinks }
-    ensures { IfOk result (λ answer. answer ≡ read_answer (state_of tables.now) c.now at tag (meaning packet.now)) }
+) -> Mem<Plan<Msg<P>, ()>>
+    requires sinks { AreSinks [] tables.now.sinks }
+    requires inputs { AllByRecursion (IsInput tables.now.sinks tables.now.inputs_made) tables.now.inputs.items }
+    ensures { IfOk result (λ plan. plan ≡ read_answer (state_of tables.now) c.now at tag (meant packet.now)) }
 {
     match read_command(alloc, packet, SERVER_VERSION) {
-        Ok(command) => row(alloc, tables, c, tag, command),
+        Ok(command) => requested(alloc, tag, row(alloc, tables, c, tag, command)),
         Err(CmdFault::Protocol(fault)) => broken_off(alloc, c.conn, at, fault),
-        Err(CmdFault::Unknown(_)) => refused(alloc, c.conn, tag, ErrorCode::Command),
-        Err(CmdFault::Unsupported(_)) => refused(alloc, c.conn, tag, ErrorCode::NotSupported),
+        Err(CmdFault::Unknown(_)) => refused(alloc, tag, ErrorCode::Command),
+        Err(CmdFault::Unsupported(_)) => refused(alloc, tag, ErrorCode::NotSupported),
         Err(CmdFault::NoMemory) => Err(NoMemory),
     }
 }
@@ -110,15 +192,16 @@ fn command_answer<P: Drop>(
     packet: &[u8],
     command: u32,
     tag: u32,
-) -> Mem<Answer<P>>
-    requires { AreSinks [] tables.now.sinks }
-    ensures { IfOk result (λ answer. answer ≡ command_answer (state_of tables.now) c.now at packet.now command tag) }
+) -> Mem<Plan<Msg<P>, ()>>
+    requires sinks { AreSinks [] tables.now.sinks }
+    requires inputs { AllByRecursion (IsInput tables.now.sinks tables.now.inputs_made) tables.now.inputs.items }
+    ensures { IfOk result (λ plan. plan ≡ command_answer (state_of tables.now) c.now at packet.now command tag) }
 {
     if is_barred(c, command) {
-        return refused(alloc, c.conn, tag, ErrorCode::Access);
+        return refused(alloc, tag, ErrorCode::Access);
     }
     if is_waiting_for_work(command) {
-        return refused(alloc, c.conn, tag, ErrorCode::NotImplemented);
+        return refused(alloc, tag, ErrorCode::NotImplemented);
     }
     read_answer(alloc, tables, c, at, tag, packet)
 }
@@ -126,16 +209,18 @@ fn command_answer<P: Drop>(
 /// What a connection's control packet is answered whose first byte has the offset `at`. Refused, by the first of these that
 /// holds: a fault in its front ends the connection; `Access` before a successful AUTH for any other command;
 /// `NotImplemented` for a command of the table that isn't built; `Command` for a number above the last; `NotSupported` for
-/// one that the table hasn't; a fault in its fields ends the connection; then as the command says.
+/// one that the table hasn't; a fault in its fields ends the connection; then as the command's row says; and `TooLarge` where
+/// no frame can carry the reply.
 pub(crate) fn packet_answer<P: Drop>(
     alloc: Global,
     tables: &Tables<P>,
     c: &Connection,
     at: u64,
     packet: &[u8],
-) -> Mem<Answer<P>>
-    requires { AreSinks [] tables.now.sinks }
-    ensures { IfOk result (λ answer. answer ≡ packet_answer (state_of tables.now) c.now at packet.now) }
+) -> Mem<Plan<Msg<P>, ()>>
+    requires sinks { AreSinks [] tables.now.sinks }
+    requires inputs { AllByRecursion (IsInput tables.now.sinks tables.now.inputs_made) tables.now.inputs.items }
+    ensures { IfOk result (λ plan. plan ≡ packet_answer (state_of tables.now) c.now at packet.now) }
 {
     match read_head(packet) {
         Err(fault) => broken_off(alloc, c.conn, at, fault),

@@ -10,13 +10,13 @@ ghost use Rattle.px_core.specs.Step.{Step, stepped, effects_of};
 ghost use Rattle.px_core.specs.Keeps.{IsKept};
 ghost use Rattle.px_core.specs.Out.{waiting_for, next_for, put_back, sent, unsent, room_for};
 
-use crate::connecting::{break_off, closed_for, connect, end, sweep_away};
-use crate::effect::Effect;
+use crate::connecting::{break_off, connect, end, sweep_away};
+use crate::effect::{Effect, closed_for};
 use crate::effects::Effects;
 use crate::out::{hand_out, put_back};
 use crate::start::new_tables;
 use crate::tables::Tables;
-use crate::{frames, queues, told};
+use crate::{frames, notice, queues};
 use px_frame::{Frame, FrameFault};
 use px_msg::{Msg, Notice, Parcel};
 use px_plan::Reason;
@@ -125,7 +125,7 @@ impl<P: Parcel + Drop> Core<P> {
         ensures back { IfErr result (λ back. back ≡ notice) }
         ensures err { OnErr result (self.new.state ≡ self.old.state) }
     {
-        told::take(self.alloc, &mut self.tables, sink, notice)
+        notice::take(self.alloc, &mut self.tables, sink, notice)
     }
 
     /// How many messages wait for a sink; 0 for one that isn't there. Takes no memory.
