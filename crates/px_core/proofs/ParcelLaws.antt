@@ -20,7 +20,7 @@ use Rattle.px_plan.specs.declared.input.Standing.TheVariants.{Settled, Moving, L
 use Rattle.px_core.specs.State.{State, new_state, connection_of, input_of}
 use Rattle.px_core.specs.Change.{Change, posting, ending, ending_of, saying, saying_of, changed, committed}
 use Rattle.px_core.specs.Lawful.{Brings, Suits, AreFor, Lawful, AreLawful}
-use Rattle.px_core.specs.Reply.{Answer}
+use Rattle.px_plan.specs.Plan.{Planned}
 use Rattle.px_core.specs.Connecting.{is_full, joined, connected}
 use Rattle.px_core.specs.Out.{first_of, rest_of, waiting_for, next_for, past, handed_out}
 use Rattle.px_core.specs.Keeps.{IsKept, IsStep}
@@ -163,8 +163,8 @@ module _ {P : Type 0} (whole : P → Type 0) where
           all_set (AllByRecursion (Carries whole)) state.posted sink.0 (rest_of (waiting_for state sink)) h
           (all_rest (Carries whole) (waiting_for state sink) (all_get (AllByRecursion (Carries whole)) state.posted sink.0 [] h tt))
 
-  answer_carries : (spec_of : P → SampleSpec) (state : State P) (s : Step P) → IsStep s → IsKept spec_of state → AllCarry whole state → AllCarry whole (committed state (Answer.changes (answer_of spec_of state s)))
-  answer_carries spec_of state s is kept h = changes_carry (Answer.changes (answer_of spec_of state s)) state (answer_lawful spec_of state s is kept) h
+  answer_carries : (spec_of : P → SampleSpec) (state : State P) (s : Step P) → IsStep s → IsKept spec_of state → AllCarry whole state → AllCarry whole (committed state (Planned.changes (answer_of spec_of state s)))
+  answer_carries spec_of state s is kept h = changes_carry (Planned.changes (answer_of spec_of state s)) state (answer_lawful spec_of state s is kept) h
 
   pub step_carries : (spec_of : P → SampleSpec) (state : State P) (s : Step P) → IsStep s → Takes whole s → IsKept spec_of state → AllCarry whole state → AllCarry whole (stepped spec_of state s)
   step_carries spec_of state (connect conn) is takes kept h = connected_carries (connection_of state.connections conn) conn state h

@@ -17,7 +17,7 @@ ghost use Rattle.px_plan.specs.declared.input.Standing.TheVariants.{Settled, Mov
 ghost use Rattle.px_plan.specs.declared.input.Way.TheVariants.{Left};
 ghost use Rattle.px_core.specs.Effect.{sent, closed_at};
 ghost use Rattle.px_core.specs.Change.{marked, with_connection, departing, arriving};
-ghost use Rattle.px_core.specs.Create.{MOST_ON_SINK};
+ghost use Rattle.px_ctl_play.specs.Asked.{MOST_ON_SINK};
 ghost use Rattle.px_core.specs.State.{State, new_state, input_of, bound_for};
 ghost use Rattle.px_core.specs.Connecting.{going_on};
 ghost use Rattle.px_core.specs.Out.{Roomy, waiting_for, next_for, handed_out, put_back, sent_by, unsent_by};
