@@ -1,20 +1,19 @@
 -- What a row that planned has passed.
-use Rattle.std.proofs.Common.{◌≡◌, ℕ, Bool, true, false, List, [], ◌∷◌, Option, None, Some, Ok, refl}
+use Rattle.std.proofs.Common.{◌≡◌, ℕ, Bool, true, false, List, Option, None, Some, Ok, refl}
 use Rattle.px_types.specs.declared.error_code.ErrorCode.TheVariants.{Invalid, NoEntity, TooLarge, NotSupported, NotImplemented}
 use Rattle.px_cmd.specs.declared.command.CreateFields.{CreateFields}
 use Rattle.px_msg.specs.declared.message.Msg.{Msg}
-use Rattle.px_reply.specs.Front.{reply_to}
-use Rattle.px_plan.specs.declared.change.Change.TheVariants.{Leaves}
 use Rattle.px_plan.specs.declared.input.Connection.{Connection}
 use Rattle.px_plan.specs.declared.input.Input.{Input}
 use Rattle.px_plan.specs.declared.target.Named.{Named}
 use Rattle.px_plan.specs.declared.target.Target.{Target}
-use Rattle.px_plan.specs.Plan.{Planned, replied}
+use Rattle.px_plan.specs.declared.waiting.Waiting.{Waiting}
+use Rattle.px_plan.specs.Plan.{Planned}
 use Rattle.px_plan.specs.Row.{Row, ◌>>=◌, check, present}
 use Rattle.px_plan.specs.Target.{is_clear, target_of}
 use Rattle.px_ctl_play.specs.Asked.{is_lawful, is_supported, is_built, has_room}
 use Rattle.px_ctl_play.specs.Create.{input_made, created, create}
-use Rattle.px_ctl_play.specs.Delete.{delete}
+use Rattle.px_ctl_play.specs.Delete.{deleted, delete}
 
 -- ---- CREATE_PLAYBACK_STREAM
 
@@ -56,7 +55,7 @@ module _ {P : Type 0} (inputs : List Input) (made : ℕ) (me : Connection) (tag 
   pub create_passed : create inputs made me tag named a ≡ Ok plan → IsCreated inputs made me tag named a plan
   create_passed e = passed (is_lawful a) (is_clear named) (target_of named) refl refl e
 
--- ---- DELETE_PLAYBACK_STREAM
+-- ---- a command of one stream, which is there
 
 abbrev planned : {B : Type 0} → B → Row B
 planned plan = Ok plan
@@ -64,6 +63,10 @@ planned plan = Ok plan
 same_plan : {B : Type 0} (a b : B) → planned a ≡ Ok b → b ≡ a
 same_plan a b e = cc
 
-pub delete_passed : {P : Type 0} (stream : Option Input) (tag : ℕ) (plan : Planned (Msg P) (Unit {0})) → delete stream tag ≡ Ok plan → (x : Input) × (stream ≡ Some x) × (plan ≡ replied (reply_to tag) (Leaves x.index ∷ []))
-delete_passed None tag plan e = absurd cc
-delete_passed (Some x) tag plan e = (x, refl, same_plan (replied (reply_to tag) (Leaves x.index ∷ [])) plan e)
+pub of_stream_passed : {A : Type 0} (stream : Option Input) (f : Input → A) (plan : A) → (present stream NoEntity >>= λ x. Ok (f x)) ≡ Ok plan → (x : Input) × (stream ≡ Some x) × (plan ≡ f x)
+of_stream_passed None f plan e = absurd cc
+of_stream_passed (Some x) f plan e = (x, refl, same_plan (f x) plan e)
+
+pub delete_passed : {P : Type 0} (stream : Option Input) (waiting : List Waiting) (tag : ℕ) (plan : Planned (Msg P) (Unit {0}))
+    → delete stream waiting tag ≡ Ok plan → (x : Input) × (stream ≡ Some x) × (plan ≡ deleted x waiting tag)
+delete_passed stream waiting tag plan e = of_stream_passed stream (λ x. deleted x waiting tag) plan e

@@ -69,11 +69,10 @@ abbrev pub is_supported : Target → CreateFields → Bool
 is_supported sink a =
     not (nat_eq (format_on sink a) 5) && not (nat_eq (format_on sink a) 6) && not a.variable_rate && nat_eq (rate_on sink a) sink.spec.rate
 
--- one that begins at once and without prebuffering, in S16LE on the sink's own map, not muted and at the volume that leaves the sound as it is
+-- one in S16LE on the sink's own map, not muted and at the volume that leaves the sound as it is
 abbrev pub is_built : Target → CreateFields → Bool
 is_built sink a =
-    not a.corked && nat_eq (attr_on sink a).prebuf 0
-    && nat_eq (format_on sink a) 3 && same_positions (positions_on sink a) sink.map
+    nat_eq (format_on sink a) 3 && same_positions (positions_on sink a) sink.map
     && not a.muted && list_all (λ v. nat_eq v norm) a.volume
 
 -- ---- the room for it

@@ -1,5 +1,5 @@
 -- CREATE_PLAYBACK_STREAM (PulseAudio: `command_create_playback_stream` of pulsecore/protocol-native.c; the order of refusals is own).
-use Rattle.std.specs.Prelude.{ℕ, ◌+◌, ◌*◌, ◌/◌, false, List, [], ◌∷◌, ◌++◌, Ok}
+use Rattle.std.specs.Prelude.{ℕ, ◌+◌, List, [], ◌∷◌, ◌++◌, Ok}
 use Rattle.std.specs.List.{range_with_len}
 use Rattle.px_types.specs.declared.error_code.ErrorCode.TheVariants.{Invalid, NoEntity, TooLarge, NotSupported, NotImplemented}
 use Rattle.px_tag.specs.declared.raw.RawSpec.{RawSpec}
@@ -25,6 +25,7 @@ use Rattle.px_plan.specs.Row.{Row, ◌>>=◌, check, present}
 use Rattle.px_plan.specs.Target.{is_clear, target_of}
 use Rattle.px_ctl_play.specs.Asked.{spec_on, attr_on, positions_on, is_lawful, is_supported, is_built, has_room}
 use Rattle.px_ctl_play.specs.Factors.{unity, regrouped}
+use Rattle.px_ctl_play.specs.Time.{microseconds}
 
 -- ---- the new input
 
@@ -45,21 +46,21 @@ input_made made me sink a = record {
 }
 
 -- the message that brings it to its sink
-abbrev pub new_of : {P : Type 0} → Target → Input → Msg P
-new_of sink x = New (record {
+abbrev pub new_of : {P : Type 0} → Target → CreateFields → Input → Msg P
+new_of sink a x = New (record {
   input = x.index;
   spec = x.spec;
   feed = straight sink.spec.channels;
   factors = unity sink.spec.channels;
   attr = x.attr;
-  corked = false;
+  corked = a.corked;
 })
 
 -- ---- what the client is told of it
 
 -- how long a frame waits at the most before the sink plays it, in microseconds
 abbrev pub latency_of : Target → ℕ
-latency_of sink = sink.depth * 1000000 / sink.spec.rate
+latency_of sink = microseconds sink.spec.rate sink.depth
 
 abbrev pub raw_of : Spec → RawSpec
 raw_of spec = record { format = code_of spec.format; channels = spec.channels; rate = spec.rate }
@@ -79,12 +80,12 @@ created_of sink a x = record {
 -- ---- the command
 
 -- the input is there, its sink gets its stream, and then the factors of all inputs on it
-abbrev pub changes_of : {P : Type 0} → List Input → ℕ → Connection → Target → Input → List (Change (Msg P) (Unit {0}))
-changes_of inputs made me sink x =
-    Made x (new_of sink x) (me.streams + 1) (made + 1) ∷ regrouped x.sink sink.spec.channels (settled_on inputs x.sink ++ x ∷ []) ∷ []
+abbrev pub changes_of : {P : Type 0} → List Input → ℕ → Connection → Target → CreateFields → Input → List (Change (Msg P) (Unit {0}))
+changes_of inputs made me sink a x =
+    Made x (new_of sink a x) (me.streams + 1) (made + 1) ∷ regrouped x.sink sink.spec.channels (settled_on inputs x.sink ++ x ∷ []) ∷ []
 
 abbrev pub created : {P : Type 0} → List Input → ℕ → Connection → ℕ → Target → CreateFields → Input → Planned (Msg P) (Unit {0})
-created inputs made me tag sink a x = replied (created_reply tag (created_of sink a x)) (changes_of inputs made me sink x)
+created inputs made me tag sink a x = replied (created_reply tag (created_of sink a x)) (changes_of inputs made me sink a x)
 
 -- a connection asks for a stream, where these inputs are there and so many were ever made
 abbrev pub create : {P : Type 0} → List Input → ℕ → Connection → ℕ → Named → CreateFields → Row (Planned (Msg P) (Unit {0}))

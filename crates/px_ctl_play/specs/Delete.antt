@@ -1,15 +1,31 @@
--- The end of a stream: DELETE_PLAYBACK_STREAM (PulseAudio: `command_delete_stream` of pulsecore/protocol-native.c).
-use Rattle.std.specs.Prelude.{ℕ, [], ◌∷◌, Option, Ok}
+-- The end of a stream: DELETE_PLAYBACK_STREAM (PulseAudio: `command_delete_stream` of pulsecore/protocol-native.c; that requests which wait are told so is own).
+use Rattle.std.specs.Prelude.{ℕ, List, [], ◌∷◌, map, Option, Some, Ok}
 use Rattle.px_types.specs.declared.error_code.ErrorCode.TheVariants.{NoEntity}
+use Rattle.px_types.specs.ErrorCode.{code_of}
 use Rattle.px_msg.specs.declared.message.Msg.{Msg}
-use Rattle.px_reply.specs.Front.{reply_to}
+use Rattle.px_reply.specs.Front.{reply_to, refusal}
 use Rattle.px_plan.specs.declared.change.Change.TheVariants.{Leaves}
 use Rattle.px_plan.specs.declared.input.Input.{Input}
-use Rattle.px_plan.specs.Plan.{Planned, replied}
+use Rattle.px_plan.specs.declared.sending.Sending.{Sending}
+use Rattle.px_plan.specs.declared.waiting.Waiting.{Waiting}
+use Rattle.px_plan.specs.Plan.{Planned}
 use Rattle.px_plan.specs.Row.{Row, ◌>>=◌, present}
+use Rattle.px_plan.specs.Waiting.{waiting_of}
+
+-- the error for a request about an input that is no more
+abbrev pub error_for : Input → Waiting → Sending
+error_for x w = record { conn = x.conn; packet = refusal w.tag (code_of NoEntity) }
+
+-- those of all that wait of it, in the order in which they were asked
+abbrev pub errors_for : Input → List Waiting → List Sending
+errors_for x waiting = map (error_for x) (waiting_of waiting x.index)
+
+-- an input ends: the client has its reply, and then an error for each request that waits
+abbrev pub deleted : {P : Type 0} → Input → List Waiting → ℕ → Planned (Msg P) (Unit {0})
+deleted x waiting tag = record { reply = Some (reply_to tag); errors = errors_for x waiting; told = []; changes = Leaves x.index ∷ [] }
 
 -- the connection's stream ends, where it is there
-abbrev pub delete : {P : Type 0} → Option Input → ℕ → Row (Planned (Msg P) (Unit {0}))
-delete stream tag = do
+abbrev pub delete : {P : Type 0} → Option Input → List Waiting → ℕ → Row (Planned (Msg P) (Unit {0}))
+delete stream waiting tag = do
   x ← present stream NoEntity
-  Ok (replied (reply_to tag) (Leaves (Input.index x) ∷ []))
+  Ok (deleted x waiting tag)

@@ -1,6 +1,12 @@
+pub mod Time
 pub mod Asked
 pub mod Factors
 pub mod Create
 pub mod Delete
 pub mod Data
+pub mod Control
+pub mod Attributes
+pub mod Answer
+pub mod Drain
+pub mod Latency
 pub mod Told

@@ -9,6 +9,7 @@ ghost use Rattle.px_ctl_play.specs.Create.{straight, new_of, latency_of, raw_of,
 
 use crate::asked::positions_on;
 use crate::factors::unity;
+use crate::time::microseconds;
 use px_chmap::Feed;
 use px_cmd::CreateFields;
 use px_msg::{Msg, NewStream, in_bytes};
@@ -45,9 +46,9 @@ fn straight(channels: u8) -> Feed
 }
 
 /// The message that brings a stream to its sink. Takes no memory.
-pub(crate) fn new_of<P>(sink: &Target, x: &Input) -> Msg<P>
+pub(crate) fn new_of<P>(sink: &Target, a: &CreateFields, x: &Input) -> Msg<P>
     requires { IsTarget sink.now }
-    ensures { result ≡ new_of sink.now x.now }
+    ensures { result ≡ new_of sink.now a.now x.now }
 {
     Msg::New(NewStream {
         input: x.index,
@@ -55,7 +56,7 @@ pub(crate) fn new_of<P>(sink: &Target, x: &Input) -> Msg<P>
         feed: straight(sink.spec.channels),
         factors: unity(sink.spec.channels),
         attr: x.attr,
-        corked: false,
+        corked: a.corked,
     })
 }
 
@@ -64,7 +65,7 @@ fn latency_of(sink: &Target) -> u64
     requires { IsTarget sink.now }
     ensures { result ≡ latency_of sink.now }
 {
-    u64::from(sink.depth) * 1_000_000 / u64::from(sink.spec.rate)
+    microseconds(sink.spec.rate, sink.depth)
 }
 
 fn raw_of(spec: &Spec) -> RawSpec

@@ -49,17 +49,18 @@ fn changes_of<P: Drop>(
     made: u32,
     me: &Connection,
     sink: &Target,
+    a: &CreateFields,
     x: Input,
 ) -> Mem<Vec<Change<Msg<P>, ()>>>
     requires sink { IsTarget sink.now }
     requires inputs { made < 4294967295 }
     requires streams { me.now.streams < 4294967295 }
-    ensures { IfOk result (λ changes. changes.items ≡ changes_of inputs.now made me.now sink.now x) }
+    ensures { IfOk result (λ changes. changes.items ≡ changes_of inputs.now made me.now sink.now a.now x) }
 {
     let mut changes = Vec::new(alloc);
     changes.push(Change::Made {
         input: x,
-        new: new_of(sink, &x),
+        new: new_of(sink, a, &x),
         streams: me.streams + 1,
         inputs: made + 1,
     })?;
@@ -85,13 +86,13 @@ fn created<P: Drop>(
     ensures { Plans result (Ok (created inputs.now made me.now tag sink a.now (input_made made me.now sink a.now))) }
 {
     let x = input_made(made, me, &sink, a);
-    let changes = changes_of(alloc, inputs, made, me, &sink, x)?;
+    let changes = changes_of(alloc, inputs, made, me, &sink, a, x)?;
     let reply = reply_of(alloc, tag, sink, a, &x)?;
     Ok(Plan::replied(alloc, reply, changes))
 }
 
 /// CREATE_PLAYBACK_STREAM of a connection, where these inputs are there and so many were ever made: a stream is made on the
-/// sink that is named, corked never. Refused, by the first of these that holds: `Invalid` for a spec, a map or volumes that
+/// sink that is named. Refused, by the first of these that holds: `Invalid` for a spec, a map or volumes that
 /// can't be, and where a sink is named twice over; `NoEntity` where no sink is there; `NotSupported` for floating point, a
 /// variable rate or another rate than the sink's; `TooLarge` where 256 inputs are bound for the sink, or 1,024 go on in all,
 /// or no number is left; `NotImplemented` for one that isn't built. Own: PulseAudio resamples, and has no such limits.

@@ -1,25 +1,62 @@
-//! The end of a stream: DELETE_PLAYBACK_STREAM (PulseAudio: `command_delete_stream` of `pulsecore/protocol-native.c`).
+//! The end of a stream: DELETE_PLAYBACK_STREAM (PulseAudio: `command_delete_stream` of `pulsecore/protocol-native.c`; that
+//! requests which wait are told so is own).
 
-ghost use Rattle.std.specs.Prelude.{◌≡◌};
+ghost use Rattle.std.specs.Prelude.{◌≡◌, ◌++◌, ◌∷◌, List, IfOk, OnOk};
+ghost use Rattle.px_plan.specs.declared.waiting.Waiting.{Waiting};
 ghost use Rattle.px_plan.specs.Row.{Plans};
-ghost use Rattle.px_ctl_play.specs.Delete.{delete};
+ghost use Rattle.px_ctl_play.specs.Delete.{errors_for, delete};
 
 use px_msg::Msg;
-use px_plan::{Change, Input, Plan, Refusal, present};
+use px_plan::{Change, Input, Plan, Refusal, Sending, Waiting, present};
+use px_tag::Mem;
 use px_types::ErrorCode;
 use std::alloc::Global;
 
-/// DELETE_PLAYBACK_STREAM: `NoEntity` where the connection has no stream of this number, else the stream ends.
+// One error more, where the request is about the input.
+fn add_error(alloc: Global, errors: &mut Vec<Sending>, x: &Input, w: &Waiting) -> Mem<()>
+    ensures { OnOk result ((more : List Waiting) →
+        errors.new.items ++ errors_for x.now more ≡ errors.old.items ++ errors_for x.now (w.now ∷ more)) }
+{
+    if w.input.0 == x.index.0 {
+        errors.push(Sending {
+            conn: x.conn,
+            packet: px_reply::error(alloc, w.tag, ErrorCode::NoEntity)?,
+        })?;
+    }
+    Ok(())
+}
+
+// The errors for all requests that wait of an input, in the order in which they were asked.
+fn errors_for(alloc: Global, x: &Input, waiting: &[Waiting]) -> Mem<Vec<Sending>>
+    ensures { IfOk result (λ errors. errors.items ≡ errors_for x.now waiting.now) }
+{
+    let mut errors = Vec::new(alloc);
+    for request in waiting {
+        add_error(alloc, &mut errors, x, request)?;
+    }
+    Ok(errors)
+}
+
+/// DELETE_PLAYBACK_STREAM, where so many requests wait: `NoEntity` where the connection has no stream of this number, else
+/// the stream ends. Behind the plain reply each request that waits of it is answered by the error `NoEntity`, in the order in
+/// which they were asked.
 pub fn delete<P: Drop>(
     alloc: Global,
     stream: Option<Input>,
+    waiting: &[Waiting],
     tag: u32,
 ) -> Result<Plan<Msg<P>, ()>, Refusal>
-    ensures { Plans result (delete stream tag) }
+    ensures { Plans result (delete stream waiting.now tag) }
 {
     let x = present(stream, ErrorCode::NoEntity)?;
     let reply = px_reply::plain(alloc, tag)?;
+    let errors = errors_for(alloc, &x, waiting)?;
     let mut changes = Vec::new(alloc);
     changes.push(Change::Leaves(x.index))?;
-    Ok(Plan::replied(alloc, reply, changes))
+    Ok(Plan {
+        reply: Some(reply),
+        errors,
+        told: Vec::new(alloc),
+        changes,
+    })
 }

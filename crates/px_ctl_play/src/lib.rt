@@ -2,18 +2,28 @@
 //! and gives a plan or the reason why it is refused. It exports a call a command, and one a kind of notice.
 #![tactic(auto)]
 
+mod answer;
 mod asked;
+mod buffer_attr;
+mod control;
 mod created;
 mod creation;
 mod data;
 mod deletion;
 mod departure;
+mod draining;
 mod factors;
 mod refusals;
+mod time;
+mod timing;
 mod told;
 
+pub use buffer_attr::attributes;
+pub use control::{cork, flush, prebuf, trigger};
 pub use creation::create;
 pub use data::{Frames, frames_of, write};
 pub use deletion::delete;
 pub use departure::left;
+pub use draining::{drain, drained};
+pub use timing::{Progress, latency, measured};
 pub use told::{News, tell};

@@ -1,13 +1,12 @@
 //! Why a stream that could be isn't made on its sink.
 
-ghost use Rattle.std.specs.Prelude.{◌≡◌, ◌<◌, ◌≤◌, true, nat_eq, length};
+ghost use Rattle.std.specs.Prelude.{◌≡◌, ◌<◌, true, nat_eq, length};
 ghost use Rattle.std.specs.List.{list_all};
 ghost use Rattle.px_vol.specs.Volume.{norm};
 ghost use Rattle.px_plan.specs.Input.{belongs_to, is_bound_for, bound_for, going_of, is_leaving, goes_on};
-ghost use Rattle.px_plan.specs.Target.{IsTarget};
 ghost use Rattle.px_ctl_play.specs.Asked.{same_positions, is_supported, is_built, has_room};
 
-use crate::asked::{attr_on, format_on, positions_on, rate_on};
+use crate::asked::{format_on, positions_on, rate_on};
 use px_cmd::CreateFields;
 use px_plan::{Connection, Input, Standing, Target};
 use px_types::SinkId;
@@ -96,16 +95,12 @@ fn are_neutral(volumes: &[u32]) -> bool
     volumes.iter().all(|v| *v == NORM)
 }
 
-/// Whether such a stream begins at once and without prebuffering, in S16LE on the sink's own map, not muted and at the volume
-/// that leaves the sound as it is. Takes no memory.
+/// Whether such a stream is in S16LE on the sink's own map, not muted and at the volume that leaves the sound as it is. Takes
+/// no memory.
 pub(crate) fn is_built(sink: &Target, a: &CreateFields) -> bool
-    requires sink { IsTarget sink.now }
-    requires asked { 1 ≤ a.now.spec.channels }
     ensures { result ≡ is_built sink.now a.now }
 {
-    !a.corked
-        && attr_on(sink, a).prebuf == 0
-        && format_on(sink, a) == 3
+    format_on(sink, a) == 3
         && same_positions(positions_on(sink, a), sink.map.positions())
         && !a.muted
         && are_neutral(a.volume.as_slice())

@@ -1,0 +1,31 @@
+-- The end of what was written: DRAIN_PLAYBACK_STREAM, and the sink's answer to it (PulseAudio: `command_drain_playback_stream` and PLAYBACK_STREAM_MESSAGE_DRAIN_ACK of pulsecore/protocol-native.c; which notices fit is own).
+use Rattle.std.specs.Prelude.{ℕ, cond, List, Option, None, Some, Ok}
+use Rattle.px_types.specs.declared.error_code.ErrorCode.TheVariants.{NoEntity}
+use Rattle.px_msg.specs.declared.message.Msg.{Msg}
+use Rattle.px_msg.specs.declared.message.Msg.TheVariants.{Drain}
+use Rattle.px_reply.specs.Front.{reply_to}
+use Rattle.px_plan.specs.declared.input.Connection.{Connection}
+use Rattle.px_plan.specs.declared.input.Input.{Input}
+use Rattle.px_plan.specs.declared.waiting.Awaited.TheVariants.{Drained}
+use Rattle.px_plan.specs.declared.waiting.Waiting.{Waiting}
+use Rattle.px_plan.specs.Input.{goes_on}
+use Rattle.px_plan.specs.Plan.{Planned, idle}
+use Rattle.px_plan.specs.Row.{Row, ◌>>=◌, present}
+use Rattle.px_plan.specs.Waiting.{drain_under}
+use Rattle.px_ctl_play.specs.Answer.{asked, answered}
+
+-- the sink of the connection's stream, where it is there, is asked to say when all of it was played
+abbrev pub drain : {P : Type 0} → Option Input → ℕ → Row (Planned (Msg P) (Unit {0}))
+drain stream tag = do
+  x ← present stream NoEntity
+  Ok (asked x (Drain (Input.index x) tag) Drained tag)
+
+-- the request has a reply without fields, where it waits
+abbrev pub drain_answered : {P : Type 0} → Option Connection → Option Waiting → Planned (Msg P) (Unit {0})
+drain_answered owner None = idle
+drain_answered owner (Some w) = answered owner w (reply_to w.tag)
+
+-- all of an input was played: the first drain under the tag that waits of it is answered, where it is there and goes on
+abbrev pub drained : {P : Type 0} → Option Input → Option Connection → List Waiting → ℕ → Planned (Msg P) (Unit {0})
+drained None owner waiting tag = idle
+drained (Some x) owner waiting tag = cond (goes_on x) (drain_answered owner (drain_under waiting x.index tag)) idle

@@ -1,0 +1,68 @@
+//! Requests that are answered later, once a stream's sink has told what they ask for.
+
+ghost use Rattle.std.specs.Prelude.{◌≡◌, IfOk, Ok};
+ghost use Rattle.px_plan.specs.Row.{Plans};
+ghost use Rattle.px_ctl_play.specs.Answer.{asked, sent_to, answered};
+
+use px_msg::Msg;
+use px_plan::{Awaited, Change, Connection, Input, Plan, Refusal, Sending, Waiting};
+use px_tag::Packet;
+use px_types::Mem;
+use std::alloc::Global;
+
+/// An input's sink is asked, and the request waits.
+pub(crate) fn asked<P: Drop>(
+    alloc: Global,
+    x: &Input,
+    message: Msg<P>,
+    awaited: Awaited,
+    tag: u32,
+) -> Result<Plan<Msg<P>, ()>, Refusal>
+    ensures { Plans result (Ok (asked x.now message awaited tag)) }
+{
+    let mut changes = Vec::new(alloc);
+    changes.push(Change::Said(x.index, message))?;
+    changes.push(Change::Asked(Waiting {
+        input: x.index,
+        tag,
+        awaited,
+    }))?;
+    Ok(Plan::changing(alloc, changes))
+}
+
+// A packet for a connection, where that is there.
+fn sent_to(alloc: Global, owner: Option<Connection>, packet: Packet) -> Mem<Vec<Sending>>
+    ensures { IfOk result (λ sent. sent.items ≡ sent_to owner packet) }
+{
+    let mut sent = Vec::new(alloc);
+    match owner {
+        Some(owner) => {
+            sent.push(Sending {
+                conn: owner.conn,
+                packet,
+            })?;
+            Ok(sent)
+        }
+        None => Ok(sent),
+    }
+}
+
+/// A request waits no more, and its connection, where that is there, has the reply.
+pub(crate) fn answered<P: Drop>(
+    alloc: Global,
+    owner: Option<Connection>,
+    request: Waiting,
+    reply: Packet,
+) -> Mem<Plan<Msg<P>, ()>>
+    ensures { IfOk result (λ plan. plan ≡ answered owner request reply) }
+{
+    let told = sent_to(alloc, owner, reply)?;
+    let mut changes = Vec::new(alloc);
+    changes.push(Change::Answered(request))?;
+    Ok(Plan {
+        reply: None,
+        errors: Vec::new(alloc),
+        told,
+        changes,
+    })
+}

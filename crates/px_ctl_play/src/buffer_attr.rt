@@ -1,0 +1,58 @@
+//! New buffer attributes: SET_PLAYBACK_STREAM_BUFFER_ATTR (PulseAudio: `command_set_stream_buffer_attr` of
+//! `pulsecore/protocol-native.c`).
+
+ghost use Rattle.std.specs.Prelude.{◌≡◌, ◌≤◌, IfSome, Ok};
+ghost use Rattle.px_msg.specs.Repair.{repaired};
+ghost use Rattle.px_plan.specs.Row.{Plans};
+ghost use Rattle.px_ctl_play.specs.Attributes.{attributed, attributes};
+
+use crate::time::microseconds;
+use px_msg::{Msg, in_bytes, repair};
+use px_plan::{Change, Input, Plan, Refusal, present};
+use px_types::ErrorCode;
+use std::alloc::Global;
+
+// A stream gets the attributes that are asked for, repaired.
+fn attributed<P: Drop>(
+    alloc: Global,
+    depth: u32,
+    rate: u32,
+    x: &Input,
+    asked: [u32; 4],
+    tag: u32,
+) -> Result<Plan<Msg<P>, ()>, Refusal>
+    requires rate { 1 ≤ rate }
+    requires channels { 1 ≤ x.now.spec.channels }
+    ensures { Plans result (Ok (attributed depth rate x.now (repaired x.now.spec asked) tag)) }
+{
+    let attr = repair(&x.spec, asked);
+    let bytes = in_bytes(&x.spec, &attr);
+    let reply = px_reply::attributes(alloc, tag, bytes, microseconds(rate, depth))?;
+    let message = Msg::Attr {
+        input: x.index,
+        attr,
+    };
+    let mut changes = Vec::new(alloc);
+    changes.push(Change::Said(x.index, message))?;
+    Ok(Plan::replied(alloc, reply, changes))
+}
+
+/// SET_PLAYBACK_STREAM_BUFFER_ATTR, which asks for maxlength, tlength, prebuf and minreq in bytes: `NoEntity` where the
+/// connection has no stream of this number, else its sink is told them as they are repaired, and the client too, in bytes and
+/// with the sink's latency. `depth` is in frames and `rate` in frames a second, both of the sink that the stream is on; a
+/// stream has a channel.
+pub fn attributes<P: Drop>(
+    alloc: Global,
+    stream: Option<Input>,
+    depth: u32,
+    rate: u32,
+    asked: [u32; 4],
+    tag: u32,
+) -> Result<Plan<Msg<P>, ()>, Refusal>
+    requires rate { 1 ≤ rate }
+    requires channels { IfSome stream (λ x. 1 ≤ x.spec.channels) }
+    ensures { Plans result (attributes stream depth rate asked tag) }
+{
+    let x = present(stream, ErrorCode::NoEntity)?;
+    attributed(alloc, depth, rate, &x, asked, tag)
+}

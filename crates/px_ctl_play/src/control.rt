@@ -1,0 +1,79 @@
+//! Commands that tell a stream's sink what to do, and are answered at once (PulseAudio: `command_cork_playback_stream` and
+//! `command_trigger_or_flush_or_prebuf_playback_stream` of `pulsecore/protocol-native.c`).
+
+ghost use Rattle.std.specs.Prelude.{◌≡◌, Ok};
+ghost use Rattle.px_plan.specs.Row.{Plans};
+ghost use Rattle.px_ctl_play.specs.Control.{said, cork, flush, trigger, prebuf};
+
+use px_msg::Msg;
+use px_plan::{Change, Input, Plan, Refusal, present};
+use px_types::ErrorCode;
+use std::alloc::Global;
+
+// An input's sink is told this, and the client has a reply without fields.
+fn said<P: Drop>(
+    alloc: Global,
+    x: &Input,
+    message: Msg<P>,
+    tag: u32,
+) -> Result<Plan<Msg<P>, ()>, Refusal>
+    ensures { Plans result (Ok (said x.now message tag)) }
+{
+    let reply = px_reply::plain(alloc, tag)?;
+    let mut changes = Vec::new(alloc);
+    changes.push(Change::Said(x.index, message))?;
+    Ok(Plan::replied(alloc, reply, changes))
+}
+
+/// CORK_PLAYBACK_STREAM: `NoEntity` where the connection has no stream of this number, else its sink is told to cork it, or to
+/// let it go on.
+pub fn cork<P: Drop>(
+    alloc: Global,
+    stream: Option<Input>,
+    on: bool,
+    tag: u32,
+) -> Result<Plan<Msg<P>, ()>, Refusal>
+    ensures { Plans result (cork stream on tag) }
+{
+    let x = present(stream, ErrorCode::NoEntity)?;
+    said(alloc, &x, Msg::Cork { input: x.index, on }, tag)
+}
+
+/// FLUSH_PLAYBACK_STREAM: `NoEntity` where the connection has no stream of this number, else its sink is told to drop what
+/// the stream holds.
+pub fn flush<P: Drop>(
+    alloc: Global,
+    stream: Option<Input>,
+    tag: u32,
+) -> Result<Plan<Msg<P>, ()>, Refusal>
+    ensures { Plans result (flush stream tag) }
+{
+    let x = present(stream, ErrorCode::NoEntity)?;
+    said(alloc, &x, Msg::Flush { input: x.index }, tag)
+}
+
+/// TRIGGER_PLAYBACK_STREAM: `NoEntity` where the connection has no stream of this number, else its sink is told to play it
+/// without waiting.
+pub fn trigger<P: Drop>(
+    alloc: Global,
+    stream: Option<Input>,
+    tag: u32,
+) -> Result<Plan<Msg<P>, ()>, Refusal>
+    ensures { Plans result (trigger stream tag) }
+{
+    let x = present(stream, ErrorCode::NoEntity)?;
+    said(alloc, &x, Msg::Trigger { input: x.index }, tag)
+}
+
+/// PREBUF_PLAYBACK_STREAM: `NoEntity` where the connection has no stream of this number, else its sink is told to let it wait
+/// for prebuf frames again.
+pub fn prebuf<P: Drop>(
+    alloc: Global,
+    stream: Option<Input>,
+    tag: u32,
+) -> Result<Plan<Msg<P>, ()>, Refusal>
+    ensures { Plans result (prebuf stream tag) }
+{
+    let x = present(stream, ErrorCode::NoEntity)?;
+    said(alloc, &x, Msg::Prebuf { input: x.index }, tag)
+}

@@ -1,0 +1,86 @@
+//! The end of what was written: DRAIN_PLAYBACK_STREAM, and the sink's answer to it (PulseAudio:
+//! `command_drain_playback_stream` and PLAYBACK_STREAM_MESSAGE_DRAIN_ACK of `pulsecore/protocol-native.c`; which notices fit is
+//! own).
+
+ghost use Rattle.std.specs.Prelude.{◌≡◌, IfOk};
+ghost use Rattle.std.specs.Option.{option_map};
+ghost use Rattle.px_plan.specs.Row.{Plans};
+ghost use Rattle.px_plan.specs.Waiting.{is_drain_under, drain_under};
+ghost use Rattle.px_ctl_play.specs.Drain.{drain, drain_answered, drained};
+
+use crate::answer::{answered, asked};
+use crate::refusals::goes_on;
+use px_msg::Msg;
+use px_plan::{Awaited, Connection, Input, Plan, Refusal, Waiting, present};
+use px_types::{ErrorCode, InputId, Mem, NoMemory};
+use std::alloc::Global;
+
+/// DRAIN_PLAYBACK_STREAM: `NoEntity` where the connection has no stream of this number, else its sink is asked to play it
+/// without waiting and to say when all of it was played. The client has its reply then.
+pub fn drain<P: Drop>(
+    alloc: Global,
+    stream: Option<Input>,
+    tag: u32,
+) -> Result<Plan<Msg<P>, ()>, Refusal>
+    ensures { Plans result (drain stream tag) }
+{
+    let x = present(stream, ErrorCode::NoEntity)?;
+    let message = Msg::Drain {
+        input: x.index,
+        tag,
+    };
+    asked(alloc, &x, message, Awaited::Drained, tag)
+}
+
+// Whether a request is a drain of an input under a tag.
+fn is_drain_under(input: InputId, tag: u32, request: &Waiting) -> bool
+    ensures { result ≡ is_drain_under input tag request.now }
+{
+    request.input.0 == input.0 && request.tag == tag && matches!(request.awaited, Awaited::Drained)
+}
+
+// The first drain of an input under a tag that waits.
+fn drain_under(waiting: &[Waiting], input: InputId, tag: u32) -> Option<&Waiting>
+    ensures { option_map (λ request. request.now) result ≡ drain_under waiting.now input tag }
+{
+    waiting
+        .iter()
+        .find(|request| is_drain_under(input, tag, request))
+}
+
+// The request has a reply without fields, where it waits.
+fn drain_answered<P: Drop>(
+    alloc: Global,
+    owner: Option<Connection>,
+    request: Option<&Waiting>,
+) -> Mem<Plan<Msg<P>, ()>>
+    ensures { IfOk result (λ plan. plan ≡ drain_answered owner (option_map (λ request. request.now) request.entry)) }
+{
+    let Some(request) = request else {
+        return Ok(Plan::idle(alloc));
+    };
+    match px_reply::plain(alloc, request.tag) {
+        Ok(reply) => answered(alloc, owner, *request, reply),
+        Err(_) => Err(NoMemory),
+    }
+}
+
+/// A sink has played all of the input that it has, if it has that one: the first drain under the tag that waits of it is
+/// answered by a reply without fields to the connection of the input, where that goes on. Ignored where the input has ended,
+/// and where no such request waits.
+pub fn drained<P: Drop>(
+    alloc: Global,
+    input: Option<Input>,
+    owner: Option<Connection>,
+    waiting: &[Waiting],
+    tag: u32,
+) -> Mem<Plan<Msg<P>, ()>>
+    ensures { IfOk result (λ plan. plan ≡ drained input owner waiting.now tag) }
+{
+    match input {
+        Some(x) if goes_on(&x) => {
+            drain_answered(alloc, owner, drain_under(waiting, x.index, tag))
+        }
+        _ => Ok(Plan::idle(alloc)),
+    }
+}

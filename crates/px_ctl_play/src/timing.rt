@@ -1,0 +1,178 @@
+//! How far a stream is: GET_PLAYBACK_LATENCY, and the sink's answer to it (PulseAudio: `command_get_playback_latency` of
+//! `pulsecore/protocol-native.c`; that the server tells the client's own time twice, and which notices fit, is own).
+
+ghost use Rattle.std.specs.Prelude.{◌≡◌, ◌≤◌, IfOk};
+ghost use Rattle.std.specs.Option.{option_map};
+ghost use Rattle.px_plan.specs.Row.{Plans};
+ghost use Rattle.px_plan.specs.Waiting.{is_question_under, question_under};
+ghost use Rattle.px_ctl_play.specs.Latency.{latency, index_in_bytes, count_in_bytes, silent_for, playing_for, time_given, fields_of, latency_answered, measured};
+
+use crate::answer::{answered, asked};
+use crate::data::frame_size;
+use crate::refusals::goes_on;
+use crate::time::microseconds;
+use px_msg::{Msg, Run};
+use px_plan::{Awaited, Connection, Input, Plan, Refusal, Waiting, present};
+use px_reply::LatencyFields;
+use px_sample::Spec;
+use px_tag::TimeVal;
+use px_types::{ErrorCode, InputId, Mem, NoMemory};
+use std::alloc::Global;
+
+/// How far a stream is, in frames, as its sink tells it.
+#[derive(Clone, Copy, Debug, PartialEq, Eq)]
+pub struct Progress {
+    /// The next frame to write.
+    pub write: i64,
+    /// The read index once all rendered frames are given.
+    pub read: i64,
+    /// How many frames wait in the sink's buffer.
+    pub buffered: u32,
+    /// Whether it plays then.
+    pub playing: bool,
+    /// Its run then.
+    pub run: Run,
+}
+
+/// GET_PLAYBACK_LATENCY: `NoEntity` where the connection has no stream of this number, else its sink is asked how far the
+/// stream is. The client has its reply, with the time that it gives, once the sink has told it.
+pub fn latency<P: Drop>(
+    alloc: Global,
+    stream: Option<Input>,
+    time: TimeVal,
+    tag: u32,
+) -> Result<Plan<Msg<P>, ()>, Refusal>
+    ensures { Plans result (latency stream time tag) }
+{
+    let x = present(stream, ErrorCode::NoEntity)?;
+    let message = Msg::Query {
+        input: x.index,
+        tag,
+    };
+    asked(alloc, &x, message, Awaited::Latency(time), tag)
+}
+
+// An index in bytes, or the nearest number of 64 bits.
+fn index_in_bytes(spec: Spec, index: i64) -> i64
+    ensures { result ≡ index_in_bytes spec index }
+{
+    index.saturating_mul(frame_size(spec) as i64)
+}
+
+// So many frames in bytes, or the last number of 64 bits where they are more.
+fn count_in_bytes(spec: Spec, frames: u64) -> u64
+    ensures { result ≡ count_in_bytes spec frames }
+{
+    frames.saturating_mul(frame_size(spec) as u64)
+}
+
+// For how many frames it has been silent.
+fn silent_for(run: Run) -> u64
+    ensures { result ≡ silent_for run }
+{
+    match run {
+        Run::Quiet(frames) => frames,
+        Run::Playing(_) => 0,
+    }
+}
+
+// For how many frames it has played.
+fn playing_for(run: Run) -> u64
+    ensures { result ≡ playing_for run }
+{
+    match run {
+        Run::Quiet(_) => 0,
+        Run::Playing(frames) => frames,
+    }
+}
+
+// The time that the client gave.
+fn time_given(awaited: Awaited) -> TimeVal
+    ensures { result ≡ time_given awaited }
+{
+    match awaited {
+        Awaited::Drained => TimeVal {
+            seconds: 0,
+            micros: 0,
+        },
+        Awaited::Latency(time) => time,
+    }
+}
+
+// What the client is told, that gave this time.
+fn fields_of(rate: u32, x: &Input, progress: Progress, time: TimeVal) -> LatencyFields
+    requires { 1 ≤ rate }
+    ensures { result ≡ fields_of rate x.now progress time }
+{
+    LatencyFields {
+        usec: microseconds(rate, progress.buffered),
+        playing: progress.playing,
+        time,
+        write: index_in_bytes(x.spec, progress.write),
+        read: index_in_bytes(x.spec, progress.read),
+        underrun: count_in_bytes(x.spec, silent_for(progress.run)),
+        played: count_in_bytes(x.spec, playing_for(progress.run)),
+    }
+}
+
+// Whether a request asks how far an input is, under a tag.
+fn is_question_under(input: InputId, tag: u32, request: &Waiting) -> bool
+    ensures { result ≡ is_question_under input tag request.now }
+{
+    request.input.0 == input.0 && request.tag == tag && !matches!(request.awaited, Awaited::Drained)
+}
+
+// The first question of an input under a tag that waits.
+fn question_under(waiting: &[Waiting], input: InputId, tag: u32) -> Option<&Waiting>
+    ensures { option_map (λ request. request.now) result ≡ question_under waiting.now input tag }
+{
+    waiting
+        .iter()
+        .find(|request| is_question_under(input, tag, request))
+}
+
+// The request has its reply, where it waits.
+fn latency_answered<P: Drop>(
+    alloc: Global,
+    rate: u32,
+    x: &Input,
+    owner: Option<Connection>,
+    request: Option<&Waiting>,
+    progress: Progress,
+) -> Mem<Plan<Msg<P>, ()>>
+    requires { 1 ≤ rate }
+    ensures { IfOk result (λ plan. plan ≡ latency_answered rate x.now owner (option_map (λ request. request.now) request.entry) progress) }
+{
+    let Some(request) = request else {
+        return Ok(Plan::idle(alloc));
+    };
+    let fields = fields_of(rate, x, progress, time_given(request.awaited));
+    match px_reply::latency(alloc, request.tag, &fields) {
+        Ok(reply) => answered(alloc, owner, *request, reply),
+        Err(_) => Err(NoMemory),
+    }
+}
+
+/// A sink of a rate, in frames a second, tells how far the input is that it has, if it has that one: the first question under
+/// the tag that waits of it is answered to the connection of the input, where that goes on. Ignored where the input has ended,
+/// and where no such request waits. What a field of the reply can't hold is the nearest end of the field.
+pub fn measured<P: Drop>(
+    alloc: Global,
+    input: Option<Input>,
+    owner: Option<Connection>,
+    waiting: &[Waiting],
+    rate: u32,
+    tag: u32,
+    progress: Progress,
+) -> Mem<Plan<Msg<P>, ()>>
+    requires { 1 ≤ rate }
+    ensures { IfOk result (λ plan. plan ≡ measured input owner waiting.now rate tag progress) }
+{
+    match input {
+        Some(x) if goes_on(&x) => {
+            let request = question_under(waiting, x.index, tag);
+            latency_answered(alloc, rate, &x, owner, request, progress)
+        }
+        _ => Ok(Plan::idle(alloc)),
+    }
+}
