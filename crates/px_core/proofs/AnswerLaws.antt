@@ -1,4 +1,4 @@
--- The changes of each answer to data and to notices are lawful.
+-- The changes that data and notices make are lawful.
 use Rattle.std.proofs.Common.{◌≡◌, ℕ, ◌<◌, ◌≤◌, List, [], ◌∷◌, map, length, Option, Some, None, Bool, true, false, refl, ap, sym, subst, ◌∙◌, arith, cond}
 use Rattle.std.specs.Prelude.{◌*◌, ◌/◌, ◌%◌, ◌&&◌, not, filter, nat_eq, nat_lt, ℤ, pos, unsigned_abs, slice_get, IfSome}
 use Rattle.std.specs.Int.{int_div_euclid, int_rem_euclid}
@@ -23,19 +23,24 @@ use Rattle.px_plan.specs.declared.input.Standing.TheVariants.{Settled, Moving, L
 use Rattle.px_plan.specs.declared.input.Way.{Way}
 use Rattle.px_plan.specs.declared.input.Way.TheVariants.{Coming, There, Left}
 use Rattle.px_plan.specs.declared.change.Change.TheVariants.{Said, Gone}
-use Rattle.px_core.specs.State.{State, is_leaving, goes_on, has_index, input_of, is_stream, stream_of, is_settled, settled_on}
+use Rattle.px_plan.specs.Plan.{idle, changing}
+use Rattle.px_ctl_play.specs.declared.data.Frames.{Frames}
+use Rattle.px_ctl_play.specs.Data.{are_frames, frames_in, write, written, data_for}
+use Rattle.px_ctl_play.specs.Factors.{UNITY, factors_of, regrouped}
+use Rattle.px_ctl_play.specs.Told.{has_left, same_spec, gives_up, left}
+use Rattle.px_core.specs.State.{State, is_leaving, input_of, is_stream, stream_of, is_settled, settled_on}
 use Rattle.px_core.specs.Change.{changed}
-use Rattle.px_core.specs.Create.{UNITY, factors_of, factors_for}
-use Rattle.px_core.specs.Keeps.{IsKept, IsRising, IsIncreasing, AllAbove}
-use Rattle.px_core.specs.Lawful.{Suits, HasLeft, IsRegrouped, AreLawful}
-use Rattle.px_core.specs.Reply.{Answer, ignored}
-use Rattle.px_core.specs.Data.{are_frames, write_of, data_for}
-use Rattle.px_core.specs.Told.{has_left, same_spec, is_on, input_on, gives_up, given_up_on, given_up}
+use Rattle.px_core.specs.Keeps.{IsInput, IsKept, IsRising, IsIncreasing, AllAbove}
+use Rattle.px_core.specs.Lawful.{Suits, HasLeft, Lawful, AreLawful}
+use Rattle.px_core.specs.Notice.{is_on, input_on}
+use Rattle.px_core.specs.Plan.{Plan}
+use Rattle.px_core.specs.Sinks.{channels_of, channels_on}
 use Rattle.px_core.proofs.EntryLaws.{found_by_index}
+use Rattle.px_core.proofs.ListLaws.{found_test, found_all}
 
--- the changes of an answer are lawful
-abbrev pub IsLawful : {P : Type 0} → State P → Answer P → Type 0
-IsLawful state answer = AreLawful state answer.changes
+-- the changes of a plan are lawful
+abbrev pub IsLawful : {P : Type 0} → State P → Plan P → Type 0
+IsLawful state plan = AreLawful state plan.changes
 
 -- ---- data
 
@@ -54,9 +59,15 @@ data_fits x offset seek bytes few e =
 pub data_lawful : {P : Type 0} (state : State P) → IsRising state.inputs → (conn : ConnId) (stream : ℕ) (offset : ℤ) (seek : ℕ) (bytes : List ℕ) → seek ≤ 3 → (o : Option Input) → stream_of state.inputs conn stream ≡ o → IsLawful state (data_for o offset seek bytes)
 data_lawful state r conn stream offset seek bytes few None e = tt
 data_lawful {P} state r conn stream offset seek bytes few (Some x) e =
-    cond_both (are_frames (frame_size_of x.spec) offset (length bytes)) (record { changes = Said x.index (write_of x offset seek bytes) ∷ []; effects = [] }) ignored (IsLawful state)
-    (λ t. (subst (λ o. IfSome o (λ y. Suits {P = P} y (write_of x offset seek bytes))) (sym (found_by_index (is_stream conn stream) state.inputs r x e)) (refl, data_fits x offset seek bytes few t), tt))
+    cond_both (are_frames size offset (length bytes)) (Some frames) None (λ o. IsLawful state (written o x seek bytes))
+    (λ t. (subst (λ o. IfSome o (λ y. Suits {P = P} y (write x frames seek bytes))) (sym (found_by_index (is_stream conn stream) state.inputs r x e)) (refl, data_fits x offset seek bytes few t), tt))
     (λ t. tt)
+  where
+    size : ℕ
+    size = frame_size_of x.spec
+
+    frames : Frames
+    frames = record { offset = int_div_euclid offset (pos (frame_size_of x.spec)); count = length bytes / frame_size_of x.spec }
 
 -- ---- Factors of a sink
 
@@ -71,22 +82,23 @@ pub rising_filter : (p : Input → Bool) (xs : List Input) → IsRising xs → I
 rising_filter p [] r = tt
 rising_filter p (x ∷ xs) r = cond_both (p x) (x ∷ filter p xs) (filter p xs) IsRising (λ e. (above_filter p x.index.0 xs r.0, rising_filter p xs r.1)) (λ e. rising_filter p xs r.1)
 
-factors_fit : (sink s : SinkSpec) → sink ≡ s → (settled : List Input) → AllByRecursion (λ f. AreFactors (sample_spec s.spec) (Gains.factors f)) (map gains (factors_of sink settled))
-factors_fit sink s e [] = tt
-factors_fit sink s e (x ∷ settled) = (length-replicate sink.spec.channels UNITY ∙ ap (λ (z : SinkSpec). z.spec.channels) e, factors_fit sink s e settled)
+factors_fit : (channels : ℕ) (s : SinkSpec) → channels ≡ s.spec.channels → (settled : List Input) → AllByRecursion (λ f. AreFactors (sample_spec s.spec) (Gains.factors f)) (map gains (factors_of channels settled))
+factors_fit channels s e [] = tt
+factors_fit channels s e (x ∷ settled) = (length-replicate channels UNITY ∙ e, factors_fit channels s e settled)
 
-factors_above : (sink : SinkSpec) (i : ℕ) (settled : List Input) → AllAbove i settled → AllByRecursion (λ j. i < j) (map (λ f. (InputFactors.input f).0) (factors_of sink settled))
-factors_above sink i [] a = tt
-factors_above sink i (x ∷ settled) a = (a.0, factors_above sink i settled a.1)
+factors_above : (channels i : ℕ) (settled : List Input) → AllAbove i settled → AllByRecursion (λ j. i < j) (map (λ f. (InputFactors.input f).0) (factors_of channels settled))
+factors_above channels i [] a = tt
+factors_above channels i (x ∷ settled) a = (a.0, factors_above channels i settled a.1)
 
-factors_in_order : (sink : SinkSpec) (settled : List Input) → IsRising settled → IsIncreasing (map (λ f. (InputFactors.input f).0) (factors_of sink settled))
-factors_in_order sink [] r = tt
-factors_in_order sink (x ∷ settled) r = (factors_above sink x.index.0 settled r.0, factors_in_order sink settled r.1)
+factors_in_order : (channels : ℕ) (settled : List Input) → IsRising settled → IsIncreasing (map (λ f. (InputFactors.input f).0) (factors_of channels settled))
+factors_in_order channels [] r = tt
+factors_in_order channels (x ∷ settled) r = (factors_above channels x.index.0 settled r.0, factors_in_order channels settled r.1)
 
-pub regroups : {P : Type 0} (state : State P) (index : SinkId) (sink : SinkSpec) → slice_get state.sinks index.0 ≡ Some sink → (settled : List Input) → IsRising settled → IsRegrouped state index (factors_for sink settled)
-regroups state index sink e settled r = record {
-  there = slice_get_within state.sinks index.0 sink e;
-  factors = λ s g. (factors_fit sink s (same_Some sink s (sym e ∙ g)) settled, factors_in_order sink settled r);
+pub regroups : {P : Type 0} (state : State P) (index : SinkId) (channels : ℕ) → index.0 < length state.sinks → ((s : SinkSpec) → slice_get state.sinks index.0 ≡ Some s → channels ≡ s.spec.channels) → (settled : List Input) → IsRising settled
+    → Lawful state (regrouped index channels settled)
+regroups state index channels there same settled r = record {
+  there = there;
+  factors = λ s g. (factors_fit channels s (same s g) settled, factors_in_order channels settled r);
 }
 
 -- ---- a sink has given up a stream
@@ -101,24 +113,27 @@ left_all Settled e = absurd (false≢true e)
 left_all (Moving to) e = absurd (false≢true e)
 left_all Leaving e = refl
 
-twice : (b : Bool) → not (not b) ≡ b
-twice true = refl
-twice false = refl
+-- the channels of the sink that an input is on
+own_channels : (sinks : List SinkSpec) (sink on : SinkId) → on.0 ≡ sink.0 → (s : SinkSpec) → slice_get sinks on.0 ≡ Some s → channels_on sinks sink ≡ s.spec.channels
+own_channels sinks sink on same s e = ap channels_of (ap (slice_get sinks) (sym same) ∙ e)
 
-given_up_on_lawful : {P : Type 0} (state : State P) → IsRising state.inputs → (x : Input) → input_of state.inputs x.index ≡ Some x → HasLeft x → (o : Option SinkSpec) → slice_get state.sinks x.sink.0 ≡ o → IsLawful state (given_up_on state o x)
-given_up_on_lawful state r x here left None e = tt
-given_up_on_lawful state r x here left (Some sink) e = (
-  subst (λ o. IfSome o HasLeft) (sym here) left,
-  (regroups (changed state (Gone x.index)) x.sink sink e (settled_on state.inputs x.sink) (rising_filter (is_settled x.sink) state.inputs r), tt),
-)
+pub left_lawful : {P : Type 0} (spec_of : P → SampleSpec) (state : State P) → IsKept spec_of state → (sink : SinkId) (input : InputId) (spec : SampleSpec) (o : Option Input) → input_on state.inputs sink input ≡ o
+    → IsLawful state (left o spec (channels_on state.sinks sink) state.inputs)
+left_lawful spec_of state h sink input spec None e = tt
+left_lawful {P} spec_of state h sink input spec (Some x) e =
+    cond_both (gives_up spec x) (changing (Gone x.index ∷ regrouped x.sink (channels_on state.sinks sink) (settled_on state.inputs x.sink) ∷ [])) idle (IsLawful state) gone (λ t. tt)
+  where
+    on : x.sink.0 ≡ sink.0
+    on = eqb-true x.sink.0 sink.0 (and_parts (nat_eq x.index.0 input.0) (nat_eq x.sink.0 sink.0) (found_test (is_on sink input) state.inputs x e)).1
 
-pub given_up_lawful : {P : Type 0} (state : State P) → IsRising state.inputs → (sink : SinkId) (input : InputId) (spec : SampleSpec) (o : Option Input) → input_on state.inputs sink input ≡ o → IsLawful state (given_up state o spec)
-given_up_lawful state r sink input spec None e = tt
-given_up_lawful state r sink input spec (Some x) e =
-    cond_both (gives_up spec x) (given_up_on state (slice_get state.sinks x.sink.0) x) ignored (IsLawful state)
-    (λ t.
-    let parts = and_parts (not (goes_on x) && has_left x.way) (same_spec spec (sample_spec x.spec)) t in
-    let first = and_parts (not (goes_on x)) (has_left x.way) parts.0 in
-    given_up_on_lawful state r x (found_by_index (is_on sink input) state.inputs r x e)
-    (record { standing = left_all x.standing (sym (twice (is_leaving x.standing)) ∙ first.0); way = away x.way first.1 }) (slice_get state.sinks x.sink.0) refl)
-    (λ t. tt)
+    gone : gives_up spec x ≡ true → AreLawful state (Gone x.index ∷ regrouped x.sink (channels_on state.sinks sink) (settled_on state.inputs x.sink) ∷ [])
+    gone t =
+        let parts = and_parts (is_leaving x.standing && has_left x.way) (same_spec spec (sample_spec x.spec)) t in
+        let first = and_parts (is_leaving x.standing) (has_left x.way) parts.0 in
+        (
+          subst (λ o. IfSome o HasLeft) (sym (found_by_index (is_on sink input) state.inputs h.rising x e)) (record { standing = left_all x.standing first.0; way = away x.way first.1 }),
+          (regroups (changed state (Gone x.index)) x.sink (channels_on state.sinks sink)
+          (found_all (IsInput state.sinks state.inputs_made) (is_on sink input) state.inputs x h.inputs e).sink_there
+          (λ s g. own_channels state.sinks sink x.sink on s g)
+          (settled_on state.inputs x.sink) (rising_filter (is_settled x.sink) state.inputs h.rising), tt),
+        )

@@ -1,6 +1,6 @@
 -- A message that is put back leaves the state as it was before it was handed out.
 use Rattle.std.proofs.Common.{arith, ◌≡◌, ℕ, zero, suc, ◌+◌, ◌-◌, ◌<◌, ◌≤◌, List, [], ◌∷◌, ◌++◌, length, Option, Some, None, Bool, true, false, refl, ap, sym, subst, ◌∙◌, cond, ⊎_elim}
-use Rattle.std.specs.Prelude.{nat_eq, filter, flat_map, set, get_or, IsSome}
+use Rattle.std.specs.Prelude.{nat_eq, filter, flat_map, set, get_or, IsSome, IfSome}
 use Rattle.std.specs.List.{find}
 use Rattle.std.specs.Option.{option_to_list}
 use Rattle.std.specs.FinMap as finite
@@ -139,3 +139,14 @@ all_back {P} spec_of sink (suc n) core h = step (all_back spec_of sink n (sent s
     step : unsent_by sink (messages_out n sink (handed_out sink core.state)) (sent_by n sink (sent sink core)) ≡ sent sink core → (o : Option (Msg P)) → next_for core.state sink ≡ o → unsent_by sink (option_to_list o ++ messages_out n sink (handed_out sink core.state)) (sent_by n sink (sent sink core)) ≡ core
     step later None e = later ∙ none_back core sink e
     step later (Some m) e = ap (unsent sink m) later ∙ one_back spec_of core sink m h e
+
+-- ---- the message that a core has handed out
+
+pub whole_back : {P : Type 0} (spec_of : P → SampleSpec) (core now : Roomy P) (sink : SinkId) (r : Option (Msg P)) → IsKept spec_of core.state → r ≡ next_for core.state sink → now ≡ sent sink core → IfSome r (λ m. unsent sink m now ≡ core)
+whole_back spec_of core now sink None h e after = tt
+whole_back spec_of core now sink (Some m) h e after = ap (unsent sink m) after ∙ one_back spec_of core sink m h (sym e)
+
+pub kept_back : {P : Type 0} (spec_of : P → SampleSpec) (core now : Roomy P) (sink : SinkId) (r : Option (Msg P)) → IsKept spec_of core.state → r ≡ next_for core.state sink → now ≡ sent sink core → IfSome r (λ m. IsKept spec_of (put_back sink m now.state))
+kept_back spec_of core now sink None h e after = tt
+kept_back {P} spec_of core now sink (Some m) h e after =
+    subst (IsKept spec_of) (sym (ap (λ (c : Roomy P). c.state) (whole_back spec_of core now sink (Some m) h e after))) h

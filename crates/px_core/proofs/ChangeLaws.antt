@@ -24,7 +24,7 @@ use Rattle.px_plan.specs.declared.input.Standing.TheVariants.{Settled, Moving, L
 use Rattle.px_plan.specs.declared.input.Way.TheVariants.{Coming, Left}
 use Rattle.px_core.specs.State.{State, has_index, input_of, belongs_to, stays_on, is_bound_for, is_settled, bound_for, settled_on}
 use Rattle.px_core.specs.Change.{change_first, drop_first, leaving, with_attr, posting, without_standing, ending}
-use Rattle.px_core.specs.Create.{MOST_ON_SINK}
+use Rattle.px_ctl_play.specs.Asked.{MOST_ON_SINK}
 use Rattle.px_core.specs.Orderly.{entry_of, spec_in, specs_of, is_held_by, is_there}
 use Rattle.px_core.specs.Keeps.{AreInStep, AreAllInStep, IsInput, IsKept, IsRising, IsPosted, is_coming_to, is_coming, brought_of}
 use Rattle.px_core.proofs.ListLaws.{same_passed, same_left, no_more_pass, fewer_pass, all_change, all_drop, all_push, all_weaken, found_all}

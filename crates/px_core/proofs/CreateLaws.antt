@@ -1,16 +1,13 @@
 -- The changes of CREATE are lawful.
 use Rattle.std.proofs.Common.{◌≡◌, ℕ, zero, suc, ◌<◌, ◌≤◌, List, [], ◌∷◌, ◌++◌, length, min, max, Option, Some, None, Bool, true, false, refl, ap, sym, subst, ◌∙◌, arith, cond}
-use Rattle.std.specs.Prelude.{◌+◌, ◌-◌, ◌*◌, ◌/◌, ◌≢◌, ◌&&◌, ◌||◌, not, nat_eq, nat_lt, nat_le, slice_get, slice_index, Result, Ok, Err}
+use Rattle.std.specs.Prelude.{◌+◌, ◌-◌, ◌*◌, ◌/◌, ◌≢◌, ◌&&◌, ◌||◌, not, nat_eq, nat_lt, nat_le, slice_get, slice_index}
 use Rattle.std.specs.List.{All, list_all, range_with_len}
 use Rattle.std.specs.Cmp.Lexicographic.{pointwise}
-use Rattle.std.proofs.lemmas.Bool.{cond_both, eqb-true, eqb-false, leb-true, leb-false, false≢true, and_parts, or_parts, not-false, agree_below_at}
+use Rattle.std.proofs.lemmas.Bool.{cond_both, eqb-true, eqb-false, leb-true, ltb-true, false≢true, and_parts, not-true, agree_below_at}
 use Rattle.std.proofs.lemmas.List.{length-replicate}
 use Rattle.std.proofs.lemmas.List.FromFn.{length-range_with_len, get_or-range_with_len}
 use Rattle.std.proofs.lemmas.Option.{none-some, same_Some, slice_get_within}
 use Rattle.px_types.specs.declared.ids.SinkId.{SinkId}
-use Rattle.px_types.specs.declared.error_code.ErrorCode.{ErrorCode}
-use Rattle.px_types.specs.declared.error_code.ErrorCode.TheVariants.{Invalid, TooLarge, NotSupported, NotImplemented}
-use Rattle.px_names.specs.Names.{sink_named}
 use Rattle.px_cmd.specs.declared.command.CreateFields.{CreateFields}
 use Rattle.px_sample.specs.declared.format.Format.{Format}
 use Rattle.px_sample.specs.declared.format.Format.TheVariants.{U8, Alaw, Ulaw, S16Le, S16Be, Float32Le, Float32Be, S32Le, S32Be, S24Le, S24Be, S24In32Le, S24In32Be}
@@ -22,14 +19,22 @@ use Rattle.px_model.specs.Frame.{SampleSpec}
 use Rattle.px_model.specs.Orderly.{IsPlayable, IsRepaired, IsNewStream}
 use Rattle.px_msg.specs.Repair.{UNSET, MAXLENGTH, repaired, frames_asked, between_one_and, maxlength_of, tlength_of, minreq_of, prebuf_of}
 use Rattle.px_msg.specs.View.{sample_spec}
-use Rattle.px_vol.specs.Volume.{norm}
 use Rattle.px_plan.specs.declared.input.Connection.{Connection}
 use Rattle.px_plan.specs.declared.input.Input.{Input}
 use Rattle.px_core.specs.State.{State, is_settled, settled_on, bound_for, going_of}
 use Rattle.px_core.specs.Change.{changed}
 use Rattle.px_plan.specs.declared.change.Change.TheVariants.{Made}
-use Rattle.px_core.specs.Create.{is_spec, is_map, are_volumes, format_on, channels_on, positions_on, rate_on, same_positions, format_with, spec_on, attr_on, is_unsupported, has_no_room, is_not_built, input_made, created, created_or, create_on, create_there, create_named, create, is_lawful, straight, unity_on, new_of, UNITY, MOST_ON_SINK, MOST_IN_ALL, LAST_INDEX}
-use Rattle.px_core.specs.Reply.{refused}
+use Rattle.px_plan.specs.declared.target.Target.{Target}
+use Rattle.px_plan.specs.declared.target.Named.{Named}
+use Rattle.px_plan.specs.Plan.{Planned}
+use Rattle.px_plan.specs.Target.{target_of as target_in}
+use Rattle.px_ctl_play.specs.Asked.{format_on, channels_on, positions_on, same_positions, format_with, spec_on, attr_on, is_lawful, is_supported, is_built, has_room, MOST_ON_SINK}
+use Rattle.px_ctl_play.specs.Create.{straight, input_made, new_of, create}
+use Rattle.px_ctl_play.specs.Factors.{UNITY, unity}
+use Rattle.px_ctl_play.proofs.Passed.{IsCreated, create_passed}
+use Rattle.px_core.specs.Plan.{Plan}
+use Rattle.px_core.proofs.RowLaws.{Each, each_by}
+use Rattle.px_core.proofs.Sinks.{IsThere}
 use Rattle.px_core.specs.Keeps.{IsInput, IsKept, IsRising}
 use Rattle.px_core.specs.Lawful.{IsNew}
 use Rattle.px_core.proofs.ListLaws.{all_weaken}
@@ -101,46 +106,35 @@ same_lengths (x ∷ xs) (y ∷ ys) e = ap suc (same_lengths xs ys (and_parts (na
 -- ---- what is asked fits
 
 -- on a sink's own map there are as many channels
-abbrev own_channels : Bool → SinkSpec → CreateFields → ℕ
-own_channels fix sink a = cond fix sink.spec.channels a.spec.channels
-
-channels_fit : (fix : Bool) (sink : SinkSpec) (a : CreateFields) → length sink.map ≡ sink.spec.channels → length a.map ≡ a.spec.channels → length (cond fix sink.map a.map) ≡ length sink.map → own_channels fix sink a ≡ sink.spec.channels
+channels_fit : (fix : Bool) (sink : Target) (a : CreateFields) → length sink.map ≡ sink.spec.channels → length a.map ≡ a.spec.channels → length (cond fix sink.map a.map) ≡ length sink.map → cond fix sink.spec.channels a.spec.channels ≡ sink.spec.channels
 channels_fit true sink a own asked same = refl
 channels_fit false sink a own asked same = sym asked ∙ same ∙ own
 
-formats_fit : (fix : Bool) (sink : SinkSpec) (a : CreateFields) → a.spec.format ≤ 12 → cond fix (code_of sink.spec.format) a.spec.format ≤ 12
+formats_fit : (fix : Bool) (sink : Target) (a : CreateFields) → a.spec.format ≤ 12 → cond fix (code_of sink.spec.format) a.spec.format ≤ 12
 formats_fit true sink a l = few_codes sink.spec.format
 formats_fit false sink a l = l
 
-own_positions : (sink : SinkSpec) (a : CreateFields) → is_not_built sink a ≡ false → same_positions (positions_on sink a) sink.map ≡ true
-own_positions sink a built =
-    let parts = or_parts (a.corked || nat_lt 0 (attr_on sink a).prebuf || not (nat_eq (format_on sink a) 3) || not (same_positions (positions_on sink a) sink.map) || a.muted) (not (list_all (λ v. nat_eq v norm) a.volume)) built in
-    let more = or_parts (a.corked || nat_lt 0 (attr_on sink a).prebuf || not (nat_eq (format_on sink a) 3) || not (same_positions (positions_on sink a) sink.map)) a.muted parts.0 in
-    let last = or_parts (a.corked || nat_lt 0 (attr_on sink a).prebuf || not (nat_eq (format_on sink a) 3)) (not (same_positions (positions_on sink a) sink.map)) more.0 in
-    not-false (same_positions (positions_on sink a) sink.map) last.1
+own_positions : (sink : Target) (a : CreateFields) → is_built sink a ≡ true → same_positions (positions_on sink a) sink.map ≡ true
+own_positions sink a built = (and_parts _ _ (and_parts _ _ (and_parts _ _ built).0).0).1
 
 -- what is asked of a sink was tested
-pub record Asked (sink : SinkSpec) (a : CreateFields) : Type 0 where
+pub record Asked (sink : Target) (a : CreateFields) : Type 0 where
   pub format : format_on sink a ≤ 12
   pub no_float_le : format_on sink a ≢ 5
   pub no_float_be : format_on sink a ≢ 6
   pub channels : channels_on sink a ≡ sink.spec.channels
 
-pub asked_by : (sink : SinkSpec) (a : CreateFields) → length sink.map ≡ sink.spec.channels → is_lawful a ≡ true → is_unsupported sink a ≡ false → is_not_built sink a ≡ false → Asked sink a
+pub asked_by : (sink : Target) (a : CreateFields) → length sink.map ≡ sink.spec.channels → is_lawful a ≡ true → is_supported sink a ≡ true → is_built sink a ≡ true → Asked sink a
 asked_by sink a own can supported built =
-    let first = and_parts (is_spec a.spec && is_map a.spec a.map) (are_volumes a.spec a.volume) can in
-    let spec_map = and_parts (is_spec a.spec) (is_map a.spec a.map) first.0 in
-    let spec_3 = and_parts (nat_le a.spec.format 12 && nat_lt 0 a.spec.channels && nat_lt 0 a.spec.rate) (nat_le a.spec.rate 192000) spec_map.0 in
-    let spec_2 = and_parts (nat_le a.spec.format 12 && nat_lt 0 a.spec.channels) (nat_lt 0 a.spec.rate) spec_3.0 in
+    let spec_map = and_parts _ _ (and_parts _ _ can).0 in
+    let spec_2 = and_parts _ _ (and_parts _ _ spec_map.0).0 in
     let spec_1 = and_parts (nat_le a.spec.format 12) (nat_lt 0 a.spec.channels) spec_2.0 in
     let positions = and_parts (nat_eq (length a.map) a.spec.channels) (list_all (λ p. nat_le p 50) a.map) spec_map.1 in
-    let float_3 = or_parts (nat_eq (format_on sink a) 5 || nat_eq (format_on sink a) 6 || a.variable_rate) (not (nat_eq (rate_on sink a) sink.spec.rate)) supported in
-    let float_2 = or_parts (nat_eq (format_on sink a) 5 || nat_eq (format_on sink a) 6) a.variable_rate float_3.0 in
-    let float_1 = or_parts (nat_eq (format_on sink a) 5) (nat_eq (format_on sink a) 6) float_2.0 in
+    let floats = and_parts (not (nat_eq (format_on sink a) 5)) (not (nat_eq (format_on sink a) 6)) (and_parts _ _ (and_parts _ _ supported).0).0 in
     record {
       format = formats_fit a.fix_format sink a (leb-true a.spec.format 12 spec_1.0);
-      no_float_le = eqb-false (format_on sink a) 5 float_1.0;
-      no_float_be = eqb-false (format_on sink a) 6 float_1.1;
+      no_float_le = eqb-false (format_on sink a) 5 (not-true (nat_eq (format_on sink a) 5) floats.0);
+      no_float_be = eqb-false (format_on sink a) 6 (not-true (nat_eq (format_on sink a) 6) floats.1);
       channels = channels_fit a.fix_channels sink a own (eqb-true (length a.map) a.spec.channels positions.0) (same_lengths (positions_on sink a) sink.map (own_positions sink a built));
     }
 
@@ -151,7 +145,7 @@ all_range n k d high =
     let l : k < n = omega (arith, high, length-range_with_len 0 n) in
     omega (arith, get_or-range_with_len 0 n k d l, l)
 
-playable : (sink : SinkSpec) (a : CreateFields) → (1 ≤ sink.spec.channels) × (sink.spec.channels ≤ 32) → Asked sink a → IsPlayable (sample_spec (spec_on sink a))
+playable : (sink : Target) (a : CreateFields) → (1 ≤ sink.spec.channels) × (sink.spec.channels ≤ 32) → Asked sink a → IsPlayable (sample_spec (spec_on sink a))
 playable sink a few asked =
     let code : code_of (format_with (format_on sink a)) ≡ format_on sink a = same_code (format_on sink a) asked.format in
     record {
@@ -162,39 +156,48 @@ playable sink a few asked =
       few_channels = subst (λ n. n ≤ 32) (sym asked.channels) few.1;
     }
 
-new_fits : (sink s : SinkSpec) → sink ≡ s → (a : CreateFields) → (1 ≤ sink.spec.channels) × (sink.spec.channels ≤ 32) → Asked sink a → (input : ℕ) → IsNewStream (sample_spec s.spec) (record { input = input; spec = sample_spec (spec_on sink a); feed = straight sink.spec.channels; factors = unity_on sink; attr = attr_on sink a; corked = false })
-new_fits sink s e a few asked input = record {
+new_fits : (sink : Target) (s : SinkSpec) → sink.spec.channels ≡ s.spec.channels → (a : CreateFields) → (1 ≤ sink.spec.channels) × (sink.spec.channels ≤ 32) → Asked sink a → (input : ℕ) → IsNewStream (sample_spec s.spec) (record { input = input; spec = sample_spec (spec_on sink a); feed = straight sink.spec.channels; factors = unity sink.spec.channels; attr = attr_on sink a; corked = false })
+new_fits sink s same a few asked input = record {
   playable = playable sink a few asked;
   feed_fits = record {
-    places = length-range_with_len 0 sink.spec.channels ∙ ap (λ (z : SinkSpec). z.spec.channels) e;
+    places = length-range_with_len 0 sink.spec.channels ∙ same;
     channels = subst (λ n. All (λ channel. channel < n) (range_with_len 0 sink.spec.channels)) (sym asked.channels) (all_range sink.spec.channels);
   };
-  factors_fit = length-replicate sink.spec.channels UNITY ∙ ap (λ (z : SinkSpec). z.spec.channels) e;
+  factors_fit = length-replicate sink.spec.channels UNITY ∙ same;
   attr_repaired = repaired_fits (spec_on sink a) a.asked;
 }
 
-room_on : (inputs : List Input) (made : ℕ) (c : Connection) (sink : SinkId) → has_no_room inputs made c sink ≡ false → length (bound_for inputs sink) < MOST_ON_SINK
-room_on inputs made c sink e =
-    let parts = or_parts (nat_le MOST_ON_SINK (length (bound_for inputs sink)) || nat_le MOST_IN_ALL (length (going_of inputs)) || nat_le LAST_INDEX made) (nat_le LAST_INDEX c.streams) e in
-    let more = or_parts (nat_le MOST_ON_SINK (length (bound_for inputs sink)) || nat_le MOST_IN_ALL (length (going_of inputs))) (nat_le LAST_INDEX made) parts.0 in
-    let last = or_parts (nat_le MOST_ON_SINK (length (bound_for inputs sink))) (nat_le MOST_IN_ALL (length (going_of inputs))) more.0 in
-    leb-false MOST_ON_SINK (length (bound_for inputs sink)) last.0
+room_on : (inputs : List Input) (made : ℕ) (me : Connection) (sink : SinkId) → has_room inputs made me sink ≡ true → length (bound_for inputs sink) < MOST_ON_SINK
+room_on inputs made me sink e = ltb-true (length (bound_for inputs sink)) MOST_ON_SINK (and_parts _ _ (and_parts _ _ (and_parts _ _ e).0).0).0
 
 -- ---- the row
 
-created_lawful : {P : Type 0} (spec_of : P → SampleSpec) (state : State P) → IsKept spec_of state → (c : Connection) (tag : ℕ) (index : SinkId) (sink : SinkSpec) (a : CreateFields) → slice_get state.sinks index.0 ≡ Some sink → is_lawful a ≡ true → is_unsupported sink a ≡ false → has_no_room state.inputs state.inputs_made c index ≡ false → is_not_built sink a ≡ false
-    → IsLawful state (created state.inputs state.inputs_made c tag sink a (input_made state.inputs_made c index sink a))
-created_lawful {P} spec_of state h c tag index sink a there lawful supported room built =
-    ((new, refl), (regroups (changed state (Made x (new_of sink x) (c.streams + 1) (state.inputs_made + 1))) index sink there (settled_on state.inputs index ++ x ∷ []) rising, tt))
+created_lawful : {P : Type 0} (spec_of : P → SampleSpec) (state : State P) → IsKept spec_of state → (me : Connection) (tag : ℕ) (named : Named) (a : CreateFields) (plan : Plan P) → IsCreated state.inputs state.inputs_made me tag named a plan
+    → ((target : Target) → target_in named ≡ Some target → IsThere state.sinks target) → IsLawful state plan
+created_lawful {P} spec_of state h me tag named a plan made there =
+    subst (IsLawful state) (sym made.planned)
+    ((new, refl), (regroups (changed state (Made x (new_of sink x) (me.streams + 1) (state.inputs_made + 1))) sink.index sink.spec.channels (slice_get_within state.sinks sink.index.0 it.sink it.there) same (settled_on state.inputs sink.index ++ x ∷ []) rising, tt))
   where
+    sink : Target
+    sink = made.sink
+
     x : Input
-    x = input_made state.inputs_made c index sink a
+    x = input_made state.inputs_made me made.sink a
 
-    rules : (before : List SinkSpec) × IsSink before sink
-    rules = sink_rules [] state.sinks index.0 sink h.sinks there
+    it : IsThere state.sinks made.sink
+    it = there made.sink made.there
 
-    asked : Asked sink a
-    asked = asked_by sink a rules.1.map_size lawful supported built
+    rules : (before : List SinkSpec) × IsSink before it.sink
+    rules = sink_rules [] state.sinks made.sink.index.0 it.sink h.sinks it.there
+
+    same : (s : SinkSpec) → slice_get state.sinks made.sink.index.0 ≡ Some s → made.sink.spec.channels ≡ s.spec.channels
+    same s e = ap (λ (t : Target). t.spec.channels) it.is ∙ ap (λ (z : SinkSpec). z.spec.channels) (same_Some it.sink s (sym it.there ∙ e))
+
+    few : (1 ≤ made.sink.spec.channels) × (made.sink.spec.channels ≤ 32)
+    few = subst (λ (t : Target). (1 ≤ t.spec.channels) × (t.spec.channels ≤ 32)) (sym it.is) rules.1.channels
+
+    asked : Asked made.sink a
+    asked = asked_by made.sink a (subst (λ (t : Target). length t.map ≡ t.spec.channels) (sym it.is) rules.1.map_size) made.lawful made.supported made.built
 
     new : IsNew state x (new_of sink x)
     new = record {
@@ -203,42 +206,21 @@ created_lawful {P} spec_of state h c tag index sink a there lawful supported roo
       standing = refl;
       is = record {
         given = omega arith;
-        sink_there = slice_get_within state.sinks index.0 sink there;
+        sink_there = slice_get_within state.sinks made.sink.index.0 it.sink it.there;
         goes_there = tt;
-        playable = playable sink a rules.1.channels asked;
-        repaired = repaired_fits (spec_on sink a) a.asked;
+        playable = playable made.sink a few asked;
+        repaired = repaired_fits (spec_on made.sink a) a.asked;
       };
-      room = room_on state.inputs state.inputs_made c index room;
-      brings = λ s e. (refl, refl, new_fits sink s (same_Some sink s (sym there ∙ e)) a rules.1.channels asked state.inputs_made);
+      room = room_on state.inputs state.inputs_made me made.sink.index made.room;
+      brings = λ s e. (refl, refl, new_fits made.sink s (same s e) a few asked state.inputs_made);
     }
 
-    rising : IsRising (settled_on state.inputs index ++ x ∷ [])
-    rising = rising_push (settled_on state.inputs index) x (rising_filter (is_settled index) state.inputs h.rising) (all_filter (λ y. (Input.index y).0 < state.inputs_made) (is_settled index) state.inputs
+    rising : IsRising (settled_on state.inputs sink.index ++ x ∷ [])
+    rising = rising_push (settled_on state.inputs made.sink.index) x (rising_filter (is_settled made.sink.index) state.inputs h.rising) (all_filter (λ y. (Input.index y).0 < state.inputs_made) (is_settled made.sink.index) state.inputs
         (all_weaken (IsInput state.sinks state.inputs_made) (λ y. (Input.index y).0 < state.inputs_made) (λ y i. i.given) state.inputs h.inputs))
 
-created_or_lawful : {P : Type 0} (spec_of : P → SampleSpec) (state : State P) → IsKept spec_of state → (c : Connection) (tag : ℕ) (index : SinkId) (sink : SinkSpec) (a : CreateFields) → slice_get state.sinks index.0 ≡ Some sink → is_lawful a ≡ true
-    → IsLawful state (create_on state.inputs state.inputs_made c tag index sink a)
-created_or_lawful {P} spec_of state h c tag index sink a there lawful =
-    cond_both (is_unsupported sink a) (Some NotSupported) (cond (has_no_room state.inputs state.inputs_made c index) (Some TooLarge) (cond (is_not_built sink a) (Some NotImplemented) None)) (λ o. IsLawful state (created_or o state.inputs state.inputs_made c tag index sink a))
-    (λ e. tt)
-    (λ supported.
-    cond_both (has_no_room state.inputs state.inputs_made c index) (Some TooLarge) (cond (is_not_built sink a) (Some NotImplemented) None) (λ o. IsLawful state (created_or o state.inputs state.inputs_made c tag index sink a))
-    (λ e. tt)
-    (λ room.
-    cond_both (is_not_built sink a) (Some NotImplemented) None (λ o. IsLawful state (created_or o state.inputs state.inputs_made c tag index sink a))
-    (λ e. tt)
-    (λ built. created_lawful spec_of state h c tag index sink a there lawful supported room built)))
-
-create_there_lawful : {P : Type 0} (spec_of : P → SampleSpec) (state : State P) → IsKept spec_of state → (c : Connection) (tag : ℕ) (index : SinkId) (a : CreateFields) → is_lawful a ≡ true → (o : Option SinkSpec) → slice_get state.sinks index.0 ≡ o → IsLawful state (create_there state.inputs state.inputs_made c tag index o a)
-create_there_lawful spec_of state h c tag index a lawful None e = tt
-create_there_lawful spec_of state h c tag index a lawful (Some sink) e = created_or_lawful spec_of state h c tag index sink a e lawful
-
-create_named_lawful : {P : Type 0} (spec_of : P → SampleSpec) (state : State P) → IsKept spec_of state → (c : Connection) (tag : ℕ) (a : CreateFields) → is_lawful a ≡ true → (r : Result SinkId ErrorCode) → IsLawful state (create_named state.sinks state.inputs state.inputs_made c tag r a)
-create_named_lawful spec_of state h c tag a lawful (Err code) = tt
-create_named_lawful spec_of state h c tag a lawful (Ok index) = create_there_lawful spec_of state h c tag index a lawful (slice_get state.sinks index.0) refl
-
-pub create_lawful : {P : Type 0} (spec_of : P → SampleSpec) (state : State P) → IsKept spec_of state → (c : Connection) (tag : ℕ) (a : CreateFields) → IsLawful state (create state.names state.sinks state.inputs state.inputs_made c tag a)
-create_lawful spec_of state h c tag a =
-    cond_both (is_lawful a) (create_named state.sinks state.inputs state.inputs_made c tag (sink_named state.names a.sink.index a.sink.name true) a) (refused c.conn tag Invalid) (IsLawful state)
-    (λ lawful. create_named_lawful spec_of state h c tag a lawful (sink_named state.names a.sink.index a.sink.name true))
-    (λ e. tt)
+pub create_lawful : {P : Type 0} (spec_of : P → SampleSpec) (state : State P) → IsKept spec_of state → (me : Connection) (tag : ℕ) (named : Named) (a : CreateFields) → ((target : Target) → target_in named ≡ Some target → IsThere state.sinks target)
+    → Each (IsLawful state) (create state.inputs state.inputs_made me tag named a)
+create_lawful {P} spec_of state h me tag named a there =
+    each_by (IsLawful state) (create state.inputs state.inputs_made me tag named a)
+    (λ plan e. created_lawful spec_of state h me tag named a plan (create_passed state.inputs state.inputs_made me tag named a plan e) there)

@@ -19,7 +19,7 @@ use Rattle.px_plan.specs.declared.input.Standing.TheVariants.{Settled, Moving, L
 use Rattle.px_plan.specs.declared.input.Connection.{Connection}
 use Rattle.px_core.specs.State.{State, connection_of, input_of}
 use Rattle.px_core.specs.Change.{Change, ending, ending_of, saying, saying_of, changed, committed}
-use Rattle.px_core.specs.Reply.{Answer}
+use Rattle.px_plan.specs.Plan.{Planned}
 use Rattle.px_core.specs.Connecting.{is_full, joined, connected}
 use Rattle.px_core.specs.Orderly.{inputs_there}
 use Rattle.px_core.specs.Out.{waiting_for, first_of, next_for, past, handed_out}

@@ -1,10 +1,8 @@
 pub mod First
-pub mod Lengths
 pub mod Rooms
 pub mod Sendable
-pub mod Row
+pub mod Silent
 pub mod Sinks
-pub mod Straight
 pub mod Waiting
 pub mod ListLaws
 pub mod EntryLaws
@@ -13,6 +11,8 @@ pub mod GoingLaws
 pub mod ChangeLaws
 pub mod HandingLaws
 pub mod VerbLaws
+pub mod RowLaws
+pub mod Going
 pub mod AnswerLaws
 pub mod SweepLaws
 pub mod CreateLaws

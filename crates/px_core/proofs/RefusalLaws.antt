@@ -1,56 +1,67 @@
 -- Where an error is answered nothing has changed, and what a connection sends that has ended is ignored.
-use Rattle.std.proofs.Common.{◌≡◌, ℕ, List, [], ◌∷◌, ◌++◌, length, Option, Some, None, Bool, true, false, refl, ap, sym, ◌∙◌, arith, cond}
-use Rattle.std.specs.Prelude.{not, get_or, slice_get, nat_eq, nat_lt, Result, Ok, Err, ℤ}
-use Rattle.std.proofs.lemmas.Bool.{cond_both, false≢true}
+use Rattle.std.proofs.Common.{◌≡◌, ℕ, List, [], ◌∷◌, ◌++◌, length, Option, Some, None, Bool, true, false, refl, ap, sym, subst, ◌∙◌, arith, cond}
+use Rattle.std.specs.Prelude.{not, get_or, filter, flat_map, is_some, nat_le, Result, Ok, Err}
+use Rattle.std.specs.List.{AllByRecursion}
+use Rattle.std.proofs.lemmas.Bool.{cond_both, cond-true, false≢true}
+use Rattle.std.proofs.lemmas.List.{append_assoc}
 use Rattle.std.proofs.lemmas.Option.{none-some, same_Some}
 use Rattle.px_types.specs.declared.ids.ConnId.{ConnId}
 use Rattle.px_types.specs.declared.ids.SinkId.{SinkId}
-use Rattle.px_types.specs.declared.error_code.ErrorCode.{ErrorCode}
-use Rattle.px_types.specs.declared.error_code.ErrorCode.TheVariants.{Access, BadState, Command as UnknownCommand, Invalid, NoEntity, NotImplemented, NotSupported, Version}
-use Rattle.px_types.specs.ErrorCode.{code_of as error_code}
+use Rattle.px_types.specs.declared.error_code.ErrorCode.TheVariants.{Access, BadState, NotImplemented, TooLarge, Version}
 use Rattle.px_tag.specs.declared.fault.TagFault.{TagFault}
 use Rattle.px_tag.specs.Place.{Place, start_of}
 use Rattle.px_tag.specs.Item.{number}
-use Rattle.px_cmd.specs.Field.{Field}
-use Rattle.px_cmd.specs.Packet.{head_at, meaning}
-use Rattle.px_cmd.specs.declared.fault.CmdFault.{CmdFault}
-use Rattle.px_cmd.specs.declared.fault.CmdFault.TheVariants.{Protocol, Unknown, Unsupported, NoMemory}
+use Rattle.px_cmd.specs.Packet.{head_at}
+use Rattle.px_cmd.specs.Meant.{meant}
 use Rattle.px_cmd.specs.declared.command.CreateFields.{CreateFields}
+use Rattle.px_cmd.specs.declared.command.Command.{Command}
+use Rattle.px_cmd.specs.declared.command.Command.TheVariants as commands
+use Rattle.px_cmd.specs.declared.fault.CmdFault.{CmdFault}
+use Rattle.px_cmd.specs.declared.fault.CmdFault.TheVariants.{Protocol, Unknown, Unsupported, NoMemory as OutOfMemory}
 use Rattle.px_frame.specs.Fault.{code_of as rule_of}
 use Rattle.px_frame.specs.Descriptor.{descriptor_bytes}
 use Rattle.px_frame.specs.declared.frame.Frame.{Frame}
 use Rattle.px_frame.specs.declared.frame.Body.{Body}
 use Rattle.px_frame.specs.declared.frame.Body.TheVariants.{Control, Write}
-use Rattle.px_session.specs.declared.header.SinkSpec.{SinkSpec}
-use Rattle.px_names.specs.Names.{Naming, same_text, sink_named}
+use Rattle.px_names.specs.Names.{Naming, same_text}
 use Rattle.px_reply.specs.Front.{reply_to, refusal}
 use Rattle.px_reply.specs.declared.played.Created.{Created}
 use Rattle.px_reply.specs.Message.{created_reply}
 use Rattle.px_model.specs.Frame.{SampleSpec}
-use Rattle.px_sample.specs.Format.{frame_size_of}
 use Rattle.px_msg.specs.declared.notice.Notice.{Notice}
 use Rattle.px_msg.specs.declared.notice.Notice.TheVariants.{Request, Overflow, Underflow, Started, Drained, Detached, Latency}
-use Rattle.px_plan.specs.declared.change.Change.TheVariants.{Authed, Said, Ended}
-use Rattle.px_core.specs.declared.effect.Effect.{Effect}
-use Rattle.px_core.specs.declared.effect.Effect.TheVariants.{Sent, Closed}
+use Rattle.px_plan.specs.declared.refusal.Refusal.TheVariants.{Code, NoMemory}
+use Rattle.px_plan.specs.declared.change.Change.TheVariants.{Gone, Ended, Forgotten}
 use Rattle.px_plan.specs.declared.sending.Reason.{Reason}
 use Rattle.px_plan.specs.declared.sending.Reason.TheVariants.{Protocol as Breach, Limit, Cut as ForMemory}
+use Rattle.px_plan.specs.declared.sending.Sending.{Sending}
 use Rattle.px_plan.specs.declared.input.Connection.{Connection}
 use Rattle.px_plan.specs.declared.input.Input.{Input}
-use Rattle.px_core.specs.State.{State, goes_on, connection_of, stream_of}
+use Rattle.px_plan.specs.declared.target.Named.{Named}
+use Rattle.px_plan.specs.Plan.{Planned, idle, changing, telling}
+use Rattle.px_plan.specs.Row.{Row}
+use Rattle.px_ctl_info.specs.Clients.{SERVER_VERSION, version_in, auth}
+use Rattle.px_ctl_play.specs.declared.told.News.{News}
+use Rattle.px_ctl_play.specs.declared.told.News.TheVariants as news
+use Rattle.px_ctl_play.specs.Create.{created_of, input_made, create}
+use Rattle.px_ctl_play.specs.Delete.{delete}
+use Rattle.px_ctl_play.specs.Factors.{regrouped}
+use Rattle.px_ctl_play.specs.Told.{message_of, told, gives_up, left}
+use Rattle.px_ctl_play.proofs.Passed.{IsCreated, create_passed}
+use Rattle.px_core.specs.declared.effect.Effect.{Effect}
+use Rattle.px_core.specs.declared.effect.Effect.TheVariants.{Sent, Closed}
+use Rattle.px_core.specs.State.{State, goes_on, connection_of, settled_on, stream_of, marked_of, is_from}
 use Rattle.px_core.specs.Change.{Change, marked, with_connection, committed}
-use Rattle.px_core.specs.Effect.{reason_code, framed, sent, closed_at, closed_for, fault_code, fault_place, offset_behind}
-use Rattle.px_core.specs.Reply.{Answer, ignored, refused, done, broken_off, closed_by, ended_by}
-use Rattle.px_core.specs.Client.{SERVER_VERSION, version_in, let_in, auth_after, auth, set_name}
-use Rattle.px_core.specs.Command.{create_in, number_in, as_bytes, as_properties, field, row, read_answer, is_barred, is_waiting_for_work, command_answer, head_answer}
-use Rattle.px_core.specs.Create.{created, created_of, created_or, create_there, create_named, create, is_lawful, refusal_on, input_made}
-use Rattle.px_core.specs.Delete.{ends, delete_of, delete}
-use Rattle.px_core.specs.Data.{are_frames, write_of, data_for}
-use Rattle.px_core.specs.Connecting.{is_full, connect_effects, going_on, ended}
-use Rattle.px_core.specs.Told.{told_to, told_of, input_on, gives_up, given_up_on, given_up, notice_answer, request_message, overflow_message, underflow_message, started_message}
-use Rattle.px_core.specs.Ending.{sender_of}
-use Rattle.px_core.specs.Step.{Step, connect, frame, broken, close, cut, sweep, notice, out, body_answer, frame_of, answer_of, stepped, effects_of}
+use Rattle.px_core.specs.Effect.{reason_code, framed, fits, sent, sending, closed_at, closed_for, fault_code, fault_place, offset_behind}
+use Rattle.px_core.specs.Plan.{Plan, reply_to_asker, sent_all, closed_by, closed_all, plan_effects, refused, reply_fits, requested, ended_by, broken_off}
+use Rattle.px_core.specs.Command.{row, read_answer, is_barred, is_waiting_for_work, command_answer, head_answer}
+use Rattle.px_core.specs.Connecting.{is_full, connect_effects, going_on, ended, ends, swept, sweep_of}
+use Rattle.px_core.specs.Notice.{input_on, owner_of, notice_answer}
+use Rattle.px_core.specs.Sinks.{channels_on, named_by}
+use Rattle.px_core.specs.Step.{Step, connect, frame, broken, close, cut, sweep, notice, out, body_answer, frame_of, sender_of, answer_of, stepped, effects_of}
 use Rattle.px_core.proofs.ListLaws.{heads, no_cons}
+use Rattle.px_core.proofs.RowLaws.{Each, each_check, each_by}
+use Rattle.px_core.proofs.Silent.{data_silent}
 
 -- ---- an error is no reply
 
@@ -91,158 +102,172 @@ is_sent (Closed conn reason fault at) = false
 closed_apart : (a b : ConnId) (reason : Reason) (fault at : ℕ) (packet : List ℕ) → Closed a reason fault at ≡ sent b packet → ⊥
 closed_apart a b reason fault at packet e = false≢true (ap is_sent e)
 
--- ---- what kind of answer each is
+-- ---- what kind of plan each is
 
-pub data Kind {P : Type 0} (answer : Answer P) : Type 0 where
-  -- a packet goes to a client, and nothing changes
-  told : (to : ConnId) (packet : List ℕ) → answer.changes ≡ [] → answer.effects ≡ sent to packet ∷ [] → Kind answer
-  -- who asked has a reply
-  replied : (to : ConnId) (packet : List ℕ) → answer.effects ≡ sent to packet ∷ [] → get_or packet 4 0 ≡ 2 → Kind answer
+pub data Kind {P : Type 0} (asker : Option ConnId) (plan : Plan P) : Type 0 where
+  -- nothing changes
+  still : plan.changes ≡ [] → Kind asker plan
+  -- who asked has a reply, before all else
+  replies : (to : ConnId) (packet : List ℕ) (more : List Effect) → plan_effects asker plan ≡ sent to packet ∷ more → get_or packet 4 0 ≡ 2 → Kind asker plan
   -- nobody is told
-  silent : answer.effects ≡ [] → Kind answer
+  silent : plan_effects asker plan ≡ [] → Kind asker plan
   -- a connection ends
-  ending : (to : ConnId) (reason : Option Reason) (fault at : ℕ) → answer ≡ ended_by to reason fault at → Kind answer
+  ending : (to : ConnId) (reason : Option Reason) (fault at : ℕ) → plan ≡ ended_by to reason fault at → Kind asker plan
 
-refused_kind : {P : Type 0} (to : ConnId) (tag : ℕ) (code : ErrorCode) → Kind {P = P} (refused to tag code)
-refused_kind to tag code = told to (refusal tag (error_code code)) refl refl
+-- a row's plan has a reply that is no error
+pub record HasReply {P : Type 0} (plan : Plan P) : Type 0 where
+  pub packet : List ℕ
+  pub is : plan.reply ≡ Some packet
+  pub no_error : get_or packet 4 0 ≡ 2
 
-done_kind : {P : Type 0} (to : ConnId) (packet : List ℕ) (changes : List (Change P)) → get_or packet 4 0 ≡ 2 → Kind (done to packet changes)
-done_kind to packet changes two = replied to packet refl two
+reply_first : {P : Type 0} (to : ConnId) (plan : Plan P) (packet : List ℕ) → plan.reply ≡ Some packet → fits packet ≡ true → plan_effects (Some to) plan ≡ sent to packet ∷ (sent_all plan.errors ++ sent_all plan.told ++ closed_all plan.changes)
+reply_first to plan packet e f =
+    ap (λ r. reply_to_asker r (Some to) ++ sent_all plan.errors ++ sent_all plan.told ++ closed_all plan.changes) e
+    ∙ ap (λ effects. effects ++ sent_all plan.errors ++ sent_all plan.told ++ closed_all plan.changes) (cond-true (fits packet) (sent to packet ∷ []) [] f)
 
-let_in_kind : {P : Type 0} (names : Naming) (c : Connection) (t version : ℕ) (cookie : List ℕ) → Kind {P = P} (let_in names c t version cookie)
-let_in_kind {P} names c t version cookie =
-    cond_both (nat_lt (version_in version) SERVER_VERSION) (refused c.conn t Version) (cond (not (same_text cookie names.cookie)) (refused c.conn t Access) (done c.conn (reply_to t ++ number SERVER_VERSION) (Authed c.conn SERVER_VERSION ∷ []))) (Kind {P = P})
-    (λ e. refused_kind c.conn t Version)
-    (λ e. cond_both (not (same_text cookie names.cookie)) (refused c.conn t Access) (done c.conn (reply_to t ++ number SERVER_VERSION) (Authed c.conn SERVER_VERSION ∷ [])) (Kind {P = P})
-    (λ f. refused_kind c.conn t Access)
-    (λ f. done_kind c.conn (reply_to t ++ number SERVER_VERSION) (Authed c.conn SERVER_VERSION ∷ []) (reply_byte t (number SERVER_VERSION))))
+requested_kind : {P : Type 0} (to : ConnId) (t : ℕ) (given : Row (Plan P)) → Each HasReply given → Kind (Some to) (requested t given)
+requested_kind {P} to t (Ok plan) r =
+    cond_both (reply_fits plan.reply) plan (refused t TooLarge) (Kind {P = P} (Some to))
+    (λ e. replies to r.packet (sent_all plan.errors ++ sent_all plan.told ++ closed_all plan.changes) (reply_first to plan r.packet r.is (sym (ap reply_fits r.is) ∙ e)) r.no_error)
+    (λ e. still refl)
+requested_kind to t (Err (Code code)) r = still refl
+requested_kind to t (Err NoMemory) r = still refl
 
-auth_kind : {P : Type 0} (agreed : Option ℕ) (names : Naming) (c : Connection) (t version : ℕ) (cookie : List ℕ) → Kind {P = P} (auth_after agreed names c t version cookie)
-auth_kind None names c t version cookie = let_in_kind names c t version cookie
-auth_kind (Some agreed) names c t version cookie = refused_kind c.conn t BadState
+-- ---- the rows
 
-created_kind : {P : Type 0} (state : State P) (o : Option ErrorCode) (c : Connection) (t : ℕ) (index : SinkId) (sink : SinkSpec) (a : CreateFields) → Kind {P = P} (created_or o state.inputs state.inputs_made c t index sink a)
-created_kind state (Some error) c t index sink a = refused_kind c.conn t error
-created_kind {P} state None c t index sink a =
-    done_kind c.conn (created_reply t (created_of sink a (input_made state.inputs_made c index sink a))) (Answer.changes (created {P = P} state.inputs state.inputs_made c t sink a (input_made state.inputs_made c index sink a)))
-    (created_byte t (created_of sink a (input_made state.inputs_made c index sink a)))
+auth_replies : {P : Type 0} (names : Naming) (me : Connection) (t version : ℕ) (cookie : List ℕ) → Each (HasReply {P = P}) (auth names me t version cookie)
+auth_replies {P} names me t version cookie =
+    each_check (HasReply {P = P}) (not (is_some me.version)) BadState _
+    (each_check (HasReply {P = P}) (nat_le SERVER_VERSION (version_in version)) Version _
+    (each_check (HasReply {P = P}) (same_text cookie names.cookie) Access _
+    (record { packet = reply_to t ++ number SERVER_VERSION; is = refl; no_error = reply_byte t (number SERVER_VERSION) })))
 
-create_there_kind : {P : Type 0} (state : State P) (c : Connection) (t : ℕ) (index : SinkId) (a : CreateFields) (o : Option SinkSpec) → Kind {P = P} (create_there state.inputs state.inputs_made c t index o a)
-create_there_kind state c t index a None = refused_kind c.conn t Invalid
-create_there_kind state c t index a (Some sink) = created_kind state (refusal_on state.inputs state.inputs_made c index sink a) c t index sink a
+create_replies : {P : Type 0} (inputs : List Input) (made : ℕ) (me : Connection) (t : ℕ) (named : Named) (a : CreateFields) → Each (HasReply {P = P}) (create inputs made me t named a)
+create_replies {P} inputs made me t named a = each_by (HasReply {P = P}) (create inputs made me t named a) (λ plan e. by plan (create_passed inputs made me t named a plan e))
+  where
+    by : (plan : Plan P) → IsCreated inputs made me t named a plan → HasReply plan
+    by plan p = record {
+      packet = created_reply t (created_of p.sink a (input_made made me p.sink a));
+      is = ap (λ (x : Plan P). x.reply) p.planned;
+      no_error = created_byte t (created_of p.sink a (input_made made me p.sink a));
+    }
 
-create_named_kind : {P : Type 0} (state : State P) (c : Connection) (t : ℕ) (a : CreateFields) (r : Result SinkId ErrorCode) → Kind {P = P} (create_named state.sinks state.inputs state.inputs_made c t r a)
-create_named_kind state c t a (Err error) = refused_kind c.conn t error
-create_named_kind state c t a (Ok index) = create_there_kind state c t index a (slice_get state.sinks index.0)
+delete_replies : {P : Type 0} (o : Option Input) (t : ℕ) → Each (HasReply {P = P}) (delete o t)
+delete_replies None t = tt
+delete_replies (Some x) t = record { packet = reply_to t; is = refl; no_error = plain_byte t }
 
-create_kind : {P : Type 0} (state : State P) (c : Connection) (t : ℕ) (a : CreateFields) → Kind {P = P} (create state.names state.sinks state.inputs state.inputs_made c t a)
-create_kind {P} state c t a =
-    cond_both (is_lawful a) (create_named state.sinks state.inputs state.inputs_made c t (sink_named state.names a.sink.index a.sink.name true) a) (refused c.conn t Invalid) (Kind {P = P})
-    (λ e. create_named_kind state c t a (sink_named state.names a.sink.index a.sink.name true))
-    (λ e. refused_kind c.conn t Invalid)
+row_replies : {P : Type 0} (state : State P) (me : Connection) (t : ℕ) (command : Command) → Each HasReply (row state me t command)
+row_replies state me t (commands.Auth version cookie) = auth_replies state.names me t version cookie
+row_replies state me t (commands.SetClientName list) = record { packet = reply_to t ++ number me.client; is = refl; no_error = reply_byte t (number me.client) }
+row_replies state me t (commands.Create fields) = create_replies state.inputs state.inputs_made me t (named_by state.names state.sinks fields.sink true) fields
+row_replies state me t (commands.Delete stream) = delete_replies (stream_of state.inputs me.conn stream) t
+row_replies state me t (commands.EmptyList n) = record { packet = reply_to t; is = refl; no_error = plain_byte t }
+row_replies state me t _ = tt
 
-delete_kind : {P : Type 0} (o : Option Input) (c : Connection) (t : ℕ) → Kind {P = P} (delete_of o c t)
-delete_kind None c t = refused_kind c.conn t NoEntity
-delete_kind {P} (Some x) c t = done_kind c.conn (reply_to t) (ends {P = P} x) (plain_byte t)
+-- ---- packets and data
 
-row_kind : {P : Type 0} (state : State P) (c : Connection) (t command : ℕ) (fields : List Field) → Kind (row state c t command fields)
-row_kind {P} state c t command fields =
-    cond_both (nat_eq command 8) (auth state.names c t (number_in fields 0) (as_bytes (field fields 1)))
-    (cond (nat_eq command 9) (set_name state.names c t (as_properties (field fields 0)))
-    (cond (nat_eq command 3) (create state.names state.sinks state.inputs state.inputs_made c t (create_in fields))
-    (cond (nat_eq command 4) (delete state.inputs c t (number_in fields 0))
-    (done c.conn (reply_to t) [])))) (Kind {P = P})
-    (λ e. auth_kind c.version state.names c t (number_in fields 0) (as_bytes (field fields 1)))
-    (λ e. cond_both (nat_eq command 9) (set_name state.names c t (as_properties (field fields 0)))
-    (cond (nat_eq command 3) (create state.names state.sinks state.inputs state.inputs_made c t (create_in fields))
-    (cond (nat_eq command 4) (delete state.inputs c t (number_in fields 0))
-    (done c.conn (reply_to t) []))) (Kind {P = P})
-    (λ f. done_kind c.conn (reply_to t ++ number c.client) (Answer.changes (set_name {P = P} state.names c t (as_properties (field fields 0)))) (reply_byte t (number c.client)))
-    (λ f. cond_both (nat_eq command 3) (create state.names state.sinks state.inputs state.inputs_made c t (create_in fields))
-    (cond (nat_eq command 4) (delete state.inputs c t (number_in fields 0))
-    (done c.conn (reply_to t) [])) (Kind {P = P})
-    (λ g. create_kind state c t (create_in fields))
-    (λ g. cond_both (nat_eq command 4) (delete state.inputs c t (number_in fields 0)) (done c.conn (reply_to t) []) (Kind {P = P})
-    (λ i. delete_kind (stream_of state.inputs c.conn (number_in fields 0)) c t)
-    (λ i. done_kind c.conn (reply_to t) [] (plain_byte t)))))
+broken_off_kind : {P : Type 0} (asker : Option ConnId) (to : ConnId) (at : ℕ) (fault : TagFault) → Kind {P = P} asker (broken_off to at fault)
+broken_off_kind asker to at fault = ending to (Some Breach) (fault_code fault) (offset_behind at (fault_place fault)) refl
 
-broken_off_kind : {P : Type 0} (to : ConnId) (at : ℕ) (fault : TagFault) → Kind {P = P} (broken_off to at fault)
-broken_off_kind to at fault = ending to (Some Breach) (fault_code fault) (offset_behind at (fault_place fault)) refl
+read_kind : {P : Type 0} (state : State P) (n : ConnId) (c : Connection) (at t : ℕ) (r : Result Command CmdFault) → Kind (Some n) (read_answer state c at t r)
+read_kind state n c at t (Ok command) = requested_kind n t (row state c t command) (row_replies state c t command)
+read_kind state n c at t (Err (Protocol fault)) = broken_off_kind (Some n) c.conn at fault
+read_kind state n c at t (Err (Unknown command)) = still refl
+read_kind state n c at t (Err (Unsupported command)) = still refl
+read_kind state n c at t (Err OutOfMemory) = still refl
 
-read_kind : {P : Type 0} (state : State P) (c : Connection) (at t : ℕ) (r : Result (ℕ × List Field) CmdFault) → Kind (read_answer state c at t r)
-read_kind state c at t (Ok packet) = row_kind state c t packet.0 packet.1
-read_kind state c at t (Err (Protocol fault)) = broken_off_kind c.conn at fault
-read_kind state c at t (Err (Unknown command)) = refused_kind c.conn t UnknownCommand
-read_kind state c at t (Err (Unsupported command)) = refused_kind c.conn t NotSupported
-read_kind state c at t (Err NoMemory) = silent refl
+command_kind : {P : Type 0} (state : State P) (n : ConnId) (c : Connection) (at : ℕ) (packet : List ℕ) (command t : ℕ) → Kind (Some n) (command_answer state c at packet command t)
+command_kind {P} state n c at packet command t =
+    cond_both (is_barred c command) (refused t Access) (cond (is_waiting_for_work command) (refused t NotImplemented) (read_answer state c at t (meant packet))) (Kind {P = P} (Some n))
+    (λ e. still refl)
+    (λ e. cond_both (is_waiting_for_work command) (refused t NotImplemented) (read_answer state c at t (meant packet)) (Kind {P = P} (Some n))
+    (λ f. still refl)
+    (λ f. read_kind state n c at t (meant packet)))
 
-command_kind : {P : Type 0} (state : State P) (c : Connection) (at : ℕ) (packet : List ℕ) (command t : ℕ) → Kind (command_answer state c at packet command t)
-command_kind {P} state c at packet command t =
-    cond_both (is_barred c command) (refused c.conn t Access) (cond (is_waiting_for_work command) (refused c.conn t NotImplemented) (read_answer state c at t (meaning packet))) (Kind {P = P})
-    (λ e. refused_kind c.conn t Access)
-    (λ e. cond_both (is_waiting_for_work command) (refused c.conn t NotImplemented) (read_answer state c at t (meaning packet)) (Kind {P = P})
-    (λ f. refused_kind c.conn t NotImplemented)
-    (λ f. read_kind state c at t (meaning packet)))
+head_kind : {P : Type 0} (state : State P) (n : ConnId) (c : Connection) (at : ℕ) (packet : List ℕ) (r : Result ((ℕ × ℕ) × Place) TagFault) → Kind (Some n) (head_answer state c at packet r)
+head_kind state n c at packet (Err fault) = broken_off_kind (Some n) c.conn at fault
+head_kind state n c at packet (Ok head) = command_kind state n c at packet head.0.0 head.0.1
 
-head_kind : {P : Type 0} (state : State P) (c : Connection) (at : ℕ) (packet : List ℕ) (r : Result ((ℕ × ℕ) × Place) TagFault) → Kind (head_answer state c at packet r)
-head_kind state c at packet (Err fault) = broken_off_kind c.conn at fault
-head_kind state c at packet (Ok head) = command_kind state c at packet head.0.0 head.0.1
+body_kind : {P : Type 0} (state : State P) (n : ConnId) (c : Connection) (at : ℕ) (body : Body) → Kind (Some n) (body_answer state c at body)
+body_kind state n c at (Control packet) = head_kind state n c at packet (head_at (start_of packet))
+body_kind state n c at (Write stream offset seek bytes) = silent (data_silent (Some n) (stream_of state.inputs c.conn stream) offset seek bytes)
 
-data_kind : {P : Type 0} (o : Option Input) (offset : ℤ) (seek : ℕ) (bytes : List ℕ) → Kind {P = P} (data_for o offset seek bytes)
-data_kind None offset seek bytes = silent refl
-data_kind {P} (Some x) offset seek bytes =
-    cond_both (are_frames (frame_size_of x.spec) offset (length bytes)) (record { changes = Said x.index (write_of x offset seek bytes) ∷ []; effects = [] }) ignored (Kind {P = P})
-    (λ e. silent refl)
-    (λ e. silent refl)
+frame_kind : {P : Type 0} (state : State P) (n : ConnId) (o : Option Connection) (f : Frame) → Kind (Some n) (frame_of state o f)
+frame_kind state n None f = still refl
+frame_kind state n (Some c) f = body_kind state n c f.at f.body
 
-body_kind : {P : Type 0} (state : State P) (c : Connection) (at : ℕ) (body : Body) → Kind (body_answer state c at body)
-body_kind state c at (Control packet) = head_kind state c at packet (head_at (start_of packet))
-body_kind state c at (Write stream offset seek bytes) = data_kind (stream_of state.inputs c.conn stream) offset seek bytes
+ended_kind : {P : Type 0} (asker : Option ConnId) (o : Option Connection) (reason : Option Reason) (fault at : ℕ) → Kind {P = P} asker (ended o reason fault at)
+ended_kind asker None reason fault at = still refl
+ended_kind asker (Some c) reason fault at = ending c.conn reason fault at refl
 
-frame_kind : {P : Type 0} (state : State P) (o : Option Connection) (f : Frame) → Kind (frame_of state o f)
-frame_kind state None f = silent refl
-frame_kind state (Some c) f = body_kind state c f.at f.body
+-- ---- sweeps and notices
 
-ended_kind : {P : Type 0} (o : Option Connection) (reason : Option Reason) (fault at : ℕ) → Kind {P = P} (ended o reason fault at)
-ended_kind None reason fault at = silent refl
-ended_kind (Some c) reason fault at = ending c.conn reason fault at refl
+inputs_silent : {P : Type 0} (xs : List Input) (rest : List (Change P)) → closed_all (flat_map ends xs ++ rest) ≡ closed_all rest
+inputs_silent [] rest = refl
+inputs_silent (x ∷ xs) rest = inputs_silent xs rest
 
-told_to_kind : {P : Type 0} (o : Option Connection) (packet : List ℕ) → Kind {P = P} (record { changes = []; effects = told_to o packet })
-told_to_kind None packet = silent refl
-told_to_kind (Some c) packet = told c.conn packet refl refl
+swept_silent : {P : Type 0} (inputs : List Input) (cs : List Connection) → closed_all {P = P} (flat_map (swept inputs) cs) ≡ []
+swept_silent inputs [] = refl
+swept_silent {P} inputs (c ∷ cs) =
+    ap closed_all (append_assoc (flat_map ends (filter (is_from c.conn) inputs)) (Forgotten c.conn ∷ []) (flat_map (swept inputs) cs))
+    ∙ inputs_silent (filter (is_from c.conn) inputs) (Forgotten c.conn ∷ flat_map (swept inputs) cs)
+    ∙ swept_silent inputs cs
 
-told_kind : {P : Type 0} (connections : List Connection) (o : Option Input) (packet : Input → List ℕ) → Kind {P = P} (told_of connections o packet)
-told_kind connections None packet = silent refl
-told_kind {P} connections (Some x) packet =
-    cond_both (goes_on x) (record { changes = []; effects = told_to (going_on connections x.conn) (packet x) }) ignored (Kind {P = P}) (λ e. told_to_kind (going_on connections x.conn) (packet x)) (λ e. silent refl)
+sweep_kind : {P : Type 0} (state : State P) → Kind None (sweep_of state)
+sweep_kind state = silent (swept_silent state.inputs (marked_of state.connections))
 
-given_up_on_kind : {P : Type 0} (state : State P) (o : Option SinkSpec) (x : Input) → Kind (given_up_on state o x)
-given_up_on_kind state None x = silent refl
-given_up_on_kind state (Some sink) x = silent refl
+told_kind : {P : Type 0} (input : Option Input) (owner : Option Connection) (about : News) → Kind {P = P} None (told input owner about)
+told_kind None owner about = still refl
+told_kind (Some x) None about = still refl
+told_kind {P} (Some x) (Some c) about = cond_both (goes_on x) (telling c.conn (message_of about x)) idle (Kind {P = P} None) (λ e. still refl) (λ e. still refl)
 
-given_up_kind : {P : Type 0} (state : State P) (o : Option Input) (spec : SampleSpec) → Kind (given_up state o spec)
-given_up_kind state None spec = silent refl
-given_up_kind {P} state (Some x) spec =
-    cond_both (gives_up spec x) (given_up_on state (slice_get state.sinks x.sink.0) x) ignored (Kind {P = P}) (λ e. given_up_on_kind state (slice_get state.sinks x.sink.0) x) (λ e. silent refl)
+left_kind : {P : Type 0} (input : Option Input) (spec : SampleSpec) (channels : ℕ) (inputs : List Input) → Kind {P = P} None (left input spec channels inputs)
+left_kind None spec channels inputs = still refl
+left_kind {P} (Some x) spec channels inputs =
+    cond_both (gives_up spec x) (changing (Gone x.index ∷ regrouped x.sink channels (settled_on inputs x.sink) ∷ [])) idle (Kind {P = P} None) (λ e. silent refl) (λ e. still refl)
 
-notice_kind : {P : Type 0} (spec_of : P → SampleSpec) (state : State P) (sink : SinkId) (n : Notice P) → Kind (notice_answer spec_of state sink n)
-notice_kind spec_of state sink (Request input frames) = told_kind state.connections (input_on state.inputs sink input) (request_message frames)
-notice_kind spec_of state sink (Overflow input) = told_kind state.connections (input_on state.inputs sink input) overflow_message
-notice_kind spec_of state sink (Underflow input) = told_kind state.connections (input_on state.inputs sink input) underflow_message
-notice_kind spec_of state sink (Started input) = told_kind state.connections (input_on state.inputs sink input) started_message
-notice_kind spec_of state sink (Drained input t) = silent refl
-notice_kind spec_of state sink (Detached input parcel) = given_up_kind state (input_on state.inputs sink input) (spec_of parcel)
-notice_kind spec_of state sink (Latency input t write read buffered playing run) = silent refl
+notice_kind : {P : Type 0} (spec_of : P → SampleSpec) (state : State P) (sink : SinkId) (n : Notice P) → Kind None (notice_answer spec_of state sink n)
+notice_kind spec_of state sink (Request input frames) = told_kind (input_on state.inputs sink input) (owner_of state.connections (input_on state.inputs sink input)) (news.Request frames)
+notice_kind spec_of state sink (Overflow input) = told_kind (input_on state.inputs sink input) (owner_of state.connections (input_on state.inputs sink input)) news.Overflow
+notice_kind spec_of state sink (Underflow input) = told_kind (input_on state.inputs sink input) (owner_of state.connections (input_on state.inputs sink input)) news.Underflow
+notice_kind spec_of state sink (Started input) = told_kind (input_on state.inputs sink input) (owner_of state.connections (input_on state.inputs sink input)) news.Started
+notice_kind spec_of state sink (Drained input t) = still refl
+notice_kind spec_of state sink (Detached input parcel) = left_kind (input_on state.inputs sink input) (spec_of parcel) (channels_on state.sinks sink) state.inputs
+notice_kind spec_of state sink (Latency input t write read buffered playing run) = still refl
 
-answer_kind : {P : Type 0} (spec_of : P → SampleSpec) (state : State P) (s : Step P) → Kind (answer_of spec_of state s)
-answer_kind spec_of state (connect n) = silent refl
-answer_kind spec_of state (frame n f) = frame_kind state (going_on state.connections n) f
-answer_kind spec_of state (broken n fault at) = ended_kind (going_on state.connections n) (Some Breach) (rule_of fault) at
-answer_kind spec_of state (close n) = ended_kind (going_on state.connections n) None 0 0
-answer_kind spec_of state (cut n) = ended_kind (going_on state.connections n) (Some ForMemory) 0 0
-answer_kind spec_of state sweep = silent refl
-answer_kind spec_of state (notice sink n) = notice_kind spec_of state sink n
-answer_kind spec_of state (out sink) = silent refl
+-- ---- a packet that is sent ends no connection
+
+abbrev IsSent : Effect → Type 0
+IsSent (Sent to packet) = Unit {0}
+IsSent (Closed to reason fault at) = ⊥
+
+all_joined : {A : Type 0} (Q : A → Type 0) (xs ys : List A) → AllByRecursion Q xs → AllByRecursion Q ys → AllByRecursion Q (xs ++ ys)
+all_joined Q [] ys h k = k
+all_joined Q (x ∷ xs) ys h k = (h.0, all_joined Q xs ys h.1 k)
+
+sending_sends : (to : ConnId) (packet : List ℕ) → AllByRecursion IsSent (sending to packet)
+sending_sends to packet = cond_both (fits packet) (sent to packet ∷ []) [] (AllByRecursion IsSent) (λ e. (tt, tt)) (λ e. tt)
+
+reply_sends : (reply : Option (List ℕ)) (asker : Option ConnId) → AllByRecursion IsSent (reply_to_asker reply asker)
+reply_sends None asker = tt
+reply_sends (Some packet) None = tt
+reply_sends (Some packet) (Some to) = sending_sends to packet
+
+all_send : (sendings : List Sending) → AllByRecursion IsSent (sent_all sendings)
+all_send [] = tt
+all_send (x ∷ sendings) = all_joined IsSent (sending x.conn x.packet) (sent_all sendings) (sending_sends x.conn x.packet) (all_send sendings)
+
+still_sends : {P : Type 0} (asker : Option ConnId) (plan : Plan P) → plan.changes ≡ [] → AllByRecursion IsSent (plan_effects asker plan)
+still_sends {P} asker plan e =
+    all_joined IsSent (reply_to_asker plan.reply asker) (sent_all plan.errors ++ sent_all plan.told ++ closed_all plan.changes) (reply_sends plan.reply asker)
+    (all_joined IsSent (sent_all plan.errors) (sent_all plan.told ++ closed_all plan.changes) (all_send plan.errors)
+    (all_joined IsSent (sent_all plan.told) (closed_all plan.changes) (all_send plan.told)
+    (subst (λ (changes : List (Change P)). AllByRecursion IsSent (closed_all changes)) (sym e) tt)))
+
+-- a plan that ends a connection does that alone
+ended_effects : {P : Type 0} (asker : Option ConnId) (to : ConnId) (reason : Option Reason) (fault at : ℕ) → plan_effects {P = P} asker (ended_by to reason fault at) ≡ closed_by to reason fault at
+ended_effects asker to None fault at = refl
+ended_effects asker to (Some reason) fault at = refl
 
 -- ---- an answer that is an error changes nothing
 
@@ -257,12 +282,13 @@ module _ (conn : ConnId) (tag code : ℕ) where
   ended_apart to None fault at e = not_silent e
   ended_apart to (Some reason) fault at e = closed_apart to conn reason fault at (refusal tag code) (heads (Closed to reason fault at) (sent conn (refusal tag code)) [] [] e)
 
-  kind_changeless : {P : Type 0} (state : State P) (answer : Answer P) → Kind answer → Refuses answer.effects → committed state answer.changes ≡ state
-  kind_changeless state answer (told to packet none effects) e = ap (committed state) none
-  kind_changeless state answer (replied to packet effects two) e =
-      absurd (sent_apart to conn packet (refusal tag code) two (refusal_byte tag code) (heads (sent to packet) (sent conn (refusal tag code)) [] [] (sym effects ∙ e)))
-  kind_changeless state answer (silent effects) e = absurd (not_silent (sym effects ∙ e))
-  kind_changeless {P} state answer (ending to reason fault at is) e = absurd (ended_apart to reason fault at (sym (ap (λ (a : Answer P). a.effects) is) ∙ e))
+  kind_changeless : {P : Type 0} (state : State P) (asker : Option ConnId) (plan : Plan P) → Kind asker plan → Refuses (plan_effects asker plan) → committed state plan.changes ≡ state
+  kind_changeless state asker plan (still none) e = ap (committed state) none
+  kind_changeless state asker plan (replies to packet more effects two) e =
+      absurd (sent_apart to conn packet (refusal tag code) two (refusal_byte tag code) (heads (sent to packet) (sent conn (refusal tag code)) more [] (sym effects ∙ e)))
+  kind_changeless state asker plan (silent effects) e = absurd (not_silent (sym effects ∙ e))
+  kind_changeless {P} state asker plan (ending to reason fault at is) e =
+      absurd (ended_apart to reason fault at (sym (ap (plan_effects asker) is ∙ ended_effects {P = P} asker to reason fault at) ∙ e))
 
   -- a client that connects is sent nothing
   connect_refuses : {P : Type 0} (o : Option Connection) (n : ConnId) (state : State P) → Refuses (connect_effects o n state) → ⊥
@@ -275,12 +301,12 @@ module _ (conn : ConnId) (tag code : ℕ) where
 
   pub refusal_changes_nothing : {P : Type 0} (spec_of : P → SampleSpec) (state : State P) (s : Step P) → Refuses (effects_of spec_of state s) → stepped spec_of state s ≡ state
   refusal_changes_nothing spec_of state (connect n) e = absurd (connect_refuses (connection_of state.connections n) n state e)
-  refusal_changes_nothing spec_of state (frame n f) e = kind_changeless state (answer_of spec_of state (frame n f)) (answer_kind spec_of state (frame n f)) e
-  refusal_changes_nothing spec_of state (broken n fault at) e = kind_changeless state (answer_of spec_of state (broken n fault at)) (answer_kind spec_of state (broken n fault at)) e
-  refusal_changes_nothing spec_of state (close n) e = kind_changeless state (answer_of spec_of state (close n)) (answer_kind spec_of state (close n)) e
-  refusal_changes_nothing spec_of state (cut n) e = kind_changeless state (answer_of spec_of state (cut n)) (answer_kind spec_of state (cut n)) e
-  refusal_changes_nothing spec_of state sweep e = absurd (not_silent e)
-  refusal_changes_nothing spec_of state (notice sink n) e = kind_changeless state (answer_of spec_of state (notice sink n)) (answer_kind spec_of state (notice sink n)) e
+  refusal_changes_nothing spec_of state (frame n f) e = kind_changeless state (Some n) (answer_of spec_of state (frame n f)) (frame_kind state n (going_on state.connections n) f) e
+  refusal_changes_nothing spec_of state (broken n fault at) e = kind_changeless state (Some n) (answer_of spec_of state (broken n fault at)) (ended_kind (Some n) (going_on state.connections n) (Some Breach) (rule_of fault) at) e
+  refusal_changes_nothing spec_of state (close n) e = kind_changeless state (Some n) (answer_of spec_of state (close n)) (ended_kind (Some n) (going_on state.connections n) None 0 0) e
+  refusal_changes_nothing spec_of state (cut n) e = kind_changeless state (Some n) (answer_of spec_of state (cut n)) (ended_kind (Some n) (going_on state.connections n) (Some ForMemory) 0 0) e
+  refusal_changes_nothing spec_of state sweep e = kind_changeless state None (sweep_of state) (sweep_kind state) e
+  refusal_changes_nothing spec_of state (notice sink n) e = kind_changeless state None (answer_of spec_of state (notice sink n)) (notice_kind spec_of state sink n) e
   refusal_changes_nothing spec_of state (out sink) e = absurd (not_silent e)
 
 -- ---- a fault of a connection marks it, and changes nothing else
@@ -292,8 +318,8 @@ module _ (conn : ConnId) (fault at : ℕ) where
   not_none : Breaks [] → ⊥
   not_none e = no_cons (closed_at conn fault at) [] (sym e)
 
-  sent_breaks : (to : ConnId) (packet : List ℕ) → Breaks (sent to packet ∷ []) → ⊥
-  sent_breaks to packet e = closed_apart conn to Breach fault at packet (sym (heads (sent to packet) (closed_at conn fault at) [] [] e))
+  no_break : (effects : List Effect) → AllByRecursion IsSent effects → Breaks effects → ⊥
+  no_break effects all e = (subst (AllByRecursion IsSent) e all).0
 
   abbrev number_of : Effect → ℕ
   number_of (Sent to packet) = to.0
@@ -309,13 +335,13 @@ module _ (conn : ConnId) (fault at : ℕ) where
       let same : Closed to reason f a ≡ closed_at conn fault at = heads (Closed to reason f a) (closed_at conn fault at) [] [] e in
       ap (λ n. with_connection {P = P} (record { 0 = n }) marked state) (ap number_of same)
 
-  kind_marks : {P : Type 0} (state : State P) (answer : Answer P) → Kind answer → Breaks answer.effects → committed state answer.changes ≡ with_connection conn marked state
-  kind_marks state answer (told to packet none effects) e = absurd (sent_breaks to packet (sym effects ∙ e))
-  kind_marks state answer (replied to packet effects two) e = absurd (sent_breaks to packet (sym effects ∙ e))
-  kind_marks state answer (silent effects) e = absurd (not_none (sym effects ∙ e))
-  kind_marks {P} state answer (ending to reason f a is) e =
-      ap (λ (b : Answer P). committed state b.changes) is
-      ∙ ended_marks state to reason f a (sym (ap (λ (b : Answer P). b.effects) is) ∙ e)
+  kind_marks : {P : Type 0} (state : State P) (asker : Option ConnId) (plan : Plan P) → Kind asker plan → Breaks (plan_effects asker plan) → committed state plan.changes ≡ with_connection conn marked state
+  kind_marks state asker plan (still none) e = absurd (no_break (plan_effects asker plan) (still_sends asker plan none) e)
+  kind_marks state asker plan (replies to packet more effects two) e = absurd (closed_apart conn to Breach fault at packet (sym (heads (sent to packet) (closed_at conn fault at) more [] (sym effects ∙ e))))
+  kind_marks state asker plan (silent effects) e = absurd (not_none (sym effects ∙ e))
+  kind_marks {P} state asker plan (ending to reason f a is) e =
+      ap (λ (p : Plan P). committed state p.changes) is
+      ∙ ended_marks state to reason f a (sym (ap (plan_effects asker) is ∙ ended_effects {P = P} asker to reason f a) ∙ e)
 
   -- a client that isn't taken has broken no rule
   connect_breaks : {P : Type 0} (o : Option Connection) (n : ConnId) (state : State P) → Breaks (connect_effects o n state) → ⊥
@@ -330,12 +356,12 @@ module _ (conn : ConnId) (fault at : ℕ) where
 
   pub fault_marks_its_own : {P : Type 0} (spec_of : P → SampleSpec) (state : State P) (s : Step P) → Breaks (effects_of spec_of state s) → stepped spec_of state s ≡ with_connection conn marked state
   fault_marks_its_own spec_of state (connect n) e = absurd (connect_breaks (connection_of state.connections n) n state e)
-  fault_marks_its_own spec_of state (frame n f) e = kind_marks state (answer_of spec_of state (frame n f)) (answer_kind spec_of state (frame n f)) e
-  fault_marks_its_own spec_of state (broken n f a) e = kind_marks state (answer_of spec_of state (broken n f a)) (answer_kind spec_of state (broken n f a)) e
-  fault_marks_its_own spec_of state (close n) e = kind_marks state (answer_of spec_of state (close n)) (answer_kind spec_of state (close n)) e
-  fault_marks_its_own spec_of state (cut n) e = kind_marks state (answer_of spec_of state (cut n)) (answer_kind spec_of state (cut n)) e
-  fault_marks_its_own spec_of state sweep e = absurd (not_none e)
-  fault_marks_its_own spec_of state (notice sink n) e = kind_marks state (answer_of spec_of state (notice sink n)) (answer_kind spec_of state (notice sink n)) e
+  fault_marks_its_own spec_of state (frame n f) e = kind_marks state (Some n) (answer_of spec_of state (frame n f)) (frame_kind state n (going_on state.connections n) f) e
+  fault_marks_its_own spec_of state (broken n f a) e = kind_marks state (Some n) (answer_of spec_of state (broken n f a)) (ended_kind (Some n) (going_on state.connections n) (Some Breach) (rule_of f) a) e
+  fault_marks_its_own spec_of state (close n) e = kind_marks state (Some n) (answer_of spec_of state (close n)) (ended_kind (Some n) (going_on state.connections n) None 0 0) e
+  fault_marks_its_own spec_of state (cut n) e = kind_marks state (Some n) (answer_of spec_of state (cut n)) (ended_kind (Some n) (going_on state.connections n) (Some ForMemory) 0 0) e
+  fault_marks_its_own spec_of state sweep e = kind_marks state None (sweep_of state) (sweep_kind state) e
+  fault_marks_its_own spec_of state (notice sink n) e = kind_marks state None (answer_of spec_of state (notice sink n)) (notice_kind spec_of state sink n) e
   fault_marks_its_own spec_of state (out sink) e = absurd (not_none e)
 
 -- ---- a connection that isn't there, or has ended
@@ -344,16 +370,16 @@ pub ended_is_ignored : {P : Type 0} (spec_of : P → SampleSpec) (state : State 
 ended_is_ignored spec_of state (connect n) conn e gone = absurd (none-some conn e)
 ended_is_ignored {P} spec_of state (frame n f) conn e gone =
     let none : going_on state.connections n ≡ None = ap (going_on state.connections) (same_Some n conn e) ∙ gone in
-    (ap (λ o. committed state (Answer.changes (frame_of state o f))) none, ap (λ o. Answer.effects (frame_of state o f)) none)
+    (ap (λ o. committed state (Planned.changes (frame_of state o f))) none, ap (λ o. plan_effects (Some n) (frame_of state o f)) none)
 ended_is_ignored {P} spec_of state (broken n fault at) conn e gone =
     let none : going_on state.connections n ≡ None = ap (going_on state.connections) (same_Some n conn e) ∙ gone in
-    (ap (λ o. committed state (Answer.changes (ended {P = P} o (Some Breach) (rule_of fault) at))) none, ap (λ o. Answer.effects (ended {P = P} o (Some Breach) (rule_of fault) at)) none)
+    (ap (λ o. committed state (Planned.changes (ended {P = P} o (Some Breach) (rule_of fault) at))) none, ap (λ o. plan_effects (Some n) (ended {P = P} o (Some Breach) (rule_of fault) at)) none)
 ended_is_ignored {P} spec_of state (close n) conn e gone =
     let none : going_on state.connections n ≡ None = ap (going_on state.connections) (same_Some n conn e) ∙ gone in
-    (ap (λ o. committed state (Answer.changes (ended {P = P} o None 0 0))) none, ap (λ o. Answer.effects (ended {P = P} o None 0 0)) none)
+    (ap (λ o. committed state (Planned.changes (ended {P = P} o None 0 0))) none, ap (λ o. plan_effects (Some n) (ended {P = P} o None 0 0)) none)
 ended_is_ignored {P} spec_of state (cut n) conn e gone =
     let none : going_on state.connections n ≡ None = ap (going_on state.connections) (same_Some n conn e) ∙ gone in
-    (ap (λ o. committed state (Answer.changes (ended {P = P} o (Some ForMemory) 0 0))) none, ap (λ o. Answer.effects (ended {P = P} o (Some ForMemory) 0 0)) none)
+    (ap (λ o. committed state (Planned.changes (ended {P = P} o (Some ForMemory) 0 0))) none, ap (λ o. plan_effects (Some n) (ended {P = P} o (Some ForMemory) 0 0)) none)
 ended_is_ignored spec_of state sweep conn e gone = absurd (none-some conn e)
 ended_is_ignored spec_of state (notice sink n) conn e gone = absurd (none-some conn e)
 ended_is_ignored spec_of state (out sink) conn e gone = absurd (none-some conn e)

@@ -1,5 +1,5 @@
 -- What is known of a header's sinks.
-use Rattle.std.proofs.Common.{◌≡◌, ℕ, suc, zero, Bool, true, false, ◌&&◌, not, eqb, List, [], ◌∷◌, ◌++◌, length, get_or, slice_get, IsTrue, IfSome, is_some, ltb, Option, None, Some, refl, sym, subst, arith}
+use Rattle.std.proofs.Common.{◌≡◌, ℕ, suc, zero, Bool, true, false, ◌&&◌, not, eqb, List, [], ◌∷◌, ◌++◌, length, get_or, slice_get, IsTrue, IfSome, is_some, ltb, Option, None, Some, Result, Ok, Err, refl, ap, sym, subst, ◌∙◌, arith}
 use Rattle.std.specs.List.{list_all}
 use Rattle.std.proofs.lemmas.Bool.{ltb-true}
 use Rattle.std.proofs.lemmas.Option.{slice_get_read}
@@ -7,7 +7,12 @@ use Rattle.std.proofs.lemmas.Bool.Decides.{nat_tests}
 use Rattle.px_tag.specs.Item.{is_text}
 use Rattle.px_session.specs.declared.header.SinkSpec.{SinkSpec}
 use Rattle.px_session.specs.HeaderRules.{is_from_to, IsSink, AreSinks}
-use Rattle.px_core.specs.Create.{IsOfHeader}
+use Rattle.px_types.specs.declared.error_code.ErrorCode.{ErrorCode}
+use Rattle.px_types.specs.declared.error_code.ErrorCode.TheVariants.{Invalid}
+use Rattle.px_types.specs.declared.ids.SinkId.{SinkId}
+use Rattle.px_plan.specs.declared.target.Target.{Target}
+use Rattle.px_plan.specs.Target.{target_of as target_in, IsTarget}
+use Rattle.px_core.specs.Sinks.{IsOfHeader, target_of, found_as, named_as}
 
 both_true : (a b : Bool) → (a && b) ≡ true → (a ≡ true) × (b ≡ true)
 both_true true b e = (refl, e)
@@ -42,3 +47,34 @@ is_of_header sinks i s h e = there [] sinks i s h e
 pub found_in_header : {B : Type 0} (v : B → SinkSpec) (r : Option B) (sinks : List SinkSpec) (i : ℕ) → AreSinks [] sinks → is_some r ≡ ltb i (length sinks) → IfSome r (λ x. v x ≡ get_or sinks i (v x)) → IfSome r (λ x. IsOfHeader (v x))
 found_in_header v None sinks i h there at = tt
 found_in_header v (Some x) sinks i h there at = is_of_header sinks i (v x) h (slice_get_read sinks (length sinks) i (v x) refl (ltb-true i (length sinks) (sym there)) at)
+
+-- ---- a sink as a command sees it
+
+pub is_target : (index : SinkId) (sink : SinkSpec) → IsOfHeader sink → IsTarget (target_of index sink)
+is_target index sink h = record {
+  name = name_is_text sink h;
+  some = h.1.channels.0;
+  few = h.1.channels.1;
+  rate = h.1.rate.0;
+  map_size = h.1.map_size;
+}
+
+-- one that was named is there
+pub record IsThere (sinks : List SinkSpec) (target : Target) : Type 0 where
+  pub sink : SinkSpec
+  pub there : slice_get sinks target.index.0 ≡ Some sink
+  pub is : target ≡ target_of target.index sink
+
+same_target : (a b : Target) → Some a ≡ Some b → a ≡ b
+same_target a b e = cc
+
+pub named_there : (sinks : List SinkSpec) (named : Result SinkId ErrorCode) (target : Target) → target_in (named_as sinks named) ≡ Some target → IsThere sinks target
+named_there sinks (Ok index) target e = found (slice_get sinks index.0) refl e
+  where
+    found : (o : Option SinkSpec) → slice_get sinks index.0 ≡ o → target_in (found_as index o) ≡ Some target → IsThere sinks target
+    found None there f = absurd cc
+    found (Some sink) there f =
+        subst (IsThere sinks) (same_target (target_of index sink) target f)
+        (record { sink = sink; there = there; is = refl })
+named_there sinks (Err Invalid) target e = absurd cc
+named_there sinks (Err _) target e = absurd cc

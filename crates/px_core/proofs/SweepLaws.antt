@@ -7,8 +7,7 @@ use Rattle.px_plan.specs.declared.input.Connection.{Connection}
 use Rattle.px_plan.specs.declared.input.Input.{Input}
 use Rattle.px_core.specs.State.{State, is_from, marked_of}
 use Rattle.px_core.specs.Change.{Change, changed}
-use Rattle.px_core.specs.Delete.{ends}
-use Rattle.px_core.specs.Connecting.{swept, sweep_of}
+use Rattle.px_core.specs.Connecting.{ends, swept, sweep_of}
 use Rattle.px_core.specs.Lawful.{AreLawful}
 use Rattle.px_core.proofs.AnswerLaws.{IsLawful}
 

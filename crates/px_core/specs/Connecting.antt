@@ -2,17 +2,17 @@
 use Rattle.std.specs.Prelude.{ℕ, ◌+◌, Bool, false, cond, ◌||◌, nat_le, List, [], ◌∷◌, ◌++◌, map, filter, length, flat_map, Option, None, Some}
 use Rattle.px_types.specs.declared.ids.ConnId.{ConnId}
 use Rattle.px_names.specs.Clients.{new_client}
-use Rattle.px_plan.specs.declared.change.Change.TheVariants.{Forgotten}
+use Rattle.px_plan.specs.declared.change.Change.TheVariants.{Leaves, Forgotten}
 use Rattle.px_core.specs.declared.effect.Effect.{Effect}
 use Rattle.px_plan.specs.declared.sending.Reason.{Reason}
 use Rattle.px_plan.specs.declared.sending.Reason.TheVariants.{Limit}
 use Rattle.px_plan.specs.declared.input.Connection.{Connection}
 use Rattle.px_plan.specs.declared.input.Input.{Input}
+use Rattle.px_plan.specs.Plan.{idle, changing}
 use Rattle.px_core.specs.Effect.{closed_for}
 use Rattle.px_core.specs.Change.{Change}
 use Rattle.px_core.specs.State.{State, connection_of, marked_of, is_from}
-use Rattle.px_core.specs.Reply.{Answer, ignored, ended_by}
-use Rattle.px_core.specs.Delete.{ends}
+use Rattle.px_core.specs.Plan.{Plan, ended_by}
 
 -- ---- a connection begins
 
@@ -57,14 +57,18 @@ abbrev pub going_on : List Connection → ConnId → Option Connection
 going_on connections conn = unmarked (connection_of connections conn)
 
 -- where it goes on it ends: by the server for a reason, or by the client
-abbrev pub ended : {P : Type 0} → Option Connection → Option Reason → ℕ → ℕ → Answer P
-ended None reason fault at = ignored
+abbrev pub ended : {P : Type 0} → Option Connection → Option Reason → ℕ → ℕ → Plan P
+ended None reason fault at = idle
 ended (Some c) reason fault at = ended_by c.conn reason fault at
 
 -- ---- it is swept away: its streams end, in their order, and its client goes
 
+-- an input ends
+abbrev pub ends : {P : Type 0} → Input → List (Change P)
+ends x = Leaves x.index ∷ []
+
 abbrev pub swept : {P : Type 0} → List Input → Connection → List (Change P)
 swept inputs c = flat_map ends (filter (is_from c.conn) inputs) ++ Forgotten c.conn ∷ []
 
-abbrev pub sweep_of : {P : Type 0} → State P → Answer P
-sweep_of state = record { changes = flat_map (swept state.inputs) (marked_of state.connections); effects = [] }
+abbrev pub sweep_of : {P : Type 0} → State P → Plan P
+sweep_of state = changing (flat_map (swept state.inputs) (marked_of state.connections))

@@ -1,5 +1,5 @@
 -- What a step does to the outside.
-use Rattle.std.specs.Prelude.{◌≡◌, ℕ, ◌+◌, ◌-◌, ◌^◌, ◌<◌, ◌≤◌, min, List, ◌++◌, length}
+use Rattle.std.specs.Prelude.{◌≡◌, ℕ, ◌+◌, ◌-◌, ◌^◌, ◌<◌, ◌≤◌, min, Bool, cond, ◌&&◌, nat_lt, nat_le, List, [], ◌∷◌, ◌++◌, length}
 use Rattle.std.specs.List.{AllByRecursion}
 use Rattle.px_types.specs.declared.ids.ConnId.{ConnId}
 use Rattle.px_tag.specs.declared.fault.TagFault.{TagFault}
@@ -18,6 +18,17 @@ framed packet = descriptor_bytes (control_descriptor (length packet)) ++ packet
 -- a packet goes to a connection
 abbrev pub sent : ConnId → List ℕ → Effect
 sent conn packet = Sent conn (framed packet)
+
+-- a frame carries packets of 1 to 16,777,216 bytes
+abbrev pub MOST_BYTES : ℕ
+MOST_BYTES = 16777216
+
+abbrev pub fits : List ℕ → Bool
+fits packet = nat_lt 0 (length packet) && nat_le (length packet) MOST_BYTES
+
+-- a packet for a connection goes to it where a frame can carry it
+abbrev pub sending : ConnId → List ℕ → List Effect
+sending conn packet = cond (fits packet) (sent conn packet ∷ []) []
 
 -- the number of a fault in a packet, behind the five of frames
 abbrev pub fault_code : TagFault → ℕ
@@ -52,7 +63,7 @@ pub record IsFrame (bytes : List ℕ) : Type 0 where
   pub packet : List ℕ
   pub is : bytes ≡ framed packet
   pub some : 0 < length packet
-  pub few : length packet ≤ 16777216
+  pub few : length packet ≤ MOST_BYTES
 
 -- what goes to a client is such a frame
 abbrev pub IsSendable : Effect → Type 0

@@ -40,16 +40,3 @@ begins_of conn state (out sink) = 0
 abbrev pub begins_by : {P : Type 0} → (P → SampleSpec) → ConnId → State P → List (Step P) → ℕ
 begins_by spec_of conn state [] = 0
 begins_by spec_of conn state (s ∷ steps) = begins_of conn state s + begins_by spec_of conn (stepped spec_of state s) steps
-
--- ---- steps of a connection
-
--- the connection that a step is of, where it is of one that is there already
-abbrev pub sender_of : {P : Type 0} → Step P → Option ConnId
-sender_of (connect conn) = None
-sender_of (frame conn f) = Some conn
-sender_of (broken conn fault at) = Some conn
-sender_of (close conn) = Some conn
-sender_of (cut conn) = Some conn
-sender_of sweep = None
-sender_of (notice sink n) = None
-sender_of (out sink) = None

@@ -21,7 +21,7 @@ use Rattle.px_plan.specs.declared.input.Standing.{Standing}
 use Rattle.px_plan.specs.declared.input.Standing.TheVariants.{Settled, Moving, Leaving}
 use Rattle.px_plan.specs.declared.waiting.Waiting.{Waiting}
 use Rattle.px_core.specs.State.{State, goes_on, input_of, settled_on, bound_for}
-use Rattle.px_core.specs.Create.{MOST_ON_SINK}
+use Rattle.px_ctl_play.specs.Asked.{MOST_ON_SINK}
 use Rattle.px_core.specs.Orderly.{spec_in, specs_of, is_held_by}
 use Rattle.px_core.specs.Out.{next_for, handed_out}
 use Rattle.px_core.specs.Step.{Step, connect, frame, broken, close, cut, sweep, notice, out}

@@ -1,5 +1,5 @@
 -- What a change asks of the state, so that it keeps what the state keeps.
-use Rattle.std.specs.Prelude.{◌≡◌, ◌+◌, ◌<◌, List, [], ◌∷◌, map, length, slice_get, Some, IfSome, ⊤}
+use Rattle.std.specs.Prelude.{◌≡◌, ◌+◌, ◌<◌, List, [], ◌∷◌, map, length, slice_get, Some, IfSome, IsSome, ⊤}
 use Rattle.std.specs.List.{AllByRecursion}
 use Rattle.px_types.specs.declared.ids.SinkId.{SinkId}
 use Rattle.px_session.specs.declared.header.SinkSpec.{SinkSpec}
@@ -15,7 +15,8 @@ use Rattle.px_plan.specs.declared.input.Way.TheVariants.{Coming, Left}
 use Rattle.px_plan.specs.declared.change.Change.TheVariants.{Authed, Named, Made, Leaves, Said, Regrouped, Asked, Answered, Gone, Ended, Forgotten}
 use Rattle.px_core.specs.State.{State, input_of, bound_for}
 use Rattle.px_core.specs.Change.{Change, changed}
-use Rattle.px_core.specs.Create.{MOST_ON_SINK}
+use Rattle.px_core.specs.Connecting.{going_on}
+use Rattle.px_ctl_play.specs.Asked.{MOST_ON_SINK}
 use Rattle.px_core.specs.Keeps.{IsInput, IsIncreasing, IsAwaiting}
 
 -- a message brings a new input's stream to its sink, and fits it
@@ -94,7 +95,7 @@ Lawful state (Regrouped sink group m) = IsRegrouped state sink m
 Lawful state (Asked w) = IsAwaiting state.inputs w
 Lawful state (Answered w) = ⊤
 Lawful state (Gone index) = IfSome (input_of state.inputs index) HasLeft
-Lawful state (Ended conn reason fault at) = ⊤
+Lawful state (Ended conn reason fault at) = IsSome (going_on state.connections conn)
 Lawful state (Forgotten conn) = ⊤
 
 -- each of them, in the state that those before it leave

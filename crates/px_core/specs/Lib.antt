@@ -3,14 +3,11 @@ pub mod State
 pub mod InputTable
 pub mod Tables
 pub mod Change
-pub mod Reply
-pub mod Client
-pub mod Create
-pub mod Delete
-pub mod Data
+pub mod Plan
+pub mod Sinks
 pub mod Command
 pub mod Connecting
-pub mod Told
+pub mod Notice
 pub mod Out
 pub mod Lending
 pub mod Step

@@ -11,33 +11,34 @@ use Rattle.px_frame.specs.declared.frame.Frame.{Frame}
 use Rattle.px_frame.specs.declared.frame.Body.{Body}
 use Rattle.px_frame.specs.declared.frame.Body.TheVariants.{Control, Write}
 use Rattle.px_msg.specs.declared.notice.Notice.{Notice}
+use Rattle.px_plan.specs.Plan.{idle}
+use Rattle.px_ctl_play.specs.Data.{data_for}
 use Rattle.px_core.specs.declared.effect.Effect.{Effect}
 use Rattle.px_plan.specs.declared.input.Connection.{Connection}
-use Rattle.px_core.specs.State.{State, connection_of}
+use Rattle.px_core.specs.State.{State, connection_of, stream_of}
 use Rattle.px_core.specs.Change.{committed}
-use Rattle.px_core.specs.Reply.{Answer, ignored}
+use Rattle.px_core.specs.Plan.{Plan, plan_effects}
 use Rattle.px_core.specs.Command.{packet_answer}
-use Rattle.px_core.specs.Data.{data_of}
 use Rattle.px_core.specs.Connecting.{connected, connect_effects, going_on, ended, sweep_of}
-use Rattle.px_core.specs.Told.{notice_answer}
+use Rattle.px_core.specs.Notice.{notice_answer}
 use Rattle.px_core.specs.Out.{handed_out}
 
 -- one frame of a connection that goes on
-abbrev pub body_answer : {P : Type 0} → State P → Connection → ℕ → Body → Answer P
+abbrev pub body_answer : {P : Type 0} → State P → Connection → ℕ → Body → Plan P
 body_answer state c at (Control packet) = packet_answer state c at packet
-body_answer state c at (Write stream offset seek bytes) = data_of state.inputs c.conn stream offset seek bytes
+body_answer state c at (Write stream offset seek bytes) = data_for (stream_of state.inputs c.conn stream) offset seek bytes
 
-abbrev pub frame_of : {P : Type 0} → State P → Option Connection → Frame → Answer P
-frame_of state None frame = ignored
+abbrev pub frame_of : {P : Type 0} → State P → Option Connection → Frame → Plan P
+frame_of state None frame = idle
 frame_of state (Some c) frame = body_answer state c frame.at frame.body
 
 -- a frame; those of a connection that isn't there, or has ended, are ignored
-abbrev pub frame_answer : {P : Type 0} → State P → ConnId → Frame → Answer P
+abbrev pub frame_answer : {P : Type 0} → State P → ConnId → Frame → Plan P
 frame_answer state conn frame = frame_of state (going_on state.connections conn) frame
 
--- the state after an answer
-abbrev pub answered : {P : Type 0} → State P → Answer P → State P
-answered state answer = committed state answer.changes
+-- the state after a plan
+abbrev pub answered : {P : Type 0} → State P → Plan P → State P
+answered state plan = committed state plan.changes
 
 pub data Step (P : Type 0) : Type 0 where
   -- a client connects
@@ -58,15 +59,15 @@ pub data Step (P : Type 0) : Type 0 where
   out : SinkId → Step P
 
 -- what a step is answered, where spec_of reads a parcel's sample spec; a client that connects and a message that is handed out have no answer of this kind
-abbrev pub answer_of : {P : Type 0} → (P → SampleSpec) → State P → Step P → Answer P
-answer_of spec_of state (connect conn) = ignored
+abbrev pub answer_of : {P : Type 0} → (P → SampleSpec) → State P → Step P → Plan P
+answer_of spec_of state (connect conn) = idle
 answer_of spec_of state (frame conn f) = frame_answer state conn f
 answer_of spec_of state (broken conn fault at) = ended (going_on state.connections conn) (Some Protocol) (code_of fault) at
 answer_of spec_of state (close conn) = ended (going_on state.connections conn) None 0 0
 answer_of spec_of state (cut conn) = ended (going_on state.connections conn) (Some Cut) 0 0
 answer_of spec_of state sweep = sweep_of state
 answer_of spec_of state (notice sink n) = notice_answer spec_of state sink n
-answer_of spec_of state (out sink) = ignored
+answer_of spec_of state (out sink) = idle
 
 -- the state after a step
 abbrev pub stepped : {P : Type 0} → (P → SampleSpec) → State P → Step P → State P
@@ -79,15 +80,26 @@ stepped spec_of state sweep = answered state (answer_of spec_of state sweep)
 stepped spec_of state (notice sink n) = answered state (answer_of spec_of state (notice sink n))
 stepped spec_of state (out sink) = handed_out sink state
 
--- its effects, in order
+-- the connection that a step is of, where it is of one that is there already
+abbrev pub sender_of : {P : Type 0} → Step P → Option ConnId
+sender_of (connect conn) = None
+sender_of (frame conn f) = Some conn
+sender_of (broken conn fault at) = Some conn
+sender_of (close conn) = Some conn
+sender_of (cut conn) = Some conn
+sender_of sweep = None
+sender_of (notice sink n) = None
+sender_of (out sink) = None
+
+-- its effects, in order; a client that connects where no more are taken is ended without a plan
 abbrev pub effects_of : {P : Type 0} → (P → SampleSpec) → State P → Step P → List Effect
 effects_of spec_of state (connect conn) = connect_effects (connection_of state.connections conn) conn state
-effects_of spec_of state (frame conn f) = (answer_of spec_of state (frame conn f)).effects
-effects_of spec_of state (broken conn fault at) = (answer_of spec_of state (broken conn fault at)).effects
-effects_of spec_of state (close conn) = (answer_of spec_of state (close conn)).effects
-effects_of spec_of state (cut conn) = (answer_of spec_of state (cut conn)).effects
-effects_of spec_of state sweep = (answer_of spec_of state sweep).effects
-effects_of spec_of state (notice sink n) = (answer_of spec_of state (notice sink n)).effects
+effects_of spec_of state (frame conn f) = plan_effects (Some conn) (answer_of spec_of state (frame conn f))
+effects_of spec_of state (broken conn fault at) = plan_effects (Some conn) (answer_of spec_of state (broken conn fault at))
+effects_of spec_of state (close conn) = plan_effects (Some conn) (answer_of spec_of state (close conn))
+effects_of spec_of state (cut conn) = plan_effects (Some conn) (answer_of spec_of state (cut conn))
+effects_of spec_of state sweep = plan_effects None (answer_of spec_of state sweep)
+effects_of spec_of state (notice sink n) = plan_effects None (answer_of spec_of state (notice sink n))
 effects_of spec_of state (out sink) = []
 
 -- all of them, one after the other

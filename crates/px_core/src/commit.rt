@@ -3,18 +3,19 @@
 ghost use Rattle.std.specs.Prelude.{◌≡◌, ◌≤◌, ◌+◌, ℕ, length, IfOk, OnOk, OnErr};
 ghost use Rattle.px_plan.specs.declared.change.Change.TheVariants.{Made, Leaves, Said};
 ghost use Rattle.px_core.specs.Change.{changed, committed, inputs_told, posting, saying, ending};
+ghost use Rattle.px_core.specs.Plan.{plan_effects};
 ghost use Rattle.px_core.specs.Step.{answered};
 ghost use Rattle.px_core.specs.Tables.{state_of, HasRoom, HavePlaces};
 
-use crate::answer::Answer;
 use crate::change::CoreChange;
-use crate::effects::Effects;
+use crate::effects::{Effects, plan_effects};
 use crate::input_table::InputTable;
 use crate::tables::Tables;
 use crate::{awaited, queues, verbs};
 use px_msg::Msg;
-use px_plan::{Change, Input, Standing};
-use px_types::{InputId, Mem, SinkId};
+use px_plan::{Change, Input, Plan, Standing};
+use px_types::{ConnId, InputId, Mem, SinkId};
+use std::alloc::Global;
 use std::collections::VecDeque;
 
 /// Room for so many changes. The state stays.
@@ -165,14 +166,20 @@ pub(crate) fn commit<P: Drop>(tables: &mut Tables<P>, changes: Vec<CoreChange<P>
     }
 }
 
-/// The changes of an answer are made, and its effects are left. Where there is no memory for them nothing has changed.
-pub(crate) fn finish<P: Drop>(tables: &mut Tables<P>, answer: Answer<P>) -> Mem<Effects>
-    ensures effects { IfOk result (λ effects. effects ≡ answer.effects) }
-    ensures after { OnOk result (state_of tables.new ≡ answered (state_of tables.old) answer) }
+/// The changes of a plan are made, and its effects are left; the reply goes to who asked. Where there is no memory for them
+/// nothing has changed.
+pub(crate) fn finish<P: Drop>(
+    alloc: Global,
+    tables: &mut Tables<P>,
+    asker: Option<ConnId>,
+    plan: Plan<Msg<P>, ()>,
+) -> Mem<Effects>
+    ensures effects { IfOk result (λ effects. effects ≡ plan_effects asker plan) }
+    ensures after { OnOk result (state_of tables.new ≡ answered (state_of tables.old) plan) }
     ensures err { OnErr result (state_of tables.new ≡ state_of tables.old) }
 {
-    let Answer { changes, effects } = answer;
-    reserve(tables, changes.len())?;
-    commit(tables, changes);
+    let effects = plan_effects(alloc, asker, &plan)?;
+    reserve(tables, plan.changes.len())?;
+    commit(tables, plan.changes);
     Ok(effects)
 }

@@ -1,32 +1,32 @@
 //! Connections begin and end (PulseAudio: `pa_native_protocol_connect` and `native_connection_unlink` of
 //! `pulsecore/protocol-native.c`; that an ended connection is swept away in a step of its own is own).
 
-ghost use Rattle.std.specs.Prelude.{◌≡◌, ◌<◌, ◌++◌, ◌∷◌, [], ℕ, List, Option, Some, filter, flat_map, IfOk, OnOk, OnErr};
+ghost use Rattle.std.specs.Prelude.{◌≡◌, ◌<◌, ◌++◌, ◌∷◌, [], ℕ, List, Option, None, Some, filter, flat_map, IfOk, OnOk, OnErr};
 ghost use Rattle.std.specs.Option.{option_map};
 ghost use Rattle.px_plan.specs.declared.sending.Reason.{Reason};
 ghost use Rattle.px_plan.specs.declared.sending.Reason.TheVariants.{Protocol};
 ghost use Rattle.px_frame.specs.Fault.{code_of};
 ghost use Rattle.px_plan.specs.declared.input.Connection.{Connection};
 ghost use Rattle.px_plan.specs.declared.input.Input.{Input};
+ghost use Rattle.px_plan.specs.Plan.{changing};
 ghost use Rattle.px_core.specs.State.{connection_of, marked_of, is_from};
-ghost use Rattle.px_core.specs.Connecting.{is_full, new_connection, joined, connected, connect_effects, going_on, ended, swept, sweep_of};
-ghost use Rattle.px_core.specs.Delete.{ends};
-ghost use Rattle.px_core.specs.Effect.{closed_for, IsSendable};
+ghost use Rattle.px_core.specs.Connecting.{is_full, new_connection, joined, connected, connect_effects, going_on, ended, ends, swept, sweep_of};
+ghost use Rattle.px_core.specs.Effect.{closed_at, IsSendable};
+ghost use Rattle.px_core.specs.Plan.{plan_effects};
 ghost use Rattle.px_core.specs.Step.{answered};
 ghost use Rattle.px_core.specs.Tables.{state_of};
 
-use crate::answer::Answer;
 use crate::change::CoreChange;
 use crate::commit::finish;
-use crate::effect::Effect;
+use crate::effect::{Effect, closed_for};
 use crate::effects::Effects;
 use crate::found::{connection_of, going_on};
-use crate::reply::closed_at;
 use crate::standing::goes_on;
 use crate::tables::Tables;
 use crate::verbs::mark;
 use px_frame::FrameFault;
-use px_plan::{Change, Connection, Input, Reason};
+use px_msg::Msg;
+use px_plan::{Change, Connection, Input, Plan, Reason};
 use px_types::{ConnId, Mem};
 use std::alloc::Global;
 
@@ -109,27 +109,28 @@ fn add_swept<P: Drop>(changes: &mut Vec<CoreChange<P>>, inputs: &[Input], c: &Co
 }
 
 // What sweeps the connections away that have ended: the streams of each end, in order, and its client goes.
-fn sweep<P: Drop>(alloc: Global, connections: &[Connection], inputs: &[Input]) -> Mem<Answer<P>>
-    ensures { IfOk result (λ answer. answer ≡ record { changes = flat_map (swept inputs.now) (marked_of connections.now); effects = [] }) }
+fn sweep<P: Drop>(
+    alloc: Global,
+    connections: &[Connection],
+    inputs: &[Input],
+) -> Mem<Plan<Msg<P>, ()>>
+    ensures { IfOk result (λ plan. plan ≡ changing (flat_map (swept inputs.now) (marked_of connections.now))) }
 {
     let mut changes = Vec::new(alloc);
     for c in connections {
         add_swept(&mut changes, inputs, c)?;
     }
-    Ok(Answer {
-        changes,
-        effects: Effects::new(alloc),
-    })
+    Ok(Plan::changing(alloc, changes))
 }
 
 /// The connections that have ended are swept away. Where there is no memory for it nothing has changed.
 pub(crate) fn sweep_away<P: Drop>(alloc: Global, tables: &mut Tables<P>) -> Mem<Effects>
-    ensures effects { IfOk result (λ effects. effects ≡ (sweep_of (state_of tables.old)).effects) }
+    ensures effects { IfOk result (λ effects. effects ≡ plan_effects None (sweep_of (state_of tables.old))) }
     ensures after { OnOk result (state_of tables.new ≡ answered (state_of tables.old) (sweep_of (state_of tables.old))) }
     ensures err { OnErr result (state_of tables.new ≡ state_of tables.old) }
 {
-    let answer = sweep(alloc, &tables.connections, tables.inputs.as_slice())?;
-    finish(tables, answer)
+    let plan = sweep(alloc, &tables.connections, tables.inputs.as_slice())?;
+    finish(alloc, tables, None, plan)
 }
 
 /// A client connects. One that is there already changes nothing; where no more are taken the server ends it. Where there is no
@@ -150,16 +151,16 @@ pub(crate) fn connect<P>(alloc: Global, tables: &mut Tables<P>, conn: ConnId) ->
     Ok(Effects::new(alloc))
 }
 
-/// A connection is ended for a reason that isn't a rule of the protocol. Takes no memory.
-pub(crate) fn closed_for(conn: ConnId, reason: Reason) -> Effect
-    ensures value { result ≡ closed_for conn reason }
+// A connection is ended for breaking a rule of the protocol, at an offset of its bytes.
+fn closed_at(conn: ConnId, fault: u8, at: u64) -> Effect
+    ensures value { result ≡ closed_at conn fault at }
     ensures sendable { IsSendable result }
 {
     Effect::Closed {
         conn,
-        reason,
-        fault: 0,
-        at: 0,
+        reason: Reason::Protocol,
+        fault,
+        at,
     }
 }
 
@@ -172,7 +173,7 @@ pub(crate) fn break_off<P>(
     fault: FrameFault,
     at: u64,
 ) -> Mem<Effects>
-    ensures effects { IfOk result (λ effects. effects ≡ (ended {P = P} (going_on tables.old.connections.items conn) (Some Protocol) (code_of fault) at).effects) }
+    ensures effects { IfOk result (λ effects. effects ≡ plan_effects {P = P} (Some conn) (ended (going_on tables.old.connections.items conn) (Some Protocol) (code_of fault) at)) }
     ensures after { OnOk result (state_of tables.new ≡ answered (state_of tables.old) (ended (going_on tables.old.connections.items conn) (Some Protocol) (code_of fault) at)) }
     ensures err { OnErr result (state_of tables.new ≡ state_of tables.old) }
 {

@@ -1,10 +1,13 @@
 //! What a step does to the outside.
 
-ghost use Rattle.std.specs.Prelude.{◌≡◌, ◌<◌, ◌≤◌, length, IfOk};
-ghost use Rattle.px_core.specs.Effect.{framed, sent, IsSendable};
+ghost use Rattle.std.specs.Prelude.{◌≡◌, ◌<◌, ◌≤◌, length, IfOk, IfSome};
+ghost use Rattle.std.specs.Option.{option_to_list};
+ghost use Rattle.px_core.specs.Effect.{framed, sent, closed_for, IsSendable};
+ghost use Rattle.px_core.specs.Plan.{closed_in};
 
+use crate::change::CoreChange;
 use px_frame::{Packet, write_packet};
-use px_plan::Reason;
+use px_plan::{Change, Reason};
 use px_types::{ConnId, Mem, NoMemory};
 use std::alloc::Global;
 
@@ -37,5 +40,47 @@ pub(crate) fn sent(alloc: Global, conn: ConnId, packet: &[u8]) -> Mem<Effect>
     match write_packet(alloc, packet) {
         Ok(packet) => Ok(Effect::Sent { conn, packet }),
         Err(_) => Err(NoMemory),
+    }
+}
+
+/// A connection is ended for a reason that isn't a rule of the protocol. Takes no memory.
+pub(crate) fn closed_for(conn: ConnId, reason: Reason) -> Effect
+    ensures value { result ≡ closed_for conn reason }
+    ensures sendable { IsSendable result }
+{
+    Effect::Closed {
+        conn,
+        reason,
+        fault: 0,
+        at: 0,
+    }
+}
+
+/// That the server has ended a connection, where a change says so. Takes no memory.
+pub(crate) fn closed_in<P>(change: &CoreChange<P>) -> Option<Effect>
+    ensures value { option_to_list result ≡ closed_in change.now }
+    ensures sendable { IfSome result IsSendable }
+{
+    match change {
+        Change::Ended {
+            conn,
+            reason: Some(reason),
+            fault,
+            at,
+        } => Some(Effect::Closed {
+            conn: *conn,
+            reason: *reason,
+            fault: *fault,
+            at: *at,
+        }),
+        Change::Ended { reason: None, .. }
+        | Change::Authed(..)
+        | Change::Named(..)
+        | Change::Made { .. }
+        | Change::Leaves(_)
+        | Change::Said(..)
+        | Change::Regrouped(..)
+        | Change::Gone(_)
+        | Change::Forgotten(_) => None,
     }
 }

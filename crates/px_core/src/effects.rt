@@ -1,10 +1,17 @@
 //! The effects of a step, in order.
 
-ghost use Rattle.std.specs.Prelude.{◌≡◌, ◌++◌, ◌∷◌, [], OnOk, OnErr, IfOk};
-ghost use Rattle.px_core.specs.Effect.{IsSendable, AreSendable};
+ghost use Rattle.std.specs.Prelude.{◌≡◌, ◌<◌, ◌≤◌, ◌++◌, ◌∷◌, [], true, length, List, OnOk, OnErr, IfOk};
+ghost use Rattle.px_plan.specs.declared.sending.Sending.{Sending};
+ghost use Rattle.px_core.specs.Change.{Change};
+ghost use Rattle.px_core.specs.Effect.{fits, sending, IsSendable, AreSendable};
+ghost use Rattle.px_core.specs.Plan.{reply_to_asker, sent_all, closed_all, plan_effects};
 
-use crate::effect::Effect;
-use px_types::Mem;
+use crate::change::CoreChange;
+use crate::effect::{Effect, closed_in, sent};
+use px_msg::Msg;
+use px_plan::{Plan, Sending};
+use px_tag::Packet;
+use px_types::{ConnId, Mem};
 use std::alloc::Global;
 use std::marker::Model;
 
@@ -83,4 +90,99 @@ impl Effects {
     {
         self.effects
     }
+}
+
+/// The most bytes of a packet that a frame can carry.
+const MOST_BYTES: usize = 16_777_216;
+
+/// Whether a frame can carry a packet. Takes no memory.
+pub(crate) fn fits(packet: &Packet) -> bool
+    ensures value { result ≡ fits packet.now }
+    ensures some { result ≡ true → 0 < length packet.now }
+    ensures few { result ≡ true → length packet.now ≤ 16777216 }
+{
+    let bytes = packet.as_slice();
+    !bytes.is_empty() && bytes.len() <= MOST_BYTES
+}
+
+// A packet goes to a connection, where a frame can carry it.
+fn send(alloc: Global, effects: &mut Effects, conn: ConnId, packet: &Packet) -> Mem<()>
+    ensures { OnOk result (effects.new ≡ effects.old ++ sending conn packet.now) }
+{
+    if fits(packet) {
+        effects.push(sent(alloc, conn, packet.as_slice())?)?;
+    }
+    Ok(())
+}
+
+// The reply goes to who asked.
+fn send_reply(
+    alloc: Global,
+    effects: &mut Effects,
+    reply: &Option<Packet>,
+    asker: Option<ConnId>,
+) -> Mem<()>
+    ensures { OnOk result (effects.new ≡ effects.old ++ reply_to_asker reply.now asker) }
+{
+    match reply {
+        None => Ok(()),
+        Some(packet) => match asker {
+            None => Ok(()),
+            Some(conn) => send(alloc, effects, conn, packet),
+        },
+    }
+}
+
+// One more of several packets.
+fn send_one(alloc: Global, effects: &mut Effects, one: &Sending) -> Mem<()>
+    ensures { OnOk result ((more : List Sending) → effects.new ++ sent_all more ≡ effects.old ++ sent_all (one.now ∷ more)) }
+{
+    send(alloc, effects, one.conn, &one.packet)
+}
+
+// Each packet goes to its connection.
+fn send_all(alloc: Global, effects: &mut Effects, sendings: &[Sending]) -> Mem<()>
+    ensures { OnOk result (effects.new ≡ effects.old ++ sent_all sendings.now) }
+{
+    for one in sendings {
+        send_one(alloc, effects, one)?;
+    }
+    Ok(())
+}
+
+// The end of a connection, where a change is one.
+fn close_one<P>(effects: &mut Effects, change: &CoreChange<P>) -> Mem<()>
+    ensures { OnOk result ((more : List (Change P)) → effects.new ++ closed_all more ≡ effects.old ++ closed_all (change.now ∷ more)) }
+{
+    match closed_in(change) {
+        None => Ok(()),
+        Some(effect) => effects.push(effect),
+    }
+}
+
+// The ends of connections among changes.
+fn close_all<P>(effects: &mut Effects, changes: &[CoreChange<P>]) -> Mem<()>
+    ensures { OnOk result (effects.new ≡ effects.old ++ closed_all changes.now) }
+{
+    for change in changes {
+        close_one(effects, change)?;
+    }
+    Ok(())
+}
+
+/// What a plan does to the outside: the reply, the errors for tags that wait, the messages to clients, and the connections that
+/// are ended.
+pub(crate) fn plan_effects<P>(
+    alloc: Global,
+    asker: Option<ConnId>,
+    plan: &Plan<Msg<P>, ()>,
+) -> Mem<Effects>
+    ensures { IfOk result (λ effects. effects ≡ plan_effects asker plan.now) }
+{
+    let mut effects = Effects::new(alloc);
+    send_reply(alloc, &mut effects, &plan.reply, asker)?;
+    send_all(alloc, &mut effects, &plan.errors)?;
+    send_all(alloc, &mut effects, &plan.told)?;
+    close_all(&mut effects, &plan.changes)?;
+    Ok(effects)
 }

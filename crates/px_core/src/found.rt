@@ -4,7 +4,7 @@ ghost use Rattle.std.specs.Prelude.{◌≡◌};
 ghost use Rattle.std.specs.Option.{option_map};
 ghost use Rattle.px_core.specs.State.{connection_of, input_of};
 ghost use Rattle.px_core.specs.Connecting.{going_on};
-ghost use Rattle.px_core.specs.Told.{input_on};
+ghost use Rattle.px_core.specs.Notice.{input_on};
 
 use px_plan::{Connection, Input};
 use px_types::{ConnId, InputId, SinkId};
@@ -35,10 +35,22 @@ pub(crate) fn input_of(inputs: &[Input], index: InputId) -> Option<&Input>
 }
 
 /// The input with an index, where it is on the sink. Takes no memory.
-pub(crate) fn input_on(inputs: &[Input], sink: SinkId, index: InputId) -> Option<&Input>
-    ensures { option_map (λ x. x.now) result ≡ input_on inputs.now sink index }
+pub(crate) fn input_on(inputs: &[Input], sink: SinkId, index: InputId) -> Option<Input>
+    ensures { result ≡ input_on inputs.now sink index }
 {
-    inputs
-        .iter()
-        .find(|x| x.index.0 == index.0 && x.sink.0 == sink.0)
+    copied(
+        inputs
+            .iter()
+            .find(|x| x.index.0 == index.0 && x.sink.0 == sink.0),
+    )
+}
+
+/// The input itself, where one was found. Takes no memory.
+pub(crate) fn copied(x: Option<&Input>) -> Option<Input>
+    ensures { result ≡ option_map (λ x. x.now) x.entry }
+{
+    match x {
+        None => None,
+        Some(x) => Some(*x),
+    }
 }

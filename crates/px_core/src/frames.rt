@@ -1,10 +1,11 @@
 //! What a frame of a connection is answered.
 
-ghost use Rattle.std.specs.Prelude.{◌≡◌, [], IfOk, IfErr, OnOk, OnErr};
+ghost use Rattle.std.specs.Prelude.{◌≡◌, [], Some, IfOk, IfErr, OnOk, OnErr};
 ghost use Rattle.px_frame.specs.Frame.{IsBody};
 ghost use Rattle.px_session.specs.HeaderRules.{AreSinks};
 ghost use Rattle.px_core.specs.Command.{packet_answer};
 ghost use Rattle.px_core.specs.Keeps.{IsRising};
+ghost use Rattle.px_core.specs.Plan.{plan_effects};
 ghost use Rattle.px_core.specs.Step.{answered, body_answer, frame_answer};
 ghost use Rattle.px_core.specs.Tables.{state_of};
 
@@ -23,23 +24,27 @@ use std::alloc::Global;
 fn control<P: Drop>(
     alloc: Global,
     tables: &mut Tables<P>,
+    conn: ConnId,
     c: &Connection,
     at: u64,
     packet: &[u8],
 ) -> Mem<Effects>
     requires { AreSinks [] tables.old.sinks }
-    ensures effects { IfOk result (λ effects. effects ≡ (packet_answer (state_of tables.old) c.now at packet.now).effects) }
+    ensures effects { IfOk result (λ effects. effects ≡ plan_effects (Some conn) (packet_answer (state_of tables.old) c.now at packet.now)) }
     ensures after { OnOk result (state_of tables.new ≡ answered (state_of tables.old) (packet_answer (state_of tables.old) c.now at packet.now)) }
     ensures err { OnErr result (state_of tables.new ≡ state_of tables.old) }
 {
-    let answer = packet_answer(alloc, tables, c, at, packet)?;
-    finish(tables, answer)
+    let plan = packet_answer(alloc, tables, c, at, packet)?;
+    finish(alloc, tables, Some(conn), plan)
 }
 
-// The body of a frame of a connection that goes on. Where there is no memory for it, it is handed back.
+// The body of a frame of a connection that goes on, which is the one with this number. Where there is no memory for it, it is
+// handed back.
+#[tactic(auto, using(crate::proofs::Silent::data_silent))]
 fn body<P: Drop>(
     alloc: Global,
     tables: &mut Tables<P>,
+    conn: ConnId,
     c: &Connection,
     at: u64,
     body: Body,
@@ -47,13 +52,13 @@ fn body<P: Drop>(
     requires sinks { AreSinks [] tables.old.sinks }
     requires rising { IsRising tables.old.inputs.items }
     requires body { IsBody body }
-    ensures effects { IfOk result (λ effects. effects ≡ (body_answer (state_of tables.old) c.now at body).effects) }
+    ensures effects { IfOk result (λ effects. effects ≡ plan_effects (Some conn) (body_answer (state_of tables.old) c.now at body)) }
     ensures after { OnOk result (state_of tables.new ≡ answered (state_of tables.old) (body_answer (state_of tables.old) c.now at body)) }
     ensures back { IfErr result (λ back. back ≡ body) }
     ensures err { OnErr result (state_of tables.new ≡ state_of tables.old) }
 {
     match body {
-        Body::Control(packet) => match control(alloc, tables, c, at, packet.bytes()) {
+        Body::Control(packet) => match control(alloc, tables, conn, c, at, packet.bytes()) {
             Ok(effects) => Ok(effects),
             Err(_) => Err(Body::Control(packet)),
         },
@@ -85,14 +90,14 @@ pub(crate) fn take<P: Drop>(
     requires sinks { AreSinks [] tables.old.sinks }
     requires rising { IsRising tables.old.inputs.items }
     requires body { IsBody frame.body }
-    ensures effects { IfOk result (λ effects. effects ≡ (frame_answer (state_of tables.old) conn frame).effects) }
+    ensures effects { IfOk result (λ effects. effects ≡ plan_effects (Some conn) (frame_answer (state_of tables.old) conn frame)) }
     ensures after { OnOk result (state_of tables.new ≡ answered (state_of tables.old) (frame_answer (state_of tables.old) conn frame)) }
     ensures back { IfErr result (λ back. back ≡ frame) }
     ensures err { OnErr result (state_of tables.new ≡ state_of tables.old) }
 {
     match going_on(&tables.connections, conn) {
         None => { Ok(Effects::new(alloc)) }
-        Some(c) => match body(alloc, tables, &c, frame.at, frame.body) {
+        Some(c) => match body(alloc, tables, conn, &c, frame.at, frame.body) {
             Ok(effects) => Ok(effects),
             Err(body) => Err(Frame { at: frame.at, body }),
         },

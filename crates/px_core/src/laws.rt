@@ -16,11 +16,11 @@ ghost use Rattle.px_core.specs.Change.{marked, with_connection};
 ghost use Rattle.px_core.specs.State.{State, new_state};
 ghost use Rattle.px_core.specs.Connecting.{going_on};
 ghost use Rattle.px_core.specs.Out.{Roomy, waiting_for, next_for, handed_out, put_back, sent_by, unsent_by};
-ghost use Rattle.px_core.specs.Step.{Step, out, stepped, effects_of, stepped_by, effects_by};
+ghost use Rattle.px_core.specs.Step.{Step, out, sender_of, stepped, effects_of, stepped_by, effects_by};
 ghost use Rattle.px_core.specs.Orderly.{specs_of, inputs_there, IsOrderlyState};
 ghost use Rattle.px_core.specs.Keeps.{IsKept, IsPosted, IsStep, Spares, handed_out_by, messages_out};
 ghost use Rattle.px_core.specs.Hearing.{told_by};
-ghost use Rattle.px_core.specs.Ending.{ends_of, goes_on, begins_of, begins_by, sender_of};
+ghost use Rattle.px_core.specs.Ending.{ends_of, goes_on, begins_of, begins_by};
 
 /// What the state keeps, a new one has, and it keeps under every step; `spec_of` reads a parcel's sample spec. So the messages
 /// that wait for a sink are always orderly from the inputs that it has. It does nothing: its contract is the law. Source: own.

@@ -3,39 +3,30 @@
 //! made of.
 #![tactic(auto)]
 
-mod answer;
-mod asked;
 mod awaited;
 mod change;
-mod client;
 mod command;
 mod commit;
 mod connecting;
-mod create;
-mod created;
 mod data;
-mod delete;
 mod effect;
 mod effects;
-mod factors;
 mod found;
 mod frames;
 mod input_table;
 mod laws;
 mod lending;
 mod machine;
+mod notice;
 mod out;
+mod plan;
 mod queues;
-mod refusals;
-mod reply;
+mod sinks;
 mod standing;
 mod start;
 mod tables;
-mod told;
 mod verbs;
 
-pub use answer::Answer;
-pub use change::CoreChange;
 pub use effect::Effect;
 pub use effects::Effects;
 pub use laws::{

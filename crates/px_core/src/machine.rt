@@ -10,13 +10,13 @@ ghost use Rattle.px_core.specs.Step.{Step, stepped, effects_of};
 ghost use Rattle.px_core.specs.Keeps.{IsKept};
 ghost use Rattle.px_core.specs.Out.{waiting_for, next_for, put_back, sent, unsent, room_for};
 
-use crate::connecting::{break_off, closed_for, connect, end, sweep_away};
-use crate::effect::Effect;
+use crate::connecting::{break_off, connect, end, sweep_away};
+use crate::effect::{Effect, closed_for};
 use crate::effects::Effects;
 use crate::out::{hand_out, put_back};
 use crate::start::new_tables;
 use crate::tables::Tables;
-use crate::{frames, queues, told};
+use crate::{frames, notice, queues};
 use px_frame::{Frame, FrameFault};
 use px_msg::{Msg, Notice, Parcel};
 use px_plan::Reason;
@@ -125,7 +125,7 @@ impl<P: Parcel + Drop> Core<P> {
         ensures back { IfErr result (λ back. back ≡ notice) }
         ensures err { OnErr result (self.new.state ≡ self.old.state) }
     {
-        told::take(self.alloc, &mut self.tables, sink, notice)
+        notice::take(self.alloc, &mut self.tables, sink, notice)
     }
 
     /// How many messages wait for a sink; 0 for one that isn't there. Takes no memory.
@@ -135,17 +135,20 @@ impl<P: Parcel + Drop> Core<P> {
         queues::count(&self.tables.posted, sink)
     }
 
-    /// The first message that waits for a sink, handed out. There is room to put it back. Takes no memory.
+    /// The first message that waits for a sink, handed out. There is room to put it back, and put back it leaves the very core
+    /// that was. Takes no memory.
     pub fn sent(&mut self, sink: SinkId) -> Option<Msg<P>>
         ensures next { result ≡ next_for self.old.state sink }
         ensures after { self.new ≡ sent sink self.old }
         ensures room { IsSome result → room_for sink self.new.room ≡ room_for sink self.old.room + 1 }
+        ensures kept { IfSome result (λ msg. IsKept P.spec_of (put_back sink msg self.new.state)) }
+        ensures back { IfSome result (λ msg. unsent sink msg self.new ≡ self.old) }
     {
         hand_out(&mut self.tables, sink)
     }
 
     /// A message that was handed out waits again, before the others. Where several were, the last one is put back first, and
-    /// the core is as it was once all are back: a state that a core keeps, as `states_are_kept` says of it. Takes no memory.
+    /// the core is as it was once all are back: each `sent` says of its message that it can be put back then. Takes no memory.
     pub fn unsent(&mut self, sink: SinkId, msg: Msg<P>)
         requires room { 0 < room_for sink self.old.room }
         requires kept { IsKept P.spec_of (put_back sink msg self.old.state) }

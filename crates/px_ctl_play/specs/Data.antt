@@ -4,7 +4,6 @@ use Rattle.std.specs.Int.{int_div_euclid, int_rem_euclid}
 use Rattle.px_sample.specs.Format.{frame_size_of}
 use Rattle.px_msg.specs.declared.message.Msg.{Msg}
 use Rattle.px_msg.specs.declared.message.Msg.TheVariants.{Write}
-use Rattle.px_plan.specs.declared.change.Change.{Change}
 use Rattle.px_plan.specs.declared.change.Change.TheVariants.{Said}
 use Rattle.px_plan.specs.declared.input.Input.{Input}
 use Rattle.px_plan.specs.Plan.{Planned, idle, changing}
@@ -23,13 +22,13 @@ frames_in size offset bytes =
 abbrev pub frames_of : Input → ℤ → ℕ → Option Frames
 frames_of x offset bytes = frames_in (frame_size_of x.spec) offset bytes
 
--- a stream's sink is told these frames
-abbrev pub write : {P : Type 0} → Input → Frames → ℕ → List ℕ → Change (Msg P) (Unit {0})
-write x frames seek bytes = Said x.index (Write x.index seek frames.offset frames.count bytes)
+-- the message of these frames to a stream's sink
+abbrev pub write : {P : Type 0} → Input → Frames → ℕ → List ℕ → Msg P
+write x frames seek bytes = Write x.index seek frames.offset frames.count bytes
 
 abbrev pub written : {P : Type 0} → Option Frames → Input → ℕ → List ℕ → Planned (Msg P) (Unit {0})
 written None x seek bytes = idle
-written (Some frames) x seek bytes = changing (write x frames seek bytes ∷ [])
+written (Some frames) x seek bytes = changing (Said x.index (write x frames seek bytes) ∷ [])
 
 -- data on a channel; one that is none of the connection's streams is ignored, and so is data that isn't whole frames
 abbrev pub data_for : {P : Type 0} → Option Input → ℤ → ℕ → List ℕ → Planned (Msg P) (Unit {0})

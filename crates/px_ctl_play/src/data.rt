@@ -8,7 +8,7 @@ ghost use Rattle.px_ctl_play.specs.Data.{are_frames, frames_in, frames_of, write
 
 use px_block::Blocks;
 use px_msg::Msg;
-use px_plan::{Change, Input};
+use px_plan::Input;
 use px_sample::Spec;
 
 /// Frames of a stream: the offset of the first, and how many.
@@ -68,18 +68,15 @@ pub fn frames_of(x: &Input, offset: i64, bytes: usize) -> Option<Frames>
     frames_in(frame_size(x.spec), offset, bytes)
 }
 
-/// A stream's sink is told these frames, whose offset counts from where the seek mode says, 0 to 3. Takes no memory.
-pub fn write<P>(x: &Input, frames: Frames, seek: u8, bytes: Blocks) -> Change<Msg<P>, ()>
+/// The message of these frames to a stream's sink. Their offset counts from where the seek mode says, 0 to 3. Takes no memory.
+pub fn write<P>(x: &Input, frames: Frames, seek: u8, bytes: Blocks) -> Msg<P>
     ensures { result ≡ write x.now frames seek bytes }
 {
-    Change::Said(
-        x.index,
-        Msg::Write {
-            input: x.index,
-            seek,
-            offset: frames.offset,
-            frames: frames.count,
-            bytes,
-        },
-    )
+    Msg::Write {
+        input: x.index,
+        seek,
+        offset: frames.offset,
+        frames: frames.count,
+        bytes,
+    }
 }

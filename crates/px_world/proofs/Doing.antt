@@ -16,7 +16,7 @@ use Rattle.px_model.specs.Frame.{SampleSpec}
 use Rattle.px_core.specs.declared.effect.Effect.{Effect}
 use Rattle.px_plan.specs.declared.input.Connection.{Connection}
 use Rattle.px_core.specs.State.{State}
-use Rattle.px_core.specs.Reply.{Answer}
+use Rattle.px_core.specs.Plan.{plan_effects}
 use Rattle.px_core.specs.Connecting.{going_on, ended}
 use Rattle.px_core.specs.Keeps.{IsStep, Spares}
 use Rattle.px_core.specs.Step.{Step, frame, broken, close, sweep, stepped, effects_of, stepped_by, effects_by}
@@ -44,7 +44,7 @@ module _ {P : Type 0} (spec_of : P → SampleSpec) (state next : State P) (s : S
 pub close-silent : {P : Type 0} (spec_of : P → SampleSpec) (state : State P) (conn : ConnId) → effects_of spec_of state (close conn) ≡ []
 close-silent {P} spec_of state conn = go (going_on state.connections conn)
   where
-    go : (o : Option Connection) → Answer.effects (ended {P = P} o None 0 0) ≡ []
+    go : (o : Option Connection) → plan_effects (Some conn) (ended {P = P} o None 0 0) ≡ []
     go None = refl
     go (Some c) = refl
 

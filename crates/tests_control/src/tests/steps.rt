@@ -172,6 +172,20 @@ fn hands(core: &mut Core<Stub>, wanted: Sent) -> bool {
     matches!(core.sent(OUT), Some(msg) if sent_of(&msg) == wanted)
 }
 
+// The next two messages are handed out and put back, the last one first, and handed out again.
+fn hands_again(core: &mut Core<Stub>, wanted: [Sent; 2]) -> bool {
+    let Some(first) = core.sent(OUT) else {
+        return false;
+    };
+    let Some(second) = core.sent(OUT) else {
+        return false;
+    };
+    let are = [sent_of(&first), sent_of(&second)] == wanted;
+    core.unsent(OUT, second);
+    core.unsent(OUT, first);
+    are && hands(core, wanted[0]) && hands(core, wanted[1])
+}
+
 // The client is let in, makes a stream and writes.
 fn begins(alloc: Global, core: &mut Core<Stub>) -> Mem<bool> {
     let there = admitted(core)?.as_slice().is_empty();
@@ -185,8 +199,7 @@ fn begins(alloc: Global, core: &mut Core<Stub>) -> Mem<bool> {
             && answers == [1, 1]
             && wrote == 0
             && core.outgoing(OUT) == 3
-            && hands(core, Sent::New(FIRST))
-            && hands(core, Sent::Factors(1))
+            && hands_again(core, [Sent::New(FIRST), Sent::Factors(1)])
             && hands(core, Sent::Write(3, 2))
             && core.sent(OUT).is_none(),
     )

@@ -1,6 +1,6 @@
 use Rattle.std.proofs.Common.{◌≡◌, ◌++◌, drop, filter, flat_map}
 use Rattle.px_core.specs.State.{is_from}
-use Rattle.px_core.specs.Delete.{ends}
+use Rattle.px_core.specs.Connecting.{ends}
 use Rattle.px_core.proofs.connecting.add_streams.Given as goal
 
 -- the changes so far and those of the inputs that are left are all of them

@@ -1,8 +1,18 @@
-use Rattle.std.proofs.Common.{sym, subst}
+use Rattle.std.proofs.Common.{◌≡◌, sym, subst, IfSome}
+use Rattle.px_core.specs.Out.{unsent}
 use Rattle.px_core.specs.Keeps.{IsKept}
-use Rattle.px_core.specs.Tables.{state_of}
+use Rattle.px_core.specs.Tables.{state_of, core_of}
+use Rattle.px_core.proofs.BackLaws.{kept_back, whole_back}
 use Rattle.px_core.proofs.HandingLaws.{out_keeps}
 use Rattle.px_core.proofs.machine.Core.sent.Goals as goal
 
 pub invariant_of-self : goal.invariant_of-self
 invariant_of-self g c = subst (IsKept g.P.Parcel.spec_of) (λ i. (sym c.hand_out.ensures.after i).state) (out_keeps g.P.Parcel.spec_of (state_of c.self.inside.tables) c.args.sink c.self.invariant)
+
+pub returns-clause-kept : goal.returns-clause-kept
+returns-clause-kept g c = kept_back g.P.Parcel.spec_of (core_of c.self.inside.tables) (core_of c.hand_out.new.tables) c.args.sink c.hand_out.result c.self.invariant c.hand_out.ensures.next c.hand_out.ensures.after
+
+pub returns-clause-back : goal.returns-clause-back
+returns-clause-back g c =
+    subst (λ core. IfSome c.hand_out.result (λ m. unsent c.args.sink m (core_of c.hand_out.new.tables) ≡ core)) c.self.view_is
+    (whole_back g.P.Parcel.spec_of (core_of c.self.inside.tables) (core_of c.hand_out.new.tables) c.args.sink c.hand_out.result c.self.invariant c.hand_out.ensures.next c.hand_out.ensures.after)

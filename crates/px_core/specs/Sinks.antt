@@ -1,0 +1,42 @@
+-- The sinks as commands see them.
+use Rattle.std.specs.Prelude.{ℕ, Bool, List, slice_get, Option, None, Some, Result, Ok, Err}
+use Rattle.px_types.specs.declared.ids.SinkId.{SinkId}
+use Rattle.px_types.specs.declared.error_code.ErrorCode.{ErrorCode}
+use Rattle.px_types.specs.declared.error_code.ErrorCode.TheVariants.{Invalid}
+use Rattle.px_session.specs.declared.header.SinkSpec.{SinkSpec}
+use Rattle.px_session.specs.HeaderRules.{IsSink}
+use Rattle.px_cmd.specs.declared.command.SinkRef.{SinkRef}
+use Rattle.px_names.specs.Names.{Naming, sink_named}
+use Rattle.px_plan.specs.declared.target.Target.{Target}
+use Rattle.px_plan.specs.declared.target.Named.{Named}
+use Rattle.px_plan.specs.declared.target.Named.TheVariants.{Unclear, Unknown, Sink}
+
+-- a sink that stands in a header behind others
+abbrev pub IsOfHeader : SinkSpec → Type 0
+IsOfHeader sink = (earlier : List SinkSpec) × IsSink earlier sink
+
+-- how many channels the sink with an index has, where it is there
+abbrev pub channels_of : Option SinkSpec → ℕ
+channels_of None = 0
+channels_of (Some sink) = sink.spec.channels
+
+abbrev pub channels_on : List SinkSpec → SinkId → ℕ
+channels_on sinks index = channels_of (slice_get sinks index.0)
+
+-- ---- the sink that a command names
+
+abbrev pub target_of : SinkId → SinkSpec → Target
+target_of index sink = record { index = index; name = sink.name; spec = sink.spec; map = sink.map; depth = sink.depth }
+
+abbrev pub found_as : SinkId → Option SinkSpec → Named
+found_as index None = Unknown
+found_as index (Some sink) = Sink (target_of index sink)
+
+abbrev pub named_as : List SinkSpec → Result SinkId ErrorCode → Named
+named_as sinks (Ok index) = found_as index (slice_get sinks index.0)
+named_as sinks (Err Invalid) = Unclear
+named_as sinks (Err code) = Unknown
+
+-- by an index or a name, or by neither where the default sink will do
+abbrev pub named_by : Naming → List SinkSpec → SinkRef → Bool → Named
+named_by names sinks sink fallback = named_as sinks (sink_named names sink.index sink.name fallback)

@@ -1,0 +1,99 @@
+//! What a sink's notice is answered (PulseAudio: `sink_input_process_msg` of `pulsecore/protocol-native.c`; which notices fit is
+//! own).
+
+ghost use Rattle.std.specs.Prelude.{◌≡◌, [], None, IfOk, IfErr, OnOk, OnErr};
+ghost use Rattle.px_session.specs.HeaderRules.{AreSinks};
+ghost use Rattle.px_core.specs.Notice.{owner_of, told_of, notice_answer};
+ghost use Rattle.px_core.specs.Plan.{plan_effects};
+ghost use Rattle.px_core.specs.Step.{answered};
+ghost use Rattle.px_core.specs.Tables.{state_of};
+
+use crate::commit::finish;
+use crate::effects::Effects;
+use crate::found::{going_on, input_on};
+use crate::sinks::channels_on;
+use crate::tables::Tables;
+use px_ctl_play::{News, left, tell};
+use px_msg::{Msg, Notice, Parcel};
+use px_plan::{Connection, Input, Plan};
+use px_types::{Mem, SinkId};
+use std::alloc::Global;
+
+// The connection of an input, where both are there and it goes on.
+fn owner_of(connections: &[Connection], input: Option<Input>) -> Option<Connection>
+    ensures { result ≡ owner_of connections.now input }
+{
+    match input {
+        None => None,
+        Some(x) => going_on(connections, x.conn),
+    }
+}
+
+// News of an input that is on the sink.
+fn told_of<P: Drop>(
+    alloc: Global,
+    tables: &Tables<P>,
+    input: Option<Input>,
+    news: News,
+) -> Mem<Plan<Msg<P>, ()>>
+    ensures { IfOk result (λ plan. plan ≡ told_of (state_of tables.now) input news) }
+{
+    tell(alloc, input, owner_of(&tables.connections, input), news)
+}
+
+// What a sink's notice is answered. One that doesn't fit is ignored: of an input that isn't on the sink, of one that ends
+// where something is to be told, and of a stream that wasn't to be given up.
+fn notice_answer<P: Parcel + Drop>(
+    alloc: Global,
+    tables: &Tables<P>,
+    sink: SinkId,
+    notice: &Notice<P>,
+) -> Mem<Plan<Msg<P>, ()>>
+    requires { AreSinks [] tables.now.sinks }
+    ensures { IfOk result (λ plan. plan ≡ notice_answer P.spec_of (state_of tables.now) sink notice.now) }
+{
+    let inputs = tables.inputs.as_slice();
+    match notice {
+        Notice::Request { input, frames } => {
+            let input = input_on(inputs, sink, *input);
+            told_of(alloc, tables, input, News::Request(*frames))
+        }
+        Notice::Overflow { input } => {
+            told_of(alloc, tables, input_on(inputs, sink, *input), News::Overflow)
+        }
+        Notice::Underflow { input } => {
+            told_of(alloc, tables, input_on(inputs, sink, *input), News::Underflow)
+        }
+        Notice::Started { input } => {
+            told_of(alloc, tables, input_on(inputs, sink, *input), News::Started)
+        }
+        Notice::Detached { input, parcel } => {
+            let channels = channels_on(tables.sinks.as_slice(), sink);
+            let input = input_on(inputs, sink, *input);
+            left(alloc, input, parcel.spec(), channels, inputs)
+        }
+        Notice::Drained { .. } | Notice::Latency { .. } => Ok(Plan::idle(alloc)),
+    }
+}
+
+/// A sink's notice. Where there is no memory for it, it is handed back, and nothing has changed.
+pub(crate) fn take<P: Parcel + Drop>(
+    alloc: Global,
+    tables: &mut Tables<P>,
+    sink: SinkId,
+    notice: Notice<P>,
+) -> Result<Effects, Notice<P>>
+    requires { AreSinks [] tables.old.sinks }
+    ensures effects { IfOk result (λ effects. effects ≡ plan_effects None (notice_answer P.spec_of (state_of tables.old) sink notice)) }
+    ensures after { OnOk result (state_of tables.new ≡ answered (state_of tables.old) (notice_answer P.spec_of (state_of tables.old) sink notice)) }
+    ensures back { IfErr result (λ back. back ≡ notice) }
+    ensures err { OnErr result (state_of tables.new ≡ state_of tables.old) }
+{
+    let Ok(plan) = notice_answer(alloc, tables, sink, &notice) else {
+        return Err(notice);
+    };
+    match finish(alloc, tables, None, plan) {
+        Ok(effects) => Ok(effects),
+        Err(_) => Err(notice),
+    }
+}

@@ -1,0 +1,93 @@
+//! The sinks as commands see them.
+
+ghost use Rattle.std.specs.Prelude.{◌≡◌, ◌≤◌, [], slice_get, IfOk, IfSome};
+ghost use Rattle.std.specs.Option.{option_map};
+ghost use Rattle.px_session.specs.HeaderRules.{AreSinks};
+ghost use Rattle.px_plan.specs.Target.{IsTarget, IsNamed};
+ghost use Rattle.px_core.specs.Sinks.{IsOfHeader, channels_on, target_of, found_as, named_by};
+
+use px_cmd::SinkRef;
+use px_names::Names;
+use px_plan::{Named, Target};
+use px_session::SinkSpec;
+use px_types::{ErrorCode, Mem, SinkId, Text};
+use std::alloc::Global;
+
+// The sink with an index.
+#[tactic(auto, using(crate::proofs::Sinks::is_of_header))]
+fn sink_at(sinks: &[SinkSpec], index: SinkId) -> Option<&SinkSpec>
+    requires { AreSinks [] sinks.now }
+    ensures value { option_map (λ sink. sink.now) result ≡ slice_get sinks.now index.0 }
+    ensures header { IfSome result (λ sink. IsOfHeader sink.now) }
+{
+    sinks.get(index.0 as usize)
+}
+
+/// How many channels the sink with an index has; 0 where there is none. Takes no memory.
+pub(crate) fn channels_on(sinks: &[SinkSpec], index: SinkId) -> u8
+    requires { AreSinks [] sinks.now }
+    ensures value { result ≡ channels_on sinks.now index }
+    ensures few { result ≤ 32 }
+{
+    match sink_at(sinks, index) {
+        None => 0,
+        Some(sink) => sink.spec.channels,
+    }
+}
+
+// A sink as a command sees it.
+#[tactic(auto, using(crate::proofs::Sinks::is_target))]
+fn target_of(alloc: Global, index: SinkId, sink: &SinkSpec) -> Mem<Target>
+    requires { IsOfHeader sink.now }
+    ensures value { IfOk result (λ target. target ≡ target_of index sink.now) }
+    ensures lawful { IfOk result IsTarget }
+{
+    Ok(Target {
+        index,
+        name: Text::copied(alloc, sink.name.as_slice())?,
+        spec: sink.spec,
+        map: sink.map,
+        depth: sink.depth,
+    })
+}
+
+// The sink that was found by an index.
+fn found_as(alloc: Global, index: SinkId, sink: Option<&SinkSpec>) -> Mem<Named>
+    requires { IfSome sink (λ s. IsOfHeader s.now) }
+    ensures value { IfOk result (λ named. named ≡ found_as index (option_map (λ s. s.now) sink.entry)) }
+    ensures lawful { IfOk result IsNamed }
+{
+    match sink {
+        None => Ok(Named::Unknown),
+        Some(sink) => Ok(Named::Sink(target_of(alloc, index, sink)?)),
+    }
+}
+
+// The name by which a sink is named, where it is.
+fn name_of(sink: &SinkRef) -> Option<&[u8]>
+    ensures { option_map (λ text. text.now) result ≡ sink.now.name }
+{
+    match &sink.name {
+        None => None,
+        Some(name) => Some(name.as_slice()),
+    }
+}
+
+/// The sink that a command names by an index or a name, or, where `fallback` is set, by neither: the default sink.
+pub(crate) fn named_by(
+    alloc: Global,
+    names: &Names,
+    sinks: &[SinkSpec],
+    sink: &SinkRef,
+    fallback: bool,
+) -> Mem<Named>
+    requires { AreSinks [] sinks.now }
+    ensures value { IfOk result (λ named. named ≡ named_by names.now sinks.now sink.now fallback) }
+    ensures lawful { IfOk result IsNamed }
+{
+    match names.sink(sink.index, name_of(sink), fallback) {
+        Ok(index) => found_as(alloc, index, sink_at(sinks, index)),
+        Err(ErrorCode::Invalid) => Ok(Named::Unclear),
+        Err(_) => Ok(Named::Unknown),
+    }
+}
