@@ -229,17 +229,17 @@ sent_ends : (conn : ConnId) (sendings : List Sending) → ends_of conn (sent_all
 sent_ends conn [] = refl
 sent_ends conn (x ∷ sendings) = ends_joined conn (sending x.conn x.packet) (sent_all sendings) ∙ (omega (arith, sending_ends conn x.conn x.packet, sent_ends conn sendings))
 
+none_before : (all rest more a b c d : ℕ) → all ≡ rest + d → rest ≡ more + c → more ≡ a + b → a ≡ 0 → b ≡ 0 → c ≡ 0 → all ≡ d
+none_before all rest more a b c d e f g x y z = omega (arith, e, f, g, x, y, z)
+
 plan_ends : {P : Type 0} (conn : ConnId) (asker : Option ConnId) (plan : Plan P) → ends_of conn (plan_effects asker plan) ≡ ends_of conn (closed_all plan.changes)
 plan_ends conn asker plan =
-    omega (
-      arith,
-      ends_joined conn (reply_to_asker plan.reply asker) (sent_all plan.errors ++ sent_all plan.told ++ closed_all plan.changes),
-      ends_joined conn (sent_all plan.errors) (sent_all plan.told ++ closed_all plan.changes),
-      ends_joined conn (sent_all plan.told) (closed_all plan.changes),
-      reply_ends conn plan.reply asker,
-      sent_ends conn plan.errors,
-      sent_ends conn plan.told,
-    )
+    none_before (ends_of conn (plan_effects asker plan)) (ends_of conn (reply_to_asker plan.reply asker ++ sent_all plan.errors ++ sent_all plan.told)) (ends_of conn (reply_to_asker plan.reply asker ++ sent_all plan.errors))
+    (ends_of conn (reply_to_asker plan.reply asker)) (ends_of conn (sent_all plan.errors)) (ends_of conn (sent_all plan.told)) (ends_of conn (closed_all plan.changes))
+    (ends_joined conn (reply_to_asker plan.reply asker ++ sent_all plan.errors ++ sent_all plan.told) (closed_all plan.changes))
+    (ends_joined conn (reply_to_asker plan.reply asker ++ sent_all plan.errors) (sent_all plan.told))
+    (ends_joined conn (reply_to_asker plan.reply asker) (sent_all plan.errors))
+    (reply_ends conn plan.reply asker) (sent_ends conn plan.errors) (sent_ends conn plan.told)
 
 -- the connection is ended at the most as often as it no longer goes on
 abbrev Once : {P : Type 0} → ConnId → Option ConnId → State P → Plan P → Type 0

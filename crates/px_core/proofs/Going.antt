@@ -1,5 +1,5 @@
 -- A connection that goes on is found by its own number.
-use Rattle.std.proofs.Common.{◌≡◌, List, Option, Some, None, Bool, true, false, ap, subst, ◌∙◌, cond}
+use Rattle.std.proofs.Common.{◌≡◌, List, Option, Some, None, Bool, true, false, refl, ap, subst, ◌∙◌, cond}
 use Rattle.std.specs.Prelude.{nat_eq}
 use Rattle.std.proofs.lemmas.Bool.{eqb-true}
 use Rattle.std.proofs.lemmas.Option.{none-some, same_Some}

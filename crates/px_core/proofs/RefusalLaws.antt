@@ -135,15 +135,15 @@ requested_kind to t (Err NoMemory) r = still refl
 
 -- ---- the rows
 
-auth_replies : {P : Type 0} (names : Naming) (me : Connection) (t version : ℕ) (cookie : List ℕ) → Each (HasReply {P = P}) (auth names me t version cookie)
-auth_replies {P} names me t version cookie =
+auth_replies : (P : Type 0) (names : Naming) (me : Connection) (t version : ℕ) (cookie : List ℕ) → Each (HasReply {P = P}) (auth names me t version cookie)
+auth_replies P names me t version cookie =
     each_check (HasReply {P = P}) (not (is_some me.version)) BadState _
     (each_check (HasReply {P = P}) (nat_le SERVER_VERSION (version_in version)) Version _
     (each_check (HasReply {P = P}) (same_text cookie names.cookie) Access _
     (record { packet = reply_to t ++ number SERVER_VERSION; is = refl; no_error = reply_byte t (number SERVER_VERSION) })))
 
-create_replies : {P : Type 0} (inputs : List Input) (made : ℕ) (me : Connection) (t : ℕ) (named : Named) (a : CreateFields) → Each (HasReply {P = P}) (create inputs made me t named a)
-create_replies {P} inputs made me t named a = each_by (HasReply {P = P}) (create inputs made me t named a) (λ plan e. by plan (create_passed inputs made me t named a plan e))
+create_replies : (P : Type 0) (inputs : List Input) (made : ℕ) (me : Connection) (t : ℕ) (named : Named) (a : CreateFields) → Each (HasReply {P = P}) (create inputs made me t named a)
+create_replies P inputs made me t named a = each_by (HasReply {P = P}) (create inputs made me t named a) (λ plan e. by plan (create_passed inputs made me t named a plan e))
   where
     by : (plan : Plan P) → IsCreated inputs made me t named a plan → HasReply plan
     by plan p = record {
@@ -152,15 +152,15 @@ create_replies {P} inputs made me t named a = each_by (HasReply {P = P}) (create
       no_error = created_byte t (created_of p.sink a (input_made made me p.sink a));
     }
 
-delete_replies : {P : Type 0} (o : Option Input) (t : ℕ) → Each (HasReply {P = P}) (delete o t)
-delete_replies None t = tt
-delete_replies (Some x) t = record { packet = reply_to t; is = refl; no_error = plain_byte t }
+delete_replies : (P : Type 0) (o : Option Input) (t : ℕ) → Each (HasReply {P = P}) (delete o t)
+delete_replies P None t = tt
+delete_replies P (Some x) t = record { packet = reply_to t; is = refl; no_error = plain_byte t }
 
 row_replies : {P : Type 0} (state : State P) (me : Connection) (t : ℕ) (command : Command) → Each HasReply (row state me t command)
-row_replies state me t (commands.Auth version cookie) = auth_replies state.names me t version cookie
+row_replies {P} state me t (commands.Auth version cookie) = auth_replies P state.names me t version cookie
 row_replies state me t (commands.SetClientName list) = record { packet = reply_to t ++ number me.client; is = refl; no_error = reply_byte t (number me.client) }
-row_replies state me t (commands.Create fields) = create_replies state.inputs state.inputs_made me t (named_by state.names state.sinks fields.sink true) fields
-row_replies state me t (commands.Delete stream) = delete_replies (stream_of state.inputs me.conn stream) t
+row_replies {P} state me t (commands.Create fields) = create_replies P state.inputs state.inputs_made me t (named_by state.names state.sinks fields.sink true) fields
+row_replies {P} state me t (commands.Delete stream) = delete_replies P (stream_of state.inputs me.conn stream) t
 row_replies state me t (commands.EmptyList n) = record { packet = reply_to t; is = refl; no_error = plain_byte t }
 row_replies state me t _ = tt
 
@@ -190,7 +190,7 @@ head_kind state n c at packet (Ok head) = command_kind state n c at packet head.
 
 body_kind : {P : Type 0} (state : State P) (n : ConnId) (c : Connection) (at : ℕ) (body : Body) → Kind (Some n) (body_answer state c at body)
 body_kind state n c at (Control packet) = head_kind state n c at packet (head_at (start_of packet))
-body_kind state n c at (Write stream offset seek bytes) = silent (data_silent (Some n) (stream_of state.inputs c.conn stream) offset seek bytes)
+body_kind {P} state n c at (Write stream offset seek bytes) = silent (data_silent P (Some n) (stream_of state.inputs c.conn stream) offset seek bytes)
 
 frame_kind : {P : Type 0} (state : State P) (n : ConnId) (o : Option Connection) (f : Frame) → Kind (Some n) (frame_of state o f)
 frame_kind state n None f = still refl
@@ -206,15 +206,15 @@ inputs_silent : {P : Type 0} (xs : List Input) (rest : List (Change P)) → clos
 inputs_silent [] rest = refl
 inputs_silent (x ∷ xs) rest = inputs_silent xs rest
 
-swept_silent : {P : Type 0} (inputs : List Input) (cs : List Connection) → closed_all {P = P} (flat_map (swept inputs) cs) ≡ []
-swept_silent inputs [] = refl
-swept_silent {P} inputs (c ∷ cs) =
+swept_silent : (P : Type 0) (inputs : List Input) (cs : List Connection) → closed_all {P = P} (flat_map (swept inputs) cs) ≡ []
+swept_silent P inputs [] = refl
+swept_silent P inputs (c ∷ cs) =
     ap closed_all (append_assoc (flat_map ends (filter (is_from c.conn) inputs)) (Forgotten c.conn ∷ []) (flat_map (swept inputs) cs))
     ∙ inputs_silent (filter (is_from c.conn) inputs) (Forgotten c.conn ∷ flat_map (swept inputs) cs)
-    ∙ swept_silent inputs cs
+    ∙ swept_silent P inputs cs
 
 sweep_kind : {P : Type 0} (state : State P) → Kind None (sweep_of state)
-sweep_kind state = silent (swept_silent state.inputs (marked_of state.connections))
+sweep_kind {P} state = silent (swept_silent P state.inputs (marked_of state.connections))
 
 told_kind : {P : Type 0} (input : Option Input) (owner : Option Connection) (about : News) → Kind {P = P} None (told input owner about)
 told_kind None owner about = still refl
@@ -259,15 +259,16 @@ all_send (x ∷ sendings) = all_joined IsSent (sending x.conn x.packet) (sent_al
 
 still_sends : {P : Type 0} (asker : Option ConnId) (plan : Plan P) → plan.changes ≡ [] → AllByRecursion IsSent (plan_effects asker plan)
 still_sends {P} asker plan e =
-    all_joined IsSent (reply_to_asker plan.reply asker) (sent_all plan.errors ++ sent_all plan.told ++ closed_all plan.changes) (reply_sends plan.reply asker)
-    (all_joined IsSent (sent_all plan.errors) (sent_all plan.told ++ closed_all plan.changes) (all_send plan.errors)
-    (all_joined IsSent (sent_all plan.told) (closed_all plan.changes) (all_send plan.told)
-    (subst (λ (changes : List (Change P)). AllByRecursion IsSent (closed_all changes)) (sym e) tt)))
+    all_joined IsSent (reply_to_asker plan.reply asker ++ sent_all plan.errors ++ sent_all plan.told) (closed_all plan.changes)
+    (all_joined IsSent (reply_to_asker plan.reply asker ++ sent_all plan.errors) (sent_all plan.told)
+    (all_joined IsSent (reply_to_asker plan.reply asker) (sent_all plan.errors) (reply_sends plan.reply asker) (all_send plan.errors))
+    (all_send plan.told))
+    (subst (λ (changes : List (Change P)). AllByRecursion IsSent (closed_all changes)) (sym e) tt)
 
 -- a plan that ends a connection does that alone
-ended_effects : {P : Type 0} (asker : Option ConnId) (to : ConnId) (reason : Option Reason) (fault at : ℕ) → plan_effects {P = P} asker (ended_by to reason fault at) ≡ closed_by to reason fault at
-ended_effects asker to None fault at = refl
-ended_effects asker to (Some reason) fault at = refl
+ended_effects : (P : Type 0) (asker : Option ConnId) (to : ConnId) (reason : Option Reason) (fault at : ℕ) → plan_effects {P = P} asker (ended_by to reason fault at) ≡ closed_by to reason fault at
+ended_effects P asker to None fault at = refl
+ended_effects P asker to (Some reason) fault at = refl
 
 -- ---- an answer that is an error changes nothing
 
@@ -288,7 +289,7 @@ module _ (conn : ConnId) (tag code : ℕ) where
       absurd (sent_apart to conn packet (refusal tag code) two (refusal_byte tag code) (heads (sent to packet) (sent conn (refusal tag code)) more [] (sym effects ∙ e)))
   kind_changeless state asker plan (silent effects) e = absurd (not_silent (sym effects ∙ e))
   kind_changeless {P} state asker plan (ending to reason fault at is) e =
-      absurd (ended_apart to reason fault at (sym (ap (plan_effects asker) is ∙ ended_effects {P = P} asker to reason fault at) ∙ e))
+      absurd (ended_apart to reason fault at (sym (ap (plan_effects asker) is ∙ ended_effects P asker to reason fault at) ∙ e))
 
   -- a client that connects is sent nothing
   connect_refuses : {P : Type 0} (o : Option Connection) (n : ConnId) (state : State P) → Refuses (connect_effects o n state) → ⊥
@@ -341,7 +342,7 @@ module _ (conn : ConnId) (fault at : ℕ) where
   kind_marks state asker plan (silent effects) e = absurd (not_none (sym effects ∙ e))
   kind_marks {P} state asker plan (ending to reason f a is) e =
       ap (λ (p : Plan P). committed state p.changes) is
-      ∙ ended_marks state to reason f a (sym (ap (plan_effects asker) is ∙ ended_effects {P = P} asker to reason f a) ∙ e)
+      ∙ ended_marks state to reason f a (sym (ap (plan_effects asker) is ∙ ended_effects P asker to reason f a) ∙ e)
 
   -- a client that isn't taken has broken no rule
   connect_breaks : {P : Type 0} (o : Option Connection) (n : ConnId) (state : State P) → Breaks (connect_effects o n state) → ⊥

@@ -50,9 +50,9 @@ found_in_header v (Some x) sinks i h there at = is_of_header sinks i (v x) h (sl
 
 -- ---- a sink as a command sees it
 
-pub is_target : (index : SinkId) (sink : SinkSpec) → IsOfHeader sink → IsTarget (target_of index sink)
-is_target index sink h = record {
-  name = name_is_text sink h;
+pub is_target : (index : SinkId) (name : List ℕ) (sink : SinkSpec) → IsOfHeader sink → name ≡ sink.name → IsTarget (record { index = index; name = name; spec = sink.spec; map = sink.map; depth = sink.depth })
+is_target index name sink h same = record {
+  name = subst (λ (bytes : List ℕ). IsTrue (is_text bytes)) (sym same) (name_is_text sink h);
   some = h.1.channels.0;
   few = h.1.channels.1;
   rate = h.1.rate.0;

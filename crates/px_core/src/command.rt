@@ -1,7 +1,7 @@
 //! What a control packet is answered, and in which order it is refused (PulseAudio: `pa_pdispatch_run` and the handlers of
 //! `pulsecore/protocol-native.c`; the order is own).
 
-ghost use Rattle.std.specs.Prelude.{◌≡◌, [], IfOk};
+ghost use Rattle.std.specs.Prelude.{◌≡◌, [], true, IfOk};
 ghost use Rattle.px_cmd.specs.Meant.{meant};
 ghost use Rattle.px_plan.specs.Row.{Plans};
 ghost use Rattle.px_session.specs.HeaderRules.{AreSinks};
@@ -12,7 +12,7 @@ ghost use Rattle.px_core.specs.Command.{is_built, is_waiting_for_work, is_barred
 
 use crate::found::copied;
 use crate::plan::{broken_off, refused, requested};
-use crate::sinks::named_by;
+use crate::targets::named_by;
 use crate::tables::Tables;
 use px_cmd::{CmdFault, Command, CreateFields, is_command, read_command, read_head};
 use px_ctl_info::{SERVER_VERSION, auth, empty_list, set_client_name};

@@ -21,10 +21,10 @@ mod notice;
 mod out;
 mod plan;
 mod queues;
-mod sinks;
 mod standing;
 mod start;
 mod tables;
+mod targets;
 mod verbs;
 
 pub use effect::Effect;

@@ -11,7 +11,7 @@ ghost use Rattle.px_core.specs.Tables.{state_of};
 use crate::commit::finish;
 use crate::effects::Effects;
 use crate::found::{going_on, input_on};
-use crate::sinks::channels_on;
+use crate::targets::channels_on;
 use crate::tables::Tables;
 use px_ctl_play::{News, left, tell};
 use px_msg::{Msg, Notice, Parcel};

@@ -36,7 +36,6 @@ pub(crate) fn channels_on(sinks: &[SinkSpec], index: SinkId) -> u8
 }
 
 // A sink as a command sees it.
-#[tactic(auto, using(crate::proofs::Sinks::is_target))]
 fn target_of(alloc: Global, index: SinkId, sink: &SinkSpec) -> Mem<Target>
     requires { IsOfHeader sink.now }
     ensures value { IfOk result (λ target. target ≡ target_of index sink.now) }
