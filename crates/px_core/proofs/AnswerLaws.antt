@@ -129,11 +129,13 @@ left_lawful {P} spec_of state h sink input spec (Some x) e =
     gone : gives_up spec x ≡ true → AreLawful state (Gone x.index ∷ regrouped x.sink (channels_on state.sinks sink) (settled_on state.inputs x.sink) ∷ [])
     gone t =
         let parts = and_parts (is_leaving x.standing && has_left x.way) (same_spec spec (sample_spec x.spec)) t in
-        let first = and_parts (is_leaving x.standing) (has_left x.way) parts.0 in
-        (
+        let first = and_parts (is_leaving x.standing) (has_left x.way) parts.0 in (
           subst (λ o. IfSome o HasLeft) (sym (found_by_index (is_on sink input) state.inputs h.rising x e)) (record { standing = left_all x.standing first.0; way = away x.way first.1 }),
-          (regroups (changed state (Gone x.index)) x.sink (channels_on state.sinks sink)
-          (found_all (IsInput state.sinks state.inputs_made) (is_on sink input) state.inputs x h.inputs e).sink_there
-          (λ s g. own_channels state.sinks sink x.sink on s g)
-          (settled_on state.inputs x.sink) (rising_filter (is_settled x.sink) state.inputs h.rising), tt),
+          (
+            regroups (changed state (Gone x.index)) x.sink (channels_on state.sinks sink)
+                (found_all (IsInput state.sinks state.inputs_made) (is_on sink input) state.inputs x h.inputs e).sink_there
+                (λ s g. own_channels state.sinks sink x.sink on s g)
+                (settled_on state.inputs x.sink) (rising_filter (is_settled x.sink) state.inputs h.rising),
+            tt,
+          ),
         )

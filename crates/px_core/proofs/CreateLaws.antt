@@ -156,7 +156,7 @@ playable sink a few asked =
       few_channels = subst (λ n. n ≤ 32) (sym asked.channels) few.1;
     }
 
-new_fits : (sink : Target) (s : SinkSpec) → sink.spec.channels ≡ s.spec.channels → (a : CreateFields) → (1 ≤ sink.spec.channels) × (sink.spec.channels ≤ 32) → Asked sink a → (input : ℕ) → IsNewStream (sample_spec s.spec) (record { input = input; spec = sample_spec (spec_on sink a); feed = straight sink.spec.channels; factors = unity sink.spec.channels; attr = attr_on sink a; corked = false })
+new_fits : (sink : Target) (s : SinkSpec) → sink.spec.channels ≡ s.spec.channels → (a : CreateFields) → (1 ≤ sink.spec.channels) × (sink.spec.channels ≤ 32) → Asked sink a → (input : ℕ) → IsNewStream (sample_spec s.spec) (record { input = input; spec = sample_spec (spec_on sink a); feed = straight sink.spec.channels; factors = unity sink.spec.channels; attr = attr_on sink a; corked = a.corked })
 new_fits sink s same a few asked input = record {
   playable = playable sink a few asked;
   feed_fits = record {
@@ -176,7 +176,7 @@ created_lawful : {P : Type 0} (spec_of : P → SampleSpec) (state : State P) →
     → ((target : Target) → target_in named ≡ Some target → IsThere state.sinks target) → IsLawful state plan
 created_lawful {P} spec_of state h me tag named a plan made there =
     subst (IsLawful state) (sym made.planned)
-    ((new, refl), (regroups (changed state (Made x (new_of sink x) (me.streams + 1) (state.inputs_made + 1))) sink.index sink.spec.channels (slice_get_within state.sinks sink.index.0 it.sink it.there) same (settled_on state.inputs sink.index ++ x ∷ []) rising, tt))
+    ((new, refl), (regroups (changed state (Made x (new_of sink a x) (me.streams + 1) (state.inputs_made + 1))) sink.index sink.spec.channels (slice_get_within state.sinks sink.index.0 it.sink it.there) same (settled_on state.inputs sink.index ++ x ∷ []) rising, tt))
   where
     sink : Target
     sink = made.sink
@@ -199,7 +199,7 @@ created_lawful {P} spec_of state h me tag named a plan made there =
     asked : Asked made.sink a
     asked = asked_by made.sink a (subst (λ (t : Target). length t.map ≡ t.spec.channels) (sym it.is) rules.1.map_size) made.lawful made.supported made.built
 
-    new : IsNew state x (new_of sink x)
+    new : IsNew state x (new_of sink a x)
     new = record {
       next = refl;
       way = refl;

@@ -14,7 +14,7 @@ use Rattle.px_frame.specs.declared.frame.Body.{Body}
 use Rattle.px_frame.specs.declared.frame.Body.TheVariants.{Control, Write}
 use Rattle.px_model.specs.Frame.{SampleSpec}
 use Rattle.px_msg.specs.declared.message.Msg.{Msg}
-use Rattle.px_plan.specs.declared.change.Change.TheVariants.{Authed, Named, Made, Leaves, Said, Regrouped, Gone, Ended, Forgotten}
+use Rattle.px_plan.specs.declared.change.Change.TheVariants.{Authed, Named, Made, Leaves, Said, Regrouped, Asked, Answered, Gone, Ended, Forgotten}
 use Rattle.px_plan.specs.declared.sending.Reason.{Reason}
 use Rattle.px_plan.specs.declared.sending.Reason.TheVariants.{Limit}
 use Rattle.px_plan.specs.declared.sending.Sending.{Sending}
@@ -198,6 +198,8 @@ change_once conn state (Made x m streams inputs) d lawful = omega (arith, change
 change_once conn state (Leaves index) d lawful = omega (arith, ap (λ connections. goes_on connections conn) (left_stays (input_of state.inputs index) state))
 change_once conn state (Said index m) d lawful = omega (arith, ap (λ connections. goes_on connections conn) (said_stays (input_of state.inputs index) m state))
 change_once conn state (Regrouped sink group m) d lawful = no_end (goes_on state.connections conn)
+change_once conn state (Asked w) d lawful = no_end (goes_on state.connections conn)
+change_once conn state (Answered w) d lawful = no_end (goes_on state.connections conn)
 change_once conn state (Gone index) d lawful = no_end (goes_on state.connections conn)
 change_once conn state (Ended n reason fault at) d lawful = ended_once conn n state reason fault at (going_on state.connections n) refl lawful
 change_once conn state (Forgotten n) d lawful = omega (arith, dropped_goes n conn state.connections d)

@@ -78,12 +78,12 @@ past_sinks (Some m) sink state = refl
 
 pub step_sinks : {P : Type 0} (spec_of : P → SampleSpec) (state : State P) (s : Step P) → (stepped spec_of state s).sinks ≡ state.sinks
 step_sinks spec_of state (connect conn) = connected_sinks (connection_of state.connections conn) conn state
-step_sinks spec_of state (frame conn f) = committed_sinks (Answer.changes (answer_of spec_of state (frame conn f))) state
-step_sinks spec_of state (broken conn fault at) = committed_sinks (Answer.changes (answer_of spec_of state (broken conn fault at))) state
-step_sinks spec_of state (close conn) = committed_sinks (Answer.changes (answer_of spec_of state (close conn))) state
-step_sinks spec_of state (cut conn) = committed_sinks (Answer.changes (answer_of spec_of state (cut conn))) state
-step_sinks spec_of state sweep = committed_sinks (Answer.changes (answer_of spec_of state sweep)) state
-step_sinks spec_of state (notice sink n) = committed_sinks (Answer.changes (answer_of spec_of state (notice sink n))) state
+step_sinks spec_of state (frame conn f) = committed_sinks (Planned.changes (answer_of spec_of state (frame conn f))) state
+step_sinks spec_of state (broken conn fault at) = committed_sinks (Planned.changes (answer_of spec_of state (broken conn fault at))) state
+step_sinks spec_of state (close conn) = committed_sinks (Planned.changes (answer_of spec_of state (close conn))) state
+step_sinks spec_of state (cut conn) = committed_sinks (Planned.changes (answer_of spec_of state (cut conn))) state
+step_sinks spec_of state sweep = committed_sinks (Planned.changes (answer_of spec_of state sweep)) state
+step_sinks spec_of state (notice sink n) = committed_sinks (Planned.changes (answer_of spec_of state (notice sink n))) state
 step_sinks spec_of state (out sink) = past_sinks (next_for state sink) sink state
 
 pub steps_sinks : {P : Type 0} (spec_of : P → SampleSpec) (state : State P) (steps : List (Step P)) → (stepped_by spec_of state steps).sinks ≡ state.sinks

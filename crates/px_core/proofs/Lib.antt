@@ -16,6 +16,7 @@ pub mod Going
 pub mod AnswerLaws
 pub mod SweepLaws
 pub mod CreateLaws
+pub mod StreamLaws
 pub mod StepLaws
 pub mod CoreLaws
 pub mod BackLaws

@@ -2,7 +2,7 @@
 use Rattle.std.proofs.Common.{◌≡◌, ℕ, List, [], ◌∷◌, ◌++◌, length, Option, Some, None, Bool, true, false, refl, ap, sym, subst, ◌∙◌, arith, cond}
 use Rattle.std.specs.Prelude.{not, get_or, filter, flat_map, is_some, nat_le, Result, Ok, Err}
 use Rattle.std.specs.List.{AllByRecursion}
-use Rattle.std.proofs.lemmas.Bool.{cond_both, cond-true, false≢true}
+use Rattle.std.proofs.lemmas.Bool.{cond_both, cond-true, cond-false, false≢true}
 use Rattle.std.proofs.lemmas.List.{append_assoc}
 use Rattle.std.proofs.lemmas.Option.{none-some, same_Some}
 use Rattle.px_types.specs.declared.ids.ConnId.{ConnId}
@@ -26,7 +26,10 @@ use Rattle.px_frame.specs.declared.frame.Body.TheVariants.{Control, Write}
 use Rattle.px_names.specs.Names.{Naming, same_text}
 use Rattle.px_reply.specs.Front.{reply_to, refusal}
 use Rattle.px_reply.specs.declared.played.Created.{Created}
-use Rattle.px_reply.specs.Message.{created_reply}
+use Rattle.px_reply.specs.declared.played.LatencyFields.{LatencyFields}
+use Rattle.px_reply.specs.Message.{created_reply, latency_reply, attributes_reply}
+use Rattle.px_msg.specs.Repair.{repaired, bytes_of as bytes_of_attr}
+use Rattle.px_tag.specs.declared.raw.TimeVal.{TimeVal}
 use Rattle.px_model.specs.Frame.{SampleSpec}
 use Rattle.px_msg.specs.declared.notice.Notice.{Notice}
 use Rattle.px_msg.specs.declared.notice.Notice.TheVariants.{Request, Overflow, Underflow, Started, Drained, Detached, Latency}
@@ -38,13 +41,22 @@ use Rattle.px_plan.specs.declared.sending.Sending.{Sending}
 use Rattle.px_plan.specs.declared.input.Connection.{Connection}
 use Rattle.px_plan.specs.declared.input.Input.{Input}
 use Rattle.px_plan.specs.declared.target.Named.{Named}
+use Rattle.px_plan.specs.declared.waiting.Waiting.{Waiting}
+use Rattle.px_plan.specs.Waiting.{drain_under, question_under}
 use Rattle.px_plan.specs.Plan.{Planned, idle, changing, telling}
 use Rattle.px_plan.specs.Row.{Row}
 use Rattle.px_ctl_info.specs.Clients.{SERVER_VERSION, version_in, auth}
 use Rattle.px_ctl_play.specs.declared.told.News.{News}
 use Rattle.px_ctl_play.specs.declared.told.News.TheVariants as news
 use Rattle.px_ctl_play.specs.Create.{created_of, input_made, create}
+use Rattle.px_ctl_play.specs.declared.timing.Progress.{Progress}
+use Rattle.px_ctl_play.specs.Answer.{answered}
+use Rattle.px_ctl_play.specs.Attributes.{attributes}
+use Rattle.px_ctl_play.specs.Control.{cork, flush, trigger, prebuf}
 use Rattle.px_ctl_play.specs.Delete.{delete}
+use Rattle.px_ctl_play.specs.Drain.{drain, drain_answered, drained}
+use Rattle.px_ctl_play.specs.Latency.{latency, fields_of, time_given, latency_answered, measured}
+use Rattle.px_ctl_play.specs.Time.{microseconds}
 use Rattle.px_ctl_play.specs.Factors.{regrouped}
 use Rattle.px_ctl_play.specs.Told.{message_of, told, gives_up, left}
 use Rattle.px_ctl_play.proofs.Passed.{IsCreated, create_passed}
@@ -57,7 +69,7 @@ use Rattle.px_core.specs.Plan.{Plan, reply_to_asker, sent_all, closed_by, closed
 use Rattle.px_core.specs.Command.{row, read_answer, is_barred, is_waiting_for_work, command_answer, head_answer}
 use Rattle.px_core.specs.Connecting.{is_full, connect_effects, going_on, ended, ends, swept, sweep_of}
 use Rattle.px_core.specs.Notice.{input_on, owner_of, notice_answer}
-use Rattle.px_core.specs.Sinks.{channels_on, named_by}
+use Rattle.px_core.specs.Sinks.{channels_on, rate_on, rate_of, depth_of, sink_of, named_by}
 use Rattle.px_core.specs.Step.{Step, connect, frame, broken, close, cut, sweep, notice, out, body_answer, frame_of, sender_of, answer_of, stepped, effects_of}
 use Rattle.px_core.proofs.ListLaws.{heads, no_cons}
 use Rattle.px_core.proofs.RowLaws.{Each, each_check, each_by}
@@ -85,6 +97,14 @@ plain_byte tag = refl
 created_byte : (tag : ℕ) (c : Created) → get_or (created_reply tag c) 4 0 ≡ 2
 unfolding number
 created_byte tag c = refl
+
+attributes_byte : (tag : ℕ) (attr : List ℕ) (time : ℕ) → get_or (attributes_reply tag attr time) 4 0 ≡ 2
+unfolding number
+attributes_byte tag attr time = refl
+
+latency_byte : (tag : ℕ) (fields : LatencyFields) → get_or (latency_reply tag fields) 4 0 ≡ 2
+unfolding number
+latency_byte tag fields = refl
 
 refusal_byte : (tag code : ℕ) → get_or (refusal tag code) 4 0 ≡ 0
 unfolding number
@@ -114,55 +134,91 @@ pub data Kind {P : Type 0} (asker : Option ConnId) (plan : Plan P) : Type 0 wher
   -- a connection ends
   ending : (to : ConnId) (reason : Option Reason) (fault at : ℕ) → plan ≡ ended_by to reason fault at → Kind asker plan
 
--- a row's plan has a reply that is no error
-pub record HasReply {P : Type 0} (plan : Plan P) : Type 0 where
-  pub packet : List ℕ
-  pub is : plan.reply ≡ Some packet
-  pub no_error : get_or packet 4 0 ≡ 2
+-- a row's plan has a reply that is no error, or tells nobody anything
+pub data Tells {P : Type 0} (plan : Plan P) : Type 0 where
+  a_reply : (packet : List ℕ) → plan.reply ≡ Some packet → get_or packet 4 0 ≡ 2 → Tells plan
+  nothing : ((asker : Option ConnId) → plan_effects asker plan ≡ []) → Tells plan
 
 reply_first : {P : Type 0} (to : ConnId) (plan : Plan P) (packet : List ℕ) → plan.reply ≡ Some packet → fits packet ≡ true → plan_effects (Some to) plan ≡ sent to packet ∷ (sent_all plan.errors ++ sent_all plan.told ++ closed_all plan.changes)
 reply_first to plan packet e f =
     ap (λ r. reply_to_asker r (Some to) ++ sent_all plan.errors ++ sent_all plan.told ++ closed_all plan.changes) e
     ∙ ap (λ effects. effects ++ sent_all plan.errors ++ sent_all plan.told ++ closed_all plan.changes) (cond-true (fits packet) (sent to packet ∷ []) [] f)
 
-requested_kind : {P : Type 0} (to : ConnId) (t : ℕ) (given : Row (Plan P)) → Each HasReply given → Kind (Some to) (requested t given)
-requested_kind {P} to t (Ok plan) r =
-    cond_both (reply_fits plan.reply) plan (refused t TooLarge) (Kind {P = P} (Some to))
-    (λ e. replies to r.packet (sent_all plan.errors ++ sent_all plan.told ++ closed_all plan.changes) (reply_first to plan r.packet r.is (sym (ap reply_fits r.is) ∙ e)) r.no_error)
-    (λ e. still refl)
+fitting_kind : {P : Type 0} (to : ConnId) (plan : Plan P) → Tells plan → reply_fits plan.reply ≡ true → Kind (Some to) plan
+fitting_kind to plan (a_reply packet is two) e = replies to packet (sent_all plan.errors ++ sent_all plan.told ++ closed_all plan.changes) (reply_first to plan packet is (sym (ap reply_fits is) ∙ e)) two
+fitting_kind to plan (nothing none) e = silent (none (Some to))
+
+requested_kind : {P : Type 0} (to : ConnId) (t : ℕ) (given : Row (Plan P)) → Each Tells given → Kind (Some to) (requested t given)
+requested_kind {P} to t (Ok plan) r = cond_both (reply_fits plan.reply) plan (refused t TooLarge) (Kind {P = P} (Some to)) (λ e. fitting_kind to plan r e) (λ e. still refl)
 requested_kind to t (Err (Code code)) r = still refl
 requested_kind to t (Err NoMemory) r = still refl
 
--- ---- the rows
+-- ---- the rows of streams
 
-auth_replies : (P : Type 0) (names : Naming) (me : Connection) (t version : ℕ) (cookie : List ℕ) → Each (HasReply {P = P}) (auth names me t version cookie)
-auth_replies P names me t version cookie =
-    each_check (HasReply {P = P}) (not (is_some me.version)) BadState _
-    (each_check (HasReply {P = P}) (nat_le SERVER_VERSION (version_in version)) Version _
-    (each_check (HasReply {P = P}) (same_text cookie names.cookie) Access _
-    (record { packet = reply_to t ++ number SERVER_VERSION; is = refl; no_error = reply_byte t (number SERVER_VERSION) })))
+delete_tells : (P : Type 0) (o : Option Input) (waiting : List Waiting) (t : ℕ) → Each (Tells {P = P}) (delete o waiting t)
+delete_tells P None waiting t = tt
+delete_tells P (Some x) waiting t = a_reply (reply_to t) refl (plain_byte t)
 
-create_replies : (P : Type 0) (inputs : List Input) (made : ℕ) (me : Connection) (t : ℕ) (named : Named) (a : CreateFields) → Each (HasReply {P = P}) (create inputs made me t named a)
-create_replies P inputs made me t named a = each_by (HasReply {P = P}) (create inputs made me t named a) (λ plan e. by plan (create_passed inputs made me t named a plan e))
+drain_tells : (P : Type 0) (o : Option Input) (t : ℕ) → Each (Tells {P = P}) (drain o t)
+drain_tells P None t = tt
+drain_tells P (Some x) t = nothing (λ asker. refl)
+
+latency_tells : (P : Type 0) (o : Option Input) (time : TimeVal) (t : ℕ) → Each (Tells {P = P}) (latency o time t)
+latency_tells P None time t = tt
+latency_tells P (Some x) time t = nothing (λ asker. refl)
+
+cork_tells : (P : Type 0) (o : Option Input) (on : Bool) (t : ℕ) → Each (Tells {P = P}) (cork o on t)
+cork_tells P None on t = tt
+cork_tells P (Some x) on t = a_reply (reply_to t) refl (plain_byte t)
+
+flush_tells : (P : Type 0) (o : Option Input) (t : ℕ) → Each (Tells {P = P}) (flush o t)
+flush_tells P None t = tt
+flush_tells P (Some x) t = a_reply (reply_to t) refl (plain_byte t)
+
+trigger_tells : (P : Type 0) (o : Option Input) (t : ℕ) → Each (Tells {P = P}) (trigger o t)
+trigger_tells P None t = tt
+trigger_tells P (Some x) t = a_reply (reply_to t) refl (plain_byte t)
+
+prebuf_tells : (P : Type 0) (o : Option Input) (t : ℕ) → Each (Tells {P = P}) (prebuf o t)
+prebuf_tells P None t = tt
+prebuf_tells P (Some x) t = a_reply (reply_to t) refl (plain_byte t)
+
+attributes_tells : (P : Type 0) (o : Option Input) (depth rate : ℕ) (wanted : List ℕ) (t : ℕ) → Each (Tells {P = P}) (attributes o depth rate wanted t)
+attributes_tells P None depth rate wanted t = tt
+attributes_tells P (Some x) depth rate wanted t =
+    a_reply (attributes_reply t (bytes_of_attr x.spec (repaired x.spec wanted)) (microseconds rate depth)) refl (attributes_byte t (bytes_of_attr x.spec (repaired x.spec wanted)) (microseconds rate depth))
+
+-- ---- all rows
+
+auth_tells : (P : Type 0) (names : Naming) (me : Connection) (t version : ℕ) (cookie : List ℕ) → Each (Tells {P = P}) (auth names me t version cookie)
+auth_tells P names me t version cookie =
+    each_check (Tells {P = P}) (not (is_some me.version)) BadState _
+    (each_check (Tells {P = P}) (nat_le SERVER_VERSION (version_in version)) Version _
+    (each_check (Tells {P = P}) (same_text cookie names.cookie) Access _
+    (a_reply (reply_to t ++ number SERVER_VERSION) refl (reply_byte t (number SERVER_VERSION)))))
+
+create_tells : (P : Type 0) (inputs : List Input) (made : ℕ) (me : Connection) (t : ℕ) (named : Named) (a : CreateFields) → Each (Tells {P = P}) (create inputs made me t named a)
+create_tells P inputs made me t named a = each_by (Tells {P = P}) (create inputs made me t named a) (λ plan e. by plan (create_passed inputs made me t named a plan e))
   where
-    by : (plan : Plan P) → IsCreated inputs made me t named a plan → HasReply plan
-    by plan p = record {
-      packet = created_reply t (created_of p.sink a (input_made made me p.sink a));
-      is = ap (λ (x : Plan P). x.reply) p.planned;
-      no_error = created_byte t (created_of p.sink a (input_made made me p.sink a));
-    }
+    by : (plan : Plan P) → IsCreated inputs made me t named a plan → Tells plan
+    by plan p =
+        a_reply (created_reply t (created_of p.sink a (input_made made me p.sink a))) (ap (λ (x : Plan P). x.reply) p.planned) (created_byte t (created_of p.sink a (input_made made me p.sink a)))
 
-delete_replies : (P : Type 0) (o : Option Input) (t : ℕ) → Each (HasReply {P = P}) (delete o t)
-delete_replies P None t = tt
-delete_replies P (Some x) t = record { packet = reply_to t; is = refl; no_error = plain_byte t }
-
-row_replies : {P : Type 0} (state : State P) (me : Connection) (t : ℕ) (command : Command) → Each HasReply (row state me t command)
-row_replies {P} state me t (commands.Auth version cookie) = auth_replies P state.names me t version cookie
-row_replies state me t (commands.SetClientName list) = record { packet = reply_to t ++ number me.client; is = refl; no_error = reply_byte t (number me.client) }
-row_replies {P} state me t (commands.Create fields) = create_replies P state.inputs state.inputs_made me t (named_by state.names state.sinks fields.sink true) fields
-row_replies {P} state me t (commands.Delete stream) = delete_replies P (stream_of state.inputs me.conn stream) t
-row_replies state me t (commands.EmptyList n) = record { packet = reply_to t; is = refl; no_error = plain_byte t }
-row_replies state me t _ = tt
+row_tells : {P : Type 0} (state : State P) (me : Connection) (t : ℕ) (command : Command) → Each Tells (row state me t command)
+row_tells {P} state me t (commands.Auth version cookie) = auth_tells P state.names me t version cookie
+row_tells state me t (commands.SetClientName list) = a_reply (reply_to t ++ number me.client) refl (reply_byte t (number me.client))
+row_tells {P} state me t (commands.Create fields) = create_tells P state.inputs state.inputs_made me t (named_by state.names state.sinks fields.sink true) fields
+row_tells {P} state me t (commands.Delete stream) = delete_tells P (stream_of state.inputs me.conn stream) state.waiting t
+row_tells {P} state me t (commands.Drain stream) = drain_tells P (stream_of state.inputs me.conn stream) t
+row_tells {P} state me t (commands.Latency stream time) = latency_tells P (stream_of state.inputs me.conn stream) time t
+row_tells {P} state me t (commands.Cork stream on) = cork_tells P (stream_of state.inputs me.conn stream) on t
+row_tells {P} state me t (commands.Flush stream) = flush_tells P (stream_of state.inputs me.conn stream) t
+row_tells {P} state me t (commands.Trigger stream) = trigger_tells P (stream_of state.inputs me.conn stream) t
+row_tells {P} state me t (commands.Prebuf stream) = prebuf_tells P (stream_of state.inputs me.conn stream) t
+row_tells {P} state me t (commands.Attributes stream asked adjust_latency early_requests) =
+    attributes_tells P (stream_of state.inputs me.conn stream) (depth_of (sink_of state.sinks (stream_of state.inputs me.conn stream))) (rate_of (sink_of state.sinks (stream_of state.inputs me.conn stream))) asked t
+row_tells state me t (commands.EmptyList n) = a_reply (reply_to t) refl (plain_byte t)
+row_tells state me t _ = tt
 
 -- ---- packets and data
 
@@ -170,7 +226,7 @@ broken_off_kind : {P : Type 0} (asker : Option ConnId) (to : ConnId) (at : ℕ) 
 broken_off_kind asker to at fault = ending to (Some Breach) (fault_code fault) (offset_behind at (fault_place fault)) refl
 
 read_kind : {P : Type 0} (state : State P) (n : ConnId) (c : Connection) (at t : ℕ) (r : Result Command CmdFault) → Kind (Some n) (read_answer state c at t r)
-read_kind state n c at t (Ok command) = requested_kind n t (row state c t command) (row_replies state c t command)
+read_kind state n c at t (Ok command) = requested_kind n t (row state c t command) (row_tells state c t command)
 read_kind state n c at t (Err (Protocol fault)) = broken_off_kind (Some n) c.conn at fault
 read_kind state n c at t (Err (Unknown command)) = still refl
 read_kind state n c at t (Err (Unsupported command)) = still refl
@@ -226,14 +282,43 @@ left_kind None spec channels inputs = still refl
 left_kind {P} (Some x) spec channels inputs =
     cond_both (gives_up spec x) (changing (Gone x.index ∷ regrouped x.sink channels (settled_on inputs x.sink) ∷ [])) idle (Kind {P = P} None) (λ e. silent refl) (λ e. still refl)
 
+-- a request is answered: its client has a reply
+answered_kind : {P : Type 0} (owner : Option Connection) (w : Waiting) (reply : List ℕ) → get_or reply 4 0 ≡ 2 → Kind {P = P} None (answered owner w reply)
+answered_kind None w reply two = silent refl
+answered_kind {P} (Some c) w reply two = by (fits reply) refl
+  where
+    by : (b : Bool) → fits reply ≡ b → Kind {P = P} None (answered (Some c) w reply)
+    by true e = replies c.conn reply [] (ap (λ effects. (effects ++ []) ++ []) (cond-true (fits reply) (sent c.conn reply ∷ []) [] e)) two
+    by false e = silent (ap (λ effects. (effects ++ []) ++ []) (cond-false (fits reply) (sent c.conn reply ∷ []) [] e))
+
+drain_answered_kind : {P : Type 0} (owner : Option Connection) (o : Option Waiting) → Kind {P = P} None (drain_answered owner o)
+drain_answered_kind owner None = still refl
+drain_answered_kind owner (Some w) = answered_kind owner w (reply_to w.tag) (plain_byte w.tag)
+
+drained_kind : {P : Type 0} (input : Option Input) (owner : Option Connection) (waiting : List Waiting) (t : ℕ) → Kind {P = P} None (drained input owner waiting t)
+drained_kind None owner waiting t = still refl
+drained_kind {P} (Some x) owner waiting t =
+    cond_both (goes_on x) (drain_answered owner (drain_under waiting x.index t)) idle (Kind {P = P} None) (λ e. drain_answered_kind owner (drain_under waiting x.index t)) (λ e. still refl)
+
+latency_answered_kind : {P : Type 0} (rate : ℕ) (x : Input) (owner : Option Connection) (o : Option Waiting) (progress : Progress) → Kind {P = P} None (latency_answered rate x owner o progress)
+latency_answered_kind rate x owner None progress = still refl
+latency_answered_kind rate x owner (Some w) progress =
+    answered_kind owner w (latency_reply w.tag (fields_of rate x progress (time_given w.awaited))) (latency_byte w.tag (fields_of rate x progress (time_given w.awaited)))
+
+measured_kind : {P : Type 0} (input : Option Input) (owner : Option Connection) (waiting : List Waiting) (rate t : ℕ) (progress : Progress) → Kind {P = P} None (measured input owner waiting rate t progress)
+measured_kind None owner waiting rate t progress = still refl
+measured_kind {P} (Some x) owner waiting rate t progress =
+    cond_both (goes_on x) (latency_answered rate x owner (question_under waiting x.index t) progress) idle (Kind {P = P} None) (λ e. latency_answered_kind rate x owner (question_under waiting x.index t) progress) (λ e. still refl)
+
 notice_kind : {P : Type 0} (spec_of : P → SampleSpec) (state : State P) (sink : SinkId) (n : Notice P) → Kind None (notice_answer spec_of state sink n)
 notice_kind spec_of state sink (Request input frames) = told_kind (input_on state.inputs sink input) (owner_of state.connections (input_on state.inputs sink input)) (news.Request frames)
 notice_kind spec_of state sink (Overflow input) = told_kind (input_on state.inputs sink input) (owner_of state.connections (input_on state.inputs sink input)) news.Overflow
 notice_kind spec_of state sink (Underflow input) = told_kind (input_on state.inputs sink input) (owner_of state.connections (input_on state.inputs sink input)) news.Underflow
 notice_kind spec_of state sink (Started input) = told_kind (input_on state.inputs sink input) (owner_of state.connections (input_on state.inputs sink input)) news.Started
-notice_kind spec_of state sink (Drained input t) = still refl
+notice_kind spec_of state sink (Drained input t) = drained_kind (input_on state.inputs sink input) (owner_of state.connections (input_on state.inputs sink input)) state.waiting t
 notice_kind spec_of state sink (Detached input parcel) = left_kind (input_on state.inputs sink input) (spec_of parcel) (channels_on state.sinks sink) state.inputs
-notice_kind spec_of state sink (Latency input t write read buffered playing run) = still refl
+notice_kind spec_of state sink (Latency input t write read buffered playing run) =
+    measured_kind (input_on state.inputs sink input) (owner_of state.connections (input_on state.inputs sink input)) state.waiting (rate_on state.sinks sink) t (record { write = write; read = read; buffered = buffered; playing = playing; run = run })
 
 -- ---- a packet that is sent ends no connection
 

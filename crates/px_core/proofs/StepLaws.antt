@@ -39,7 +39,6 @@ use Rattle.px_plan.specs.Row.{Row}
 use Rattle.px_ctl_info.specs.Clients.{SERVER_VERSION, version_in, auth}
 use Rattle.px_ctl_play.specs.declared.told.News.{News}
 use Rattle.px_ctl_play.specs.declared.told.News.TheVariants as news
-use Rattle.px_ctl_play.specs.Delete.{delete}
 use Rattle.px_ctl_play.specs.Told.{message_of, told}
 use Rattle.px_core.specs.State.{State, new_state, goes_on, connection_of, stream_of}
 use Rattle.px_core.specs.Command.{row, read_answer, is_barred, is_waiting_for_work, command_answer, head_answer}
@@ -48,7 +47,7 @@ use Rattle.px_core.specs.Notice.{input_on, owner_of, told_of, notice_answer}
 use Rattle.px_core.specs.Orderly.{inputs_there}
 use Rattle.px_core.specs.Keeps.{AreDistinct, AreInStep, IsKept, IsRising, IsStep, Spares}
 use Rattle.px_core.specs.Plan.{Plan, refused, reply_fits, requested, broken_off}
-use Rattle.px_core.specs.Sinks.{named_by}
+use Rattle.px_core.specs.Sinks.{rate_of, rate_on, depth_of, sink_of, named_by}
 use Rattle.px_core.specs.Step.{Step, connect, frame, broken, close, cut, sweep, notice, out, body_answer, frame_of, answered, answer_of, stepped, stepped_by}
 use Rattle.px_core.proofs.ListLaws.{all_push}
 use Rattle.px_core.proofs.ChangeLaws.{sink_at, held_on}
@@ -58,6 +57,7 @@ use Rattle.px_core.proofs.RowLaws.{Each, each_check}
 use Rattle.px_core.proofs.Going.{going_by_own}
 use Rattle.px_core.proofs.Sinks.{named_there}
 use Rattle.px_core.proofs.AnswerLaws.{IsLawful, data_lawful, left_lawful}
+use Rattle.px_core.proofs.StreamLaws.{cork_lawful, flush_lawful, trigger_lawful, prebuf_lawful, attributes_lawful, drain_lawful, latency_lawful, delete_lawful, drained_lawful, measured_lawful}
 use Rattle.px_core.proofs.SweepLaws.{sweep_lawful}
 use Rattle.px_core.proofs.CreateLaws.{create_lawful}
 
@@ -86,17 +86,21 @@ auth_lawful {P} state names me tag version cookie =
     (each_check (IsLawful state) (nat_le SERVER_VERSION (version_in version)) Version _
     (each_check (IsLawful state) (same_text cookie names.cookie) Access _ (tt, tt)))
 
-delete_lawful : {P : Type 0} (state : State P) (o : Option Input) (tag : ℕ) → Each (IsLawful state) (delete o tag)
-delete_lawful state None tag = tt
-delete_lawful state (Some x) tag = (tt, tt)
-
 row_lawful : {P : Type 0} (spec_of : P → SampleSpec) (state : State P) → IsKept spec_of state → (me : Connection) (tag : ℕ) (command : Command) → Each (IsLawful state) (row state me tag command)
 row_lawful spec_of state h me tag (commands.Auth version cookie) = auth_lawful state state.names me tag version cookie
 row_lawful spec_of state h me tag (commands.SetClientName list) = (tt, tt)
 row_lawful spec_of state h me tag (commands.Create fields) =
     create_lawful spec_of state h me tag (named_by state.names state.sinks fields.sink true) fields
     (named_there state.sinks (sink_named state.names fields.sink.index fields.sink.name true))
-row_lawful spec_of state h me tag (commands.Delete stream) = delete_lawful state (stream_of state.inputs me.conn stream) tag
+row_lawful spec_of state h me tag (commands.Delete stream) = delete_lawful state (stream_of state.inputs me.conn stream) state.waiting tag
+row_lawful spec_of state h me tag (commands.Drain stream) = drain_lawful state h.rising me.conn stream tag (stream_of state.inputs me.conn stream) refl
+row_lawful spec_of state h me tag (commands.Latency stream time) = latency_lawful state h.rising me.conn stream time tag (stream_of state.inputs me.conn stream) refl
+row_lawful spec_of state h me tag (commands.Cork stream on) = cork_lawful state h.rising me.conn stream on tag (stream_of state.inputs me.conn stream) refl
+row_lawful spec_of state h me tag (commands.Flush stream) = flush_lawful state h.rising me.conn stream tag (stream_of state.inputs me.conn stream) refl
+row_lawful spec_of state h me tag (commands.Trigger stream) = trigger_lawful state h.rising me.conn stream tag (stream_of state.inputs me.conn stream) refl
+row_lawful spec_of state h me tag (commands.Prebuf stream) = prebuf_lawful state h.rising me.conn stream tag (stream_of state.inputs me.conn stream) refl
+row_lawful spec_of state h me tag (commands.Attributes stream asked adjust_latency early_requests) =
+    attributes_lawful state h.rising me.conn stream (depth_of (sink_of state.sinks (stream_of state.inputs me.conn stream))) (rate_of (sink_of state.sinks (stream_of state.inputs me.conn stream))) asked tag (stream_of state.inputs me.conn stream) refl
 row_lawful spec_of state h me tag (commands.EmptyList number) = tt
 row_lawful spec_of state h me tag _ = tt
 
@@ -175,9 +179,10 @@ notice_lawful spec_of state h sink (Request input frames) = told_of_lawful state
 notice_lawful spec_of state h sink (Overflow input) = told_of_lawful state (input_on state.inputs sink input) news.Overflow
 notice_lawful spec_of state h sink (Underflow input) = told_of_lawful state (input_on state.inputs sink input) news.Underflow
 notice_lawful spec_of state h sink (Started input) = told_of_lawful state (input_on state.inputs sink input) news.Started
-notice_lawful spec_of state h sink (Drained input tag) = tt
+notice_lawful spec_of state h sink (Drained input tag) = drained_lawful state (input_on state.inputs sink input) (owner_of state.connections (input_on state.inputs sink input)) state.waiting tag
 notice_lawful spec_of state h sink (Detached input parcel) = left_lawful spec_of state h sink input (spec_of parcel) (input_on state.inputs sink input) refl
-notice_lawful spec_of state h sink (Latency input tag write read buffered playing run) = tt
+notice_lawful spec_of state h sink (Latency input tag write read buffered playing run) =
+    measured_lawful state (input_on state.inputs sink input) (owner_of state.connections (input_on state.inputs sink input)) state.waiting (rate_on state.sinks sink) tag (record { write = write; read = read; buffered = buffered; playing = playing; run = run })
 
 -- ---- steps
 

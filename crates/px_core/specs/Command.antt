@@ -1,5 +1,5 @@
 -- What a control packet is answered, and in which order it is refused (PulseAudio: `pa_pdispatch_run` and the handlers of pulsecore/protocol-native.c; the order is own).
-use Rattle.std.specs.Prelude.{ℕ, Bool, true, not, cond, ◌&&◌, ◌||◌, nat_eq, List, is_some, Result, Ok, Err}
+use Rattle.std.specs.Prelude.{ℕ, Bool, true, not, cond, ◌&&◌, ◌||◌, nat_eq, List, is_some, Option, Result, Ok, Err}
 use Rattle.px_types.specs.declared.error_code.ErrorCode.TheVariants.{Access, Command as UnknownCommand, NotSupported, NotImplemented}
 use Rattle.px_tag.specs.declared.fault.TagFault.{TagFault}
 use Rattle.px_tag.specs.Place.{Place, start_of}
@@ -12,16 +12,21 @@ use Rattle.px_cmd.specs.declared.fault.CmdFault.{CmdFault}
 use Rattle.px_cmd.specs.declared.fault.CmdFault.TheVariants.{Protocol, Unknown, Unsupported, NoMemory}
 use Rattle.px_names.specs.Clients.{client_on}
 use Rattle.px_plan.specs.declared.input.Connection.{Connection}
+use Rattle.px_plan.specs.declared.input.Input.{Input}
 use Rattle.px_plan.specs.declared.refusal.Refusal.TheVariants.{Code}
 use Rattle.px_plan.specs.Plan.{idle}
 use Rattle.px_plan.specs.Row.{Row}
 use Rattle.px_ctl_info.specs.Clients.{auth, set_client_name}
 use Rattle.px_ctl_info.specs.Lists.{empty_list}
+use Rattle.px_ctl_play.specs.Attributes.{attributes}
+use Rattle.px_ctl_play.specs.Control.{cork, flush, trigger, prebuf}
 use Rattle.px_ctl_play.specs.Create.{create}
 use Rattle.px_ctl_play.specs.Delete.{delete}
+use Rattle.px_ctl_play.specs.Drain.{drain}
+use Rattle.px_ctl_play.specs.Latency.{latency}
 use Rattle.px_core.specs.State.{State, stream_of}
 use Rattle.px_core.specs.Plan.{Plan, refused, requested, broken_off}
-use Rattle.px_core.specs.Sinks.{named_by}
+use Rattle.px_core.specs.Sinks.{rate_of, depth_of, sink_of, named_by}
 
 -- ---- the commands
 
@@ -31,8 +36,9 @@ AUTH = 8
 -- the commands of the table that aren't built yet
 abbrev pub is_built : ℕ → Bool
 is_built command =
-    nat_eq command 3 || nat_eq command 4 || nat_eq command 8 || nat_eq command 9
-    || nat_eq command 24 || nat_eq command 26 || nat_eq command 32 || nat_eq command 34 || nat_eq command 89
+    nat_eq command 3 || nat_eq command 4 || nat_eq command 8 || nat_eq command 9 || nat_eq command 12 || nat_eq command 14
+    || nat_eq command 24 || nat_eq command 26 || nat_eq command 32 || nat_eq command 34
+    || nat_eq command 41 || nat_eq command 42 || nat_eq command 43 || nat_eq command 60 || nat_eq command 72 || nat_eq command 89
 
 abbrev pub is_waiting_for_work : ℕ → Bool
 is_waiting_for_work command = is_some (kinds_of command) && not (is_built command)
@@ -40,16 +46,25 @@ is_waiting_for_work command = is_some (kinds_of command) && not (is_built comman
 abbrev pub not_built : {A : Type 0} → Row A
 not_built = Err (Code NotImplemented)
 
+-- new buffer attributes of a stream, with the latency of its sink
+abbrev pub new_attributes : {P : Type 0} → State P → Option Input → List ℕ → ℕ → Row (Plan P)
+new_attributes state stream asked tag = attributes stream (depth_of (sink_of state.sinks stream)) (rate_of (sink_of state.sinks stream)) asked tag
+
 -- a command's row: what it gives on the parts of the state that it reads
 abbrev pub row : {P : Type 0} → State P → Connection → ℕ → Command → Row (Plan P)
 row state me tag (commands.Auth version cookie) = auth state.names me tag version cookie
 row state me tag (commands.SetClientName list) = set_client_name (client_on state.names.clients me.conn) me tag list
 row state me tag (commands.Create fields) = create state.inputs state.inputs_made me tag (named_by state.names state.sinks fields.sink true) fields
-row state me tag (commands.Delete stream) = delete (stream_of state.inputs me.conn stream) tag
+row state me tag (commands.Delete stream) = delete (stream_of state.inputs me.conn stream) state.waiting tag
+row state me tag (commands.Drain stream) = drain (stream_of state.inputs me.conn stream) tag
+row state me tag (commands.Latency stream time) = latency (stream_of state.inputs me.conn stream) time tag
+row state me tag (commands.Cork stream on) = cork (stream_of state.inputs me.conn stream) on tag
+row state me tag (commands.Flush stream) = flush (stream_of state.inputs me.conn stream) tag
+row state me tag (commands.Trigger stream) = trigger (stream_of state.inputs me.conn stream) tag
+row state me tag (commands.Prebuf stream) = prebuf (stream_of state.inputs me.conn stream) tag
+row state me tag (commands.Attributes stream asked adjust_latency early_requests) = new_attributes state (stream_of state.inputs me.conn stream) asked tag
 row state me tag (commands.EmptyList number) = empty_list tag
 row state me tag (commands.LookupSink name) = not_built
-row state me tag (commands.Drain stream) = not_built
-row state me tag (commands.Latency stream time) = not_built
 row state me tag commands.ServerInfo = not_built
 row state me tag (commands.SinkInfo sink) = not_built
 row state me tag commands.SinkInfoList = not_built
@@ -62,16 +77,11 @@ row state me tag (commands.SinkVolume sink volume) = not_built
 row state me tag (commands.InputVolume input volume) = not_built
 row state me tag (commands.SinkMute sink on) = not_built
 row state me tag (commands.InputMute input on) = not_built
-row state me tag (commands.Cork stream on) = not_built
-row state me tag (commands.Flush stream) = not_built
-row state me tag (commands.Trigger stream) = not_built
-row state me tag (commands.Prebuf stream) = not_built
 row state me tag (commands.DefaultSink name) = not_built
 row state me tag (commands.StreamName stream name) = not_built
 row state me tag (commands.KillClient client) = not_built
 row state me tag (commands.KillInput input) = not_built
 row state me tag (commands.Move input sink) = not_built
-row state me tag (commands.Attributes stream asked adjust_latency early_requests) = not_built
 row state me tag (commands.UpdateStream stream mode list) = not_built
 row state me tag (commands.UpdateClient mode list) = not_built
 row state me tag (commands.RemoveStream stream keys) = not_built

@@ -7,7 +7,7 @@ use Rattle.px_types.specs.ErrorCode.{code_of}
 use Rattle.px_tag.specs.declared.fault.TagFault.{TagFault}
 use Rattle.px_reply.specs.Front.{refusal}
 use Rattle.px_msg.specs.declared.message.Msg.{Msg}
-use Rattle.px_plan.specs.declared.change.Change.TheVariants.{Authed, Named, Made, Leaves, Said, Regrouped, Gone, Ended, Forgotten}
+use Rattle.px_plan.specs.declared.change.Change.TheVariants.{Authed, Named, Made, Leaves, Said, Regrouped, Asked, Answered, Gone, Ended, Forgotten}
 use Rattle.px_plan.specs.declared.refusal.Refusal.TheVariants.{Code, NoMemory}
 use Rattle.px_plan.specs.declared.sending.Reason.{Reason}
 use Rattle.px_plan.specs.declared.sending.Reason.TheVariants.{Protocol}
@@ -45,6 +45,8 @@ closed_in (Made x m streams inputs) = []
 closed_in (Leaves index) = []
 closed_in (Said index m) = []
 closed_in (Regrouped sink group m) = []
+closed_in (Asked w) = []
+closed_in (Answered w) = []
 closed_in (Gone index) = []
 closed_in (Ended conn reason fault at) = closed_by conn reason fault at
 closed_in (Forgotten conn) = []

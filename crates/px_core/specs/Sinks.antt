@@ -7,6 +7,7 @@ use Rattle.px_session.specs.declared.header.SinkSpec.{SinkSpec}
 use Rattle.px_session.specs.HeaderRules.{IsSink}
 use Rattle.px_cmd.specs.declared.command.SinkRef.{SinkRef}
 use Rattle.px_names.specs.Names.{Naming, sink_named}
+use Rattle.px_plan.specs.declared.input.Input.{Input}
 use Rattle.px_plan.specs.declared.target.Target.{Target}
 use Rattle.px_plan.specs.declared.target.Named.{Named}
 use Rattle.px_plan.specs.declared.target.Named.TheVariants.{Unclear, Unknown, Sink}
@@ -22,6 +23,23 @@ channels_of (Some sink) = sink.spec.channels
 
 abbrev pub channels_on : List SinkSpec → SinkId → ℕ
 channels_on sinks index = channels_of (slice_get sinks index.0)
+
+-- and its rate and its depth; a sink that isn't there has a rate of 1
+abbrev pub rate_of : Option SinkSpec → ℕ
+rate_of None = 1
+rate_of (Some sink) = sink.spec.rate
+
+abbrev pub rate_on : List SinkSpec → SinkId → ℕ
+rate_on sinks index = rate_of (slice_get sinks index.0)
+
+abbrev pub depth_of : Option SinkSpec → ℕ
+depth_of None = 0
+depth_of (Some sink) = sink.depth
+
+-- the sink of an input, where both are there
+abbrev pub sink_of : List SinkSpec → Option Input → Option SinkSpec
+sink_of sinks None = None
+sink_of sinks (Some x) = slice_get sinks x.sink.0
 
 -- ---- the sink that a command names
 

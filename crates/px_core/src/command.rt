@@ -1,24 +1,27 @@
 //! What a control packet is answered, and in which order it is refused (PulseAudio: `pa_pdispatch_run` and the handlers of
 //! `pulsecore/protocol-native.c`; the order is own).
 
-ghost use Rattle.std.specs.Prelude.{◌≡◌, [], true, IfOk};
+ghost use Rattle.std.specs.Prelude.{◌≡◌, ◌≤◌, [], true, IfOk, IfSome};
 ghost use Rattle.px_cmd.specs.Meant.{meant};
 ghost use Rattle.px_plan.specs.Row.{Plans};
 ghost use Rattle.px_session.specs.HeaderRules.{AreSinks};
 ghost use Rattle.px_ctl_play.specs.Create.{create};
+ghost use Rattle.std.specs.List.{AllByRecursion};
+ghost use Rattle.px_core.specs.Keeps.{IsInput};
 ghost use Rattle.px_core.specs.Sinks.{named_by};
+ghost use Rattle.px_core.specs.State.{stream_of};
 ghost use Rattle.px_core.specs.Tables.{state_of};
-ghost use Rattle.px_core.specs.Command.{is_built, is_waiting_for_work, is_barred, row, read_answer, command_answer, packet_answer};
+ghost use Rattle.px_core.specs.Command.{is_built, is_waiting_for_work, is_barred, new_attributes, row, read_answer, command_answer, packet_answer};
 
 use crate::found::copied;
 use crate::plan::{broken_off, refused, requested};
-use crate::targets::named_by;
 use crate::tables::Tables;
+use crate::targets::{depth_of, named_by, rate_of, sink_of};
 use px_cmd::{CmdFault, Command, CreateFields, is_command, read_command, read_head};
 use px_ctl_info::{SERVER_VERSION, auth, empty_list, set_client_name};
-use px_ctl_play::{create, delete};
+use px_ctl_play::{attributes, cork, create, delete, drain, flush, latency, prebuf, trigger};
 use px_msg::Msg;
-use px_plan::{Connection, Plan, Refusal};
+use px_plan::{Connection, Input, Plan, Refusal};
 use px_types::{ErrorCode, Mem, NoMemory};
 use std::alloc::Global;
 
@@ -29,7 +32,10 @@ const AUTH: u32 = 8;
 fn is_built(command: u32) -> bool
     ensures { result ≡ is_built command }
 {
-    matches!(command, 3 | 4 | 8 | 9 | 24 | 26 | 32 | 34 | 89)
+    matches!(
+        command,
+        3 | 4 | 8 | 9 | 12 | 14 | 24 | 26 | 32 | 34 | 41 | 42 | 43 | 60 | 72 | 89
+    )
 }
 
 // Whether the protocol has the command, and the server hasn't yet.
@@ -44,6 +50,16 @@ fn is_barred(c: &Connection, command: u32) -> bool
     ensures { result ≡ is_barred c.now command }
 {
     c.version.is_none() && command != AUTH
+}
+
+// The input of a connection's stream.
+#[tactic(auto, using(crate::proofs::StreamLaws::has_channels))]
+fn stream_of<P>(tables: &Tables<P>, me: &Connection, stream: u32) -> Option<Input>
+    requires { AllByRecursion (IsInput tables.now.sinks tables.now.inputs_made) tables.now.inputs.items }
+    ensures value { result ≡ stream_of tables.now.inputs.items me.now.conn stream }
+    ensures channels { IfSome result (λ x. 1 ≤ x.spec.channels) }
+{
+    copied(tables.inputs.stream_of(me.conn, stream))
 }
 
 // CREATE_PLAYBACK_STREAM on the sink that it names.
@@ -63,6 +79,22 @@ fn create_named<P: Drop>(
     create(alloc, inputs, tables.inputs_made, me, tag, named, fields)
 }
 
+// New buffer attributes of a stream, with the latency of its sink.
+fn new_attributes<P: Drop>(
+    alloc: Global,
+    tables: &Tables<P>,
+    stream: Option<Input>,
+    asked: [u32; 4],
+    tag: u32,
+) -> Result<Plan<Msg<P>, ()>, Refusal>
+    requires sinks { AreSinks [] tables.now.sinks }
+    requires channels { IfSome stream (λ x. 1 ≤ x.spec.channels) }
+    ensures { Plans result (new_attributes (state_of tables.now) stream asked tag) }
+{
+    let sink = sink_of(tables.sinks.as_slice(), stream);
+    attributes(alloc, stream, depth_of(sink), rate_of(sink), asked, tag)
+}
+
 // A command's row: what it gives on the parts of the state that it reads.
 fn row<P: Drop>(
     alloc: Global,
@@ -71,7 +103,8 @@ fn row<P: Drop>(
     tag: u32,
     command: Command,
 ) -> Result<Plan<Msg<P>, ()>, Refusal>
-    requires { AreSinks [] tables.now.sinks }
+    requires sinks { AreSinks [] tables.now.sinks }
+    requires inputs { AllByRecursion (IsInput tables.now.sinks tables.now.inputs_made) tables.now.inputs.items }
     ensures { Plans result (row (state_of tables.now) me.now tag command) }
 {
     match command {
@@ -84,13 +117,26 @@ fn row<P: Drop>(
         }
         Command::Create(fields) => create_named(alloc, tables, me, tag, &fields),
         Command::Delete { stream } => {
-            let stream = copied(tables.inputs.stream_of(me.conn, stream));
-            delete(alloc, stream, tag)
+            let stream = stream_of(tables, me, stream);
+            delete(alloc, stream, &tables.waiting, tag)
+        }
+        Command::Drain { stream } => drain(alloc, stream_of(tables, me, stream), tag),
+        Command::Latency { stream, time } => latency(
+            alloc,
+            stream_of(tables, me, stream),
+            time,
+            tag,
+        ),
+        Command::Cork { stream, on } => cork(alloc, stream_of(tables, me, stream), on, tag),
+        Command::Flush { stream } => flush(alloc, stream_of(tables, me, stream), tag),
+        Command::Trigger { stream } => trigger(alloc, stream_of(tables, me, stream), tag),
+        Command::Prebuf { stream } => prebuf(alloc, stream_of(tables, me, stream), tag),
+        Command::Attributes { stream, asked, .. } => {
+            let stream = stream_of(tables, me, stream);
+            new_attributes(alloc, tables, stream, asked, tag)
         }
         Command::EmptyList { .. } => empty_list(alloc, tag),
         Command::LookupSink { .. }
-        | Command::Drain { .. }
-        | Command::Latency { .. }
         | Command::ServerInfo
         | Command::SinkInfo { .. }
         | Command::SinkInfoList
@@ -103,16 +149,11 @@ fn row<P: Drop>(
         | Command::InputVolume { .. }
         | Command::SinkMute { .. }
         | Command::InputMute { .. }
-        | Command::Cork { .. }
-        | Command::Flush { .. }
-        | Command::Trigger { .. }
-        | Command::Prebuf { .. }
         | Command::DefaultSink { .. }
         | Command::StreamName { .. }
         | Command::KillClient { .. }
         | Command::KillInput { .. }
         | Command::Move { .. }
-        | Command::Attributes { .. }
         | Command::UpdateStream { .. }
         | Command::UpdateClient { .. }
         | Command::RemoveStream { .. }
@@ -129,7 +170,8 @@ fn read_answer<P: Drop>(
     tag: u32,
     packet: &[u8],
 ) -> Mem<Plan<Msg<P>, ()>>
-    requires { AreSinks [] tables.now.sinks }
+    requires sinks { AreSinks [] tables.now.sinks }
+    requires inputs { AllByRecursion (IsInput tables.now.sinks tables.now.inputs_made) tables.now.inputs.items }
     ensures { IfOk result (λ plan. plan ≡ read_answer (state_of tables.now) c.now at tag (meant packet.now)) }
 {
     match read_command(alloc, packet, SERVER_VERSION) {
@@ -151,7 +193,8 @@ fn command_answer<P: Drop>(
     command: u32,
     tag: u32,
 ) -> Mem<Plan<Msg<P>, ()>>
-    requires { AreSinks [] tables.now.sinks }
+    requires sinks { AreSinks [] tables.now.sinks }
+    requires inputs { AllByRecursion (IsInput tables.now.sinks tables.now.inputs_made) tables.now.inputs.items }
     ensures { IfOk result (λ plan. plan ≡ command_answer (state_of tables.now) c.now at packet.now command tag) }
 {
     if is_barred(c, command) {
@@ -175,7 +218,8 @@ pub(crate) fn packet_answer<P: Drop>(
     at: u64,
     packet: &[u8],
 ) -> Mem<Plan<Msg<P>, ()>>
-    requires { AreSinks [] tables.now.sinks }
+    requires sinks { AreSinks [] tables.now.sinks }
+    requires inputs { AllByRecursion (IsInput tables.now.sinks tables.now.inputs_made) tables.now.inputs.items }
     ensures { IfOk result (λ plan. plan ≡ packet_answer (state_of tables.now) c.now at packet.now) }
 {
     match read_head(packet) {

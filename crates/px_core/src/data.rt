@@ -30,7 +30,11 @@ fn post<P: Drop>(
     match reserve(tables, 1) {
         Err(_) => Err(bytes),
         Ok(()) => {
-            tell(tables, &input, px_ctl_play::write(&input, frames, seek, bytes));
+            tell(
+                tables,
+                &input,
+                px_ctl_play::write(&input, frames, seek, bytes),
+            );
             Ok(())
         }
     }

@@ -80,6 +80,8 @@ pub(crate) fn closed_in<P>(change: &CoreChange<P>) -> Option<Effect>
         | Change::Leaves(_)
         | Change::Said(..)
         | Change::Regrouped(..)
+        | Change::Asked(_)
+        | Change::Answered(_)
         | Change::Gone(_)
         | Change::Forgotten(_) => None,
     }

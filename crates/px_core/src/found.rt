@@ -34,15 +34,20 @@ pub(crate) fn input_of(inputs: &[Input], index: InputId) -> Option<&Input>
     inputs.iter().find(|x| x.index.0 == index.0)
 }
 
+// The input with an index, where it is on the sink, as the table has it.
+fn found_on(inputs: &[Input], sink: SinkId, index: InputId) -> Option<&Input>
+    ensures { option_map (λ x. x.now) result ≡ input_on inputs.now sink index }
+{
+    inputs
+        .iter()
+        .find(|x| x.index.0 == index.0 && x.sink.0 == sink.0)
+}
+
 /// The input with an index, where it is on the sink. Takes no memory.
 pub(crate) fn input_on(inputs: &[Input], sink: SinkId, index: InputId) -> Option<Input>
     ensures { result ≡ input_on inputs.now sink index }
 {
-    copied(
-        inputs
-            .iter()
-            .find(|x| x.index.0 == index.0 && x.sink.0 == sink.0),
-    )
+    copied(found_on(inputs, sink, index))
 }
 
 /// The input itself, where one was found. Takes no memory.

@@ -1,10 +1,11 @@
 //! What a frame of a connection is answered.
 
 ghost use Rattle.std.specs.Prelude.{◌≡◌, [], Some, IfOk, IfErr, OnOk, OnErr};
+ghost use Rattle.std.specs.List.{AllByRecursion};
 ghost use Rattle.px_frame.specs.Frame.{IsBody};
 ghost use Rattle.px_session.specs.HeaderRules.{AreSinks};
 ghost use Rattle.px_core.specs.Command.{packet_answer};
-ghost use Rattle.px_core.specs.Keeps.{IsRising};
+ghost use Rattle.px_core.specs.Keeps.{IsInput, IsRising};
 ghost use Rattle.px_core.specs.Plan.{plan_effects};
 ghost use Rattle.px_core.specs.Step.{answered, body_answer, frame_answer};
 ghost use Rattle.px_core.specs.Tables.{state_of};
@@ -29,7 +30,8 @@ fn control<P: Drop>(
     at: u64,
     packet: &[u8],
 ) -> Mem<Effects>
-    requires { AreSinks [] tables.old.sinks }
+    requires sinks { AreSinks [] tables.old.sinks }
+    requires inputs { AllByRecursion (IsInput tables.old.sinks tables.old.inputs_made) tables.old.inputs.items }
     ensures effects { IfOk result (λ effects. effects ≡ plan_effects (Some conn) (packet_answer (state_of tables.old) c.now at packet.now)) }
     ensures after { OnOk result (state_of tables.new ≡ answered (state_of tables.old) (packet_answer (state_of tables.old) c.now at packet.now)) }
     ensures err { OnErr result (state_of tables.new ≡ state_of tables.old) }
@@ -50,6 +52,7 @@ fn body<P: Drop>(
     body: Body,
 ) -> Result<Effects, Body>
     requires sinks { AreSinks [] tables.old.sinks }
+    requires inputs { AllByRecursion (IsInput tables.old.sinks tables.old.inputs_made) tables.old.inputs.items }
     requires rising { IsRising tables.old.inputs.items }
     requires body { IsBody body }
     ensures effects { IfOk result (λ effects. effects ≡ plan_effects (Some conn) (body_answer (state_of tables.old) c.now at body)) }
@@ -88,6 +91,7 @@ pub(crate) fn take<P: Drop>(
     frame: Frame,
 ) -> Result<Effects, Frame>
     requires sinks { AreSinks [] tables.old.sinks }
+    requires inputs { AllByRecursion (IsInput tables.old.sinks tables.old.inputs_made) tables.old.inputs.items }
     requires rising { IsRising tables.old.inputs.items }
     requires body { IsBody frame.body }
     ensures effects { IfOk result (λ effects. effects ≡ plan_effects (Some conn) (frame_answer (state_of tables.old) conn frame)) }

@@ -3,7 +3,7 @@
 
 ghost use Rattle.std.specs.Prelude.{◌≡◌, [], None, IfOk, IfErr, OnOk, OnErr};
 ghost use Rattle.px_session.specs.HeaderRules.{AreSinks};
-ghost use Rattle.px_core.specs.Notice.{owner_of, told_of, notice_answer};
+ghost use Rattle.px_core.specs.Notice.{owner_of, told_of, drained_of, measured_of, notice_answer};
 ghost use Rattle.px_core.specs.Plan.{plan_effects};
 ghost use Rattle.px_core.specs.Step.{answered};
 ghost use Rattle.px_core.specs.Tables.{state_of};
@@ -11,9 +11,9 @@ ghost use Rattle.px_core.specs.Tables.{state_of};
 use crate::commit::finish;
 use crate::effects::Effects;
 use crate::found::{going_on, input_on};
-use crate::targets::channels_on;
 use crate::tables::Tables;
-use px_ctl_play::{News, left, tell};
+use crate::targets::{channels_on, rate_on};
+use px_ctl_play::{News, Progress, drained, left, measured, tell};
 use px_msg::{Msg, Notice, Parcel};
 use px_plan::{Connection, Input, Plan};
 use px_types::{Mem, SinkId};
@@ -41,8 +41,38 @@ fn told_of<P: Drop>(
     tell(alloc, input, owner_of(&tables.connections, input), news)
 }
 
+// All of an input that is on the sink was played: the drain under the tag is answered.
+fn drained_of<P: Drop>(
+    alloc: Global,
+    tables: &Tables<P>,
+    input: Option<Input>,
+    tag: u32,
+) -> Mem<Plan<Msg<P>, ()>>
+    ensures { IfOk result (λ plan. plan ≡ drained_of (state_of tables.now) input tag) }
+{
+    let owner = owner_of(&tables.connections, input);
+    drained(alloc, input, owner, &tables.waiting, tag)
+}
+
+// An input that is on the sink is so far: the question under the tag is answered.
+fn measured_of<P: Drop>(
+    alloc: Global,
+    tables: &Tables<P>,
+    input: Option<Input>,
+    sink: SinkId,
+    tag: u32,
+    progress: Progress,
+) -> Mem<Plan<Msg<P>, ()>>
+    requires { AreSinks [] tables.now.sinks }
+    ensures { IfOk result (λ plan. plan ≡ measured_of (state_of tables.now) input sink tag progress) }
+{
+    let owner = owner_of(&tables.connections, input);
+    let rate = rate_on(tables.sinks.as_slice(), sink);
+    measured(alloc, input, owner, &tables.waiting, rate, tag, progress)
+}
+
 // What a sink's notice is answered. One that doesn't fit is ignored: of an input that isn't on the sink, of one that ends
-// where something is to be told, and of a stream that wasn't to be given up.
+// where something is to be told, of a stream that wasn't to be given up, and an answer to a request that doesn't wait.
 fn notice_answer<P: Parcel + Drop>(
     alloc: Global,
     tables: &Tables<P>,
@@ -59,10 +89,20 @@ fn notice_answer<P: Parcel + Drop>(
             told_of(alloc, tables, input, News::Request(*frames))
         }
         Notice::Overflow { input } => {
-            told_of(alloc, tables, input_on(inputs, sink, *input), News::Overflow)
+            told_of(
+                alloc,
+                tables,
+                input_on(inputs, sink, *input),
+                News::Overflow,
+            )
         }
         Notice::Underflow { input } => {
-            told_of(alloc, tables, input_on(inputs, sink, *input), News::Underflow)
+            told_of(
+                alloc,
+                tables,
+                input_on(inputs, sink, *input),
+                News::Underflow,
+            )
         }
         Notice::Started { input } => {
             told_of(alloc, tables, input_on(inputs, sink, *input), News::Started)
@@ -72,7 +112,34 @@ fn notice_answer<P: Parcel + Drop>(
             let input = input_on(inputs, sink, *input);
             left(alloc, input, parcel.spec(), channels, inputs)
         }
-        Notice::Drained { .. } | Notice::Latency { .. } => Ok(Plan::idle(alloc)),
+        Notice::Drained { input, tag } => {
+            drained_of(alloc, tables, input_on(inputs, sink, *input), *tag)
+        }
+        Notice::Latency {
+            input,
+            tag,
+            write,
+            read,
+            buffered,
+            playing,
+            run,
+        } => {
+            let progress = Progress {
+                write: *write,
+                read: *read,
+                buffered: *buffered,
+                playing: *playing,
+                run: *run,
+            };
+            measured_of(
+                alloc,
+                tables,
+                input_on(inputs, sink, *input),
+                sink,
+                *tag,
+                progress,
+            )
+        }
     }
 }
 

@@ -14,11 +14,7 @@ use px_types::{ConnId, ErrorCode, Mem, NoMemory};
 use std::alloc::Global;
 
 /// Who asked under the tag is sent an error, and nothing changes.
-pub(crate) fn refused<P: Drop>(
-    alloc: Global,
-    tag: u32,
-    code: ErrorCode,
-) -> Mem<Plan<Msg<P>, ()>>
+pub(crate) fn refused<P: Drop>(alloc: Global, tag: u32, code: ErrorCode) -> Mem<Plan<Msg<P>, ()>>
     ensures { IfOk result (λ plan. plan ≡ refused tag code) }
 {
     match px_reply::error(alloc, tag, code) {
@@ -38,11 +34,7 @@ fn reply_fits(reply: &Option<Packet>) -> bool
 }
 
 // A plan whose reply no frame can carry is refused instead.
-fn fitting<P: Drop>(
-    alloc: Global,
-    tag: u32,
-    plan: Plan<Msg<P>, ()>,
-) -> Mem<Plan<Msg<P>, ()>>
+fn fitting<P: Drop>(alloc: Global, tag: u32, plan: Plan<Msg<P>, ()>) -> Mem<Plan<Msg<P>, ()>>
     ensures { IfOk result (λ made. made ≡ fitting tag plan) }
 {
     if reply_fits(&plan.reply) {

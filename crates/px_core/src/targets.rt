@@ -4,11 +4,11 @@ ghost use Rattle.std.specs.Prelude.{◌≡◌, ◌≤◌, [], slice_get, IfOk, I
 ghost use Rattle.std.specs.Option.{option_map};
 ghost use Rattle.px_session.specs.HeaderRules.{AreSinks};
 ghost use Rattle.px_plan.specs.Target.{IsTarget, IsNamed};
-ghost use Rattle.px_core.specs.Sinks.{IsOfHeader, channels_on, target_of, found_as, named_by};
+ghost use Rattle.px_core.specs.Sinks.{IsOfHeader, channels_on, rate_on, rate_of, depth_of, sink_of, target_of, found_as, named_by};
 
 use px_cmd::SinkRef;
 use px_names::Names;
-use px_plan::{Named, Target};
+use px_plan::{Input, Named, Target};
 use px_session::SinkSpec;
 use px_types::{ErrorCode, Mem, SinkId, Text};
 use std::alloc::Global;
@@ -32,6 +32,49 @@ pub(crate) fn channels_on(sinks: &[SinkSpec], index: SinkId) -> u8
     match sink_at(sinks, index) {
         None => 0,
         Some(sink) => sink.spec.channels,
+    }
+}
+
+/// Its rate, in frames a second; 1 where there is none. Takes no memory.
+pub(crate) fn rate_on(sinks: &[SinkSpec], index: SinkId) -> u32
+    requires { AreSinks [] sinks.now }
+    ensures value { result ≡ rate_on sinks.now index }
+    ensures some { 1 ≤ result }
+{
+    rate_of(sink_at(sinks, index))
+}
+
+/// The sink of an input, where both are there. Takes no memory.
+pub(crate) fn sink_of(sinks: &[SinkSpec], input: Option<Input>) -> Option<&SinkSpec>
+    requires { AreSinks [] sinks.now }
+    ensures value { option_map (λ s. s.now) result ≡ sink_of sinks.now input }
+    ensures header { IfSome result (λ s. IsOfHeader s.now) }
+{
+    match input {
+        None => None,
+        Some(x) => sink_at(sinks, x.sink),
+    }
+}
+
+/// The rate of a sink, in frames a second; 1 where there is none. Takes no memory.
+pub(crate) fn rate_of(sink: Option<&SinkSpec>) -> u32
+    requires { IfSome sink (λ s. IsOfHeader s.now) }
+    ensures value { result ≡ rate_of (option_map (λ s. s.now) sink.entry) }
+    ensures some { 1 ≤ result }
+{
+    match sink {
+        None => 1,
+        Some(sink) => sink.spec.rate,
+    }
+}
+
+/// The depth of a sink, in frames; 0 where there is none. Takes no memory.
+pub(crate) fn depth_of(sink: Option<&SinkSpec>) -> u32
+    ensures { result ≡ depth_of (option_map (λ s. s.now) sink.entry) }
+{
+    match sink {
+        None => 0,
+        Some(sink) => sink.depth,
     }
 }
 
