@@ -88,4 +88,11 @@ impl Keys {
             Some(key) => Some(key.as_slice()),
         }
     }
+
+    /// The keys, in order. Takes no memory.
+    pub fn as_slice(&self) -> &[Text]
+        ensures { result.now ≡ self.now }
+    {
+        self.keys.as_slice()
+    }
 }

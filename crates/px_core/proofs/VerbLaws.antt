@@ -19,10 +19,10 @@ use Rattle.px_plan.specs.declared.input.Connection.{Connection}
 use Rattle.px_plan.specs.declared.input.Input.{Input}
 use Rattle.px_plan.specs.declared.input.Standing.{Standing}
 use Rattle.px_plan.specs.declared.input.Standing.TheVariants.{Settled, Moving, Leaving}
-use Rattle.px_plan.specs.declared.change.Change.TheVariants.{Authed, Named, Made, Leaves, Said, Regrouped, Asked, Answered, Gone, Ended, Forgotten}
+use Rattle.px_plan.specs.declared.change.Change.TheVariants.{Authed, Named, Masked, Defaulted, Made, Leaves, Said, Regrouped, Asked, Answered, Gone, Ended, Forgotten}
 use Rattle.px_plan.specs.declared.waiting.Waiting.{Waiting}
 use Rattle.px_core.specs.State.{State, has_index, has_number, input_of, settled_on, is_as}
-use Rattle.px_core.specs.Change.{Change, change_first, drop_first, authed, marked, with_streams, with_connection, renamed, forgotten, posting, ending_of, telling, saying, saying_of, changed, committed}
+use Rattle.px_core.specs.Change.{Change, change_first, drop_first, authed, marked, with_streams, with_connection, renamed, masked, defaulted, forgotten, posting, ending_of, telling, saying, saying_of, changed, committed}
 use Rattle.px_core.specs.Orderly.{specs_of}
 use Rattle.px_core.specs.Keeps.{AreDistinct, IsAwaiting, IsInput, IsKept}
 use Rattle.px_core.specs.Lawful.{Brings, IsNew, Suits, AreFor, HasLeft, Lawful, AreLawful}
@@ -211,6 +211,8 @@ gone_follow {P} spec_of state h index (Some x) e left =
 pub change_follows : {P : Type 0} (spec_of : P → SampleSpec) (state : State P) (c : Change P) → IsKept spec_of state → Lawful state c → Follows spec_of state (changed state c)
 change_follows spec_of state (Authed conn version) h lawful = same_held spec_of state (changed state (Authed conn version)) refl (connection_keeps spec_of state h conn (authed version) (λ d. refl))
 change_follows spec_of state (Named conn list) h lawful = same_held spec_of state (changed state (Named conn list)) refl (others_keep spec_of state h state.connections h.distinct (renamed conn list state.names) state.clients_made)
+change_follows spec_of state (Masked conn mask) h lawful = same_held spec_of state (changed state (Masked conn mask)) refl (others_keep spec_of state h state.connections h.distinct (masked conn mask state.names) state.clients_made)
+change_follows spec_of state (Defaulted sink) h lawful = same_held spec_of state (changed state (Defaulted sink)) refl (others_keep spec_of state h state.connections h.distinct (defaulted sink state.names) state.clients_made)
 change_follows {P} spec_of state (Made x m streams inputs) h lawful =
     subst (λ n. Follows spec_of state (posting x.sink.0 m (record (with_connection x.conn (with_streams streams) state) { inputs = state.inputs ++ x ∷ []; inputs_made = n }))) (sym lawful.1)
     (record {

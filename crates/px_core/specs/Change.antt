@@ -1,10 +1,11 @@
 -- The state after each change. A step is a list of changes, made one after the other.
-use Rattle.std.specs.Prelude.{ℕ, Bool, true, cond, List, [], ◌∷◌, ◌++◌, Option, None, Some, set, get_or}
+use Rattle.std.specs.Prelude.{ℕ, Bool, true, cond, nat_lt, length, List, [], ◌∷◌, ◌++◌, Option, None, Some, set, get_or}
 use Rattle.std.specs.List.{fold}
 use Rattle.px_types.specs.declared.ids.ConnId.{ConnId}
 use Rattle.px_types.specs.declared.ids.InputId.{InputId}
+use Rattle.px_types.specs.declared.ids.SinkId.{SinkId}
 use Rattle.px_tag.specs.PropList.{Property}
-use Rattle.px_names.specs.Clients.{is_on, change_first as change_client, without_first as without_client, with_list}
+use Rattle.px_names.specs.Clients.{is_on, change_first as change_client, without_first as without_client, with_list, with_mask}
 use Rattle.px_names.specs.Names.{Naming}
 use Rattle.px_msg.specs.declared.message.Msg.{Msg}
 use Rattle.px_model.specs.declared.data.Attr.{Attr as Attributes}
@@ -14,7 +15,7 @@ use Rattle.px_plan.specs.declared.input.Input.{Input}
 use Rattle.px_plan.specs.declared.input.Standing.{Standing}
 use Rattle.px_plan.specs.declared.input.Standing.TheVariants.{Settled, Moving, Leaving}
 use Rattle.px_plan.specs.declared.change.Change.{Change as AnyChange}
-use Rattle.px_plan.specs.declared.change.Change.TheVariants.{Authed, Named, Made, Leaves, Said, Regrouped, Asked, Answered, Gone, Ended, Forgotten}
+use Rattle.px_plan.specs.declared.change.Change.TheVariants.{Authed, Named, Masked, Defaulted, Made, Leaves, Said, Regrouped, Asked, Answered, Gone, Ended, Forgotten}
 use Rattle.px_core.specs.State.{State, has_number, has_index, input_of, is_as, waiting_of_others}
 
 -- a change with the messages of the core; a sink has no group of volumes yet
@@ -35,6 +36,13 @@ drop_first is (x ∷ xs) = cond (is x) xs (x ∷ drop_first is xs)
 
 abbrev pub renamed : ConnId → List Property → Naming → Naming
 renamed conn list names = record names { clients = change_client (is_on conn) (with_list list) names.clients }
+
+abbrev pub masked : ConnId → ℕ → Naming → Naming
+masked conn mask names = record names { clients = change_client (is_on conn) (with_mask mask) names.clients }
+
+-- a sink that is there is the default sink
+abbrev pub defaulted : SinkId → Naming → Naming
+defaulted sink names = cond (nat_lt sink.0 (length names.sinks)) (record names { fallback = sink }) names
 
 abbrev pub forgotten : ConnId → Naming → Naming
 forgotten conn names = record names { clients = without_client (is_on conn) names.clients }
@@ -120,6 +128,8 @@ saying_of (Some x) m state = saying x.standing x m state
 abbrev pub changed : {P : Type 0} → State P → Change P → State P
 changed state (Authed conn version) = with_connection conn (authed version) state
 changed state (Named conn list) = record state { names = renamed conn list state.names }
+changed state (Masked conn mask) = record state { names = masked conn mask state.names }
+changed state (Defaulted sink) = record state { names = defaulted sink state.names }
 changed state (Made x m streams inputs) =
     posting x.sink.0 m (record (with_connection x.conn (with_streams streams) state) { inputs = state.inputs ++ x ∷ []; inputs_made = inputs })
 changed state (Leaves index) = ending_of (input_of state.inputs index) state

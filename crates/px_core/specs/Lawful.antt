@@ -12,7 +12,7 @@ use Rattle.px_msg.specs.View.{sample_spec, opened, gains}
 use Rattle.px_plan.specs.declared.input.Input.{Input}
 use Rattle.px_plan.specs.declared.input.Standing.TheVariants.{Settled, Leaving}
 use Rattle.px_plan.specs.declared.input.Way.TheVariants.{Coming, Left}
-use Rattle.px_plan.specs.declared.change.Change.TheVariants.{Authed, Named, Made, Leaves, Said, Regrouped, Asked, Answered, Gone, Ended, Forgotten}
+use Rattle.px_plan.specs.declared.change.Change.TheVariants.{Authed, Named, Masked, Defaulted, Made, Leaves, Said, Regrouped, Asked, Answered, Gone, Ended, Forgotten}
 use Rattle.px_core.specs.State.{State, input_of, bound_for}
 use Rattle.px_core.specs.Change.{Change, changed}
 use Rattle.px_core.specs.Connecting.{going_on}
@@ -88,6 +88,8 @@ pub record IsRegrouped {P : Type 0} (state : State P) (sink : SinkId) (m : Msg P
 abbrev pub Lawful : {P : Type 0} → State P → Change P → Type 0
 Lawful state (Authed conn version) = ⊤
 Lawful state (Named conn list) = ⊤
+Lawful state (Masked conn mask) = ⊤
+Lawful state (Defaulted sink) = ⊤
 Lawful state (Made x m streams inputs) = IsNew state x m × (inputs ≡ state.inputs_made + 1)
 Lawful state (Leaves index) = ⊤
 Lawful state (Said index m) = IfSome (input_of state.inputs index) (λ x. Suits x m)

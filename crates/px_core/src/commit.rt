@@ -2,7 +2,7 @@
 
 ghost use Rattle.std.specs.Prelude.{◌≡◌, ◌≤◌, ◌+◌, ℕ, length, IfOk, OnOk, OnErr};
 ghost use Rattle.px_plan.specs.declared.change.Change.TheVariants.{Made, Leaves, Said};
-ghost use Rattle.px_core.specs.Change.{changed, committed, inputs_told, posting, saying, ending};
+ghost use Rattle.px_core.specs.Change.{changed, committed, defaulted, inputs_told, posting, saying, ending};
 ghost use Rattle.px_core.specs.Plan.{plan_effects};
 ghost use Rattle.px_core.specs.Step.{answered};
 ghost use Rattle.px_core.specs.Tables.{state_of, HasRoom, HavePlaces};
@@ -13,6 +13,7 @@ use crate::input_table::InputTable;
 use crate::tables::Tables;
 use crate::{awaited, queues, verbs};
 use px_msg::Msg;
+use px_names::Names;
 use px_plan::{Change, Input, Plan, Standing};
 use px_types::{ConnId, InputId, Mem, SinkId};
 use std::alloc::Global;
@@ -124,6 +125,15 @@ fn make<P: Drop>(tables: &mut Tables<P>, x: Input, new: Msg<P>, streams: u32, in
     post(tables, x.sink, new);
 }
 
+// A sink that is there is the default sink.
+fn make_default(names: &mut Names, sink: SinkId)
+    ensures { names.new ≡ defaulted sink names.old }
+{
+    if usize::from(sink.0) < names.sinks().as_slice().len() {
+        names.set_default(sink);
+    }
+}
+
 // One change, which takes one place of the room.
 fn apply<P: Drop>(tables: &mut Tables<P>, change: CoreChange<P>)
     requires { HasRoom 1 tables.old }
@@ -135,6 +145,8 @@ fn apply<P: Drop>(tables: &mut Tables<P>, change: CoreChange<P>)
             verbs::set_version(&mut tables.connections, conn, version);
         }
         Change::Named(conn, list) => tables.names.set_list(conn, list),
+        Change::Masked(conn, mask) => tables.names.set_mask(conn, mask),
+        Change::Defaulted(sink) => make_default(&mut tables.names, sink),
         Change::Made {
             input,
             new,

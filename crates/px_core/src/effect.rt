@@ -76,6 +76,8 @@ pub(crate) fn closed_in<P>(change: &CoreChange<P>) -> Option<Effect>
         Change::Ended { reason: None, .. }
         | Change::Authed(..)
         | Change::Named(..)
+        | Change::Masked(..)
+        | Change::Defaulted(_)
         | Change::Made { .. }
         | Change::Leaves(_)
         | Change::Said(..)

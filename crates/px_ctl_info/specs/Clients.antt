@@ -1,16 +1,24 @@
--- AUTH and SET_CLIENT_NAME (PulseAudio: `command_auth` and `command_set_client_name` of pulsecore/protocol-native.c).
-use Rattle.std.specs.Prelude.{ℕ, ◌%◌, ◌^◌, not, nat_le, List, [], ◌∷◌, ◌++◌, is_some, Option, None, Some, Ok}
-use Rattle.px_types.specs.declared.error_code.ErrorCode.TheVariants.{Access, BadState, Version}
+-- The commands on clients (PulseAudio: `command_auth`, `command_set_client_name`, `command_get_info`, `command_get_info_list`, `command_subscribe` and `command_kill` of pulsecore/protocol-native.c).
+use Rattle.std.specs.Prelude.{ℕ, ◌/◌, ◌%◌, ◌^◌, Bool, not, cond, ◌||◌, nat_eq, nat_le, List, [], ◌∷◌, ◌++◌, codes, map, is_some, Option, None, Some, Ok}
+use Rattle.px_types.specs.declared.error_code.ErrorCode.TheVariants.{Access, BadState, Invalid, NoEntity, Version}
 use Rattle.px_tag.specs.PropList.{Property, updated}
 use Rattle.px_tag.specs.declared.mode.Mode.TheVariants.{Replace}
 use Rattle.px_tag.specs.Item.{number}
 use Rattle.px_names.specs.declared.client.Client.{Client}
+use Rattle.px_names.specs.Clients.{client_numbered}
 use Rattle.px_names.specs.Names.{Naming, same_text}
+use Rattle.px_reply.specs.declared.info.ClientInfo.{ClientInfo}
 use Rattle.px_reply.specs.Front.{reply_to}
-use Rattle.px_plan.specs.declared.change.Change.TheVariants.{Authed, Named}
+use Rattle.px_reply.specs.Info.{with_client, clients_reply}
+use Rattle.px_plan.specs.declared.change.Change.{Change}
+use Rattle.px_plan.specs.declared.change.Change.TheVariants.{Authed, Named, Masked, Ended}
 use Rattle.px_plan.specs.declared.input.Connection.{Connection}
+use Rattle.px_plan.specs.declared.sending.Reason.TheVariants.{Killed}
 use Rattle.px_plan.specs.Plan.{Planned, replied}
-use Rattle.px_plan.specs.Row.{Row, ◌>>=◌, check}
+use Rattle.px_plan.specs.Row.{Row, ◌>>=◌, check, present}
+use Rattle.px_ctl_info.specs.Properties.{text_under}
+
+-- ---- a client is let in, and says what it is
 
 -- the version that the server speaks
 abbrev pub SERVER_VERSION : ℕ
@@ -36,3 +44,46 @@ list_with (Some client) list = updated Replace client.list list
 -- SET_CLIENT_NAME: each key of the list is set, and the client's index is told
 abbrev pub set_client_name : {M G : Type 0} → Option Client → Connection → ℕ → List Property → Row (Planned M G)
 set_client_name client me tag list = Ok (replied (reply_to tag ++ number me.client) (Named me.conn (list_with client list) ∷ []))
+
+-- ---- what clients there are
+
+-- the key under which a client says its name
+abbrev pub NAME : List ℕ
+NAME = codes "application.name"
+
+abbrev pub info_of : Client → ClientInfo
+info_of client = record { index = client.index; name = text_under client.list NAME; list = client.list }
+
+-- GET_CLIENT_INFO
+abbrev pub client_info : {M G : Type 0} → Option Client → ℕ → Row (Planned M G)
+client_info client tag = do
+  client ← present client NoEntity
+  Ok (replied (with_client (reply_to tag) (info_of client)) [])
+
+-- GET_CLIENT_INFO_LIST
+abbrev pub client_infos : {M G : Type 0} → List Client → ℕ → Row (Planned M G)
+client_infos clients tag = Ok (replied (clients_reply tag (map info_of clients)) [])
+
+-- ---- what a client hears of
+
+-- bits for facilities that there are: 1 to 128, and 512
+abbrev pub is_mask : ℕ → Bool
+is_mask mask = nat_eq (mask / 256) 0 || nat_eq (mask / 256) 2
+
+-- SUBSCRIBE
+abbrev pub subscribe : {M G : Type 0} → Connection → ℕ → ℕ → Row (Planned M G)
+subscribe me tag mask = do
+  known ← check (is_mask mask) Invalid
+  Ok (replied (reply_to tag) (Masked me.conn mask ∷ []))
+
+-- ---- a client is ended by another
+
+-- its connection ends, where it goes on
+abbrev pub killed : {M G : Type 0} → Connection → List (Change M G)
+killed c = cond c.marked [] (Ended c.conn (Some Killed) 0 0 ∷ [])
+
+-- KILL_CLIENT
+abbrev pub kill_client : {M G : Type 0} → Option Connection → ℕ → Row (Planned M G)
+kill_client client tag = do
+  c ← present client NoEntity
+  Ok (replied (reply_to tag) (killed c))

@@ -1,2 +1,4 @@
+pub mod Properties
 pub mod Clients
+pub mod Sinks
 pub mod Lists

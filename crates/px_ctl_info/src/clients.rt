@@ -1,9 +1,10 @@
-//! AUTH and SET_CLIENT_NAME (PulseAudio: `command_auth` and `command_set_client_name` of `pulsecore/protocol-native.c`).
+//! AUTH, SET_CLIENT_NAME and SUBSCRIBE (PulseAudio: `command_auth`, `command_set_client_name` and `command_subscribe` of
+//! `pulsecore/protocol-native.c`).
 
 ghost use Rattle.std.specs.Prelude.{◌≡◌, IfOk};
 ghost use Rattle.std.specs.Option.{option_map};
 ghost use Rattle.px_plan.specs.Row.{Plans};
-ghost use Rattle.px_ctl_info.specs.Clients.{auth, list_with, set_client_name};
+ghost use Rattle.px_ctl_info.specs.Clients.{auth, list_with, set_client_name, is_mask, subscribe};
 
 use px_names::{Client, Names};
 use px_plan::{Change, Connection, Plan, Refusal, check};
@@ -65,5 +66,29 @@ pub fn set_client_name<M: Drop, G: Drop>(
     let list = list_with(client, list)?;
     let mut changes = Vec::new(alloc);
     changes.push(Change::Named(me.conn, list))?;
+    Ok(Plan::replied(alloc, reply, changes))
+}
+
+// Whether these bits are for facilities that there are.
+fn is_mask(mask: u32) -> bool
+    ensures { result ≡ is_mask mask }
+{
+    matches!(mask / 256, 0 | 2)
+}
+
+/// SUBSCRIBE: the client hears of these facilities from now on, a bit each (`pa_subscription_mask_t`). Refused: `Invalid` for a
+/// bit of none.
+pub fn subscribe<M: Drop, G: Drop>(
+    alloc: Global,
+    me: &Connection,
+    tag: u32,
+    mask: u32,
+) -> Result<Plan<M, G>, Refusal>
+    ensures { Plans result (subscribe me.now tag mask) }
+{
+    check(is_mask(mask), ErrorCode::Invalid)?;
+    let reply = px_reply::plain(alloc, tag)?;
+    let mut changes = Vec::new(alloc);
+    changes.push(Change::Masked(me.conn, mask))?;
     Ok(Plan::replied(alloc, reply, changes))
 }

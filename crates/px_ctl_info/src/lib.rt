@@ -1,9 +1,17 @@
-//! The commands on clients, names and lists: each reads the parts of the state that its rule names, and gives a plan or the
-//! reason why it is refused. It exports a call a command.
+//! The commands on clients, names, property lists and lists: each reads the parts of the state that its rule names, and gives a
+//! plan or the reason why it is refused. It exports a call a command.
 #![tactic(auto)]
 
 mod clients;
+mod kills;
 mod lists;
+mod properties;
+mod sinks;
+mod told;
 
-pub use clients::{SERVER_VERSION, auth, set_client_name};
+pub use clients::{SERVER_VERSION, auth, set_client_name, subscribe};
+pub use kills::kill_client;
 pub use lists::empty_list;
+pub use properties::{remove_client, update_client};
+pub use sinks::{lookup_sink, server_info, set_default_sink};
+pub use told::{client_info, client_infos};

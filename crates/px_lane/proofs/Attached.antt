@@ -17,7 +17,7 @@ use Rattle.px_model.specs.Turn.{settled, halted, next_horizon, told, told as tol
 use Rattle.px_model.specs.Notice.{Notice}
 use Rattle.std.specs.Prelude.{flat_map}
 use Rattle.px_lane.specs.Needed.{needed}
-use Rattle.px_lane.specs.Samples.{samples}
+use Rattle.px_stream.specs.Samples.{samples}
 use Rattle.px_lane.proofs.Fits.{turn_fits}
 use Rattle.px_lane.specs.Whole.{AreFramesOf}
 use Rattle.px_lane.specs.Lane.{IsLane, IsAttached, played_more}

@@ -3,7 +3,7 @@ use Rattle.std.proofs.Common.{◌≡◌, ◌≢◌, ℕ, ◌+◌, ◌<◌, List,
 use Rattle.std.proofs.Math.ListN.{set}
 use Rattle.std.proofs.lemmas.Int.{ints, to_z-of_z}
 use Rattle.std.proofs.lemmas.List.{get_or-set_other, get_or-set_same}
-use Rattle.px_lane.specs.Samples.{IsSumOf}
+use Rattle.px_lane.specs.Sums.{IsSumOf}
 
 pub sum_fits : (sum : ℤ) → IsSumOf 256 sum → SFits w64 sum
 sum_fits sum within = let low = within.low in let high = within.high in omega (arith, ints)

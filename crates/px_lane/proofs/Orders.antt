@@ -1,39 +1,25 @@
 -- Orderly messages can be taken.
-use Rattle.std.proofs.Common.{◌≡◌, ℕ, zero, suc, ◌+◌, ◌-◌, List, [], ◌∷◌, map, Option, Some, None, Bool, true, false, cond, refl, ap, sym, ◌∙◌, subst, arith}
-use Rattle.std.specs.Prelude.{◌==◌, MatchOption, option_map, ⊤}
-use Rattle.std.specs.Ordering.{nat_cmp, eq_by_cmp}
-use Rattle.std.specs.Cmp.{nat_cmp_total}
-use Rattle.std.proofs.lemmas.Bool.Decides.{nat_tests}
+use Rattle.std.proofs.Common.{◌≡◌, ℕ, zero, suc, ◌+◌, ◌-◌, List, [], ◌∷◌, map, length, Option, Some, None, false, refl, ap, sym, ◌∙◌, subst, arith}
+use Rattle.std.specs.Prelude.{MatchOption, option_map, ⊤}
 use Rattle.std.specs.List.{AllByRecursion}
 use Rattle.std.specs.FinMap as finite
+use Rattle.px_model.specs.declared.data.Attr.{Attr}
 use Rattle.px_model.specs.Frame.{SampleSpec}
 use Rattle.px_model.specs.Stream.{Stream}
 use Rattle.px_model.specs.Going.{after}
-use Rattle.px_model.specs.Message.{Message, FrameWrite}
-use Rattle.px_model.specs.Orderly.{Inputs, IsOrderly, Fits, IsWhole, inputs_left, inputs_left_by}
-use Rattle.px_model.specs.Sink.{Sink, Input as Stands, specs_of, stream_at, with_stream}
-use Rattle.px_model.specs.Turn.{asked_stream, inputs_with, next_horizon, turned}
+use Rattle.px_model.specs.Message.{Message, StreamMessage, FrameWrite}
+use Rattle.px_model.specs.Orderly.{Inputs, IsOrderly, IsRepaired, Fits, IsWhole, inputs_left}
+use Rattle.px_model.specs.Sink.{Sink, Input as Stands, IsRising, IsStreamOf, specs_of, stream_at, with_stream}
+use Rattle.px_model.specs.Turn.{asked_stream, inputs_with, next_horizon}
 use Rattle.px_model.specs.Rows.{s16_samples}
 use Rattle.px_model.proofs.Streams.{stream_by}
-use Rattle.px_lane.specs.Needed.{OpensRepaired}
-use Rattle.px_lane.specs.Taking.{AreWhole, CanTake, CanTakeAll}
+use Rattle.px_model.proofs.Shown.{specs_show, turn_leaves}
+use Rattle.px_model.proofs.Inputs.{AreInputs, each_keeps}
+use Rattle.px_lane.specs.Needed.{Opens}
+use Rattle.px_lane.specs.Taking.{SuitsAt, CanTake, CanTakeAll}
+use Rattle.px_lane.proofs.Feeds.{IsFed, after_fed, message_fed, fed_of}
 
 -- ---- the specs of the inputs
-
-spec_cond : (b : Bool) (s : Stream) (o : Option Stream) → option_map Stream.spec (cond b (Some s) o) ≡ cond b (Some s.spec) (option_map Stream.spec o)
-spec_cond true s o = refl
-spec_cond false s o = refl
-
-same_key : (i k : ℕ) → eq_by_cmp nat_cmp i k ≡ (k == i)
-same_key i k = grind (arith, nat_tests)
-
-found : (i : ℕ) (xs : List Stands) → finite.find nat_cmp i (map {B = ℕ × SampleSpec} (λ x. (Stands.index x, Stream.spec (Stands.stream x))) xs) ≡ option_map Stream.spec (stream_at i xs)
-found i [] = refl
-found i (x ∷ xs) =
-    (λ k. cond (same_key i x.index k) (Some (Stream.spec x.stream)) (found i xs k)) ∙ sym (spec_cond (x.index == i) x.stream (stream_at i xs))
-
-specs_show : (xs : List Stands) (i : ℕ) → finite.get (specs_of xs) i ≡ option_map Stream.spec (stream_at i xs)
-specs_show xs i = finite.get-from_entries nat_cmp_total (map {B = ℕ × SampleSpec} (λ x. (Stands.index x, Stream.spec (Stands.stream x))) xs) i ∙ found i xs
 
 same_specs : (f : Stream → Stream) → ((s : Stream) → Stream.spec (f s) ≡ s.spec) → (xs : List Stands) → specs_of (map (with_stream f) xs) ≡ specs_of xs
 same_specs f e xs = ap finite.from_entries (go xs)
@@ -67,14 +53,10 @@ still spec mixed xs = record {
   inputs = xs;
 }
 
--- what messages leave at a sink, by the law of orderly messages
-abbrev pub TurnsLeave : Type 0
-TurnsLeave = (sink : Sink) (n : ℕ) (messages : List (Message Stream)) → inputs_left_by Stream.spec (specs_of sink.inputs) messages ≡ specs_of (turned s16_samples sink n messages).inputs
-
 -- the inputs that a message leaves are those after it
-leaves : TurnsLeave → (spec : SampleSpec) (mixed : ℕ) (m : Message Stream) (xs : List Stands) → inputs_left Stream.spec (specs_of xs) m ≡ specs_of (inputs_with mixed m xs)
-leaves law spec mixed m xs =
-    law (still spec mixed xs) 0 (m ∷ [])
+leaves : (spec : SampleSpec) (mixed : ℕ) (m : Message Stream) (xs : List Stands) → inputs_left Stream.spec (specs_of xs) m ≡ specs_of (inputs_with mixed m xs)
+leaves spec mixed m xs =
+    turn_leaves s16_samples (still spec mixed xs) 0 (m ∷ [])
     ∙ same_specs (asked_stream (0 + 0 + 0 - next_horizon (still spec mixed xs) 0)) (λ s. refl)
     (inputs_with (mixed - next_horizon (still spec mixed xs) 0) m (map (with_stream (λ s. after s (next_horizon (still spec mixed xs) 0 - 0))) xs))
     ∙ ap (λ (h : ℕ). specs_of (inputs_with (mixed - h) m (map (with_stream (λ s. after s (h - 0))) xs))) none
@@ -89,36 +71,44 @@ leaves law spec mixed m xs =
 
 -- ---- each message fits
 
-whole : (o : Option Stream) (w : FrameWrite) → MatchOption (option_map Stream.spec o) ⊤ (λ spec. IsWhole spec w) → AreWhole o w
+whole : (o : Option Stream) (w : FrameWrite) → MatchOption (option_map Stream.spec o) ⊤ (λ spec. IsWhole spec w) → SuitsAt o (StreamMessage.write w.seek w.offset w.frames w.bytes)
 whole None w h = tt
-whole (Some s) w h = h.whole_frames
+whole (Some s) w h = (h.seek_known, h.whole_frames)
 
-fits : (sink : SampleSpec) (m : Message Stream) (xs : List Stands) → Fits Stream.spec sink (specs_of xs) m → CanTake m xs
-fits sink (Message.new n) xs h = h.attr_repaired
-fits sink (Message.attach i parcel feed factors) xs h = tt
-fits sink (Message.detach i) xs h = tt
-fits sink (Message.write w) xs h =
+repaired : (o : Option Stream) (attr : Attr) → IsRepaired attr → SuitsAt o (StreamMessage.attr attr)
+repaired None attr h = tt
+repaired (Some s) attr h = h
+
+fits : (sink : SampleSpec) (m : Message Stream) (xs : List Stands) → Fits Stream.spec sink (specs_of xs) m → AreInputs (IsFed sink.channels) xs → CanTake m xs
+fits sink (Message.new n) xs h fed = tt
+fits sink (Message.attach i parcel feed factors) xs h fed = (h.feed_fits.channels, h.factors_fit ∙ sym h.feed_fits.places)
+fits sink (Message.detach i) xs h fed = tt
+fits sink (Message.write w) xs h fed =
     whole (stream_at w.input xs) w (subst (λ (o : Option SampleSpec). MatchOption o ⊤ (λ spec. IsWhole spec w)) (specs_show xs w.input) h)
-fits sink (Message.cork i on) xs h = tt
-fits sink (Message.flush i) xs h = tt
-fits sink (Message.trigger i) xs h = tt
-fits sink (Message.prebuf i) xs h = tt
-fits sink (Message.drain i tag) xs h = tt
-fits sink (Message.attr i attr) xs h = h
-fits sink (Message.factors each) xs h = tt
-fits sink (Message.query i tag) xs h = tt
+fits sink (Message.cork i on) xs h fed = tt
+fits sink (Message.flush i) xs h fed = tt
+fits sink (Message.trigger i) xs h fed = tt
+fits sink (Message.prebuf i) xs h fed = tt
+fits sink (Message.drain i tag) xs h fed = tt
+fits sink (Message.attr i attr) xs h fed = repaired (stream_at i xs) attr h
+fits sink (Message.factors each) xs h fed = record { channels = sink.channels; fed = fed.streams; factors = h }
+fits sink (Message.query i tag) xs h fed = tt
 
-taken : TurnsLeave → (sink : SampleSpec) (mixed : ℕ) (ms : List (Message Stream)) (xs : List Stands) → IsOrderly Stream.spec sink (specs_of xs) ms → CanTakeAll mixed ms xs
-taken law sink mixed [] xs h = tt
-taken law sink mixed (m ∷ ms) xs h =
-    (fits sink m xs h.1, taken law sink mixed ms (inputs_with mixed m xs) (subst (λ (there : Inputs). IsOrderly Stream.spec sink there ms) (leaves law sink mixed m xs) h.2))
+taken : (sink : SampleSpec) (mixed : ℕ) (ms : List (Message Stream)) (xs : List Stands) → IsOrderly Stream.spec sink (specs_of xs) ms → AreInputs (IsFed sink.channels) xs → CanTakeAll mixed ms xs
+taken sink mixed [] xs h fed = tt
+taken sink mixed (m ∷ ms) xs h fed = (
+  fits sink m xs h.1 fed,
+  taken sink mixed ms (inputs_with mixed m xs) (subst (λ (there : Inputs). IsOrderly Stream.spec sink there ms) (leaves sink mixed m xs) h.2) (message_fed sink (specs_of xs) mixed m xs h.1 fed),
+)
 
-pub orderly_taken : TurnsLeave → (sink : SampleSpec) (k mixed : ℕ) (ms : List (Message Stream)) (xs : List Stands) → IsOrderly Stream.spec sink (specs_of xs) ms → CanTakeAll mixed ms (map (with_stream (λ s. after s k)) xs)
-orderly_taken law sink k mixed ms xs h =
-    taken law sink mixed ms (map (with_stream (λ s. after s k)) xs) (subst (λ (there : Inputs). IsOrderly Stream.spec sink there ms) (sym (forward_specs k xs)) h)
+pub orderly_taken : (sink : SampleSpec) (k mixed : ℕ) (ms : List (Message Stream)) (xs : List Stands) → IsRising xs → AllByRecursion (λ x. IsStreamOf sink (Stands.stream x)) xs
+    → IsOrderly Stream.spec sink (specs_of xs) ms → CanTakeAll mixed ms (map (with_stream (λ s. after s k)) xs)
+orderly_taken sink k mixed ms xs rising streams h =
+    taken sink mixed ms (map (with_stream (λ s. after s k)) xs) (subst (λ (there : Inputs). IsOrderly Stream.spec sink there ms) (sym (forward_specs k xs)) h)
+    (each_keeps (IsFed sink.channels) (λ s. after s k) (after_fed sink.channels k) xs (record { rising = rising; streams = fed_of sink xs streams }))
 
-opens : (sink : SampleSpec) (there : Inputs) (m : Message Stream) → Fits Stream.spec sink there m → OpensRepaired m
-opens sink there (Message.new n) h = h.attr_repaired
+opens : (sink : SampleSpec) (there : Inputs) (m : Message Stream) → Fits Stream.spec sink there m → Opens m
+opens sink there (Message.new n) h = (sink, h)
 opens sink there (Message.attach i parcel feed factors) h = tt
 opens sink there (Message.detach i) h = tt
 opens sink there (Message.write w) h = tt
@@ -131,6 +121,6 @@ opens sink there (Message.attr i attr) h = tt
 opens sink there (Message.factors each) h = tt
 opens sink there (Message.query i tag) h = tt
 
-pub orderly_opens : (sink : SampleSpec) (there : Inputs) (ms : List (Message Stream)) → IsOrderly Stream.spec sink there ms → AllByRecursion OpensRepaired ms
+pub orderly_opens : (sink : SampleSpec) (there : Inputs) (ms : List (Message Stream)) → IsOrderly Stream.spec sink there ms → AllByRecursion Opens ms
 orderly_opens sink there [] h = tt
 orderly_opens sink there (m ∷ ms) h = (opens sink there m h.1, orderly_opens sink (inputs_left Stream.spec there m) ms h.2)

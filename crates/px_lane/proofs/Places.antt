@@ -1,14 +1,14 @@
 -- Inputs of rising index with the one of an index changed, left out or put in.
-use Rattle.std.proofs.Common.{◌≡◌, ℕ, zero, suc, ◌+◌, ◌<◌, ◌≤◌, List, [], ◌∷◌, length, Bool, false, Some, None, refl, ap, sym, ◌∙◌, subst, arith, cond}
+use Rattle.std.proofs.Common.{◌≡◌, ℕ, zero, suc, ◌+◌, ◌<◌, ◌≤◌, List, [], ◌∷◌, length, Bool, true, false, Some, None, refl, ap, sym, ◌∙◌, subst, arith, cond}
 use Rattle.std.specs.Prelude.{nat_lt, ◌==◌, not, slice_set, slice_index_or, insert, remove}
 use Rattle.std.specs.List.{AllByRecursion}
 use Rattle.std.proofs.lemmas.Bool.{cond-true, cond-false, eq-eqb, ne_eqb, lt-ltb, le-ltb}
 use Rattle.px_model.specs.Stream.{Stream}
 use Rattle.px_model.specs.Sink.{Input as Stands, AllAbove, IsRising, stream_at, with_input, without_input, with_stream, with_change}
 use Rattle.px_lane.specs.declared.input.Input.{Input}
-use Rattle.px_lane.specs.declared.change.Change.{Change}
-use Rattle.px_lane.specs.declared.change.Change.TheVariants.{Write, Cork, Flush, Trigger, Prebuf, Drain, Attr, Factors}
-use Rattle.px_lane.specs.Changes.{cost_of}
+use Rattle.px_model.specs.Message.{StreamMessage}
+use Rattle.px_stream.specs.Messages.{room_for, answer_for}
+use Rattle.px_lane.specs.Taking.{is_overflow}
 use Rattle.px_lane.specs.Inputs.{input_of, inputs_of, HasRoom}
 use Rattle.px_lane.specs.Places.{AreBelow, IsAt, IsGap}
 
@@ -176,12 +176,19 @@ all_remove r (suc k) [] h = tt
 all_remove r zero (x ∷ items) h = h.1
 all_remove r (suc k) (x ∷ items) h = (h.0, all_remove r k items h.1)
 
-pub cost_small : (change : Change) → cost_of change ≤ 1
-cost_small (Write seek offset frames bytes) = omega arith
-cost_small (Cork on) = omega arith
-cost_small Flush = omega arith
-cost_small Trigger = omega arith
-cost_small Prebuf = omega arith
-cost_small (Drain tag) = omega arith
-cost_small (Attr attr) = omega arith
-cost_small (Factors factors) = omega arith
+pub room_small : (m : StreamMessage) → room_for m ≤ 1
+room_small (StreamMessage.attach feed factors) = omega arith
+room_small (StreamMessage.write seek offset frames bytes) = omega arith
+room_small (StreamMessage.cork on) = omega arith
+room_small StreamMessage.flush = omega arith
+room_small StreamMessage.trigger = omega arith
+room_small StreamMessage.prebuf = omega arith
+room_small (StreamMessage.drain tag) = omega arith
+room_small (StreamMessage.attr attr) = omega arith
+room_small (StreamMessage.factors factors) = omega arith
+room_small (StreamMessage.query tag) = omega arith
+
+-- the answer of a stream tells whether there is an Overflow
+pub told_is : (told : Bool) → is_overflow (answer_for told) ≡ told
+told_is true = refl
+told_is false = refl

@@ -1,58 +1,46 @@
 -- Messages with all the memory that they take.
 use Rattle.std.proofs.Common.{◌≡◌, ℕ, List, [], ◌∷◌, ◌++◌, length, take, drop, ◌+◌, ◌≤◌, arith, length-append, Option, Some, None, refl, ap, sym, ◌∙◌, subst}
 use Rattle.std.specs.Prelude.{ℤ}
-use Rattle.std.specs.Global.{Vec}
 use Rattle.std.proofs.Math.Seq.{drop-append_seam}
 use Rattle.px_types.specs.declared.ids.InputId.{InputId}
 use Rattle.px_model.specs.Stream.{Stream}
-use Rattle.px_model.specs.Message.{Message, FrameWrite}
+use Rattle.px_model.specs.Message.{Message, StreamMessage}
 use Rattle.px_model.specs.Notice.{Notice}
 use Rattle.px_model.specs.Sink.{Input as Stands, stream_at}
 use Rattle.px_model.specs.Write.{Outcome, stored, overflow, outside}
-use Rattle.px_model.specs.Applied.{write_outcome}
+use Rattle.px_model.specs.Applied.{write_outcome, is_told}
 use Rattle.px_model.specs.Turn.{refusal_of, notices_from, inputs_with, message_notices, all_message_notices}
-use Rattle.px_lane.specs.declared.change.Change.TheVariants.{Write}
+use Rattle.px_stream.specs.declared.message.StreamMsg.TheVariants.{Write}
 use Rattle.px_lane.specs.declared.ready.Ready.TheVariants.{Change as Changes}
-use Rattle.px_lane.specs.Changes.{is_refused, refused_at, SuitsAt, overflow_if}
 use Rattle.px_lane.specs.declared.ready.Ready.{Ready}
-use Rattle.px_lane.specs.Taking.{AreWhole, IsReadyFor, ready_notices}
+use Rattle.px_lane.specs.Taking.{IsReadyFor, ready_notices, overflows_at, overflow_if}
 
-refusal : (i : ℕ) (o : Outcome) → overflow_if i (is_refused o) ≡ refusal_of i o
+refusal : (i : ℕ) (o : Outcome) → overflow_if i (is_told o) ≡ refusal_of i o
 refusal i stored = refl
 refusal i overflow = refl
 refusal i outside = refl
 
-module _ (input : InputId) (seek : ℕ) (offset : ℤ) (frames : ℕ) (bytes : Vec ℕ) where
-  brings : FrameWrite
-  brings = record { input = input.0; seek = seek; offset = offset; frames = frames; bytes = bytes.items }
-
-  write_notices : (mixed : ℕ) (o : Option Stream) → overflow_if input.0 (refused_at o (Write seek offset frames bytes) mixed) ≡ notices_from o (λ s. refusal_of input.0 (write_outcome s seek offset frames bytes.items mixed))
+module _ (input : InputId) (seek : ℕ) (offset : ℤ) (frames : ℕ) (bytes : List ℕ) where
+  write_notices : (mixed : ℕ) (o : Option Stream) → overflow_if input.0 (overflows_at mixed (StreamMessage.write seek offset frames bytes) o) ≡ notices_from o (λ s. refusal_of input.0 (write_outcome s seek offset frames bytes mixed))
   write_notices mixed None = refl
-  write_notices mixed (Some s) = refusal input.0 (write_outcome s seek offset frames bytes.items mixed)
+  write_notices mixed (Some s) = refusal input.0 (write_outcome s seek offset frames bytes mixed)
 
-  write_suits : (o : Option Stream) → AreWhole o (record { input = input.0; seek = seek; offset = offset; frames = frames; bytes = bytes.items }) → SuitsAt o (Write seek offset frames bytes)
-  write_suits None h = tt
-  write_suits (Some s) h = h
-
-  write_same : IsReadyFor (Changes input (Write seek offset frames bytes)) (Message.write (record { input = input.0; seek = seek; offset = offset; frames = frames; bytes = bytes.items }))
+  write_same : IsReadyFor (Changes input (Write seek offset frames bytes)) (Message.write (record { input = input.0; seek = seek; offset = offset; frames = frames; bytes = bytes }))
   write_same = record {
     inputs = λ mixed xs. refl;
     notices = λ mixed buffered xs. write_notices mixed (stream_at input.0 xs);
-    suits = λ xs h. write_suits (stream_at input.0 xs) h;
+    suits = λ xs h. h;
   }
 
-pub write_ready : (input : InputId) (seek : ℕ) (offset place : ℤ) (frames : ℕ) (bytes : Vec ℕ) (all : List ℕ) → place ≡ offset → bytes.items ≡ all
-    → IsReadyFor (Changes input (Write seek place frames bytes)) (Message.write (record { input = input.0; seek = seek; offset = offset; frames = frames; bytes = all }))
-write_ready input seek offset place frames bytes all e same =
-    subst (λ (p : ℤ × List ℕ). IsReadyFor (Changes input (Write seek place frames bytes)) (Message.write (record { input = input.0; seek = seek; offset = p.0; frames = frames; bytes = p.1 })))
-    (λ k. (e k, same k)) (write_same input seek place frames bytes)
+pub write_ready : (input : InputId) (seek : ℕ) (offset place : ℤ) (frames : ℕ) (bytes : List ℕ) → place ≡ offset
+    → IsReadyFor (Changes input (Write seek place frames bytes)) (Message.write (record { input = input.0; seek = seek; offset = offset; frames = frames; bytes = bytes }))
+write_ready input seek offset place frames bytes e =
+    subst (λ (p : ℤ). IsReadyFor (Changes input (Write seek place frames bytes)) (Message.write (record { input = input.0; seek = seek; offset = p; frames = frames; bytes = bytes })))
+    e (write_same input seek place frames bytes)
 
 -- what is left of a list that begins with what a message takes
 pub left_over : {X : Type 0} (all here rest taken : List X) → all ≡ here ++ rest → taken ≡ drop (length here) all → taken ≡ rest
 left_over all here rest taken e t = t ∙ ap (drop (length here)) e ∙ drop-append_seam here rest
-
-pub first_is : {X : Type 0} (all : List X) (x y : X) (rest : List X) → all ≡ x ∷ rest → take 1 all ≡ y ∷ [] → x ≡ y
-first_is all x y rest e f = let h : x ∷ [] ≡ y ∷ [] = sym (ap (take 1) e) ∙ f in cc
 
 -- ---- each in order
 

@@ -1,15 +1,11 @@
-pub mod Written
-pub mod Outcomes
 pub mod Room
-pub mod Streams
-pub mod Heard
-pub mod Samples
+pub mod Sums
 pub mod Inputs
 pub mod Lists
 pub mod Whole
 pub mod Mixing
-pub mod Changes
 pub mod Places
+pub mod Asked
 pub mod Taking
 pub mod Needed
 pub mod Lane

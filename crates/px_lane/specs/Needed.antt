@@ -1,9 +1,11 @@
 -- How many notices a turn gives at the most.
 use Rattle.std.specs.Prelude.{ℕ, ◌+◌, List, length, ⊤}
 use Rattle.std.specs.List.{sum_by}
+use Rattle.px_block.specs.Given.{blocks_for}
 use Rattle.px_model.specs.Stream.{Stream}
 use Rattle.px_model.specs.Message.{Message}
-use Rattle.px_model.specs.Orderly.{IsRepaired}
+use Rattle.px_model.specs.Frame.{SampleSpec}
+use Rattle.px_model.specs.Orderly.{IsNewStream}
 use Rattle.px_model.specs.Sink.{Input}
 
 -- of an input: that it starts and that it runs out, the answers to its drains, and a request
@@ -28,17 +30,32 @@ needed_by (Message.query i tag) = 1
 abbrev pub needed : List Input → List (Message Stream) → ℕ
 needed inputs messages = sum_by needed_by_input inputs + sum_by needed_by messages
 
--- a new stream has repaired attributes
-abbrev pub OpensRepaired : Message Stream → Type 0
-OpensRepaired (Message.new n) = IsRepaired n.attr
-OpensRepaired (Message.attach i parcel feed factors) = ⊤
-OpensRepaired (Message.detach i) = ⊤
-OpensRepaired (Message.write w) = ⊤
-OpensRepaired (Message.cork i on) = ⊤
-OpensRepaired (Message.flush i) = ⊤
-OpensRepaired (Message.trigger i) = ⊤
-OpensRepaired (Message.prebuf i) = ⊤
-OpensRepaired (Message.drain i tag) = ⊤
-OpensRepaired (Message.attr i attr) = ⊤
-OpensRepaired (Message.factors each) = ⊤
-OpensRepaired (Message.query i tag) = ⊤
+-- the blocks that a message brings
+abbrev pub blocks_of : Message Stream → ℕ
+blocks_of (Message.new n) = 0
+blocks_of (Message.attach i parcel feed factors) = 0
+blocks_of (Message.detach i) = 0
+blocks_of (Message.write w) = blocks_for (length w.bytes)
+blocks_of (Message.cork i on) = 0
+blocks_of (Message.flush i) = 0
+blocks_of (Message.trigger i) = 0
+blocks_of (Message.prebuf i) = 0
+blocks_of (Message.drain i tag) = 0
+blocks_of (Message.attr i attr) = 0
+blocks_of (Message.factors each) = 0
+blocks_of (Message.query i tag) = 0
+
+-- a new stream fits a sink
+abbrev pub Opens : Message Stream → Type 0
+Opens (Message.new n) = (sink : SampleSpec) × IsNewStream sink n
+Opens (Message.attach i parcel feed factors) = ⊤
+Opens (Message.detach i) = ⊤
+Opens (Message.write w) = ⊤
+Opens (Message.cork i on) = ⊤
+Opens (Message.flush i) = ⊤
+Opens (Message.trigger i) = ⊤
+Opens (Message.prebuf i) = ⊤
+Opens (Message.drain i tag) = ⊤
+Opens (Message.attr i attr) = ⊤
+Opens (Message.factors each) = ⊤
+Opens (Message.query i tag) = ⊤

@@ -1,41 +1,53 @@
 -- Messages that a sink can take, what each needs before the turn, and what it is to the inputs once that is there.
-use Rattle.std.specs.Prelude.{◌≡◌, ℕ, ◌*◌, ◌≤◌, List, [], ◌∷◌, map, length, Option, Some, None, ⊤}
-use Rattle.px_model.specs.Frame.{frame_size}
+use Rattle.std.specs.Prelude.{◌≡◌, ℕ, ◌≤◌, Bool, true, false, if◌then◌else◌, List, [], ◌∷◌, map, length, Option, Some, None, ⊤}
+use Rattle.std.specs.List.{AllByRecursion}
 use Rattle.px_model.specs.Stream.{Stream}
 use Rattle.px_model.specs.Control.{new_stream}
-use Rattle.px_model.specs.Message.{Message, FrameWrite}
+use Rattle.px_model.specs.Message.{Message, StreamMessage, InputFactors}
 use Rattle.px_model.specs.Notice.{Notice}
-use Rattle.px_model.specs.Orderly.{IsRepaired}
 use Rattle.px_model.specs.Sink.{Input, stream_at, with_input, without_input, with_change}
+use Rattle.px_model.specs.Applied.{applied, overflows}
 use Rattle.px_model.specs.Turn.{inputs_with, message_notices, with_each_factors, notices_from, latency_of}
 use Rattle.px_msg.specs.View.{gains}
 use Rattle.px_msg.specs.declared.message.Msg.{Msg}
 use Rattle.px_msg.specs.declared.message.Msg.TheVariants.{New, Attach, Detach, Write, Cork, Flush, Trigger, Prebuf, Drain, Attr, Factors, Query}
-use Rattle.px_lane.specs.Room.{RoomyStream}
-use Rattle.px_lane.specs.Changes.{changed_by, refused_at, SuitsAt, overflow_if}
+use Rattle.px_stream.specs.Kept.{KeptStream}
+use Rattle.px_stream.specs.Messages.{message_of, Suits}
+use Rattle.px_stream.specs.declared.message.Applied.{Applied}
+use Rattle.px_stream.specs.declared.message.Applied.TheVariants.{Quiet, Overflow}
 use Rattle.px_lane.specs.declared.ready.Ready.{Ready}
-use Rattle.px_lane.specs.declared.ready.Ready.TheVariants.{Insert, Remove, Change, Each, Answer}
+use Rattle.px_lane.specs.declared.ready.Ready.TheVariants.{Insert, Join, Remove, Change, Each, Answer}
 
 -- ---- messages
 
--- the bytes are whole frames of the stream, if that is there
-abbrev pub AreWhole : Option Stream → FrameWrite → Type 0
-AreWhole None w = ⊤
-AreWhole (Some s) w = length w.bytes ≡ w.frames * frame_size s.spec
+-- a message fits the stream of an input, if that is there
+abbrev pub SuitsAt : Option Stream → StreamMessage → Type 0
+SuitsAt None m = ⊤
+SuitsAt (Some s) m = Suits s m
 
--- the attributes that it brings are repaired, and its bytes are whole frames
+-- the streams of the inputs are fed into so many channels
+abbrev pub AreFed : ℕ → List Input → Type 0
+AreFed channels inputs = AllByRecursion (λ x. length (Stream.feed (Input.stream x)) ≡ channels) inputs
+
+-- each input is fed into as many channels as it gets factors
+pub record FactorsFit (each : List InputFactors) (inputs : List Input) : Type 0 where
+  pub channels : ℕ
+  pub fed : AreFed channels inputs
+  pub factors : AllByRecursion (λ f. length (InputFactors.factors f) ≡ channels) each
+
+-- what it brings fits the stream that it names, or that comes by it
 abbrev pub CanTake : Message Stream → List Input → Type 0
-CanTake (Message.new n) inputs = IsRepaired n.attr
-CanTake (Message.attach i parcel feed factors) inputs = ⊤
+CanTake (Message.new n) inputs = ⊤
+CanTake (Message.attach i parcel feed factors) inputs = Suits parcel (StreamMessage.attach feed factors)
 CanTake (Message.detach i) inputs = ⊤
-CanTake (Message.write w) inputs = AreWhole (stream_at w.input inputs) w
+CanTake (Message.write w) inputs = SuitsAt (stream_at w.input inputs) (StreamMessage.write w.seek w.offset w.frames w.bytes)
 CanTake (Message.cork i on) inputs = ⊤
 CanTake (Message.flush i) inputs = ⊤
 CanTake (Message.trigger i) inputs = ⊤
 CanTake (Message.prebuf i) inputs = ⊤
 CanTake (Message.drain i tag) inputs = ⊤
-CanTake (Message.attr i attr) inputs = IsRepaired attr
-CanTake (Message.factors each) inputs = ⊤
+CanTake (Message.attr i attr) inputs = SuitsAt (stream_at i inputs) (StreamMessage.attr attr)
+CanTake (Message.factors each) inputs = FactorsFit each inputs
 CanTake (Message.query i tag) inputs = ⊤
 
 -- each in order, where so many frames are mixed ahead
@@ -43,21 +55,7 @@ abbrev pub CanTakeAll : ℕ → List (Message Stream) → List Input → Type 0
 CanTakeAll mixed [] inputs = ⊤
 CanTakeAll mixed (m ∷ messages) inputs = CanTake m inputs × CanTakeAll mixed messages (inputs_with mixed m inputs)
 
--- the bytes that are to be copied, and the stream that is to be made
-abbrev pub bytes_of : Message Stream → List (List ℕ)
-bytes_of (Message.new n) = []
-bytes_of (Message.attach i parcel feed factors) = []
-bytes_of (Message.detach i) = []
-bytes_of (Message.write w) = w.bytes ∷ []
-bytes_of (Message.cork i on) = []
-bytes_of (Message.flush i) = []
-bytes_of (Message.trigger i) = []
-bytes_of (Message.prebuf i) = []
-bytes_of (Message.drain i tag) = []
-bytes_of (Message.attr i attr) = []
-bytes_of (Message.factors each) = []
-bytes_of (Message.query i tag) = []
-
+-- the stream that is to be made
 abbrev pub streams_of : Message Stream → List Stream
 streams_of (Message.new n) = new_stream n.spec n.feed n.factors n.attr n.corked ∷ []
 streams_of (Message.attach i parcel feed factors) = []
@@ -74,11 +72,11 @@ streams_of (Message.query i tag) = []
 
 -- ---- room
 
-abbrev pub IsRoomy : ℕ → RoomyStream → Type 0
+abbrev pub IsRoomy : ℕ → KeptStream → Type 0
 IsRoomy room s = room ≤ s.room
 
 -- a parcel that comes has it
-abbrev pub BringsRoom : ℕ → Msg RoomyStream → Type 0
+abbrev pub BringsRoom : ℕ → Msg KeptStream → Type 0
 BringsRoom room (New n) = ⊤
 BringsRoom room (Attach input parcel feed factors) = IsRoomy room parcel
 BringsRoom room (Detach input) = ⊤
@@ -94,8 +92,23 @@ BringsRoom room (Query input tag) = ⊤
 
 -- ---- messages with all that they need
 
+-- whether it gives an Overflow of the stream of an input, if that is there
+abbrev pub overflows_at : ℕ → StreamMessage → Option Stream → Bool
+overflows_at mixed m None = false
+overflows_at mixed m (Some s) = overflows mixed m s
+
+-- an answer of that
+abbrev pub is_overflow : Applied → Bool
+is_overflow Quiet = false
+is_overflow Overflow = true
+
+-- what is told of input i: frames that aren't held
+abbrev pub overflow_if : ℕ → Bool → List (Notice Stream)
+overflow_if i told = if told then Notice.overflow i ∷ [] else []
+
 abbrev pub HasRoomLeft : ℕ → Ready → Type 0
 HasRoomLeft room (Insert input stream) = IsRoomy room stream
+HasRoomLeft room (Join input parcel feed factors) = IsRoomy room parcel
 HasRoomLeft room (Remove input) = ⊤
 HasRoomLeft room (Change input change) = ⊤
 HasRoomLeft room (Each list) = ⊤
@@ -103,23 +116,26 @@ HasRoomLeft room (Answer input tag) = ⊤
 
 abbrev pub ready_inputs : ℕ → Ready → List Input → List Input
 ready_inputs mixed (Insert input stream) inputs = with_input input.0 stream.stream inputs
+ready_inputs mixed (Join input parcel feed factors) inputs = with_input input.0 (applied mixed (StreamMessage.attach feed factors) parcel.stream) inputs
 ready_inputs mixed (Remove input) inputs = without_input input.0 inputs
-ready_inputs mixed (Change input change) inputs = with_change input.0 (changed_by change mixed) inputs
+ready_inputs mixed (Change input change) inputs = with_change input.0 (applied mixed (message_of change)) inputs
 ready_inputs mixed (Each list) inputs = with_each_factors (map gains list) inputs
 ready_inputs mixed (Answer input tag) inputs = inputs
 
 abbrev pub ready_notices : ℕ → ℕ → Ready → List Input → List (Notice Stream)
 ready_notices mixed buffered (Insert input stream) inputs = []
+ready_notices mixed buffered (Join input parcel feed factors) inputs = []
 ready_notices mixed buffered (Remove input) inputs = notices_from (stream_at input.0 inputs) (λ s. Notice.detached input.0 s ∷ [])
-ready_notices mixed buffered (Change input change) inputs = overflow_if input.0 (refused_at (stream_at input.0 inputs) change mixed)
+ready_notices mixed buffered (Change input change) inputs = overflow_if input.0 (overflows_at mixed (message_of change) (stream_at input.0 inputs))
 ready_notices mixed buffered (Each list) inputs = []
 ready_notices mixed buffered (Answer input tag) inputs = notices_from (stream_at input.0 inputs) (λ s. Notice.latency input.0 tag (latency_of mixed buffered s) ∷ [])
 
 abbrev pub ReadySuits : Ready → List Input → Type 0
 ReadySuits (Insert input stream) inputs = ⊤
+ReadySuits (Join input parcel feed factors) inputs = Suits parcel.stream (StreamMessage.attach feed factors)
 ReadySuits (Remove input) inputs = ⊤
-ReadySuits (Change input change) inputs = SuitsAt (stream_at input.0 inputs) change
-ReadySuits (Each list) inputs = ⊤
+ReadySuits (Change input change) inputs = SuitsAt (stream_at input.0 inputs) (message_of change)
+ReadySuits (Each list) inputs = FactorsFit (map gains list) inputs
 ReadySuits (Answer input tag) inputs = ⊤
 
 -- it is to every sink what the message is

@@ -6,7 +6,7 @@ use Rattle.px_model.specs.Stream.{Stream}
 use Rattle.px_model.specs.Message.{Message}
 use Rattle.px_model.specs.Notice.{Notice}
 use Rattle.px_model.specs.Turn.{turned, turn_notices, stopped_turn, stopped_notices, played_by}
-use Rattle.px_lane.specs.Samples.{samples}
+use Rattle.px_stream.specs.Samples.{samples}
 use Rattle.px_lane.specs.Lane.{Mixer, IsAttached, StopsOver, played_more}
 use Rattle.px_lane.specs.declared.lane.Turned.{Turned}
 use Rattle.px_lane.specs.declared.lane.Turned.TheVariants.{Played, Stopped}

@@ -3,15 +3,22 @@ ghost use Rattle.std.specs.Prelude.{ℕ, ◌≡◌, ◌≤◌, ◌<◌, ◌+◌,
 ghost use Rattle.std.specs.List.{AllByRecursion};
 ghost use Rattle.px_model.specs.Message.{Message};
 ghost use Rattle.px_model.specs.Sink.{IsRising, stream_at, with_change, with_input, without_input};
-ghost use Rattle.px_model.specs.Turn.{with_each_factors, message_notices};
+ghost use Rattle.px_model.specs.Notice.{Notice as Told};
+ghost use Rattle.px_model.specs.Turn.{with_each_factors, message_notices, latency_of, is_playing};
 ghost use Rattle.px_msg.specs.View.{gains};
-ghost use Rattle.px_lane.specs.Changes.{changed_by, cost_of, refused_at, SuitsAt};
+ghost use Rattle.px_model.specs.Applied.{applied};
+ghost use Rattle.px_stream.specs.Messages.{message_of, room_for};
+ghost use Rattle.px_lane.specs.Taking.{FactorsFit, SuitsAt, is_overflow, overflows_at};
 ghost use Rattle.px_lane.specs.Inputs.{inputs_of, HasRoom};
+ghost use Rattle.px_lane.specs.Lists.{plain_notice};
 ghost use Rattle.px_lane.specs.Places.{AreBelow, IsAt, IsGap};
 ghost use Rattle.px_lane.specs.declared.input.Input.{Input as DeclaredInput};
 
-use crate::{Change, Input, NoticeList, Stream};
-use px_msg::InputFactors;
+use crate::NoticeList;
+use crate::input::Input;
+use px_block::BlockSource;
+use px_msg::{InputFactors, Notice, Run};
+use px_stream::{Applied, Stream, StreamMsg};
 use px_types::InputId;
 
 // How many of the first indices lie below this one.
@@ -28,7 +35,7 @@ fn place(inputs: &[Input], index: InputId) -> usize
 }
 
 /// The place of this index, or else the one where it belongs.
-pub fn find(inputs: &[Input], index: InputId) -> Result<usize, usize>
+pub(crate) fn find(inputs: &[Input], index: InputId) -> Result<usize, usize>
     requires { IsRising (inputs_of inputs.now) }
     ensures ok { IfOk result (λ place. IsAt index.0 place inputs.now) }
     ensures err { IfErr result (λ place. IsGap index.0 place inputs.now) }
@@ -45,37 +52,52 @@ pub fn find(inputs: &[Input], index: InputId) -> Result<usize, usize>
     Err(place)
 }
 
-/// Changes the stream of this index, if it is there, and answers whether frames were written that aren't held.
-pub fn change_at(inputs: &mut [Input], index: InputId, change: Change, mixed: u64) -> bool
+/// Applies a message to the stream of this index, if it is there, where so many frames are mixed past its read index, and answers
+/// whether frames were written that aren't held.
+pub(crate) fn change_at<B: BlockSource>(
+    inputs: &mut [Input],
+    index: InputId,
+    change: StreamMsg,
+    mixed: u64,
+    blocks: &mut B,
+) -> bool
     requires rising { IsRising (inputs_of inputs.old) }
-    requires room { AllByRecursion (HasRoom (cost_of change)) inputs.old }
-    requires suits { SuitsAt (stream_at index.0 (inputs_of inputs.old)) change }
-    ensures inputs { inputs_of inputs.new ≡ with_change index.0 (changed_by change mixed) (inputs_of inputs.old) }
-    ensures refused { result ≡ refused_at (stream_at index.0 (inputs_of inputs.old)) change mixed }
-    ensures room { (room : ℕ) → AllByRecursion (HasRoom (room + cost_of change)) inputs.old → AllByRecursion (HasRoom room) inputs.new }
+    requires room { AllByRecursion (HasRoom (room_for (message_of change))) inputs.old }
+    requires suits { SuitsAt (stream_at index.0 (inputs_of inputs.old)) (message_of change) }
+    ensures inputs { inputs_of inputs.new ≡ with_change index.0 (applied mixed (message_of change)) (inputs_of inputs.old) }
+    ensures overflows { result ≡ overflows_at mixed (message_of change) (stream_at index.0 (inputs_of inputs.old)) }
+    ensures room { (room : ℕ) → AllByRecursion (HasRoom (room + room_for (message_of change))) inputs.old → AllByRecursion (HasRoom room) inputs.new }
 {
     match find(inputs, index) {
         Err(_) => false,
         Ok(place) => {
             let input = &mut inputs[place];
-            input.stream.change(change, mixed)
+            is_overflow(input.stream.apply(change, mixed, blocks))
         }
     }
 }
 
+fn is_overflow(applied: Applied) -> bool
+    ensures { result ≡ is_overflow applied }
+{
+    matches!(applied, Applied::Overflow)
+}
+
 /// Replaces the factors of each of these inputs that is there.
-pub fn set_each(inputs: &mut [Input], each: &[InputFactors])
-    requires { IsRising (inputs_of inputs.old) }
+pub(crate) fn set_each<B: BlockSource>(inputs: &mut [Input], each: &[InputFactors], blocks: &mut B)
+    requires rising { IsRising (inputs_of inputs.old) }
+    requires fit { FactorsFit (map gains each.now) (inputs_of inputs.old) }
     ensures inputs { inputs_of inputs.new ≡ with_each_factors (map gains each.now) (inputs_of inputs.old) }
     ensures room { (room : ℕ) → AllByRecursion (HasRoom room) inputs.old → AllByRecursion (HasRoom room) inputs.new }
 {
     for f in each {
-        change_at(inputs, f.input, Change::Factors(f.factors), 0);
+        let factors = StreamMsg::Factors { factors: f.factors };
+        change_at(inputs, f.input, factors, 0, blocks);
     }
 }
 
 /// Puts an input at its place, or in the place of one with its index. There is room for it.
-pub fn open_at(items: &mut Vec<Input>, input: Input)
+pub(crate) fn open_at(items: &mut Vec<Input>, input: Input)
     requires rising { IsRising (inputs_of items.old.items) }
     requires free { vec_len items.old < vec_capacity items.old }
     ensures inputs { inputs_of items.new.items ≡ with_input input.index.0 input.stream.stream (inputs_of items.old.items) }
@@ -90,7 +112,7 @@ pub fn open_at(items: &mut Vec<Input>, input: Input)
 }
 
 /// Takes the input of this index out, if it is there.
-pub fn close_at(items: &mut Vec<Input>, index: InputId) -> Option<Stream>
+pub(crate) fn close_at(items: &mut Vec<Input>, index: InputId) -> Option<Stream>
     requires { IsRising (inputs_of items.old.items) }
     ensures stream { MatchOption result (stream_at index.0 (inputs_of items.old.items) ≡ None) (λ s. stream_at index.0 (inputs_of items.old.items) ≡ Some s.stream) }
     ensures inputs { inputs_of items.new.items ≡ without_input index.0 (inputs_of items.old.items) }
@@ -108,7 +130,7 @@ pub fn close_at(items: &mut Vec<Input>, index: InputId) -> Option<Stream>
 }
 
 /// Tells where the stream of this index stands, if it is there.
-pub fn answer_at(
+pub(crate) fn answer_at(
     inputs: &[Input],
     index: InputId,
     tag: u32,
@@ -123,6 +145,28 @@ pub fn answer_at(
 {
     match find(inputs, index) {
         Err(_) => {}
-        Ok(place) => out.push(inputs[place].stream.latency(index, tag, mixed, buffered)),
+        Ok(place) => out.push(latency(&inputs[place].stream, index, tag, mixed, buffered)),
     }
+}
+
+// Where a stream stands, with so many frames mixed past the horizon and so many in the sink's buffer, as the answer to a tag.
+fn latency(stream: &Stream, input: InputId, tag: u32, mixed: u64, buffered: u32) -> Notice<Stream>
+    ensures { plain_notice result ≡ Told.latency input.0 tag (latency_of mixed buffered stream.now.stream) }
+{
+    let ahead = stream.ahead(mixed);
+    Notice::Latency {
+        input,
+        tag,
+        write: stream.write_index(),
+        read: ahead.read,
+        buffered,
+        playing: !stream.corked() && is_playing(ahead.run),
+        run: ahead.run,
+    }
+}
+
+fn is_playing(run: Run) -> bool
+    ensures { result ≡ is_playing run }
+{
+    matches!(run, Run::Playing(_))
 }

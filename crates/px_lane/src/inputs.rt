@@ -2,27 +2,32 @@
 ghost use Rattle.std.specs.Prelude.{ℕ, ◌≡◌, ◌≤◌, ◌+◌, ◌++◌, [], length, map, flat_map, MatchOption, None, Some, OnOk};
 ghost use Rattle.std.specs.List.{AllByRecursion};
 ghost use Rattle.px_model.specs.Going.{after};
-ghost use Rattle.px_model.specs.Notice.{Notice as Told};
 ghost use Rattle.px_model.specs.Sink.{stream_at, with_input, without_input, with_change, with_stream};
 ghost use Rattle.px_model.specs.Message.{Message};
 ghost use Rattle.px_msg.specs.View.{gains};
-ghost use Rattle.px_lane.specs.Changes.{changed_by, refused_at, SuitsAt};
+ghost use Rattle.px_model.specs.Applied.{applied};
 ghost use Rattle.px_model.specs.Turn.{going_notices, asked_stream, asked_notices, with_each_factors, message_notices};
+ghost use Rattle.px_stream.specs.Messages.{message_of};
 ghost use Rattle.px_lane.specs.Inputs.{input_of, inputs_of, HasRoom};
+ghost use Rattle.px_lane.specs.Asked.{drained, drained_notices};
+ghost use Rattle.px_lane.specs.Taking.{FactorsFit, SuitsAt, overflows_at};
 
+use crate::NoticeList;
 use crate::finding::{answer_at, change_at, close_at, open_at, set_each};
+use crate::input::Input;
 use crate::memory::reserve_inputs;
-use crate::{Change, Input, NoticeList, Stream};
+use px_block::BlockSource;
 use px_msg::{InputFactors, Notice};
+use px_stream::{Stream, StreamMsg};
 use px_types::{InputId, Mem, NoMemory};
 use std::alloc::Global;
 use std::marker::Model;
 
 /// The inputs of a sink (PulseAudio: the inputs of `thread_info` in pulsecore/sink.h), in rising index, with room for messages to them.
 #[derive(Debug, Drop)]
-pub struct Inputs {
+pub(crate) struct Inputs {
     items: Vec<Input>,
-    room: usize,
+    room: u32,
 }
 
 impl Model for Inputs {
@@ -41,7 +46,7 @@ impl Model for Inputs {
 
 impl Inputs {
     /// No inputs. Takes no memory.
-    pub fn new(alloc: Global) -> Inputs
+    pub(crate) fn new(alloc: Global) -> Inputs
         ensures { result.inputs ≡ [] }
     {
         Inputs {
@@ -51,25 +56,25 @@ impl Inputs {
     }
 
     /// The inputs, in rising index.
-    pub fn as_slice(&self) -> &[Input]
+    pub(crate) fn as_slice(&self) -> &[Input]
         ensures { inputs_of result.now ≡ self.now.inputs }
     {
         self.items.as_slice()
     }
 
-    /// Makes room for so many messages. Without memory the inputs stay what they are.
-    pub fn reserve(&mut self, messages: usize) -> Mem<()>
+    /// Makes room for so many messages, with so many blocks in all. Without memory the inputs stay what they are.
+    pub(crate) fn reserve(&mut self, messages: u32, blocks: u32) -> Mem<()>
         ensures inputs { self.new.inputs ≡ self.old.inputs }
         ensures ok { OnOk result (self.new.room ≡ messages) }
     {
-        reserve_inputs(self.items.as_mut_slice(), messages)?;
-        self.items.reserve(messages)?;
+        reserve_inputs(self.items.as_mut_slice(), messages, blocks)?;
+        self.items.reserve(messages as usize)?;
         self.room = messages;
         Ok(())
     }
 
     /// A stream comes in at its place. It has room for as many messages as the others are to have left.
-    pub fn insert(&mut self, input: InputId, stream: Stream)
+    pub(crate) fn insert(&mut self, input: InputId, stream: Stream)
         requires room { 1 ≤ self.old.room }
         requires stream_room { self.old.room ≤ stream.room + 1 }
         ensures inputs { self.new.inputs ≡ with_input input.0 stream.stream self.old.inputs }
@@ -86,7 +91,7 @@ impl Inputs {
     }
 
     /// A stream leaves, if it is there.
-    pub fn remove(&mut self, input: InputId) -> Option<Stream>
+    pub(crate) fn remove(&mut self, input: InputId) -> Option<Stream>
         ensures stream { MatchOption result (stream_at input.0 self.old.inputs ≡ None) (λ s. stream_at input.0 self.old.inputs ≡ Some s.stream) }
         ensures inputs { self.new.inputs ≡ without_input input.0 self.old.inputs }
         ensures room { self.new.room ≡ self.old.room }
@@ -94,30 +99,44 @@ impl Inputs {
         close_at(&mut self.items, input)
     }
 
-    /// Changes a stream, if it is there, where so many frames of the sink are mixed ahead, and answers whether frames were written that
-    /// aren't held. Takes room for one message.
-    pub fn change(&mut self, input: InputId, change: Change, mixed: u64) -> bool
+    /// Applies a message to a stream, if it is there, where so many frames of the sink are mixed ahead, and answers whether frames were
+    /// written that aren't held. Takes room for one message.
+    pub(crate) fn change<B: BlockSource>(
+        &mut self,
+        input: InputId,
+        change: StreamMsg,
+        mixed: u64,
+        blocks: &mut B,
+    ) -> bool
         requires room { 1 ≤ self.old.room }
-        requires suits { SuitsAt (stream_at input.0 self.old.inputs) change }
-        ensures inputs { self.new.inputs ≡ with_change input.0 (changed_by change mixed) self.old.inputs }
-        ensures refused { result ≡ refused_at (stream_at input.0 self.old.inputs) change mixed }
+        requires suits { SuitsAt (stream_at input.0 self.old.inputs) (message_of change) }
+        ensures inputs { self.new.inputs ≡ with_change input.0 (applied mixed (message_of change)) self.old.inputs }
+        ensures overflows { result ≡ overflows_at mixed (message_of change) (stream_at input.0 self.old.inputs) }
         ensures room { self.new.room + 1 ≡ self.old.room }
     {
         self.room -= 1;
-        change_at(self.items.as_mut_slice(), input, change, mixed)
+        change_at(self.items.as_mut_slice(), input, change, mixed, blocks)
     }
 
     /// Replaces the factors of each of these inputs that is there.
-    pub fn set_factors(&mut self, each: &[InputFactors])
+    pub(crate) fn set_factors<B: BlockSource>(&mut self, each: &[InputFactors], blocks: &mut B)
+        requires { FactorsFit (map gains each.now) self.old.inputs }
         ensures inputs { self.new.inputs ≡ with_each_factors (map gains each.now) self.old.inputs }
         ensures room { self.new.room ≡ self.old.room }
     {
-        set_each(self.items.as_mut_slice(), each);
+        set_each(self.items.as_mut_slice(), each, blocks);
     }
 
     /// Tells where a stream stands, if it is there, as the answer to a tag, with so many frames mixed past the horizon and so many in the
     /// sink's buffer.
-    pub fn answer(&self, input: InputId, tag: u32, mixed: u64, buffered: u32, out: &mut NoticeList)
+    pub(crate) fn answer(
+        &self,
+        input: InputId,
+        tag: u32,
+        mixed: u64,
+        buffered: u32,
+        out: &mut NoticeList,
+    )
         requires { length out.old.notices + length (message_notices mixed buffered (Message.query input.0 tag) self.now.inputs) ≤ out.old.capacity }
         ensures notices { out.new.notices ≡ out.old.notices ++ message_notices mixed buffered (Message.query input.0 tag) self.now.inputs }
         ensures capacity { out.new.capacity ≡ out.old.capacity }
@@ -126,19 +145,19 @@ impl Inputs {
     }
 
     /// All go so many frames of their sink forward. Of each it tells that it starts, and that it runs out.
-    pub fn go(&mut self, frames: u64, out: &mut NoticeList)
+    pub(crate) fn go<B: BlockSource>(&mut self, frames: u64, out: &mut NoticeList, blocks: &mut B)
         requires { length out.old.notices + length (flat_map (going_notices frames) self.old.inputs) ≤ out.old.capacity }
         ensures inputs { self.new.inputs ≡ map (with_stream (λ s. after s frames)) self.old.inputs }
         ensures room { self.new.room ≡ self.old.room }
         ensures notices { out.new.notices ≡ out.old.notices ++ flat_map (going_notices frames) self.old.inputs }
         ensures capacity { out.new.capacity ≡ out.old.capacity }
     {
-        go_each(self.items.as_mut_slice(), frames, out);
+        go_each(self.items.as_mut_slice(), frames, out, blocks);
     }
 
     /// Of each it tells the drains that are answered, where it has ended, and the frames that it asks for, where so many frames are mixed
     /// ahead.
-    pub fn ask(&mut self, mixed: u64, out: &mut NoticeList)
+    pub(crate) fn ask(&mut self, mixed: u64, out: &mut NoticeList)
         requires { length out.old.notices + length (flat_map (asked_notices mixed) self.old.inputs) ≤ out.old.capacity }
         ensures inputs { self.new.inputs ≡ map (with_stream (asked_stream mixed)) self.old.inputs }
         ensures room { self.new.room ≡ self.old.room }
@@ -149,7 +168,7 @@ impl Inputs {
     }
 }
 
-fn go_each(inputs: &mut [Input], frames: u64, out: &mut NoticeList)
+fn go_each<B: BlockSource>(inputs: &mut [Input], frames: u64, out: &mut NoticeList, blocks: &mut B)
     requires { length out.old.notices + length (flat_map (going_notices frames) (inputs_of inputs.old)) ≤ out.old.capacity }
     ensures inputs { inputs_of inputs.new ≡ map (with_stream (λ s. after s frames)) (inputs_of inputs.old) }
     ensures room { (room : ℕ) → AllByRecursion (HasRoom room) inputs.old → AllByRecursion (HasRoom room) inputs.new }
@@ -157,24 +176,24 @@ fn go_each(inputs: &mut [Input], frames: u64, out: &mut NoticeList)
     ensures capacity { out.new.capacity ≡ out.old.capacity }
 {
     for input in inputs.iter_mut() {
-        go_one(input, frames, out);
+        go_one(input, frames, out, blocks);
     }
 }
 
-fn go_one(input: &mut Input, frames: u64, out: &mut NoticeList)
+fn go_one<B: BlockSource>(input: &mut Input, frames: u64, out: &mut NoticeList, blocks: &mut B)
     requires { length out.old.notices + length (going_notices frames (input_of input.old)) ≤ out.old.capacity }
     ensures input { input_of input.new ≡ with_stream (λ s. after s frames) (input_of input.old) }
     ensures room { input.old.stream.room ≤ input.new.stream.room }
     ensures notices { out.new.notices ≡ out.old.notices ++ going_notices frames (input_of input.old) }
     ensures capacity { out.new.capacity ≡ out.old.capacity }
 {
-    if input.stream.starts(frames) {
+    let settled = input.stream.settle(frames, blocks);
+    if settled.started {
         out.push(Notice::Started { input: input.index });
     }
-    if input.stream.runs_out(frames) {
+    if settled.underflow {
         out.push(Notice::Underflow { input: input.index });
     }
-    input.stream.go(frames);
 }
 
 fn ask_each(inputs: &mut [Input], mixed: u64, out: &mut NoticeList)
@@ -196,28 +215,27 @@ fn ask_one(input: &mut Input, mixed: u64, out: &mut NoticeList)
     ensures notices { out.new.notices ≡ out.old.notices ++ asked_notices mixed (input_of input.old) }
     ensures capacity { out.new.capacity ≡ out.old.capacity }
 {
-    if input.stream.has_ended() {
-        answer_drains(input, out);
-    }
-    let missing = input.stream.missing(mixed);
-    if input.stream.asks_for(missing) {
+    let frames = input.stream.request(mixed);
+    answer_drains(input, out);
+    if frames > 0 {
         out.push(Notice::Request {
             input: input.index,
-            frames: missing,
+            frames,
         });
     }
-    input.stream.ask(mixed);
 }
 
-fn answer_drains(input: &Input, out: &mut NoticeList)
-    requires { length out.old.notices + length input.now.stream.stream.draining ≤ out.old.capacity }
-    ensures notices { out.new.notices ≡ out.old.notices ++ map (λ tag. Told.drained input.now.index.0 tag) input.now.stream.stream.draining }
+fn answer_drains(input: &mut Input, out: &mut NoticeList)
+    requires { length out.old.notices + length (drained_notices (input_of input.old)) ≤ out.old.capacity }
+    ensures input { input_of input.new ≡ with_stream drained (input_of input.old) }
+    ensures room { input.old.stream.room ≤ input.new.stream.room }
+    ensures notices { out.new.notices ≡ out.old.notices ++ drained_notices (input_of input.old) }
     ensures capacity { out.new.capacity ≡ out.old.capacity }
 {
-    for tag in input.stream.draining() {
+    while let Some(tag) = input.stream.drained() {
         out.push(Notice::Drained {
             input: input.index,
-            tag: *tag,
+            tag,
         });
     }
 }

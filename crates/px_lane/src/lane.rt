@@ -5,13 +5,15 @@ ghost use Rattle.px_msg.specs.View.{sample_spec};
 ghost use Rattle.px_model.specs.Sink.{empty_sink};
 ghost use Rattle.px_lane.specs.Mixing.{IsMixed};
 ghost use Rattle.px_model.specs.Turn.{AreFor, settled, turned, turn_notices};
-ghost use Rattle.px_lane.specs.Samples.{samples};
+ghost use Rattle.px_stream.specs.Samples.{samples};
 ghost use Rattle.px_lane.specs.Needed.{needed};
 ghost use Rattle.px_lane.specs.Lane.{IsLane, IsAttached, HasCounted};
 ghost use Rattle.px_lane.specs.Turned.{Turns, Refuses};
 ghost use Rattle.px_lane.specs.contracts.lane.Lane.{the_row};
 
-use crate::{MsgList, NoticeList, Prepared, SinkMixer};
+use crate::mixer::SinkMixer;
+use crate::prepared::Prepared;
+use crate::{MsgList, NoticeList};
 use px_block::BlockSource;
 use px_ends::{Device, DeviceFault};
 use px_session::SinkSpec;
@@ -111,7 +113,7 @@ impl<D: Device + Drop> Lane<D> {
         alloc: Global,
         messages: &mut MsgList,
         out: &mut NoticeList,
-        _blocks: &mut B,
+        blocks: &mut B,
     ) -> Result<Turned, LaneFault>
         requires messages { AreFor self.old.sink messages.old }
         requires attached { IsFalse self.old.sink.stopped → IsAttached (D.now self.old.device) self.old.sink }
@@ -133,6 +135,7 @@ impl<D: Device + Drop> Lane<D> {
                     &mut self.faults,
                     &mut prepared,
                     out,
+                    blocks,
                 );
                 messages.give_back(prepared);
                 Ok(turned)
@@ -142,12 +145,13 @@ impl<D: Device + Drop> Lane<D> {
 }
 
 // A turn for which all memory was taken.
-fn run<D: Device>(
+fn run<D: Device, B: BlockSource>(
     mixer: &mut SinkMixer,
     device: &mut D,
     faults: &mut u64,
     messages: &mut Prepared,
     out: &mut NoticeList,
+    blocks: &mut B,
 ) -> Turned
     requires lane { IsLane mixer.old.sink }
     requires counted { HasCounted mixer.old.sink faults.old }
@@ -163,26 +167,27 @@ fn run<D: Device>(
     ensures messages { messages.new.messages ≡ [] }
 {
     if mixer.is_stopped() {
-        mixer.stop(messages, out);
+        mixer.stop(messages, out, blocks);
         return Turned::Stopped { faults: *faults };
     }
     match device.sync() {
-        Ok(consumed) => play(mixer, device, consumed, messages, out),
+        Ok(consumed) => play(mixer, device, consumed, messages, out, blocks),
         Err(DeviceFault) => {
             *faults = faults.saturating_add(1);
-            mixer.stop(messages, out);
+            mixer.stop(messages, out, blocks);
             Turned::Stopped { faults: *faults }
         }
     }
 }
 
 // A turn after a sync that answered so many frames consumed.
-fn play<D: Device>(
+fn play<D: Device, B: BlockSource>(
     mixer: &mut SinkMixer,
     device: &mut D,
     consumed: u64,
     messages: &mut Prepared,
     out: &mut NoticeList,
+    blocks: &mut B,
 ) -> Turned
     requires lane { IsLane mixer.old.sink }
     requires forward { mixer.old.sink.consumed ≤ consumed }
@@ -204,7 +209,7 @@ fn play<D: Device>(
     ensures next { (D.now device.new).next ≡ (D.now device.old).next }
 {
     let frames = consumed - mixer.consumed();
-    mixer.play(frames, messages, out);
+    mixer.play(frames, messages, out, blocks);
     device.put(mixer.horizon(), mixer.fresh());
     Turned::Played {
         consumed,

@@ -2,16 +2,19 @@
 ghost use Rattle.std.specs.Prelude.{◌≡◌, ◌≤◌, ◌<◌, ◌+◌, ◌++◌, [], ◌∷◌, length, map, flat_map, MatchOption, IfOk, OnOk, OnErr};
 ghost use Rattle.std.specs.List.{AllByRecursion};
 ghost use Rattle.px_model.specs.Turn.{BringsStream};
+ghost use Rattle.px_stream.specs.Kept.{KeptStream};
 ghost use Rattle.px_lane.specs.Inputs.{inputs_of};
-ghost use Rattle.px_lane.specs.Needed.{needed, OpensRepaired};
-ghost use Rattle.px_lane.specs.Room.{RoomyStream};
-ghost use Rattle.px_lane.specs.Taking.{bytes_of, streams_of, IsRoomy, BringsRoom};
+ghost use Rattle.px_lane.specs.Needed.{needed, Opens};
+ghost use Rattle.px_lane.specs.Taking.{streams_of, IsRoomy, BringsRoom};
 ghost use Rattle.px_lane.specs.Lists.{plain_message, plain_notice, messages_of};
 
-use crate::memory::{copied, needed_by_inputs, needed_by_messages, opened, reserve_parcels};
-use crate::{Input, Inputs, Prepared, Stream};
+use crate::input::Input;
+use crate::inputs::Inputs;
+use crate::memory::{blocks_in, needed_by_inputs, needed_by_messages, opened, reserve_parcels};
+use crate::prepared::Prepared;
 use px_msg::{Msg, Notice};
-use px_types::{Mem, NoMemory, Text};
+use px_stream::Stream;
+use px_types::{Mem, NoMemory};
 use std::alloc::Global;
 use std::collections::VecDeque;
 use std::marker::Model;
@@ -126,16 +129,16 @@ impl MsgList {
         Ok(())
     }
 
-    /// Takes all the memory of a turn with these messages: the bytes of each write, the stream of each new input, room for all messages in
-    /// each stream that is there or comes, and in `out` for every notice of the turn. The list is empty then. Without memory nothing
+    /// Takes all the memory of a turn with these messages: the stream of each new input, room for all messages in each stream that is
+    /// there or comes, and in `out` for every notice of the turn. The list is empty then. Without memory nothing
     /// changes that the definitions see: the messages stay.
-    pub fn prepare(
+    pub(crate) fn prepare(
         &mut self,
         alloc: Global,
         inputs: &mut Inputs,
         out: &mut NoticeList,
     ) -> Mem<Prepared>
-        requires { AllByRecursion OpensRepaired self.old }
+        requires { AllByRecursion Opens self.old }
         ensures inputs { inputs.new.inputs ≡ inputs.old.inputs }
         ensures notices { out.new.notices ≡ out.old.notices }
         ensures messages { IfOk result (λ prepared. prepared.messages ≡ self.old) }
@@ -144,14 +147,16 @@ impl MsgList {
         ensures empty { OnOk result (self.new ≡ []) }
         ensures err { OnErr result (self.new ≡ self.old) }
     {
-        let count = self.items.len();
-        let (bytes, streams) = taken(alloc, self.items.make_contiguous(), count, inputs, out)?;
+        let Ok(count) = u32::try_from(self.items.len()) else {
+            return Err(NoMemory);
+        };
+        let streams = taken(alloc, self.items.make_contiguous(), count, inputs, out)?;
         let items = replace(&mut self.items, VecDeque::new(alloc));
-        Ok(Prepared::new(items, bytes, streams, count))
+        Ok(Prepared::new(items, streams, count))
     }
 
     /// Takes the list of messages back that a turn has taken, for its room. Takes no memory.
-    pub fn give_back(&mut self, prepared: Prepared)
+    pub(crate) fn give_back(&mut self, prepared: Prepared)
         requires taken { prepared.messages ≡ [] }
         requires empty { self.old ≡ [] }
         ensures { self.new ≡ [] }
@@ -165,37 +170,40 @@ fn brings_stream(message: &Msg<Stream>)
     ensures { BringsStream (plain_message message.now) }
 {
     match message {
-        Msg::Attach { parcel, .. } => parcel.keeps(),
+        Msg::Attach { parcel, .. } => {
+            parcel.draining();
+        }
         _ => {}
     }
 }
 
-// What a turn with these messages takes: the bytes of each write, and the stream of each new input.
+// What a turn with these messages takes: the stream of each new input.
 fn taken(
     alloc: Global,
     messages: &mut [Msg<Stream>],
-    count: usize,
+    count: u32,
     inputs: &mut Inputs,
     out: &mut NoticeList,
-) -> Mem<(VecDeque<Text>, VecDeque<Stream>)>
-    requires { AllByRecursion OpensRepaired (messages_of messages.old) }
+) -> Mem<VecDeque<Stream>>
+    requires { AllByRecursion Opens (messages_of messages.old) }
     ensures same { messages_of messages.new ≡ messages_of messages.old }
     ensures inputs { inputs.new.inputs ≡ inputs.old.inputs }
     ensures notices { out.new.notices ≡ out.old.notices }
-    ensures bytes { IfOk result (λ pair. pair.0.items ≡ flat_map bytes_of (messages_of messages.old)) }
-    ensures streams { IfOk result (λ pair. map RoomyStream.stream pair.1.items ≡ flat_map streams_of (messages_of messages.old)) }
-    ensures streams_room { IfOk result (λ pair. AllByRecursion (IsRoomy count) pair.1.items) }
+    ensures streams { IfOk result (λ streams. map KeptStream.stream streams.items ≡ flat_map streams_of (messages_of messages.old)) }
+    ensures streams_room { IfOk result (λ streams. AllByRecursion (IsRoomy count) streams.items) }
     ensures parcels_room { OnOk result (AllByRecursion (BringsRoom count) messages.new) }
     ensures room { OnOk result (inputs.new.room ≡ count) }
     ensures capacity { OnOk result (length out.old.notices + needed inputs.old.inputs (messages_of messages.old) ≤ out.new.capacity) }
 {
     let notices = needed_of(inputs.as_slice(), messages)?;
+    let Some(blocks) = blocks_in(messages) else {
+        return Err(NoMemory);
+    };
     out.reserve(notices)?;
-    inputs.reserve(count)?;
-    let bytes = copied(alloc, messages)?;
-    let streams = opened(alloc, messages, count)?;
-    reserve_parcels(messages, count)?;
-    Ok((bytes, streams))
+    inputs.reserve(count, blocks)?;
+    let streams = opened(alloc, messages, count, blocks)?;
+    reserve_parcels(messages, count, blocks)?;
+    Ok(streams)
 }
 
 // How many notices a turn gives at the most. A number that passes all that memory can hold is want of memory.

@@ -1,5 +1,5 @@
 // What a sink mixes.
-ghost use Rattle.std.specs.Prelude.{◌≡◌, ◌≤◌, ◌+◌, ◌-◌, ◌*◌, ◌^◌, ◌++◌, length, map, take, drop, flat_map, [], IfOk, OnOk, OnErr};
+ghost use Rattle.std.specs.Prelude.{◌≡◌, ◌≤◌, ◌+◌, ◌-◌, ◌*◌, ◌^◌, ◌<◌, ◌++◌, length, map, take, drop, flat_map, [], IfOk, OnOk, OnErr};
 ghost use Rattle.std.specs.List.{AllByRecursion, concat, range_with_len};
 ghost use Rattle.px_sample.specs.Format.{frame_size_of};
 ghost use Rattle.px_msg.specs.View.{sample_spec};
@@ -7,15 +7,18 @@ ghost use Rattle.px_model.specs.Sink.{Input as Stands, IsStreamOf, streams_of, e
 ghost use Rattle.px_model.specs.Mix.{mix_of};
 ghost use Rattle.px_model.specs.Turn.{next_horizon, settled, told, told_notices, remixed, asked, going_notices, asked_notices, AreFor, turned, turn_notices, stopped_turn, stopped_notices};
 ghost use Rattle.px_lane.specs.Mixing.{RoomySink, IsMixed, given_up};
-ghost use Rattle.px_lane.specs.Samples.{samples};
+ghost use Rattle.px_stream.specs.Samples.{samples};
 ghost use Rattle.px_lane.specs.Taking.{CanTakeAll};
 ghost use Rattle.px_lane.specs.Lane.{IsLane};
-ghost use Rattle.px_lane.specs.Needed.{needed, OpensRepaired};
+ghost use Rattle.px_lane.specs.Needed.{needed, Opens};
 ghost use Rattle.px_lane.specs.Whole.{AreFramesOf};
 ghost use Rattle.px_model.specs.Frame.{frame_size};
 
+use crate::inputs::Inputs;
 use crate::mix::mix_frames;
-use crate::{Inputs, MsgList, NoticeList, Prepared};
+use crate::prepared::Prepared;
+use crate::{MsgList, NoticeList};
+use px_block::BlockSource;
 use px_sample::Spec;
 use px_session::SinkSpec;
 use px_types::{Mem, NoMemory};
@@ -25,7 +28,7 @@ use std::marker::Model;
 /// What a sink mixes: its counts, its buffer and its inputs (PulseAudio: `thread_info` of pulsecore/sink.h). The buffer's bytes are
 /// kept here from the first frame that isn't consumed on, as many as the depth has room for.
 #[derive(Debug, Drop)]
-pub struct SinkMixer {
+pub(crate) struct SinkMixer {
     spec: Spec,
     guard: u32,
     depth: u32,
@@ -76,6 +79,7 @@ fn mix_behind(sink: &Spec, inputs: &Inputs, frames: usize, bytes: &mut Vec<u8>, 
     requires mixed { IsMixed sink.now }
     requires streams { AllByRecursion (λ x. IsStreamOf (sample_spec sink.now) (Stands.stream x)) inputs.now.inputs }
     requires few { length inputs.now.inputs ≤ 256 }
+    requires near { frames < 2 ^ 32 }
     requires size { length bytes.old.items ≡ from + frames * frame_size_of sink.now }
     ensures size { length bytes.new.items ≡ length bytes.old.items }
     ensures bytes { bytes.new.items ≡ take from bytes.old.items ++ concat (map (mix_of samples (sample_spec sink.now) (streams_of inputs.now.inputs)) (range_with_len 0 frames)) }
@@ -91,7 +95,7 @@ fn mix_behind(sink: &Spec, inputs: &Inputs, frames: usize, bytes: &mut Vec<u8>, 
 
 impl SinkMixer {
     /// A mixer that has mixed nothing, with no inputs. Takes the room of its buffer.
-    pub fn new(alloc: Global, sink: &SinkSpec) -> Mem<SinkMixer>
+    pub(crate) fn new(alloc: Global, sink: &SinkSpec) -> Mem<SinkMixer>
         requires mixed { IsMixed sink.now.spec }
         requires low_depth { sink.now.depth ≤ 65536 }
         ensures { IfOk result (λ m. m.sink ≡ empty_sink (sample_spec sink.now.spec) sink.now.guard sink.now.depth) }
@@ -111,28 +115,28 @@ impl SinkMixer {
     }
 
     /// Frames consumed so far.
-    pub fn consumed(&self) -> u64
+    pub(crate) fn consumed(&self) -> u64
         ensures { result ≡ self.now.sink.consumed }
     {
         self.consumed
     }
 
     /// Frames mixed so far.
-    pub fn filled(&self) -> u64
+    pub(crate) fn filled(&self) -> u64
         ensures { result ≡ self.now.sink.filled }
     {
         self.filled
     }
 
     /// The first frame that may still change.
-    pub fn horizon(&self) -> u64
+    pub(crate) fn horizon(&self) -> u64
         ensures { result ≡ self.now.sink.horizon }
     {
         self.horizon
     }
 
     /// Whether it mixes nothing any more.
-    pub fn is_stopped(&self) -> bool
+    pub(crate) fn is_stopped(&self) -> bool
         ensures { result ≡ self.now.sink.stopped }
     {
         self.stopped
@@ -140,13 +144,13 @@ impl SinkMixer {
 
     /// Takes all the memory of a turn with these messages. The list is empty then. Without memory the sink, the messages and the notices
     /// stay what they are.
-    pub fn prepare(
+    pub(crate) fn prepare(
         &mut self,
         alloc: Global,
         messages: &mut MsgList,
         out: &mut NoticeList,
     ) -> Mem<Prepared>
-        requires { AllByRecursion OpensRepaired messages.old }
+        requires { AllByRecursion Opens messages.old }
         ensures value { self.new.sink ≡ self.old.sink }
         ensures notices { out.new.notices ≡ out.old.notices }
         ensures messages { IfOk result (λ prepared. prepared.messages ≡ messages.old) }
@@ -159,7 +163,12 @@ impl SinkMixer {
     }
 
     /// So many frames more are consumed, and all streams go forward to the new horizon.
-    pub fn settle(&mut self, frames: u64, out: &mut NoticeList)
+    pub(crate) fn settle<B: BlockSource>(
+        &mut self,
+        frames: u64,
+        out: &mut NoticeList,
+        blocks: &mut B,
+    )
         requires there { frames ≤ self.old.sink.filled - self.old.sink.consumed }
         requires room { length out.old.notices + length (flat_map (going_notices (next_horizon self.old.sink frames - self.old.sink.horizon)) self.old.sink.inputs) ≤ out.old.capacity }
         ensures value { self.new.sink ≡ settled self.old.sink frames }
@@ -170,14 +179,19 @@ impl SinkMixer {
         let size = self.spec.frame_size();
         let consumed = self.consumed + frames;
         let horizon = self.filled.min(consumed + self.guard as u64);
-        self.inputs.go(horizon - self.horizon, out);
+        self.inputs.go(horizon - self.horizon, out, blocks);
         move_to_front(&mut self.bytes, frames as usize * size);
         self.consumed = consumed;
         self.horizon = horizon;
     }
 
     /// Takes all messages in order, at the horizon, and tells what they have to tell. Takes no memory.
-    pub fn take_all(&mut self, messages: &mut Prepared, out: &mut NoticeList)
+    pub(crate) fn take_all<B: BlockSource>(
+        &mut self,
+        messages: &mut Prepared,
+        out: &mut NoticeList,
+        blocks: &mut B,
+    )
         requires room { length messages.old.messages ≤ self.old.room }
         requires comes { self.old.room ≤ messages.old.room }
         requires suits { CanTakeAll (self.old.sink.filled - self.old.sink.horizon) messages.old.messages self.old.sink.inputs }
@@ -189,11 +203,11 @@ impl SinkMixer {
     {
         let mixed = self.filled - self.horizon;
         let buffered = (self.filled - self.consumed) as u32;
-        self.inputs.take_all(messages, mixed, buffered, out);
+        self.inputs.take_all(messages, mixed, buffered, out, blocks);
     }
 
     /// Gives up all frames from the horizon on, for good.
-    pub fn give_up(&mut self)
+    pub(crate) fn give_up(&mut self)
         ensures value { self.new.sink ≡ given_up self.old.sink }
         ensures whole { AreFramesOf (frame_size self.new.sink.spec) self.new.sink.buffer }
         ensures room { self.new.room ≡ self.old.room }
@@ -203,7 +217,7 @@ impl SinkMixer {
     }
 
     /// Mixes all frames from the horizon on afresh, up to the depth.
-    pub fn remix(&mut self)
+    pub(crate) fn remix(&mut self)
         requires streams { AllByRecursion (λ x. IsStreamOf self.old.sink.spec (Stands.stream x)) self.old.sink.inputs }
         requires few { length self.old.sink.inputs ≤ 256 }
         requires countable { self.old.sink.consumed + self.old.sink.depth ≤ 2 ^ 61 }
@@ -225,7 +239,7 @@ impl SinkMixer {
     }
 
     /// Of each stream in order tells the drains that are answered, where it has ended, and asks for frames.
-    pub fn ask(&mut self, out: &mut NoticeList)
+    pub(crate) fn ask(&mut self, out: &mut NoticeList)
         requires { length out.old.notices + length (flat_map (asked_notices (self.old.sink.filled - self.old.sink.horizon)) self.old.sink.inputs) ≤ out.old.capacity }
         ensures value { self.new.sink ≡ asked self.old.sink }
         ensures room { self.new.room ≡ self.old.room }
@@ -236,7 +250,7 @@ impl SinkMixer {
     }
 
     /// The bytes of the frames from the horizon on, once they are mixed up to the depth.
-    pub fn fresh(&self) -> &[u8]
+    pub(crate) fn fresh(&self) -> &[u8]
         requires { self.now.sink.filled ≡ self.now.sink.consumed + self.now.sink.depth }
         ensures { result.now ≡ concat (drop (self.now.sink.horizon - self.now.sink.consumed) self.now.sink.buffer) }
     {
@@ -247,7 +261,13 @@ impl SinkMixer {
     /// A turn whose sync consumed so many frames: these leave the buffer and the streams go forward, the messages are taken, all frames
     /// from the horizon on are mixed afresh, and the streams ask for more. Takes no memory. (PulseAudio: `pa_sink_render` and
     /// `pa_sink_process_rewind` of pulsecore/sink.c.)
-    pub fn play(&mut self, frames: u64, messages: &mut Prepared, out: &mut NoticeList)
+    pub(crate) fn play<B: BlockSource>(
+        &mut self,
+        frames: u64,
+        messages: &mut Prepared,
+        out: &mut NoticeList,
+        blocks: &mut B,
+    )
         requires lane { IsLane self.old.sink }
         requires there { frames ≤ self.old.sink.filled - self.old.sink.consumed }
         requires countable { self.old.sink.filled ≤ 2 ^ 60 }
@@ -260,15 +280,20 @@ impl SinkMixer {
         ensures notices { out.new.notices ≡ out.old.notices ++ turn_notices samples self.old.sink frames messages.old.messages }
         ensures messages { messages.new.messages ≡ [] }
     {
-        self.settle(frames, out);
-        self.take_all(messages, out);
+        self.settle(frames, out, blocks);
+        self.take_all(messages, out, blocks);
         self.remix();
         self.ask(out);
     }
 
     /// A turn whose sync failed, and each after it: the streams go forward to the horizon, all past it is given up, the messages are
     /// taken, and the streams ask for more. Takes no memory. (Own: a PulseAudio sink is unlinked.)
-    pub fn stop(&mut self, messages: &mut Prepared, out: &mut NoticeList)
+    pub(crate) fn stop<B: BlockSource>(
+        &mut self,
+        messages: &mut Prepared,
+        out: &mut NoticeList,
+        blocks: &mut B,
+    )
         requires lane { IsLane self.old.sink }
         requires messages { AreFor self.old.sink messages.old.messages }
         requires room { length messages.old.messages ≤ self.old.room }
@@ -279,9 +304,9 @@ impl SinkMixer {
         ensures notices { out.new.notices ≡ out.old.notices ++ stopped_notices self.old.sink messages.old.messages }
         ensures messages { messages.new.messages ≡ [] }
     {
-        self.settle(0, out);
+        self.settle(0, out, blocks);
         self.give_up();
-        self.take_all(messages, out);
+        self.take_all(messages, out, blocks);
         self.ask(out);
     }
 }

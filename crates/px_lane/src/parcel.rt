@@ -3,9 +3,9 @@ ghost use Rattle.std.specs.Prelude.{◌≡◌};
 ghost use Rattle.px_msg.specs.View.{message_of, notice_for};
 ghost use Rattle.px_lane.specs.Lists.{plain_message, plain_notice};
 
-use crate::Stream;
 use px_msg::{Msg, Notice, Parcel};
 use px_sample::Spec;
+use px_stream::Stream;
 use std::marker::Model;
 
 /// A stream between two sinks (PulseAudio: a sink input between `pa_sink_input_start_move` and `pa_sink_input_finish_move`). Contracts see the

@@ -6,93 +6,90 @@ ghost use Rattle.px_model.specs.Message.{Message};
 ghost use Rattle.px_model.specs.Sink.{Input as Stands};
 ghost use Rattle.px_model.specs.Turn.{inputs_with, message_notices, inputs_with_all, all_message_notices};
 ghost use Rattle.px_lane.specs.Lists.{plain_message, messages_of};
-ghost use Rattle.px_lane.specs.Room.{RoomyStream};
-ghost use Rattle.px_lane.specs.Taking.{CanTake, CanTakeAll, bytes_of, streams_of, IsRoomy, BringsRoom, HasRoomLeft, IsReadyFor};
+ghost use Rattle.px_stream.specs.Kept.{KeptStream};
+ghost use Rattle.px_lane.specs.Taking.{CanTake, CanTakeAll, streams_of, IsRoomy, BringsRoom, HasRoomLeft, IsReadyFor};
 
-use crate::{Change, Inputs, NoticeList, Ready, Stream};
+use crate::NoticeList;
+use crate::inputs::Inputs;
+use crate::ready::Ready;
+use px_block::BlockSource;
 use px_msg::Msg;
-use px_types::Text;
+use px_stream::{Stream, StreamMsg};
 use std::collections::VecDeque;
 use std::marker::Model;
 
 /// The messages of a turn, in order, with all the memory that they take.
 #[derive(Debug, Drop)]
-pub struct Prepared {
+pub(crate) struct Prepared {
     items: VecDeque<Msg<Stream>>,
-    // of each write, and of each new input, in order
-    bytes: VecDeque<Text>,
+    // of each new input, in order
     streams: VecDeque<Stream>,
-    room: usize,
+    room: u32,
 }
 
 impl Model for Prepared {
     ghost use Rattle.std.specs.Prelude.{◌≡◌, map, flat_map};
     ghost use Rattle.std.specs.List.{AllByRecursion};
     ghost use Rattle.px_lane.specs.Lists.{messages_of};
-    ghost use Rattle.px_lane.specs.Room.{ReadyMessages, RoomyStream};
-    ghost use Rattle.px_lane.specs.Taking.{bytes_of, streams_of, IsRoomy, BringsRoom};
+    ghost use Rattle.px_stream.specs.Kept.{KeptStream};
+    ghost use Rattle.px_lane.specs.Room.{ReadyMessages};
+    ghost use Rattle.px_lane.specs.Taking.{streams_of, IsRoomy, BringsRoom};
 
     ghost Value = { ReadyMessages };
 
     ghost view = { λ p. record { messages = messages_of p.items.items; room = p.room } };
 
     ghost invariant = { λ p.
-        (p.bytes.items ≡ flat_map bytes_of (messages_of p.items.items))
-        × (map RoomyStream.stream p.streams.items ≡ flat_map streams_of (messages_of p.items.items))
+        (map KeptStream.stream p.streams.items ≡ flat_map streams_of (messages_of p.items.items))
         × AllByRecursion (IsRoomy p.room) p.streams.items
         × AllByRecursion (BringsRoom p.room) p.items.items };
 }
 
 impl Prepared {
-    /// These messages, with the bytes of each write, and the stream of each new input, in order. Each stream that comes has room for so
-    /// many messages. Takes no memory.
-    pub fn new(
+    /// These messages, with the stream of each new input, in order. Each stream that comes has room for so many messages. Takes no
+    /// memory.
+    pub(crate) fn new(
         items: VecDeque<Msg<Stream>>,
-        bytes: VecDeque<Text>,
         streams: VecDeque<Stream>,
-        room: usize,
+        room: u32,
     ) -> Prepared
-        requires bytes { bytes.items ≡ flat_map bytes_of (messages_of items.items) }
-        requires streams { map RoomyStream.stream streams.items ≡ flat_map streams_of (messages_of items.items) }
+        requires streams { map KeptStream.stream streams.items ≡ flat_map streams_of (messages_of items.items) }
         requires streams_room { AllByRecursion (IsRoomy room) streams.items }
         requires parcels_room { AllByRecursion (BringsRoom room) items.items }
         ensures { result ≡ record { messages = messages_of items.items; room = room } }
     {
         Prepared {
             items,
-            bytes,
             streams,
             room,
         }
     }
 
     /// The list of the messages, once all are taken. Takes no memory.
-    pub fn into_items(self) -> VecDeque<Msg<Stream>>
+    pub(crate) fn into_items(self) -> VecDeque<Msg<Stream>>
         ensures { messages_of result.items ≡ self.messages }
     {
         self.items
     }
 
     /// Takes the first message. Takes no memory.
-    pub fn next(&mut self) -> Option<Ready>
+    pub(crate) fn next(&mut self) -> Option<Ready>
         ensures value { MatchOption result ((self.old.messages ≡ []) × (self.new.messages ≡ [])) (λ ready.
             (m : Message Plain) × (self.old.messages ≡ m ∷ self.new.messages) × IsReadyFor ready m × HasRoomLeft self.old.room ready) }
         ensures room { self.new.room ≡ self.old.room }
     {
         match self.items.pop_front() {
-            Some(message) => Some(ready(message, &mut self.bytes, &mut self.streams)),
+            Some(message) => Some(ready(message, &mut self.streams)),
             None => None,
         }
     }
 }
 
 // The message with the memory that it takes, which stands first.
-fn ready(message: Msg<Stream>, bytes: &mut VecDeque<Text>, streams: &mut VecDeque<Stream>) -> Ready
-    requires bytes { take (length (bytes_of (plain_message message))) bytes.old.items ≡ bytes_of (plain_message message) }
-    requires streams { take (length (streams_of (plain_message message))) (map RoomyStream.stream streams.old.items) ≡ streams_of (plain_message message) }
+fn ready(message: Msg<Stream>, streams: &mut VecDeque<Stream>) -> Ready
+    requires streams { take (length (streams_of (plain_message message))) (map KeptStream.stream streams.old.items) ≡ streams_of (plain_message message) }
     ensures ready { IsReadyFor result (plain_message message) }
-    ensures bytes { bytes.new.items ≡ drop (length (bytes_of (plain_message message))) bytes.old.items }
-    ensures streams { map RoomyStream.stream streams.new.items ≡ drop (length (streams_of (plain_message message))) (map RoomyStream.stream streams.old.items) }
+    ensures streams { map KeptStream.stream streams.new.items ≡ drop (length (streams_of (plain_message message))) (map KeptStream.stream streams.old.items) }
     ensures room { (room : ℕ) → AllByRecursion (IsRoomy room) streams.old.items → BringsRoom room message → HasRoomLeft room result × AllByRecursion (IsRoomy room) streams.new.items }
 {
     match message {
@@ -102,55 +99,54 @@ fn ready(message: Msg<Stream>, bytes: &mut VecDeque<Text>, streams: &mut VecDequ
         },
         Msg::Attach {
             input,
-            mut parcel,
+            parcel,
             feed,
             factors,
-        } => {
-            parcel.attach(feed, factors);
-            Ready::Insert {
-                input,
-                stream: parcel,
-            }
-        }
+        } => Ready::Join {
+            input,
+            parcel,
+            feed,
+            factors,
+        },
         Msg::Detach { input } => Ready::Remove(input),
         Msg::Write {
             input,
             seek,
             offset,
             frames,
-            bytes: _,
+            bytes,
         } => Ready::Change {
             input,
-            change: Change::Write {
+            change: StreamMsg::Write {
                 seek,
                 offset,
                 frames,
-                bytes: bytes.pop_front().unwrap().into_vec(),
+                bytes,
             },
         },
         Msg::Cork { input, on } => Ready::Change {
             input,
-            change: Change::Cork(on),
+            change: StreamMsg::Cork { on },
         },
         Msg::Flush { input } => Ready::Change {
             input,
-            change: Change::Flush,
+            change: StreamMsg::Flush,
         },
         Msg::Trigger { input } => Ready::Change {
             input,
-            change: Change::Trigger,
+            change: StreamMsg::Trigger,
         },
         Msg::Prebuf { input } => Ready::Change {
             input,
-            change: Change::Prebuf,
+            change: StreamMsg::Prebuf,
         },
         Msg::Drain { input, tag } => Ready::Change {
             input,
-            change: Change::Drain(tag),
+            change: StreamMsg::Drain { tag },
         },
         Msg::Attr { input, attr } => Ready::Change {
             input,
-            change: Change::Attr(attr),
+            change: StreamMsg::Attr { attr },
         },
         Msg::Factors(list) => Ready::Each(list),
         Msg::Query { input, tag } => Ready::Answer { input, tag },
@@ -160,12 +156,13 @@ fn ready(message: Msg<Stream>, bytes: &mut VecDeque<Text>, streams: &mut VecDequ
 impl Inputs {
     /// Takes all messages in order, where so many frames are mixed past the horizon and so many are in the sink's buffer, and tells what
     /// they have to tell. Takes no memory.
-    pub fn take_all(
+    pub(crate) fn take_all<B: BlockSource>(
         &mut self,
         messages: &mut Prepared,
         mixed: u64,
         buffered: u32,
         out: &mut NoticeList,
+        blocks: &mut B,
     )
         requires room { length messages.old.messages ≤ self.old.room }
         requires comes { self.old.room ≤ messages.old.room }
@@ -177,7 +174,7 @@ impl Inputs {
         ensures messages { messages.new.messages ≡ [] }
     {
         while let Some(message) = messages.next() {
-            self.take(message, mixed, buffered, out);
+            self.take(message, mixed, buffered, out, blocks);
         }
     }
 }

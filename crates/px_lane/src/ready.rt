@@ -2,29 +2,57 @@
 ghost use Rattle.std.specs.Prelude.{◌≡◌, ◌≤◌, ◌+◌, ◌-◌, ◌++◌, length};
 ghost use Rattle.px_lane.specs.Taking.{HasRoomLeft, ready_inputs, ready_notices, ReadySuits};
 
-use crate::{Change, Inputs, NoticeList, Stream};
+use crate::NoticeList;
+use crate::inputs::Inputs;
+use px_block::BlockSource;
+use px_chmap::Feed;
 use px_msg::{FactorList, Notice};
+use px_stream::{Stream, StreamMsg};
 use px_types::InputId;
+use px_vol::Factors;
 
 /// A message with all the memory that it takes.
 #[derive(Debug, Drop)]
-pub enum Ready {
-    /// A stream comes.
-    Insert { input: InputId, stream: Stream },
+pub(crate) enum Ready {
+    /// A new stream comes.
+    Insert {
+        input: InputId,
+        stream: Stream,
+    },
+    /// A stream comes from another sink, with a feed and factors for this one.
+    Join {
+        input: InputId,
+        parcel: Stream,
+        feed: Feed,
+        factors: Factors,
+    },
     /// A stream leaves.
     Remove(InputId),
     /// A stream is changed.
-    Change { input: InputId, change: Change },
+    Change {
+        input: InputId,
+        change: StreamMsg,
+    },
     /// Some inputs get new factors.
     Each(FactorList),
     /// The tag is answered with where the stream stands.
-    Answer { input: InputId, tag: u32 },
+    Answer {
+        input: InputId,
+        tag: u32,
+    },
 }
 
 impl Inputs {
     /// Takes a message, where so many frames are mixed past the horizon and so many are in the sink's buffer, and tells what it has to
     /// tell. Takes room for one message, and no memory.
-    pub fn take(&mut self, message: Ready, mixed: u64, buffered: u32, out: &mut NoticeList)
+    pub(crate) fn take<B: BlockSource>(
+        &mut self,
+        message: Ready,
+        mixed: u64,
+        buffered: u32,
+        out: &mut NoticeList,
+        blocks: &mut B,
+    )
         requires room { 1 ≤ self.old.room }
         requires comes { HasRoomLeft (self.old.room - 1) message }
         requires suits { ReadySuits message self.old.inputs }
@@ -37,16 +65,26 @@ impl Inputs {
     {
         match message {
             Ready::Insert { input, stream } => self.insert(input, stream),
+            Ready::Join {
+                input,
+                parcel,
+                feed,
+                factors,
+            } => {
+                let mut stream = parcel;
+                stream.apply(StreamMsg::Attach { feed, factors }, mixed, blocks);
+                self.insert(input, stream);
+            }
             Ready::Remove(input) => match self.remove(input) {
                 Some(parcel) => out.push(Notice::Detached { input, parcel }),
                 None => {}
             },
             Ready::Change { input, change } => {
-                if self.change(input, change, mixed) {
+                if self.change(input, change, mixed, blocks) {
                     out.push(Notice::Overflow { input });
                 }
             }
-            Ready::Each(list) => self.set_factors(list.as_slice()),
+            Ready::Each(list) => self.set_factors(list.as_slice(), blocks),
             Ready::Answer { input, tag } => self.answer(input, tag, mixed, buffered, out),
         }
     }

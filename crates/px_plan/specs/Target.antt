@@ -1,6 +1,9 @@
 -- The sink that a command names.
 use Rattle.std.specs.Prelude.{◌≤◌, ◌≡◌, Bool, true, false, length, Option, None, Some, IsTrue}
 use Rattle.px_tag.specs.Item.{is_text}
+use Rattle.px_tag.specs.declared.raw.RawSpec.{RawSpec}
+use Rattle.px_sample.specs.declared.spec.Spec.{Spec}
+use Rattle.px_sample.specs.Format.{code_of}
 use Rattle.px_plan.specs.declared.target.Target.{Target}
 use Rattle.px_plan.specs.declared.target.Named.{Named}
 use Rattle.px_plan.specs.declared.target.Named.TheVariants.{Unclear, Unknown, Sink}
@@ -29,3 +32,7 @@ abbrev pub IsNamed : Named → Type 0
 IsNamed Unclear = Unit {0}
 IsNamed Unknown = Unit {0}
 IsNamed (Sink target) = IsTarget target
+
+-- a sample spec as packets have it
+abbrev pub raw_of : Spec → RawSpec
+raw_of spec = record { format = code_of spec.format; channels = spec.channels; rate = spec.rate }

@@ -14,6 +14,10 @@ pub enum Change<M, G> {
     Authed(ConnId, u16),
     /// The property list of a connection's client is this one.
     Named(ConnId, PropList),
+    /// A connection's client hears of these facilities, a bit each.
+    Masked(ConnId, u32),
+    /// This is the default sink.
+    Defaulted(SinkId),
     /// A connection has a new input, and these are the numbers of its next stream and of the next input. Its sink is told
     /// `new`.
     Made {

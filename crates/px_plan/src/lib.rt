@@ -15,5 +15,5 @@ pub use input::{Connection, Input, Standing, Way};
 pub use plan::Plan;
 pub use refusal::{Refusal, check, present};
 pub use sending::{Reason, Sending};
-pub use target::{Named, Target};
+pub use target::{Named, Target, raw_of};
 pub use waiting::{Awaited, Waiting};

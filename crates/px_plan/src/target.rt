@@ -1,10 +1,11 @@
 //! The sink that a command names.
 
 ghost use Rattle.std.specs.Prelude.{◌≡◌};
-ghost use Rattle.px_plan.specs.Target.{is_clear, target_of};
+ghost use Rattle.px_plan.specs.Target.{is_clear, target_of, raw_of};
 
 use px_chmap::Map;
 use px_sample::Spec;
+use px_tag::RawSpec;
 use px_types::{SinkId, Text};
 
 /// A sink as a command sees it (`pa_sink`).
@@ -48,5 +49,16 @@ impl Named {
             Named::Sink(target) => Some(target),
             Named::Unclear | Named::Unknown => None,
         }
+    }
+}
+
+/// A sample spec as packets have it. Takes no memory.
+pub fn raw_of(spec: &Spec) -> RawSpec
+    ensures { result ≡ raw_of spec.now }
+{
+    RawSpec {
+        format: spec.format.code(),
+        channels: spec.channels,
+        rate: spec.rate,
     }
 }

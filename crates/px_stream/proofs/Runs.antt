@@ -1,10 +1,10 @@
 -- Places of runs that stand one behind another.
-use Rattle.std.proofs.Common.{◌≡◌, ◌≢◌, ℕ, ◌+◌, ◌*◌, ◌/◌, ◌%◌, ◌<◌, ◌≤◌, List, length, get_or, arith, sym, ap, ◌∙◌, subst, mul_comm, ⊎_elim, ℤ, pos}
+use Rattle.std.proofs.Common.{◌≡◌, ◌≢◌, ℕ, ◌+◌, ◌*◌, ◌/◌, ◌%◌, ◌<◌, ◌≤◌, List, length, get_or, arith, sym, ap, ◌∙◌, subst, mul_comm, ⊎_elim, ℤ, pos, All, w32, SFits}
 use Rattle.std.proofs.Math.Nat.{add-mul, mul-le-mul_right, mul-div_cancel}
 use Rattle.std.proofs.Math.ListN.{set}
 use Rattle.std.proofs.lemmas.Nat.{mod-mul-add}
 use Rattle.std.proofs.lemmas.Bool.{cases_lt}
-use Rattle.std.proofs.lemmas.List.{get_or-set_same, get_or-set_other}
+use Rattle.std.proofs.lemmas.List.{get_or-set_same, get_or-set_other, length-set}
 
 -- place j of run c lies within all of them
 pub place_inside : (c count run place : ℕ) → c < count → place < run → c * run + place < run * count
@@ -27,6 +27,24 @@ values_more out value values c count run place less inside long is before b few 
     subst (λ (n : ℕ). get_or (set out (c * run + place) value) (n * run + place) (pos 0) ≡ values n) (sym same)
     (get_or-set_same out (c * run + place) value (pos 0) (omega (arith, place_inside c count run place less inside, long)) ∙ is))
     (cases_lt b c)
+
+-- all fit 32 bits
+pub fit_more : (out : List ℤ) (i : ℕ) (value : ℤ) → SFits w32 value → All (SFits w32) out → All (SFits w32) (set out i value)
+fit_more out i value here before j d few =
+    ⊎_elim
+    (λ (below : j < i). let other : j ≢ i = omega (arith, below) in there other)
+    (λ (from : i ≤ j). ⊎_elim
+    (λ (past : i < j). let other : j ≢ i = omega (arith, past) in there other)
+    (λ (to : j ≤ i). let same : i ≡ j = omega (arith, from, to) in
+    subst (λ (n : ℕ). SFits w32 (get_or (set out i value) n d)) same (subst (SFits w32) (sym (get_or-set_same out i value d (omega (arith, same, room)))) here))
+    (cases_lt i j))
+    (cases_lt j i)
+  where
+    room : j < length out
+    room = omega (arith, few, length-set out i value)
+
+    there : j ≢ i → SFits w32 (get_or (set out i value) j d)
+    there other = subst (SFits w32) (sym (get_or-set_other out i j value d other)) (before j d room)
 
 -- all other places stay
 pub others_more : (out old : List ℤ) (value : ℤ) (c run place : ℕ) → place < run

@@ -49,6 +49,19 @@ blocks_with (StreamMessage.attr attr) = 0
 blocks_with (StreamMessage.factors factors) = 0
 blocks_with (StreamMessage.query tag) = 0
 
+-- the room that it takes
+abbrev pub room_for : StreamMessage → ℕ
+room_for (StreamMessage.attach feed factors) = 0
+room_for (StreamMessage.write seek offset frames bytes) = 1
+room_for (StreamMessage.cork on) = 0
+room_for StreamMessage.flush = 0
+room_for StreamMessage.trigger = 0
+room_for StreamMessage.prebuf = 0
+room_for (StreamMessage.drain tag) = 1
+room_for (StreamMessage.attr attr) = 0
+room_for (StreamMessage.factors factors) = 0
+room_for (StreamMessage.query tag) = 0
+
 -- the answer, by whether frames were written that aren't held
 abbrev pub answer_for : Bool → Applied
 answer_for true = Overflow

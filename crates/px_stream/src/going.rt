@@ -1,9 +1,10 @@
 // A stream going forward with its sink, and what it asks for.
-ghost use Rattle.std.specs.Prelude.{◌≡◌, ◌≤◌, ◌+◌, ◌∷◌, ◌⊎◌, [], true, false, MatchOption};
+ghost use Rattle.std.specs.Prelude.{◌≡◌, ◌≤◌, ◌+◌, ◌∷◌, ◌⊎◌, [], true, false, length, nat_lt, nat_le, MatchOption};
 ghost use Rattle.px_block.specs.Given.{after_giving};
 ghost use Rattle.px_model.specs.Going.{after, given_of, ahead_of};
 ghost use Rattle.px_model.specs.Index.{above};
 ghost use Rattle.px_model.specs.Turn.{is_playing, has_ended, has_started, has_run_out, missing_of, request_of};
+ghost use Rattle.px_stream.specs.Kept.{IsMixable};
 
 use crate::Stream;
 use crate::run::run_after;
@@ -120,6 +121,7 @@ impl Stream {
     /// least `minreq`, else 0.
     pub fn request(&mut self, mixed: u64) -> u32
         ensures frames { result ≡ request_of self.old.stream mixed }
+        ensures asked { nat_lt 0 result ≡ nat_le self.old.stream.minreq (missing_of self.old.stream mixed) }
         ensures stream { self.new.stream ≡ record self.old.stream { requested = self.old.stream.requested + request_of self.old.stream mixed } }
         ensures room { self.new.room ≡ self.old.room }
         ensures blocks { self.new.blocks ≡ self.old.blocks }
@@ -156,6 +158,14 @@ impl Stream {
             return None;
         }
         Some(self.draining.remove(0))
+    }
+
+    /// How many drains wait for an answer.
+    pub fn draining(&self) -> usize
+        ensures count { result ≡ length self.now.stream.draining }
+        ensures kept { IsMixable self.now.stream }
+    {
+        self.draining.len()
     }
 
     fn has_ended(&self) -> bool

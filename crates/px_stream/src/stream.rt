@@ -6,7 +6,7 @@ ghost use Rattle.px_model.specs.Applied.{applied, overflows, written_by, write_o
 ghost use Rattle.px_model.specs.Control.{new_stream, drained_by, flushed, triggered, prebuffered, with_attr, attached, with_factors, corked_to};
 ghost use Rattle.px_model.specs.Frame.{SampleSpec, frame_size};
 ghost use Rattle.px_model.specs.Orderly.{IsNewStream, IsRepaired};
-ghost use Rattle.px_stream.specs.Messages.{message_of, Suits, blocks_with, answer_for};
+ghost use Rattle.px_stream.specs.Messages.{message_of, Suits, blocks_with, room_for, answer_for};
 
 use crate::{Applied, StreamMsg};
 use px_block::{BlockSource, Blocks};
@@ -95,18 +95,18 @@ impl Stream {
     }
 
     /// Applies a message, where so many frames of its sink are mixed past its read index. It fits the stream. Blocks that fall out of
-    /// use go back to their source. Takes room for one message, and no memory.
+    /// use go back to their source. A write and a drain take room for one message. Takes no memory.
     pub fn apply<B: BlockSource>(
         &mut self,
         message: StreamMsg,
         mixed: u64,
         blocks: &mut B,
     ) -> Applied
-        requires room { 1 ≤ self.old.room }
+        requires room { room_for (message_of message) ≤ self.old.room }
         requires suits { Suits self.old.stream (message_of message) }
         ensures stream { self.new.stream ≡ applied mixed (message_of message) self.old.stream }
         ensures answer { result ≡ answer_for (overflows mixed (message_of message) self.old.stream) }
-        ensures room { self.old.room ≤ self.new.room + 1 }
+        ensures room { self.old.room ≤ self.new.room + room_for (message_of message) }
         ensures given { after_giving (B.given blocks.new) self.new.blocks ≡ after_giving (B.given blocks.old) (self.old.blocks + blocks_with (message_of message)) }
     {
         match message {

@@ -22,7 +22,8 @@ impl Stream {
     /// Answers how many frames it gave. Takes no memory.
     pub fn frame_values(&self, from: u32, width: Width, out: &mut [i32]) -> u32
         requires { (n : ℕ) × (length out.old ≡ n * length self.now.stream.feed) }
-        ensures { (n : ℕ) → length out.old ≡ n * length self.now.stream.feed → GivesValues width self.now.stream from n result out.old out.new }
+        ensures values { (n : ℕ) → length out.old ≡ n * length self.now.stream.feed → GivesValues width self.now.stream from n result out.old out.new }
+        ensures words { All (FitsSigned w32) out.old → All (FitsSigned w32) out.new }
     {
         let run = out.len() / self.feed.channels().len();
         let mut count: u32 = 0;
@@ -44,6 +45,7 @@ impl Stream {
         ensures some { IsTrue result → frame_at self.now.stream k ≢ nothing }
         ensures values { IsTrue result → (c : ℕ) → c < length self.now.stream.feed → slice_index_or out.new (c * run + place) (pos 0) ≡ value_at width self.now.stream c (frame_at self.now.stream k) }
         ensures others { (i : ℕ) → i % run ≢ place → slice_index_or out.new i (pos 0) ≡ slice_index_or out.old i (pos 0) }
+        ensures fit { All (FitsSigned w32) out.old → All (FitsSigned w32) out.new }
     {
         let mut scratch = [0; MOST_CHANNELS];
         let values = &mut scratch[..self.spec.channels as usize];
@@ -102,6 +104,7 @@ fn scatter(values: &[i32], feed: &[u8], run: usize, place: usize, out: &mut [i32
     requires words { All (FitsSigned w32) values.now }
     ensures values { (c : ℕ) → c < length feed.now → slice_index_or out.new (c * run + place) (pos 0) ≡ slice_index_or values.now (slice_index feed.now c) (pos 0) }
     ensures others { (i : ℕ) → i % run ≢ place → slice_index_or out.new i (pos 0) ≡ slice_index_or out.old i (pos 0) }
+    ensures fit { All (FitsSigned w32) out.old → All (FitsSigned w32) out.new }
 {
     for c in 0..feed.len() {
         out[c * run + place] = values[feed[c] as usize];

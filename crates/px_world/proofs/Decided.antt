@@ -12,7 +12,7 @@ use Rattle.px_model.specs.Sink.{Sink}
 use Rattle.px_model.specs.Turn.{frame_mixed}
 use Rattle.px_model.specs.Deciding.{Entry, turn, stop, sink_after, replay, replay_played, CanBe, IsHistory, deciding, decided, IsLastReaching}
 use Rattle.px_model.proofs.Decided.{run_is_consumed, run_is_decided, run_has_one, last_reaching}
-use Rattle.px_lane.specs.Samples.{samples}
+use Rattle.px_stream.specs.Samples.{samples}
 use Rattle.px_world.specs.World.{Mixer, new_mixer, new_world}
 use Rattle.px_world.specs.Output.{world_by, AreAdmitted}
 use Rattle.px_world.specs.History.{history_by, played_by_run, begun, sink_at, IsDecided}

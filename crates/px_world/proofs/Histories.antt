@@ -13,7 +13,7 @@ use Rattle.px_model.specs.Turn.{turned, turn_notices, stopped_turn, stopped_noti
 use Rattle.px_model.specs.Deciding.{Entry, turn, stop, sink_after, played_of, replay, replay_played, CanBe, IsHistory}
 use Rattle.px_model.proofs.Replays.{replay_joins, played_join}
 use Rattle.px_core.specs.Out.{waiting_for}
-use Rattle.px_lane.specs.Samples.{samples}
+use Rattle.px_stream.specs.Samples.{samples}
 use Rattle.px_world.specs.declared.fault.WorldFault.{WorldFault}
 use Rattle.px_world.specs.declared.fault.WorldFault.TheVariants.{TooMany}
 use Rattle.px_world.specs.World.{World, Mixer}

@@ -16,7 +16,7 @@ use Rattle.px_model.specs.Stream.{Stream}
 use Rattle.px_model.specs.Turn.{AreFor, BringsStream, turned, stopped_turn, turn_notices, stopped_notices}
 use Rattle.px_model.proofs.Rounds as rounds
 use Rattle.px_model.proofs.Shown as shown
-use Rattle.px_lane.specs.Samples.{samples}
+use Rattle.px_stream.specs.Samples.{samples}
 use Rattle.px_core.specs.State.{State}
 use Rattle.px_core.specs.Orderly.{inputs_there}
 use Rattle.px_core.specs.Out.{waiting_for}

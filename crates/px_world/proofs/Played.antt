@@ -12,7 +12,7 @@ use Rattle.px_model.specs.Sink.{Sink, IsSink}
 use Rattle.px_model.specs.Stream.{Stream}
 use Rattle.px_model.specs.Turn.{turned, turn_notices, stopped_turn, stopped_notices, played_by}
 use Rattle.px_lane.specs.Lane.{IsAttached}
-use Rattle.px_lane.specs.Samples.{samples}
+use Rattle.px_stream.specs.Samples.{samples}
 use Rattle.px_lane.specs.Turned.{Plays}
 use Rattle.px_world.specs.Event.{is_to_stop, mixer_stopped, mixer_played, mixer_turned, played_of}
 use Rattle.px_world.specs.World.{Mixer}

@@ -12,7 +12,7 @@ use Rattle.px_model.specs.Stream.{Stream}
 use Rattle.px_model.specs.Sink.{Sink, empty_sink}
 use Rattle.px_model.specs.Turn.{frame_mixed}
 use Rattle.px_model.specs.Deciding.{Entry, turn, stop, IsLastReaching}
-use Rattle.px_lane.specs.Samples.{samples}
+use Rattle.px_stream.specs.Samples.{samples}
 use Rattle.px_world.specs.World.{World, Mixer, new_world}
 use Rattle.px_world.specs.Event.{world_after, frames_played, messages_taken, is_to_stop}
 

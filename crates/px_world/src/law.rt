@@ -6,7 +6,7 @@ ghost use Rattle.px_session.specs.declared.header.Header.{Header};
 ghost use Rattle.px_session.specs.declared.header.SinkSpec.{SinkSpec};
 ghost use Rattle.px_session.specs.declared.event.Event.{Event};
 ghost use Rattle.px_model.specs.Deciding.{replay, replay_played, IsHistory};
-ghost use Rattle.px_lane.specs.Samples.{samples};
+ghost use Rattle.px_stream.specs.Samples.{samples};
 ghost use Rattle.px_world.specs.World.{World, new_world};
 ghost use Rattle.px_world.specs.Admission.{refusal_of};
 ghost use Rattle.px_world.specs.Event.{world_after};

@@ -12,8 +12,9 @@ ghost use Rattle.px_world.specs.Running.{IsAnswered, steps_given};
 
 use px_core::{Core, Effects};
 use px_frame::{Frame, FrameError, FrameFault, Frames};
-use px_lane::{Carried, MsgList, NoticeList, Stream, handed_over, taken_over};
+use px_lane::{Carried, MsgList, NoticeList, handed_over, taken_over};
 use px_msg::Notice;
+use px_stream::Stream;
 use px_types::{ConnId, Mem, NoMemory, SinkId};
 use std::alloc::Global;
 use std::collections::VecDeque;

@@ -3,7 +3,7 @@ use Rattle.std.specs.List.{concat}
 use Rattle.px_ends.specs.Device.{DeviceState, IsPut, put_at}
 use Rattle.px_model.specs.Sink.{Sink}
 use Rattle.px_model.specs.Turn.{turned, next_horizon}
-use Rattle.px_lane.specs.Samples.{samples}
+use Rattle.px_stream.specs.Samples.{samples}
 use Rattle.px_lane.specs.Lane.{IsLane, IsAttached}
 use Rattle.px_lane.proofs.Attached.{put_there, turn_room}
 use Rattle.px_lane.proofs.lane.play.Goals as goal

@@ -11,7 +11,7 @@ pub returns-in_err-reserve-clause-same : goal.returns-in_err-reserve-clause-same
 returns-in_err-reserve-clause-same c =
     let l = c.loop-input in
     let x = slice_index_or l.inputs l.input-index c.input-item.result in
-    same_set input_of l.inputs l.input-index c.input-item.result _ (ap (λ (s : Stream). let v : Stands = record { index = x.index.0; stream = s } in v) c.reserve.ensures.value) ∙ l.invariant.0
+    same_set input_of l.inputs l.input-index c.input-item.result _ (ap (λ (s : Stream). let v : Stands = record { index = x.index.0; stream = s } in v) c.reserve.ensures.stream) ∙ l.invariant.0
 
 pub returns-in_err-reserve-clause-kept : goal.returns-in_err-reserve-clause-kept
 returns-in_err-reserve-clause-kept c = λ old h.
@@ -24,7 +24,7 @@ loop-input-preserved c =
     let l = c.loop-input in
     let x = slice_index_or l.inputs l.input-index c.input-item.result in
     let few : l.input-index < length l.inputs = omega (arith, c.loop-input-test.true, l.auto.inputs) in (
-      same_set input_of l.inputs l.input-index c.input-item.result _ (ap (λ (s : Stream). let v : Stands = record { index = x.index.0; stream = s } in v) c.reserve.ensures.value) ∙ l.invariant.0,
+      same_set input_of l.inputs l.input-index c.input-item.result _ (ap (λ (s : Stream). let v : Stands = record { index = x.index.0; stream = s } in v) c.reserve.ensures.stream) ∙ l.invariant.0,
       λ old h. all_with old l.input-index l.inputs _ (omega (arith, c.reserve.ensures.room, all_at old l.input-index l.inputs c.input-item.result few (l.invariant.1 old h))) (l.invariant.1 old h),
       all_more (HasRoom c.args.room) l.inputs l.input-index _ few l.invariant.2 c.in_ok-reserve.ensures.ok,
     )

@@ -4,7 +4,7 @@ use Rattle.px_model.specs.Sink.{IsStreamOf, streams_of}
 use Rattle.px_lane.specs.declared.input.Input.{Input}
 use Rattle.px_msg.specs.View.{sample_spec}
 use Rattle.px_lane.specs.Inputs.{inputs_of}
-use Rattle.px_lane.specs.Samples.{samples}
+use Rattle.px_stream.specs.Samples.{samples}
 use Rattle.px_model.specs.Mix.{sum_of}
 use Rattle.px_lane.proofs.Summed.{stream_of_input, sums_listed}
 use Rattle.px_lane.proofs.mix.add_all.Goals as goal

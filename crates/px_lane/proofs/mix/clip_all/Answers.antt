@@ -1,7 +1,7 @@
 use Rattle.std.proofs.Common.{◌≡◌, ◌<◌, length, arith, ◌∙◌, ap, sym, subst, pos, w32, to_z, of_z}
 use Rattle.px_sample.specs.WorkValue.{IsWithin}
 use Rattle.std.specs.Int.{saturate_signed}
-use Rattle.px_lane.specs.Samples.{bit_width}
+use Rattle.px_stream.specs.Samples.{bit_width}
 use Rattle.px_sample.proofs.RunLemmas.{mapped_more, each_more, read_as_is}
 use Rattle.px_lane.proofs.Mixing.{sum_as_is}
 use Rattle.px_lane.proofs.mix.clip_all.Goals as goal

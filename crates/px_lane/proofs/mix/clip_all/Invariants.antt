@@ -1,7 +1,7 @@
 use Rattle.std.proofs.Common.{◌≡◌, ℕ, ◌<◌, ℤ, map, take, get_or}
 use Rattle.std.specs.Int.{saturate_signed}
 use Rattle.px_sample.specs.WorkValue.{IsWithin}
-use Rattle.px_lane.specs.Samples.{bit_width}
+use Rattle.px_stream.specs.Samples.{bit_width}
 use Rattle.px_lane.proofs.mix.clip_all.Given as goal
 
 abbrev pub invariant-loop-c : goal.invariant-loop-c

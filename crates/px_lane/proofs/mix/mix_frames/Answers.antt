@@ -5,7 +5,7 @@ use Rattle.px_model.specs.Sink.{streams_of}
 use Rattle.px_sample.proofs.RunLemmas.{next_fits, length_part}
 use Rattle.px_msg.specs.View.{sample_spec}
 use Rattle.px_lane.specs.Inputs.{inputs_of}
-use Rattle.px_lane.specs.Samples.{samples}
+use Rattle.px_stream.specs.Samples.{samples}
 use Rattle.px_lane.proofs.Summed.{frames_more}
 use Rattle.px_lane.proofs.mix.mix_frames.Goals as goal
 

@@ -4,7 +4,7 @@ use Rattle.px_model.specs.Mix.{mix_of}
 use Rattle.px_model.specs.Sink.{streams_of}
 use Rattle.px_msg.specs.View.{sample_spec}
 use Rattle.px_lane.specs.Inputs.{inputs_of}
-use Rattle.px_lane.specs.Samples.{samples}
+use Rattle.px_stream.specs.Samples.{samples}
 use Rattle.px_lane.proofs.mix.mix_frames.Given as goal
 
 abbrev pub invariant-loop-k : goal.invariant-loop-k

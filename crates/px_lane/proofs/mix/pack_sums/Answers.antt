@@ -5,7 +5,7 @@ use Rattle.px_sample.specs.WorkValue.{packed_of}
 use Rattle.px_sample.specs.Format.{width_of}
 use Rattle.px_model.specs.Sink.{streams_of}
 use Rattle.px_lane.specs.Inputs.{inputs_of}
-use Rattle.px_lane.specs.Samples.{bit_width}
+use Rattle.px_stream.specs.Samples.{bit_width}
 use Rattle.px_lane.proofs.Summed.{packed_mix}
 use Rattle.px_lane.proofs.mix.pack_sums.Goals as goal
 

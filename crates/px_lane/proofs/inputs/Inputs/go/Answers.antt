@@ -8,7 +8,7 @@ use Rattle.px_lane.proofs.Each.{kept_in_place}
 use Rattle.px_lane.proofs.inputs.Inputs.go.Goals as goal
 
 pub invariant_of-self : goal.invariant_of-self
-invariant_of-self c =
+invariant_of-self g c =
     let d = c.self.inside in
     let lent : c.as_mut_slice.result.now ≡ d.items.items = c.as_mut_slice.ensures.value in
     kept_in_place (λ s. after s c.args.frames) d.items.items c.go_each.new.inputs d.items.len d.room d.items.cap

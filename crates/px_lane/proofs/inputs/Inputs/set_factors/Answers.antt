@@ -8,7 +8,7 @@ use Rattle.px_lane.proofs.Rising.{rising_factors}
 use Rattle.px_lane.proofs.inputs.Inputs.set_factors.Goals as goal
 
 pub invariant_of-self : goal.invariant_of-self
-invariant_of-self c =
+invariant_of-self g c =
     let d = c.self.inside in
     let lent : c.as_mut_slice.result.now ≡ d.items.items = c.as_mut_slice.ensures.value in
     in_place d.items.items c.set_each.new.inputs d.items.len d.room d.room d.items.cap

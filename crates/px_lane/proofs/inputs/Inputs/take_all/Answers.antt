@@ -4,7 +4,7 @@ use Rattle.px_lane.proofs.Readied.{take_fits}
 use Rattle.px_lane.proofs.inputs.Inputs.take_all.Goals as goal
 
 pub take-requires-clause-capacity : goal.take-requires-clause-capacity
-take-requires-clause-capacity c =
+take-requires-clause-capacity g c =
     let l = c.loop-message in
     let n = c.in-Some.ensures.value in
     take_fits c.args.mixed c.args.buffered c.in-Some.message n.0 l.messages.messages c.next.new.self.messages l.self.inputs

@@ -4,7 +4,7 @@ use Rattle.px_lane.specs.Taking.{CanTakeAll}
 use Rattle.px_lane.proofs.inputs.Inputs.take_all.Given as goal
 
 abbrev pub invariant-loop-message : goal.invariant-loop-message
-invariant-loop-message l =
+invariant-loop-message g l =
     (inputs_with_all l.mixed l.messages.messages l.self.inputs ≡ inputs_with_all l.mixed l.fn.messages.messages l.fn.self.inputs)
     × (l.out.notices ++ all_message_notices l.mixed l.buffered l.messages.messages l.self.inputs ≡ l.fn.out.notices ++ all_message_notices l.mixed l.buffered l.fn.messages.messages l.fn.self.inputs)
     × CanTakeAll l.mixed l.messages.messages l.self.inputs
@@ -13,4 +13,4 @@ invariant-loop-message l =
     × (l.out.capacity ≡ l.fn.out.capacity)
 
 abbrev pub decreases-loop-message : goal.decreases-loop-message
-decreases-loop-message l = length l.messages.messages
+decreases-loop-message g l = length l.messages.messages

@@ -3,24 +3,22 @@ use Rattle.std.specs.List.{AllByRecursion}
 use Rattle.px_model.specs.Frame.{frame_size}
 use Rattle.px_model.specs.Sink.{Sink, Input, IsStreamOf}
 use Rattle.px_model.specs.Turn.{next_horizon, settled, told, remixed, asked}
-use Rattle.px_lane.specs.Samples.{samples}
+use Rattle.px_stream.specs.Samples.{samples}
 use Rattle.px_lane.specs.Taking.{CanTakeAll}
 use Rattle.px_lane.specs.Whole.{AreFramesOf}
 use Rattle.px_lane.specs.Lane.{IsLane}
-use Rattle.px_model.specs.Rows.{s16_samples}
-use Rattle.px_model.proofs.Shown.{turn_leaves}
 use Rattle.px_lane.proofs.Orders.{orderly_taken}
 use Rattle.px_lane.proofs.Turning.{told_suit, told_few, turned_lane}
 use Rattle.px_lane.proofs.mixer.SinkMixer.play.Goals as goal
 
 pub take_all-requires-clause-suits : goal.take_all-requires-clause-suits
-take_all-requires-clause-suits c =
+take_all-requires-clause-suits g c =
     let sink = c.args.self.now.sink in
     subst (λ (s : Sink). CanTakeAll (s.filled - s.horizon) c.args.messages.now.messages s.inputs) (sym c.settle.ensures.value)
-    (orderly_taken (turn_leaves s16_samples) sink.spec (next_horizon sink c.args.frames - sink.horizon) (sink.filled - next_horizon sink c.args.frames) c.args.messages.now.messages sink.inputs c.requires.messages.orderly)
+    (orderly_taken sink.spec (next_horizon sink c.args.frames - sink.horizon) (sink.filled - next_horizon sink c.args.frames) c.args.messages.now.messages sink.inputs c.requires.lane.kept.rising c.requires.lane.kept.streams c.requires.messages.orderly)
 
 pub remix-requires-clause-streams : goal.remix-requires-clause-streams
-remix-requires-clause-streams c =
+remix-requires-clause-streams g c =
     let sink = c.args.self.now.sink in
     let messages = c.args.messages.now.messages in
     let after : c.take_all.new.self.sink ≡ told (settled sink c.args.frames) messages = c.take_all.ensures.value ∙ ap (λ (s : Sink). told s messages) c.settle.ensures.value in
@@ -28,7 +26,7 @@ remix-requires-clause-streams c =
     (told_suit samples sink c.args.frames messages c.requires.lane.kept c.requires.there c.requires.messages)
 
 pub remix-requires-clause-few : goal.remix-requires-clause-few
-remix-requires-clause-few c =
+remix-requires-clause-few g c =
     let sink = c.args.self.now.sink in
     let messages = c.args.messages.now.messages in
     let after : c.take_all.new.self.sink ≡ told (settled sink c.args.frames) messages = c.take_all.ensures.value ∙ ap (λ (s : Sink). told s messages) c.settle.ensures.value in
@@ -36,7 +34,7 @@ remix-requires-clause-few c =
     (told_few samples sink c.args.frames messages c.requires.lane c.requires.there c.requires.messages)
 
 pub remix-requires-clause-countable : goal.remix-requires-clause-countable
-remix-requires-clause-countable c =
+remix-requires-clause-countable g c =
     let sink = c.args.self.now.sink in
     let messages = c.args.messages.now.messages in
     let keeps = c.requires.lane.kept in
@@ -45,7 +43,7 @@ remix-requires-clause-countable c =
     (omega (arith, c.requires.there, c.requires.countable, c.requires.lane.low_depth, keeps.consumed_first, keeps.horizon_first))
 
 pub returns-clause-lane : goal.returns-clause-lane
-returns-clause-lane c =
+returns-clause-lane g c =
     let sink = c.args.self.now.sink in
     let messages = c.args.messages.now.messages in
     let mixed : c.remix.new.self.sink ≡ remixed samples (told (settled sink c.args.frames) messages) =

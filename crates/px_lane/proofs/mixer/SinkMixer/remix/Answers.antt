@@ -9,7 +9,7 @@ use Rattle.px_model.specs.Sink.{Sink, streams_of}
 use Rattle.px_model.specs.Mix.{mix_of}
 use Rattle.px_model.specs.Turn.{remixed}
 use Rattle.px_lane.specs.Mixing.{RoomySink, sink_of}
-use Rattle.px_lane.specs.Samples.{samples}
+use Rattle.px_stream.specs.Samples.{samples}
 use Rattle.px_lane.proofs.Buffers.{frames_renewed}
 use Rattle.px_lane.proofs.Shares.{mixes_sized, frames_sized}
 use Rattle.px_lane.proofs.mixer.SinkMixer.remix.Goals as goal

@@ -10,7 +10,7 @@ use Rattle.px_lane.proofs.Buffers.{frames_moved, same_parts}
 use Rattle.px_lane.proofs.mixer.SinkMixer.settle.Goals as goal
 
 pub returns-clause-value : goal.returns-clause-value
-returns-clause-value c =
+returns-clause-value g c =
     let d = c.self.inside in
     let h = c.self.invariant.1 in
     let n = c.args.frames in

@@ -6,20 +6,18 @@ use Rattle.px_lane.specs.Taking.{CanTakeAll}
 use Rattle.px_lane.specs.Mixing.{given_up}
 use Rattle.px_lane.specs.Whole.{AreFramesOf}
 use Rattle.px_lane.specs.Lane.{IsLane}
-use Rattle.px_model.specs.Rows.{s16_samples}
-use Rattle.px_model.proofs.Shown.{turn_leaves}
 use Rattle.px_lane.proofs.Orders.{orderly_taken}
 use Rattle.px_lane.proofs.Turning.{stopped_lane, halted_is}
 use Rattle.px_lane.proofs.mixer.SinkMixer.stop.Goals as goal
 
 pub take_all-requires-clause-suits : goal.take_all-requires-clause-suits
-take_all-requires-clause-suits c =
+take_all-requires-clause-suits g c =
     let sink = c.args.self.now.sink in
     subst (λ (s : Sink). CanTakeAll (s.filled - s.horizon) c.args.messages.now.messages s.inputs) (sym (c.give_up.ensures.value ∙ ap given_up c.settle.ensures.value))
-    (orderly_taken (turn_leaves s16_samples) sink.spec (next_horizon sink 0 - sink.horizon) (next_horizon sink 0 - next_horizon sink 0) c.args.messages.now.messages sink.inputs c.requires.messages.orderly)
+    (orderly_taken sink.spec (next_horizon sink 0 - sink.horizon) (next_horizon sink 0 - next_horizon sink 0) c.args.messages.now.messages sink.inputs c.requires.lane.kept.rising c.requires.lane.kept.streams c.requires.messages.orderly)
 
 pub returns-clause-lane : goal.returns-clause-lane
-returns-clause-lane c =
+returns-clause-lane g c =
     let sink = c.args.self.now.sink in
     let messages = c.args.messages.now.messages in
     let up : c.give_up.new.self.sink ≡ halted sink = c.give_up.ensures.value ∙ ap given_up c.settle.ensures.value ∙ halted_is sink in

@@ -2,9 +2,10 @@ use Rattle.std.proofs.Common.{◌≡◌, ◌∷◌, ℕ, List, map, ap, sym, ◌
 use Rattle.std.specs.Prelude.{flat_map}
 use Rattle.std.specs.List.{AllByRecursion}
 use Rattle.px_msg.specs.declared.message.Msg.{Msg}
-use Rattle.px_lane.specs.Room.{RoomyStream, ReadyMessages}
+use Rattle.px_stream.specs.Kept.{KeptStream}
+use Rattle.px_lane.specs.Room.{ReadyMessages}
 use Rattle.px_lane.specs.Lists.{plain_message, messages_of}
-use Rattle.px_lane.specs.Taking.{bytes_of, streams_of, BringsRoom, HasRoomLeft}
+use Rattle.px_lane.specs.Taking.{streams_of, BringsRoom, HasRoomLeft}
 use Rattle.px_lane.proofs.Readied.{left_over}
 use Rattle.px_lane.proofs.prepared.Prepared.next.Goals as goal
 
@@ -12,14 +13,12 @@ pub invariant_of-self : goal.invariant_of-self
 invariant_of-self c =
     let d = c.self.inside in
     let m = c.in-Some.message in
-    let rest : List (Msg RoomyStream) = c.pop_front.new.self.items in
+    let rest : List (Msg KeptStream) = c.pop_front.new.self.items in
     let items : d.items.items ≡ m ∷ rest = c.in-Some.ensures.items in
-    let brought = subst (λ (ms : List (Msg RoomyStream)). AllByRecursion (BringsRoom d.room) ms) items c.self.invariant.3 in (
-      left_over d.bytes.items (bytes_of (plain_message m)) (flat_map bytes_of (messages_of rest)) c.ready.new.bytes.items
-          (c.self.invariant.0 ∙ ap (λ (ms : List (Msg RoomyStream)). flat_map bytes_of (messages_of ms)) items) c.ready.ensures.bytes,
-      left_over (map RoomyStream.stream d.streams.items) (streams_of (plain_message m)) (flat_map streams_of (messages_of rest)) (map RoomyStream.stream c.ready.new.streams.items)
-          (c.self.invariant.1 ∙ ap (λ (ms : List (Msg RoomyStream)). flat_map streams_of (messages_of ms)) items) c.ready.ensures.streams,
-      (c.ready.ensures.room d.room c.self.invariant.2 brought.0).1,
+    let brought = subst (λ (ms : List (Msg KeptStream)). AllByRecursion (BringsRoom d.room) ms) items c.self.invariant.2 in (
+      left_over (map KeptStream.stream d.streams.items) (streams_of (plain_message m)) (flat_map streams_of (messages_of rest)) (map KeptStream.stream c.ready.new.streams.items)
+          (c.self.invariant.0 ∙ ap (λ (ms : List (Msg KeptStream)). flat_map streams_of (messages_of ms)) items) c.ready.ensures.streams,
+      (c.ready.ensures.room d.room c.self.invariant.1 brought.0).1,
       brought.1,
     )
 
@@ -27,9 +26,9 @@ pub returns-in-Some-clause-value : goal.returns-in-Some-clause-value
 returns-in-Some-clause-value c =
     let d = c.self.inside in
     let m = c.in-Some.message in
-    let rest : List (Msg RoomyStream) = c.pop_front.new.self.items in
+    let rest : List (Msg KeptStream) = c.pop_front.new.self.items in
     let items : d.items.items ≡ m ∷ rest = c.in-Some.ensures.items in
-    let brought = subst (λ (ms : List (Msg RoomyStream)). AllByRecursion (BringsRoom d.room) ms) items c.self.invariant.3 in
+    let brought = subst (λ (ms : List (Msg KeptStream)). AllByRecursion (BringsRoom d.room) ms) items c.self.invariant.2 in
     let room : d.room ≡ c.args.self.now.room = ap (λ (v : ReadyMessages). v.room) c.self.view_is in
-    let left = subst (λ (n : ℕ). HasRoomLeft n c.ready.result) room (c.ready.ensures.room d.room c.self.invariant.2 brought.0).0 in
+    let left = subst (λ (n : ℕ). HasRoomLeft n c.ready.result) room (c.ready.ensures.room d.room c.self.invariant.1 brought.0).0 in
     (plain_message m, sym (ap (λ (v : ReadyMessages). v.messages) c.self.view_is) ∙ ap messages_of items, c.ready.ensures.ready, left)

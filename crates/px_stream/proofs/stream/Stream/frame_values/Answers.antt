@@ -40,11 +40,12 @@ loop-count-preserved c =
           (λ (now : count ≤ j). let same : count ≡ j = omega (arith, now, less) in
           subst (λ (n : ℕ). get_or c.put_values.new.out (k * run + n) (pos 0) ≡ value_at c.args.width s k (frame_at s (from + n))) same (values k few))
           (cases_lt j count);
+      fit = λ all. put.fit (h.fit all);
       rest = λ k j few past within. let other : j ≢ count = omega (arith, past) in keeps k j within other ∙ h.rest k j few (omega (arith, past)) within;
     }
 
-pub returns-then-not-put_values : goal.returns-then-not-put_values
-returns-then-not-put_values c =
+pub returns-then-not-put_values-clause-values : goal.returns-then-not-put_values-clause-values
+returns-then-not-put_values-clause-values c =
     let s = c.args.self.now.stream in
     let feed = s.feed in
     let run = length c.args.out.now / length c.channels.result.now in
@@ -64,8 +65,8 @@ returns-then-not-put_values c =
     let run_same : run ≡ n = ap (λ (xs : List ℕ). length c.args.out.now / length xs) same ∙ run_is (length c.args.out.now) n (length feed) some whole in
     subst (λ (xs : List ℤ). GivesValues c.args.width s c.args.from n c.loop-count.count c.args.out.now xs) (sym none.1) (subst (λ (m : ℕ). GivesValues c.args.width s c.args.from m c.loop-count.count c.args.out.now c.loop-count.out) run_same made)
 
-pub returns-else-count-from : goal.returns-else-count-from
-returns-else-count-from c =
+pub returns-else-count-from-clause-values : goal.returns-else-count-from-clause-values
+returns-else-count-from-clause-values c =
     let s = c.args.self.now.stream in
     let feed = s.feed in
     let run = length c.args.out.now / length c.channels.result.now in
@@ -84,8 +85,8 @@ returns-else-count-from c =
     let run_same : run ≡ n = ap (λ (xs : List ℕ). length c.args.out.now / length xs) same ∙ run_is (length c.args.out.now) n (length feed) some whole in
     subst (λ (m : ℕ). GivesValues c.args.width s c.args.from m c.loop-count.count c.args.out.now c.loop-count.out) run_same made
 
-pub returns-after-loop-count : goal.returns-after-loop-count
-returns-after-loop-count c =
+pub returns-after-loop-count-clause-values : goal.returns-after-loop-count-clause-values
+returns-after-loop-count-clause-values c =
     let s = c.args.self.now.stream in
     let feed = s.feed in
     let run = length c.args.out.now / length c.channels.result.now in

@@ -3,7 +3,7 @@ use Rattle.std.specs.Prelude.{◌||◌, ◌++◌, Some}
 use Rattle.std.specs.List.{concat}
 use Rattle.px_ends.specs.MemoryDevice.{MemoryDevice, state_of}
 use Rattle.px_model.specs.Turn.{turned as after, turn_notices}
-use Rattle.px_lane.specs.Samples.{samples}
+use Rattle.px_stream.specs.Samples.{samples}
 use Rattle.px_lane.specs.Turned.{Turns}
 use Rattle.px_lane.specs.declared.lane.Turned.{Turned}
 use Rattle.px_world.specs.Playing.{mixer_of}

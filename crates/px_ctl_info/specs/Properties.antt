@@ -1,0 +1,64 @@
+-- The property lists of clients (PulseAudio: `command_update_proplist` and `command_remove_proplist` of pulsecore/protocol-native.c; that a key which isn't there refuses the whole removal is own).
+use Rattle.std.specs.Prelude.{ℕ, ◌-◌, Bool, cond, ◌&&◌, nat_eq, nat_lt, List, [], ◌∷◌, fold, length, slice_index, take, Option, None, Some, Ok}
+use Rattle.std.specs.List.{list_all}
+use Rattle.px_types.specs.declared.error_code.ErrorCode.TheVariants.{Invalid, NoEntity}
+use Rattle.px_tag.specs.Item.{is_text}
+use Rattle.px_tag.specs.PropList.{Property, has_key, value_of, without, updated}
+use Rattle.px_tag.specs.declared.mode.Mode.{Mode}
+use Rattle.px_tag.specs.declared.mode.Mode.TheVariants.{Set, Merge, Replace}
+use Rattle.px_names.specs.declared.client.Client.{Client}
+use Rattle.px_reply.specs.Front.{reply_to}
+use Rattle.px_plan.specs.declared.change.Change.TheVariants.{Named}
+use Rattle.px_plan.specs.declared.input.Connection.{Connection}
+use Rattle.px_plan.specs.Plan.{Planned, replied}
+use Rattle.px_plan.specs.Row.{Row, ◌>>=◌, check, present}
+
+-- ---- what a list says of its object's name
+
+-- bytes that are a text and a zero byte behind it, of which there is no other: the text
+abbrev pub text_in : List ℕ → Option (List ℕ)
+text_in bytes = cond
+    (nat_lt 0 (length bytes) && nat_eq (slice_index bytes (length bytes - 1)) 0 && is_text (take (length bytes - 1) bytes))
+    (Some (take (length bytes - 1) bytes))
+    None
+
+abbrev pub text_of : Option (List ℕ) → Option (List ℕ)
+text_of None = None
+text_of (Some bytes) = text_in bytes
+
+-- the text of a key, where its value is one
+abbrev pub text_under : List Property → List ℕ → Option (List ℕ)
+text_under list key = text_of (value_of list key)
+
+-- ---- how a list changes
+
+-- a client's list
+abbrev pub list_of : Option Client → List Property
+list_of None = []
+list_of (Some client) = client.list
+
+-- the mode with a number, 0 to 2
+abbrev pub mode_of : ℕ → Option Mode
+mode_of number = cond (nat_eq number 0) (Some Set) (cond (nat_eq number 1) (Some Merge) (cond (nat_eq number 2) (Some Replace) None))
+
+-- each of these keys is there
+abbrev pub has_keys : List Property → List (List ℕ) → Bool
+has_keys list keys = list_all (has_key list) keys
+
+-- none of them is there any more
+abbrev pub without_keys : List Property → List (List ℕ) → List Property
+without_keys list keys = fold without list keys
+
+-- ---- the commands
+
+-- UPDATE_CLIENT_PROPLIST
+abbrev pub update_client : {M G : Type 0} → Option Client → Connection → ℕ → ℕ → List Property → Row (Planned M G)
+update_client client me tag number list = do
+  mode ← present (mode_of number) Invalid
+  Ok (replied (reply_to tag) (Named me.conn (updated mode (list_of client) list) ∷ []))
+
+-- REMOVE_CLIENT_PROPLIST
+abbrev pub remove_client : {M G : Type 0} → Option Client → Connection → ℕ → List (List ℕ) → Row (Planned M G)
+remove_client client me tag keys = do
+  there ← check (has_keys (list_of client) keys) NoEntity
+  Ok (replied (reply_to tag) (Named me.conn (without_keys (list_of client) keys) ∷ []))

@@ -1,0 +1,44 @@
+-- The commands on sinks and their names (PulseAudio: `command_lookup`, `command_set_default_sink_or_source` and `command_get_server_info` of pulsecore/protocol-native.c).
+use Rattle.std.specs.Prelude.{ℕ, false, List, [], ◌∷◌, ◌++◌, Option, Result, Ok, Err}
+use Rattle.px_types.specs.declared.error_code.ErrorCode.{ErrorCode}
+use Rattle.px_types.specs.declared.ids.SinkId.{SinkId}
+use Rattle.px_tag.specs.Item.{number}
+use Rattle.px_names.specs.Names.{Naming, NO_INDEX, sink_named}
+use Rattle.px_reply.specs.declared.info.ServerInfo.{ServerInfo}
+use Rattle.px_reply.specs.Front.{reply_to}
+use Rattle.px_reply.specs.Info.{server_reply}
+use Rattle.px_plan.specs.declared.change.Change.TheVariants.{Defaulted}
+use Rattle.px_plan.specs.declared.refusal.Refusal.TheVariants.{Code}
+use Rattle.px_plan.specs.declared.target.Target.{Target}
+use Rattle.px_plan.specs.Plan.{Planned, replied}
+use Rattle.px_plan.specs.Row.{Row, ◌>>=◌}
+use Rattle.px_plan.specs.Target.{raw_of}
+
+-- what is found, or the error that it isn't
+abbrev pub found : {A : Type 0} → Result A ErrorCode → Row A
+found (Ok x) = Ok x
+found (Err code) = Err (Code code)
+
+-- the sink with a name, which must be given
+abbrev pub sink_called : Naming → Option (List ℕ) → Row SinkId
+sink_called names name = found (sink_named names NO_INDEX name false)
+
+-- LOOKUP_SINK: the sink's index
+abbrev pub lookup_sink : {M G : Type 0} → Naming → ℕ → Option (List ℕ) → Row (Planned M G)
+lookup_sink names tag name = do
+  sink ← sink_called names name
+  Ok (replied (reply_to tag ++ number sink.0) [])
+
+-- SET_DEFAULT_SINK: the sink is the default sink
+abbrev pub set_default_sink : {M G : Type 0} → Naming → ℕ → Option (List ℕ) → Row (Planned M G)
+set_default_sink names tag name = do
+  sink ← sink_called names name
+  Ok (replied (reply_to tag) (Defaulted sink ∷ []))
+
+-- what the server is, where this is its default sink
+abbrev pub server_of : Target → ServerInfo
+server_of sink = record { spec = raw_of sink.spec; name = sink.name; map = sink.map }
+
+-- GET_SERVER_INFO
+abbrev pub server_info : {M G : Type 0} → Target → ℕ → Row (Planned M G)
+server_info sink tag = Ok (replied (server_reply tag (server_of sink)) [])

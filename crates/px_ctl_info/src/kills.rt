@@ -1,0 +1,40 @@
+//! KILL_CLIENT (PulseAudio: `command_kill` of `pulsecore/protocol-native.c`).
+
+ghost use Rattle.std.specs.Prelude.{◌≡◌, IfOk};
+ghost use Rattle.px_plan.specs.Row.{Plans};
+ghost use Rattle.px_ctl_info.specs.Clients.{killed, kill_client};
+
+use px_plan::{Change, Connection, Plan, Reason, Refusal, present};
+use px_types::{ErrorCode, Mem};
+use std::alloc::Global;
+
+// A connection ends, where it goes on.
+fn killed<M: Drop, G: Drop>(alloc: Global, c: Connection) -> Mem<Vec<Change<M, G>>>
+    ensures { IfOk result (λ changes. changes.items ≡ killed c) }
+{
+    let mut changes = Vec::new(alloc);
+    if !c.marked {
+        changes.push(Change::Ended {
+            conn: c.conn,
+            reason: Some(Reason::Killed),
+            fault: 0,
+            at: 0,
+        })?;
+    }
+    Ok(changes)
+}
+
+/// KILL_CLIENT, where this is the connection of the client: it ends. The client that asks is answered first, its own
+/// connection too. Refused: `NoEntity` where there is no such client.
+pub fn kill_client<M: Drop, G: Drop>(
+    alloc: Global,
+    client: Option<Connection>,
+    tag: u32,
+) -> Result<Plan<M, G>, Refusal>
+    ensures { Plans result (kill_client client tag) }
+{
+    let c = present(client, ErrorCode::NoEntity)?;
+    let changes = killed(alloc, c)?;
+    let reply = px_reply::plain(alloc, tag)?;
+    Ok(Plan::replied(alloc, reply, changes))
+}

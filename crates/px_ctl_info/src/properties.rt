@@ -1,0 +1,127 @@
+//! The property lists of clients (PulseAudio: `command_update_proplist` and `command_remove_proplist` of
+//! `pulsecore/protocol-native.c`; that a key which isn't there refuses the whole removal is own).
+
+ghost use Rattle.std.specs.Prelude.{◌≡◌, ◌<◌, ◌≤◌, IfOk, OnOk, length, take, drop, fold, Some, slice_get};
+ghost use Rattle.std.specs.List.{list_all};
+ghost use Rattle.std.specs.Option.{option_map};
+ghost use Rattle.px_tag.specs.Item.{is_text};
+ghost use Rattle.px_tag.specs.PropList.{has_key, without};
+ghost use Rattle.px_plan.specs.Row.{Plans};
+ghost use Rattle.px_ctl_info.specs.Properties.{text_in, text_under, list_of, mode_of, has_keys, without_keys, update_client, remove_client};
+
+use px_cmd::Keys;
+use px_names::Client;
+use px_plan::{Change, Connection, Plan, Refusal, check, present};
+use px_tag::{Mode, PropList};
+use px_types::ErrorCode;
+use std::alloc::Global;
+
+// No byte is zero.
+fn is_text(bytes: &[u8]) -> bool
+    ensures { result ≡ is_text bytes.now }
+{
+    bytes.iter().all(|b| *b != 0)
+}
+
+// The text that stands before a zero byte, where that is the last and there is no other.
+fn text_in(bytes: &[u8]) -> Option<&[u8]>
+    ensures { option_map (λ text. text.now) result ≡ text_in bytes.now }
+{
+    let count = bytes.len();
+    if count > 0 && bytes[count - 1] == 0 && is_text(&bytes[..count - 1]) {
+        Some(&bytes[..count - 1])
+    } else {
+        None
+    }
+}
+
+/// The text of a key of a list, where its value is a text with a zero byte behind it. Takes no memory.
+pub(crate) fn text_under<'a>(list: &'a PropList, key: &[u8]) -> Option<&'a [u8]>
+    ensures { option_map (λ text. text.now) result ≡ text_under list.now key.now }
+{
+    match list.get(key) {
+        None => None,
+        Some(value) => text_in(value),
+    }
+}
+
+// A client's list.
+fn list_of(alloc: Global, client: Option<&Client>) -> px_tag::Mem<PropList>
+    ensures { IfOk result (λ list. list ≡ list_of (option_map (λ client. client.now) client.entry)) }
+{
+    match client {
+        None => Ok(PropList::new(alloc)),
+        Some(client) => client.list.copy(),
+    }
+}
+
+// The mode with a number.
+fn mode_of(number: u32) -> Option<Mode>
+    ensures { result ≡ mode_of number }
+{
+    match number {
+        0 => Some(Mode::Set),
+        1 => Some(Mode::Merge),
+        2 => Some(Mode::Replace),
+        _ => None,
+    }
+}
+
+// Whether each key of a command is there.
+fn has_keys(list: &PropList, keys: &Keys) -> bool
+    ensures { result ≡ has_keys list.now keys.now }
+{
+    keys.as_slice()
+        .iter()
+        .all(|key| list.contains(key.as_slice()))
+}
+
+// None of these keys is there any more.
+fn remove_all(list: &mut PropList, keys: &Keys)
+    ensures { list.new ≡ without_keys list.old keys.now }
+{
+    for key in keys.as_slice() {
+        list.remove(key.as_slice());
+    }
+}
+
+/// UPDATE_CLIENT_PROPLIST of a connection with this client, by the mode with a number. Refused: `Invalid` for another number
+/// than 0, 1 or 2.
+pub fn update_client<M: Drop, G: Drop>(
+    alloc: Global,
+    client: Option<&Client>,
+    me: &Connection,
+    tag: u32,
+    number: u32,
+    list: &PropList,
+) -> Result<Plan<M, G>, Refusal>
+    ensures { Plans result (update_client (option_map (λ client. client.now) client.entry) me.now tag number list.now) }
+{
+    let mode = present(mode_of(number), ErrorCode::Invalid)?;
+    let mut made = list_of(alloc, client)?;
+    made.update(mode, list)?;
+    let reply = px_reply::plain(alloc, tag)?;
+    let mut changes = Vec::new(alloc);
+    changes.push(Change::Named(me.conn, made))?;
+    Ok(Plan::replied(alloc, reply, changes))
+}
+
+/// REMOVE_CLIENT_PROPLIST of a connection with this client. Refused: `NoEntity` where one of the keys isn't there; then none
+/// is removed.
+pub fn remove_client<M: Drop, G: Drop>(
+    alloc: Global,
+    client: Option<&Client>,
+    me: &Connection,
+    tag: u32,
+    keys: &Keys,
+) -> Result<Plan<M, G>, Refusal>
+    ensures { Plans result (remove_client (option_map (λ client. client.now) client.entry) me.now tag keys.now) }
+{
+    let mut made = list_of(alloc, client)?;
+    check(has_keys(&made, keys), ErrorCode::NoEntity)?;
+    remove_all(&mut made, keys);
+    let reply = px_reply::plain(alloc, tag)?;
+    let mut changes = Vec::new(alloc);
+    changes.push(Change::Named(me.conn, made))?;
+    Ok(Plan::replied(alloc, reply, changes))
+}

@@ -1,0 +1,93 @@
+//! The commands on sinks and their names (PulseAudio: `command_lookup`, `command_set_default_sink_or_source` and
+//! `command_get_server_info` of `pulsecore/protocol-native.c`).
+
+ghost use Rattle.std.specs.Prelude.{◌≡◌, ◌≤◌, IfOk, IsTrue, length};
+ghost use Rattle.std.specs.Option.{option_map};
+ghost use Rattle.px_tag.specs.Item.{is_text};
+ghost use Rattle.px_plan.specs.Row.{Plans};
+ghost use Rattle.px_plan.specs.Target.{IsTarget};
+ghost use Rattle.px_ctl_info.specs.Sinks.{found, sink_called, lookup_sink, set_default_sink, server_of, server_info};
+
+use px_names::Names;
+use px_plan::{Change, Plan, Refusal, Target, raw_of};
+use px_reply::ServerInfo;
+use px_tag::RawMap;
+use px_types::{ErrorCode, Mem, SinkId, Text};
+use std::alloc::Global;
+
+/// The index that names no sink.
+const NO_INDEX: u32 = 0xFFFF_FFFF;
+
+// What is found, or the error that it isn't.
+fn found<A>(answer: Result<A, ErrorCode>) -> Result<A, Refusal>
+    ensures { result ≡ found answer }
+{
+    match answer {
+        Ok(value) => Ok(value),
+        Err(code) => Err(Refusal::Code(code)),
+    }
+}
+
+// The sink with a name, which must be given.
+fn sink_called(names: &Names, name: Option<&[u8]>) -> Result<SinkId, Refusal>
+    ensures { result ≡ sink_called names.now (option_map (λ name. name.now) name.entry) }
+{
+    found(names.sink(NO_INDEX, name, false))
+}
+
+/// LOOKUP_SINK: the sink's index is told. Refused: `Invalid` without a name, `NoEntity` where no sink has it.
+pub fn lookup_sink<M: Drop, G: Drop>(
+    alloc: Global,
+    names: &Names,
+    tag: u32,
+    name: Option<&[u8]>,
+) -> Result<Plan<M, G>, Refusal>
+    ensures { Plans result (lookup_sink names.now tag (option_map (λ name. name.now) name.entry)) }
+{
+    let sink = sink_called(names, name)?;
+    let reply = px_reply::sink_index(alloc, tag, u32::from(sink.0))?;
+    Ok(Plan::replied(alloc, reply, Vec::new(alloc)))
+}
+
+/// SET_DEFAULT_SINK: the sink with the name is the default sink. Refused as LOOKUP_SINK is.
+pub fn set_default_sink<M: Drop, G: Drop>(
+    alloc: Global,
+    names: &Names,
+    tag: u32,
+    name: Option<&[u8]>,
+) -> Result<Plan<M, G>, Refusal>
+    ensures { Plans result (set_default_sink names.now tag (option_map (λ name. name.now) name.entry)) }
+{
+    let sink = sink_called(names, name)?;
+    let reply = px_reply::plain(alloc, tag)?;
+    let mut changes = Vec::new(alloc);
+    changes.push(Change::Defaulted(sink))?;
+    Ok(Plan::replied(alloc, reply, changes))
+}
+
+// What the server is, where this is its default sink.
+fn server_of(alloc: Global, sink: &Target) -> Mem<ServerInfo>
+    requires { IsTarget sink.now }
+    ensures { IfOk result (λ info. info ≡ server_of sink.now) }
+{
+    Ok(ServerInfo {
+        spec: raw_of(&sink.spec),
+        name: Text::copied(alloc, sink.name.as_slice())?,
+        map: RawMap::new(sink.map.positions()),
+    })
+}
+
+/// GET_SERVER_INFO of a server with this default sink.
+pub fn server_info<M: Drop, G: Drop>(
+    alloc: Global,
+    sink: &Target,
+    tag: u32,
+    version: u16,
+) -> Result<Plan<M, G>, Refusal>
+    requires { IsTarget sink.now }
+    ensures { Plans result (server_info sink.now tag) }
+{
+    let info = server_of(alloc, sink)?;
+    let reply = px_reply::server_info(alloc, tag, version, &info)?;
+    Ok(Plan::replied(alloc, reply, Vec::new(alloc)))
+}

@@ -1,0 +1,48 @@
+-- Drains that are answered one by one.
+use Rattle.std.proofs.Common.{◌≡◌, ℕ, ◌+◌, ◌<◌, ◌≤◌, List, [], ◌∷◌, ◌++◌, map, length, Bool, true, false, refl, ap, sym, ◌∙◌, arith, length-append, append_assoc, append-nil, ⊎_elim}
+use Rattle.std.specs.Prelude.{◌⊎◌}
+use Rattle.std.proofs.lemmas.Bool.{cond-true, cond-false, cond_both}
+use Rattle.px_model.specs.Stream.{Stream}
+use Rattle.px_model.specs.Notice.{Notice}
+use Rattle.px_model.specs.Sink.{Input}
+use Rattle.px_model.specs.Turn.{has_ended}
+use Rattle.px_lane.specs.Asked.{drained, drained_notices}
+
+-- s with its first drain answered is t
+module _ (s t : Stream) (tag : ℕ) (ended : has_ended s ≡ true) (first : s.draining ≡ tag ∷ t.draining) (same : t ≡ record s { draining = t.draining }) where
+  pub one_less : drained t ≡ drained s
+  one_less =
+      ap drained same
+      ∙ ap (λ (tags : List ℕ). let v : Stream = record s { draining = tags } in v) (cond-true (has_ended s) [] t.draining ended ∙ sym (cond-true (has_ended s) [] s.draining ended))
+
+  ends : has_ended t ≡ true
+  ends = ap has_ended same ∙ ended
+
+  pub one_told : (i : ℕ) → drained_notices (record { index = i; stream = s }) ≡ Notice.drained i tag ∷ drained_notices (record { index = i; stream = t })
+  one_told i =
+      cond-true (has_ended s) (map (λ n. Notice.drained i n) s.draining) [] ended
+      ∙ ap (λ (tags : List ℕ). map {B = Notice Stream} (λ n. Notice.drained i n) tags) first
+      ∙ ap (λ (ns : List (Notice Stream)). Notice.drained i tag ∷ ns) (sym (cond-true (has_ended t) (map (λ n. Notice.drained i n) t.draining) [] ends))
+
+-- there is room for the next, and it is told
+pub next_fits : (told start all rest : List (Notice Stream)) (n : Notice Stream) (here : List (Notice Stream)) (capacity : ℕ)
+    → told ++ here ≡ start ++ all → here ≡ n ∷ rest → length start + length all ≤ capacity → length told < capacity
+next_fits told start all rest n here capacity same is room =
+    omega (arith, room, ap (λ (ns : List (Notice Stream)). length ns) same, length-append told here, length-append start all, ap (λ (ns : List (Notice Stream)). length ns) is)
+
+pub next_told : (told later start all rest here : List (Notice Stream)) (n : Notice Stream)
+    → told ++ here ≡ start ++ all → here ≡ n ∷ rest → later ≡ told ++ n ∷ [] → later ++ rest ≡ start ++ all
+next_told told later start all rest here n same is more =
+    ap (λ (ns : List (Notice Stream)). ns ++ rest) more ∙ append_assoc told (n ∷ []) rest ∙ ap (λ (ns : List (Notice Stream)). told ++ ns) (sym is) ∙ same
+
+-- where frames are left, or no tag waits, no drain is answered
+pub none_less : (s : Stream) → (has_ended s ≡ false) ⊎ (s.draining ≡ []) → drained s ≡ s
+none_less s done =
+    ap (λ (tags : List ℕ). let v : Stream = record s { draining = tags } in v)
+    (⊎_elim (λ (left : has_ended s ≡ false). cond-false (has_ended s) [] s.draining left)
+    (λ (none : s.draining ≡ []). cond_both (has_ended s) [] s.draining (λ tags. tags ≡ s.draining) (λ e. sym none) (λ e. refl)) done)
+
+pub none_told : (i : ℕ) (s : Stream) → (has_ended s ≡ false) ⊎ (s.draining ≡ []) → drained_notices (record { index = i; stream = s }) ≡ []
+none_told i s done =
+    ⊎_elim (λ (left : has_ended s ≡ false). cond-false (has_ended s) (map (λ n. Notice.drained i n) s.draining) [] left)
+    (λ (none : s.draining ≡ []). cond_both (has_ended s) (map (λ n. Notice.drained i n) s.draining) [] (λ (ns : List (Notice Stream)). ns ≡ []) (λ e. ap (λ (tags : List ℕ). map (λ n. Notice.drained i n) tags) none) (λ e. refl)) done

@@ -1,6 +1,0 @@
-use Rattle.std.proofs.Common.{◌≡◌, take}
-use Rattle.std.specs.List.{concat}
-use Rattle.px_lane.proofs.memory.copy_of.Given as goal
-
-abbrev pub invariant-loop-block : goal.invariant-loop-block
-invariant-loop-block l = l.bytes.items ≡ concat (take l.block-index l.block-items)
