@@ -1,10 +1,9 @@
 -- Drains that are answered one by one.
-use Rattle.std.proofs.Common.{◌≡◌, ℕ, ◌+◌, ◌<◌, ◌≤◌, List, [], ◌∷◌, ◌++◌, map, length, Bool, true, false, refl, ap, sym, ◌∙◌, arith, length-append, append_assoc, append-nil, ⊎_elim}
+use Rattle.std.proofs.Common.{◌≡◌, ℕ, ◌+◌, ◌<◌, ◌≤◌, List, [], ◌∷◌, ◌++◌, map, length, true, false, refl, ap, sym, ◌∙◌, arith, length-append, append_assoc, ⊎_elim}
 use Rattle.std.specs.Prelude.{◌⊎◌}
 use Rattle.std.proofs.lemmas.Bool.{cond-true, cond-false, cond_both}
 use Rattle.px_model.specs.Stream.{Stream}
 use Rattle.px_model.specs.Notice.{Notice}
-use Rattle.px_model.specs.Sink.{Input}
 use Rattle.px_model.specs.Turn.{has_ended}
 use Rattle.px_lane.specs.Asked.{drained, drained_notices}
 

@@ -1,5 +1,5 @@
 -- Messages with all the memory that they take.
-use Rattle.std.proofs.Common.{◌≡◌, ℕ, List, [], ◌∷◌, ◌++◌, length, take, drop, ◌+◌, ◌≤◌, arith, length-append, Option, Some, None, refl, ap, sym, ◌∙◌, subst}
+use Rattle.std.proofs.Common.{◌≡◌, ℕ, List, ◌∷◌, ◌++◌, length, drop, ◌+◌, ◌≤◌, arith, length-append, Option, Some, None, refl, ap, sym, ◌∙◌, subst}
 use Rattle.std.specs.Prelude.{ℤ}
 use Rattle.std.proofs.Math.Seq.{drop-append_seam}
 use Rattle.px_types.specs.declared.ids.InputId.{InputId}

@@ -109,7 +109,8 @@ impl<D: Device + Drop> Lane<D> {
     /// A turn: the device plays what it consumed, the messages are taken, all frames from the horizon on are mixed afresh and put, and
     /// each stream is asked. A turn whose sync fails stops the sink, and each later one is the same without a call of the device. The list
     /// of messages is empty then, and the notices stand behind those that were there. Without memory, and where the sink is worn, nothing
-    /// changes: all memory is taken before the sync. (PulseAudio: `pa_sink_render` and `pa_sink_process_rewind` of pulsecore/sink.c.)
+    /// changes: all memory is taken before the sync. The list of messages keeps its room, and that of notices may have more. Blocks that
+    /// fall out of use go back to their source. (PulseAudio: `pa_sink_render` and `pa_sink_process_rewind` of pulsecore/sink.c.)
     pub fn turn<B: BlockSource>(
         &mut self,
         alloc: Global,

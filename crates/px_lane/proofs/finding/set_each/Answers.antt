@@ -1,4 +1,4 @@
-use Rattle.std.proofs.Common.{◌≡◌, ℕ, ◌+◌, ◌∙◌, length, sym, subst, arith}
+use Rattle.std.proofs.Common.{◌≡◌, ◌+◌, ◌∙◌, length, sym, subst, arith}
 use Rattle.px_model.specs.Control.{with_factors}
 use Rattle.px_model.specs.Sink.{IsRising}
 use Rattle.px_msg.specs.declared.factors.InputFactors.{InputFactors}

@@ -1,6 +1,5 @@
-use Rattle.std.proofs.Common.{◌≡◌, List, ◌∷◌, [], ◌++◌, length, subst, ap, sym, ◌∙◌, arith}
+use Rattle.std.proofs.Common.{arith}
 use Rattle.px_model.specs.Notice.{Notice}
-use Rattle.px_model.specs.Stream.{Stream}
 use Rattle.px_lane.specs.Asked.{drained_notices}
 use Rattle.px_lane.specs.Inputs.{input_of}
 use Rattle.px_lane.proofs.Drains.{one_told, next_fits}
