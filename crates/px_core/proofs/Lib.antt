@@ -23,6 +23,7 @@ pub mod ParcelLaws
 pub mod CoreLaws
 pub mod BackLaws
 pub mod EndLaws
+pub mod TellsLaws
 pub mod RefusalLaws
 pub mod Undone
 pub mod HearingLaws

@@ -79,6 +79,7 @@ use Rattle.px_core.specs.Step.{Step, connect, frame, broken, close, cut, sweep, 
 use Rattle.px_core.proofs.ListLaws.{heads, no_cons}
 use Rattle.px_core.proofs.RowLaws.{Each, each_check, each_then, each_by}
 use Rattle.px_core.proofs.Silent.{data_silent}
+use Rattle.px_core.proofs.TellsLaws.{Tells, a_reply, nothing, reply_byte, plain_byte, latency_byte, row_tells}
 
 -- ---- an error is no reply
 
@@ -90,39 +91,6 @@ bytes_of (Closed conn reason fault at) = []
 framed_byte : (packet : List ℕ) → get_or (framed packet) 24 0 ≡ get_or packet 4 0
 unfolding framed descriptor_bytes
 framed_byte packet = refl
-
-reply_byte : (tag : ℕ) (rest : List ℕ) → get_or (reply_to tag ++ rest) 4 0 ≡ 2
-unfolding number
-reply_byte tag rest = refl
-
-plain_byte : (tag : ℕ) → get_or (reply_to tag) 4 0 ≡ 2
-unfolding number
-plain_byte tag = refl
-
-created_byte : (tag : ℕ) (c : Created) → get_or (created_reply tag c) 4 0 ≡ 2
-unfolding number
-created_byte tag c = refl
-
-attributes_byte : (tag : ℕ) (attr : List ℕ) (time : ℕ) → get_or (attributes_reply tag attr time) 4 0 ≡ 2
-unfolding number
-attributes_byte tag attr time = refl
-
-latency_byte : (tag : ℕ) (fields : LatencyFields) → get_or (latency_reply tag fields) 4 0 ≡ 2
-unfolding number
-latency_byte tag fields = refl
-
-client_byte : (tag : ℕ) (info : ClientInfo) → get_or (with_client (reply_to tag) info) 4 0 ≡ 2
-unfolding number
-client_byte tag info = refl
-
--- more clients behind the front of a packet
-clients_front : (a b c d e : ℕ) (rest : List ℕ) (infos : List ClientInfo) → get_or (fold with_client (a ∷ b ∷ c ∷ d ∷ e ∷ rest) infos) 4 0 ≡ e
-clients_front a b c d e rest [] = refl
-clients_front a b c d e rest (i ∷ infos) = clients_front a b c d e (with_client rest i) infos
-
-clients_byte : (tag : ℕ) (infos : List ClientInfo) → get_or (clients_reply tag infos) 4 0 ≡ 2
-unfolding number
-clients_byte tag infos = clients_front _ _ _ _ _ _ infos
 
 refusal_byte : (tag code : ℕ) → get_or (refusal tag code) 4 0 ≡ 0
 unfolding number
@@ -152,11 +120,6 @@ pub data Kind {P : Type 0} (asker : Option ConnId) (plan : Plan P) : Type 0 wher
   -- a connection ends
   ending : (to : ConnId) (reason : Option Reason) (fault at : ℕ) → plan ≡ ended_by to reason fault at → Kind asker plan
 
--- a row's plan has a reply that is no error, or tells nobody anything
-pub data Tells {P : Type 0} (plan : Plan P) : Type 0 where
-  a_reply : (packet : List ℕ) → plan.reply ≡ Some packet → get_or packet 4 0 ≡ 2 → Tells plan
-  nothing : ((asker : Option ConnId) → plan_effects asker plan ≡ []) → Tells plan
-
 reply_first : {P : Type 0} (to : ConnId) (plan : Plan P) (packet : List ℕ) → plan.reply ≡ Some packet → fits packet ≡ true → plan_effects (Some to) plan ≡ sent to packet ∷ (sent_all plan.errors ++ sent_all plan.told ++ closed_all plan.changes)
 reply_first to plan packet e f =
     ap (λ r. reply_to_asker r (Some to) ++ sent_all plan.errors ++ sent_all plan.told ++ closed_all plan.changes) e
@@ -170,81 +133,6 @@ requested_kind : {P : Type 0} (to : ConnId) (t : ℕ) (given : Row (Plan P)) →
 requested_kind {P} to t (Ok plan) r = cond_both (reply_fits plan.reply) plan (refused t TooLarge) (Kind {P = P} (Some to)) (λ e. fitting_kind to plan r e) (λ e. still refl)
 requested_kind to t (Err (Code code)) r = still refl
 requested_kind to t (Err NoMemory) r = still refl
-
--- ---- the rows of streams
-
-delete_tells : (P : Type 0) (o : Option Input) (waiting : List Waiting) (t : ℕ) → Each (Tells {P = P}) (delete o waiting t)
-delete_tells P None waiting t = tt
-delete_tells P (Some x) waiting t = a_reply (reply_to t) refl (plain_byte t)
-
-drain_tells : (P : Type 0) (o : Option Input) (t : ℕ) → Each (Tells {P = P}) (drain o t)
-drain_tells P None t = tt
-drain_tells P (Some x) t = nothing (λ asker. refl)
-
-latency_tells : (P : Type 0) (o : Option Input) (time : TimeVal) (t : ℕ) → Each (Tells {P = P}) (latency o time t)
-latency_tells P None time t = tt
-latency_tells P (Some x) time t = nothing (λ asker. refl)
-
-cork_tells : (P : Type 0) (o : Option Input) (on : Bool) (t : ℕ) → Each (Tells {P = P}) (cork o on t)
-cork_tells P None on t = tt
-cork_tells P (Some x) on t = a_reply (reply_to t) refl (plain_byte t)
-
-flush_tells : (P : Type 0) (o : Option Input) (t : ℕ) → Each (Tells {P = P}) (flush o t)
-flush_tells P None t = tt
-flush_tells P (Some x) t = a_reply (reply_to t) refl (plain_byte t)
-
-trigger_tells : (P : Type 0) (o : Option Input) (t : ℕ) → Each (Tells {P = P}) (trigger o t)
-trigger_tells P None t = tt
-trigger_tells P (Some x) t = a_reply (reply_to t) refl (plain_byte t)
-
-prebuf_tells : (P : Type 0) (o : Option Input) (t : ℕ) → Each (Tells {P = P}) (prebuf o t)
-prebuf_tells P None t = tt
-prebuf_tells P (Some x) t = a_reply (reply_to t) refl (plain_byte t)
-
-attributes_tells : (P : Type 0) (o : Option Input) (depth rate : ℕ) (wanted : List ℕ) (t : ℕ) → Each (Tells {P = P}) (attributes o depth rate wanted t)
-attributes_tells P None depth rate wanted t = tt
-attributes_tells P (Some x) depth rate wanted t =
-    a_reply (attributes_reply t (bytes_of_attr x.spec (repaired x.spec wanted)) (microseconds rate depth)) refl (attributes_byte t (bytes_of_attr x.spec (repaired x.spec wanted)) (microseconds rate depth))
-
--- ---- all rows
-
-auth_tells : (P : Type 0) (names : Naming) (me : Connection) (t version : ℕ) (cookie : List ℕ) → Each (Tells {P = P}) (auth names me t version cookie)
-auth_tells P names me t version cookie =
-    each_check (Tells {P = P}) (not (is_some me.version)) BadState _
-    (each_check (Tells {P = P}) (nat_le SERVER_VERSION (version_in version)) Version _
-    (each_check (Tells {P = P}) (same_text cookie names.cookie) Access _
-    (a_reply (reply_to t ++ number SERVER_VERSION) refl (reply_byte t (number SERVER_VERSION)))))
-
-create_tells : (P : Type 0) (inputs : List Input) (made : ℕ) (me : Connection) (t : ℕ) (named : Named) (a : CreateFields) → Each (Tells {P = P}) (create inputs made me t named a)
-create_tells P inputs made me t named a = each_by (Tells {P = P}) (create inputs made me t named a) (λ plan e. by plan (create_passed inputs made me t named a plan e))
-  where
-    by : (plan : Plan P) → IsCreated inputs made me t named a plan → Tells plan
-    by plan p =
-        a_reply (created_reply t (created_of p.sink a (input_made made me p.sink a))) (ap (λ (x : Plan P). x.reply) p.planned) (created_byte t (created_of p.sink a (input_made made me p.sink a)))
-
-row_tells : {P : Type 0} (state : State P) (me : Connection) (t : ℕ) (command : Command) → Each Tells (row state me t command)
-row_tells {P} state me t (commands.Auth version cookie) = auth_tells P state.names me t version cookie
-row_tells state me t (commands.SetClientName list) = a_reply (reply_to t ++ number me.client) refl (reply_byte t (number me.client))
-row_tells {P} state me t (commands.Create fields) = create_tells P state.inputs state.inputs_made me t (named_by state.names state.sinks fields.sink true) fields
-row_tells {P} state me t (commands.Delete stream) = delete_tells P (stream_of state.inputs me.conn stream) state.waiting t
-row_tells {P} state me t (commands.Drain stream) = drain_tells P (stream_of state.inputs me.conn stream) t
-row_tells {P} state me t (commands.Latency stream time) = latency_tells P (stream_of state.inputs me.conn stream) time t
-row_tells {P} state me t (commands.Cork stream on) = cork_tells P (stream_of state.inputs me.conn stream) on t
-row_tells {P} state me t (commands.Flush stream) = flush_tells P (stream_of state.inputs me.conn stream) t
-row_tells {P} state me t (commands.Trigger stream) = trigger_tells P (stream_of state.inputs me.conn stream) t
-row_tells {P} state me t (commands.Prebuf stream) = prebuf_tells P (stream_of state.inputs me.conn stream) t
-row_tells {P} state me t (commands.Attributes stream asked adjust_latency early_requests) =
-    attributes_tells P (stream_of state.inputs me.conn stream) (depth_of (sink_of state.sinks (stream_of state.inputs me.conn stream))) (rate_of (sink_of state.sinks (stream_of state.inputs me.conn stream))) asked t
-row_tells state me t (commands.EmptyList n) = a_reply (reply_to t) refl (plain_byte t)
-row_tells {P} state me t (commands.LookupSink name) = each_then (Tells {P = P}) (sink_called state.names name) _ (λ sink. a_reply (reply_to t ++ number sink.0) refl (reply_byte t (number sink.0)))
-row_tells {P} state me t (commands.DefaultSink name) = each_then (Tells {P = P}) (sink_called state.names name) _ (λ sink. a_reply (reply_to t) refl (plain_byte t))
-row_tells {P} state me t (commands.ClientInfo client) =
-    each_then (Tells {P = P}) (present (client_numbered state.names.clients client) NoEntity) _ (λ found. a_reply (with_client (reply_to t) (info_of found)) refl (client_byte t (info_of found)))
-row_tells state me t commands.ClientInfoList = a_reply (clients_reply t (map info_of state.names.clients)) refl (clients_byte t (map info_of state.names.clients))
-row_tells {P} state me t (commands.UpdateClient mode list) = each_then (Tells {P = P}) (present (mode_of mode) Invalid) _ (λ known. a_reply (reply_to t) refl (plain_byte t))
-row_tells {P} state me t (commands.RemoveClient keys) =
-    each_then (Tells {P = P}) (check (has_keys (list_of (client_on state.names.clients me.conn)) keys) NoEntity) _ (λ there. a_reply (reply_to t) refl (plain_byte t))
-row_tells state me t _ = tt
 
 -- ---- packets and data
 

@@ -36,6 +36,7 @@ use Rattle.px_plan.specs.declared.input.Connection.{Connection}
 use Rattle.px_plan.specs.declared.input.Input.{Input}
 use Rattle.px_plan.specs.Plan.{Planned, idle, telling}
 use Rattle.px_plan.specs.Row.{Row, check, present}
+use Rattle.px_plan.specs.Target.{target_of}
 use Rattle.px_ctl_info.specs.Clients.{SERVER_VERSION, version_in, auth}
 use Rattle.px_ctl_info.specs.Properties.{list_of, mode_of, has_keys}
 use Rattle.px_ctl_info.specs.Sinks.{sink_called}
@@ -43,7 +44,7 @@ use Rattle.px_ctl_play.specs.declared.told.News.{News}
 use Rattle.px_ctl_play.specs.declared.told.News.TheVariants as news
 use Rattle.px_ctl_play.specs.Told.{message_of, told}
 use Rattle.px_core.specs.State.{State, new_state, goes_on, connection_of, stream_of}
-use Rattle.px_core.specs.Command.{row, read_answer, is_barred, is_waiting_for_work, command_answer, head_answer}
+use Rattle.px_core.specs.Command.{default_sink, row, read_answer, is_barred, is_waiting_for_work, command_answer, head_answer}
 use Rattle.px_core.specs.Connecting.{is_full, new_connection, joined, connected, ended, going_on}
 use Rattle.px_core.specs.Notice.{input_on, owner_of, told_of, notice_answer}
 use Rattle.px_core.specs.Orderly.{inputs_there}
@@ -106,6 +107,7 @@ row_lawful spec_of state h me tag (commands.Attributes stream asked adjust_laten
 row_lawful spec_of state h me tag (commands.EmptyList number) = tt
 row_lawful spec_of state h me tag (commands.LookupSink name) = each_then (IsLawful state) (sink_called state.names name) _ (λ sink. tt)
 row_lawful spec_of state h me tag (commands.DefaultSink name) = each_then (IsLawful state) (sink_called state.names name) _ (λ sink. (tt, tt))
+row_lawful spec_of state h me tag commands.ServerInfo = each_then (IsLawful state) (present (target_of (default_sink state)) NoEntity) _ (λ sink. tt)
 row_lawful spec_of state h me tag (commands.ClientInfo client) = each_then (IsLawful state) (present (client_numbered state.names.clients client) NoEntity) _ (λ found. tt)
 row_lawful spec_of state h me tag commands.ClientInfoList = tt
 row_lawful spec_of state h me tag (commands.UpdateClient mode list) = each_then (IsLawful state) (present (mode_of mode) Invalid) _ (λ known. (tt, tt))

@@ -1,5 +1,5 @@
 -- What a control packet is answered, and in which order it is refused (PulseAudio: `pa_pdispatch_run` and the handlers of pulsecore/protocol-native.c; the order is own).
-use Rattle.std.specs.Prelude.{ℕ, Bool, true, not, cond, ◌&&◌, ◌||◌, nat_eq, List, is_some, Option, Result, Ok, Err}
+use Rattle.std.specs.Prelude.{ℕ, Bool, true, not, cond, ◌&&◌, ◌||◌, nat_eq, List, is_some, Option, None, Result, Ok, Err}
 use Rattle.px_types.specs.declared.error_code.ErrorCode.TheVariants.{Access, Command as UnknownCommand, NotSupported, NotImplemented}
 use Rattle.px_tag.specs.declared.fault.TagFault.{TagFault}
 use Rattle.px_tag.specs.Place.{Place, start_of}
@@ -11,15 +11,17 @@ use Rattle.px_cmd.specs.declared.command.Command.TheVariants as commands
 use Rattle.px_cmd.specs.declared.fault.CmdFault.{CmdFault}
 use Rattle.px_cmd.specs.declared.fault.CmdFault.TheVariants.{Protocol, Unknown, Unsupported, NoMemory}
 use Rattle.px_names.specs.Clients.{client_on, client_numbered}
+use Rattle.px_names.specs.Names.{NO_INDEX, sink_named}
 use Rattle.px_plan.specs.declared.input.Connection.{Connection}
 use Rattle.px_plan.specs.declared.input.Input.{Input}
 use Rattle.px_plan.specs.declared.refusal.Refusal.TheVariants.{Code}
+use Rattle.px_plan.specs.declared.target.Named.{Named}
 use Rattle.px_plan.specs.Plan.{idle}
 use Rattle.px_plan.specs.Row.{Row}
 use Rattle.px_ctl_info.specs.Clients.{auth, set_client_name, client_info, client_infos}
 use Rattle.px_ctl_info.specs.Lists.{empty_list}
 use Rattle.px_ctl_info.specs.Properties.{update_client, remove_client}
-use Rattle.px_ctl_info.specs.Sinks.{lookup_sink, set_default_sink}
+use Rattle.px_ctl_info.specs.Sinks.{lookup_sink, set_default_sink, server_info}
 use Rattle.px_ctl_play.specs.Attributes.{attributes}
 use Rattle.px_ctl_play.specs.Control.{cork, flush, trigger, prebuf}
 use Rattle.px_ctl_play.specs.Create.{create}
@@ -28,7 +30,7 @@ use Rattle.px_ctl_play.specs.Drain.{drain}
 use Rattle.px_ctl_play.specs.Latency.{latency}
 use Rattle.px_core.specs.State.{State, stream_of}
 use Rattle.px_core.specs.Plan.{Plan, refused, requested, broken_off}
-use Rattle.px_core.specs.Sinks.{rate_of, depth_of, sink_of, named_by}
+use Rattle.px_core.specs.Sinks.{rate_of, depth_of, sink_of, named_as, named_by}
 
 -- ---- the commands
 
@@ -39,7 +41,7 @@ AUTH = 8
 abbrev pub is_built : ℕ → Bool
 is_built command =
     nat_eq command 3 || nat_eq command 4 || nat_eq command 8 || nat_eq command 9 || nat_eq command 10 || nat_eq command 12 || nat_eq command 14
-    || nat_eq command 24 || nat_eq command 26 || nat_eq command 27 || nat_eq command 28 || nat_eq command 32 || nat_eq command 34
+    || nat_eq command 20 || nat_eq command 24 || nat_eq command 26 || nat_eq command 27 || nat_eq command 28 || nat_eq command 32 || nat_eq command 34
     || nat_eq command 41 || nat_eq command 42 || nat_eq command 43 || nat_eq command 44 || nat_eq command 60 || nat_eq command 72
     || nat_eq command 82 || nat_eq command 85 || nat_eq command 89
 
@@ -52,6 +54,10 @@ not_built = Err (Code NotImplemented)
 -- new buffer attributes of a stream, with the latency of its sink
 abbrev pub new_attributes : {P : Type 0} → State P → Option Input → List ℕ → ℕ → Row (Plan P)
 new_attributes state stream asked tag = attributes stream (depth_of (sink_of state.sinks stream)) (rate_of (sink_of state.sinks stream)) asked tag
+
+-- the default sink, as a command sees it
+abbrev pub default_sink : {P : Type 0} → State P → Named
+default_sink state = named_as state.sinks (sink_named state.names NO_INDEX None true)
 
 -- a command's row: what it gives on the parts of the state that it reads
 abbrev pub row : {P : Type 0} → State P → Connection → ℕ → Command → Row (Plan P)
@@ -68,7 +74,7 @@ row state me tag (commands.Prebuf stream) = prebuf (stream_of state.inputs me.co
 row state me tag (commands.Attributes stream asked adjust_latency early_requests) = new_attributes state (stream_of state.inputs me.conn stream) asked tag
 row state me tag (commands.EmptyList number) = empty_list tag
 row state me tag (commands.LookupSink name) = lookup_sink state.names tag name
-row state me tag commands.ServerInfo = not_built
+row state me tag commands.ServerInfo = server_info (default_sink state) tag
 row state me tag (commands.SinkInfo sink) = not_built
 row state me tag commands.SinkInfoList = not_built
 row state me tag (commands.ClientInfo client) = client_info (client_numbered state.names.clients client) tag

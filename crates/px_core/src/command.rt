@@ -5,6 +5,7 @@ ghost use Rattle.std.specs.Prelude.{◌≡◌, ◌≤◌, [], true, IfOk, IfSome
 ghost use Rattle.px_cmd.specs.Meant.{meant};
 ghost use Rattle.px_plan.specs.Row.{Plans};
 ghost use Rattle.px_session.specs.HeaderRules.{AreSinks};
+ghost use Rattle.px_ctl_info.specs.Sinks.{server_info};
 ghost use Rattle.px_ctl_play.specs.Create.{create};
 ghost use Rattle.std.specs.List.{AllByRecursion};
 ghost use Rattle.std.specs.Option.{option_map};
@@ -12,16 +13,16 @@ ghost use Rattle.px_core.specs.Keeps.{IsInput};
 ghost use Rattle.px_core.specs.Sinks.{named_by};
 ghost use Rattle.px_core.specs.State.{stream_of};
 ghost use Rattle.px_core.specs.Tables.{state_of};
-ghost use Rattle.px_core.specs.Command.{is_built, is_waiting_for_work, is_barred, new_attributes, row, read_answer, command_answer, packet_answer};
+ghost use Rattle.px_core.specs.Command.{is_built, is_waiting_for_work, is_barred, new_attributes, default_sink, row, read_answer, command_answer, packet_answer};
 
 use crate::found::copied;
 use crate::plan::{broken_off, refused, requested};
 use crate::tables::Tables;
-use crate::targets::{depth_of, named_by, rate_of, sink_of};
+use crate::targets::{default_sink, depth_of, named_by, rate_of, sink_of};
 use px_cmd::{CmdFault, Command, CreateFields, Text, is_command, read_command, read_head};
 use px_ctl_info::{
     SERVER_VERSION, auth, client_info, client_infos, empty_list, lookup_sink, remove_client,
-    set_client_name, set_default_sink, update_client,
+    server_info, set_client_name, set_default_sink, update_client,
 };
 use px_ctl_play::{attributes, cork, create, delete, drain, flush, latency, prebuf, trigger};
 use px_msg::Msg;
@@ -44,6 +45,7 @@ fn is_built(command: u32) -> bool
             | 10
             | 12
             | 14
+            | 20
             | 24
             | 26
             | 27
@@ -129,6 +131,19 @@ fn new_attributes<P: Drop>(
     attributes(alloc, stream, depth_of(sink), rate_of(sink), asked, tag)
 }
 
+// What the server is.
+fn server<P: Drop>(
+    alloc: Global,
+    tables: &Tables<P>,
+    tag: u32,
+) -> Result<Plan<Msg<P>, ()>, Refusal>
+    requires { AreSinks [] tables.now.sinks }
+    ensures { Plans result (server_info (default_sink (state_of tables.now)) tag) }
+{
+    let named = default_sink(alloc, &tables.names, tables.sinks.as_slice())?;
+    server_info(alloc, named, tag, SERVER_VERSION)
+}
+
 // A command's row: what it gives on the parts of the state that it reads.
 fn row<P: Drop>(
     alloc: Global,
@@ -189,8 +204,8 @@ fn row<P: Drop>(
             let client = tables.names.client_on(me.conn);
             remove_client(alloc, client, me, tag, &keys)
         }
-        Command::ServerInfo
-        | Command::SinkInfo { .. }
+        Command::ServerInfo => server(alloc, tables, tag),
+        Command::SinkInfo { .. }
         | Command::SinkInfoList
         | Command::InputInfo { .. }
         | Command::InputInfoList

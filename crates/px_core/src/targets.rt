@@ -1,13 +1,14 @@
 //! The sinks as commands see them.
 
-ghost use Rattle.std.specs.Prelude.{◌≡◌, ◌≤◌, [], slice_get, IfOk, IfSome};
+ghost use Rattle.std.specs.Prelude.{◌≡◌, ◌≤◌, [], true, None, slice_get, IfOk, IfSome};
 ghost use Rattle.std.specs.Option.{option_map};
 ghost use Rattle.px_session.specs.HeaderRules.{AreSinks};
+ghost use Rattle.px_names.specs.Names.{NO_INDEX, sink_named};
 ghost use Rattle.px_plan.specs.Target.{IsTarget, IsNamed};
-ghost use Rattle.px_core.specs.Sinks.{IsOfHeader, channels_on, rate_on, rate_of, depth_of, sink_of, target_of, found_as, named_by};
+ghost use Rattle.px_core.specs.Sinks.{IsOfHeader, channels_on, rate_on, rate_of, depth_of, sink_of, target_of, found_as, named_as, named_by};
 
 use px_cmd::SinkRef;
-use px_names::Names;
+use px_names::{NO_INDEX, Names};
 use px_plan::{Input, Named, Target};
 use px_session::SinkSpec;
 use px_types::{ErrorCode, Mem, SinkId, Text};
@@ -115,6 +116,28 @@ fn name_of(sink: &SinkRef) -> Option<&[u8]>
     }
 }
 
+// The sink that was found, or why none was.
+fn named_as(alloc: Global, sinks: &[SinkSpec], found: Result<SinkId, ErrorCode>) -> Mem<Named>
+    requires { AreSinks [] sinks.now }
+    ensures value { IfOk result (λ named. named ≡ named_as sinks.now found) }
+    ensures lawful { IfOk result IsNamed }
+{
+    match found {
+        Ok(index) => found_as(alloc, index, sink_at(sinks, index)),
+        Err(ErrorCode::Invalid) => Ok(Named::Unclear),
+        Err(_) => Ok(Named::Unknown),
+    }
+}
+
+/// The default sink.
+pub(crate) fn default_sink(alloc: Global, names: &Names, sinks: &[SinkSpec]) -> Mem<Named>
+    requires { AreSinks [] sinks.now }
+    ensures value { IfOk result (λ named. named ≡ named_as sinks.now (sink_named names.now NO_INDEX None true)) }
+    ensures lawful { IfOk result IsNamed }
+{
+    named_as(alloc, sinks, names.sink(NO_INDEX, None, true))
+}
+
 /// The sink that a command names by an index or a name, or, where `fallback` is set, by neither: the default sink.
 pub(crate) fn named_by(
     alloc: Global,
@@ -127,9 +150,9 @@ pub(crate) fn named_by(
     ensures value { IfOk result (λ named. named ≡ named_by names.now sinks.now sink.now fallback) }
     ensures lawful { IfOk result IsNamed }
 {
-    match names.sink(sink.index, name_of(sink), fallback) {
-        Ok(index) => found_as(alloc, index, sink_at(sinks, index)),
-        Err(ErrorCode::Invalid) => Ok(Named::Unclear),
-        Err(_) => Ok(Named::Unknown),
-    }
+    named_as(
+        alloc,
+        sinks,
+        names.sink(sink.index, name_of(sink), fallback),
+    )
 }

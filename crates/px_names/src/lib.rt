@@ -7,5 +7,5 @@ mod names;
 mod sinks;
 
 pub use client::Client;
-pub use names::Names;
+pub use names::{NO_INDEX, Names};
 pub use sinks::SinkNames;

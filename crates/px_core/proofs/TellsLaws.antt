@@ -1,0 +1,205 @@
+-- What each command's row tells who asked: a reply that is no error, or nothing yet.
+use Rattle.std.proofs.Common.{◌≡◌, ℕ, List, [], ◌∷◌, ◌++◌, length, Option, Some, None, Bool, true, false, refl, ap, sym, subst, ◌∙◌, arith, cond}
+use Rattle.std.specs.Prelude.{not, get_or, map, fold, filter, flat_map, is_some, nat_le, Result, Ok, Err}
+use Rattle.std.specs.List.{AllByRecursion}
+use Rattle.std.proofs.lemmas.Bool.{cond_both, cond-true, cond-false, false≢true}
+use Rattle.std.proofs.lemmas.List.{append_assoc}
+use Rattle.std.proofs.lemmas.Option.{none-some, same_Some}
+use Rattle.px_types.specs.declared.ids.ConnId.{ConnId}
+use Rattle.px_types.specs.declared.ids.SinkId.{SinkId}
+use Rattle.px_types.specs.declared.error_code.ErrorCode.TheVariants.{Access, BadState, Invalid, NoEntity, NotImplemented, TooLarge, Version}
+use Rattle.px_tag.specs.declared.fault.TagFault.{TagFault}
+use Rattle.px_tag.specs.Place.{Place, start_of}
+use Rattle.px_tag.specs.Item.{number}
+use Rattle.px_cmd.specs.Packet.{head_at}
+use Rattle.px_cmd.specs.Meant.{meant}
+use Rattle.px_cmd.specs.declared.command.CreateFields.{CreateFields}
+use Rattle.px_cmd.specs.declared.command.Command.{Command}
+use Rattle.px_cmd.specs.declared.command.Command.TheVariants as commands
+use Rattle.px_cmd.specs.declared.fault.CmdFault.{CmdFault}
+use Rattle.px_cmd.specs.declared.fault.CmdFault.TheVariants.{Protocol, Unknown, Unsupported, NoMemory as OutOfMemory}
+use Rattle.px_frame.specs.Fault.{code_of as rule_of}
+use Rattle.px_frame.specs.Descriptor.{descriptor_bytes}
+use Rattle.px_frame.specs.declared.frame.Frame.{Frame}
+use Rattle.px_frame.specs.declared.frame.Body.{Body}
+use Rattle.px_frame.specs.declared.frame.Body.TheVariants.{Control, Write}
+use Rattle.px_names.specs.Names.{Naming, same_text}
+use Rattle.px_reply.specs.Front.{reply_to, refusal}
+use Rattle.px_reply.specs.declared.played.Created.{Created}
+use Rattle.px_reply.specs.declared.info.ClientInfo.{ClientInfo}
+use Rattle.px_reply.specs.declared.info.ServerInfo.{ServerInfo}
+use Rattle.px_reply.specs.Info.{server_reply, with_client, clients_reply}
+use Rattle.px_reply.specs.declared.played.LatencyFields.{LatencyFields}
+use Rattle.px_reply.specs.Message.{created_reply, latency_reply, attributes_reply}
+use Rattle.px_msg.specs.Repair.{repaired, bytes_of as bytes_of_attr}
+use Rattle.px_tag.specs.declared.raw.TimeVal.{TimeVal}
+use Rattle.px_model.specs.Frame.{SampleSpec}
+use Rattle.px_msg.specs.declared.notice.Notice.{Notice}
+use Rattle.px_msg.specs.declared.notice.Notice.TheVariants.{Request, Overflow, Underflow, Started, Drained, Detached, Latency}
+use Rattle.px_plan.specs.declared.refusal.Refusal.TheVariants.{Code, NoMemory}
+use Rattle.px_plan.specs.declared.change.Change.TheVariants.{Gone, Ended, Forgotten}
+use Rattle.px_plan.specs.declared.sending.Reason.{Reason}
+use Rattle.px_plan.specs.declared.sending.Reason.TheVariants.{Protocol as Breach, Limit, Cut as ForMemory}
+use Rattle.px_plan.specs.declared.sending.Sending.{Sending}
+use Rattle.px_plan.specs.declared.input.Connection.{Connection}
+use Rattle.px_plan.specs.declared.input.Input.{Input}
+use Rattle.px_plan.specs.declared.target.Named.{Named}
+use Rattle.px_plan.specs.declared.waiting.Waiting.{Waiting}
+use Rattle.px_plan.specs.Waiting.{drain_under, question_under}
+use Rattle.px_plan.specs.Plan.{Planned, idle, changing, telling}
+use Rattle.px_plan.specs.Row.{Row, check, present}
+use Rattle.px_plan.specs.Target.{target_of}
+use Rattle.px_names.specs.Clients.{client_on, client_numbered}
+use Rattle.px_ctl_info.specs.Clients.{SERVER_VERSION, version_in, auth, info_of}
+use Rattle.px_ctl_info.specs.Properties.{list_of, mode_of, has_keys}
+use Rattle.px_ctl_info.specs.Sinks.{sink_called, server_of}
+use Rattle.px_ctl_play.specs.declared.told.News.{News}
+use Rattle.px_ctl_play.specs.declared.told.News.TheVariants as news
+use Rattle.px_ctl_play.specs.Create.{created_of, input_made, create}
+use Rattle.px_ctl_play.specs.declared.timing.Progress.{Progress}
+use Rattle.px_ctl_play.specs.Answer.{answered}
+use Rattle.px_ctl_play.specs.Attributes.{attributes}
+use Rattle.px_ctl_play.specs.Control.{cork, flush, trigger, prebuf}
+use Rattle.px_ctl_play.specs.Delete.{delete}
+use Rattle.px_ctl_play.specs.Drain.{drain, drain_answered, drained}
+use Rattle.px_ctl_play.specs.Latency.{latency, fields_of, time_given, latency_answered, measured}
+use Rattle.px_ctl_play.specs.Time.{microseconds}
+use Rattle.px_ctl_play.specs.Factors.{regrouped}
+use Rattle.px_ctl_play.specs.Told.{message_of, told, gives_up, left}
+use Rattle.px_ctl_play.proofs.Passed.{IsCreated, create_passed}
+use Rattle.px_core.specs.declared.effect.Effect.{Effect}
+use Rattle.px_core.specs.declared.effect.Effect.TheVariants.{Sent, Closed}
+use Rattle.px_core.specs.State.{State, goes_on, connection_of, settled_on, stream_of, marked_of, is_from}
+use Rattle.px_core.specs.Change.{Change, marked, with_connection, committed}
+use Rattle.px_core.specs.Effect.{reason_code, framed, fits, sent, sending, closed_at, closed_for, fault_code, fault_place, offset_behind}
+use Rattle.px_core.specs.Plan.{Plan, reply_to_asker, sent_all, closed_by, closed_all, plan_effects, refused, reply_fits, requested, ended_by, broken_off}
+use Rattle.px_core.specs.Command.{default_sink, row, read_answer, is_barred, is_waiting_for_work, command_answer, head_answer}
+use Rattle.px_core.specs.Connecting.{is_full, connect_effects, going_on, ended, ends, swept, sweep_of}
+use Rattle.px_core.specs.Notice.{input_on, owner_of, notice_answer}
+use Rattle.px_core.specs.Sinks.{channels_on, rate_on, rate_of, depth_of, sink_of, named_by}
+use Rattle.px_core.specs.Step.{Step, connect, frame, broken, close, cut, sweep, notice, out, body_answer, frame_of, sender_of, answer_of, stepped, effects_of}
+use Rattle.px_core.proofs.ListLaws.{heads, no_cons}
+use Rattle.px_core.proofs.RowLaws.{Each, each_check, each_then, each_by}
+use Rattle.px_core.proofs.Silent.{data_silent}
+
+-- ---- replies: the fifth byte, the last of a reply's first number, is 2
+
+pub reply_byte : (tag : ℕ) (rest : List ℕ) → get_or (reply_to tag ++ rest) 4 0 ≡ 2
+unfolding number
+reply_byte tag rest = refl
+
+pub plain_byte : (tag : ℕ) → get_or (reply_to tag) 4 0 ≡ 2
+unfolding number
+plain_byte tag = refl
+
+pub created_byte : (tag : ℕ) (c : Created) → get_or (created_reply tag c) 4 0 ≡ 2
+unfolding number
+created_byte tag c = refl
+
+pub attributes_byte : (tag : ℕ) (attr : List ℕ) (time : ℕ) → get_or (attributes_reply tag attr time) 4 0 ≡ 2
+unfolding number
+attributes_byte tag attr time = refl
+
+pub latency_byte : (tag : ℕ) (fields : LatencyFields) → get_or (latency_reply tag fields) 4 0 ≡ 2
+unfolding number
+latency_byte tag fields = refl
+
+pub server_byte : (tag : ℕ) (info : ServerInfo) → get_or (server_reply tag info) 4 0 ≡ 2
+unfolding number
+server_byte tag info = refl
+
+pub client_byte : (tag : ℕ) (info : ClientInfo) → get_or (with_client (reply_to tag) info) 4 0 ≡ 2
+unfolding number
+client_byte tag info = refl
+
+-- more clients behind the front of a packet
+pub clients_front : (a b c d e : ℕ) (rest : List ℕ) (infos : List ClientInfo) → get_or (fold with_client (a ∷ b ∷ c ∷ d ∷ e ∷ rest) infos) 4 0 ≡ e
+clients_front a b c d e rest [] = refl
+clients_front a b c d e rest (i ∷ infos) = clients_front a b c d e (with_client rest i) infos
+
+pub clients_byte : (tag : ℕ) (infos : List ClientInfo) → get_or (clients_reply tag infos) 4 0 ≡ 2
+unfolding number
+clients_byte tag infos = clients_front _ _ _ _ _ _ infos
+
+-- ---- what a row tells
+
+-- a row's plan has a reply that is no error, or tells nobody anything
+pub data Tells {P : Type 0} (plan : Plan P) : Type 0 where
+  a_reply : (packet : List ℕ) → plan.reply ≡ Some packet → get_or packet 4 0 ≡ 2 → Tells plan
+  nothing : ((asker : Option ConnId) → plan_effects asker plan ≡ []) → Tells plan
+
+-- ---- the rows of streams
+
+pub delete_tells : (P : Type 0) (o : Option Input) (waiting : List Waiting) (t : ℕ) → Each (Tells {P = P}) (delete o waiting t)
+delete_tells P None waiting t = tt
+delete_tells P (Some x) waiting t = a_reply (reply_to t) refl (plain_byte t)
+
+pub drain_tells : (P : Type 0) (o : Option Input) (t : ℕ) → Each (Tells {P = P}) (drain o t)
+drain_tells P None t = tt
+drain_tells P (Some x) t = nothing (λ asker. refl)
+
+pub latency_tells : (P : Type 0) (o : Option Input) (time : TimeVal) (t : ℕ) → Each (Tells {P = P}) (latency o time t)
+latency_tells P None time t = tt
+latency_tells P (Some x) time t = nothing (λ asker. refl)
+
+pub cork_tells : (P : Type 0) (o : Option Input) (on : Bool) (t : ℕ) → Each (Tells {P = P}) (cork o on t)
+cork_tells P None on t = tt
+cork_tells P (Some x) on t = a_reply (reply_to t) refl (plain_byte t)
+
+pub flush_tells : (P : Type 0) (o : Option Input) (t : ℕ) → Each (Tells {P = P}) (flush o t)
+flush_tells P None t = tt
+flush_tells P (Some x) t = a_reply (reply_to t) refl (plain_byte t)
+
+pub trigger_tells : (P : Type 0) (o : Option Input) (t : ℕ) → Each (Tells {P = P}) (trigger o t)
+trigger_tells P None t = tt
+trigger_tells P (Some x) t = a_reply (reply_to t) refl (plain_byte t)
+
+pub prebuf_tells : (P : Type 0) (o : Option Input) (t : ℕ) → Each (Tells {P = P}) (prebuf o t)
+prebuf_tells P None t = tt
+prebuf_tells P (Some x) t = a_reply (reply_to t) refl (plain_byte t)
+
+pub attributes_tells : (P : Type 0) (o : Option Input) (depth rate : ℕ) (wanted : List ℕ) (t : ℕ) → Each (Tells {P = P}) (attributes o depth rate wanted t)
+attributes_tells P None depth rate wanted t = tt
+attributes_tells P (Some x) depth rate wanted t =
+    a_reply (attributes_reply t (bytes_of_attr x.spec (repaired x.spec wanted)) (microseconds rate depth)) refl (attributes_byte t (bytes_of_attr x.spec (repaired x.spec wanted)) (microseconds rate depth))
+
+-- ---- all rows
+
+pub auth_tells : (P : Type 0) (names : Naming) (me : Connection) (t version : ℕ) (cookie : List ℕ) → Each (Tells {P = P}) (auth names me t version cookie)
+auth_tells P names me t version cookie =
+    each_check (Tells {P = P}) (not (is_some me.version)) BadState _
+    (each_check (Tells {P = P}) (nat_le SERVER_VERSION (version_in version)) Version _
+    (each_check (Tells {P = P}) (same_text cookie names.cookie) Access _
+    (a_reply (reply_to t ++ number SERVER_VERSION) refl (reply_byte t (number SERVER_VERSION)))))
+
+pub create_tells : (P : Type 0) (inputs : List Input) (made : ℕ) (me : Connection) (t : ℕ) (named : Named) (a : CreateFields) → Each (Tells {P = P}) (create inputs made me t named a)
+create_tells P inputs made me t named a = each_by (Tells {P = P}) (create inputs made me t named a) (λ plan e. by plan (create_passed inputs made me t named a plan e))
+  where
+    by : (plan : Plan P) → IsCreated inputs made me t named a plan → Tells plan
+    by plan p =
+        a_reply (created_reply t (created_of p.sink a (input_made made me p.sink a))) (ap (λ (x : Plan P). x.reply) p.planned) (created_byte t (created_of p.sink a (input_made made me p.sink a)))
+
+pub row_tells : {P : Type 0} (state : State P) (me : Connection) (t : ℕ) (command : Command) → Each Tells (row state me t command)
+row_tells {P} state me t (commands.Auth version cookie) = auth_tells P state.names me t version cookie
+row_tells state me t (commands.SetClientName list) = a_reply (reply_to t ++ number me.client) refl (reply_byte t (number me.client))
+row_tells {P} state me t (commands.Create fields) = create_tells P state.inputs state.inputs_made me t (named_by state.names state.sinks fields.sink true) fields
+row_tells {P} state me t (commands.Delete stream) = delete_tells P (stream_of state.inputs me.conn stream) state.waiting t
+row_tells {P} state me t (commands.Drain stream) = drain_tells P (stream_of state.inputs me.conn stream) t
+row_tells {P} state me t (commands.Latency stream time) = latency_tells P (stream_of state.inputs me.conn stream) time t
+row_tells {P} state me t (commands.Cork stream on) = cork_tells P (stream_of state.inputs me.conn stream) on t
+row_tells {P} state me t (commands.Flush stream) = flush_tells P (stream_of state.inputs me.conn stream) t
+row_tells {P} state me t (commands.Trigger stream) = trigger_tells P (stream_of state.inputs me.conn stream) t
+row_tells {P} state me t (commands.Prebuf stream) = prebuf_tells P (stream_of state.inputs me.conn stream) t
+row_tells {P} state me t (commands.Attributes stream asked adjust_latency early_requests) =
+    attributes_tells P (stream_of state.inputs me.conn stream) (depth_of (sink_of state.sinks (stream_of state.inputs me.conn stream))) (rate_of (sink_of state.sinks (stream_of state.inputs me.conn stream))) asked t
+row_tells state me t (commands.EmptyList n) = a_reply (reply_to t) refl (plain_byte t)
+row_tells {P} state me t (commands.LookupSink name) = each_then (Tells {P = P}) (sink_called state.names name) _ (λ sink. a_reply (reply_to t ++ number sink.0) refl (reply_byte t (number sink.0)))
+row_tells {P} state me t (commands.DefaultSink name) = each_then (Tells {P = P}) (sink_called state.names name) _ (λ sink. a_reply (reply_to t) refl (plain_byte t))
+row_tells {P} state me t commands.ServerInfo = each_then (Tells {P = P}) (present (target_of (default_sink state)) NoEntity) _ (λ sink. a_reply (server_reply t (server_of sink)) refl (server_byte t (server_of sink)))
+row_tells {P} state me t (commands.ClientInfo client) =
+    each_then (Tells {P = P}) (present (client_numbered state.names.clients client) NoEntity) _ (λ found. a_reply (with_client (reply_to t) (info_of found)) refl (client_byte t (info_of found)))
+row_tells state me t commands.ClientInfoList = a_reply (clients_reply t (map info_of state.names.clients)) refl (clients_byte t (map info_of state.names.clients))
+row_tells {P} state me t (commands.UpdateClient mode list) = each_then (Tells {P = P}) (present (mode_of mode) Invalid) _ (λ known. a_reply (reply_to t) refl (plain_byte t))
+row_tells {P} state me t (commands.RemoveClient keys) =
+    each_then (Tells {P = P}) (check (has_keys (list_of (client_on state.names.clients me.conn)) keys) NoEntity) _ (λ there. a_reply (reply_to t) refl (plain_byte t))
+row_tells state me t _ = tt
