@@ -3,11 +3,13 @@
 
   conformance/reckon.py SESSION.session > SESSION.output
   conformance/reckon.py --dice NUMBER TURNS > SESSION.session     a long session of three streams, thrown with dice
+  conformance/reckon.py --life NUMBER TURNS > SESSION.session     the same, with prebuffering and all commands of a stream's life
 
-It keeps each sample that was ever written in a map from index to sample, and mixes each frame anew. It knows S16LE at volume 65536,
-the commands that are built and DRAIN, with prebuffering, and only sessions that are played to their end and ask for nothing that is refused
-but by ACCESS, BADSTATE, VERSION, NOENTITY and TOOLARGE."""
+It keeps each sample that was ever written in a map from index to sample, and mixes each frame anew. It knows S16LE at volume 65536, the
+commands of a stream's life, and only sessions that are played to their end and ask for nothing that is refused but by ACCESS, BADSTATE,
+VERSION, NOENTITY and TOOLARGE."""
 
+import copy
 import os
 import random
 import sys
@@ -23,20 +25,30 @@ from recording import read_session
 from words import NONE
 
 WORD = (1 << 32) - 1
+CONTROLS = ("drain", "latency", "cork", "flush", "trigger", "prebuf", "attributes")
+
+
+def eight(mark, value):
+    """An item of eight bytes."""
+    return mark + (value % (1 << 64)).to_bytes(8, "big")
+
+
+def usec(value):
+    return eight(b"U", value)
 
 
 class Stream:
     """A stream on its sink. Indices count frames; `held` has the samples of each index that was written."""
 
-    def __init__(self, owner, number, lengths):
-        self.owner, self.number = owner, number
+    def __init__(self, owner, number, lengths, corked):
+        self.owner, self.number, self.corked = owner, number, corked
         self.maxlength, self.tlength, self.prebuf, self.minreq = lengths
         self.read = self.write = 0
         self.held = {}
         self.hold = self.prebuf > 0
         self.draining = []
         self.requested = self.tlength
-        self.quiet = True
+        self.quiet, self.run = True, 0
         self.leaving = False
 
     def is_short(self):
@@ -45,11 +57,11 @@ class Stream:
 
     def given(self, frames):
         """How many of so many frames it gives."""
-        return 0 if self.is_short() else min(max(self.edge() - self.read, 0), frames)
+        return 0 if self.corked or self.is_short() else min(max(self.edge() - self.read, 0), frames)
 
     def read_after(self, frames):
         """The read index so many frames on: without prebuffering it goes on where nothing is left."""
-        return self.read + (self.given(frames) if self.prebuf or self.is_short() else frames)
+        return self.read + (self.given(frames) if self.prebuf or self.corked or self.is_short() else frames)
 
     def end(self):
         return max(self.held) + 1 if self.held else self.read
@@ -63,10 +75,12 @@ class Stream:
 
     def go(self, frames):
         """Goes forward, and answers what is told of it."""
-        if not frames:
+        if not frames or self.corked:
             return []
         given = self.given(frames)
         was_quiet, self.quiet = self.quiet, given < frames
+        goes_on = was_quiet == self.quiet and (given == 0 or not self.quiet)
+        self.run = self.run + frames if goes_on else frames - (given if self.quiet else 0)
         runs_dry = self.prebuf > 0 and frames > self.edge() - self.read
         if not self.is_short():
             self.read, self.hold = self.read_after(frames), runs_dry
@@ -130,9 +144,29 @@ class Sink:
             stream = self.inputs[number]
             if stream.take(*more, stream.read_after(self.filled - self.horizon)):
                 self.notices.append((number, "overflow", 0))
-        elif kind == "drain":
-            self.inputs[number].hold = False
-            self.inputs[number].draining.append(more)
+        elif kind != "factors":
+            self.tell(kind, number, self.inputs[number], more)
+
+    def tell(self, kind, number, stream, more):
+        if kind == "drain":
+            stream.hold = False
+            stream.draining.append(more)
+        elif kind == "cork":
+            stream.corked = more
+        elif kind == "trigger":
+            stream.hold = False
+        elif kind == "attributes":
+            stream.maxlength, stream.tlength, stream.prebuf, stream.minreq = more
+            stream.hold = stream.hold and stream.prebuf > 0
+        elif kind == "query":
+            then = copy.copy(stream)
+            then.go(self.filled - self.horizon)
+            plays = not then.corked and not then.quiet
+            self.notices.append((number, "latency", (more, self.filled - self.consumed, plays, then)))
+        else:
+            if kind == "flush":
+                stream.held, stream.write = {}, stream.read
+            stream.hold = stream.prebuf > 0
 
     def ask(self, number, stream):
         if stream.read >= stream.edge():
@@ -161,6 +195,7 @@ class Server:
     def __init__(self, cookie, sinks):
         self.cookie, self.sink = cookie, Sink(sinks[0])
         self.clients, self.inputs = {}, {}
+        self.waiting = []  # (input, command, tag, time), in the order in which they were asked
         self.client_count = self.input_count = 0
         self.said = bytearray()
 
@@ -184,8 +219,18 @@ class Server:
         self.clients[conn].streams = {}
 
     def drop(self, number):
+        """An input ends; what waited of it."""
         self.inputs[number].leaving = True
         self.sink.waiting.append(("gone", number, None))
+        waited = [it for it in self.waiting if it[0] == number]
+        self.waiting = [it for it in self.waiting if it[0] != number]
+        return waited
+
+    def answer(self, number, command, tag):
+        """The first request of a kind and a tag that waits of an input waits no more."""
+        it = next(it for it in self.waiting if it[:3] == (number, command, tag))
+        self.waiting.remove(it)
+        return it
 
     def event(self, event):
         kind = event[0]
@@ -218,9 +263,19 @@ class Server:
         if word == "detached":
             del self.inputs[number]
             self.sink.waiting.append(("factors", None, None))
+        elif stream.leaving:
+            pass
         elif word == "drained":
+            self.answer(number, "drain", frames)
             self.send(stream.owner, 2, frames)
-        elif not stream.leaving:
+        elif word == "latency":
+            tag, buffered, plays, then = frames
+            time = self.answer(number, "latency", tag)[3]
+            size, rate = 2 * self.sink.spec.spec[1], self.sink.spec.spec[2]
+            fields = usec(buffered * 1_000_000 // rate) + usec(0) + wire.flag(plays) + wire.time(time) * 2
+            fields += eight(b"r", then.write * size) + eight(b"r", then.read * size)
+            self.send(stream.owner, 2, tag, fields + eight(b"R", then.quiet * then.run * size) + eight(b"R", (not then.quiet) * then.run * size))
+        else:
             code = {"request": 61, "overflow": 62, "underflow": 63, "started": 86}[word]
             more = wire.number(2 * self.sink.spec.spec[1] * frames) if word == "request" else b""
             self.send(stream.owner, code, NONE, wire.number(stream.number) + more)
@@ -257,6 +312,8 @@ class Server:
         if not client.known and command != 8:
             return self.error(conn, tag, 1)
         word, values = read[0], read[2]
+        if word in CONTROLS:
+            return self.do_stream(conn, tag, word, values)
         return getattr(self, "do_" + word.replace("-", "_"), self.nothing)(conn, tag, values)
 
     def nothing(self, conn, tag, values):
@@ -275,8 +332,9 @@ class Server:
     def do_name(self, conn, tag, values):
         self.send(conn, 2, tag, wire.number(self.clients[conn].number))
 
-    def do_create(self, conn, tag, values):
-        asked = dict(zip((name for name, _, _ in COMMANDS["create"][1]), values))
+    def repaired(self, command, values):
+        """The attributes that a command asks for, in bytes: maxlength, tlength, prebuf, minreq."""
+        asked = dict(zip((name for name, _, _ in COMMANDS[command][1]), values))
         spec = self.sink.spec
         size = 2 * spec.spec[1]
         whole = lambda count: max(count // size * size, size)
@@ -285,33 +343,54 @@ class Server:
         minreq = min(whole(spec.spec[2] * 20 // 1000 * size if asked["minreq"] == WORD else asked["minreq"]), tlength)
         most = tlength + size - minreq
         prebuf = most if asked["prebuf"] == WORD else min(-(-asked["prebuf"] // size) * size, most)
+        return [maxlength, tlength, prebuf, minreq], [length // size for length in (maxlength, tlength, prebuf, minreq)]
+
+    def latency(self):
+        return usec(self.sink.spec.depth * 1_000_000 // self.sink.spec.spec[2])
+
+    def do_create(self, conn, tag, values):
+        lengths, frames = self.repaired("create", values)
+        corked = dict(zip((name for name, _, _ in COMMANDS["create"][1]), values))["corked"]
+        spec = self.sink.spec
         going = sum(not stream.leaving for stream in self.inputs.values())
         if going >= 256:
             return self.error(conn, tag, 18)
         client, number = self.clients[conn], self.input_count
-        stream = Stream(conn, client.made, [length // size for length in (maxlength, tlength, prebuf, minreq)])
+        stream = Stream(conn, client.made, frames, corked)
         self.inputs[number], client.streams[client.made] = stream, number
-        numbers = [client.made, number, tlength, maxlength, tlength, prebuf, minreq]
+        numbers = [client.made, number, lengths[1], *lengths]
         self.input_count += 1
         client.made += 1
         self.sink.waiting += [("new", number, stream), ("factors", None, None)]
-        usec = spec.depth * 1_000_000 // spec.spec[2]
         fields = b"".join(map(wire.number, numbers)) + wire.spec(spec.spec) + wire.channel_map(spec.positions)
-        fields += wire.number(0) + wire.text(spec.name) + wire.flag(False) + b"U" + usec.to_bytes(8, "big")
+        fields += wire.number(0) + wire.text(spec.name) + wire.flag(False) + self.latency()
         return self.send(conn, 2, tag, fields)
 
-    def do_drain(self, conn, tag, values):
+    def do_stream(self, conn, tag, word, values):
+        """A command of a stream, which its sink is told."""
         number = self.clients[conn].streams.get(values[0])
         if number is None:
             return self.error(conn, tag, 5)
-        return self.sink.waiting.append(("drain", number, tag))
+        told, more, reply = word, None, b""
+        if word in ("drain", "latency"):
+            self.waiting.append((number, word, tag, *values[1:]))
+            told, more, reply = ("drain" if word == "drain" else "query"), tag, None
+        elif word == "attributes":
+            lengths, more = self.repaired(word, values)
+            reply = b"".join(map(wire.number, lengths)) + self.latency()
+        elif word == "cork":
+            more = values[1]
+        self.sink.waiting.append((told, number, more))
+        return None if reply is None else self.send(conn, 2, tag, reply)
 
     def do_delete(self, conn, tag, values):
         number = self.clients[conn].streams.pop(values[0], None)
         if number is None:
             return self.error(conn, tag, 5)
         self.send(conn, 2, tag)
-        return self.drop(number)
+        for _, _, waited, *_ in self.drop(number):
+            self.error(conn, waited, 5)
+        return None
 
 
 def reckoned(session):
@@ -346,9 +425,53 @@ def thrown(number, turns):
     return "\n".join([*lines, "end", ""])
 
 
+def thrown_life(number, turns):
+    """Three streams that are held short, corked, flushed, drained, asked and told new attributes, in turns of any length."""
+    dice = random.Random(number)
+    lines = ["sink out s16le 1 48000 map 0 guard 10 depth 100", "connect 1", "auth 1 tag 0 version 13"]
+    create = "create 1 tag {} s16le 1 48000 map 0 maxlength {} tlength 400 prebuf {} minreq {}{}"
+    lines += [create.format(*stream) for stream in ((1, 1000, 40, 2, ""), (2, 300, 0, 20, ""), (3, 1000, 100, 2, " corked"))]
+    lines.append("turn out 0 take 6")
+    waiting, tag = 0, 3
+    for _ in range(turns):
+        for _ in range(dice.randrange(4)):
+            stream, waiting = dice.randrange(3), waiting + 1
+            word = dice.choice(("data",) * 8 + CONTROLS)
+            if word == "data":
+                values = " ".join(str(dice.randrange(-1000, 1000)) for _ in range(dice.randrange(1, 90)))
+                lines.append(f"data 1 stream {stream} {values}")
+                continue
+            # one of two follows the other closely, so that two may wait under one tag
+            tag += dice.randrange(2)
+            more = {"latency": f" time {dice.randrange(9)}:{dice.randrange(9)}", "cork": dice.choice((" on", " off", " off"))}
+            if word == "attributes":
+                asked = dice.choice((100, 400, 1000)), dice.choice((100, 400)), dice.choice((0, 40, 100)), dice.choice((2, 50))
+                more[word] = " maxlength {} tlength {} prebuf {} minreq {}".format(*asked)
+            lines.append(f"{word} 1 tag {tag} stream {stream}{more.get(word, '')}")
+        take = dice.randrange(waiting + 1)
+        waiting -= take
+        lines.append(f"turn out {dice.randrange(45)} take {take}")
+    said = [f"# Thrown with the dice of {number}: the life of three streams in {turns} turns. Its output is conformance/reckon.py's.", "", lines[0], ""]
+    return "\n".join([*said, *collected(lines, dice), "end", ""])
+
+
+def collected(lines, dice):
+    """The events of these lines, with some of the notices collected behind each turn."""
+    cookie, sinks, events = read_session(make("\n".join([*lines, "end", ""])))
+    server = Server(cookie, sinks)
+    for line, event in zip(lines[1:], events):
+        yield line
+        server.event(event)
+        if event[0] == 5:
+            count = dice.randrange(len(server.sink.notices) + 1)
+            server.event((6, 0, 0, count))
+            yield f"collect out take {count}"
+
+
 def main(words):
-    if len(words) == 3 and words[0] == "--dice":
-        sys.stdout.write(thrown(int(words[1]), int(words[2])))
+    if len(words) == 3 and words[0] in ("--dice", "--life"):
+        throw = thrown if words[0] == "--dice" else thrown_life
+        sys.stdout.write(throw(int(words[1]), int(words[2])))
         return 0
     if len(words) != 1:
         print(__doc__, file=sys.stderr)

@@ -35,6 +35,12 @@ class Running(unittest.TestCase):
         self.assertEqual(self.run_rows("", "--cut", "all", *rows), (0, "12 passed, 0 failed\n", ""))
         self.assertEqual(self.run_rows("", "--cut", "5", *rows), (0, "3 passed, 0 failed\n", ""))
 
+    def test_what_was_worked_by_hand_is_reckoned(self):
+        """The rows of the life of streams, and a recorded client."""
+        folder = os.path.join(TOP, "conformance", "streams")
+        rows = sorted(f"streams/{name[: -len('.session')]}" for name in os.listdir(folder) if name.endswith(".session"))
+        self.assertEqual(self.run_rows("", *rows, "recorded/paplay"), (0, f"{len(rows) + 1} passed, 0 failed\n", ""))
+
     def test_a_byte_that_differs_is_told(self):
         # the last sample of the record that plays stands before the end byte
         status, said, _ = self.run_rows("said[-3] ^= 1", "turns/seeks", "turns/silence")
