@@ -50,6 +50,11 @@ const CREATE: &[u8] =
 // DELETE_PLAYBACK_STREAM of stream 0.
 const DELETE: &[u8] = b"L\0\0\0\x04L\0\0\0\x03L\0\0\0\0";
 
+// DRAIN_PLAYBACK_STREAM and GET_PLAYBACK_LATENCY of stream 0.
+const DRAIN: &[u8] = b"L\0\0\0\x0CL\0\0\0\x04L\0\0\0\0";
+
+const LATENCY: &[u8] = b"L\0\0\0\x0EL\0\0\0\x05L\0\0\0\0T\0\0\0\x01\0\0\0\x02";
+
 // A header of one sink `out`: S16LE, mono, 48,000 frames a second, guard 10, depth 100.
 fn header(alloc: Global) -> Mem<Text> {
     let mut bytes = Vec::new(alloc);
@@ -147,12 +152,14 @@ fn detached(core: &mut Core<Stub>, input: InputId) -> Mem<usize> {
     noticed(core, Notice::Detached { input, parcel })
 }
 
-// What a message is: a new stream, factors of so many inputs, a write, or an end.
+// What a message is: a new stream, factors of so many inputs, a write, what is asked under a tag, or an end.
 #[derive(Clone, Copy, PartialEq, Eq)]
 enum Sent {
     New(InputId),
     Factors(usize),
     Write(i64, u32),
+    Drain(u32),
+    Query(u32),
     Detach(InputId),
     Other,
 }
@@ -162,6 +169,8 @@ fn sent_of(msg: &Msg<Stub>) -> Sent {
         Msg::New(stream) => Sent::New(stream.input),
         Msg::Factors(list) => Sent::Factors(list.as_slice().len()),
         Msg::Write { offset, frames, .. } => Sent::Write(*offset, *frames),
+        Msg::Drain { tag, .. } => Sent::Drain(*tag),
+        Msg::Query { tag, .. } => Sent::Query(*tag),
         Msg::Detach { input } => Sent::Detach(*input),
         _ => Sent::Other,
     }
@@ -205,13 +214,32 @@ fn begins(alloc: Global, core: &mut Core<Stub>) -> Mem<bool> {
     )
 }
 
-// It plays, ends, and its sink gives it up.
+fn drained(core: &mut Core<Stub>, tag: u32) -> Mem<usize> {
+    noticed(core, Notice::Drained { input: FIRST, tag })
+}
+
+// It is asked to drain twice under one tag, and how far it is. A drain of another tag isn't answered, and one of this tag once.
+fn waits(alloc: Global, core: &mut Core<Stub>) -> Mem<bool> {
+    let asks = [
+        asked(alloc, core, DRAIN, b"")?,
+        asked(alloc, core, DRAIN, b"")?,
+        asked(alloc, core, LATENCY, b"")?,
+    ];
+    let handed = hands(core, Sent::Drain(4))
+        && hands(core, Sent::Drain(4))
+        && hands(core, Sent::Query(5));
+    let answers = [drained(core, 5)?, drained(core, 4)?];
+    Ok(asks == [0, 0, 0] && handed && answers == [0, 1])
+}
+
+// It plays, ends with two requests that wait, and its sink gives it up.
 fn plays(alloc: Global, core: &mut Core<Stub>) -> Mem<bool> {
     let started = noticed(core, Notice::Started { input: FIRST })?;
+    let waits = waits(alloc, core)?;
     let ends = asked(alloc, core, DELETE, b"")?;
     let leaves = hands(core, Sent::Detach(FIRST));
     let gone = detached(core, FIRST)?;
-    Ok([started, ends, gone] == [1, 1, 0] && leaves && hands(core, Sent::Factors(0)))
+    Ok(waits && [started, ends, gone] == [1, 3, 0] && leaves && hands(core, Sent::Factors(0)))
 }
 
 fn why(effects: &Effects) -> Option<Reason> {

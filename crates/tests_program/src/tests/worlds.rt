@@ -1,7 +1,7 @@
 use super::faults::session;
 use px_ends::{Calls, MemSource};
 use px_session::{Event, Reader, Step};
-use px_types::{Mem, NoMemory, SinkId, Text};
+use px_types::{ConnId, Mem, NoMemory, SinkId, Text};
 use px_world::{World, WorldFault};
 use std::alloc::Global;
 
@@ -35,6 +35,43 @@ fn turned(alloc: Global, world: &mut World, frames: u32) -> Result<u32, WorldFau
     }
 }
 
+// How many effects an event has.
+fn effects(alloc: Global, world: &mut World, e: Event) -> Result<usize, WorldFault> {
+    match world.event(alloc, e) {
+        Ok(outcome) => Ok(outcome.effects.as_slice().len()),
+        Err(fault) => Err(fault),
+    }
+}
+
+// AUTH of version 13 in its frame, up to the cookie.
+const AUTH: &[u8] =
+    b"\0\0\x01\x14\xff\xff\xff\xff\0\0\0\0\0\0\0\0\0\0\0\0L\0\0\0\x08L\0\0\0\0L\0\0\0\x0dx\0\0\x01\0";
+
+// A stream in S16LE, mono, without prebuffering; a drain and a question of it. Each in its frame.
+const CREATE: &[u8] =
+    b"\0\0\0\x45\xff\xff\xff\xff\0\0\0\0\0\0\0\0\0\0\0\0L\0\0\0\x03L\0\0\0\x02a\x03\x01\0\0\xbb\x80m\x01\0L\xff\xff\xff\xffNL\xff\xff\xff\xff0L\xff\xff\xff\xffL\0\0\0\0L\xff\xff\xff\xffL\0\0\0\0v\x01\0\x01\0\x00000000000PN";
+
+const DRAIN: &[u8] =
+    b"\0\0\0\x0f\xff\xff\xff\xff\0\0\0\0\0\0\0\0\0\0\0\0L\0\0\0\x0cL\0\0\0\x03L\0\0\0\0";
+
+const LATENCY: &[u8] =
+    b"\0\0\0\x18\xff\xff\xff\xff\0\0\0\0\0\0\0\0\0\0\0\0L\0\0\0\x0eL\0\0\0\x04L\0\0\0\0T\0\0\0\x01\0\0\0\x02";
+
+// A client is let in, makes a stream, and asks twice of it.
+fn asks(alloc: Global, world: &mut World) -> Mem<bool> {
+    let mut bytes = Vec::new(alloc);
+    bytes.extend_from_slice(AUTH)?;
+    bytes.extend_from_slice(&[0; 256])?;
+    bytes.extend_from_slice(CREATE)?;
+    bytes.extend_from_slice(DRAIN)?;
+    bytes.extend_from_slice(LATENCY)?;
+    let client = ConnId(1);
+    Ok(
+        effects(alloc, world, Event::Connect(client)) == Ok(0)
+            && effects(alloc, world, Event::Bytes(client, Text::from_vec(bytes))) == Ok(2),
+    )
+}
+
 fn is_none(asked: u32, there: u32, answer: Result<u32, WorldFault>) -> bool {
     answer == Err(WorldFault::TooMany { asked, there })
 }
@@ -53,5 +90,26 @@ fn a_device_that_fails_plays_no_frame(rt: HostRuntime) -> Mem<()> {
             && is_none(1, 0, turned(alloc, &mut failing, 1))
             && turned(alloc, &mut failing, 0) == Ok(0)
     );
+    Ok(())
+}
+
+// A sink that has stopped still takes what it is told: it says how far a stream is, and that all of it was played.
+#[test]
+fn a_stopped_sink_answers(rt: HostRuntime) -> Mem<()> {
+    let alloc = rt.alloc();
+    let mut failing = world(alloc, true)?;
+    let asked = asks(alloc, &mut failing)?;
+    let (sink, frames) = (0, 0);
+    let taken = effects(
+        alloc,
+        &mut failing,
+        Event::Turn {
+            sink,
+            frames,
+            take: 4,
+        },
+    );
+    let answered = effects(alloc, &mut failing, Event::Collect { sink, take: 2 });
+    assert!(rt; asked && taken == Ok(0) && answered == Ok(2));
     Ok(())
 }
