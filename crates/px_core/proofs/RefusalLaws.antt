@@ -1,13 +1,13 @@
 -- Where an error is answered nothing has changed, and what a connection sends that has ended is ignored.
 use Rattle.std.proofs.Common.{◌≡◌, ℕ, List, [], ◌∷◌, ◌++◌, length, Option, Some, None, Bool, true, false, refl, ap, sym, subst, ◌∙◌, arith, cond}
-use Rattle.std.specs.Prelude.{not, get_or, filter, flat_map, is_some, nat_le, Result, Ok, Err}
+use Rattle.std.specs.Prelude.{not, get_or, map, fold, filter, flat_map, is_some, nat_le, Result, Ok, Err}
 use Rattle.std.specs.List.{AllByRecursion}
 use Rattle.std.proofs.lemmas.Bool.{cond_both, cond-true, cond-false, false≢true}
 use Rattle.std.proofs.lemmas.List.{append_assoc}
 use Rattle.std.proofs.lemmas.Option.{none-some, same_Some}
 use Rattle.px_types.specs.declared.ids.ConnId.{ConnId}
 use Rattle.px_types.specs.declared.ids.SinkId.{SinkId}
-use Rattle.px_types.specs.declared.error_code.ErrorCode.TheVariants.{Access, BadState, NotImplemented, TooLarge, Version}
+use Rattle.px_types.specs.declared.error_code.ErrorCode.TheVariants.{Access, BadState, Invalid, NoEntity, NotImplemented, TooLarge, Version}
 use Rattle.px_tag.specs.declared.fault.TagFault.{TagFault}
 use Rattle.px_tag.specs.Place.{Place, start_of}
 use Rattle.px_tag.specs.Item.{number}
@@ -26,6 +26,8 @@ use Rattle.px_frame.specs.declared.frame.Body.TheVariants.{Control, Write}
 use Rattle.px_names.specs.Names.{Naming, same_text}
 use Rattle.px_reply.specs.Front.{reply_to, refusal}
 use Rattle.px_reply.specs.declared.played.Created.{Created}
+use Rattle.px_reply.specs.declared.info.ClientInfo.{ClientInfo}
+use Rattle.px_reply.specs.Info.{with_client, clients_reply}
 use Rattle.px_reply.specs.declared.played.LatencyFields.{LatencyFields}
 use Rattle.px_reply.specs.Message.{created_reply, latency_reply, attributes_reply}
 use Rattle.px_msg.specs.Repair.{repaired, bytes_of as bytes_of_attr}
@@ -44,8 +46,11 @@ use Rattle.px_plan.specs.declared.target.Named.{Named}
 use Rattle.px_plan.specs.declared.waiting.Waiting.{Waiting}
 use Rattle.px_plan.specs.Waiting.{drain_under, question_under}
 use Rattle.px_plan.specs.Plan.{Planned, idle, changing, telling}
-use Rattle.px_plan.specs.Row.{Row}
-use Rattle.px_ctl_info.specs.Clients.{SERVER_VERSION, version_in, auth}
+use Rattle.px_plan.specs.Row.{Row, check, present}
+use Rattle.px_names.specs.Clients.{client_on, client_numbered}
+use Rattle.px_ctl_info.specs.Clients.{SERVER_VERSION, version_in, auth, info_of}
+use Rattle.px_ctl_info.specs.Properties.{list_of, mode_of, has_keys}
+use Rattle.px_ctl_info.specs.Sinks.{sink_called}
 use Rattle.px_ctl_play.specs.declared.told.News.{News}
 use Rattle.px_ctl_play.specs.declared.told.News.TheVariants as news
 use Rattle.px_ctl_play.specs.Create.{created_of, input_made, create}
@@ -72,7 +77,7 @@ use Rattle.px_core.specs.Notice.{input_on, owner_of, notice_answer}
 use Rattle.px_core.specs.Sinks.{channels_on, rate_on, rate_of, depth_of, sink_of, named_by}
 use Rattle.px_core.specs.Step.{Step, connect, frame, broken, close, cut, sweep, notice, out, body_answer, frame_of, sender_of, answer_of, stepped, effects_of}
 use Rattle.px_core.proofs.ListLaws.{heads, no_cons}
-use Rattle.px_core.proofs.RowLaws.{Each, each_check, each_by}
+use Rattle.px_core.proofs.RowLaws.{Each, each_check, each_then, each_by}
 use Rattle.px_core.proofs.Silent.{data_silent}
 
 -- ---- an error is no reply
@@ -105,6 +110,19 @@ attributes_byte tag attr time = refl
 latency_byte : (tag : ℕ) (fields : LatencyFields) → get_or (latency_reply tag fields) 4 0 ≡ 2
 unfolding number
 latency_byte tag fields = refl
+
+client_byte : (tag : ℕ) (info : ClientInfo) → get_or (with_client (reply_to tag) info) 4 0 ≡ 2
+unfolding number
+client_byte tag info = refl
+
+-- more clients behind the front of a packet
+clients_front : (a b c d e : ℕ) (rest : List ℕ) (infos : List ClientInfo) → get_or (fold with_client (a ∷ b ∷ c ∷ d ∷ e ∷ rest) infos) 4 0 ≡ e
+clients_front a b c d e rest [] = refl
+clients_front a b c d e rest (i ∷ infos) = clients_front a b c d e (with_client rest i) infos
+
+clients_byte : (tag : ℕ) (infos : List ClientInfo) → get_or (clients_reply tag infos) 4 0 ≡ 2
+unfolding number
+clients_byte tag infos = clients_front _ _ _ _ _ _ infos
 
 refusal_byte : (tag code : ℕ) → get_or (refusal tag code) 4 0 ≡ 0
 unfolding number
@@ -218,6 +236,14 @@ row_tells {P} state me t (commands.Prebuf stream) = prebuf_tells P (stream_of st
 row_tells {P} state me t (commands.Attributes stream asked adjust_latency early_requests) =
     attributes_tells P (stream_of state.inputs me.conn stream) (depth_of (sink_of state.sinks (stream_of state.inputs me.conn stream))) (rate_of (sink_of state.sinks (stream_of state.inputs me.conn stream))) asked t
 row_tells state me t (commands.EmptyList n) = a_reply (reply_to t) refl (plain_byte t)
+row_tells {P} state me t (commands.LookupSink name) = each_then (Tells {P = P}) (sink_called state.names name) _ (λ sink. a_reply (reply_to t ++ number sink.0) refl (reply_byte t (number sink.0)))
+row_tells {P} state me t (commands.DefaultSink name) = each_then (Tells {P = P}) (sink_called state.names name) _ (λ sink. a_reply (reply_to t) refl (plain_byte t))
+row_tells {P} state me t (commands.ClientInfo client) =
+    each_then (Tells {P = P}) (present (client_numbered state.names.clients client) NoEntity) _ (λ found. a_reply (with_client (reply_to t) (info_of found)) refl (client_byte t (info_of found)))
+row_tells state me t commands.ClientInfoList = a_reply (clients_reply t (map info_of state.names.clients)) refl (clients_byte t (map info_of state.names.clients))
+row_tells {P} state me t (commands.UpdateClient mode list) = each_then (Tells {P = P}) (present (mode_of mode) Invalid) _ (λ known. a_reply (reply_to t) refl (plain_byte t))
+row_tells {P} state me t (commands.RemoveClient keys) =
+    each_then (Tells {P = P}) (check (has_keys (list_of (client_on state.names.clients me.conn)) keys) NoEntity) _ (λ there. a_reply (reply_to t) refl (plain_byte t))
 row_tells state me t _ = tt
 
 -- ---- packets and data

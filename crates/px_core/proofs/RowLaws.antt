@@ -11,6 +11,10 @@ pub each_check : {A : Type 0} (Q : A → Type 0) (b : Bool) (code : ErrorCode) (
 each_check Q true code f h = h
 each_check Q false code f h = tt
 
+pub each_then : {A B : Type 0} (Q : B → Type 0) (row : Row A) (f : A → Row B) → ((x : A) → Each Q (f x)) → Each Q (row >>= f)
+each_then Q (Ok x) f h = h x
+each_then Q (Err refusal) f h = tt
+
 pub each_by : {A : Type 0} (Q : A → Type 0) (row : Row A) → ((x : A) → row ≡ Ok x → Q x) → Each Q row
 each_by Q (Ok x) h = h x refl
 each_by Q (Err refusal) h = tt

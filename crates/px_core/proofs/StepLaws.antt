@@ -8,7 +8,7 @@ use Rattle.std.proofs.lemmas.List.{length-replicate, get_or-replicate, get_or_pa
 use Rattle.std.proofs.lemmas.Option.{none-some}
 use Rattle.px_types.specs.declared.ids.ConnId.{ConnId}
 use Rattle.px_types.specs.declared.ids.SinkId.{SinkId}
-use Rattle.px_types.specs.declared.error_code.ErrorCode.TheVariants.{Access, BadState, Version, TooLarge, NotImplemented}
+use Rattle.px_types.specs.declared.error_code.ErrorCode.TheVariants.{Access, BadState, Invalid, NoEntity, Version, TooLarge, NotImplemented}
 use Rattle.px_tag.specs.declared.fault.TagFault.{TagFault}
 use Rattle.px_tag.specs.Place.{Place, start_of}
 use Rattle.px_cmd.specs.Packet.{head_at}
@@ -25,7 +25,7 @@ use Rattle.px_frame.specs.Fault.{code_of as rule_of}
 use Rattle.px_session.specs.declared.header.Header.{Header}
 use Rattle.px_session.specs.HeaderRules.{IsHeader}
 use Rattle.px_names.specs.Names.{Naming, same_text, sink_named}
-use Rattle.px_names.specs.Clients.{new_client}
+use Rattle.px_names.specs.Clients.{new_client, client_on, client_numbered}
 use Rattle.px_model.specs.Frame.{SampleSpec}
 use Rattle.px_msg.specs.declared.notice.Notice.{Notice}
 use Rattle.px_msg.specs.declared.notice.Notice.TheVariants.{Request, Overflow, Underflow, Started, Drained, Detached, Latency}
@@ -35,8 +35,10 @@ use Rattle.px_plan.specs.declared.sending.Reason.TheVariants.{Protocol as Breach
 use Rattle.px_plan.specs.declared.input.Connection.{Connection}
 use Rattle.px_plan.specs.declared.input.Input.{Input}
 use Rattle.px_plan.specs.Plan.{Planned, idle, telling}
-use Rattle.px_plan.specs.Row.{Row}
+use Rattle.px_plan.specs.Row.{Row, check, present}
 use Rattle.px_ctl_info.specs.Clients.{SERVER_VERSION, version_in, auth}
+use Rattle.px_ctl_info.specs.Properties.{list_of, mode_of, has_keys}
+use Rattle.px_ctl_info.specs.Sinks.{sink_called}
 use Rattle.px_ctl_play.specs.declared.told.News.{News}
 use Rattle.px_ctl_play.specs.declared.told.News.TheVariants as news
 use Rattle.px_ctl_play.specs.Told.{message_of, told}
@@ -53,7 +55,7 @@ use Rattle.px_core.proofs.ListLaws.{all_push}
 use Rattle.px_core.proofs.ChangeLaws.{sink_at, held_on}
 use Rattle.px_core.proofs.HandingLaws.{out_keeps, out_spares}
 use Rattle.px_core.proofs.VerbLaws.{Follows, others_keep, changes_follow}
-use Rattle.px_core.proofs.RowLaws.{Each, each_check}
+use Rattle.px_core.proofs.RowLaws.{Each, each_check, each_then}
 use Rattle.px_core.proofs.Going.{going_by_own}
 use Rattle.px_core.proofs.Sinks.{named_there}
 use Rattle.px_core.proofs.AnswerLaws.{IsLawful, data_lawful, left_lawful}
@@ -102,6 +104,13 @@ row_lawful spec_of state h me tag (commands.Prebuf stream) = prebuf_lawful state
 row_lawful spec_of state h me tag (commands.Attributes stream asked adjust_latency early_requests) =
     attributes_lawful state h.rising me.conn stream (depth_of (sink_of state.sinks (stream_of state.inputs me.conn stream))) (rate_of (sink_of state.sinks (stream_of state.inputs me.conn stream))) asked tag (stream_of state.inputs me.conn stream) refl
 row_lawful spec_of state h me tag (commands.EmptyList number) = tt
+row_lawful spec_of state h me tag (commands.LookupSink name) = each_then (IsLawful state) (sink_called state.names name) _ (λ sink. tt)
+row_lawful spec_of state h me tag (commands.DefaultSink name) = each_then (IsLawful state) (sink_called state.names name) _ (λ sink. (tt, tt))
+row_lawful spec_of state h me tag (commands.ClientInfo client) = each_then (IsLawful state) (present (client_numbered state.names.clients client) NoEntity) _ (λ found. tt)
+row_lawful spec_of state h me tag commands.ClientInfoList = tt
+row_lawful spec_of state h me tag (commands.UpdateClient mode list) = each_then (IsLawful state) (present (mode_of mode) Invalid) _ (λ known. (tt, tt))
+row_lawful spec_of state h me tag (commands.RemoveClient keys) =
+    each_then (IsLawful state) (check (has_keys (list_of (client_on state.names.clients me.conn)) keys) NoEntity) _ (λ there. (tt, tt))
 row_lawful spec_of state h me tag _ = tt
 
 requested_lawful : {P : Type 0} (state : State P) (tag : ℕ) (given : Row (Plan P)) → Each (IsLawful state) given → IsLawful state (requested tag given)

@@ -10,14 +10,16 @@ use Rattle.px_cmd.specs.declared.command.Command.{Command}
 use Rattle.px_cmd.specs.declared.command.Command.TheVariants as commands
 use Rattle.px_cmd.specs.declared.fault.CmdFault.{CmdFault}
 use Rattle.px_cmd.specs.declared.fault.CmdFault.TheVariants.{Protocol, Unknown, Unsupported, NoMemory}
-use Rattle.px_names.specs.Clients.{client_on}
+use Rattle.px_names.specs.Clients.{client_on, client_numbered}
 use Rattle.px_plan.specs.declared.input.Connection.{Connection}
 use Rattle.px_plan.specs.declared.input.Input.{Input}
 use Rattle.px_plan.specs.declared.refusal.Refusal.TheVariants.{Code}
 use Rattle.px_plan.specs.Plan.{idle}
 use Rattle.px_plan.specs.Row.{Row}
-use Rattle.px_ctl_info.specs.Clients.{auth, set_client_name}
+use Rattle.px_ctl_info.specs.Clients.{auth, set_client_name, client_info, client_infos}
 use Rattle.px_ctl_info.specs.Lists.{empty_list}
+use Rattle.px_ctl_info.specs.Properties.{update_client, remove_client}
+use Rattle.px_ctl_info.specs.Sinks.{lookup_sink, set_default_sink}
 use Rattle.px_ctl_play.specs.Attributes.{attributes}
 use Rattle.px_ctl_play.specs.Control.{cork, flush, trigger, prebuf}
 use Rattle.px_ctl_play.specs.Create.{create}
@@ -36,9 +38,10 @@ AUTH = 8
 -- the commands of the table that aren't built yet
 abbrev pub is_built : ℕ → Bool
 is_built command =
-    nat_eq command 3 || nat_eq command 4 || nat_eq command 8 || nat_eq command 9 || nat_eq command 12 || nat_eq command 14
-    || nat_eq command 24 || nat_eq command 26 || nat_eq command 32 || nat_eq command 34
-    || nat_eq command 41 || nat_eq command 42 || nat_eq command 43 || nat_eq command 60 || nat_eq command 72 || nat_eq command 89
+    nat_eq command 3 || nat_eq command 4 || nat_eq command 8 || nat_eq command 9 || nat_eq command 10 || nat_eq command 12 || nat_eq command 14
+    || nat_eq command 24 || nat_eq command 26 || nat_eq command 27 || nat_eq command 28 || nat_eq command 32 || nat_eq command 34
+    || nat_eq command 41 || nat_eq command 42 || nat_eq command 43 || nat_eq command 44 || nat_eq command 60 || nat_eq command 72
+    || nat_eq command 82 || nat_eq command 85 || nat_eq command 89
 
 abbrev pub is_waiting_for_work : ℕ → Bool
 is_waiting_for_work command = is_some (kinds_of command) && not (is_built command)
@@ -64,12 +67,12 @@ row state me tag (commands.Trigger stream) = trigger (stream_of state.inputs me.
 row state me tag (commands.Prebuf stream) = prebuf (stream_of state.inputs me.conn stream) tag
 row state me tag (commands.Attributes stream asked adjust_latency early_requests) = new_attributes state (stream_of state.inputs me.conn stream) asked tag
 row state me tag (commands.EmptyList number) = empty_list tag
-row state me tag (commands.LookupSink name) = not_built
+row state me tag (commands.LookupSink name) = lookup_sink state.names tag name
 row state me tag commands.ServerInfo = not_built
 row state me tag (commands.SinkInfo sink) = not_built
 row state me tag commands.SinkInfoList = not_built
-row state me tag (commands.ClientInfo client) = not_built
-row state me tag commands.ClientInfoList = not_built
+row state me tag (commands.ClientInfo client) = client_info (client_numbered state.names.clients client) tag
+row state me tag commands.ClientInfoList = client_infos state.names.clients tag
 row state me tag (commands.InputInfo input) = not_built
 row state me tag commands.InputInfoList = not_built
 row state me tag (commands.Subscribe mask) = not_built
@@ -77,15 +80,15 @@ row state me tag (commands.SinkVolume sink volume) = not_built
 row state me tag (commands.InputVolume input volume) = not_built
 row state me tag (commands.SinkMute sink on) = not_built
 row state me tag (commands.InputMute input on) = not_built
-row state me tag (commands.DefaultSink name) = not_built
+row state me tag (commands.DefaultSink name) = set_default_sink state.names tag name
 row state me tag (commands.StreamName stream name) = not_built
 row state me tag (commands.KillClient client) = not_built
 row state me tag (commands.KillInput input) = not_built
 row state me tag (commands.Move input sink) = not_built
 row state me tag (commands.UpdateStream stream mode list) = not_built
-row state me tag (commands.UpdateClient mode list) = not_built
+row state me tag (commands.UpdateClient mode list) = update_client (client_on state.names.clients me.conn) me tag mode list
 row state me tag (commands.RemoveStream stream keys) = not_built
-row state me tag (commands.RemoveClient keys) = not_built
+row state me tag (commands.RemoveClient keys) = remove_client (client_on state.names.clients me.conn) me tag keys
 
 -- ---- the order of refusals
 

@@ -7,6 +7,7 @@ ghost use Rattle.px_plan.specs.Row.{Plans};
 ghost use Rattle.px_session.specs.HeaderRules.{AreSinks};
 ghost use Rattle.px_ctl_play.specs.Create.{create};
 ghost use Rattle.std.specs.List.{AllByRecursion};
+ghost use Rattle.std.specs.Option.{option_map};
 ghost use Rattle.px_core.specs.Keeps.{IsInput};
 ghost use Rattle.px_core.specs.Sinks.{named_by};
 ghost use Rattle.px_core.specs.State.{stream_of};
@@ -17,8 +18,11 @@ use crate::found::copied;
 use crate::plan::{broken_off, refused, requested};
 use crate::tables::Tables;
 use crate::targets::{depth_of, named_by, rate_of, sink_of};
-use px_cmd::{CmdFault, Command, CreateFields, is_command, read_command, read_head};
-use px_ctl_info::{SERVER_VERSION, auth, empty_list, set_client_name};
+use px_cmd::{CmdFault, Command, CreateFields, Text, is_command, read_command, read_head};
+use px_ctl_info::{
+    SERVER_VERSION, auth, client_info, client_infos, empty_list, lookup_sink, remove_client,
+    set_client_name, set_default_sink, update_client,
+};
 use px_ctl_play::{attributes, cork, create, delete, drain, flush, latency, prebuf, trigger};
 use px_msg::Msg;
 use px_plan::{Connection, Input, Plan, Refusal};
@@ -34,7 +38,27 @@ fn is_built(command: u32) -> bool
 {
     matches!(
         command,
-        3 | 4 | 8 | 9 | 12 | 14 | 24 | 26 | 32 | 34 | 41 | 42 | 43 | 60 | 72 | 89
+        3 | 4
+            | 8
+            | 9
+            | 10
+            | 12
+            | 14
+            | 24
+            | 26
+            | 27
+            | 28
+            | 32
+            | 34
+            | 41
+            | 42
+            | 43
+            | 44
+            | 60
+            | 72
+            | 82
+            | 85
+            | 89
     )
 }
 
@@ -50,6 +74,16 @@ fn is_barred(c: &Connection, command: u32) -> bool
     ensures { result ≡ is_barred c.now command }
 {
     c.version.is_none() && command != AUTH
+}
+
+// A text that a command may give.
+fn text_of(text: &Option<Text>) -> Option<&[u8]>
+    ensures { option_map (λ bytes. bytes.now) result ≡ text.now }
+{
+    match text {
+        None => None,
+        Some(text) => Some(text.as_slice()),
+    }
 }
 
 // The input of a connection's stream.
@@ -136,12 +170,28 @@ fn row<P: Drop>(
             new_attributes(alloc, tables, stream, asked, tag)
         }
         Command::EmptyList { .. } => empty_list(alloc, tag),
-        Command::LookupSink { .. }
-        | Command::ServerInfo
+        Command::LookupSink { name } => lookup_sink(alloc, &tables.names, tag, text_of(&name)),
+        Command::DefaultSink { name } => set_default_sink(
+            alloc,
+            &tables.names,
+            tag,
+            text_of(&name),
+        ),
+        Command::ClientInfo { client } => {
+            client_info(alloc, tables.names.client_numbered(client), tag)
+        }
+        Command::ClientInfoList => client_infos(alloc, tables.names.clients(), tag),
+        Command::UpdateClient { mode, list } => {
+            let client = tables.names.client_on(me.conn);
+            update_client(alloc, client, me, tag, mode, &list)
+        }
+        Command::RemoveClient { keys } => {
+            let client = tables.names.client_on(me.conn);
+            remove_client(alloc, client, me, tag, &keys)
+        }
+        Command::ServerInfo
         | Command::SinkInfo { .. }
         | Command::SinkInfoList
-        | Command::ClientInfo { .. }
-        | Command::ClientInfoList
         | Command::InputInfo { .. }
         | Command::InputInfoList
         | Command::Subscribe { .. }
@@ -149,15 +199,12 @@ fn row<P: Drop>(
         | Command::InputVolume { .. }
         | Command::SinkMute { .. }
         | Command::InputMute { .. }
-        | Command::DefaultSink { .. }
         | Command::StreamName { .. }
         | Command::KillClient { .. }
         | Command::KillInput { .. }
         | Command::Move { .. }
         | Command::UpdateStream { .. }
-        | Command::UpdateClient { .. }
-        | Command::RemoveStream { .. }
-        | Command::RemoveClient { .. } => Err(Refusal::Code(ErrorCode::NotImplemented)),
+        | Command::RemoveStream { .. } => Err(Refusal::Code(ErrorCode::NotImplemented)),
     }
 }
 
