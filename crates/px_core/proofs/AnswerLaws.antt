@@ -1,11 +1,10 @@
 -- The changes that data and notices make are lawful.
-use Rattle.std.proofs.Common.{◌≡◌, ℕ, ◌<◌, ◌≤◌, List, [], ◌∷◌, map, length, Option, Some, None, Bool, true, false, refl, ap, sym, subst, ◌∙◌, arith, cond}
-use Rattle.std.specs.Prelude.{◌*◌, ◌/◌, ◌%◌, ◌&&◌, not, filter, nat_eq, nat_lt, ℤ, pos, unsigned_abs, slice_get, IfSome}
+use Rattle.std.proofs.Common.{◌≡◌, ℕ, ◌<◌, ◌≤◌, List, [], ◌∷◌, map, length, Option, Some, None, Bool, true, refl, ap, sym, subst, ◌∙◌, arith}
+use Rattle.std.specs.Prelude.{◌*◌, ◌/◌, ◌%◌, ◌&&◌, filter, nat_eq, nat_lt, ℤ, pos, unsigned_abs, slice_get, IfSome}
 use Rattle.std.specs.Int.{int_div_euclid, int_rem_euclid}
-use Rattle.std.specs.List.{AllByRecursion, find}
-use Rattle.std.proofs.lemmas.Bool.{cond_both, eqb-true, false≢true, not-true, and_parts}
+use Rattle.std.specs.List.{AllByRecursion}
+use Rattle.std.proofs.lemmas.Bool.{cond_both, eqb-true, false≢true, and_parts}
 use Rattle.std.proofs.lemmas.List.{length-replicate}
-use Rattle.std.proofs.lemmas.Option.{same_Some, slice_get_within}
 use Rattle.px_types.specs.declared.ids.ConnId.{ConnId}
 use Rattle.px_types.specs.declared.ids.InputId.{InputId}
 use Rattle.px_types.specs.declared.ids.SinkId.{SinkId}
@@ -22,13 +21,13 @@ use Rattle.px_plan.specs.declared.input.Standing.{Standing}
 use Rattle.px_plan.specs.declared.input.Standing.TheVariants.{Settled, Moving, Leaving}
 use Rattle.px_plan.specs.declared.input.Way.{Way}
 use Rattle.px_plan.specs.declared.input.Way.TheVariants.{Coming, There, Left}
-use Rattle.px_plan.specs.declared.change.Change.TheVariants.{Said, Gone}
+use Rattle.px_plan.specs.declared.change.Change.TheVariants.{Gone}
 use Rattle.px_plan.specs.Plan.{idle, changing}
 use Rattle.px_ctl_play.specs.declared.data.Frames.{Frames}
-use Rattle.px_ctl_play.specs.Data.{are_frames, frames_in, write, written, data_for}
+use Rattle.px_ctl_play.specs.Data.{are_frames, write, written, data_for}
 use Rattle.px_ctl_play.specs.Factors.{UNITY, factors_of, regrouped}
 use Rattle.px_ctl_play.specs.Told.{has_left, same_spec, gives_up, left}
-use Rattle.px_core.specs.State.{State, is_leaving, input_of, is_stream, stream_of, is_settled, settled_on}
+use Rattle.px_core.specs.State.{State, is_leaving, is_stream, stream_of, is_settled, settled_on}
 use Rattle.px_core.specs.Change.{changed}
 use Rattle.px_core.specs.Keeps.{IsInput, IsKept, IsRising, IsIncreasing, AllAbove}
 use Rattle.px_core.specs.Lawful.{Suits, HasLeft, Lawful, AreLawful}

@@ -1,10 +1,10 @@
 -- The first input of each stream, where an input changes, goes or comes.
-use Rattle.std.proofs.Common.{rules, arith, ◌≡◌, ◌<◌, ◌⊎◌, ℕ, ◌&&◌, not, nat_eq, Bool, true, false, cond, List, [], ◌∷◌, ◌++◌, Option, None, Some, IsSome, refl, ap, sym, subst, ◌∙◌}
+use Rattle.std.proofs.Common.{◌≡◌, ◌&&◌, not, nat_eq, Bool, true, false, cond, List, [], ◌∷◌, ◌++◌, Option, None, Some, IsSome, refl, ap, sym, subst, ◌∙◌}
 use Rattle.std.proofs.lemmas.Bool.{cond-true, cond-false, eqb-true, false≢true}
 use Rattle.std.proofs.lemmas.Option.{none-some, same_Some}
 use Rattle.std.specs.List.{find}
 use Rattle.std.specs.Option.{option_map}
-use Rattle.indexmap.specs.IndexMap.{IndexMap, get, spare, ContainsKey}
+use Rattle.indexmap.specs.IndexMap.{IndexMap, get, ContainsKey}
 use Rattle.px_plan.specs.declared.input.Input.{Input}
 use Rattle.px_core.specs.declared.input_table.StreamKey.{StreamKey}
 use Rattle.px_core.specs.Change.{change_first, drop_first, leaving}

@@ -1,6 +1,6 @@
 -- The changes of CREATE are lawful.
-use Rattle.std.proofs.Common.{◌≡◌, ℕ, zero, suc, ◌<◌, ◌≤◌, List, [], ◌∷◌, ◌++◌, length, min, max, Option, Some, None, Bool, true, false, refl, ap, sym, subst, ◌∙◌, arith, cond}
-use Rattle.std.specs.Prelude.{◌+◌, ◌-◌, ◌*◌, ◌/◌, ◌≢◌, ◌&&◌, ◌||◌, not, nat_eq, nat_lt, nat_le, slice_get, slice_index}
+use Rattle.std.proofs.Common.{◌≡◌, ℕ, zero, suc, ◌<◌, ◌≤◌, List, [], ◌∷◌, ◌++◌, length, min, max, Some, Bool, true, false, refl, ap, sym, subst, ◌∙◌, arith, cond}
+use Rattle.std.specs.Prelude.{◌+◌, ◌-◌, ◌*◌, ◌/◌, ◌≢◌, not, nat_eq, nat_lt, nat_le, slice_get, slice_index}
 use Rattle.std.specs.List.{All, list_all, range_with_len}
 use Rattle.std.specs.Cmp.Lexicographic.{pointwise}
 use Rattle.std.proofs.lemmas.Bool.{cond_both, eqb-true, eqb-false, leb-true, ltb-true, false≢true, and_parts, not-true, agree_below_at}
@@ -21,12 +21,11 @@ use Rattle.px_msg.specs.Repair.{UNSET, MAXLENGTH, repaired, frames_asked, betwee
 use Rattle.px_msg.specs.View.{sample_spec}
 use Rattle.px_plan.specs.declared.input.Connection.{Connection}
 use Rattle.px_plan.specs.declared.input.Input.{Input}
-use Rattle.px_core.specs.State.{State, is_settled, settled_on, bound_for, going_of}
+use Rattle.px_core.specs.State.{State, is_settled, settled_on, bound_for}
 use Rattle.px_core.specs.Change.{changed}
 use Rattle.px_plan.specs.declared.change.Change.TheVariants.{Made}
 use Rattle.px_plan.specs.declared.target.Target.{Target}
 use Rattle.px_plan.specs.declared.target.Named.{Named}
-use Rattle.px_plan.specs.Plan.{Planned}
 use Rattle.px_plan.specs.Target.{target_of as target_in}
 use Rattle.px_ctl_play.specs.Asked.{format_on, channels_on, positions_on, same_positions, format_with, spec_on, attr_on, is_lawful, is_supported, is_built, has_room, MOST_ON_SINK}
 use Rattle.px_ctl_play.specs.Create.{straight, input_made, new_of, create}

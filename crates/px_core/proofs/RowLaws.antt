@@ -1,7 +1,7 @@
 -- What holds of each plan that a row gives.
-use Rattle.std.proofs.Common.{◌≡◌, ℕ, Bool, true, false, Option, None, Some, Result, Ok, Err, refl}
+use Rattle.std.proofs.Common.{◌≡◌, Bool, true, false, Ok, Err, refl}
 use Rattle.px_types.specs.declared.error_code.ErrorCode.{ErrorCode}
-use Rattle.px_plan.specs.Row.{Row, ◌>>=◌, check, present}
+use Rattle.px_plan.specs.Row.{Row, ◌>>=◌, check}
 
 abbrev pub Each : {A : Type 0} → (A → Type 0) → Row A → Type 0
 Each Q (Ok x) = Q x

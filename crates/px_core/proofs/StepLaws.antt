@@ -48,7 +48,7 @@ use Rattle.px_core.specs.Command.{default_sink, row, read_answer, is_barred, is_
 use Rattle.px_core.specs.Connecting.{is_full, new_connection, joined, connected, ended, going_on}
 use Rattle.px_core.specs.Notice.{input_on, owner_of, told_of, notice_answer}
 use Rattle.px_core.specs.Orderly.{inputs_there}
-use Rattle.px_core.specs.Keeps.{AreDistinct, AreInStep, IsKept, IsRising, IsStep, Spares}
+use Rattle.px_core.specs.Keeps.{AreDistinct, AreInStep, IsKept, IsStep, Spares}
 use Rattle.px_core.specs.Plan.{Plan, refused, reply_fits, requested, broken_off}
 use Rattle.px_core.specs.Sinks.{rate_of, rate_on, depth_of, sink_of, named_by}
 use Rattle.px_core.specs.Step.{Step, connect, frame, broken, close, cut, sweep, notice, out, body_answer, frame_of, answered, answer_of, stepped, stepped_by}

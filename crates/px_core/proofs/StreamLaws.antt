@@ -1,5 +1,5 @@
 -- The changes that a command of a stream makes are lawful.
-use Rattle.std.proofs.Common.{◌≡◌, ℕ, ◌≤◌, List, ◌∷◌, Option, None, Some, Bool, true, refl, sym, subst}
+use Rattle.std.proofs.Common.{◌≡◌, ℕ, ◌≤◌, List, Option, None, Some, Bool, true, refl, sym, subst}
 use Rattle.std.specs.Prelude.{◌&&◌, nat_eq, IfSome, MatchOption}
 use Rattle.std.specs.List.{AllByRecursion}
 use Rattle.std.proofs.lemmas.Bool.{cond_both, and_parts}
@@ -28,7 +28,7 @@ use Rattle.px_ctl_play.specs.Delete.{delete}
 use Rattle.px_ctl_play.specs.Drain.{drain, drain_answered, drained}
 use Rattle.px_ctl_play.specs.Latency.{latency, latency_answered, measured}
 use Rattle.px_core.specs.State.{State, goes_on, input_of, is_stream, stream_of}
-use Rattle.px_core.specs.Change.{changed, inputs_told, saying, saying_of}
+use Rattle.px_core.specs.Change.{inputs_told, saying, saying_of}
 use Rattle.px_core.specs.Keeps.{IsInput, IsRising, IsGoing, IsAwaiting}
 use Rattle.px_core.specs.Lawful.{Suits, Lawful}
 use Rattle.px_core.proofs.ListLaws.{found_test, found_all}

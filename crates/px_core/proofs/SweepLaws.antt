@@ -1,5 +1,5 @@
 -- The changes that sweep ended connections away are lawful.
-use Rattle.std.proofs.Common.{◌≡◌, List, [], ◌∷◌, ◌++◌, subst, sym}
+use Rattle.std.proofs.Common.{List, [], ◌∷◌, ◌++◌, subst, sym}
 use Rattle.std.specs.Prelude.{filter, flat_map}
 use Rattle.std.proofs.lemmas.List.{append_assoc}
 use Rattle.px_plan.specs.declared.change.Change.TheVariants.{Leaves, Forgotten}

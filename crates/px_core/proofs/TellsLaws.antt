@@ -1,30 +1,14 @@
 -- What each command's row tells who asked: a reply that is no error, or nothing yet.
-use Rattle.std.proofs.Common.{◌≡◌, ℕ, List, [], ◌∷◌, ◌++◌, length, Option, Some, None, Bool, true, false, refl, ap, sym, subst, ◌∙◌, arith, cond}
-use Rattle.std.specs.Prelude.{not, get_or, map, fold, filter, flat_map, is_some, nat_le, Result, Ok, Err}
-use Rattle.std.specs.List.{AllByRecursion}
-use Rattle.std.proofs.lemmas.Bool.{cond_both, cond-true, cond-false, false≢true}
-use Rattle.std.proofs.lemmas.List.{append_assoc}
-use Rattle.std.proofs.lemmas.Option.{none-some, same_Some}
+use Rattle.std.proofs.Common.{◌≡◌, ℕ, List, [], ◌∷◌, ◌++◌, Option, Some, None, Bool, true, refl, ap}
+use Rattle.std.specs.Prelude.{not, get_or, map, fold, is_some, nat_le}
 use Rattle.px_types.specs.declared.ids.ConnId.{ConnId}
-use Rattle.px_types.specs.declared.ids.SinkId.{SinkId}
-use Rattle.px_types.specs.declared.error_code.ErrorCode.TheVariants.{Access, BadState, Invalid, NoEntity, NotImplemented, TooLarge, Version}
-use Rattle.px_tag.specs.declared.fault.TagFault.{TagFault}
-use Rattle.px_tag.specs.Place.{Place, start_of}
+use Rattle.px_types.specs.declared.error_code.ErrorCode.TheVariants.{Access, BadState, Invalid, NoEntity, Version}
 use Rattle.px_tag.specs.Item.{number}
-use Rattle.px_cmd.specs.Packet.{head_at}
-use Rattle.px_cmd.specs.Meant.{meant}
 use Rattle.px_cmd.specs.declared.command.CreateFields.{CreateFields}
 use Rattle.px_cmd.specs.declared.command.Command.{Command}
 use Rattle.px_cmd.specs.declared.command.Command.TheVariants as commands
-use Rattle.px_cmd.specs.declared.fault.CmdFault.{CmdFault}
-use Rattle.px_cmd.specs.declared.fault.CmdFault.TheVariants.{Protocol, Unknown, Unsupported, NoMemory as OutOfMemory}
-use Rattle.px_frame.specs.Fault.{code_of as rule_of}
-use Rattle.px_frame.specs.Descriptor.{descriptor_bytes}
-use Rattle.px_frame.specs.declared.frame.Frame.{Frame}
-use Rattle.px_frame.specs.declared.frame.Body.{Body}
-use Rattle.px_frame.specs.declared.frame.Body.TheVariants.{Control, Write}
 use Rattle.px_names.specs.Names.{Naming, same_text}
-use Rattle.px_reply.specs.Front.{reply_to, refusal}
+use Rattle.px_reply.specs.Front.{reply_to}
 use Rattle.px_reply.specs.declared.played.Created.{Created}
 use Rattle.px_reply.specs.declared.info.ClientInfo.{ClientInfo}
 use Rattle.px_reply.specs.declared.info.ServerInfo.{ServerInfo}
@@ -33,54 +17,29 @@ use Rattle.px_reply.specs.declared.played.LatencyFields.{LatencyFields}
 use Rattle.px_reply.specs.Message.{created_reply, latency_reply, attributes_reply}
 use Rattle.px_msg.specs.Repair.{repaired, bytes_of as bytes_of_attr}
 use Rattle.px_tag.specs.declared.raw.TimeVal.{TimeVal}
-use Rattle.px_model.specs.Frame.{SampleSpec}
-use Rattle.px_msg.specs.declared.notice.Notice.{Notice}
-use Rattle.px_msg.specs.declared.notice.Notice.TheVariants.{Request, Overflow, Underflow, Started, Drained, Detached, Latency}
-use Rattle.px_plan.specs.declared.refusal.Refusal.TheVariants.{Code, NoMemory}
-use Rattle.px_plan.specs.declared.change.Change.TheVariants.{Gone, Ended, Forgotten}
-use Rattle.px_plan.specs.declared.sending.Reason.{Reason}
-use Rattle.px_plan.specs.declared.sending.Reason.TheVariants.{Protocol as Breach, Limit, Cut as ForMemory}
-use Rattle.px_plan.specs.declared.sending.Sending.{Sending}
 use Rattle.px_plan.specs.declared.input.Connection.{Connection}
 use Rattle.px_plan.specs.declared.input.Input.{Input}
 use Rattle.px_plan.specs.declared.target.Named.{Named}
 use Rattle.px_plan.specs.declared.waiting.Waiting.{Waiting}
-use Rattle.px_plan.specs.Waiting.{drain_under, question_under}
-use Rattle.px_plan.specs.Plan.{Planned, idle, changing, telling}
-use Rattle.px_plan.specs.Row.{Row, check, present}
+use Rattle.px_plan.specs.Row.{check, present}
 use Rattle.px_plan.specs.Target.{target_of}
 use Rattle.px_names.specs.Clients.{client_on, client_numbered}
 use Rattle.px_ctl_info.specs.Clients.{SERVER_VERSION, version_in, auth, info_of}
 use Rattle.px_ctl_info.specs.Properties.{list_of, mode_of, has_keys}
 use Rattle.px_ctl_info.specs.Sinks.{sink_called, server_of}
-use Rattle.px_ctl_play.specs.declared.told.News.{News}
-use Rattle.px_ctl_play.specs.declared.told.News.TheVariants as news
 use Rattle.px_ctl_play.specs.Create.{created_of, input_made, create}
-use Rattle.px_ctl_play.specs.declared.timing.Progress.{Progress}
-use Rattle.px_ctl_play.specs.Answer.{answered}
 use Rattle.px_ctl_play.specs.Attributes.{attributes}
 use Rattle.px_ctl_play.specs.Control.{cork, flush, trigger, prebuf}
 use Rattle.px_ctl_play.specs.Delete.{delete}
-use Rattle.px_ctl_play.specs.Drain.{drain, drain_answered, drained}
-use Rattle.px_ctl_play.specs.Latency.{latency, fields_of, time_given, latency_answered, measured}
+use Rattle.px_ctl_play.specs.Drain.{drain}
+use Rattle.px_ctl_play.specs.Latency.{latency}
 use Rattle.px_ctl_play.specs.Time.{microseconds}
-use Rattle.px_ctl_play.specs.Factors.{regrouped}
-use Rattle.px_ctl_play.specs.Told.{message_of, told, gives_up, left}
 use Rattle.px_ctl_play.proofs.Passed.{IsCreated, create_passed}
-use Rattle.px_core.specs.declared.effect.Effect.{Effect}
-use Rattle.px_core.specs.declared.effect.Effect.TheVariants.{Sent, Closed}
-use Rattle.px_core.specs.State.{State, goes_on, connection_of, settled_on, stream_of, marked_of, is_from}
-use Rattle.px_core.specs.Change.{Change, marked, with_connection, committed}
-use Rattle.px_core.specs.Effect.{reason_code, framed, fits, sent, sending, closed_at, closed_for, fault_code, fault_place, offset_behind}
-use Rattle.px_core.specs.Plan.{Plan, reply_to_asker, sent_all, closed_by, closed_all, plan_effects, refused, reply_fits, requested, ended_by, broken_off}
-use Rattle.px_core.specs.Command.{default_sink, row, read_answer, is_barred, is_waiting_for_work, command_answer, head_answer}
-use Rattle.px_core.specs.Connecting.{is_full, connect_effects, going_on, ended, ends, swept, sweep_of}
-use Rattle.px_core.specs.Notice.{input_on, owner_of, notice_answer}
-use Rattle.px_core.specs.Sinks.{channels_on, rate_on, rate_of, depth_of, sink_of, named_by}
-use Rattle.px_core.specs.Step.{Step, connect, frame, broken, close, cut, sweep, notice, out, body_answer, frame_of, sender_of, answer_of, stepped, effects_of}
-use Rattle.px_core.proofs.ListLaws.{heads, no_cons}
+use Rattle.px_core.specs.State.{State, stream_of}
+use Rattle.px_core.specs.Plan.{Plan, plan_effects}
+use Rattle.px_core.specs.Command.{default_sink, row}
+use Rattle.px_core.specs.Sinks.{rate_of, depth_of, sink_of, named_by}
 use Rattle.px_core.proofs.RowLaws.{Each, each_check, each_then, each_by}
-use Rattle.px_core.proofs.Silent.{data_silent}
 
 -- ---- replies: the fifth byte, the last of a reply's first number, is 2
 

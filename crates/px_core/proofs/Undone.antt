@@ -1,9 +1,7 @@
 -- A message that was handed out and is put back leaves the state as it was.
-use Rattle.std.proofs.Common.{arith, rules, ◌≡◌, ℕ, zero, suc, Bool, true, false, cond, List, [], ◌∷◌, get_or, Some, None, refl, sym, ap, ap₂, ◌∙◌}
+use Rattle.std.proofs.Common.{◌≡◌, ℕ, zero, suc, Bool, true, false, cond, List, [], ◌∷◌, get_or, Some, refl, sym, ap, ◌∙◌}
 use Rattle.std.specs.Prelude.{set, IfSome}
-use Rattle.std.specs.List.{find}
 use Rattle.px_types.specs.declared.ids.InputId.{InputId}
-use Rattle.px_types.specs.declared.ids.SinkId.{SinkId}
 use Rattle.px_msg.specs.declared.message.Msg.{Msg}
 use Rattle.px_msg.specs.declared.message.Msg.TheVariants.{New, Attach, Detach, Write, Cork, Flush, Trigger, Prebuf, Drain, Attr, Factors, Query}
 use Rattle.px_plan.specs.declared.input.Input.{Input}
@@ -11,7 +9,7 @@ use Rattle.px_plan.specs.declared.input.Way.{Way}
 use Rattle.px_plan.specs.declared.input.Way.TheVariants.{Coming, There, Left}
 use Rattle.px_core.specs.State.{State, has_index, input_of}
 use Rattle.px_core.specs.Change.{change_first}
-use Rattle.px_core.specs.Out.{waiting_for, first_of, rest_of, next_for, on_way, with_way, inputs_past, inputs_before, past, handed_out, put_back}
+use Rattle.px_core.specs.Out.{first_of, rest_of, on_way, with_way, inputs_past, inputs_before}
 use Rattle.px_core.specs.Lending.{IsOnWay, FindsItsStream, IsUndone}
 
 -- ---- the queues

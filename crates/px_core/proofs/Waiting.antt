@@ -1,5 +1,5 @@
 -- A queue of several takes the place of another.
-use Rattle.std.proofs.Common.{arith, rules, ◌≡◌, ℕ, ◌+◌, ◌-◌, ◌<◌, ◌≤◌, List, [], ◌∷◌, ◌++◌, suc, zero, length, get_or, slice_set, drop, map, Option, None, Some, IsNone, IsSome, refl, sym, ap, ◌∙◌}
+use Rattle.std.proofs.Common.{arith, rules, ◌≡◌, ℕ, ◌+◌, ◌-◌, ◌<◌, ◌≤◌, List, [], ◌∷◌, ◌++◌, suc, zero, length, get_or, slice_set, drop, Option, None, Some, IsNone, IsSome, refl, sym, ap, ◌∙◌}
 use Rattle.std.specs.Option.{option_to_list}
 use Rattle.std.proofs.lemmas.List.{set-get_or}
 use Rattle.std.specs.VecDeque.{deque_len, deque_capacity}

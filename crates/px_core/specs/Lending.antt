@@ -1,5 +1,5 @@
 -- A message that was handed out and is put back leaves the state as it was.
-use Rattle.std.specs.Prelude.{◌≡◌, ℕ, List, IfSome, Some}
+use Rattle.std.specs.Prelude.{◌≡◌, List, IfSome, Some}
 use Rattle.px_types.specs.declared.ids.InputId.{InputId}
 use Rattle.px_types.specs.declared.ids.SinkId.{SinkId}
 use Rattle.px_msg.specs.declared.message.Msg.{Msg}

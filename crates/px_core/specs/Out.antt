@@ -1,5 +1,5 @@
 -- Messages are handed out to the sinks, and those that were can be put back. Own: PulseAudio's `pa_asyncmsgq` keeps its messages itself.
-use Rattle.std.specs.Prelude.{ℕ, zero, suc, ◌+◌, ◌-◌, Bool, cond, List, [], ◌∷◌, set, get_or, length, Option, None, Some}
+use Rattle.std.specs.Prelude.{ℕ, zero, suc, ◌+◌, ◌-◌, List, [], ◌∷◌, set, get_or, Option, None, Some}
 use Rattle.px_types.specs.declared.ids.InputId.{InputId}
 use Rattle.px_types.specs.declared.ids.SinkId.{SinkId}
 use Rattle.px_msg.specs.declared.message.Msg.{Msg}

@@ -132,11 +132,7 @@ fn new_attributes<P: Drop>(
 }
 
 // What the server is.
-fn server<P: Drop>(
-    alloc: Global,
-    tables: &Tables<P>,
-    tag: u32,
-) -> Result<Plan<Msg<P>, ()>, Refusal>
+fn server<P: Drop>(alloc: Global, tables: &Tables<P>, tag: u32) -> Result<Plan<Msg<P>, ()>, Refusal>
     requires { AreSinks [] tables.now.sinks }
     ensures { Plans result (server_info (default_sink (state_of tables.now)) tag) }
 {
