@@ -6,7 +6,7 @@ use Rattle.px_session.specs.declared.event.Event.{Event}
 use Rattle.px_session.specs.declared.event.Step.{Step}
 use Rattle.px_session.specs.declared.event.Step.TheVariants as step
 use Rattle.px_session.specs.declared.fault.Cause.TheVariants as cause
-use Rattle.px_session.specs.Place.{Place, Refusal as Broken, start_of}
+use Rattle.px_session.specs.Place.{Place, start_of}
 use Rattle.px_session.specs.HeaderReading.{header_at}
 use Rattle.px_session.specs.EventReading.{event_at}
 use Rattle.px_session.specs.SessionLaw.{Lead}

@@ -1,5 +1,5 @@
 -- What the status of a replay says, from how it ended and what was reported.
-use Rattle.std.proofs.Common.{◌≡◌, ◌≢◌, ◌⊎◌, inl, inr, ℕ, List, Option, refl, sym, ap, subst, ◌∙◌}
+use Rattle.std.proofs.Common.{◌≡◌, ◌≢◌, ◌⊎◌, inl, inr, ℕ, List, Option, refl, subst, ◌∙◌}
 use Rattle.px_types.specs.declared.status.Status.{Status}
 use Rattle.px_types.specs.declared.status.Status.TheVariants as status
 use Rattle.px_ends.specs.Told.{after_adding, WhereTold}
@@ -11,7 +11,7 @@ use Rattle.px_app.specs.declared.ending.Ending.TheVariants as ending
 use Rattle.px_app.specs.Refusal.{refusal_line}
 use Rattle.px_app.specs.Ends.{Ends, Log, AreQuiet}
 use Rattle.px_app.specs.Ending.{status_of, line_of, IsRefusal, IsReplayStatus}
-use Rattle.px_app.specs.Report.{Says, Reported}
+use Rattle.px_app.specs.Report.{Says}
 use Rattle.px_app.specs.Session.{IsRefused}
 use Rattle.px_app.specs.Replay.{PlayedWhole, WasRefused, Gives, PlayedFront, InputPlayed, InputCounted, Replayed, Completes}
 use Rattle.px_world.specs.Output.{output_of}

@@ -1,5 +1,5 @@
 -- What a status says of how a run ended, and of the log.
-use Rattle.std.proofs.Common.{◌≡◌, ◌≢◌, ◌⊎◌, inl, inr, sym, ap, subst, ◌∙◌}
+use Rattle.std.proofs.Common.{◌≡◌, ◌≢◌, ◌⊎◌, inl, inr, sym, ap, ◌∙◌}
 use Rattle.px_types.specs.declared.status.Status.{Status}
 use Rattle.px_types.specs.declared.status.Status.TheVariants as status
 use Rattle.px_ends.specs.Told.{after_adding}
@@ -11,7 +11,7 @@ use Rattle.px_app.specs.declared.ending.Ending.TheVariants as ending
 use Rattle.px_app.specs.Refusal.{refusal_line}
 use Rattle.px_app.specs.Ends.{Log}
 use Rattle.px_app.specs.Ending.{status_of, line_of, IsRefusal}
-use Rattle.px_app.specs.Report.{Says, Logged, LogFailed, Reported}
+use Rattle.px_app.specs.Report.{Says, Logged, Reported}
 
 -- ---- the endings of a status
 

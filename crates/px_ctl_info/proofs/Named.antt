@@ -1,5 +1,5 @@
 -- A name is a text, where there is one.
-use Rattle.std.proofs.Common.{◌≡◌, ℕ, List, [], ◌∷◌, ◌++◌, All}
+use Rattle.std.proofs.Common.{List, [], ◌∷◌, ◌++◌, All}
 use Rattle.std.proofs.lemmas.List.Elements.{All-push}
 use Rattle.px_tag.specs.Item.{IsText}
 use Rattle.px_reply.specs.declared.info.ClientInfo.{ClientInfo}

@@ -5,7 +5,6 @@ use Rattle.px_tag.specs.PropList.{Property, updated}
 use Rattle.px_tag.specs.declared.mode.Mode.TheVariants.{Replace}
 use Rattle.px_tag.specs.Item.{number}
 use Rattle.px_names.specs.declared.client.Client.{Client}
-use Rattle.px_names.specs.Clients.{client_numbered}
 use Rattle.px_names.specs.Names.{Naming, same_text}
 use Rattle.px_reply.specs.declared.info.ClientInfo.{ClientInfo}
 use Rattle.px_reply.specs.Front.{reply_to}

@@ -5,7 +5,7 @@ use lib.ListN.{get_elem?}
 use Rattle.crossbeam_queue.specs.Fifo.{Pushes, Pops, Forks, Merges, Learns}
 use Rattle.crossbeam_queue.proofs.Lists.{at_set, at_snoc}
 use Rattle.px_mail.specs.declared.step.Account.{Account}
-use Rattle.px_mail.specs.Mailbox.{account, unkeyed, poster, taker, closer, idle, after_posting, after_taking, IsHeldOf, Fits, IsLawful, GoesOn, Delivers}
+use Rattle.px_mail.specs.Mailbox.{unkeyed, poster, taker, closer, idle, after_posting, after_taking, IsHeldOf, Fits, IsLawful, GoesOn, Delivers}
 
 module _ {A : Type 0} where
   at_end : (l : List A) (a b : A) (j : ℕ) → get_elem? l j ≢ some b → get_elem? (l ++ a ∷ []) j ≡ some b → j ≡ length l

@@ -9,7 +9,7 @@ use Rattle.px_session.specs.declared.event.Event.TheVariants.{Connect, Bytes, Cl
 use Rattle.px_model.specs.Message.{Message}
 use Rattle.px_model.specs.Stream.{Stream}
 use Rattle.px_model.specs.Sink.{Sink}
-use Rattle.px_model.specs.Turn.{turned, turn_notices, stopped_turn, stopped_notices, played_by}
+use Rattle.px_model.specs.Turn.{played_by}
 use Rattle.px_model.specs.Deciding.{Entry, turn, stop, sink_after, played_of, replay, replay_played, CanBe, IsHistory}
 use Rattle.px_model.proofs.Replays.{replay_joins, played_join}
 use Rattle.px_core.specs.Out.{waiting_for}

@@ -10,7 +10,7 @@ use Rattle.px_model.specs.Message.{Message}
 use Rattle.px_model.specs.Notice.{Notice}
 use Rattle.px_model.specs.Sink.{Sink, IsSink}
 use Rattle.px_model.specs.Stream.{Stream}
-use Rattle.px_model.specs.Turn.{turned, turn_notices, stopped_turn, stopped_notices, played_by}
+use Rattle.px_model.specs.Turn.{turned, turn_notices, played_by}
 use Rattle.px_lane.specs.Lane.{IsAttached}
 use Rattle.px_stream.specs.Samples.{samples}
 use Rattle.px_lane.specs.Turned.{Plays}

@@ -1,5 +1,5 @@
 -- A world has the sinks of its header.
-use Rattle.std.proofs.Common.{◌<◌, length, ap, arith}
+use Rattle.std.proofs.Common.{length, ap, arith}
 use Rattle.std.proofs.lemmas.List.{length-map}
 use Rattle.px_session.specs.declared.header.Header.{Header}
 use Rattle.px_session.specs.HeaderRules.{IsHeader}

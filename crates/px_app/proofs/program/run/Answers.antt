@@ -1,4 +1,4 @@
-use Rattle.std.proofs.Common.{[], inl, inr, refl, sym}
+use Rattle.std.proofs.Common.{[], inr, refl, sym}
 use Rattle.px_ends.proofs.ToldBytes.{taking_nothing}
 use Rattle.px_app.specs.Ends.{ends_of, log_end}
 use Rattle.px_app.proofs.PlayLaws.{nothing_played}

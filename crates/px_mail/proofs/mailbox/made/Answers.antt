@@ -1,4 +1,4 @@
-use Rattle.std.proofs.Common.{rules, ◌≡◌, List, [], Option, sym, ap, subst}
+use Rattle.std.proofs.Common.{rules, ◌≡◌, List, Option, sym, ap, subst}
 use Rattle.crossbeam_queue.specs.Passes.{view}
 use Rattle.px_mail.specs.declared.step.Account.{Account}
 use Rattle.px_mail.specs.Mailbox.{unkeyed, IsLawful}

@@ -1,5 +1,5 @@
 use Rattle.std.proofs.Common.{◌≡◌, ◌^◌, ◌-◌, true}
-use Rattle.px_app.specs.Ends.{Ends, ends_of, AreQuiet}
+use Rattle.px_app.specs.Ends.{Ends, ends_of}
 use Rattle.px_app.specs.Step.{Reached}
 use Rattle.px_app.proofs.playing.Playing.run.Given as goal
 
