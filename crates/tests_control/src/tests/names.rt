@@ -1,6 +1,5 @@
 use px_names::{Names, SinkNames};
-use px_tag::{Mode, PropList};
-use px_types::{ConnId, ErrorCode, Mem, NoMemory, SinkId, Text};
+use px_types::{ErrorCode, Mem, NoMemory, SinkId, Text};
 use std::alloc::Global;
 
 const NONE: u32 = 0xFFFF_FFFF;
@@ -47,18 +46,5 @@ fn finds(names: &mut Names) -> bool {
 fn sinks_are_named_by_index_or_name(rt: HostRuntime) -> Mem<()> {
     let mut names = server(rt.alloc())?;
     assert!(rt; finds(&mut names) && names.cookie_fits(b"abc") && !names.cookie_fits(b"abcd"));
-    Ok(())
-}
-
-fn come(names: &mut Names, list: &PropList) -> Mem<()> {
-    names.admit(ConnId(9), 0)?;
-    names.update(0, Mode::Replace, list)
-}
-
-#[test]
-fn clients_come(rt: HostRuntime) -> Mem<()> {
-    let mut names = server(rt.alloc())?;
-    let list = PropList::new(rt.alloc());
-    assert!(rt; come(&mut names, &list).is_ok());
     Ok(())
 }

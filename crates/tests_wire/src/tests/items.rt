@@ -1,6 +1,5 @@
 use px_tag::{
-    Mem, Packet, PropList, RawMap, RawSpec, RawVolume, TagFault, TagReader, TagWriter, TimeVal,
-    one_spelling,
+    Mem, Packet, RawMap, RawSpec, RawVolume, TagFault, TagReader, TagWriter, TimeVal, one_spelling,
 };
 use std::alloc::Global;
 
@@ -90,31 +89,4 @@ fn items_are_read_and_written(rt: HostRuntime) {
     let read = reads_numbers(&mut reader) && reads_bytes(&mut reader) && reads_lists(&mut reader);
     one_spelling();
     assert!(rt; read && matches!(written(rt.alloc()), Ok(packet) if packet.as_slice() == ITEMS));
-}
-
-// `media.name` is `x` and a zero byte, `a` is empty, and `media.name` is `y`.
-const LIST: &[u8] =
-    b"Ptmedia.name\x00L\x00\x00\x00\x02x\x00\x00\x00\x02x\x00ta\x00L\x00\x00\x00\x00x\x00\x00\x00\x00tmedia.name\x00L\x00\x00\x00\x01x\x00\x00\x00\x01yN";
-
-// The same list, each key once.
-const SHORTER: &[u8] =
-    b"Ptmedia.name\x00L\x00\x00\x00\x01x\x00\x00\x00\x01yta\x00L\x00\x00\x00\x00x\x00\x00\x00\x00N";
-
-fn copied(alloc: Global, list: &PropList) -> Mem<Packet> {
-    let mut writer = TagWriter::new(alloc);
-    writer.proplist(list)?;
-    Ok(writer.finish())
-}
-
-fn is_read(alloc: Global) -> bool {
-    let mut reader = TagReader::new(LIST);
-    match reader.proplist(alloc) {
-        Ok(list) => matches!(copied(alloc, &list), Ok(packet) if packet.as_slice() == SHORTER),
-        Err(_) => false,
-    }
-}
-
-#[test]
-fn lists_are_read_and_written(rt: HostRuntime) {
-    assert!(rt; is_read(rt.alloc()));
 }
