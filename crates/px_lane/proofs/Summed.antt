@@ -60,13 +60,3 @@ packed_mix sink streams k =
     ap (λ (g : Format). packed_of g (map (saturate_signed (bit_width (width_of g))) (map (sum_of samples (sample_spec sink) streams k) (range_with_len 0 sink.channels)))) (sym (format_known sink.format))
     ∙ flat_map-map (λ (x : ℤ). sample_of (format_with (code_of sink.format)) x) clip (map (sum_of samples (sample_spec sink) streams k) (range_with_len 0 sink.channels))
     ∙ flat_map-map (λ (x : ℤ). sample_of (format_with (code_of sink.format)) (clip x)) (sum_of samples (sample_spec sink) streams k) (range_with_len 0 sink.channels)
-
--- one more frame stands behind those before it
-pub frames_more : (f : ℕ → List ℕ) (out ys : List ℕ) (ahead k a n m : ℕ) → a ≤ length out → m ≡ a + length ys
-    → take a out ≡ concat (map f (range_with_len ahead k)) → ys ≡ f (ahead + k) → take m (put_mid a n out ys) ≡ concat (map f (range_with_len ahead (k + 1)))
-frames_more f out ys ahead k a n m room next before made =
-    take-put_mid a n out ys m next room
-    ∙ ap (λ (done : List ℕ). done ++ ys) before
-    ∙ ap (λ (last : List ℕ). concat (map f (range_with_len ahead k)) ++ last) (made ∙ sym (append-nil (f (ahead + k))))
-    ∙ sym (concat-append (map f (range_with_len ahead k)) (f (ahead + k) ∷ []))
-    ∙ ap concat (sym (map-range_with_len_more f ahead k (ahead + k) refl))
