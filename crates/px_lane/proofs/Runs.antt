@@ -17,7 +17,7 @@ use Rattle.px_sample.specs.Format.{width_of}
 use Rattle.px_sample.specs.WorkValue.{sample_of, packed_of}
 use Rattle.px_model.specs.Frame.{Frame}
 use Rattle.px_model.specs.Held.{place}
-use Rattle.px_model.specs.Queue.{FrameAhead, nothing, silence, sound, sound_of, left_of, is_short}
+use Rattle.px_model.specs.Queue.{FrameAhead, nothing, sound_of, left_of, is_short}
 use Rattle.px_model.specs.Stream.{Stream, frame_at}
 use Rattle.px_model.specs.Mix.{sum_of, mix_of}
 use Rattle.px_msg.specs.View.{sample_spec}

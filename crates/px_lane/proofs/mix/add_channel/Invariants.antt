@@ -1,4 +1,4 @@
-use Rattle.std.proofs.Common.{◌≡◌, ◌≢◌, ℕ, ◌+◌, ◌*◌, ◌%◌, ◌<◌, ◌≤◌, ℤ, pos, ◌+ℤ◌, get_or}
+use Rattle.std.proofs.Common.{◌≡◌, ◌≢◌, ℕ, ◌+◌, ◌*◌, ◌%◌, ◌<◌, ◌≤◌, pos, ◌+ℤ◌, get_or}
 use Rattle.px_model.specs.Mix.{scaled}
 use Rattle.px_lane.specs.Sums.{IsSumOf}
 use Rattle.px_lane.proofs.mix.add_channel.Given as goal

@@ -1,4 +1,4 @@
-use Rattle.std.proofs.Common.{◌≡◌, ◌*◌, ◌+◌, ◌-◌, ◌≤◌, ℕ, length, ◌∙◌, arith, sym, ap}
+use Rattle.std.proofs.Common.{◌*◌, ◌+◌, ◌-◌, ◌≤◌, ℕ, length, ◌∙◌, arith, sym, ap}
 use Rattle.std.proofs.Math.Nat.{add-mul}
 use Rattle.px_model.specs.Mix.{mix_of}
 use Rattle.px_model.specs.Sink.{streams_of}
