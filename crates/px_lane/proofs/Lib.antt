@@ -1,3 +1,5 @@
+pub mod Channels
+pub mod Runs
 pub mod Mixing
 pub mod Shares
 pub mod Summed

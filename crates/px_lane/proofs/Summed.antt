@@ -1,13 +1,11 @@
 -- The sums of a list of inputs.
-use Rattle.std.proofs.Common.{◌≡◌, ℕ, zero, suc, ◌+◌, ◌<◌, ◌≤◌, List, [], ◌∷◌, ◌++◌, length, map, take, get_or, refl, ap, sym, ◌∙◌, arith, ℤ, pos, ◌+ℤ◌, append-nil}
+use Rattle.std.proofs.Common.{◌≡◌, ℕ, zero, suc, ◌+◌, ◌<◌, List, [], ◌∷◌, ◌++◌, length, map, take, get_or, ap, sym, ◌∙◌, arith, ℤ, pos, ◌+ℤ◌}
 use Rattle.std.proofs.lemmas.List.{take_more, map-append, ext_get_or}
-use Rattle.std.proofs.lemmas.List.FromFn.{length-map-range_with_len, get_or-map-range_with_len, map-range_with_len_more}
+use Rattle.std.proofs.lemmas.List.FromFn.{length-map-range_with_len, get_or-map-range_with_len}
 use Rattle.std.proofs.lemmas.List.Sums.{fold-append}
-use Rattle.std.specs.List.{fold, concat, AllByRecursion, range_with_len}
-use Rattle.std.proofs.lemmas.List.Folds.{concat-append, flat_map-map}
-use Rattle.std.proofs.lemmas.Slice.{take-put_mid}
+use Rattle.std.specs.List.{fold, AllByRecursion, range_with_len}
+use Rattle.std.proofs.lemmas.List.Folds.{flat_map-map}
 use Rattle.std.specs.Int.{saturate_signed}
-use borrow.Rule.Slice.PartMut.{put_mid}
 use Rattle.px_sample.specs.declared.format.Format.{Format}
 use Rattle.px_sample.specs.declared.spec.Spec.{Spec}
 use Rattle.px_sample.specs.Format.{code_of, width_of}
@@ -60,13 +58,3 @@ packed_mix sink streams k =
     ap (λ (g : Format). packed_of g (map (saturate_signed (bit_width (width_of g))) (map (sum_of samples (sample_spec sink) streams k) (range_with_len 0 sink.channels)))) (sym (format_known sink.format))
     ∙ flat_map-map (λ (x : ℤ). sample_of (format_with (code_of sink.format)) x) clip (map (sum_of samples (sample_spec sink) streams k) (range_with_len 0 sink.channels))
     ∙ flat_map-map (λ (x : ℤ). sample_of (format_with (code_of sink.format)) (clip x)) (sum_of samples (sample_spec sink) streams k) (range_with_len 0 sink.channels)
-
--- one more frame stands behind those before it
-pub frames_more : (f : ℕ → List ℕ) (out ys : List ℕ) (ahead k a n m : ℕ) → a ≤ length out → m ≡ a + length ys
-    → take a out ≡ concat (map f (range_with_len ahead k)) → ys ≡ f (ahead + k) → take m (put_mid a n out ys) ≡ concat (map f (range_with_len ahead (k + 1)))
-frames_more f out ys ahead k a n m room next before made =
-    take-put_mid a n out ys m next room
-    ∙ ap (λ (done : List ℕ). done ++ ys) before
-    ∙ ap (λ (last : List ℕ). concat (map f (range_with_len ahead k)) ++ last) (made ∙ sym (append-nil (f (ahead + k))))
-    ∙ sym (concat-append (map f (range_with_len ahead k)) (f (ahead + k) ∷ []))
-    ∙ ap concat (sym (map-range_with_len_more f ahead k (ahead + k) refl))

@@ -1,5 +1,5 @@
 // The mix of a sink's inputs.
-ghost use Rattle.std.specs.Prelude.{◌≡◌, ℕ, ◌+◌, ◌-◌, ◌*◌, ◌^◌, ◌<◌, ◌≤◌, length, map, All, slice_index, slice_index_or, pos, ◌+ℤ◌, FitsSigned};
+ghost use Rattle.std.specs.Prelude.{◌≡◌, ◌≢◌, ℕ, ◌+◌, ◌-◌, ◌*◌, ◌/◌, ◌%◌, ◌^◌, ◌<◌, ◌≤◌, length, map, All, slice_index, slice_index_or, pos, ◌+ℤ◌, FitsSigned};
 ghost use Rattle.std.specs.Int.{w32, saturate_signed};
 ghost use Rattle.std.specs.List.{concat, range_with_len, AllByRecursion};
 ghost use Rattle.px_sample.specs.Format.{width_of, size_of, frame_size_of, IsWhole, IsLinear};
@@ -17,8 +17,8 @@ use crate::share::scaled;
 use px_sample::{Spec, Width, pack};
 use px_stream::Stream;
 
-/// The most channels of a sink.
-const MOST_CHANNELS: usize = 32;
+/// The most places of a run: 128 frames of 2 channels, or 8 of 32.
+const PLACES: usize = 256;
 
 /// Mixes so many frames of a sink into `out`, the first of them so many places ahead of its streams' read indices. Takes no memory.
 /// (PulseAudio: `pa_mix` of pulsecore/mix.c.)
@@ -33,106 +33,149 @@ pub(crate) fn mix_frames(sink: &Spec, inputs: &[Input], ahead: u32, frames: usiz
     ensures { out.new ≡ concat (map (mix_of samples (sample_spec sink.now) (streams_of (inputs_of inputs.now))) (range_with_len ahead frames)) }
 {
     let size = sink.frame_size();
-    for k in 0..frames {
-        let at = k * size;
-        mix_frame(sink, inputs, ahead + k as u32, &mut out[at..at + size]);
+    let most = PLACES / sink.channels as usize;
+    let mut done = 0;
+    while done < frames {
+        let count = most.min(frames - done);
+        let at = done * size;
+        mix_run(
+            sink,
+            inputs,
+            ahead + done as u32,
+            count,
+            &mut out[at..at + count * size],
+        );
+        done += count;
     }
 }
 
-// Mixes one frame.
-fn mix_frame(sink: &Spec, inputs: &[Input], ahead: u32, out: &mut [u8])
+// Mixes a run of frames.
+fn mix_run(sink: &Spec, inputs: &[Input], ahead: u32, count: usize, out: &mut [u8])
     requires linear { IsLinear sink.now.format }
-    requires few_channels { sink.now.channels ≤ 32 }
     requires few_inputs { length inputs.now ≤ 256 }
     requires mixable { AllByRecursion (λ x. IsStreamOf (sample_spec sink.now) (Stands.stream x)) (inputs_of inputs.now) }
-    requires near { ahead < 2 ^ 32 - 1 }
-    requires whole { length out.old ≡ frame_size_of sink.now }
-    ensures { out.new ≡ mix_of samples (sample_spec sink.now) (streams_of (inputs_of inputs.now)) ahead }
+    requires near { ahead + count < 2 ^ 32 }
+    requires few { sink.now.channels * count ≤ 256 }
+    requires whole { length out.old ≡ count * frame_size_of sink.now }
+    ensures { out.new ≡ concat (map (mix_of samples (sample_spec sink.now) (streams_of (inputs_of inputs.now))) (range_with_len ahead count)) }
 {
-    let channels = sink.channels as usize;
-    let mut sums = [0; MOST_CHANNELS];
-    let mut values = [0; MOST_CHANNELS];
+    let places = sink.channels as usize * count;
+    let mut sums = [0; PLACES];
+    let mut values = [0; PLACES];
     pack_sums(
         sink,
         inputs,
         ahead,
-        &mut sums[..channels],
-        &mut values[..channels],
+        count,
+        &mut sums[..places],
+        &mut values[..places],
         out,
     );
 }
 
-// Mixes one frame, over scratch of a place for each channel.
+// Mixes a run of frames, over scratch of a place for each sample.
 fn pack_sums(
     sink: &Spec,
     inputs: &[Input],
     ahead: u32,
+    count: usize,
     sums: &mut [i64],
     values: &mut [i32],
     out: &mut [u8],
 )
     requires linear { IsLinear sink.now.format }
-    requires few_channels { sink.now.channels ≤ 32 }
     requires few_inputs { length inputs.now ≤ 256 }
     requires mixable { AllByRecursion (λ x. IsStreamOf (sample_spec sink.now) (Stands.stream x)) (inputs_of inputs.now) }
-    requires sums { length sums.old ≡ sink.now.channels }
-    requires values { length values.old ≡ sink.now.channels }
-    requires words { All (FitsSigned w32) values.old }
-    requires near { ahead < 2 ^ 32 - 1 }
-    requires whole { length out.old ≡ frame_size_of sink.now }
-    ensures { out.new ≡ mix_of samples (sample_spec sink.now) (streams_of (inputs_of inputs.now)) ahead }
+    requires sums { length sums.old ≡ sink.now.channels * count }
+    requires values { length values.old ≡ sink.now.channels * count }
+    requires near { ahead + count < 2 ^ 32 }
+    requires whole { length out.old ≡ count * frame_size_of sink.now }
+    ensures { out.new ≡ concat (map (mix_of samples (sample_spec sink.now) (streams_of (inputs_of inputs.now))) (range_with_len ahead count)) }
 {
-    add_all(sink, inputs, ahead, values, sums);
+    add_all(sink, inputs, ahead, count, values, sums);
     clip_all(sink.format.width(), sums, values);
     pack(sink.format, values, out);
 }
 
-// The sums of all streams, one for each channel of the sink.
-fn add_all(sink: &Spec, inputs: &[Input], ahead: u32, values: &mut [i32], sums: &mut [i64])
-    requires few_channels { sink.now.channels ≤ 32 }
+// The sums of all streams, frame by frame, one for each channel of the sink.
+fn add_all(
+    sink: &Spec,
+    inputs: &[Input],
+    ahead: u32,
+    count: usize,
+    values: &mut [i32],
+    sums: &mut [i64],
+)
     requires few_inputs { length inputs.now ≤ 256 }
     requires mixable { AllByRecursion (λ x. IsStreamOf (sample_spec sink.now) (Stands.stream x)) (inputs_of inputs.now) }
-    requires near { ahead < 2 ^ 32 - 1 }
-    requires values { length values.old ≡ sink.now.channels }
-    requires words { All (FitsSigned w32) values.old }
-    requires places { length sums.old ≡ sink.now.channels }
+    requires near { ahead + count < 2 ^ 32 }
+    requires values { length values.old ≡ sink.now.channels * count }
+    requires places { length sums.old ≡ sink.now.channels * count }
     ensures bounds { All (IsSumOf 256) sums.new }
-    ensures sums { sums.new ≡ map (sum_of samples (sample_spec sink.now) (streams_of (inputs_of inputs.now)) ahead) (range_with_len 0 sink.now.channels) }
+    ensures sums { (c j : ℕ) → c < sink.now.channels → j < count → slice_index_or sums.new (j * sink.now.channels + c) (pos 0) ≡ sum_of samples (sample_spec sink.now) (streams_of (inputs_of inputs.now)) (ahead + j) c }
 {
     sums.fill(0);
     for input in inputs {
-        add_stream(sink, &input.stream, ahead, values, sums);
+        add_stream(sink, &input.stream, ahead, count, values, sums);
     }
 }
 
 // Adds what a stream gives there.
-fn add_stream(sink: &Spec, stream: &Stream, ahead: u32, values: &mut [i32], sums: &mut [i64])
+fn add_stream(
+    sink: &Spec,
+    stream: &Stream,
+    ahead: u32,
+    count: usize,
+    values: &mut [i32],
+    sums: &mut [i64],
+)
     requires mixable { IsStreamOf (sample_spec sink.now) stream.now.stream }
-    requires near { ahead < 2 ^ 32 - 1 }
-    requires values { length values.old ≡ sink.now.channels }
-    requires words { All (FitsSigned w32) values.old }
-    requires places { length sums.old ≡ sink.now.channels }
+    requires near { ahead + count < 2 ^ 32 }
+    requires values { length values.old ≡ sink.now.channels * count }
+    requires places { length sums.old ≡ sink.now.channels * count }
     requires room { All (IsSumOf 255) sums.old }
-    ensures sums { (c : ℕ) → c < sink.now.channels → slice_index_or sums.new c (pos 0) ≡ slice_index_or sums.old c (pos 0) +ℤ share_of samples (sample_spec sink.now) stream.now.stream c (frame_at stream.now.stream ahead) }
+    ensures sums { (c j : ℕ) → c < sink.now.channels → j < count → slice_index_or sums.new (j * sink.now.channels + c) (pos 0) ≡ slice_index_or sums.old (j * sink.now.channels + c) (pos 0) +ℤ share_of samples (sample_spec sink.now) stream.now.stream c (frame_at stream.now.stream (ahead + j)) }
     ensures bounds { (n : ℕ) → All (IsSumOf n) sums.old → All (IsSumOf (n + 1)) sums.new }
-    ensures words { All (FitsSigned w32) values.new }
 {
-    if stream.frame_values(ahead, sink.format.width(), values) > 0 {
-        add_scaled(values, stream.factors(), sums);
+    values.fill(0);
+    stream.frame_values(ahead, sink.format.width(), values);
+    add_values(values, count, stream.factors(), sums);
+}
+
+// Adds to the sum of each sample its value, by the factor of its channel. The values stand channel by channel, the sums frame by frame.
+fn add_values(values: &[i32], count: usize, factors: &[u32], sums: &mut [i64])
+    requires values { length values.now ≡ length factors.now * count }
+    requires places { length sums.old ≡ length factors.now * count }
+    requires words { All (FitsSigned w32) values.now }
+    requires room { All (IsSumOf 255) sums.old }
+    ensures sums { (c j : ℕ) → c < length factors.now → j < count → slice_index_or sums.new (j * length factors.now + c) (pos 0) ≡ slice_index_or sums.old (j * length factors.now + c) (pos 0) +ℤ scaled (slice_index_or values.now (c * count + j) (pos 0)) (slice_index factors.now c) }
+    ensures bounds { (n : ℕ) → All (IsSumOf n) sums.old → All (IsSumOf (n + 1)) sums.new }
+{
+    for c in 0..factors.len() {
+        let at = c * count;
+        add_channel(
+            &values[at..at + count],
+            factors[c],
+            factors.len(),
+            c,
+            sums,
+        );
     }
 }
 
-// Adds to each sum its value, by its factor.
-fn add_scaled(values: &[i32], factors: &[u32], sums: &mut [i64])
-    requires values { length values.now ≡ length sums.old }
-    requires factors { length factors.now ≡ length sums.old }
+// Adds to each sum of a channel its value, by the factor.
+fn add_channel(values: &[i32], factor: u32, channels: usize, channel: usize, sums: &mut [i64])
+    requires inside { channel < channels }
+    requires places { length sums.old ≡ channels * length values.now }
     requires words { All (FitsSigned w32) values.now }
-    requires room { All (IsSumOf 255) sums.old }
-    ensures sums { (c : ℕ) → c < length sums.old → slice_index_or sums.new c (pos 0) ≡ slice_index_or sums.old c (pos 0) +ℤ scaled (slice_index_or values.now c (pos 0)) (slice_index factors.now c) }
-    ensures bounds { (n : ℕ) → All (IsSumOf n) sums.old → All (IsSumOf (n + 1)) sums.new }
+    requires room { (j : ℕ) → j < length values.now → IsSumOf 255 (slice_index_or sums.old (j * channels + channel) (pos 0)) }
+    ensures sums { (j : ℕ) → j < length values.now → slice_index_or sums.new (j * channels + channel) (pos 0) ≡ slice_index_or sums.old (j * channels + channel) (pos 0) +ℤ scaled (slice_index_or values.now j (pos 0)) factor }
+    ensures bounds { (n j : ℕ) → j < length values.now → IsSumOf n (slice_index_or sums.old (j * channels + channel) (pos 0)) → IsSumOf (n + 1) (slice_index_or sums.new (j * channels + channel) (pos 0)) }
+    ensures others { (i : ℕ) → i % channels ≢ channel → slice_index_or sums.new i (pos 0) ≡ slice_index_or sums.old i (pos 0) }
 {
-    for c in 0..sums.len() {
-        sums[c] = plus(sums[c], values[c], factors[c]);
+    for j in 0..values.len() {
+        let at = j * channels + channel;
+        sums[at] = plus(sums[at], values[j], factor);
     }
 }
 
