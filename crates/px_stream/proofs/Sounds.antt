@@ -1,7 +1,7 @@
 -- The work values of a frame's channels, out of its bytes.
-use Rattle.std.proofs.Common.{◌≡◌, ℕ, zero, suc, ◌+◌, ◌*◌, ◌/◌, ◌<◌, ◌≤◌, List, [], length, map, take, drop, get_or, refl, ap, sym, ◌∙◌, arith, ℤ, pos, drop-drop, mul_comm}
-use Rattle.std.proofs.Math.Nat.{add-mul, mul-le-mul}
-use Rattle.std.proofs.lemmas.List.{get_or-map, length-map}
+use Rattle.std.proofs.Common.{◌≡◌, ℕ, zero, suc, ◌+◌, ◌-◌, ◌*◌, ◌/◌, ◌<◌, ◌≤◌, List, [], ◌∷◌, length, map, take, drop, get_or, refl, ap, sym, ◌∙◌, arith, ℤ, pos, drop-drop, mul_comm}
+use Rattle.std.proofs.Math.Nat.{add-mul, mul-le-mul, mul_assoc}
+use Rattle.std.proofs.lemmas.List.{get_or-map, length-map, drop-take}
 use Rattle.std.specs.Prelude.{slice_index}
 use Rattle.std.specs.Simd.{first_chunks}
 use Rattle.px_sample.specs.declared.format.Format.{Format}
@@ -12,7 +12,7 @@ use Rattle.px_sample.specs.declared.spec.Spec.{Spec}
 use Rattle.px_sample.specs.Format.{code_of, size_of, width_of, frame_size_of, IsWhole}
 use Rattle.px_sample.specs.WorkValue.{work_value_of, work_values_of, at_width}
 use Rattle.px_sample.proofs.FormatLemmas.{size_of-some}
-use Rattle.px_sample.proofs.RunLemmas.{whole_samples}
+use Rattle.px_sample.proofs.RunLemmas.{whole_samples, next_fits}
 use Rattle.px_model.specs.Frame.{Frame, SampleSpec, frame_size, sample_size, sample_of}
 use Rattle.px_model.specs.Stream.{Stream}
 use Rattle.px_msg.specs.View.{sample_spec}
@@ -101,15 +101,38 @@ value_known spec to i frame =
     ∙ ap (λ (w : Width). at_width (width_of spec.format) w
     (work_value_of spec.format (take (size_of spec.format) (drop (i * size_of spec.format) frame)))) (width_known to)
 
--- the value of the channel that feeds a channel of the sink
-pub value_by : (spec : Spec) (to : Width) (s : Stream) (c : ℕ) (frame : Frame) (values : List ℤ) → sample_spec spec ≡ s.spec → length frame ≡ frame_size_of spec → slice_index s.feed c < spec.channels
-    → values ≡ map (at_width (width_of spec.format) to) (work_values_of spec.format frame)
-    → get_or values (slice_index s.feed c) (pos 0) ≡ value_in to s c frame
-value_by spec to s c frame values is size there all =
-    ap (λ (xs : List ℤ). get_or xs (slice_index s.feed c) (pos 0)) all
-    ∙ value_got spec.format spec.channels (slice_index s.feed c) to frame size there
-    ∙ sym (value_known spec to (slice_index s.feed c) frame)
-    ∙ ap (λ (t : SampleSpec). samples.to (samples.width t.format) (bit_width to) (samples.work t.format (sample_of t frame (slice_index s.feed c)))) is
+take_take : (n m : ℕ) (xs : List ℕ) → n ≤ m → take n (take m xs) ≡ take n xs
+take_take zero m xs fits = refl
+take_take (suc n) zero xs fits = absurd (omega (arith, fits))
+take_take (suc n) (suc m) [] fits = refl
+take_take (suc n) (suc m) (x ∷ xs) fits = ap (λ (ys : List ℕ). x ∷ ys) (take_take n m xs (omega (arith, fits)))
+
+-- a sample of frame j stands among the bytes of many frames
+sample_in : (size channels j i : ℕ) (bytes : List ℕ) → i < channels
+    → take size (drop (i * size) (take (size * channels) (drop (j * (size * channels)) bytes))) ≡ take size (drop ((j * channels + i) * size) bytes)
+sample_in size channels j i bytes less =
+    let room : i * size + size ≤ size * channels = next_fits size i channels (size * channels) less refl in
+    let split : size * channels ≡ i * size + (size * channels - i * size) = omega (arith, room) in
+    let at : j * (size * channels) + i * size ≡ (j * channels + i) * size =
+    ap (λ (n : ℕ). j * n + i * size) (mul_comm size channels) ∙ ap (λ (n : ℕ). n + i * size) (sym (mul_assoc j channels size)) ∙ sym (add-mul (j * channels) i size) in
+    ap (λ (n : ℕ). take size (drop (i * size) (take n (drop (j * (size * channels)) bytes)))) split
+    ∙ ap (λ (xs : List ℕ). take size xs) (drop-take (i * size) (size * channels - i * size) (drop (j * (size * channels)) bytes))
+    ∙ take_take size (size * channels - i * size) (drop (i * size) (drop (j * (size * channels)) bytes)) (omega (arith, room))
+    ∙ ap (λ (xs : List ℕ). take size xs) (drop-drop (i * size) (j * (size * channels)) bytes ∙ ap (λ (n : ℕ). drop n bytes) at)
+
+-- the value in frame j of the channel that feeds a channel of the sink
+pub value_by : (spec : Spec) (to : Width) (s : Stream) (c j total : ℕ) (bytes : List ℕ) (values : List ℤ) → sample_spec spec ≡ s.spec → length bytes ≡ size_of spec.format * total
+    → slice_index s.feed c < spec.channels → j * spec.channels + slice_index s.feed c < total
+    → values ≡ map (at_width (width_of spec.format) to) (work_values_of spec.format bytes)
+    → get_or values (j * spec.channels + slice_index s.feed c) (pos 0) ≡ value_in to s c (take (frame_size_of spec) (drop (j * frame_size_of spec) bytes))
+value_by spec to s c j total bytes values is size channel there all =
+    let i = slice_index s.feed c in
+    let frame : Frame = take (frame_size_of spec) (drop (j * frame_size_of spec) bytes) in
+    ap (λ (xs : List ℤ). get_or xs (j * spec.channels + i) (pos 0)) all
+    ∙ value_got spec.format total (j * spec.channels + i) to bytes size there
+    ∙ ap (λ (xs : List ℕ). at_width (width_of spec.format) to (work_value_of spec.format xs)) (sym (sample_in (size_of spec.format) spec.channels j i bytes channel))
+    ∙ sym (value_known spec to i frame)
+    ∙ ap (λ (t : SampleSpec). samples.to (samples.width t.format) (bit_width to) (samples.work t.format (sample_of t frame i))) is
 
 -- a format that a stream may have is one of whole numbers
 pub whole_format : (format : Format) → ((code_of format ≡ 5) → ⊥) → ((code_of format ≡ 6) → ⊥) → IsWhole format
@@ -142,9 +165,14 @@ size_few S24Be = omega arith
 size_few S24In32Le = omega arith
 size_few S24In32Be = omega arith
 
--- a frame has 1 to 128 bytes
-pub frame_few : (spec : Spec) → spec.channels ≤ 32 → frame_size_of spec ≤ 128
-frame_few spec few = mul-le-mul (size_few spec.format) few
+-- the bytes of so many frames, by their samples: four each at most
+pub bytes_are : (spec : Spec) (frames : ℕ) → frames * frame_size_of spec ≡ size_of spec.format * (frames * spec.channels)
+bytes_are spec frames =
+    sym (mul_assoc frames (size_of spec.format) spec.channels) ∙ ap (λ (n : ℕ). n * spec.channels) (mul_comm frames (size_of spec.format)) ∙ mul_assoc (size_of spec.format) frames spec.channels
 
+pub bytes_few : (spec : Spec) (frames : ℕ) → frames * spec.channels ≤ 256 → frames * frame_size_of spec ≤ 1024
+bytes_few spec frames few = omega (arith, bytes_are spec frames, mul-le-mul (size_few spec.format) few)
+
+-- a frame has a byte
 pub frame_some : (spec : Spec) → 1 ≤ spec.channels → 1 ≤ frame_size_of spec
 frame_some spec some = mul-le-mul (size_of-some spec.format) some

@@ -1,7 +1,7 @@
 // The work values of a stream's frames, for a mix.
 ghost use Rattle.std.specs.Prelude.{◌≡◌, ◌≢◌, ℕ, ◌+◌, ◌*◌, ◌/◌, ◌%◌, ◌<◌, ◌≤◌, pos, length, map, slice_index, slice_index_or, All, FitsSigned, IsTrue, IsFalse};
 ghost use Rattle.std.specs.Int.{w32};
-ghost use Rattle.px_sample.specs.Format.{width_of, frame_size_of, IsWhole};
+ghost use Rattle.px_sample.specs.Format.{width_of, size_of, frame_size_of, IsWhole};
 ghost use Rattle.px_sample.specs.WorkValue.{work_values_of, at_width, IsWithin};
 ghost use Rattle.px_model.specs.Queue.{nothing};
 ghost use Rattle.px_model.specs.Stream.{frame_at};
@@ -9,12 +9,12 @@ ghost use Rattle.px_stream.specs.Values.{GivesValues, value_at};
 
 use crate::Stream;
 use px_queue::Span;
-use px_sample::{Spec, Width, to_work, unpack};
+use px_sample::{Format, Spec, Width, to_work, unpack};
 
-/// The most channels of a stream, and the most bytes of a frame.
-const MOST_CHANNELS: usize = 32;
+/// The most samples that are read at once, and the most bytes of them.
+const MOST_SAMPLES: usize = 256;
 
-const MOST_BYTES: usize = 128;
+const MOST_BYTES: usize = 1024;
 
 impl Stream {
     /// Gives the work values of the frames from `from` frames past the read index on, at a width: `out` has one run for each channel of
@@ -28,57 +28,83 @@ impl Stream {
         let run = run_of(out.len(), self.feed.channels().len());
         let mut count: u32 = 0;
         while (count as usize) < run && count < u32::MAX - from {
-            if !self.put_values(from + count, width, run, count as usize, out) {
+            let most = (run - count as usize).min((u32::MAX - from - count) as usize);
+            let given = self.put_values(from + count, width, run, count as usize, most, out);
+            if given == 0 {
                 return count;
             }
-            count += 1;
+            count += given;
         }
         count
     }
 
-    // Puts the values of the frame at a place past the read index at a place of each run, if a frame is given there, and answers
-    // whether one is.
-    fn put_values(&self, k: u32, width: Width, run: usize, place: usize, out: &mut [i32]) -> bool
-        requires inside { place < run }
+    // Puts the values of the frames from a place past the read index on at places of each run one after another, at most so many, and
+    // answers how many frames it gave.
+    fn put_values(
+        &self,
+        k: u32,
+        width: Width,
+        run: usize,
+        place: usize,
+        most: usize,
+        out: &mut [i32],
+    ) -> u32
+        requires some { 1 ≤ most }
+        requires inside { place + most ≤ run }
         requires runs { length out.old ≡ run * length self.now.stream.feed }
-        ensures none { IsFalse result → (frame_at self.now.stream k ≡ nothing) × (out.new ≡ out.old) }
-        ensures some { IsTrue result → frame_at self.now.stream k ≢ nothing }
-        ensures values { IsTrue result → (c : ℕ) → c < length self.now.stream.feed → slice_index_or out.new (c * run + place) (pos 0) ≡ value_at width self.now.stream c (frame_at self.now.stream k) }
-        ensures others { (i : ℕ) → i % run ≢ place → slice_index_or out.new i (pos 0) ≡ slice_index_or out.old i (pos 0) }
+        ensures few { result ≤ most }
+        ensures none { result ≡ 0 → frame_at self.now.stream k ≡ nothing }
+        ensures there { (j : ℕ) → j < result → frame_at self.now.stream (k + j) ≢ nothing }
+        ensures values { (c j : ℕ) → c < length self.now.stream.feed → j < result → slice_index_or out.new (c * run + place + j) (pos 0) ≡ value_at width self.now.stream c (frame_at self.now.stream (k + j)) }
+        ensures before { (c i : ℕ) → c < length self.now.stream.feed → i < place → slice_index_or out.new (c * run + i) (pos 0) ≡ slice_index_or out.old (c * run + i) (pos 0) }
+        ensures after { (c i : ℕ) → c < length self.now.stream.feed → place + result ≤ i → i < run → slice_index_or out.new (c * run + i) (pos 0) ≡ slice_index_or out.old (c * run + i) (pos 0) }
         ensures fit { All (FitsSigned w32) out.old → All (FitsSigned w32) out.new }
     {
-        let mut scratch = [0; MOST_CHANNELS];
-        let values = &mut scratch[..self.spec.channels as usize];
-        if !self.read_values(k, width, values) {
-            return false;
-        }
-        scatter(values, self.feed.channels(), run, place, out);
-        true
+        let channels = self.spec.channels as usize;
+        let frames = most.min(MOST_SAMPLES / channels);
+        let mut scratch = [0; MOST_SAMPLES];
+        let values = &mut scratch[..frames * channels];
+        let given = self.read_values(k, width, frames, values);
+        scatter(
+            values,
+            channels,
+            self.feed.channels(),
+            run,
+            place,
+            given as usize,
+            out,
+        );
+        given
     }
 
-    // Reads the values of the frame at a place past the read index, one for each of the stream's channels, if a frame is given there,
-    // and answers whether one is.
-    fn read_values(&self, k: u32, width: Width, values: &mut [i32]) -> bool
-        requires { length values.old ≡ self.now.stream.spec.channels }
-        ensures none { IsFalse result → frame_at self.now.stream k ≡ nothing }
-        ensures some { IsTrue result → frame_at self.now.stream k ≢ nothing }
-        ensures words { IsTrue result → All (FitsSigned w32) values.new }
-        ensures values { IsTrue result → (c : ℕ) → c < length self.now.stream.feed → slice_index_or values.new (slice_index self.now.stream.feed c) (pos 0) ≡ value_at width self.now.stream c (frame_at self.now.stream k) }
+    // Reads the values of at most so many frames from a place past the read index on, one for each of the stream's channels, and answers
+    // how many frames are given there.
+    fn read_values(&self, k: u32, width: Width, frames: usize, values: &mut [i32]) -> u32
+        requires some { 1 ≤ frames }
+        requires few { frames * self.now.stream.spec.channels ≤ 256 }
+        requires places { length values.old ≡ frames * self.now.stream.spec.channels }
+        requires words { All (FitsSigned w32) values.old }
+        ensures few { result ≤ frames }
+        ensures none { result ≡ 0 → frame_at self.now.stream k ≡ nothing }
+        ensures there { (j : ℕ) → j < result → frame_at self.now.stream (k + j) ≢ nothing }
+        ensures words { All (FitsSigned w32) values.new }
+        ensures values { (c j : ℕ) → c < length self.now.stream.feed → j < result → slice_index_or values.new (j * self.now.stream.spec.channels + slice_index self.now.stream.feed c) (pos 0) ≡ value_at width self.now.stream c (frame_at self.now.stream (k + j)) }
     {
         if self.corked {
-            return false;
+            return 0;
         }
-        let mut bytes = [0; MOST_BYTES];
-        let frame = &mut bytes[..self.spec.frame_size()];
-        match self.queue.peek(k, frame) {
-            Span::Nothing => false,
-            Span::Silence(_) => {
+        let mut scratch = [0; MOST_BYTES];
+        let end = bytes_of(self.spec, frames);
+        let bytes = &mut scratch[..end];
+        match self.queue.peek(k, bytes) {
+            Span::Nothing => 0,
+            Span::Silence(given) => {
                 values.fill(0);
-                true
+                given
             }
-            Span::Frames(_) => {
-                read_frame(self.spec, width, frame, values);
-                true
+            Span::Frames(given) => {
+                read_samples(self.spec.format, width, bytes, values);
+                given
             }
         }
     }
@@ -92,29 +118,78 @@ fn run_of(places: usize, runs: usize) -> usize
     if places == runs { 1 } else { places / runs }
 }
 
-// The work values of a frame, at a width.
-fn read_frame(spec: Spec, width: Width, frame: &[u8], values: &mut [i32])
-    requires whole { IsWhole spec.format }
-    requires places { length values.old ≡ spec.channels }
-    requires size { length frame.now ≡ frame_size_of spec }
-    ensures values { values.new ≡ map (at_width (width_of spec.format) width) (work_values_of spec.format frame.now) }
-    ensures within { All (IsWithin width) values.new }
+// How many bytes so many frames have.
+fn bytes_of(spec: Spec, frames: usize) -> usize
+    requires { frames * spec.channels ≤ 256 }
+    ensures value { result ≡ frames * frame_size_of spec }
+    ensures few { result ≤ 1024 }
+    ensures samples { result ≡ size_of spec.format * (frames * spec.channels) }
 {
-    unpack(spec.format, frame, values);
-    to_work(spec.format.width(), width, values);
+    frames * spec.frame_size()
 }
 
-// Puts the value of the channel that feeds each run at a place of it.
-fn scatter(values: &[i32], feed: &[u8], run: usize, place: usize, out: &mut [i32])
-    requires inside { place < run }
+// The work values of samples, at a width.
+fn read_samples(format: Format, width: Width, bytes: &[u8], values: &mut [i32])
+    requires whole { IsWhole format }
+    requires size { length bytes.now ≡ size_of format * length values.old }
+    ensures values { values.new ≡ map (at_width (width_of format) width) (work_values_of format bytes.now) }
+    ensures within { All (IsWithin width) values.new }
+{
+    unpack(format, bytes, values);
+    to_work(format.width(), width, values);
+}
+
+// Puts the values of so many frames at places of each run one after another, those of the channel that feeds it.
+fn scatter(
+    values: &[i32],
+    channels: usize,
+    feed: &[u8],
+    run: usize,
+    place: usize,
+    frames: usize,
+    out: &mut [i32],
+)
+    requires inside { place + frames ≤ run }
     requires runs { length out.old ≡ run * length feed.now }
-    requires channels { All (λ channel. channel < length values.now) feed.now }
+    requires channels { All (λ channel. channel < channels) feed.now }
+    requires whole { frames * channels ≤ length values.now }
     requires words { All (FitsSigned w32) values.now }
-    ensures values { (c : ℕ) → c < length feed.now → slice_index_or out.new (c * run + place) (pos 0) ≡ slice_index_or values.now (slice_index feed.now c) (pos 0) }
-    ensures others { (i : ℕ) → i % run ≢ place → slice_index_or out.new i (pos 0) ≡ slice_index_or out.old i (pos 0) }
+    ensures values { (c j : ℕ) → c < length feed.now → j < frames → slice_index_or out.new (c * run + place + j) (pos 0) ≡ slice_index_or values.now (j * channels + slice_index feed.now c) (pos 0) }
+    ensures before { (c i : ℕ) → c < length feed.now → i < place → slice_index_or out.new (c * run + i) (pos 0) ≡ slice_index_or out.old (c * run + i) (pos 0) }
+    ensures after { (c i : ℕ) → c < length feed.now → place + frames ≤ i → i < run → slice_index_or out.new (c * run + i) (pos 0) ≡ slice_index_or out.old (c * run + i) (pos 0) }
     ensures fit { All (FitsSigned w32) out.old → All (FitsSigned w32) out.new }
 {
     for c in 0..feed.len() {
-        out[c * run + place] = values[feed[c] as usize];
+        put_channel(
+            values,
+            channels,
+            feed[c] as usize,
+            c * run + place,
+            frames,
+            out,
+        );
+    }
+}
+
+// Puts the values of a channel, so many frames of it, at places one after another.
+fn put_channel(
+    values: &[i32],
+    channels: usize,
+    channel: usize,
+    start: usize,
+    frames: usize,
+    out: &mut [i32],
+)
+    requires channel { channel < channels }
+    requires whole { frames * channels ≤ length values.now }
+    requires inside { start + frames ≤ length out.old }
+    requires words { All (FitsSigned w32) values.now }
+    ensures values { (j : ℕ) → j < frames → slice_index_or out.new (start + j) (pos 0) ≡ slice_index_or values.now (j * channels + channel) (pos 0) }
+    ensures before { (i : ℕ) → i < start → slice_index_or out.new i (pos 0) ≡ slice_index_or out.old i (pos 0) }
+    ensures after { (i : ℕ) → start + frames ≤ i → slice_index_or out.new i (pos 0) ≡ slice_index_or out.old i (pos 0) }
+    ensures fit { All (FitsSigned w32) out.old → All (FitsSigned w32) out.new }
+{
+    for j in 0..frames {
+        out[start + j] = values[j * channels + channel];
     }
 }

@@ -1,19 +1,34 @@
-use Rattle.std.proofs.Common.{◌≡◌, ◌+◌, ◌*◌, ◌<◌, length, get_or, arith, ◌∙◌, pos, w32, to_z, of_z, SFits, subst, sym}
+use Rattle.std.proofs.Common.{◌≡◌, ◌+◌, ◌*◌, ◌<◌, ◌≤◌, get_or, arith, ◌∙◌, pos, ⊎_elim, below_more}
 use Rattle.std.specs.Prelude.{slice_index}
-use Rattle.std.proofs.lemmas.Int.{to_z-of_z}
-use Rattle.px_stream.proofs.Runs.{values_more, others_more, fit_more}
+use Rattle.std.proofs.Math.Nat.{add-mul, mul-le-mul_right}
+use Rattle.std.proofs.lemmas.Bool.{cases_lt}
 use Rattle.px_stream.proofs.values.scatter.Goals as goal
 
 pub loop-c-preserved : goal.loop-c-preserved
 loop-c-preserved c =
     let k = c.loop-c.c in
-    let there : k < length c.args.feed.now = omega arith in
-    let at = get_or c.args.feed.now k 0 in
-    let fits : SFits w32 (get_or c.args.values.now at (pos 0)) = c.requires.words at (pos 0) (c.requires.channels k 0 there) in
-    let value : to_z w32 (of_z w32 (get_or c.args.values.now at (pos 0))) ≡ get_or c.args.values.now at (pos 0) =
-    to_z-of_z w32 (get_or c.args.values.now at (pos 0)) fits in
+    let run = c.args.run in
+    let place = c.args.place in
+    let frames = c.args.frames in
+    let inside = c.requires.inside in
+    let h = c.loop-c.invariant in
+    let put = c.put_channel.ensures in
+    let new = c.put_channel.new.out in
     record {
-      values = values_more c.loop-c.out (to_z w32 (of_z w32 (get_or c.args.values.now at (pos 0)))) (λ b. get_or c.args.values.now (slice_index c.args.feed.now b) (pos 0)) k (length c.args.feed.now) c.args.run c.args.place there c.requires.inside (c.loop-c.auto.out ∙ c.requires.runs) value c.loop-c.invariant.values;
-      fit = λ all. fit_more c.loop-c.out (k * c.args.run + c.args.place) (to_z w32 (of_z w32 (get_or c.args.values.now at (pos 0)))) (subst (SFits w32) (sym value) fits) (c.loop-c.invariant.fit all);
-      others = others_more c.loop-c.out c.args.out.now (to_z w32 (of_z w32 (get_or c.args.values.now at (pos 0)))) k c.args.run c.args.place c.requires.inside c.loop-c.invariant.others;
+      values = λ b j below few. below_more (λ a. get_or new (a * run + place + j) (pos 0) ≡ get_or c.args.values.now (j * c.args.channels + slice_index c.args.feed.now a) (pos 0)) k
+          (λ a less. let next : a + 1 ≤ k = omega (arith, less) in
+          put.before (a * run + place + j) (omega (arith, inside, few, mul-le-mul_right run next, add-mul a 1 run)) ∙ h.values a j less few)
+          (put.values j few)
+          b below;
+      before = λ b i there less. ⊎_elim
+          (λ (past : k < b). let next : k + 1 ≤ b = omega (arith, past) in
+          put.after (b * run + i) (omega (arith, inside, mul-le-mul_right run next, add-mul k 1 run)) ∙ h.before b i there less)
+          (λ (to : b ≤ k). put.before (b * run + i) (omega (arith, less, mul-le-mul_right run to)) ∙ h.before b i there less)
+          (cases_lt k b);
+      after = λ b i there past within. ⊎_elim
+          (λ (earlier : b < k). let next : b + 1 ≤ k = omega (arith, earlier) in
+          put.before (b * run + i) (omega (arith, within, mul-le-mul_right run next, add-mul b 1 run)) ∙ h.after b i there past within)
+          (λ (from : k ≤ b). put.after (b * run + i) (omega (arith, past, mul-le-mul_right run from)) ∙ h.after b i there past within)
+          (cases_lt b k);
+      fit = λ all. put.fit (h.fit all);
     }
