@@ -153,13 +153,7 @@ fn add_values(values: &[i32], count: usize, factors: &[u32], sums: &mut [i64])
 {
     for c in 0..factors.len() {
         let at = c * count;
-        add_channel(
-            &values[at..at + count],
-            factors[c],
-            factors.len(),
-            c,
-            sums,
-        );
+        add_channel(&values[at..at + count], factors[c], factors.len(), c, sums);
     }
 }
 
