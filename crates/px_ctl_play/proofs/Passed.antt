@@ -11,7 +11,7 @@ use Rattle.px_plan.specs.declared.waiting.Waiting.{Waiting}
 use Rattle.px_plan.specs.Plan.{Planned}
 use Rattle.px_plan.specs.Row.{Row, ◌>>=◌, check, present}
 use Rattle.px_plan.specs.Target.{is_clear, target_of}
-use Rattle.px_ctl_play.specs.Asked.{is_lawful, is_supported, is_built, has_room}
+use Rattle.px_ctl_play.specs.Asked.{is_lawful, is_supported, feed_on, is_built, has_room}
 use Rattle.px_ctl_play.specs.Create.{input_made, created, create}
 use Rattle.px_ctl_play.specs.Delete.{deleted, delete}
 
@@ -22,26 +22,31 @@ pub record IsCreated {P : Type 0} (inputs : List Input) (made : ℕ) (me : Conne
   pub there : target_of named ≡ Some sink
   pub lawful : is_lawful a ≡ true
   pub supported : is_supported sink a ≡ true
+  pub feed : List ℕ
+  pub fed : feed_on sink a ≡ Some feed
   pub room : has_room inputs made me sink.index ≡ true
-  pub built : is_built sink a ≡ true
-  pub planned : plan ≡ created inputs made me tag sink a (input_made made me sink a)
+  pub built : is_built a ≡ true
+  pub planned : plan ≡ created inputs made me tag sink a feed (input_made made me sink a)
 
-abbrev on_sink : {B : Type 0} → Bool → Bool → Bool → B → Row B
-on_sink supported room built plan = do
+abbrev on_sink : {A B : Type 0} → Bool → Option A → Bool → Bool → (A → B) → Row B
+on_sink supported feed room built plan = do
   s ← check supported NotSupported
+  f ← present feed NotSupported
   r ← check room TooLarge
   b ← check built NotImplemented
-  Ok plan
+  Ok (plan f)
 
-passed_on : {B : Type 0} (supported room built : Bool) (made plan : B) → on_sink supported room built made ≡ Ok plan → (supported ≡ true) × (room ≡ true) × (built ≡ true) × (plan ≡ made)
-passed_on true true true made plan e = (refl, refl, refl, cc)
-passed_on false room built made plan e = absurd cc
-passed_on true false built made plan e = absurd cc
-passed_on true true false made plan e = absurd cc
+passed_on : {A B : Type 0} (supported : Bool) (feed : Option A) (room built : Bool) (made : A → B) (plan : B) → on_sink supported feed room built made ≡ Ok plan
+    → (supported ≡ true) × ((f : A) × (feed ≡ Some f) × (plan ≡ made f)) × (room ≡ true) × (built ≡ true)
+passed_on true (Some f) true true made plan e = (refl, (f, refl, cc), refl, refl)
+passed_on false feed room built made plan e = absurd cc
+passed_on true None room built made plan e = absurd cc
+passed_on true (Some f) false built made plan e = absurd cc
+passed_on true (Some f) true false made plan e = absurd cc
 
 module _ {P : Type 0} (inputs : List Input) (made : ℕ) (me : Connection) (tag : ℕ) (named : Named) (a : CreateFields) (plan : Planned (Msg P) (Unit {0})) where
   abbrev on_target : Target → Row (Planned (Msg P) (Unit {0}))
-  on_target sink = on_sink (is_supported sink a) (has_room inputs made me sink.index) (is_built sink a) (created inputs made me tag sink a (input_made made me sink a))
+  on_target sink = on_sink (is_supported sink a) (feed_on sink a) (has_room inputs made me sink.index) (is_built a) (λ feed. created inputs made me tag sink a feed (input_made made me sink a))
 
   passed : (lawful clear : Bool) (target : Option Target) → is_lawful a ≡ lawful → target_of named ≡ target
       → (check lawful Invalid >>= λ l. check clear Invalid >>= λ c. present target NoEntity >>= on_target) ≡ Ok plan → IsCreated inputs made me tag named a plan
@@ -49,8 +54,8 @@ module _ {P : Type 0} (inputs : List Input) (made : ℕ) (me : Connection) (tag 
   passed true false target lawful there e = absurd cc
   passed true true None lawful there e = absurd cc
   passed true true (Some sink) lawful there e =
-      let p = passed_on (is_supported sink a) (has_room inputs made me sink.index) (is_built sink a) (created inputs made me tag sink a (input_made made me sink a)) plan e in
-      record { sink = sink; there = there; lawful = lawful; supported = p.0; room = p.1; built = p.2; planned = p.3 }
+      let p = passed_on (is_supported sink a) (feed_on sink a) (has_room inputs made me sink.index) (is_built a) (λ feed. created inputs made me tag sink a feed (input_made made me sink a)) plan e in
+      record { sink = sink; there = there; lawful = lawful; supported = p.0; feed = p.1.0; fed = p.1.1; room = p.2; built = p.3; planned = p.1.2 }
 
   pub create_passed : create inputs made me tag named a ≡ Ok plan → IsCreated inputs made me tag named a plan
   create_passed e = passed (is_lawful a) (is_clear named) (target_of named) refl refl e

@@ -1,6 +1,5 @@
 -- CREATE_PLAYBACK_STREAM (PulseAudio: `command_create_playback_stream` of pulsecore/protocol-native.c; the order of refusals is own).
 use Rattle.std.specs.Prelude.{ℕ, ◌+◌, List, [], ◌∷◌, ◌++◌, Ok}
-use Rattle.std.specs.List.{range_with_len}
 use Rattle.px_types.specs.declared.error_code.ErrorCode.TheVariants.{Invalid, NoEntity, TooLarge, NotSupported, NotImplemented}
 use Rattle.px_tag.specs.declared.raw.RawSpec.{RawSpec}
 use Rattle.px_cmd.specs.declared.command.CreateFields.{CreateFields}
@@ -23,15 +22,11 @@ use Rattle.px_plan.specs.Input.{settled_on}
 use Rattle.px_plan.specs.Plan.{Planned, replied}
 use Rattle.px_plan.specs.Row.{Row, ◌>>=◌, check, present}
 use Rattle.px_plan.specs.Target.{is_clear, target_of}
-use Rattle.px_ctl_play.specs.Asked.{spec_on, attr_on, positions_on, is_lawful, is_supported, is_built, has_room}
+use Rattle.px_ctl_play.specs.Asked.{spec_on, attr_on, positions_on, is_lawful, is_supported, feed_on, is_built, has_room}
 use Rattle.px_ctl_play.specs.Factors.{unity, regrouped}
 use Rattle.px_ctl_play.specs.Time.{microseconds}
 
 -- ---- the new input
-
--- each channel of the sink is fed by the stream's channel of the same place
-abbrev pub straight : ℕ → List ℕ
-straight channels = range_with_len 0 channels
 
 abbrev pub input_made : ℕ → Connection → Target → CreateFields → Input
 input_made made me sink a = record {
@@ -45,12 +40,12 @@ input_made made me sink a = record {
   standing = Settled;
 }
 
--- the message that brings it to its sink
-abbrev pub new_of : {P : Type 0} → Target → CreateFields → Input → Msg P
-new_of sink a x = New (record {
+-- the message that brings it to its sink, where these of its channels feed the sink's
+abbrev pub new_of : {P : Type 0} → Target → CreateFields → List ℕ → Input → Msg P
+new_of sink a feed x = New (record {
   input = x.index;
   spec = x.spec;
-  feed = straight sink.spec.channels;
+  feed = feed;
   factors = unity sink.spec.channels;
   attr = x.attr;
   corked = a.corked;
@@ -80,12 +75,12 @@ created_of sink a x = record {
 -- ---- the command
 
 -- the input is there, its sink gets its stream, and then the factors of all inputs on it
-abbrev pub changes_of : {P : Type 0} → List Input → ℕ → Connection → Target → CreateFields → Input → List (Change (Msg P) (Unit {0}))
-changes_of inputs made me sink a x =
-    Made x (new_of sink a x) (me.streams + 1) (made + 1) ∷ regrouped x.sink sink.spec.channels (settled_on inputs x.sink ++ x ∷ []) ∷ []
+abbrev pub changes_of : {P : Type 0} → List Input → ℕ → Connection → Target → CreateFields → List ℕ → Input → List (Change (Msg P) (Unit {0}))
+changes_of inputs made me sink a feed x =
+    Made x (new_of sink a feed x) (me.streams + 1) (made + 1) ∷ regrouped x.sink sink.spec.channels (settled_on inputs x.sink ++ x ∷ []) ∷ []
 
-abbrev pub created : {P : Type 0} → List Input → ℕ → Connection → ℕ → Target → CreateFields → Input → Planned (Msg P) (Unit {0})
-created inputs made me tag sink a x = replied (created_reply tag (created_of sink a x)) (changes_of inputs made me sink a x)
+abbrev pub created : {P : Type 0} → List Input → ℕ → Connection → ℕ → Target → CreateFields → List ℕ → Input → Planned (Msg P) (Unit {0})
+created inputs made me tag sink a feed x = replied (created_reply tag (created_of sink a x)) (changes_of inputs made me sink a feed x)
 
 -- a connection asks for a stream, where these inputs are there and so many were ever made
 abbrev pub create : {P : Type 0} → List Input → ℕ → Connection → ℕ → Named → CreateFields → Row (Planned (Msg P) (Unit {0}))
@@ -94,6 +89,7 @@ create inputs made me tag named a = do
   clear ← check (is_clear named) Invalid
   sink ← present (target_of named) NoEntity
   supported ← check (is_supported sink a) NotSupported
+  feed ← present (feed_on sink a) NotSupported
   room ← check (has_room inputs made me sink.index) TooLarge
-  built ← check (is_built sink a) NotImplemented
-  Ok (created inputs made me tag sink a (input_made made me sink a))
+  built ← check (is_built a) NotImplemented
+  Ok (created inputs made me tag sink a feed (input_made made me sink a))

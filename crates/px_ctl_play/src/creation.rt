@@ -7,10 +7,11 @@ ghost use Rattle.px_plan.specs.Row.{Plans};
 ghost use Rattle.px_plan.specs.Target.{IsTarget, IsNamed};
 ghost use Rattle.px_ctl_play.specs.Create.{input_made, changes_of, created, create};
 
-use crate::asked::{attr_on, is_lawful, spec_on};
+use crate::asked::{attr_on, feed_on, is_lawful, spec_on};
 use crate::created::{new_of, reply_of};
 use crate::factors::regrouped;
 use crate::refusals::{has_room, is_built, is_supported};
+use px_chmap::Feed;
 use px_cmd::CreateFields;
 use px_msg::Msg;
 use px_plan::{
@@ -50,17 +51,18 @@ fn changes_of<P: Drop>(
     me: &Connection,
     sink: &Target,
     a: &CreateFields,
+    feed: Feed,
     x: Input,
 ) -> Mem<Vec<Change<Msg<P>, ()>>>
     requires sink { IsTarget sink.now }
     requires inputs { made < 4294967295 }
     requires streams { me.now.streams < 4294967295 }
-    ensures { IfOk result (λ changes. changes.items ≡ changes_of inputs.now made me.now sink.now a.now x) }
+    ensures { IfOk result (λ changes. changes.items ≡ changes_of inputs.now made me.now sink.now a.now feed x) }
 {
     let mut changes = Vec::new(alloc);
     changes.push(Change::Made {
         input: x,
-        new: new_of(sink, a, &x),
+        new: new_of(sink, a, feed, &x),
         streams: me.streams + 1,
         inputs: made + 1,
     })?;
@@ -77,16 +79,17 @@ fn created<P: Drop>(
     tag: u32,
     sink: Target,
     a: &CreateFields,
+    feed: Feed,
 ) -> Result<Plan<Msg<P>, ()>, Refusal>
     requires sink { IsTarget sink }
     requires some { 1 ≤ a.now.spec.channels }
     requires few { a.now.spec.channels ≤ 32 }
     requires inputs { made < 4294967295 }
     requires streams { me.now.streams < 4294967295 }
-    ensures { Plans result (Ok (created inputs.now made me.now tag sink a.now (input_made made me.now sink a.now))) }
+    ensures { Plans result (Ok (created inputs.now made me.now tag sink a.now feed (input_made made me.now sink a.now))) }
 {
     let x = input_made(made, me, &sink, a);
-    let changes = changes_of(alloc, inputs, made, me, &sink, a, x)?;
+    let changes = changes_of(alloc, inputs, made, me, &sink, a, feed, x)?;
     let reply = reply_of(alloc, tag, sink, a, &x)?;
     Ok(Plan::replied(alloc, reply, changes))
 }
@@ -94,8 +97,9 @@ fn created<P: Drop>(
 /// CREATE_PLAYBACK_STREAM of a connection, where these inputs are there and so many were ever made: a stream is made on the
 /// sink that is named. Refused, by the first of these that holds: `Invalid` for a spec, a map or volumes that
 /// can't be, and where a sink is named twice over; `NoEntity` where no sink is there; `NotSupported` for floating point, a
-/// variable rate or another rate than the sink's; `TooLarge` where 256 inputs are bound for the sink, or 1,024 go on in all,
-/// or no number is left; `NotImplemented` for one that isn't built. Own: PulseAudio resamples, and has no such limits.
+/// variable rate or another rate than the sink's, and where no plan feeds the sink's channels from the stream's; `TooLarge` where 256
+/// inputs are bound for the sink, or 1,024 go on in all, or no number is left; `NotImplemented` for one that isn't built. Format,
+/// rate and channel map are the sink's where the client says so. Own: PulseAudio resamples and mixes channels, and has no such limits.
 pub fn create<P: Drop>(
     alloc: Global,
     inputs: &[Input],
@@ -112,7 +116,8 @@ pub fn create<P: Drop>(
     check(named.is_clear(), ErrorCode::Invalid)?;
     let sink = present(named.target(), ErrorCode::NoEntity)?;
     check(is_supported(&sink, a), ErrorCode::NotSupported)?;
+    let feed = present(feed_on(&sink, a), ErrorCode::NotSupported)?;
     check(has_room(inputs, made, me, sink.index), ErrorCode::TooLarge)?;
-    check(is_built(&sink, a), ErrorCode::NotImplemented)?;
-    created(alloc, inputs, made, me, tag, sink, a)
+    check(is_built(a), ErrorCode::NotImplemented)?;
+    created(alloc, inputs, made, me, tag, sink, a, feed)
 }
