@@ -38,7 +38,9 @@ fn sum(bytes: &[u8], values: &[i32]) -> u32 {
         sum = sum.wrapping_mul(31).wrapping_add(u32::from(*byte));
     }
     for value in values {
-        sum = sum.wrapping_mul(31).wrapping_add(u32::from_le_bytes(value.to_le_bytes()));
+        sum = sum
+            .wrapping_mul(31)
+            .wrapping_add(u32::from_le_bytes(value.to_le_bytes()));
     }
     sum
 }
