@@ -57,6 +57,13 @@ class Outputs(unittest.TestCase):
             "end\n",
         )
 
+    def test_an_upper_byte_is_told(self):
+        """24 bits in 32 are told as bytes where the upper byte is another than 0, which no sample says."""
+        session = read_session(make("sink out s24-32be 1 48000 map 0 guard 0 depth 9\nend\n"))
+        for sound, said in (("00000001", "1"), ("80000001", "hex 80000001")):
+            data = bytes.fromhex("03" "00" "00000001" + sound + "00")
+            self.assertEqual(output.show(data, session)[0], f"played out 1 frames: {said}\nend\n")
+
     def test_replies(self):
         spec, name, driver = "6103010000bb80" "6d0100", "746f757400", "7470756c73655f727700"
         sink = ("4c00000000" + name + name + spec + "4cffffffff" "760100010000" "30" "4cffffffff" "4e"

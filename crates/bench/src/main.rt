@@ -1,5 +1,5 @@
 //! What the scripts of bench/ time. Words: what to do (`sound`, `frame`, `wire`, `session` or `core`), how often, and for `frame` the
-//! bytes of a piece, for `core` how many frames; `wire` reads a packet from standard input. It prints a line on what it did, so that
+//! bytes of a piece, for `core` how many frames, for `sound` the code of a format; `wire` reads a packet from standard input. It prints a line on what it did, so that
 //! no work is left out and a plain program can be compared. Without words each is done once.
 #![tactic(auto)]
 
@@ -51,7 +51,7 @@ fn work_of(word: &str) -> Option<Work> {
 // The line of a work that is done so often.
 fn line(alloc: Global, work: Work, first: u32, second: Option<u32>, packet: &[u8]) -> Mem<String> {
     match work {
-        Work::Sound => sound_line(alloc, first),
+        Work::Sound => sound_line(alloc, first, second.unwrap_or(3)),
         Work::Frame => frame_line(alloc, first, second.unwrap_or(4_096)),
         Work::Wire => wire_line(alloc, first, packet),
         Work::Session => session_line(alloc, first),

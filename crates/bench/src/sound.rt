@@ -1,5 +1,6 @@
 // Samples to work values and back.
 ghost use Rattle.std.specs.Prelude.{◌≡◌, ◌*◌, length};
+ghost use Rattle.px_sample.specs.Format.{size_of, IsWhole};
 
 use px_sample::{Format, Width, pack, to_work, unpack};
 use px_types::Mem;
@@ -16,31 +17,51 @@ fn fill(bytes: &mut [u8], seed: u32) {
     }
 }
 
-// So many times there and back.
-fn carry(rounds: u32, bytes: &mut [u8], values: &mut [i32])
-    requires { length bytes.old ≡ 2 * length values.old }
+// So many times there, and back where the format is written.
+fn carry(format: Format, rounds: u32, bytes: &mut [u8], values: &mut [i32])
+    requires whole { IsWhole format }
+    requires size { length bytes.old ≡ size_of format * length values.old }
 {
     for _ in 0..rounds {
-        unpack(Format::S16Le, bytes, values);
-        to_work(Width::W16, Width::W32, values);
-        to_work(Width::W32, Width::W16, values);
-        pack(Format::S16Le, values, bytes);
+        unpack(format, bytes, values);
+        to_work(format.width(), Width::W32, values);
+        if format.is_linear() {
+            to_work(Width::W32, format.width(), values);
+            pack(format, values, bytes);
+        }
     }
 }
 
-fn sum(bytes: &[u8]) -> u32 {
+fn sum(bytes: &[u8], values: &[i32]) -> u32 {
     let mut sum: u32 = 0;
     for byte in bytes {
         sum = sum.wrapping_mul(31).wrapping_add(u32::from(*byte));
     }
+    for value in values {
+        sum = sum
+            .wrapping_mul(31)
+            .wrapping_add(u32::from_le_bytes(value.to_le_bytes()));
+    }
     sum
 }
 
-/// Carries S16LE samples to 32-bit work values and back, so many times 4,096 of them, and says a sum over the bytes. Takes memory.
-pub fn sound_line(alloc: Global, rounds: u32) -> Mem<String> {
-    let mut bytes = vec![in alloc; 0u8; 2 * SAMPLES]?;
+// The format with a code; S16LE where that has none, or one of floating point.
+fn whole_format(code: u32) -> Format
+    ensures { IsWhole result }
+{
+    match Format::from_code(code.min(255) as u8) {
+        Some(format) if format.is_whole() => format,
+        _ => Format::S16Le,
+    }
+}
+
+/// Carries samples of the format with a code, S16LE where that has no whole numbers, to 32-bit work values, and back where the
+/// format is written, so many times 4,096 of them, and says a sum over them. Takes memory.
+pub fn sound_line(alloc: Global, rounds: u32, code: u32) -> Mem<String> {
+    let format = whole_format(code);
+    let mut bytes = vec![in alloc; 0u8; format.size() * SAMPLES]?;
     let mut values = vec![in alloc; 0i32; SAMPLES]?;
     fill(&mut bytes, rounds);
-    carry(rounds, &mut bytes, &mut values);
-    Ok(format!(in alloc; "{}", sum(&bytes))?)
+    carry(format, rounds, &mut bytes, &mut values);
+    Ok(format!(in alloc; "{}", sum(&bytes, &values))?)
 }

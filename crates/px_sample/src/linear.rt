@@ -126,7 +126,7 @@ impl ReadSample<4> for S24In32Le {
     ghost format = { the_format };
 
     fn read(sample: &[u8; 4]) -> i32 {
-        i32::from_le_bytes([0, sample[0], sample[1], sample[2]])
+        i32::from_le_bytes(*sample) << 8
     }
 }
 
@@ -147,7 +147,7 @@ impl ReadSample<4> for S24In32Be {
     ghost format = { the_format };
 
     fn read(sample: &[u8; 4]) -> i32 {
-        i32::from_be_bytes([sample[1], sample[2], sample[3], 0])
+        i32::from_be_bytes(*sample) << 8
     }
 }
 
