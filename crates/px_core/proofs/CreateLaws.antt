@@ -10,7 +10,7 @@ use Rattle.px_cmd.specs.declared.command.CreateFields.{CreateFields}
 use Rattle.px_sample.specs.declared.format.Format.{Format}
 use Rattle.px_sample.specs.declared.format.Format.TheVariants.{U8, Alaw, Ulaw, S16Le, S16Be, Float32Le, Float32Be, S32Le, S32Be, S24Le, S24Be, S24In32Le, S24In32Be}
 use Rattle.px_sample.specs.declared.spec.Spec.{Spec}
-use Rattle.px_sample.specs.Format.{code_of, frame_size_of}
+use Rattle.px_sample.specs.Format.{code_of, format_with, frame_size_of}
 use Rattle.px_chmap.specs.ChannelMap.{IsChannelMap}
 use Rattle.px_chmap.specs.Plan.{FeedsAll}
 use Rattle.px_chmap.proofs.PlanLemmas.{plan_fits}
@@ -28,7 +28,7 @@ use Rattle.px_plan.specs.declared.change.Change.TheVariants.{Made}
 use Rattle.px_plan.specs.declared.target.Target.{Target}
 use Rattle.px_plan.specs.declared.target.Named.{Named}
 use Rattle.px_plan.specs.Target.{target_of as target_in}
-use Rattle.px_ctl_play.specs.Asked.{format_on, channels_on, positions_on, format_with, spec_on, attr_on, is_lawful, is_supported, feed_on, has_room, MOST_ON_SINK}
+use Rattle.px_ctl_play.specs.Asked.{format_on, channels_on, positions_on, spec_on, attr_on, is_lawful, is_supported, feed_on, has_room, MOST_ON_SINK}
 use Rattle.px_ctl_play.specs.Create.{input_made, new_of, create}
 use Rattle.px_ctl_play.specs.Factors.{UNITY, unity}
 use Rattle.px_ctl_play.proofs.Passed.{IsCreated, create_passed}

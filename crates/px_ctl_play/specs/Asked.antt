@@ -1,13 +1,11 @@
 -- What a stream is that a client asks for, and what it becomes on its sink (PulseAudio: `command_create_playback_stream` of pulsecore/protocol-native.c; that other rates, floating point and maps without a plan are refused is own).
-use Rattle.std.specs.Prelude.{ℕ, Bool, not, cond, ◌&&◌, ◌||◌, nat_eq, nat_lt, nat_le, List, [], ◌∷◌, length, get_or, Option}
+use Rattle.std.specs.Prelude.{ℕ, Bool, not, cond, ◌&&◌, ◌||◌, nat_eq, nat_lt, nat_le, List, length, Option}
 use Rattle.std.specs.List.{list_all}
 use Rattle.px_types.specs.declared.ids.SinkId.{SinkId}
 use Rattle.px_tag.specs.declared.raw.RawSpec.{RawSpec}
 use Rattle.px_cmd.specs.declared.command.CreateFields.{CreateFields}
 use Rattle.px_sample.specs.declared.spec.Spec.{Spec}
-use Rattle.px_sample.specs.declared.format.Format.{Format}
-use Rattle.px_sample.specs.declared.format.Format.TheVariants.{U8, Alaw, Ulaw, S16Le, S16Be, Float32Le, Float32Be, S32Le, S32Be, S24Le, S24Be, S24In32Le, S24In32Be}
-use Rattle.px_sample.specs.Format.{code_of}
+use Rattle.px_sample.specs.Format.{code_of, format_with}
 use Rattle.px_chmap.specs.Plan.{plan_of}
 use Rattle.px_vol.specs.Volume.{norm, greatest}
 use Rattle.px_model.specs.declared.data.Attr.{Attr}
@@ -48,10 +46,6 @@ channels_on sink a = cond a.fix_channels sink.spec.channels a.spec.channels
 
 abbrev pub positions_on : Target → CreateFields → List ℕ
 positions_on sink a = cond a.fix_channels sink.map a.map
-
--- the format with a code
-abbrev pub format_with : ℕ → Format
-format_with code = get_or (U8 ∷ Alaw ∷ Ulaw ∷ S16Le ∷ S16Be ∷ Float32Le ∷ Float32Be ∷ S32Le ∷ S32Be ∷ S24Le ∷ S24Be ∷ S24In32Le ∷ S24In32Be ∷ []) code U8
 
 abbrev pub spec_on : Target → CreateFields → Spec
 spec_on sink a = record { format = format_with (format_on sink a); channels = channels_on sink a; rate = rate_on sink a }

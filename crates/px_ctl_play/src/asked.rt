@@ -2,12 +2,13 @@
 
 ghost use Rattle.std.specs.Prelude.{◌≡◌, ◌≤◌, true, nat_le, length, All};
 ghost use Rattle.std.specs.List.{list_all};
+ghost use Rattle.px_sample.specs.Format.{format_with};
 ghost use Rattle.px_chmap.specs.ChannelMap.{IsChannelMap};
 ghost use Rattle.px_vol.specs.Volume.{greatest};
 ghost use Rattle.px_model.specs.Orderly.{IsRepaired};
 ghost use Rattle.px_msg.specs.Repair.{IsWithinBytes};
 ghost use Rattle.px_plan.specs.Target.{IsTarget};
-ghost use Rattle.px_ctl_play.specs.Asked.{is_spec, is_map, are_volumes, is_lawful, format_on, rate_on, channels_on, positions_on, feed_on, format_with, spec_on, attr_on};
+ghost use Rattle.px_ctl_play.specs.Asked.{is_spec, is_map, are_volumes, is_lawful, format_on, rate_on, channels_on, positions_on, feed_on, spec_on, attr_on};
 
 use px_chmap::{Feed, Map, plan};
 use px_cmd::CreateFields;

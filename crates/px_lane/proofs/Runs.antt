@@ -14,7 +14,7 @@ use Rattle.std.specs.Int.{saturate_signed}
 use Rattle.px_sample.specs.declared.format.Width.{Width}
 use Rattle.px_sample.specs.declared.spec.Spec.{Spec}
 use Rattle.px_sample.specs.Format.{width_of}
-use Rattle.px_sample.specs.WorkValue.{sample_of, packed_of}
+use Rattle.px_sample.specs.WorkValue.{packed_sample, packed_of}
 use Rattle.px_model.specs.Frame.{Frame}
 use Rattle.px_model.specs.Held.{place}
 use Rattle.px_model.specs.Queue.{FrameAhead, nothing, sound_of, left_of, is_short}
@@ -110,7 +110,7 @@ packed_run sink streams a (suc n) =
     let first = map (sum_of samples (sample_spec sink) streams a) (range_with_len 0 sink.channels) in
     let rest = frame_by_frame (sum_of samples (sample_spec sink) streams) sink.channels (a + 1) n in
     ap (packed_of sink.format) (map-append clip first rest)
-    ∙ flat_map-append (sample_of sink.format) (map clip first) (map clip rest)
+    ∙ flat_map-append (packed_sample sink.format) (map clip first) (map clip rest)
     ∙ ap (λ (xs : List ℕ). xs ++ packed_of sink.format (map clip rest)) (packed_mix sink streams a)
     ∙ ap (λ (xs : List ℕ). mix_of samples (sample_spec sink) streams a ++ xs) (packed_run sink streams (a + 1) n)
 

@@ -8,7 +8,7 @@ use Rattle.px_sample.specs.declared.format.Format.TheVariants.{U8, Alaw, Ulaw, S
 use Rattle.px_sample.specs.declared.spec.Spec.{Spec}
 use Rattle.px_sample.specs.Format.{size_of, width_of, frame_size_of, IsLinear}
 use Rattle.px_sample.specs.Bytes.{little_bytes, big_bytes, unsigned_of}
-use Rattle.px_sample.specs.WorkValue.{sample_of as packed_sample}
+use Rattle.px_sample.specs.WorkValue.{packed_sample}
 use Rattle.px_sample.proofs.FormatLemmas.{size_of-some}
 use Rattle.std.specs.Int.{int_div_euclid}
 use Rattle.std.specs.List.{range_with_len}

@@ -8,8 +8,8 @@ use Rattle.std.proofs.lemmas.List.Folds.{flat_map-map}
 use Rattle.std.specs.Int.{saturate_signed}
 use Rattle.px_sample.specs.declared.format.Format.{Format}
 use Rattle.px_sample.specs.declared.spec.Spec.{Spec}
-use Rattle.px_sample.specs.Format.{code_of, width_of}
-use Rattle.px_sample.specs.WorkValue.{sample_of, packed_of}
+use Rattle.px_sample.specs.Format.{code_of, format_with, width_of}
+use Rattle.px_sample.specs.WorkValue.{packed_sample, packed_of}
 use Rattle.px_model.specs.Frame.{SampleSpec}
 use Rattle.px_model.specs.Stream.{Stream, frame_at}
 use Rattle.px_model.specs.Mix.{share_of, sum_of, mix_of}
@@ -17,7 +17,7 @@ use Rattle.px_model.specs.Sink.{Input as Stands, streams_of}
 use Rattle.px_lane.specs.declared.input.Input.{Input}
 use Rattle.px_stream.specs.Kept.{KeptStream}
 use Rattle.px_lane.specs.Inputs.{input_of, inputs_of}
-use Rattle.px_stream.specs.Samples.{samples, format_with, bit_width}
+use Rattle.px_stream.specs.Samples.{samples, bit_width}
 use Rattle.px_msg.specs.View.{sample_spec}
 use Rattle.px_stream.proofs.Sounds.{format_known}
 
@@ -56,5 +56,5 @@ pub packed_mix : (sink : Spec) (streams : List Stream) (k : ℕ)
 packed_mix sink streams k =
     let clip = λ (x : ℤ). saturate_signed (bit_width (width_of (format_with (code_of sink.format)))) x in
     ap (λ (g : Format). packed_of g (map (saturate_signed (bit_width (width_of g))) (map (sum_of samples (sample_spec sink) streams k) (range_with_len 0 sink.channels)))) (sym (format_known sink.format))
-    ∙ flat_map-map (λ (x : ℤ). sample_of (format_with (code_of sink.format)) x) clip (map (sum_of samples (sample_spec sink) streams k) (range_with_len 0 sink.channels))
-    ∙ flat_map-map (λ (x : ℤ). sample_of (format_with (code_of sink.format)) (clip x)) (sum_of samples (sample_spec sink) streams k) (range_with_len 0 sink.channels)
+    ∙ flat_map-map (λ (x : ℤ). packed_sample (format_with (code_of sink.format)) x) clip (map (sum_of samples (sample_spec sink) streams k) (range_with_len 0 sink.channels))
+    ∙ flat_map-map (λ (x : ℤ). packed_sample (format_with (code_of sink.format)) (clip x)) (sum_of samples (sample_spec sink) streams k) (range_with_len 0 sink.channels)

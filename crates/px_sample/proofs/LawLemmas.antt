@@ -11,7 +11,7 @@ use Rattle.px_sample.specs.declared.format.Format.{Format}
 use Rattle.px_sample.specs.declared.format.Format.TheVariants.{U8, Alaw, Ulaw, S16Le, S16Be, Float32Le, Float32Be, S32Le, S32Be, S24Le, S24Be, S24In32Le, S24In32Be}
 use Rattle.px_sample.specs.Format.{size_of, IsLinear}
 use Rattle.px_sample.specs.Bytes.{little_endian, big_endian, little_bytes, big_bytes, signed_of, unsigned_of}
-use Rattle.px_sample.specs.WorkValue.{work_value_of, work_values_of, sample_of, samples_of, packed_of, cleared_of}
+use Rattle.px_sample.specs.WorkValue.{work_value_of, work_values_of, packed_sample, samples_of, packed_of, cleared_of}
 use Rattle.px_sample.proofs.BytesLemmas.{AreBytes, little_bytes-little_endian, little_endian-below, big_bytes-big_endian, big_endian-below, unsigned_signed, upper_bits}
 use Rattle.px_sample.proofs.FormatLemmas.{size_of-some}
 use Rattle.px_sample.proofs.RunLemmas.{whole_samples}
@@ -61,7 +61,7 @@ cleared_back a b c d fits_a fits_b fits_c =
     ∙ little_bytes-little_endian (a ∷ b ∷ c ∷ 0 ∷ []) (cleared_are a b c fits_a fits_b fits_c)
 
 sample_back_24_le : (sample : List ℕ) → length sample ≡ 4 → AreBytes sample →
-    sample_of S24In32Le (work_value_of S24In32Le sample) ≡ cleared_of S24In32Le sample
+    packed_sample S24In32Le (work_value_of S24In32Le sample) ≡ cleared_of S24In32Le sample
 sample_back_24_le (a ∷ b ∷ c ∷ d ∷ []) size are =
     cleared_back a b c d (are 0 0 (omega arith)) (are 1 0 (omega arith)) (are 2 0 (omega arith))
 sample_back_24_le (a ∷ b ∷ c ∷ d ∷ e ∷ rest) size are = absurd (omega arith)
@@ -71,7 +71,7 @@ sample_back_24_le (a ∷ []) size are = absurd (omega arith)
 sample_back_24_le [] size are = absurd (omega arith)
 
 sample_back_24_be : (sample : List ℕ) → length sample ≡ 4 → AreBytes sample →
-    sample_of S24In32Be (work_value_of S24In32Be sample) ≡ cleared_of S24In32Be sample
+    packed_sample S24In32Be (work_value_of S24In32Be sample) ≡ cleared_of S24In32Be sample
 sample_back_24_be (a ∷ b ∷ c ∷ d ∷ []) size are =
     ap reverse (cleared_back d c b a (are 3 0 (omega arith)) (are 2 0 (omega arith)) (are 1 0 (omega arith)))
 sample_back_24_be (a ∷ b ∷ c ∷ d ∷ e ∷ rest) size are = absurd (omega arith)
@@ -81,7 +81,7 @@ sample_back_24_be (a ∷ []) size are = absurd (omega arith)
 sample_back_24_be [] size are = absurd (omega arith)
 
 pub sample_back : (format : Format) (sample : List ℕ) → IsLinear format → length sample ≡ size_of format →
-    AreBytes sample → sample_of format (work_value_of format sample) ≡ cleared_of format sample
+    AreBytes sample → packed_sample format (work_value_of format sample) ≡ cleared_of format sample
 sample_back U8 sample linear size are =
     ap (little_bytes 1) (u8_back (little_endian sample) (le_below 1 sample size are)) ∙ le_back 1 sample size are
 sample_back Alaw sample linear size are = absurd linear
@@ -104,7 +104,7 @@ sample_back S24In32Le sample linear size are = sample_back_24_le sample size are
 sample_back S24In32Be sample linear size are = sample_back_24_be sample size are
 
 run_back : (format : Format) (count : ℕ) (bytes : List ℕ) → IsLinear format → count * size_of format ≤ length bytes → AreBytes bytes →
-    flat_map (sample_of format) (map (work_value_of format) (first_chunks (size_of format) count bytes))
+    flat_map (packed_sample format) (map (work_value_of format) (first_chunks (size_of format) count bytes))
     ≡ flat_map (cleared_of format) (first_chunks (size_of format) count bytes)
 run_back format zero bytes linear fits are = refl
 run_back format (suc count) bytes linear fits are =
@@ -113,7 +113,7 @@ run_back format (suc count) bytes linear fits are =
     let rest : List ℕ = drop size bytes in
     let size_first : length first ≡ size = length-take-le size bytes (omega arith) in
     let fits_rest : count * size ≤ length rest = omega (arith, length-drop size bytes) in
-    ap (λ sample. sample ++ flat_map (sample_of format) (map (work_value_of format) (first_chunks size count rest)))
+    ap (λ sample. sample ++ flat_map (packed_sample format) (map (work_value_of format) (first_chunks size count rest)))
     (sample_back format first linear size_first (All-take (λ b. b < 256) size bytes are))
     ∙ ap (λ others. cleared_of format first ++ others)
     (run_back format count rest linear fits_rest (All-drop (λ b. b < 256) size bytes are))

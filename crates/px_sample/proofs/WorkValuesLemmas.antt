@@ -7,7 +7,7 @@ use Rattle.std.specs.Simd.{first_chunks}
 use Rattle.px_sample.specs.declared.format.Format.{Format}
 use Rattle.px_sample.specs.declared.format.Format.TheVariants.{Alaw, Ulaw, Float32Le, Float32Be}
 use Rattle.px_sample.specs.Format.{size_of, IsLinear}
-use Rattle.px_sample.specs.WorkValue.{work_value_of, work_values_of, sample_of, samples_of, packed_of}
+use Rattle.px_sample.specs.WorkValue.{work_value_of, work_values_of, packed_sample, samples_of, packed_of}
 use Rattle.px_sample.proofs.FormatLemmas.{size_of-some}
 use Rattle.px_sample.proofs.RunLemmas.{whole_samples}
 
@@ -70,20 +70,20 @@ work_values_of-append format before after count whole =
 
 pub packed_of-append : (format : Format) (before after : List ℤ) →
     packed_of format (before ++ after) ≡ packed_of format before ++ packed_of format after
-packed_of-append format before after = flat_map-append (sample_of format) before after
+packed_of-append format before after = flat_map-append (packed_sample format) before after
 
-length-sample_of : (format : Format) (value : ℤ) → IsLinear format → length (sample_of format value) ≡ size_of format
-length-sample_of Alaw value linear = absurd linear
-length-sample_of Ulaw value linear = absurd linear
-length-sample_of Float32Le value linear = absurd linear
-length-sample_of Float32Be value linear = absurd linear
-length-sample_of _ value linear = refl
+length-packed_sample : (format : Format) (value : ℤ) → IsLinear format → length (packed_sample format value) ≡ size_of format
+length-packed_sample Alaw value linear = absurd linear
+length-packed_sample Ulaw value linear = absurd linear
+length-packed_sample Float32Le value linear = absurd linear
+length-packed_sample Float32Be value linear = absurd linear
+length-packed_sample _ value linear = refl
 
 -- a sample for each value
 pub length-packed_of : (format : Format) (values : List ℤ) → IsLinear format →
     length (packed_of format values) ≡ size_of format * length values
 length-packed_of format [] linear = omega arith
 length-packed_of format (value ∷ rest) linear =
-    let first = length-sample_of format value linear in
+    let first = length-packed_sample format value linear in
     let others = length-packed_of format rest linear in
-    omega (arith, length-append (sample_of format value) (packed_of format rest))
+    omega (arith, length-append (packed_sample format value) (packed_of format rest))

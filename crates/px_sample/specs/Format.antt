@@ -1,5 +1,5 @@
 -- Sample formats: their codes, how many bytes a sample has, and how wide its work value is.
-use Rattle.std.specs.Prelude.{ℕ, ◌*◌}
+use Rattle.std.specs.Prelude.{ℕ, ◌*◌, List, [], ◌∷◌, slice_index_or}
 use Rattle.px_sample.specs.declared.format.Width.{Width}
 use Rattle.px_sample.specs.declared.format.Width.TheVariants.{W8, W16, W32}
 use Rattle.px_sample.specs.declared.format.Format.{Format}
@@ -21,6 +21,13 @@ code_of S24Le = 9
 code_of S24Be = 10
 code_of S24In32Le = 11
 code_of S24In32Be = 12
+
+-- all formats in the order of their codes, and the format with a code
+abbrev pub formats : List Format
+formats = U8 ∷ Alaw ∷ Ulaw ∷ S16Le ∷ S16Be ∷ Float32Le ∷ Float32Be ∷ S32Le ∷ S32Be ∷ S24Le ∷ S24Be ∷ S24In32Le ∷ S24In32Be ∷ []
+
+abbrev pub format_with : ℕ → Format
+format_with code = slice_index_or formats code U8
 
 -- how many bytes a sample has
 abbrev pub size_of : Format → ℕ

@@ -41,24 +41,24 @@ abbrev pub work_values_of : Format → List ℕ → List ℤ
 work_values_of format bytes = map (work_value_of format) (samples_of format bytes)
 
 -- the sample that carries a work value, as its bytes; only linear formats have one
-abbrev pub sample_of : Format → ℤ → List ℕ
-sample_of U8 value = little_bytes 1 (unsigned_of 8 (value +ℤ pos 128))
-sample_of Alaw value = []
-sample_of Ulaw value = []
-sample_of S16Le value = little_bytes 2 (unsigned_of 16 value)
-sample_of S16Be value = big_bytes 2 (unsigned_of 16 value)
-sample_of Float32Le value = []
-sample_of Float32Be value = []
-sample_of S32Le value = little_bytes 4 (unsigned_of 32 value)
-sample_of S32Be value = big_bytes 4 (unsigned_of 32 value)
-sample_of S24Le value = little_bytes 3 (unsigned_of 24 (int_div_euclid value (pos 256)))
-sample_of S24Be value = big_bytes 3 (unsigned_of 24 (int_div_euclid value (pos 256)))
-sample_of S24In32Le value = little_bytes 4 (unsigned_of 24 (int_div_euclid value (pos 256)))
-sample_of S24In32Be value = big_bytes 4 (unsigned_of 24 (int_div_euclid value (pos 256)))
+abbrev pub packed_sample : Format → ℤ → List ℕ
+packed_sample U8 value = little_bytes 1 (unsigned_of 8 (value +ℤ pos 128))
+packed_sample Alaw value = []
+packed_sample Ulaw value = []
+packed_sample S16Le value = little_bytes 2 (unsigned_of 16 value)
+packed_sample S16Be value = big_bytes 2 (unsigned_of 16 value)
+packed_sample Float32Le value = []
+packed_sample Float32Be value = []
+packed_sample S32Le value = little_bytes 4 (unsigned_of 32 value)
+packed_sample S32Be value = big_bytes 4 (unsigned_of 32 value)
+packed_sample S24Le value = little_bytes 3 (unsigned_of 24 (int_div_euclid value (pos 256)))
+packed_sample S24Be value = big_bytes 3 (unsigned_of 24 (int_div_euclid value (pos 256)))
+packed_sample S24In32Le value = little_bytes 4 (unsigned_of 24 (int_div_euclid value (pos 256)))
+packed_sample S24In32Be value = big_bytes 4 (unsigned_of 24 (int_div_euclid value (pos 256)))
 
 -- the bytes that carry a run of work values
 abbrev pub packed_of : Format → List ℤ → List ℕ
-packed_of format values = flat_map (sample_of format) values
+packed_of format values = flat_map (packed_sample format) values
 
 -- a sample with the upper byte of 24 bits in 32 cleared
 abbrev pub cleared_of : Format → List ℕ → List ℕ

@@ -1,7 +1,7 @@
 ghost use Rattle.std.specs.Prelude.{◌≡◌, ◌*◌, ◌/◌, ◌<◌, ◌≤◌, length, map, All};
 ghost use Rattle.std.specs.Simd.{first_chunks};
 ghost use Rattle.px_sample.specs.Format.{width_of};
-ghost use Rattle.px_sample.specs.WorkValue.{work_value_of, sample_of, packed_of, IsWithin};
+ghost use Rattle.px_sample.specs.WorkValue.{work_value_of, packed_sample, packed_of, IsWithin};
 
 /// A format whose samples have `SIZE` bytes and can be read.
 pub trait ReadSample<const SIZE: usize> {
@@ -22,7 +22,7 @@ pub trait WriteSample<const SIZE: usize> {
 
     fn write(value: i32) -> [u8; SIZE]
         requires { IsWithin (width_of format) value }
-        ensures { result ≡ sample_of format value };
+        ensures { result ≡ packed_sample format value };
 }
 
 /// The work values of samples, each in its place of `out`.

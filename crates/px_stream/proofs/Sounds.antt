@@ -9,14 +9,14 @@ use Rattle.px_sample.specs.declared.format.Format.TheVariants.{U8, Alaw, Ulaw, S
 use Rattle.px_sample.specs.declared.format.Width.{Width}
 use Rattle.px_sample.specs.declared.format.Width.TheVariants.{W8, W16, W32}
 use Rattle.px_sample.specs.declared.spec.Spec.{Spec}
-use Rattle.px_sample.specs.Format.{code_of, size_of, width_of, frame_size_of, IsWhole}
+use Rattle.px_sample.specs.Format.{code_of, format_with, size_of, width_of, frame_size_of, IsWhole}
 use Rattle.px_sample.specs.WorkValue.{work_value_of, work_values_of, at_width}
 use Rattle.px_sample.proofs.FormatLemmas.{size_of-some}
 use Rattle.px_sample.proofs.RunLemmas.{whole_samples, next_fits}
 use Rattle.px_model.specs.Frame.{Frame, SampleSpec, frame_size, sample_size, sample_of}
 use Rattle.px_model.specs.Stream.{Stream}
 use Rattle.px_msg.specs.View.{sample_spec}
-use Rattle.px_stream.specs.Samples.{samples, format_with, bit_width, work_width}
+use Rattle.px_stream.specs.Samples.{samples, bit_width, work_width}
 use Rattle.px_stream.specs.Values.{value_in}
 
 -- ---- formats and their codes

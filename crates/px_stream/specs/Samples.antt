@@ -1,20 +1,10 @@
 -- What a mix asks of the sample formats, out of the formats' own definitions.
-use Rattle.std.specs.Prelude.{ℕ, List, [], ◌∷◌, slice_index_or}
 use Rattle.std.specs.Int.{Width as BitWidth, w8, w16, w32}
-use Rattle.px_sample.specs.declared.format.Format.{Format}
-use Rattle.px_sample.specs.declared.format.Format.TheVariants.{U8, Alaw, Ulaw, S16Le, S16Be, Float32Le, Float32Be, S32Le, S32Be, S24Le, S24Be, S24In32Le, S24In32Be}
 use Rattle.px_sample.specs.declared.format.Width.{Width}
 use Rattle.px_sample.specs.declared.format.Width.TheVariants.{W8, W16, W32}
-use Rattle.px_sample.specs.Format.{width_of}
-use Rattle.px_sample.specs.WorkValue.{work_value_of, at_width, sample_of}
+use Rattle.px_sample.specs.Format.{format_with, width_of}
+use Rattle.px_sample.specs.WorkValue.{work_value_of, at_width, packed_sample}
 use Rattle.px_model.specs.Mix.{Samples}
-
--- the formats in the order of their codes, and the format with a code
-abbrev pub formats : List Format
-formats = U8 ∷ Alaw ∷ Ulaw ∷ S16Le ∷ S16Be ∷ Float32Le ∷ Float32Be ∷ S32Le ∷ S32Be ∷ S24Le ∷ S24Be ∷ S24In32Le ∷ S24In32Be ∷ []
-
-abbrev pub format_with : ℕ → Format
-format_with code = slice_index_or formats code U8
 
 -- a width of work values as a width of numbers, and the other way
 abbrev pub bit_width : Width → BitWidth
@@ -32,5 +22,5 @@ samples = record {
   width = λ code. bit_width (width_of (format_with code));
   work = λ code bytes. work_value_of (format_with code) bytes;
   to = λ from to value. at_width (work_width from) (work_width to) value;
-  packed = λ code value. sample_of (format_with code) value;
+  packed = λ code value. packed_sample (format_with code) value;
 }

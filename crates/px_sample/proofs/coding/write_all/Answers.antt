@@ -1,7 +1,7 @@
 use Rattle.std.proofs.Common.{◌≡◌, ◌*◌, ◌+◌, ◌-◌, ◌<◌, ◌≤◌, length, arith, ◌∙◌, ap, pos, get_or, w32, to_z, of_z, ℤ}
 use Rattle.std.proofs.lemmas.Int.{to_z-of_z}
 use Rattle.px_sample.specs.Format.{width_of}
-use Rattle.px_sample.specs.WorkValue.{sample_of}
+use Rattle.px_sample.specs.WorkValue.{packed_sample}
 use Rattle.px_sample.proofs.RunLemmas.{packed_more, next_fits, length_part, fits_word}
 use Rattle.px_sample.proofs.coding.write_all.Goals as goal
 
@@ -16,7 +16,7 @@ loop-place-preserved g c =
     next_fits _ _ _ _ there (c.loop-place.auto.out ∙ c.requires.lengths) in
     let size : length c.copy_from_slice.new.self ≡ g.row.SIZE =
     c.copy_from_slice.ensures.len ∙ length_part c.loop-place.out (place * g.row.SIZE) g.row.SIZE fits in
-    packed_more (sample_of g.C.WriteSample.format) c.loop-place.out c.copy_from_slice.new.self c.args.values.now
+    packed_more (packed_sample g.C.WriteSample.format) c.loop-place.out c.copy_from_slice.new.self c.args.values.now
     (place * g.row.SIZE) (place * g.row.SIZE + g.row.SIZE - place * g.row.SIZE) ((place + 1) * g.row.SIZE)
     place (pos 0) there (omega arith) (omega arith) c.loop-place.invariant
-    (c.copy_from_slice.ensures.after ∙ c.write.ensures ∙ ap (sample_of g.C.WriteSample.format) same)
+    (c.copy_from_slice.ensures.after ∙ c.write.ensures ∙ ap (packed_sample g.C.WriteSample.format) same)
