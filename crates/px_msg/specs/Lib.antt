@@ -1,2 +1,3 @@
 pub mod Repair
 pub mod View
+pub mod Letters

@@ -3,3 +3,4 @@ pub mod Storing
 pub mod Going
 pub mod Packing
 pub mod Copying
+pub mod Listed

@@ -2,3 +2,4 @@ pub mod Written
 pub mod Kept
 pub mod Pushed
 pub mod Peeked
+pub mod Plain

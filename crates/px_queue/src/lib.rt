@@ -8,6 +8,7 @@ mod chunk;
 mod finding;
 mod index;
 mod peek;
+mod plain;
 mod push;
 mod queue;
 

@@ -84,8 +84,8 @@ impl FrameQueue {
         k < self.held && newest(self.writes.as_slice(), self.read, self.read.onward(k)).is_some()
     }
 
-    // Copies the frame held at a place past the read index, and answers whether one is.
-    fn copy_frame(&self, k: u64, out: &mut [u8]) -> bool
+    /// Copies the frame held at a place past the read index, and answers whether one is.
+    pub(crate) fn copy_frame(&self, k: u64, out: &mut [u8]) -> bool
         requires { length out.old ≡ self.now.frame }
         ensures { Copies result (place self.now.queue.held k) out.old out.new }
     {

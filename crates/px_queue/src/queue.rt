@@ -23,8 +23,8 @@ pub struct FrameQueue {
     pub(crate) read: Index,
     pub(crate) write: Index,
     pub(crate) held: u64,
-    hold: bool,
-    prebuf: u32,
+    pub(crate) hold: bool,
+    pub(crate) prebuf: u32,
 }
 
 impl Model for FrameQueue {

@@ -2,3 +2,4 @@ pub mod Samples
 pub mod Kept
 pub mod Messages
 pub mod Values
+pub mod Plain

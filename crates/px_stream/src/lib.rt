@@ -5,6 +5,7 @@
 
 mod going;
 mod message;
+mod plain;
 mod run;
 mod stream;
 mod values;

@@ -26,7 +26,7 @@ use std::marker::Model;
 pub struct Stream {
     pub(crate) queue: FrameQueue,
     pub(crate) corked: bool,
-    maxlength: u32,
+    pub(crate) maxlength: u32,
     pub(crate) tlength: u32,
     pub(crate) minreq: u32,
     prebuf: u32,
@@ -35,7 +35,7 @@ pub struct Stream {
     pub(crate) run: Run,
     pub(crate) spec: Spec,
     pub(crate) feed: Feed,
-    factors: Factors,
+    pub(crate) factors: Factors,
 }
 
 impl Model for Stream {
