@@ -7,6 +7,7 @@ returns-clause-room g c = λ n had.
     record {
       places = omega (arith, had.places);
       streams = omega (arith, had.streams);
+      lists = omega (arith, had.lists);
       waiting = omega (arith, had.waiting, c.answer.ensures.len, c.answer.ensures.capacity);
       posted = fewer_places n c.args.tables.now.posted.items had.posted;
     }
