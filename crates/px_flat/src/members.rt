@@ -22,9 +22,7 @@ pub fn place_of(members: &[Member], input: InputId) -> Option<usize>
 pub fn found(members: &[Member], input: InputId) -> Option<&Member>
     ensures { option_map (λ m. m.now) result ≡ member_of members.now input }
 {
-    members
-        .iter()
-        .find(|member| member.input.0 == input.0)
+    members.iter().find(|member| member.input.0 == input.0)
 }
 
 /// The member of an input that is there.
