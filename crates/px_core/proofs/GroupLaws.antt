@@ -26,7 +26,7 @@ use Rattle.px_plan.specs.declared.target.Target.{Target}
 use Rattle.px_plan.specs.Target.{target_of as target_in}
 use Rattle.px_ctl_play.specs.Joining.{IsReadyAt}
 use Rattle.px_ctl_play.specs.Told.{IsMemberIn}
-use Rattle.px_plan.specs.declared.change.Change.TheVariants.{Authed, Named, Masked, Defaulted, Made, Leaves, Said, Regrouped, Asked, Answered, Gone, Ended, Forgotten}
+use Rattle.px_plan.specs.declared.change.Change.TheVariants.{Authed, Named as Renamed, Masked, Defaulted, Made, Leaves, Said, Regrouped, Asked, Answered, Gone, Ended, Forgotten}
 use Rattle.px_core.specs.State.{State, has_index, input_of}
 use Rattle.px_core.specs.Change.{Change, change_first, drop_first, leaving, with_attr, moving_to, arrived_at, inputs_told, ending, ending_of, saying, saying_of, changed, committed}
 use Rattle.px_core.specs.Grouped.{channels_there, IsGroupOf, AreGrouped, is_owed, paid}
@@ -222,7 +222,7 @@ left_grouped {P} owed state (Some x) h = by x.standing
 
 change_grouped : {P : Type 0} (owed : List SinkId) (state : State P) (c : Change P) → Lawful state c → Grouped owed state → Grouped (owed_after state c owed) (changed state c)
 change_grouped owed state (Authed conn version) lawful h = h
-change_grouped owed state (Named conn list) lawful h = h
+change_grouped owed state (Renamed conn list) lawful h = h
 change_grouped owed state (Masked conn mask) lawful h = h
 change_grouped owed state (Defaulted sink) lawful h = h
 change_grouped owed state (Made x m streams inputs) lawful h = made_grouped owed state.sinks state.inputs state.groups x h
