@@ -1,6 +1,6 @@
 -- Where an error is answered nothing has changed, and what a connection sends that has ended is ignored.
 use Rattle.std.proofs.Common.{◌≡◌, ℕ, List, [], ◌∷◌, ◌++◌, Option, Some, None, Bool, true, false, refl, ap, sym, subst, ◌∙◌, arith, cond}
-use Rattle.std.specs.Prelude.{get_or, filter, flat_map, Result, Ok, Err}
+use Rattle.std.specs.Prelude.{get_or, slice_get, filter, flat_map, Result, Ok, Err}
 use Rattle.std.specs.List.{AllByRecursion}
 use Rattle.std.proofs.lemmas.Bool.{cond_both, cond-true, cond-false, false≢true}
 use Rattle.std.proofs.lemmas.List.{append_assoc}

@@ -1,5 +1,5 @@
 -- What each command's row tells who asked: a reply that is no error, or nothing yet.
-use Rattle.std.proofs.Common.{◌≡◌, ℕ, List, [], ◌∷◌, ◌++◌, Option, Some, None, Bool, true, refl, ap}
+use Rattle.std.proofs.Common.{◌≡◌, ℕ, List, [], ◌∷◌, ◌++◌, Option, Some, None, Bool, true, false, refl, ap}
 use Rattle.std.specs.Prelude.{not, get_or, map, fold, is_some, nat_le, length}
 use Rattle.px_types.specs.declared.ids.ConnId.{ConnId}
 use Rattle.px_types.specs.declared.error_code.ErrorCode.TheVariants.{Access, BadState, Busy, Invalid, NoEntity, Version}
