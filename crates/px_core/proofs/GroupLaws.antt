@@ -26,7 +26,7 @@ use Rattle.px_plan.specs.declared.target.Target.{Target}
 use Rattle.px_plan.specs.Target.{target_of as target_in}
 use Rattle.px_ctl_play.specs.Joining.{IsReadyAt}
 use Rattle.px_ctl_play.specs.Told.{IsMemberIn}
-use Rattle.px_plan.specs.declared.change.Change.TheVariants.{Authed, Named as Renamed, Masked, Defaulted, Made, Leaves, Said, Regrouped, Asked, Answered, Gone, Ended, Forgotten}
+use Rattle.px_plan.specs.declared.change.Change.TheVariants.{Authed, Named as Renamed, Masked, Defaulted, Made, Described, Leaves, Said, Regrouped, Asked, Answered, Gone, Ended, Forgotten}
 use Rattle.px_core.specs.State.{State, has_index, input_of}
 use Rattle.px_core.specs.Change.{Change, change_first, drop_first, leaving, with_attr, moving_to, arrived_at, inputs_told, ending, ending_of, saying, saying_of, changed, committed}
 use Rattle.px_core.specs.Grouped.{channels_there, IsGroupOf, AreGrouped, is_owed, paid}
@@ -226,6 +226,7 @@ change_grouped owed state (Renamed conn list) lawful h = h
 change_grouped owed state (Masked conn mask) lawful h = h
 change_grouped owed state (Defaulted sink) lawful h = h
 change_grouped owed state (Made x m streams inputs) lawful h = made_grouped owed state.sinks state.inputs state.groups x h
+change_grouped owed state (Described index list) lawful h = h
 change_grouped owed state (Leaves index) lawful h = left_grouped owed state (input_of state.inputs index) h
 change_grouped owed state (Said index m) lawful h = said_grouped owed state (input_of state.inputs index) m h
 change_grouped owed state (Regrouped sink group m) lawful h = regrouped_grouped owed state.sinks state.inputs state.groups sink group lawful.there lawful.follows h
