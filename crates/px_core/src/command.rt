@@ -189,7 +189,7 @@ fn killed_input<P: Drop>(
     tables: &Tables<P>,
     input: Option<Input>,
     tag: u32,
-) -> Result<Plan<Msg<P>, ()>, Refusal>
+) -> Result<Plan<Msg<P>, Group>, Refusal>
     ensures { Plans result (killed_input (state_of tables.now) input tag) }
 {
     let owner = owner_of(&tables.connections, input);
