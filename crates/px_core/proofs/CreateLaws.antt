@@ -1,19 +1,20 @@
 -- The changes of CREATE are lawful.
-use Rattle.std.proofs.Common.{◌≡◌, ℕ, zero, suc, ◌<◌, ◌≤◌, List, [], ◌∷◌, ◌++◌, length, min, max, Some, Bool, true, false, refl, ap, sym, subst, ◌∙◌, arith, cond}
-use Rattle.std.specs.Prelude.{◌+◌, ◌-◌, ◌*◌, ◌/◌, ◌≢◌, not, nat_eq, nat_lt, nat_le, slice_get, slice_index}
+use Rattle.std.proofs.Common.{◌≡◌, ℕ, zero, suc, ◌<◌, ◌≤◌, List, [], ◌∷◌, ◌++◌, length, min, max, Option, Some, None, Bool, true, false, refl, ap, sym, subst, ◌∙◌, arith, cond}
+use Rattle.std.specs.Prelude.{◌+◌, ◌-◌, ◌*◌, ◌/◌, ◌≢◌, not, nat_eq, nat_lt, nat_le, slice_get, slice_index, unwrap_or, IsSome}
 use Rattle.std.specs.List.{list_all}
+use Rattle.std.specs.Option.{option_map}
 use Rattle.std.proofs.lemmas.Bool.{cond_both, eqb-true, eqb-false, leb-true, ltb-true, and_parts, not-true, agree_below_at}
-use Rattle.std.proofs.lemmas.List.{length-replicate}
 use Rattle.std.proofs.lemmas.Option.{none-some, same_Some, slice_get_within}
+use Rattle.px_types.specs.declared.ids.InputId.{InputId}
 use Rattle.px_types.specs.declared.ids.SinkId.{SinkId}
 use Rattle.px_cmd.specs.declared.command.CreateFields.{CreateFields}
 use Rattle.px_sample.specs.declared.format.Format.{Format}
 use Rattle.px_sample.specs.declared.format.Format.TheVariants.{U8, Alaw, Ulaw, S16Le, S16Be, Float32Le, Float32Be, S32Le, S32Be, S24Le, S24Be, S24In32Le, S24In32Be}
 use Rattle.px_sample.specs.declared.spec.Spec.{Spec}
 use Rattle.px_sample.specs.Format.{code_of, format_with, frame_size_of}
-use Rattle.px_chmap.specs.ChannelMap.{IsChannelMap}
 use Rattle.px_chmap.specs.Plan.{FeedsAll}
 use Rattle.px_chmap.proofs.PlanLemmas.{plan_fits}
+use Rattle.px_chmap.specs.ChannelMap.{IsChannelMap}
 use Rattle.px_session.specs.declared.header.SinkSpec.{SinkSpec}
 use Rattle.px_session.specs.HeaderRules.{IsSink, AreSinks}
 use Rattle.px_model.specs.Frame.{SampleSpec}
@@ -30,16 +31,26 @@ use Rattle.px_plan.specs.declared.target.Named.{Named}
 use Rattle.px_plan.specs.Target.{target_of as target_in}
 use Rattle.px_ctl_play.specs.Asked.{format_on, channels_on, positions_on, spec_on, attr_on, is_lawful, is_supported, feed_on, has_room, MOST_ON_SINK}
 use Rattle.px_ctl_play.specs.Create.{input_made, new_of, create}
-use Rattle.px_ctl_play.specs.Factors.{UNITY, unity}
+use Rattle.px_ctl_play.specs.Factors.{own_factors}
+use Rattle.px_ctl_play.specs.Joining.{volume_on, joined}
+use Rattle.px_flat.specs.declared.member.Member.{Member}
+use Rattle.px_flat.specs.declared.member.How.TheVariants.{Absolute}
+use Rattle.px_flat.specs.Member.{channels_of}
+use Rattle.px_flat.specs.FlatVolume.{FlatGroup, member_of, factors_of}
+use Rattle.px_flat.proofs.Inputs.{attached_in, attached_channels, attached_there, length_factors, feeds_count}
 use Rattle.px_ctl_play.proofs.Passed.{IsCreated, create_passed}
+use Rattle.px_core.specs.Command.{create_on}
+use Rattle.px_core.specs.Grouped.{channels_there, IsGroupOf}
 use Rattle.px_core.specs.Plan.{Plan}
+use Rattle.px_core.specs.Sinks.{group_of, group_named}
 use Rattle.px_core.proofs.RowLaws.{Each, each_by}
 use Rattle.px_core.proofs.Sinks.{IsThere}
 use Rattle.px_core.specs.Keeps.{IsInput, IsKept, IsRising}
 use Rattle.px_core.specs.Lawful.{IsNew}
 use Rattle.px_core.proofs.ListLaws.{all_weaken}
 use Rattle.px_core.proofs.EntryLaws.{rising_push}
-use Rattle.px_core.proofs.AnswerLaws.{IsLawful, regroups, rising_filter, all_filter}
+use Rattle.px_core.proofs.AnswerLaws.{IsLawful, regroups, is_paid, rising_filter, all_filter}
+use Rattle.px_core.proofs.GroupLaws.{made_there}
 
 -- ---- attributes as repaired
 
@@ -157,74 +168,107 @@ planned sink a feed can own asked fed =
     (subst (λ n. FeedsAll (length (positions_on sink a)) n feed) own
     (plan_fits (positions_on sink a) sink.map a.no_remap a.no_remix (Some feed) can (sym fed)))
 
-new_fits : (sink : Target) (s : SinkSpec) → sink.spec.channels ≡ s.spec.channels → (a : CreateFields) → Asked sink a → (feed : List ℕ) → FeedsAll (channels_on sink a) sink.spec.channels feed → (input : ℕ) → IsNewStream (sample_spec s.spec) (record { input = input; spec = sample_spec (spec_on sink a); feed = feed; factors = unity sink.spec.channels; attr = attr_on sink a; corked = a.corked })
-new_fits sink s same a asked feed feeds input = record {
+own_fits : (group : FlatGroup) (index : InputId) → IsSome (member_of group.members index) → length (own_factors group index) ≡ length group.reference
+own_fits group index some = step (member_of group.members index) some
+  where
+    step : (o : Option Member) → IsSome o → length (unwrap_or (option_map (factors_of group) o) []) ≡ length group.reference
+    step None some = absurd cc
+    step (Some m) some = length_factors group m
+
+new_fits : (sink : Target) (s : SinkSpec) → sink.spec.channels ≡ s.spec.channels → (a : CreateFields) → Asked sink a → (feed factors : List ℕ) → FeedsAll (channels_on sink a) sink.spec.channels feed → length factors ≡ s.spec.channels → (input : ℕ)
+    → IsNewStream (sample_spec s.spec) (record { input = input; spec = sample_spec (spec_on sink a); feed = feed; factors = factors; attr = attr_on sink a; corked = a.corked })
+new_fits sink s same a asked feed factors feeds fit input = record {
   playable = playable sink a asked;
   feed_fits = record { places = feeds.places ∙ same; channels = feeds.known };
-  factors_fit = length-replicate sink.spec.channels UNITY ∙ same;
+  factors_fit = fit;
   attr_repaired = repaired_fits (spec_on sink a) a.asked;
 }
 
 room_on : (inputs : List Input) (made : ℕ) (me : Connection) (sink : SinkId) → has_room inputs made me sink ≡ true → length (bound_for inputs sink) < MOST_ON_SINK
 room_on inputs made me sink e = ltb-true (length (bound_for inputs sink)) MOST_ON_SINK (and_parts _ _ (and_parts _ _ (and_parts _ _ e).0).0).0
 
+-- ---- the group of the sink with the new input
+
+joined_is : (sink : Target) (s : SinkSpec) (inputs : List Input) (a : CreateFields) (feed : List ℕ) (x : Input) (group : FlatGroup) → x.sink ≡ sink.index → channels_of feed ≡ x.spec.channels → IsGroupOf sink.index s inputs group
+    → IsGroupOf sink.index s (inputs ++ x ∷ []) (joined group sink a feed x)
+joined_is sink s inputs a feed x group on count is = record {
+  channels = attached_channels x.index (volume_on sink a) Absolute a.muted feed group ∙ is.channels;
+  members = λ i. attached_in x.index (volume_on sink a) Absolute a.muted feed group i
+      ∙ (λ k. is.members i k ++ cond (nat_eq x.index.0 i.0) (count k ∷ []) [])
+      ∙ sym (subst (λ (n : SinkId). channels_there (inputs ++ x ∷ []) n i ≡ channels_there inputs n i ++ cond (nat_eq x.index.0 i.0) (x.spec.channels ∷ []) []) on (made_there inputs x i));
+}
+
 -- ---- the row
 
-created_lawful : {P : Type 0} (spec_of : P → SampleSpec) (state : State P) → IsKept spec_of state → (me : Connection) (tag : ℕ) (named : Named) (a : CreateFields) (plan : Plan P) → IsCreated state.inputs state.inputs_made me tag named a plan
-    → ((target : Target) → target_in named ≡ Some target → IsThere state.sinks target) → IsLawful state plan
-created_lawful {P} spec_of state h me tag named a plan made there =
-    subst (IsLawful state) (sym made.planned)
-    ((new, refl), (regroups (changed state (Made x (new_of sink a made.feed x) (me.streams + 1) (state.inputs_made + 1))) sink.index sink.spec.channels (slice_get_within state.sinks sink.index.0 it.sink it.there) same (settled_on state.inputs sink.index ++ x ∷ []) rising, (tt, tt)))
-  where
-    sink : Target
-    sink = made.sink
+module _ {P : Type 0} (spec_of : P → SampleSpec) (state : State P) (h : IsKept spec_of state) (me : Connection) (tag : ℕ) (named : Named) (a : CreateFields) (plan : Plan P)
+    (made : IsCreated state.inputs state.inputs_made me tag named (group_named state.groups named) a plan) (it : IsThere state.sinks made.sink) where
+  abbrev x : Input
+  x = input_made state.inputs_made me made.sink a
 
-    x : Input
-    x = input_made state.inputs_made me made.sink a
+  abbrev after : FlatGroup
+  after = joined made.owner made.sink a made.feed x
 
-    it : IsThere state.sinks made.sink
-    it = there made.sink made.there
+  there : made.sink.index.0 < length state.sinks
+  there = slice_get_within state.sinks made.sink.index.0 it.sink it.there
 
-    rules : (before : List SinkSpec) × IsSink before it.sink
-    rules = sink_rules [] state.sinks made.sink.index.0 it.sink h.sinks it.there
+  owned : slice_get state.groups made.sink.index.0 ≡ Some made.owner
+  owned = sym (ap (group_of state.groups) made.there) ∙ made.owned
 
-    same : (s : SinkSpec) → slice_get state.sinks made.sink.index.0 ≡ Some s → made.sink.spec.channels ≡ s.spec.channels
-    same s e = ap (λ (t : Target). t.spec.channels) it.is ∙ ap (λ (z : SinkSpec). z.spec.channels) (same_Some it.sink s (sym it.there ∙ e))
+  rules : (before : List SinkSpec) × IsSink before it.sink
+  rules = sink_rules [] state.sinks made.sink.index.0 it.sink h.steady.sinks it.there
 
-    few : (1 ≤ made.sink.spec.channels) × (made.sink.spec.channels ≤ 32)
-    few = subst (λ (t : Target). (1 ≤ t.spec.channels) × (t.spec.channels ≤ 32)) (sym it.is) rules.1.channels
+  same : (s : SinkSpec) → slice_get state.sinks made.sink.index.0 ≡ Some s → made.sink.spec.channels ≡ s.spec.channels
+  same s e = ap (λ (t : Target). t.spec.channels) it.is ∙ ap (λ (z : SinkSpec). z.spec.channels) (same_Some it.sink s (sym it.there ∙ e))
 
-    own : length made.sink.map ≡ made.sink.spec.channels
-    own = subst (λ (t : Target). length t.map ≡ t.spec.channels) (sym it.is) rules.1.map_size
+  few : (1 ≤ made.sink.spec.channels) × (made.sink.spec.channels ≤ 32)
+  few = subst (λ (t : Target). (1 ≤ t.spec.channels) × (t.spec.channels ≤ 32)) (sym it.is) rules.1.channels
 
-    asked : Asked made.sink a
-    asked = asked_by made.sink a few own made.lawful made.supported
+  own : length made.sink.map ≡ made.sink.spec.channels
+  own = subst (λ (t : Target). length t.map ≡ t.spec.channels) (sym it.is) rules.1.map_size
 
-    feeds : FeedsAll (channels_on made.sink a) made.sink.spec.channels made.feed
-    feeds = planned made.sink a made.feed (subst (λ (t : Target). IsChannelMap t.map) (sym it.is) rules.1.map) own asked made.fed
+  asked : Asked made.sink a
+  asked = asked_by made.sink a few own made.lawful made.supported
 
-    new : IsNew state x (new_of sink a made.feed x)
-    new = record {
-      next = refl;
-      way = refl;
-      standing = refl;
-      is = record {
-        given = omega arith;
-        sink_there = slice_get_within state.sinks made.sink.index.0 it.sink it.there;
-        goes_there = tt;
-        playable = playable made.sink a asked;
-        repaired = repaired_fits (spec_on made.sink a) a.asked;
-      };
-      room = room_on state.inputs state.inputs_made me made.sink.index made.room;
-      brings = λ s e. (refl, refl, new_fits made.sink s (same s e) a asked made.feed feeds state.inputs_made);
-    }
+  feeds : FeedsAll (channels_on made.sink a) made.sink.spec.channels made.feed
+  feeds = planned made.sink a made.feed (subst (λ (t : Target). IsChannelMap t.map) (sym it.is) rules.1.map) own asked made.fed
 
-    rising : IsRising (settled_on state.inputs sink.index ++ x ∷ [])
-    rising = rising_push (settled_on state.inputs made.sink.index) x (rising_filter (is_settled made.sink.index) state.inputs h.rising) (all_filter (λ y. (Input.index y).0 < state.inputs_made) (is_settled made.sink.index) state.inputs
-        (all_weaken (IsInput state.sinks state.inputs_made) (λ y. (Input.index y).0 < state.inputs_made) (λ y i. i.given) state.inputs h.inputs))
+  follows : (s : SinkSpec) → slice_get state.sinks made.sink.index.0 ≡ Some s → IsGroupOf made.sink.index s (state.inputs ++ x ∷ []) after
+  follows s e =
+      joined_is made.sink s state.inputs a made.feed x made.owner refl (feeds_count (channels_on made.sink a) made.sink.spec.channels made.feed asked.channels.0 feeds)
+      (h.grouped.each made.sink.index.0 s made.owner e owned refl)
+
+  fit : (s : SinkSpec) → slice_get state.sinks made.sink.index.0 ≡ Some s → length (own_factors after x.index) ≡ s.spec.channels
+  fit s e = own_fits after x.index (attached_there x.index (volume_on made.sink a) Absolute a.muted made.feed made.owner) ∙ (follows s e).channels
+
+  new : IsNew state x (new_of a after made.feed x)
+  new = record {
+    next = refl;
+    way = refl;
+    standing = refl;
+    is = record {
+      given = omega arith;
+      sink_there = there;
+      goes_there = tt;
+      playable = playable made.sink a asked;
+      repaired = repaired_fits (spec_on made.sink a) a.asked;
+    };
+    room = room_on state.inputs state.inputs_made me made.sink.index made.room;
+    brings = λ s e. (refl, refl, new_fits made.sink s (same s e) a asked made.feed (own_factors after x.index) feeds (fit s e) state.inputs_made);
+  }
+
+  rising : IsRising (settled_on state.inputs made.sink.index ++ x ∷ [])
+  rising = rising_push (settled_on state.inputs made.sink.index) x (rising_filter (is_settled made.sink.index) state.inputs h.steady.rising) (all_filter (λ y. (Input.index y).0 < state.inputs_made) (is_settled made.sink.index) state.inputs
+      (all_weaken (IsInput state.sinks state.inputs_made) (λ y. (Input.index y).0 < state.inputs_made) (λ y i. i.given) state.inputs h.steady.inputs))
+
+  created_lawful : IsLawful state plan
+  created_lawful =
+      subst (IsLawful state) (sym made.planned)
+      ((new, refl), (regroups (changed state (Made x (new_of a after made.feed x) (me.streams + 1) (state.inputs_made + 1))) made.sink.index after there follows (settled_on state.inputs made.sink.index ++ x ∷ []) rising, (tt, is_paid made.sink.index)))
 
 pub create_lawful : {P : Type 0} (spec_of : P → SampleSpec) (state : State P) → IsKept spec_of state → (me : Connection) (tag : ℕ) (named : Named) (a : CreateFields) → ((target : Target) → target_in named ≡ Some target → IsThere state.sinks target)
-    → Each (IsLawful state) (create state.inputs state.inputs_made me tag named a)
+    → Each (IsLawful state) (create_on state me tag a named)
 create_lawful {P} spec_of state h me tag named a there =
-    each_by (IsLawful state) (create state.inputs state.inputs_made me tag named a)
-    (λ plan e. created_lawful spec_of state h me tag named a plan (create_passed state.inputs state.inputs_made me tag named a plan e) there)
+    each_by (IsLawful state) (create_on state me tag a named)
+    (λ plan e.
+    let made = create_passed state.inputs state.inputs_made me tag named (group_named state.groups named) a plan e in
+    created_lawful spec_of state h me tag named a plan made (there made.sink made.there))

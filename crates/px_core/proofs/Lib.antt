@@ -9,6 +9,7 @@ pub mod InStepLaws
 pub mod GoingLaws
 pub mod ChangeLaws
 pub mod MoveLaws
+pub mod GroupLaws
 pub mod HandingLaws
 pub mod VerbLaws
 pub mod RowLaws
@@ -17,6 +18,7 @@ pub mod AnswerLaws
 pub mod KillLaws
 pub mod SweepLaws
 pub mod CreateLaws
+pub mod VolumeLaws
 pub mod StreamLaws
 pub mod StepLaws
 pub mod ParcelLaws

@@ -1,7 +1,7 @@
 //! Changes are made, one after the other, in room that was reserved for them.
 
 ghost use Rattle.std.specs.Prelude.{◌≡◌, ◌≤◌, ◌+◌, ℕ, length, IfOk, OnOk, OnErr};
-ghost use Rattle.px_plan.specs.declared.change.Change.TheVariants.{Made, Described, Leaves, Said, Asked, Answered, Gone};
+ghost use Rattle.px_plan.specs.declared.change.Change.TheVariants.{Made, Described, Leaves, Said, Regrouped, Asked, Answered, Gone};
 ghost use Rattle.px_core.specs.Change.{changed, committed, defaulted, inputs_told, posting, saying, ending};
 ghost use Rattle.px_core.specs.Plan.{plan_effects};
 ghost use Rattle.px_core.specs.Step.{answered};
@@ -9,8 +9,10 @@ ghost use Rattle.px_core.specs.Tables.{state_of, HasRoom, HavePlaces};
 
 use crate::change::CoreChange;
 use crate::effects::{Effects, plan_effects};
+use crate::groups::set_group;
 use crate::tables::Tables;
 use crate::{awaited, queues, verbs};
+use px_flat::Group;
 use px_inputs::InputTable;
 use px_msg::Msg;
 use px_names::Names;
@@ -137,6 +139,16 @@ fn describe<P>(tables: &mut Tables<P>, index: InputId, list: PropList)
     tables.lists.set(index, list);
 }
 
+// A sink has this group, and is to hear this.
+fn regroup<P: Drop>(tables: &mut Tables<P>, sink: SinkId, group: Group, msg: Msg<P>)
+    requires { HasRoom 1 tables.old }
+    ensures state { state_of tables.new ≡ changed (state_of tables.old) (Regrouped sink group msg) }
+    ensures room { (n : ℕ) → HasRoom (n + 1) tables.old → HasRoom n tables.new }
+{
+    set_group(&mut tables.groups, sink, group);
+    post(tables, sink, msg);
+}
+
 // A request is answered later.
 fn ask<P>(tables: &mut Tables<P>, w: Waiting)
     requires { HasRoom 1 tables.old }
@@ -195,7 +207,7 @@ fn apply<P: Drop>(tables: &mut Tables<P>, change: CoreChange<P>)
         Change::Described(index, list) => describe(tables, index, list),
         Change::Leaves(index) => leave(tables, index),
         Change::Said(index, msg) => say(tables, index, msg),
-        Change::Regrouped(sink, _group, msg) => post(tables, sink, msg),
+        Change::Regrouped(sink, group, msg) => regroup(tables, sink, group, msg),
         Change::Asked(w) => ask(tables, w),
         Change::Answered(w) => answer(tables, &w),
         Change::Gone(index) => give_up(tables, index),
@@ -224,7 +236,7 @@ pub(crate) fn finish<P: Drop>(
     alloc: Global,
     tables: &mut Tables<P>,
     asker: Option<ConnId>,
-    plan: Plan<Msg<P>, ()>,
+    plan: Plan<Msg<P>, Group>,
 ) -> Mem<Effects>
     ensures effects { IfOk result (λ effects. effects ≡ plan_effects asker plan) }
     ensures after { OnOk result (state_of tables.new ≡ answered (state_of tables.old) plan) }

@@ -23,6 +23,7 @@ use crate::effects::Effects;
 use crate::found::{connection_of, going_on};
 use crate::tables::Tables;
 use crate::verbs::mark;
+use px_flat::Group;
 use px_frame::FrameFault;
 use px_inputs::goes_on;
 use px_msg::Msg;
@@ -128,7 +129,7 @@ fn sweep<P: Drop>(
     alloc: Global,
     connections: &[Connection],
     inputs: &[Input],
-) -> Mem<Plan<Msg<P>, ()>>
+) -> Mem<Plan<Msg<P>, Group>>
     ensures { IfOk result (λ plan. plan ≡ changing (flat_map (swept inputs.now) (marked_of connections.now))) }
 {
     let changes = swept_changes(alloc, connections, inputs)?;

@@ -13,6 +13,7 @@ mod effect;
 mod effects;
 mod found;
 mod frames;
+mod groups;
 mod laws;
 mod lending;
 mod machine;
@@ -24,6 +25,7 @@ mod start;
 mod tables;
 mod targets;
 mod verbs;
+mod volumes;
 
 pub use effect::Effect;
 pub use effects::Effects;

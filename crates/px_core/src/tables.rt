@@ -1,5 +1,6 @@
 //! The tables that the core keeps its state in.
 
+use px_flat::Group;
 use px_inputs::InputTable;
 use px_msg::Msg;
 use px_names::{InputLists, Names};
@@ -23,6 +24,8 @@ pub(crate) struct Tables<P> {
     pub(crate) waiting: Vec<Waiting>,
     /// The messages that wait for each sink, in order.
     pub(crate) posted: Vec<VecDeque<Msg<P>>>,
+    /// The group of volumes of each sink.
+    pub(crate) groups: Vec<Group>,
     /// How many clients were ever made, and how many inputs.
     pub(crate) clients_made: u32,
     pub(crate) inputs_made: u32,

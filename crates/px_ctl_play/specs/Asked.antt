@@ -7,7 +7,7 @@ use Rattle.px_cmd.specs.declared.command.CreateFields.{CreateFields}
 use Rattle.px_sample.specs.declared.spec.Spec.{Spec}
 use Rattle.px_sample.specs.Format.{code_of, format_with}
 use Rattle.px_chmap.specs.Plan.{plan_of}
-use Rattle.px_vol.specs.Volume.{norm, greatest}
+use Rattle.px_vol.specs.Volume.{greatest}
 use Rattle.px_model.specs.declared.data.Attr.{Attr}
 use Rattle.px_msg.specs.Repair.{repaired}
 use Rattle.px_plan.specs.declared.input.Connection.{Connection}
@@ -63,10 +63,6 @@ is_supported sink a =
 -- the stream channel that feeds each of the sink's channels, by its channel map there, where there is a plan
 abbrev pub feed_on : Target → CreateFields → Option (List ℕ)
 feed_on sink a = plan_of (positions_on sink a) sink.map a.no_remap a.no_remix
-
--- one that isn't muted, at the volume that leaves the sound as it is
-abbrev pub is_built : CreateFields → Bool
-is_built a = not a.muted && list_all (λ v. nat_eq v norm) a.volume
 
 -- ---- the room for it
 

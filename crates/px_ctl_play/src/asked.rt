@@ -1,10 +1,11 @@
 //! What a stream is that a client asks for, and what it becomes on its sink.
 
-ghost use Rattle.std.specs.Prelude.{◌≡◌, ◌≤◌, true, nat_le, length, All};
+ghost use Rattle.std.specs.Prelude.{◌≡◌, ◌≤◌, ◌⊎◌, true, nat_le, length, All, IfSome};
 ghost use Rattle.std.specs.List.{list_all};
 ghost use Rattle.px_sample.specs.Format.{format_with};
 ghost use Rattle.px_chmap.specs.ChannelMap.{IsChannelMap};
-ghost use Rattle.px_vol.specs.Volume.{greatest};
+ghost use Rattle.px_chmap.specs.Plan.{FeedsAll};
+ghost use Rattle.px_vol.specs.Volume.{IsChannelVolume, greatest};
 ghost use Rattle.px_model.specs.Orderly.{IsRepaired};
 ghost use Rattle.px_msg.specs.Repair.{IsWithinBytes};
 ghost use Rattle.px_plan.specs.Target.{IsTarget};
@@ -50,14 +51,17 @@ fn is_map(spec: RawSpec, positions: &[u8]) -> bool
 
 // Volumes, none above the greatest.
 fn are_in_range(volumes: &[u32]) -> bool
-    ensures { result ≡ list_all (λ v. nat_le v greatest) volumes.now }
+    ensures value { result ≡ list_all (λ v. nat_le v greatest) volumes.now }
+    ensures bounded { result ≡ true → All (λ v. v ≤ greatest) volumes.now }
 {
     volumes.iter().all(|v| *v <= MAX)
 }
 
 // Volumes of all channels, or one for all of them.
 fn are_volumes(spec: RawSpec, volumes: &[u32]) -> bool
-    ensures { result ≡ are_volumes spec volumes.now }
+    ensures value { result ≡ are_volumes spec volumes.now }
+    ensures bounded { result ≡ true → All (λ v. v ≤ greatest) volumes.now }
+    ensures length { result ≡ true → (length volumes.now ≡ 1) ⊎ (length volumes.now ≡ spec.channels) }
 {
     (volumes.len() == 1 || volumes.len() == spec.channels as usize) && are_in_range(volumes)
 }
@@ -69,6 +73,8 @@ pub(crate) fn is_lawful(a: &CreateFields) -> bool
     ensures some { result ≡ true → 1 ≤ a.now.spec.channels }
     ensures few { result ≡ true → a.now.spec.channels ≤ 32 }
     ensures map { result ≡ true → IsChannelMap a.now.map }
+    ensures length { result ≡ true → a.now.spec.channels ≡ length a.now.map }
+    ensures volume { result ≡ true → IsChannelVolume a.now.volume }
 {
     is_spec(a.spec) && is_map(a.spec, a.map.as_slice()) && are_volumes(a.spec, a.volume.as_slice())
 }
@@ -95,8 +101,8 @@ pub(crate) fn rate_on(sink: &Target, a: &CreateFields) -> u32
     }
 }
 
-// How many channels it has on a sink: as many as the sink where the client says so.
-fn channels_on(sink: &Target, a: &CreateFields) -> u8
+/// How many channels it has on a sink: as many as the sink where the client says so. Takes no memory.
+pub(crate) fn channels_on(sink: &Target, a: &CreateFields) -> u8
     ensures { result ≡ channels_on sink.now a.now }
 {
     if a.fix_channels {
@@ -134,7 +140,8 @@ fn map_on(sink: &Target, a: &CreateFields) -> Map
 /// (own: PulseAudio mixes channels there). Takes no memory.
 pub(crate) fn feed_on(sink: &Target, a: &CreateFields) -> Option<Feed>
     requires { IsChannelMap a.now.map }
-    ensures { result ≡ feed_on sink.now a.now }
+    ensures value { result ≡ feed_on sink.now a.now }
+    ensures fits { IfSome result (FeedsAll (length (positions_on sink.now a.now)) (length sink.now.map)) }
 {
     plan(&map_on(sink, a), &sink.map, a.no_remap, a.no_remix)
 }

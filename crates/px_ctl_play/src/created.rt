@@ -1,6 +1,7 @@
 //! What is told of a new stream: to its sink, and to the client that made it.
 
-ghost use Rattle.std.specs.Prelude.{◌≡◌, ◌≤◌, IfOk};
+ghost use Rattle.std.specs.Prelude.{◌≡◌, ◌≤◌, IsSome, IfOk};
+ghost use Rattle.px_flat.specs.FlatVolume.{member_of};
 ghost use Rattle.px_model.specs.Orderly.{IsRepaired};
 ghost use Rattle.px_msg.specs.Repair.{IsWithinBytes};
 ghost use Rattle.px_reply.specs.Message.{created_reply};
@@ -8,10 +9,11 @@ ghost use Rattle.px_plan.specs.Target.{IsTarget};
 ghost use Rattle.px_ctl_play.specs.Create.{new_of, latency_of, raw_of, created_of};
 
 use crate::asked::positions_on;
-use crate::factors::unity;
+use crate::factors::own_factors;
 use crate::time::microseconds;
 use px_chmap::Feed;
 use px_cmd::CreateFields;
+use px_flat::Group;
 use px_msg::{Msg, NewStream, in_bytes};
 use px_plan::{Input, Target};
 use px_reply::Created;
@@ -19,16 +21,17 @@ use px_sample::Spec;
 use px_tag::{Packet, RawMap, RawSpec};
 use std::alloc::Global;
 
-/// The message that brings a stream to its sink, where these of its channels feed the sink's. Takes no memory.
-pub(crate) fn new_of<P>(sink: &Target, a: &CreateFields, feed: Feed, x: &Input) -> Msg<P>
-    requires { IsTarget sink.now }
-    ensures { result ≡ new_of sink.now a.now feed x.now }
+/// The message that brings a stream to its sink, where these of its channels feed the sink's and this is the sink's group, in
+/// which it is. Takes no memory.
+pub(crate) fn new_of<P>(a: &CreateFields, group: &Group, feed: Feed, x: &Input) -> Msg<P>
+    requires { IsSome (member_of group.now.members x.now.index) }
+    ensures { result ≡ new_of a.now group.now feed x.now }
 {
     Msg::New(NewStream {
         input: x.index,
         spec: x.spec,
         feed,
-        factors: unity(sink.spec.channels),
+        factors: own_factors(group, x.index),
         attr: x.attr,
         corked: a.corked,
     })

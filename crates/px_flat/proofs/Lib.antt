@@ -4,3 +4,4 @@ pub mod EachOne
 pub mod Kept
 pub mod Volumes
 pub mod TrueTo
+pub mod Inputs
