@@ -15,6 +15,7 @@ pub mod VerbLaws
 pub mod RowLaws
 pub mod Going
 pub mod AnswerLaws
+pub mod KillLaws
 pub mod SweepLaws
 pub mod CreateLaws
 pub mod StreamLaws

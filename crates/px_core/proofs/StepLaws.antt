@@ -37,13 +37,13 @@ use Rattle.px_plan.specs.declared.input.Input.{Input}
 use Rattle.px_plan.specs.Plan.{Planned, idle, telling}
 use Rattle.px_plan.specs.Row.{Row, check, present}
 use Rattle.px_plan.specs.Target.{target_of}
-use Rattle.px_ctl_info.specs.Clients.{SERVER_VERSION, version_in, auth}
+use Rattle.px_ctl_info.specs.Clients.{SERVER_VERSION, version_in, auth, connection_with}
 use Rattle.px_ctl_info.specs.Properties.{list_of, mode_of, has_keys}
 use Rattle.px_ctl_info.specs.Sinks.{sink_called}
 use Rattle.px_ctl_play.specs.declared.told.News.{News}
 use Rattle.px_ctl_play.specs.declared.told.News.TheVariants as news
 use Rattle.px_ctl_play.specs.Told.{message_of, told}
-use Rattle.px_core.specs.State.{State, new_state, goes_on, connection_of, stream_of}
+use Rattle.px_core.specs.State.{State, new_state, goes_on, connection_of, input_numbered, stream_of}
 use Rattle.px_core.specs.Command.{default_sink, row, read_answer, is_barred, is_waiting_for_work, command_answer, head_answer}
 use Rattle.px_core.specs.Connecting.{is_full, new_connection, joined, connected, ended, going_on}
 use Rattle.px_core.specs.Notice.{input_on, owner_of, told_of, notice_answer}
@@ -62,6 +62,7 @@ use Rattle.px_core.proofs.Sinks.{named_there}
 use Rattle.px_core.proofs.AnswerLaws.{IsLawful, data_lawful, left_lawful}
 use Rattle.px_core.proofs.StreamLaws.{cork_lawful, flush_lawful, trigger_lawful, prebuf_lawful, attributes_lawful, drain_lawful, latency_lawful, delete_lawful, drained_lawful, measured_lawful}
 use Rattle.px_core.proofs.SweepLaws.{sweep_lawful}
+use Rattle.px_core.proofs.KillLaws.{kill_client_lawful, kill_input_lawful}
 use Rattle.px_core.proofs.CreateLaws.{create_lawful}
 
 -- ---- a new state
@@ -113,6 +114,9 @@ row_lawful spec_of state h me tag commands.ClientInfoList = tt
 row_lawful spec_of state h me tag (commands.UpdateClient mode list) = each_then (IsLawful state) (present (mode_of mode) Invalid) _ (λ known. (tt, tt))
 row_lawful spec_of state h me tag (commands.RemoveClient keys) =
     each_then (IsLawful state) (check (has_keys (list_of (client_on state.names.clients me.conn)) keys) NoEntity) _ (λ there. (tt, tt))
+row_lawful spec_of state h me tag (commands.KillClient client) = kill_client_lawful state h.distinct client tag (connection_with state.connections client) refl
+row_lawful spec_of state h me tag (commands.KillInput input) =
+    kill_input_lawful state (input_numbered state.inputs input) (owner_of state.connections (input_numbered state.inputs input)) state.waiting tag
 row_lawful spec_of state h me tag _ = tt
 
 requested_lawful : {P : Type 0} (state : State P) (tag : ℕ) (given : Row (Plan P)) → Each (IsLawful state) given → IsLawful state (requested tag given)

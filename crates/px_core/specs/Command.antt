@@ -18,7 +18,7 @@ use Rattle.px_plan.specs.declared.refusal.Refusal.TheVariants.{Code}
 use Rattle.px_plan.specs.declared.target.Named.{Named}
 use Rattle.px_plan.specs.Plan.{idle}
 use Rattle.px_plan.specs.Row.{Row}
-use Rattle.px_ctl_info.specs.Clients.{auth, set_client_name, client_info, client_infos}
+use Rattle.px_ctl_info.specs.Clients.{auth, set_client_name, client_info, client_infos, connection_with, kill_client}
 use Rattle.px_ctl_info.specs.Lists.{empty_list}
 use Rattle.px_ctl_info.specs.Properties.{update_client, remove_client}
 use Rattle.px_ctl_info.specs.Sinks.{lookup_sink, set_default_sink, server_info}
@@ -27,8 +27,10 @@ use Rattle.px_ctl_play.specs.Control.{cork, flush, trigger, prebuf}
 use Rattle.px_ctl_play.specs.Create.{create}
 use Rattle.px_ctl_play.specs.Delete.{delete}
 use Rattle.px_ctl_play.specs.Drain.{drain}
+use Rattle.px_ctl_play.specs.Kill.{kill_input}
 use Rattle.px_ctl_play.specs.Latency.{latency}
-use Rattle.px_core.specs.State.{State, stream_of}
+use Rattle.px_core.specs.State.{State, stream_of, input_numbered}
+use Rattle.px_core.specs.Notice.{owner_of}
 use Rattle.px_core.specs.Plan.{Plan, refused, requested, broken_off}
 use Rattle.px_core.specs.Sinks.{rate_of, depth_of, sink_of, named_as, named_by}
 
@@ -42,7 +44,7 @@ abbrev pub is_built : ℕ → Bool
 is_built command =
     nat_eq command 3 || nat_eq command 4 || nat_eq command 8 || nat_eq command 9 || nat_eq command 10 || nat_eq command 12 || nat_eq command 14
     || nat_eq command 20 || nat_eq command 24 || nat_eq command 26 || nat_eq command 27 || nat_eq command 28 || nat_eq command 32 || nat_eq command 34
-    || nat_eq command 41 || nat_eq command 42 || nat_eq command 43 || nat_eq command 44 || nat_eq command 60 || nat_eq command 72
+    || nat_eq command 41 || nat_eq command 42 || nat_eq command 43 || nat_eq command 44 || nat_eq command 48 || nat_eq command 49 || nat_eq command 60 || nat_eq command 72
     || nat_eq command 82 || nat_eq command 85 || nat_eq command 89
 
 abbrev pub is_waiting_for_work : ℕ → Bool
@@ -58,6 +60,10 @@ new_attributes state stream asked tag = attributes stream (depth_of (sink_of sta
 -- the default sink, as a command sees it
 abbrev pub default_sink : {P : Type 0} → State P → Named
 default_sink state = named_as state.sinks (sink_named state.names NO_INDEX None true)
+
+-- an input ends, whose connection is told so where that goes on
+abbrev pub killed_input : {P : Type 0} → State P → Option Input → ℕ → Row (Plan P)
+killed_input state input tag = kill_input input (owner_of state.connections input) state.waiting tag
 
 -- a command's row: what it gives on the parts of the state that it reads
 abbrev pub row : {P : Type 0} → State P → Connection → ℕ → Command → Row (Plan P)
@@ -88,8 +94,8 @@ row state me tag (commands.SinkMute sink on) = not_built
 row state me tag (commands.InputMute input on) = not_built
 row state me tag (commands.DefaultSink name) = set_default_sink state.names tag name
 row state me tag (commands.StreamName stream name) = not_built
-row state me tag (commands.KillClient client) = not_built
-row state me tag (commands.KillInput input) = not_built
+row state me tag (commands.KillClient client) = kill_client (connection_with state.connections client) tag
+row state me tag (commands.KillInput input) = killed_input state (input_numbered state.inputs input) tag
 row state me tag (commands.Move input sink) = not_built
 row state me tag (commands.UpdateStream stream mode list) = not_built
 row state me tag (commands.UpdateClient mode list) = update_client (client_on state.names.clients me.conn) me tag mode list

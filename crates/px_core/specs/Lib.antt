@@ -5,9 +5,9 @@ pub mod Tables
 pub mod Change
 pub mod Plan
 pub mod Sinks
-pub mod Command
 pub mod Connecting
 pub mod Notice
+pub mod Command
 pub mod Out
 pub mod Lending
 pub mod Step

@@ -11,23 +11,27 @@ ghost use Rattle.std.specs.List.{AllByRecursion};
 ghost use Rattle.std.specs.Option.{option_map};
 ghost use Rattle.px_core.specs.Keeps.{IsInput};
 ghost use Rattle.px_core.specs.Sinks.{named_by};
-ghost use Rattle.px_core.specs.State.{stream_of};
+ghost use Rattle.px_core.specs.State.{stream_of, input_numbered};
 ghost use Rattle.px_core.specs.Tables.{state_of};
-ghost use Rattle.px_core.specs.Command.{is_built, is_waiting_for_work, is_barred, new_attributes, default_sink, row, read_answer, command_answer, packet_answer};
+ghost use Rattle.px_core.specs.Command.{is_built, is_waiting_for_work, is_barred, new_attributes, default_sink, killed_input, row, read_answer, command_answer, packet_answer};
 
 use crate::found::copied;
+use crate::notice::owner_of;
 use crate::plan::{broken_off, refused, requested};
+use crate::standing::goes_on;
 use crate::tables::Tables;
 use crate::targets::{default_sink, depth_of, named_by, rate_of, sink_of};
 use px_cmd::{CmdFault, Command, CreateFields, Text, is_command, read_command, read_head};
 use px_ctl_info::{
-    SERVER_VERSION, auth, client_info, client_infos, empty_list, lookup_sink, remove_client,
-    server_info, set_client_name, set_default_sink, update_client,
+    SERVER_VERSION, auth, client_info, client_infos, connection_with, empty_list, kill_client,
+    lookup_sink, remove_client, server_info, set_client_name, set_default_sink, update_client,
 };
-use px_ctl_play::{attributes, cork, create, delete, drain, flush, latency, prebuf, trigger};
+use px_ctl_play::{
+    attributes, cork, create, delete, drain, flush, kill_input, latency, prebuf, trigger,
+};
 use px_msg::Msg;
 use px_plan::{Connection, Input, Plan, Refusal};
-use px_types::{ErrorCode, Mem, NoMemory};
+use px_types::{ErrorCode, InputId, Mem, NoMemory};
 use std::alloc::Global;
 
 /// The number of AUTH.
@@ -56,6 +60,8 @@ fn is_built(command: u32) -> bool
             | 42
             | 43
             | 44
+            | 48
+            | 49
             | 60
             | 72
             | 82
@@ -140,6 +146,29 @@ fn server<P: Drop>(alloc: Global, tables: &Tables<P>, tag: u32) -> Result<Plan<M
     server_info(alloc, named, tag, SERVER_VERSION)
 }
 
+// The input with an index, where it goes on.
+fn input_numbered<P>(tables: &Tables<P>, index: u32) -> Option<Input>
+    ensures { result ≡ input_numbered tables.now.inputs.items index }
+{
+    match tables.inputs.input_of(InputId(index)) {
+        Some(x) if goes_on(&x) => Some(x),
+        _ => None,
+    }
+}
+
+// An input ends, whose connection is told so where that goes on.
+fn killed_input<P: Drop>(
+    alloc: Global,
+    tables: &Tables<P>,
+    input: Option<Input>,
+    tag: u32,
+) -> Result<Plan<Msg<P>, ()>, Refusal>
+    ensures { Plans result (killed_input (state_of tables.now) input tag) }
+{
+    let owner = owner_of(&tables.connections, input);
+    kill_input(alloc, input, owner, &tables.waiting, tag)
+}
+
 // A command's row: what it gives on the parts of the state that it reads.
 fn row<P: Drop>(
     alloc: Global,
@@ -201,6 +230,12 @@ fn row<P: Drop>(
             remove_client(alloc, client, me, tag, &keys)
         }
         Command::ServerInfo => server(alloc, tables, tag),
+        Command::KillClient { client } => {
+            kill_client(alloc, connection_with(&tables.connections, client), tag)
+        }
+        Command::KillInput { input } => {
+            killed_input(alloc, tables, input_numbered(tables, input), tag)
+        }
         Command::SinkInfo { .. }
         | Command::SinkInfoList
         | Command::InputInfo { .. }
@@ -211,8 +246,6 @@ fn row<P: Drop>(
         | Command::SinkMute { .. }
         | Command::InputMute { .. }
         | Command::StreamName { .. }
-        | Command::KillClient { .. }
-        | Command::KillInput { .. }
         | Command::Move { .. }
         | Command::UpdateStream { .. }
         | Command::RemoveStream { .. } => Err(Refusal::Code(ErrorCode::NotImplemented)),

@@ -19,8 +19,8 @@ use px_plan::{Connection, Input, Plan};
 use px_types::{Mem, SinkId};
 use std::alloc::Global;
 
-// The connection of an input, where both are there and it goes on.
-fn owner_of(connections: &[Connection], input: Option<Input>) -> Option<Connection>
+/// The connection of an input, where both are there and it goes on. Takes no memory.
+pub(crate) fn owner_of(connections: &[Connection], input: Option<Input>) -> Option<Connection>
     ensures { result ≡ owner_of connections.now input }
 {
     match input {

@@ -1,5 +1,6 @@
 -- The commands on clients (PulseAudio: `command_auth`, `command_set_client_name`, `command_get_info`, `command_get_info_list`, `command_subscribe` and `command_kill` of pulsecore/protocol-native.c).
 use Rattle.std.specs.Prelude.{ℕ, ◌/◌, ◌%◌, ◌^◌, Bool, not, cond, ◌||◌, nat_eq, nat_le, List, [], ◌∷◌, ◌++◌, codes, map, is_some, Option, None, Some, Ok}
+use Rattle.std.specs.List.{find}
 use Rattle.px_types.specs.declared.error_code.ErrorCode.TheVariants.{Access, BadState, Invalid, NoEntity, Version}
 use Rattle.px_tag.specs.PropList.{Property, updated}
 use Rattle.px_tag.specs.declared.mode.Mode.TheVariants.{Replace}
@@ -76,6 +77,13 @@ subscribe me tag mask = do
   Ok (replied (reply_to tag) (Masked me.conn mask ∷ []))
 
 -- ---- a client is ended by another
+
+-- it is the connection of the client with an index
+abbrev pub is_of : ℕ → Connection → Bool
+is_of client c = nat_eq c.client client
+
+abbrev pub connection_with : List Connection → ℕ → Option Connection
+connection_with connections client = find (is_of client) connections
 
 -- its connection ends, where it goes on
 abbrev pub killed : {M G : Type 0} → Connection → List (Change M G)

@@ -2,11 +2,29 @@
 
 ghost use Rattle.std.specs.Prelude.{◌≡◌, IfOk};
 ghost use Rattle.px_plan.specs.Row.{Plans};
-ghost use Rattle.px_ctl_info.specs.Clients.{killed, kill_client};
+ghost use Rattle.std.specs.Option.{option_map};
+ghost use Rattle.px_ctl_info.specs.Clients.{connection_with, killed, kill_client};
 
 use px_plan::{Change, Connection, Plan, Reason, Refusal, present};
 use px_types::{ErrorCode, Mem};
 use std::alloc::Global;
+
+// The connection of the client with an index, as the table has it.
+fn found_with(connections: &[Connection], client: u32) -> Option<&Connection>
+    ensures { option_map (λ c. c.now) result ≡ connection_with connections.now client }
+{
+    connections.iter().find(|c| c.client == client)
+}
+
+/// The connection of the client with an index, where there is one. Takes no memory.
+pub fn connection_with(connections: &[Connection], client: u32) -> Option<Connection>
+    ensures { result ≡ connection_with connections.now client }
+{
+    match found_with(connections, client) {
+        None => None,
+        Some(c) => Some(*c),
+    }
+}
 
 // A connection ends, where it goes on.
 fn killed<M: Drop, G: Drop>(alloc: Global, c: Connection) -> Mem<Vec<Change<M, G>>>

@@ -10,7 +10,7 @@ mod sinks;
 mod told;
 
 pub use clients::{SERVER_VERSION, auth, set_client_name, subscribe};
-pub use kills::kill_client;
+pub use kills::{connection_with, kill_client};
 pub use lists::empty_list;
 pub use properties::{remove_client, update_client};
 pub use sinks::{lookup_sink, server_info, set_default_sink};

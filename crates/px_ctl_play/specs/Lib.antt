@@ -3,6 +3,7 @@ pub mod Asked
 pub mod Factors
 pub mod Create
 pub mod Delete
+pub mod Kill
 pub mod Data
 pub mod Control
 pub mod Attributes

@@ -30,8 +30,8 @@ pub(crate) fn asked<P: Drop>(
     Ok(Plan::changing(alloc, changes))
 }
 
-// A packet for a connection, where that is there.
-fn sent_to(alloc: Global, owner: Option<Connection>, packet: Packet) -> Mem<Vec<Sending>>
+/// A packet for a connection, where that is there.
+pub(crate) fn sent_to(alloc: Global, owner: Option<Connection>, packet: Packet) -> Mem<Vec<Sending>>
     ensures { IfOk result (λ sent. sent.items ≡ sent_to owner packet) }
 {
     let mut sent = Vec::new(alloc);

@@ -26,8 +26,8 @@ fn add_error(alloc: Global, errors: &mut Vec<Sending>, x: &Input, w: &Waiting) -
     Ok(())
 }
 
-// The errors for all requests that wait of an input, in the order in which they were asked.
-fn errors_for(alloc: Global, x: &Input, waiting: &[Waiting]) -> Mem<Vec<Sending>>
+/// The errors for all requests that wait of an input, in the order in which they were asked.
+pub(crate) fn errors_for(alloc: Global, x: &Input, waiting: &[Waiting]) -> Mem<Vec<Sending>>
     ensures { IfOk result (λ errors. errors.items ≡ errors_for x.now waiting.now) }
 {
     let mut errors = Vec::new(alloc);
