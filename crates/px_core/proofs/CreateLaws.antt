@@ -175,7 +175,7 @@ created_lawful : {P : Type 0} (spec_of : P → SampleSpec) (state : State P) →
     → ((target : Target) → target_in named ≡ Some target → IsThere state.sinks target) → IsLawful state plan
 created_lawful {P} spec_of state h me tag named a plan made there =
     subst (IsLawful state) (sym made.planned)
-    ((new, refl), (regroups (changed state (Made x (new_of sink a x) (me.streams + 1) (state.inputs_made + 1))) sink.index sink.spec.channels (slice_get_within state.sinks sink.index.0 it.sink it.there) same (settled_on state.inputs sink.index ++ x ∷ []) rising, tt))
+    ((new, refl), (regroups (changed state (Made x (new_of sink a x) (me.streams + 1) (state.inputs_made + 1))) sink.index sink.spec.channels (slice_get_within state.sinks sink.index.0 it.sink it.there) same (settled_on state.inputs sink.index ++ x ∷ []) rising, tt, tt))
   where
     sink : Target
     sink = made.sink

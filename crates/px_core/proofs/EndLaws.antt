@@ -14,7 +14,7 @@ use Rattle.px_frame.specs.declared.frame.Body.{Body}
 use Rattle.px_frame.specs.declared.frame.Body.TheVariants.{Control, Write}
 use Rattle.px_model.specs.Frame.{SampleSpec}
 use Rattle.px_msg.specs.declared.message.Msg.{Msg}
-use Rattle.px_plan.specs.declared.change.Change.TheVariants.{Authed, Named, Masked, Defaulted, Made, Leaves, Said, Regrouped, Asked, Answered, Gone, Ended, Forgotten}
+use Rattle.px_plan.specs.declared.change.Change.TheVariants.{Authed, Named, Masked, Defaulted, Made, Described, Leaves, Said, Regrouped, Asked, Answered, Gone, Ended, Forgotten}
 use Rattle.px_plan.specs.declared.sending.Reason.{Reason}
 use Rattle.px_plan.specs.declared.sending.Reason.TheVariants.{Limit}
 use Rattle.px_plan.specs.declared.sending.Sending.{Sending}
@@ -197,6 +197,7 @@ change_once conn state (Named n list) d lawful = no_end (goes_on state.connectio
 change_once conn state (Masked n mask) d lawful = no_end (goes_on state.connections conn)
 change_once conn state (Defaulted sink) d lawful = no_end (goes_on state.connections conn)
 change_once conn state (Made x m streams inputs) d lawful = omega (arith, change_goes x.conn (with_streams streams) (λ c. refl) (λ c. refl) conn state.connections)
+change_once conn state (Described index list) d lawful = no_end (goes_on state.connections conn)
 change_once conn state (Leaves index) d lawful = omega (arith, ap (λ connections. goes_on connections conn) (left_stays (input_of state.inputs index) state))
 change_once conn state (Said index m) d lawful = omega (arith, ap (λ connections. goes_on connections conn) (said_stays (input_of state.inputs index) m state))
 change_once conn state (Regrouped sink group m) d lawful = no_end (goes_on state.connections conn)

@@ -12,7 +12,7 @@ use Rattle.px_model.specs.Frame.{SampleSpec}
 use Rattle.px_model.specs.Orderly.{Inputs, IsOrderly, inputs_left, inputs_left_by}
 use Rattle.px_msg.specs.declared.message.Msg.{Msg}
 use Rattle.px_msg.specs.View.{sample_spec}
-use Rattle.px_plan.specs.declared.change.Change.TheVariants.{Authed, Named, Masked, Defaulted, Made, Leaves, Said, Regrouped, Asked, Answered, Gone, Ended, Forgotten}
+use Rattle.px_plan.specs.declared.change.Change.TheVariants.{Authed, Named, Masked, Defaulted, Made, Described, Leaves, Said, Regrouped, Asked, Answered, Gone, Ended, Forgotten}
 use Rattle.px_plan.specs.declared.input.Input.{Input}
 use Rattle.px_plan.specs.declared.input.Standing.{Standing}
 use Rattle.px_plan.specs.declared.input.Standing.TheVariants.{Settled, Moving, Leaving}
@@ -57,6 +57,7 @@ change_sinks state (Named conn list) = refl
 change_sinks state (Masked conn mask) = refl
 change_sinks state (Defaulted sink) = refl
 change_sinks state (Made x m streams inputs) = refl
+change_sinks state (Described index list) = refl
 change_sinks state (Leaves index) = ending_sinks (input_of state.inputs index) state
 change_sinks state (Said index m) = saying_sinks (input_of state.inputs index) m state
 change_sinks state (Regrouped sink group m) = refl

@@ -12,7 +12,7 @@ use Rattle.px_session.specs.HeaderRules.{IsHeader}
 use Rattle.px_model.specs.Frame.{SampleSpec}
 use Rattle.px_msg.specs.declared.message.Msg.{Msg}
 use Rattle.px_msg.specs.declared.message.Msg.TheVariants.{New, Attach, Detach, Write, Cork, Flush, Trigger, Prebuf, Drain, Attr, Factors, Query}
-use Rattle.px_plan.specs.declared.change.Change.TheVariants.{Authed, Named, Masked, Defaulted, Made, Leaves, Said, Regrouped, Asked, Answered, Gone, Ended, Forgotten}
+use Rattle.px_plan.specs.declared.change.Change.TheVariants.{Authed, Named, Masked, Defaulted, Made, Described, Leaves, Said, Regrouped, Asked, Answered, Gone, Ended, Forgotten}
 use Rattle.px_plan.specs.declared.input.Connection.{Connection}
 use Rattle.px_plan.specs.declared.input.Input.{Input}
 use Rattle.px_plan.specs.declared.input.Standing.{Standing}
@@ -133,6 +133,7 @@ module _ {P : Type 0} (whole : P → Type 0) where
   change_carries state (Made x m streams inputs) lawful h =
       let own = sink_there state.sinks x.sink.0 lawful.0.is.sink_there in
       posting_carries x.sink.0 m state (brings_none x own.0 m (lawful.0.brings own.0 own.1)) h
+  change_carries state (Described index list) lawful h = h
   change_carries state (Leaves index) lawful h = ending_carries (input_of state.inputs index) state h
   change_carries state (Said index m) lawful h = saying_carries (input_of state.inputs index) m state lawful h
   change_carries state (Regrouped sink group m) lawful h =

@@ -26,6 +26,7 @@ use Rattle.px_session.specs.declared.header.Header.{Header}
 use Rattle.px_session.specs.HeaderRules.{IsHeader}
 use Rattle.px_names.specs.Names.{Naming, same_text, sink_named}
 use Rattle.px_names.specs.Clients.{new_client, client_on, client_numbered}
+use Rattle.px_names.specs.InputLists.{list_of as list_of_input}
 use Rattle.px_model.specs.Frame.{SampleSpec}
 use Rattle.px_msg.specs.declared.notice.Notice.{Notice}
 use Rattle.px_msg.specs.declared.notice.Notice.TheVariants.{Request, Overflow, Underflow, Started, Drained, Detached, Latency}
@@ -38,7 +39,7 @@ use Rattle.px_plan.specs.Plan.{Planned, idle, telling}
 use Rattle.px_plan.specs.Row.{Row, check, present}
 use Rattle.px_plan.specs.Target.{target_of}
 use Rattle.px_ctl_info.specs.Clients.{SERVER_VERSION, version_in, auth, connection_with}
-use Rattle.px_ctl_info.specs.Properties.{list_of, mode_of, has_keys}
+use Rattle.px_ctl_info.specs.Properties.{list_of, mode_of, has_keys, name_in}
 use Rattle.px_ctl_info.specs.Sinks.{sink_called}
 use Rattle.px_ctl_play.specs.declared.told.News.{News}
 use Rattle.px_ctl_play.specs.declared.told.News.TheVariants as news
@@ -114,6 +115,13 @@ row_lawful spec_of state h me tag commands.ClientInfoList = tt
 row_lawful spec_of state h me tag (commands.UpdateClient mode list) = each_then (IsLawful state) (present (mode_of mode) Invalid) _ (λ known. (tt, tt))
 row_lawful spec_of state h me tag (commands.RemoveClient keys) =
     each_then (IsLawful state) (check (has_keys (list_of (client_on state.names.clients me.conn)) keys) NoEntity) _ (λ there. (tt, tt))
+row_lawful spec_of state h me tag (commands.StreamName stream name) =
+    each_then (IsLawful state) (present (stream_of state.inputs me.conn stream) NoEntity) _ (λ x. each_then (IsLawful state) (present (name_in name) Invalid) _ (λ text. (tt, tt)))
+row_lawful spec_of state h me tag (commands.UpdateStream stream mode list) =
+    each_then (IsLawful state) (present (stream_of state.inputs me.conn stream) NoEntity) _ (λ x. each_then (IsLawful state) (present (mode_of mode) Invalid) _ (λ known. (tt, tt)))
+row_lawful spec_of state h me tag (commands.RemoveStream stream keys) =
+    each_then (IsLawful state) (present (stream_of state.inputs me.conn stream) NoEntity) _
+    (λ x. each_then (IsLawful state) (check (has_keys (list_of_input state.lists (Input.index x)) keys) NoEntity) _ (λ there. (tt, tt)))
 row_lawful spec_of state h me tag (commands.KillClient client) = kill_client_lawful state h.distinct client tag (connection_with state.connections client) refl
 row_lawful spec_of state h me tag (commands.KillInput input) =
     kill_input_lawful state (input_numbered state.inputs input) (owner_of state.connections (input_numbered state.inputs input)) state.waiting tag

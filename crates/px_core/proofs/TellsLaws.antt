@@ -24,8 +24,9 @@ use Rattle.px_plan.specs.declared.waiting.Waiting.{Waiting}
 use Rattle.px_plan.specs.Row.{check, present}
 use Rattle.px_plan.specs.Target.{target_of}
 use Rattle.px_names.specs.Clients.{client_on, client_numbered}
+use Rattle.px_names.specs.InputLists.{list_of as list_of_input}
 use Rattle.px_ctl_info.specs.Clients.{SERVER_VERSION, version_in, auth, info_of, connection_with}
-use Rattle.px_ctl_info.specs.Properties.{list_of, mode_of, has_keys}
+use Rattle.px_ctl_info.specs.Properties.{list_of, mode_of, has_keys, name_in}
 use Rattle.px_ctl_info.specs.Sinks.{sink_called, server_of}
 use Rattle.px_ctl_play.specs.Create.{created_of, input_made, create}
 use Rattle.px_ctl_play.specs.Attributes.{attributes}
@@ -161,6 +162,13 @@ row_tells state me t commands.ClientInfoList = a_reply (clients_reply t (map inf
 row_tells {P} state me t (commands.UpdateClient mode list) = each_then (Tells {P = P}) (present (mode_of mode) Invalid) _ (λ known. a_reply (reply_to t) refl (plain_byte t))
 row_tells {P} state me t (commands.RemoveClient keys) =
     each_then (Tells {P = P}) (check (has_keys (list_of (client_on state.names.clients me.conn)) keys) NoEntity) _ (λ there. a_reply (reply_to t) refl (plain_byte t))
+row_tells {P} state me t (commands.StreamName stream name) =
+    each_then (Tells {P = P}) (present (stream_of state.inputs me.conn stream) NoEntity) _ (λ x. each_then (Tells {P = P}) (present (name_in name) Invalid) _ (λ text. a_reply (reply_to t) refl (plain_byte t)))
+row_tells {P} state me t (commands.UpdateStream stream mode list) =
+    each_then (Tells {P = P}) (present (stream_of state.inputs me.conn stream) NoEntity) _ (λ x. each_then (Tells {P = P}) (present (mode_of mode) Invalid) _ (λ known. a_reply (reply_to t) refl (plain_byte t)))
+row_tells {P} state me t (commands.RemoveStream stream keys) =
+    each_then (Tells {P = P}) (present (stream_of state.inputs me.conn stream) NoEntity) _
+    (λ x. each_then (Tells {P = P}) (check (has_keys (list_of_input state.lists (Input.index x)) keys) NoEntity) _ (λ there. a_reply (reply_to t) refl (plain_byte t)))
 row_tells {P} state me t (commands.KillClient client) = each_then (Tells {P = P}) (present (connection_with state.connections client) NoEntity) _ (λ c. a_reply (reply_to t) refl (plain_byte t))
 row_tells {P} state me t (commands.KillInput input) = each_then (Tells {P = P}) (present (input_numbered state.inputs input) NoEntity) _ (λ x. a_reply (reply_to t) refl (plain_byte t))
 row_tells state me t _ = tt

@@ -8,6 +8,8 @@ use Rattle.std.proofs.lemmas.Option.{none-some}
 use Rattle.px_types.specs.declared.ids.ConnId.{ConnId}
 use Rattle.px_types.specs.declared.ids.InputId.{InputId}
 use Rattle.px_names.specs.Names.{Naming}
+use Rattle.px_names.specs.declared.input_lists.InputList.{InputList}
+use Rattle.px_names.specs.InputLists.{with_list_of, without_list_of}
 use Rattle.px_session.specs.declared.header.SinkSpec.{SinkSpec}
 use Rattle.px_model.specs.Frame.{SampleSpec}
 use Rattle.px_model.specs.Orderly.{Inputs, IsWhole}
@@ -19,7 +21,7 @@ use Rattle.px_plan.specs.declared.input.Connection.{Connection}
 use Rattle.px_plan.specs.declared.input.Input.{Input}
 use Rattle.px_plan.specs.declared.input.Standing.{Standing}
 use Rattle.px_plan.specs.declared.input.Standing.TheVariants.{Settled, Moving, Leaving}
-use Rattle.px_plan.specs.declared.change.Change.TheVariants.{Authed, Named, Masked, Defaulted, Made, Leaves, Said, Regrouped, Asked, Answered, Gone, Ended, Forgotten}
+use Rattle.px_plan.specs.declared.change.Change.TheVariants.{Authed, Named, Masked, Defaulted, Made, Described, Leaves, Said, Regrouped, Asked, Answered, Gone, Ended, Forgotten}
 use Rattle.px_plan.specs.declared.waiting.Waiting.{Waiting}
 use Rattle.px_core.specs.State.{State, has_index, has_number, input_of, settled_on, is_as}
 use Rattle.px_core.specs.Change.{Change, change_first, drop_first, authed, marked, with_streams, with_connection, renamed, masked, defaulted, forgotten, posting, ending_of, telling, saying, saying_of, changed, committed}
@@ -51,6 +53,18 @@ pub others_keep : {P : Type 0} (spec_of : P → SampleSpec) (state : State P) �
 others_keep spec_of state h connections d names clients = record {
   sinks = h.sinks;
   distinct = d;
+  rising = h.rising;
+  inputs = h.inputs;
+  waiting = h.waiting;
+  lists = h.lists;
+  in_step = h.in_step;
+}
+
+-- and so may the lists of inputs
+listed_keeps : {P : Type 0} (spec_of : P → SampleSpec) (state : State P) → IsKept spec_of state → (lists : List InputList) → IsKept spec_of (record state { lists = lists })
+listed_keeps spec_of state h lists = record {
+  sinks = h.sinks;
+  distinct = h.distinct;
   rising = h.rising;
   inputs = h.inputs;
   waiting = h.waiting;
@@ -202,11 +216,15 @@ none_goes {A} q (x ∷ xs) e = step (none_goes q xs) (q x) e
 
 gone_follow : {P : Type 0} (spec_of : P → SampleSpec) (state : State P) → IsKept spec_of state → (index : InputId) (o : Option Input) → input_of state.inputs index ≡ o → IfSome o HasLeft → Follows spec_of state (changed state (Gone index))
 gone_follow {P} spec_of state h index None e left =
-    subst (λ (inputs : List Input). Follows spec_of state (record state { inputs = inputs })) (sym (none_goes (has_index index) state.inputs e)) (unchanged h)
+    subst (λ (inputs : List Input). Follows spec_of state (record state { inputs = inputs; lists = without_list_of index state.lists })) (sym (none_goes (has_index index) state.inputs e))
+    (same_held spec_of state (record state { lists = without_list_of index state.lists }) refl (listed_keeps spec_of state h (without_list_of index state.lists)))
 gone_follow {P} spec_of state h index (Some x) e left =
     let here = by_own state.inputs index x e in
-    subst (λ n. Follows spec_of state (record state { inputs = drop_first (has_index (record { 0 = n })) state.inputs })) (eqb-true x.index.0 index.0 (found_test (has_index index) state.inputs x e))
-    (record { keeps = gone_keeps spec_of state x h here left.standing left.way; held = gone_held state x here left.way })
+    subst (λ n. Follows spec_of state (record state { inputs = drop_first (has_index (record { 0 = n })) state.inputs; lists = without_list_of index state.lists })) (eqb-true x.index.0 index.0 (found_test (has_index index) state.inputs x e))
+    (record {
+      keeps = listed_keeps spec_of (record state { inputs = drop_first (has_index x.index) state.inputs }) (gone_keeps spec_of state x h here left.standing left.way) (without_list_of index state.lists);
+      held = gone_held state x here left.way;
+    })
 
 pub change_follows : {P : Type 0} (spec_of : P → SampleSpec) (state : State P) (c : Change P) → IsKept spec_of state → Lawful state c → Follows spec_of state (changed state c)
 change_follows spec_of state (Authed conn version) h lawful = same_held spec_of state (changed state (Authed conn version)) refl (connection_keeps spec_of state h conn (authed version) (λ d. refl))
@@ -220,6 +238,7 @@ change_follows {P} spec_of state (Made x m streams inputs) h lawful =
           (record { next = lawful.0.next; way = lawful.0.way; standing = lawful.0.standing; is = lawful.0.is; room = lawful.0.room; brings = lawful.0.brings });
       held = new_held state.inputs x lawful.0.way;
     })
+change_follows spec_of state (Described index list) h lawful = same_held spec_of state (changed state (Described index list)) refl (listed_keeps spec_of state h (with_list_of index list state.lists))
 change_follows spec_of state (Leaves index) h lawful = leaves_follow spec_of state h index (input_of state.inputs index) refl
 change_follows spec_of state (Said index m) h lawful = said_follow spec_of state h index m (input_of state.inputs index) refl lawful
 change_follows spec_of state (Regrouped sink group m) h lawful =

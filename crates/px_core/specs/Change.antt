@@ -7,6 +7,7 @@ use Rattle.px_types.specs.declared.ids.SinkId.{SinkId}
 use Rattle.px_tag.specs.PropList.{Property}
 use Rattle.px_names.specs.Clients.{is_on, change_first as change_client, without_first as without_client, with_list, with_mask}
 use Rattle.px_names.specs.Names.{Naming}
+use Rattle.px_names.specs.InputLists.{with_list_of, without_list_of}
 use Rattle.px_msg.specs.declared.message.Msg.{Msg}
 use Rattle.px_model.specs.declared.data.Attr.{Attr as Attributes}
 use Rattle.px_msg.specs.declared.message.Msg.TheVariants.{New, Attach, Detach, Write, Cork, Flush, Trigger, Prebuf, Drain, Attr, Factors, Query}
@@ -16,7 +17,7 @@ use Rattle.px_plan.specs.declared.input.Standing.{Standing}
 use Rattle.px_plan.specs.declared.input.Standing.TheVariants.{Settled, Moving, Leaving}
 use Rattle.px_plan.specs.declared.input.Way.TheVariants.{Coming}
 use Rattle.px_plan.specs.declared.change.Change.{Change as AnyChange}
-use Rattle.px_plan.specs.declared.change.Change.TheVariants.{Authed, Named, Masked, Defaulted, Made, Leaves, Said, Regrouped, Asked, Answered, Gone, Ended, Forgotten}
+use Rattle.px_plan.specs.declared.change.Change.TheVariants.{Authed, Named, Masked, Defaulted, Made, Described, Leaves, Said, Regrouped, Asked, Answered, Gone, Ended, Forgotten}
 use Rattle.px_core.specs.State.{State, has_number, has_index, input_of, is_as, waiting_of_others}
 
 -- a change with the messages of the core; a sink has no group of volumes yet
@@ -149,12 +150,13 @@ changed state (Masked conn mask) = record state { names = masked conn mask state
 changed state (Defaulted sink) = record state { names = defaulted sink state.names }
 changed state (Made x m streams inputs) =
     posting x.sink.0 m (record (with_connection x.conn (with_streams streams) state) { inputs = state.inputs ++ x ∷ []; inputs_made = inputs })
+changed state (Described index list) = record state { lists = with_list_of index list state.lists }
 changed state (Leaves index) = ending_of (input_of state.inputs index) state
 changed state (Said index m) = saying_of (input_of state.inputs index) m state
 changed state (Regrouped sink group m) = posting sink.0 m state
 changed state (Asked w) = record state { waiting = state.waiting ++ w ∷ [] }
 changed state (Answered w) = record state { waiting = drop_first (is_as w) state.waiting }
-changed state (Gone index) = record state { inputs = drop_first (has_index index) state.inputs }
+changed state (Gone index) = record state { inputs = drop_first (has_index index) state.inputs; lists = without_list_of index state.lists }
 changed state (Ended conn reason fault at) = with_connection conn marked state
 changed state (Forgotten conn) = record state {
   connections = drop_first (has_number conn) state.connections;

@@ -20,7 +20,7 @@ use Rattle.px_plan.specs.Plan.{idle}
 use Rattle.px_plan.specs.Row.{Row}
 use Rattle.px_ctl_info.specs.Clients.{auth, set_client_name, client_info, client_infos, connection_with, kill_client}
 use Rattle.px_ctl_info.specs.Lists.{empty_list}
-use Rattle.px_ctl_info.specs.Properties.{update_client, remove_client}
+use Rattle.px_ctl_info.specs.Properties.{update_client, remove_client, update_stream, remove_stream, set_stream_name}
 use Rattle.px_ctl_info.specs.Sinks.{lookup_sink, set_default_sink, server_info}
 use Rattle.px_ctl_play.specs.Attributes.{attributes}
 use Rattle.px_ctl_play.specs.Control.{cork, flush, trigger, prebuf}
@@ -44,8 +44,8 @@ abbrev pub is_built : ℕ → Bool
 is_built command =
     nat_eq command 3 || nat_eq command 4 || nat_eq command 8 || nat_eq command 9 || nat_eq command 10 || nat_eq command 12 || nat_eq command 14
     || nat_eq command 20 || nat_eq command 24 || nat_eq command 26 || nat_eq command 27 || nat_eq command 28 || nat_eq command 32 || nat_eq command 34
-    || nat_eq command 41 || nat_eq command 42 || nat_eq command 43 || nat_eq command 44 || nat_eq command 48 || nat_eq command 49 || nat_eq command 60 || nat_eq command 72
-    || nat_eq command 82 || nat_eq command 85 || nat_eq command 89
+    || nat_eq command 41 || nat_eq command 42 || nat_eq command 43 || nat_eq command 44 || nat_eq command 46 || nat_eq command 48 || nat_eq command 49 || nat_eq command 60 || nat_eq command 72
+    || nat_eq command 81 || nat_eq command 82 || nat_eq command 84 || nat_eq command 85 || nat_eq command 89
 
 abbrev pub is_waiting_for_work : ℕ → Bool
 is_waiting_for_work command = is_some (kinds_of command) && not (is_built command)
@@ -93,13 +93,13 @@ row state me tag (commands.InputVolume input volume) = not_built
 row state me tag (commands.SinkMute sink on) = not_built
 row state me tag (commands.InputMute input on) = not_built
 row state me tag (commands.DefaultSink name) = set_default_sink state.names tag name
-row state me tag (commands.StreamName stream name) = not_built
+row state me tag (commands.StreamName stream name) = set_stream_name (stream_of state.inputs me.conn stream) state.lists tag name
 row state me tag (commands.KillClient client) = kill_client (connection_with state.connections client) tag
 row state me tag (commands.KillInput input) = killed_input state (input_numbered state.inputs input) tag
 row state me tag (commands.Move input sink) = not_built
-row state me tag (commands.UpdateStream stream mode list) = not_built
+row state me tag (commands.UpdateStream stream mode list) = update_stream (stream_of state.inputs me.conn stream) state.lists tag mode list
 row state me tag (commands.UpdateClient mode list) = update_client (client_on state.names.clients me.conn) me tag mode list
-row state me tag (commands.RemoveStream stream keys) = not_built
+row state me tag (commands.RemoveStream stream keys) = remove_stream (stream_of state.inputs me.conn stream) state.lists tag keys
 row state me tag (commands.RemoveClient keys) = remove_client (client_on state.names.clients me.conn) me tag keys
 
 -- ---- the order of refusals

@@ -12,7 +12,7 @@ use Rattle.px_msg.specs.View.{sample_spec, opened, gains}
 use Rattle.px_plan.specs.declared.input.Input.{Input}
 use Rattle.px_plan.specs.declared.input.Standing.TheVariants.{Settled, Leaving}
 use Rattle.px_plan.specs.declared.input.Way.TheVariants.{Coming, Left}
-use Rattle.px_plan.specs.declared.change.Change.TheVariants.{Authed, Named, Masked, Defaulted, Made, Leaves, Said, Regrouped, Asked, Answered, Gone, Ended, Forgotten}
+use Rattle.px_plan.specs.declared.change.Change.TheVariants.{Authed, Named, Masked, Defaulted, Made, Described, Leaves, Said, Regrouped, Asked, Answered, Gone, Ended, Forgotten}
 use Rattle.px_core.specs.State.{State, input_of, bound_for}
 use Rattle.px_core.specs.Change.{Change, changed}
 use Rattle.px_core.specs.Connecting.{going_on}
@@ -91,6 +91,7 @@ Lawful state (Named conn list) = ⊤
 Lawful state (Masked conn mask) = ⊤
 Lawful state (Defaulted sink) = ⊤
 Lawful state (Made x m streams inputs) = IsNew state x m × (inputs ≡ state.inputs_made + 1)
+Lawful state (Described index list) = ⊤
 Lawful state (Leaves index) = ⊤
 Lawful state (Said index m) = IfSome (input_of state.inputs index) (λ x. Suits x m)
 Lawful state (Regrouped sink group m) = IsRegrouped state sink m

@@ -7,7 +7,7 @@ use Rattle.px_types.specs.ErrorCode.{code_of}
 use Rattle.px_tag.specs.declared.fault.TagFault.{TagFault}
 use Rattle.px_reply.specs.Front.{refusal}
 use Rattle.px_msg.specs.declared.message.Msg.{Msg}
-use Rattle.px_plan.specs.declared.change.Change.TheVariants.{Authed, Named, Masked, Defaulted, Made, Leaves, Said, Regrouped, Asked, Answered, Gone, Ended, Forgotten}
+use Rattle.px_plan.specs.declared.change.Change.TheVariants.{Authed, Named, Masked, Defaulted, Made, Described, Leaves, Said, Regrouped, Asked, Answered, Gone, Ended, Forgotten}
 use Rattle.px_plan.specs.declared.refusal.Refusal.TheVariants.{Code, NoMemory}
 use Rattle.px_plan.specs.declared.sending.Reason.{Reason}
 use Rattle.px_plan.specs.declared.sending.Reason.TheVariants.{Protocol}
@@ -44,6 +44,7 @@ closed_in (Named conn list) = []
 closed_in (Masked conn mask) = []
 closed_in (Defaulted sink) = []
 closed_in (Made x m streams inputs) = []
+closed_in (Described index list) = []
 closed_in (Leaves index) = []
 closed_in (Said index m) = []
 closed_in (Regrouped sink group m) = []

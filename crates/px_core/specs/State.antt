@@ -1,6 +1,7 @@
 -- The state of the core: the names, the sinks, the connections with their streams, the requests that are answered later, and the messages that wait for each sink (PulseAudio: `pa_core`, and `pa_native_connection` of pulsecore/protocol-native.c; that messages wait as data is own).
 use Rattle.std.specs.Prelude.{ℕ, List, [], map, filter, length, replicate}
 use Rattle.px_names.specs.Names.{Naming}
+use Rattle.px_names.specs.declared.input_lists.InputList.{InputList}
 use Rattle.px_session.specs.declared.header.Header.{Header}
 use Rattle.px_session.specs.declared.header.SinkSpec.{SinkSpec}
 use Rattle.px_msg.specs.declared.message.Msg.{Msg}
@@ -20,6 +21,8 @@ pub record State (P : Type 0) : Type 0 where
   pub connections : List Connection
   -- in rising index
   pub inputs : List Input
+  -- the property lists of the inputs
+  pub lists : List InputList
   -- the requests that are answered later, in the order in which they were asked
   pub waiting : List Waiting
   -- for each sink the messages that wait for it, in order
@@ -35,6 +38,7 @@ new_state header = record {
   sinks = header.sinks;
   connections = [];
   inputs = [];
+  lists = [];
   waiting = [];
   posted = replicate (length header.sinks) [];
   clients_made = 0;

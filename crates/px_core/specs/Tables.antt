@@ -18,6 +18,7 @@ state_of t = record {
   sinks = t.sinks;
   connections = t.connections.items;
   inputs = t.inputs.items;
+  lists = t.lists.items;
   waiting = t.waiting.items;
   posted = lists_of t.posted.items;
   clients_made = t.clients_made;
@@ -50,5 +51,6 @@ HavePlaces n queues = AllByRecursion (HasPlaces n) queues
 pub record HasRoom {P : Type 0} (n : ℕ) (t : Tables P) : Type 0 where
   pub places : length t.inputs.items + n ≤ t.inputs.places
   pub streams : n ≤ t.inputs.streams
+  pub lists : length t.lists.items + n ≤ t.lists.places
   pub waiting : length t.waiting.items + n ≤ vec_capacity t.waiting
   pub posted : HavePlaces n t.posted.items

@@ -24,7 +24,8 @@ use crate::targets::{default_sink, depth_of, named_by, rate_of, sink_of};
 use px_cmd::{CmdFault, Command, CreateFields, Text, is_command, read_command, read_head};
 use px_ctl_info::{
     SERVER_VERSION, auth, client_info, client_infos, connection_with, empty_list, kill_client,
-    lookup_sink, remove_client, server_info, set_client_name, set_default_sink, update_client,
+    lookup_sink, remove_client, remove_stream, server_info, set_client_name, set_default_sink,
+    set_stream_name, update_client, update_stream,
 };
 use px_ctl_play::{
     attributes, cork, create, delete, drain, flush, kill_input, latency, prebuf, trigger,
@@ -60,11 +61,14 @@ fn is_built(command: u32) -> bool
             | 42
             | 43
             | 44
+            | 46
             | 48
             | 49
             | 60
             | 72
+            | 81
             | 82
+            | 84
             | 85
             | 89
     )
@@ -230,6 +234,18 @@ fn row<P: Drop>(
             remove_client(alloc, client, me, tag, &keys)
         }
         Command::ServerInfo => server(alloc, tables, tag),
+        Command::StreamName { stream, name } => {
+            let stream = stream_of(tables, me, stream);
+            set_stream_name(alloc, stream, &tables.lists, tag, text_of(&name))
+        }
+        Command::UpdateStream { stream, mode, list } => {
+            let stream = stream_of(tables, me, stream);
+            update_stream(alloc, stream, &tables.lists, tag, mode, &list)
+        }
+        Command::RemoveStream { stream, keys } => {
+            let stream = stream_of(tables, me, stream);
+            remove_stream(alloc, stream, &tables.lists, tag, &keys)
+        }
         Command::KillClient { client } => {
             kill_client(alloc, connection_with(&tables.connections, client), tag)
         }
@@ -245,10 +261,7 @@ fn row<P: Drop>(
         | Command::InputVolume { .. }
         | Command::SinkMute { .. }
         | Command::InputMute { .. }
-        | Command::StreamName { .. }
-        | Command::Move { .. }
-        | Command::UpdateStream { .. }
-        | Command::RemoveStream { .. } => Err(Refusal::Code(ErrorCode::NotImplemented)),
+        | Command::Move { .. } => Err(Refusal::Code(ErrorCode::NotImplemented)),
     }
 }
 

@@ -1,7 +1,7 @@
 //! Changes are made, one after the other, in room that was reserved for them.
 
 ghost use Rattle.std.specs.Prelude.{◌≡◌, ◌≤◌, ◌+◌, ℕ, length, IfOk, OnOk, OnErr};
-ghost use Rattle.px_plan.specs.declared.change.Change.TheVariants.{Made, Leaves, Said};
+ghost use Rattle.px_plan.specs.declared.change.Change.TheVariants.{Made, Leaves, Said, Gone};
 ghost use Rattle.px_core.specs.Change.{changed, committed, defaulted, inputs_told, posting, saying, ending};
 ghost use Rattle.px_core.specs.Plan.{plan_effects};
 ghost use Rattle.px_core.specs.Step.{answered};
@@ -25,6 +25,7 @@ pub(crate) fn reserve<P>(tables: &mut Tables<P>, more: usize) -> Mem<()>
     ensures room { OnOk result (HasRoom more tables.new) }
 {
     tables.inputs.reserve(more)?;
+    tables.lists.reserve(more)?;
     tables.waiting.reserve(more)?;
     queues::reserve(&mut tables.posted, more)
 }
@@ -35,6 +36,7 @@ fn post<P: Drop>(tables: &mut Tables<P>, sink: SinkId, msg: Msg<P>)
     ensures state { state_of tables.new ≡ posting sink.0 msg (state_of tables.old) }
     ensures room { (n : ℕ) → HavePlaces (n + 1) tables.old.posted.items → HavePlaces n tables.new.posted.items }
     ensures inputs { tables.new.inputs ≡ tables.old.inputs }
+    ensures lists { tables.new.lists ≡ tables.old.lists }
     ensures waiting { tables.new.waiting ≡ tables.old.waiting }
 {
     queues::post(&mut tables.posted, sink, msg);
@@ -125,6 +127,16 @@ fn make<P: Drop>(tables: &mut Tables<P>, x: Input, new: Msg<P>, streams: u32, in
     post(tables, x.sink, new);
 }
 
+// An ended input and its property list are given up.
+fn give_up<P: Drop>(tables: &mut Tables<P>, index: InputId)
+    requires { HasRoom 1 tables.old }
+    ensures state { state_of tables.new ≡ changed (state_of tables.old) (Gone index) }
+    ensures room { (n : ℕ) → HasRoom (n + 1) tables.old → HasRoom n tables.new }
+{
+    tables.inputs.remove(index);
+    tables.lists.remove(index);
+}
+
 // A sink that is there is the default sink.
 fn make_default(names: &mut Names, sink: SinkId)
     ensures { names.new ≡ defaulted sink names.old }
@@ -153,12 +165,13 @@ fn apply<P: Drop>(tables: &mut Tables<P>, change: CoreChange<P>)
             streams,
             inputs,
         } => make(tables, input, new, streams, inputs),
+        Change::Described(index, list) => tables.lists.set(index, list),
         Change::Leaves(index) => leave(tables, index),
         Change::Said(index, msg) => say(tables, index, msg),
         Change::Regrouped(sink, _group, msg) => post(tables, sink, msg),
         Change::Asked(w) => tables.waiting.push_reserved(w),
         Change::Answered(w) => awaited::answer(&mut tables.waiting, &w),
-        Change::Gone(index) => tables.inputs.remove(index),
+        Change::Gone(index) => give_up(tables, index),
         Change::Ended { conn, .. } => verbs::mark(&mut tables.connections, conn),
         Change::Forgotten(conn) => {
             verbs::forget(&mut tables.connections, conn);

@@ -9,7 +9,7 @@ ghost use Rattle.px_core.specs.Tables.{lists_of, state_of};
 use crate::input_table::InputTable;
 use crate::tables::Tables;
 use px_msg::Msg;
-use px_names::{Names, SinkNames};
+use px_names::{InputLists, Names, SinkNames};
 use px_session::{Header, SinkSpec, SinkSpecs};
 use px_types::{Mem, Text};
 use std::alloc::Global;
@@ -74,6 +74,7 @@ pub(crate) fn new_tables<P: Drop>(alloc: Global, header: &Header) -> Mem<Tables<
         sinks: SinkSpecs::from_vec(copied_sinks(alloc, sinks)?),
         connections: Vec::new(alloc),
         inputs: InputTable::new(alloc),
+        lists: InputLists::new(alloc),
         waiting: Vec::new(alloc),
         posted: queues_for(alloc, sinks)?,
         clients_made: 0,

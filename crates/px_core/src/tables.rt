@@ -2,7 +2,7 @@
 
 use crate::input_table::InputTable;
 use px_msg::Msg;
-use px_names::Names;
+use px_names::{InputLists, Names};
 use px_plan::{Connection, Waiting};
 use px_session::SinkSpecs;
 use std::collections::VecDeque;
@@ -17,6 +17,8 @@ pub(crate) struct Tables<P> {
     pub(crate) connections: Vec<Connection>,
     /// In rising index.
     pub(crate) inputs: InputTable,
+    /// The property lists of the inputs.
+    pub(crate) lists: InputLists,
     /// The requests that are answered later, in the order in which they were asked.
     pub(crate) waiting: Vec<Waiting>,
     /// The messages that wait for each sink, in order.

@@ -1,15 +1,18 @@
--- The property lists of clients (PulseAudio: `command_update_proplist` and `command_remove_proplist` of pulsecore/protocol-native.c; that a key which isn't there refuses the whole removal is own).
-use Rattle.std.specs.Prelude.{ℕ, ◌-◌, Bool, cond, ◌&&◌, nat_eq, nat_lt, List, [], ◌∷◌, fold, length, slice_index, take, Option, None, Some, Ok}
+-- The property lists of clients and of sink inputs (PulseAudio: `command_update_proplist`, `command_remove_proplist` and `command_set_stream_name` of pulsecore/protocol-native.c; that a key which isn't there refuses the whole removal, and the most bytes of a name, are own).
+use Rattle.std.specs.Prelude.{ℕ, ◌-◌, Bool, cond, ◌&&◌, nat_eq, nat_lt, nat_le, List, [], ◌∷◌, ◌++◌, codes, fold, length, slice_index, take, Option, None, Some, Ok}
 use Rattle.std.specs.List.{list_all}
 use Rattle.px_types.specs.declared.error_code.ErrorCode.TheVariants.{Invalid, NoEntity}
 use Rattle.px_tag.specs.Item.{is_text}
-use Rattle.px_tag.specs.PropList.{Property, has_key, value_of, without, updated}
+use Rattle.px_tag.specs.PropList.{Property, has_key, value_of, with_value, without, updated}
 use Rattle.px_tag.specs.declared.mode.Mode.{Mode}
 use Rattle.px_tag.specs.declared.mode.Mode.TheVariants.{Set, Merge, Replace}
 use Rattle.px_names.specs.declared.client.Client.{Client}
+use Rattle.px_names.specs.declared.input_lists.InputList.{InputList}
+use Rattle.px_names.specs.InputLists.{list_of as list_of_input}
 use Rattle.px_reply.specs.Front.{reply_to}
-use Rattle.px_plan.specs.declared.change.Change.TheVariants.{Named}
+use Rattle.px_plan.specs.declared.change.Change.TheVariants.{Named, Described}
 use Rattle.px_plan.specs.declared.input.Connection.{Connection}
+use Rattle.px_plan.specs.declared.input.Input.{Input}
 use Rattle.px_plan.specs.Plan.{Planned, replied}
 use Rattle.px_plan.specs.Row.{Row, ◌>>=◌, check, present}
 
@@ -62,3 +65,42 @@ abbrev pub remove_client : {M G : Type 0} → Option Client → Connection → �
 remove_client client me tag keys = do
   there ← check (has_keys (list_of client) keys) NoEntity
   Ok (replied (reply_to tag) (Named me.conn (without_keys (list_of client) keys) ∷ []))
+
+-- ---- and those on a connection's stream, whose input is there and has a list among these
+
+-- UPDATE_PLAYBACK_STREAM_PROPLIST
+abbrev pub update_stream : {M G : Type 0} → Option Input → List InputList → ℕ → ℕ → List Property → Row (Planned M G)
+update_stream stream lists tag number list = do
+  x ← present stream NoEntity
+  mode ← present (mode_of number) Invalid
+  Ok (replied (reply_to tag) (Described (Input.index x) (updated mode (list_of_input lists (Input.index x)) list) ∷ []))
+
+-- REMOVE_PLAYBACK_STREAM_PROPLIST
+abbrev pub remove_stream : {M G : Type 0} → Option Input → List InputList → ℕ → List (List ℕ) → Row (Planned M G)
+remove_stream stream lists tag keys = do
+  x ← present stream NoEntity
+  there ← check (has_keys (list_of_input lists (Input.index x)) keys) NoEntity
+  Ok (replied (reply_to tag) (Described (Input.index x) (without_keys (list_of_input lists (Input.index x)) keys) ∷ []))
+
+-- the key under which a stream says its name, and the most bytes of a name
+abbrev pub STREAM_NAME : List ℕ
+STREAM_NAME = codes "media.name"
+
+abbrev pub MOST_NAME : ℕ
+MOST_NAME = 65535
+
+-- a name that a stream can have
+abbrev pub name_in : Option (List ℕ) → Option (List ℕ)
+name_in None = None
+name_in (Some name) = cond (nat_le (length name) MOST_NAME) (Some name) None
+
+-- the list with this name: its text, and a zero byte behind it
+abbrev pub with_name : List Property → List ℕ → List Property
+with_name list name = with_value list STREAM_NAME (name ++ 0 ∷ [])
+
+-- SET_PLAYBACK_STREAM_NAME
+abbrev pub set_stream_name : {M G : Type 0} → Option Input → List InputList → ℕ → Option (List ℕ) → Row (Planned M G)
+set_stream_name stream lists tag name = do
+  x ← present stream NoEntity
+  text ← present (name_in name) Invalid
+  Ok (replied (reply_to tag) (Described (Input.index x) (with_name (list_of_input lists (Input.index x)) text) ∷ []))

@@ -7,6 +7,7 @@ mod kills;
 mod lists;
 mod properties;
 mod sinks;
+mod streams;
 mod told;
 
 pub use clients::{SERVER_VERSION, auth, set_client_name, subscribe};
@@ -14,4 +15,5 @@ pub use kills::{connection_with, kill_client};
 pub use lists::empty_list;
 pub use properties::{remove_client, update_client};
 pub use sinks::{lookup_sink, server_info, set_default_sink};
+pub use streams::{remove_stream, set_stream_name, update_stream};
 pub use told::{client_info, client_infos};

@@ -55,8 +55,8 @@ fn list_of(alloc: Global, client: Option<&Client>) -> px_tag::Mem<PropList>
     }
 }
 
-// The mode with a number.
-fn mode_of(number: u32) -> Option<Mode>
+/// The mode with a number. Takes no memory.
+pub(crate) fn mode_of(number: u32) -> Option<Mode>
     ensures { result ≡ mode_of number }
 {
     match number {
@@ -67,8 +67,8 @@ fn mode_of(number: u32) -> Option<Mode>
     }
 }
 
-// Whether each key of a command is there.
-fn has_keys(list: &PropList, keys: &Keys) -> bool
+/// Whether each key of a command is there. Takes no memory.
+pub(crate) fn has_keys(list: &PropList, keys: &Keys) -> bool
     ensures { result ≡ has_keys list.now keys.now }
 {
     keys.as_slice()
@@ -76,8 +76,8 @@ fn has_keys(list: &PropList, keys: &Keys) -> bool
         .all(|key| list.contains(key.as_slice()))
 }
 
-// None of these keys is there any more.
-fn remove_all(list: &mut PropList, keys: &Keys)
+/// None of these keys is there any more. Takes no memory.
+pub(crate) fn remove_all(list: &mut PropList, keys: &Keys)
     ensures { list.new ≡ without_keys list.old keys.now }
 {
     for key in keys.as_slice() {

@@ -12,7 +12,7 @@ use Rattle.px_msg.specs.declared.message.Msg.TheVariants.{New}
 use Rattle.px_reply.specs.declared.played.Created.{Created}
 use Rattle.px_reply.specs.Message.{created_reply}
 use Rattle.px_plan.specs.declared.change.Change.{Change}
-use Rattle.px_plan.specs.declared.change.Change.TheVariants.{Made}
+use Rattle.px_plan.specs.declared.change.Change.TheVariants.{Made, Described}
 use Rattle.px_plan.specs.declared.input.Connection.{Connection}
 use Rattle.px_plan.specs.declared.input.Input.{Input}
 use Rattle.px_plan.specs.declared.input.Standing.TheVariants.{Settled}
@@ -79,10 +79,10 @@ created_of sink a x = record {
 
 -- ---- the command
 
--- the input is there, its sink gets its stream, and then the factors of all inputs on it
+-- the input is there, its sink gets its stream, and then the factors of all inputs on it; and it has the list that the client gave it
 abbrev pub changes_of : {P : Type 0} → List Input → ℕ → Connection → Target → CreateFields → Input → List (Change (Msg P) (Unit {0}))
 changes_of inputs made me sink a x =
-    Made x (new_of sink a x) (me.streams + 1) (made + 1) ∷ regrouped x.sink sink.spec.channels (settled_on inputs x.sink ++ x ∷ []) ∷ []
+    Made x (new_of sink a x) (me.streams + 1) (made + 1) ∷ regrouped x.sink sink.spec.channels (settled_on inputs x.sink ++ x ∷ []) ∷ Described x.index a.list ∷ []
 
 abbrev pub created : {P : Type 0} → List Input → ℕ → Connection → ℕ → Target → CreateFields → Input → Planned (Msg P) (Unit {0})
 created inputs made me tag sink a x = replied (created_reply tag (created_of sink a x)) (changes_of inputs made me sink a x)

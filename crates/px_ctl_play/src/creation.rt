@@ -5,6 +5,7 @@ ghost use Rattle.px_model.specs.Orderly.{IsRepaired};
 ghost use Rattle.px_msg.specs.Repair.{IsWithinBytes};
 ghost use Rattle.px_plan.specs.Row.{Plans};
 ghost use Rattle.px_plan.specs.Target.{IsTarget, IsNamed};
+ghost use Rattle.px_plan.specs.declared.change.Change.TheVariants.{Described};
 ghost use Rattle.px_ctl_play.specs.Create.{input_made, changes_of, created, create};
 
 use crate::asked::{attr_on, is_lawful, spec_on};
@@ -16,7 +17,7 @@ use px_msg::Msg;
 use px_plan::{
     Change, Connection, Input, Named, Plan, Refusal, Standing, Target, Way, check, present,
 };
-use px_types::{ErrorCode, InputId, Mem};
+use px_types::{ErrorCode, InputId, Mem, NoMemory};
 use std::alloc::Global;
 
 // The input that a connection makes on a sink.
@@ -39,6 +40,16 @@ fn input_made(made: u32, me: &Connection, sink: &Target, a: &CreateFields) -> In
         attr: attr_on(sink, a),
         way: Way::Coming,
         standing: Standing::Settled,
+    }
+}
+
+// The input has the property list that the client gave it.
+fn described<M: Drop, G: Drop>(input: InputId, a: &CreateFields) -> Mem<Change<M, G>>
+    ensures { IfOk result (λ change. change ≡ Described input a.now.list) }
+{
+    match a.list.copy() {
+        Ok(list) => Ok(Change::Described(input, list)),
+        Err(_) => Err(NoMemory),
     }
 }
 
@@ -65,6 +76,7 @@ fn changes_of<P: Drop>(
         inputs: made + 1,
     })?;
     changes.push(regrouped(alloc, x.sink, sink.spec.channels, inputs, Some(x.index))?)?;
+    changes.push(described(x.index, a)?)?;
     Ok(changes)
 }
 

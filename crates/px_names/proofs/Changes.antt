@@ -17,12 +17,12 @@ changed is change xs i d found =
     changed_at is change xs i d (p.0) (p.1) (p.2)
 
 -- an option is what a choice on b gives; where it gives nothing, b is false
-nothing : (b : Bool) (n : ℕ) → cond b (Some n) None ≡ None → b ≡ false
+pub nothing : (b : Bool) (n : ℕ) → cond b (Some n) None ≡ None → b ≡ false
 nothing true n h = absurd (search rules)
 nothing false n h = refl
 
 -- nothing is found in a longer list: neither at its head nor behind it
-behind : (b : Bool) (n len : ℕ) → nat_lt (cond (not b) (1 + n) 0) (suc len) ≡ false → (b ≡ false) × (nat_lt n len ≡ false)
+pub behind : (b : Bool) (n len : ℕ) → nat_lt (cond (not b) (1 + n) 0) (suc len) ≡ false → (b ≡ false) × (nat_lt n len ≡ false)
 behind true n len h = absurd (grind (arith, nat_tests))
 behind false n len h = (refl, grind (arith, nat_tests))
 

@@ -1,3 +1,4 @@
 pub mod Sinks
 pub mod Clients
+pub mod InputLists
 pub mod Names

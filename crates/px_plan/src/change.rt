@@ -26,6 +26,8 @@ pub enum Change<M, G> {
         streams: u32,
         inputs: u32,
     },
+    /// The property list of an input is this one.
+    Described(InputId, PropList),
     /// An input has ended. Where it was settled its sink is to give up its stream. What waited of it waits no more.
     Leaves(InputId),
     /// An input's sink is told this. Where it is told new buffer attributes, they are the input's.
@@ -36,7 +38,7 @@ pub enum Change<M, G> {
     Asked(Waiting),
     /// A request that waited is answered now: the first that is as this one waits no more.
     Answered(Waiting),
-    /// An ended input is given up.
+    /// An ended input and its property list are given up.
     Gone(InputId),
     /// A connection that goes on has ended: by the server for a reason, or by the client. Where the reason is a rule of
     /// the protocol, `fault` is the rule's number and `at` the offset in the connection's bytes; else both are 0.

@@ -2,7 +2,7 @@ use Rattle.std.proofs.Common.{arith, ◌∙◌, ap, length}
 use Rattle.std.specs.Prelude.{vec_capacity}
 use Rattle.px_core.specs.InputTable.{RoomyInputs}
 use Rattle.px_core.proofs.Waiting.{fewer_places}
-use Rattle.px_core.proofs.Rooms.{less_room, room_left}
+use Rattle.px_core.proofs.Rooms.{less_room, same_listed, room_left}
 use Rattle.px_core.proofs.commit.end.Goals as goal
 
 pub returns-in-Settled-clause-room : goal.returns-in-Settled-clause-room
@@ -16,6 +16,7 @@ returns-in-Settled-clause-room g c = λ n had.
       places = places;
       streams = omega (arith, streams, c.leave.ensures.streams);
     })
+    (same_listed c.args.tables.now.lists c.post.new.tables.lists c.post.ensures.lists)
     (record {
       len = omega (arith, ap (λ v. length v.items) c.post.ensures.waiting, c.give_up.ensures.len);
       capacity = ap (λ v. vec_capacity v) c.post.ensures.waiting ∙ c.give_up.ensures.capacity;
@@ -27,6 +28,7 @@ returns-in-Moving-clause-room g c = λ n had.
     record {
       places = omega (arith, had.places, c.leave-in-Moving.ensures.len, c.leave-in-Moving.ensures.places);
       streams = omega (arith, had.streams, c.leave-in-Moving.ensures.streams);
+      lists = omega (arith, had.lists);
       waiting = omega (arith, had.waiting, c.give_up-in-Moving.ensures.len, c.give_up-in-Moving.ensures.capacity);
       posted = fewer_places n c.args.tables.now.posted.items had.posted;
     }

@@ -1,7 +1,7 @@
 use Rattle.std.proofs.Common.{arith, ◌∙◌, ap, length}
 use Rattle.px_core.specs.InputTable.{RoomyInputs}
 use Rattle.px_core.proofs.Waiting.{fewer_places}
-use Rattle.px_core.proofs.Rooms.{less_room, same_waits, room_left}
+use Rattle.px_core.proofs.Rooms.{less_room, same_listed, same_waits, room_left}
 use Rattle.px_core.proofs.commit.tell.Goals as goal
 
 pub returns-in-Settled-clause-room : goal.returns-in-Settled-clause-room
@@ -15,6 +15,7 @@ returns-in-Settled-clause-room g c = λ n had.
       places = places;
       streams = omega (arith, streams, c.note.ensures.streams);
     })
+    (same_listed c.args.tables.now.lists c.post.new.tables.lists c.post.ensures.lists)
     (same_waits c.args.tables.now c.post.new.tables c.post.ensures.waiting)
     (c.post.ensures.room n had.posted) had
 
@@ -23,6 +24,7 @@ returns-in-Moving-clause-room g c = λ n had.
     record {
       places = omega (arith, had.places, c.note-in-Moving.ensures.len, c.note-in-Moving.ensures.places);
       streams = omega (arith, had.streams, c.note-in-Moving.ensures.streams);
+      lists = omega (arith, had.lists);
       waiting = omega (arith, had.waiting);
       posted = fewer_places n c.args.tables.now.posted.items had.posted;
     }

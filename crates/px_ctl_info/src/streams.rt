@@ -1,0 +1,126 @@
+//! The names and property lists of playback streams (PulseAudio: `command_update_proplist`, `command_remove_proplist` and
+//! `command_set_stream_name` of `pulsecore/protocol-native.c`; that a key which isn't there refuses the whole removal, and the
+//! most bytes of a name, are own).
+
+ghost use Rattle.std.specs.Prelude.{◌≡◌, ◌≤◌, ◌++◌, ◌∷◌, [], IsTrue, IfOk, IfSome, OnOk, length};
+ghost use Rattle.std.specs.Option.{option_map};
+ghost use Rattle.px_plan.specs.Row.{Plans};
+ghost use Rattle.px_plan.specs.declared.change.Change.TheVariants.{Described};
+ghost use Rattle.px_tag.specs.PropList.{with_value};
+ghost use Rattle.px_ctl_info.specs.Properties.{STREAM_NAME, update_stream, remove_stream, name_in, with_name, set_stream_name};
+
+use crate::properties::{has_keys, mode_of, remove_all};
+use px_cmd::Keys;
+use px_names::InputLists;
+use px_plan::{Change, Input, Plan, Refusal, check, present};
+use px_tag::PropList;
+use px_types::{ErrorCode, InputId, Mem};
+use std::alloc::Global;
+
+/// The most bytes of a stream's name.
+const MOST_NAME: usize = 65_535;
+
+// The property list of an input is this one.
+fn described<M: Drop, G: Drop>(
+    alloc: Global,
+    input: InputId,
+    list: PropList,
+) -> Mem<Vec<Change<M, G>>>
+    ensures { IfOk result (λ changes. changes.items ≡ Described input list ∷ []) }
+{
+    let mut changes = Vec::new(alloc);
+    changes.push(Change::Described(input, list))?;
+    Ok(changes)
+}
+
+/// UPDATE_PLAYBACK_STREAM_PROPLIST of a stream with this input, by the mode with a number. Refused: `NoEntity` where the
+/// connection has no such stream, then `Invalid` for another number than 0, 1 or 2.
+pub fn update_stream<M: Drop, G: Drop>(
+    alloc: Global,
+    stream: Option<Input>,
+    lists: &InputLists,
+    tag: u32,
+    number: u32,
+    list: &PropList,
+) -> Result<Plan<M, G>, Refusal>
+    ensures { Plans result (update_stream stream lists.now.items tag number list.now) }
+{
+    let x = present(stream, ErrorCode::NoEntity)?;
+    let mode = present(mode_of(number), ErrorCode::Invalid)?;
+    let mut made = lists.copy_of(x.index)?;
+    made.update(mode, list)?;
+    let reply = px_reply::plain(alloc, tag)?;
+    let changes = described(alloc, x.index, made)?;
+    Ok(Plan::replied(alloc, reply, changes))
+}
+
+/// REMOVE_PLAYBACK_STREAM_PROPLIST of a stream with this input. Refused: `NoEntity` where the connection has no such stream, and
+/// where one of the keys isn't there; then none is removed.
+pub fn remove_stream<M: Drop, G: Drop>(
+    alloc: Global,
+    stream: Option<Input>,
+    lists: &InputLists,
+    tag: u32,
+    keys: &Keys,
+) -> Result<Plan<M, G>, Refusal>
+    ensures { Plans result (remove_stream stream lists.now.items tag keys.now) }
+{
+    let x = present(stream, ErrorCode::NoEntity)?;
+    let mut made = lists.copy_of(x.index)?;
+    check(has_keys(&made, keys), ErrorCode::NoEntity)?;
+    remove_all(&mut made, keys);
+    let reply = px_reply::plain(alloc, tag)?;
+    let changes = described(alloc, x.index, made)?;
+    Ok(Plan::replied(alloc, reply, changes))
+}
+
+// The name that a stream is given, where it can have it.
+fn name_in(name: Option<&[u8]>) -> Option<&[u8]>
+    ensures value { option_map (λ text. text.now) result ≡ name_in (option_map (λ text. text.now) name.entry) }
+    ensures few { IfSome result (λ text. length text.now ≤ 65535) }
+{
+    match name {
+        Some(name) if name.len() <= MOST_NAME => Some(name),
+        _ => None,
+    }
+}
+
+// A text and a zero byte behind it.
+fn ended(alloc: Global, name: &[u8]) -> Mem<Vec<u8>>
+    ensures { IfOk result (λ bytes. bytes.items ≡ name.now ++ 0 ∷ []) }
+{
+    let mut bytes = Vec::new(alloc);
+    bytes.extend_from_slice(name)?;
+    bytes.push(0)?;
+    Ok(bytes)
+}
+
+// The list says this name.
+fn put_name(list: &mut PropList, name: &[u8]) -> px_tag::Mem<()>
+    requires { length name.now ≤ 65536 }
+    ensures { OnOk result (list.new ≡ with_value list.old STREAM_NAME name.now) }
+{
+    list.set(b"media.name", name)
+}
+
+/// SET_PLAYBACK_STREAM_NAME of a stream with this input: its list's `media.name` is the name and a zero byte. Refused:
+/// `NoEntity` where the connection has no such stream, then `Invalid` without a name, and for one of more than 65,535 bytes.
+pub fn set_stream_name<M: Drop, G: Drop>(
+    alloc: Global,
+    stream: Option<Input>,
+    lists: &InputLists,
+    tag: u32,
+    name: Option<&[u8]>,
+) -> Result<Plan<M, G>, Refusal>
+    ensures { Plans result (set_stream_name stream lists.now.items tag (option_map (λ name. name.now) name.entry)) }
+{
+    let x = present(stream, ErrorCode::NoEntity)?;
+    let Some(name) = name_in(name) else {
+        return Err(Refusal::Code(ErrorCode::Invalid));
+    };
+    let mut made = lists.copy_of(x.index)?;
+    put_name(&mut made, ended(alloc, name)?.as_slice())?;
+    let reply = px_reply::plain(alloc, tag)?;
+    let changes = described(alloc, x.index, made)?;
+    Ok(Plan::replied(alloc, reply, changes))
+}

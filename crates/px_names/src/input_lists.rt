@@ -1,0 +1,124 @@
+//! The property lists of sink inputs.
+
+ghost use Rattle.std.specs.Prelude.{◌≡◌, ◌+◌, ◌≤◌, [], length, vec_len, vec_capacity, IfOk, OnOk};
+ghost use Rattle.std.specs.List.{find, position};
+ghost use Rattle.std.specs.Option.{option_map};
+ghost use Rattle.px_names.specs.InputLists.{is_of, list_of, with_list_of, without_list_of};
+
+use px_tag::PropList;
+use px_types::{InputId, Mem};
+use std::alloc::Global;
+use std::marker::Model;
+
+/// What a sink input says of itself (`proplist` of `pa_sink_input`).
+#[derive(Drop)]
+pub struct InputList {
+    /// The input's index.
+    pub input: InputId,
+    pub list: PropList,
+}
+
+/// The property lists of the sink inputs, in the order in which they were made, each found by its input's index. A contract
+/// sees the lists, and how many the table holds without memory.
+#[derive(Drop)]
+pub struct InputLists {
+    lists: Vec<InputList>,
+    alloc: Global,
+}
+
+impl Model for InputLists {
+    ghost use Rattle.std.specs.Prelude.{vec_capacity};
+    ghost use Rattle.px_names.specs.InputLists.{RoomyLists};
+
+    ghost Value = { RoomyLists };
+
+    ghost view = { λ t. record { items = t.lists.items; places = vec_capacity t.lists } };
+}
+
+// The place of an input's list.
+fn place_of(lists: &[InputList], input: InputId) -> Option<usize>
+    ensures { result ≡ position (is_of input) lists.now }
+{
+    lists.iter().position(|l| l.input.0 == input.0)
+}
+
+// An input's list is this one, where it has one or there is room for one.
+fn put(lists: &mut Vec<InputList>, input: InputId, list: PropList)
+    requires { vec_len lists.old + 1 ≤ vec_capacity lists.old }
+    ensures items { lists.new.items ≡ with_list_of input list lists.old.items }
+    ensures capacity { vec_capacity lists.new ≡ vec_capacity lists.old }
+    ensures len { vec_len lists.new ≤ vec_len lists.old + 1 }
+{
+    match place_of(lists.as_slice(), input) {
+        Some(place) => lists[place].list = list,
+        None => lists.push_reserved(InputList { input, list }),
+    }
+}
+
+// An input's list is given up.
+fn drop_of(lists: &mut Vec<InputList>, input: InputId)
+    ensures items { lists.new.items ≡ without_list_of input lists.old.items }
+    ensures capacity { vec_capacity lists.new ≡ vec_capacity lists.old }
+    ensures len { vec_len lists.new ≤ vec_len lists.old }
+{
+    if let Some(place) = place_of(lists.as_slice(), input) {
+        lists.remove(place);
+    }
+}
+
+impl InputLists {
+    /// No lists. Takes no memory.
+    pub fn new(alloc: Global) -> InputLists
+        ensures { result.items ≡ [] }
+    {
+        InputLists {
+            lists: Vec::new(alloc),
+            alloc,
+        }
+    }
+
+    /// Room for so many more. The lists stay.
+    pub fn reserve(&mut self, more: usize) -> Mem<()>
+        ensures items { self.new.items ≡ self.old.items }
+        ensures places { OnOk result (length self.new.items + more ≤ self.new.places) }
+    {
+        self.lists.reserve(more)?;
+        Ok(())
+    }
+
+    // The entry of an input.
+    fn entry_of(&self, input: InputId) -> Option<&InputList>
+        ensures { option_map (λ l. l.now) result ≡ find (is_of input) self.now.items }
+    {
+        self.lists.iter().find(|l| l.input.0 == input.0)
+    }
+
+    /// The list of an input once more; empty where it has none.
+    pub fn copy_of(&self, input: InputId) -> px_tag::Mem<PropList>
+        ensures { IfOk result (λ list. list ≡ list_of self.now.items input) }
+    {
+        match self.entry_of(input) {
+            None => Ok(PropList::new(self.alloc)),
+            Some(l) => l.list.copy(),
+        }
+    }
+
+    /// The list of an input is this one, in the place of the one that it has, else behind the others. Takes no memory.
+    pub fn set(&mut self, input: InputId, list: PropList)
+        requires { length self.old.items + 1 ≤ self.old.places }
+        ensures items { self.new.items ≡ with_list_of input list self.old.items }
+        ensures len { length self.new.items ≤ length self.old.items + 1 }
+        ensures places { self.new.places ≡ self.old.places }
+    {
+        put(&mut self.lists, input, list);
+    }
+
+    /// The list of an input is given up. Takes no memory.
+    pub fn remove(&mut self, input: InputId)
+        ensures items { self.new.items ≡ without_list_of input self.old.items }
+        ensures len { length self.new.items ≤ length self.old.items }
+        ensures places { self.new.places ≡ self.old.places }
+    {
+        drop_of(&mut self.lists, input);
+    }
+}
