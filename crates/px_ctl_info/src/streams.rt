@@ -119,7 +119,8 @@ pub fn set_stream_name<M: Drop, G: Drop>(
         return Err(Refusal::Code(ErrorCode::Invalid));
     };
     let mut made = lists.copy_of(x.index)?;
-    put_name(&mut made, ended(alloc, name)?.as_slice())?;
+    let text = ended(alloc, name)?;
+    put_name(&mut made, text.as_slice())?;
     let reply = px_reply::plain(alloc, tag)?;
     let changes = described(alloc, x.index, made)?;
     Ok(Plan::replied(alloc, reply, changes))

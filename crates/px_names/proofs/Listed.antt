@@ -1,6 +1,5 @@
 -- An input's list found at a place, and the lists after it has changed.
-use Rattle.std.proofs.Common.{arith, rules, ◌≡◌, ℕ, ◌+◌, ◌<◌, nat_lt, not, Bool, true, false, cond, List, [], ◌∷◌, ◌++◌, suc, zero, length, get_or, slice_set, None, Some, refl, ap}
-use Rattle.std.proofs.lemmas.Bool.Decides.{nat_tests}
+use Rattle.std.proofs.Common.{arith, ◌≡◌, ℕ, ◌<◌, nat_lt, true, false, List, [], ◌∷◌, ◌++◌, suc, zero, length, get_or, slice_set, None, Some, refl, ap}
 use Rattle.std.proofs.lemmas.List.Quantifiers.{position-Some}
 use Rattle.std.specs.List.{position, remove, position_or_len}
 use Rattle.px_types.specs.declared.ids.InputId.{InputId}

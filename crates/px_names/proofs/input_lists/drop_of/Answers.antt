@@ -7,9 +7,9 @@ use Rattle.px_names.proofs.input_lists.drop_of.Goals as goal
 pub returns-in-Some-clause-items : goal.returns-in-Some-clause-items
 returns-in-Some-clause-items c =
     let found : position (is_of c.args.input) c.args.lists.now.items ≡ Some c.in-Some.place = rw (← c.as_slice.ensures.value) (sym c.in-Some.ensures) in
-    c.remove.ensures.items ∙ dropped (is_of c.args.input) c.args.lists.now.items c.in-Some.place c.remove.result found
+    c.remove.ensures.items ∙ dropped c.args.input c.args.lists.now.items c.in-Some.place c.remove.result found
 
 pub returns-in_default-clause-items : goal.returns-in_default-clause-items
 returns-in_default-clause-items c =
     let found : position (is_of c.args.input) c.args.lists.now.items ≡ None = rw (← c.as_slice.ensures.value) (sym c.in_default.ensures) in
-    undropped (is_of c.args.input) c.args.lists.now.items found
+    undropped c.args.input c.args.lists.now.items found

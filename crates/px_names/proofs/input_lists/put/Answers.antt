@@ -1,4 +1,4 @@
-use Rattle.std.proofs.Common.{◌≡◌, Some, None, slice_set, sym, subst, ap, ◌∙◌}
+use Rattle.std.proofs.Common.{◌≡◌, Some, None, slice_set, sym, ap, ◌∙◌}
 use Rattle.std.specs.List.{position}
 use Rattle.px_names.specs.declared.input_lists.InputList.{InputList}
 use Rattle.px_names.specs.InputLists.{is_of}
