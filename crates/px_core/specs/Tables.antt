@@ -20,6 +20,7 @@ state_of t = record {
   inputs = t.inputs.items;
   waiting = t.waiting.items;
   posted = lists_of t.posted.items;
+  groups = t.groups.items;
   clients_made = t.clients_made;
   inputs_made = t.inputs_made;
 }
