@@ -4,10 +4,11 @@
   conformance/reckon.py SESSION.session > SESSION.output
   conformance/reckon.py --dice NUMBER TURNS > SESSION.session     a long session of three streams, thrown with dice
   conformance/reckon.py --life NUMBER TURNS > SESSION.session     the same, with prebuffering and all commands of a stream's life
+  conformance/reckon.py --formats NUMBER FORMAT > SESSION.session     streams of every format to a sink of this one, with dice
 
-It keeps each sample that was ever written in a map from index to sample, and mixes each frame anew. It knows S16LE at volume 65536, the
+It keeps each sample that was ever written in a map from index to sample, and mixes each frame anew. It knows streams at volume 65536, the
 commands of a stream's life, and only sessions that are played to their end and ask for nothing that is refused but by ACCESS, BADSTATE,
-VERSION, NOENTITY and TOOLARGE."""
+VERSION, NOENTITY and TOOLARGE, and a stream that is made by INVALID and NOTSUPPORTED too."""
 
 import copy
 import os
@@ -15,14 +16,16 @@ import random
 import sys
 
 sys.dont_write_bytecode = True
-sys.path.insert(0, os.path.join(os.path.dirname(os.path.dirname(os.path.realpath(__file__))), "tools"))
+HERE = os.path.dirname(os.path.realpath(__file__))
+sys.path[:0] = [HERE, os.path.join(os.path.dirname(HERE), "tools")]
 
 import output
+import samples
 import wire
 from maker import make
 from packets import COMMANDS, read_packet
 from recording import read_session
-from words import NONE
+from words import NONE, line_of
 
 WORD = (1 << 32) - 1
 CONTROLS = ("drain", "latency", "cork", "flush", "trigger", "prebuf", "attributes")
@@ -38,10 +41,11 @@ def usec(value):
 
 
 class Stream:
-    """A stream on its sink. Indices count frames; `held` has the samples of each index that was written."""
+    """A stream on its sink. Indices count frames; `held` has the numbers of each index that was written."""
 
-    def __init__(self, owner, number, lengths, corked):
-        self.owner, self.number, self.corked = owner, number, corked
+    def __init__(self, owner, number, spec, feed, lengths, corked):
+        self.owner, self.number, self.spec, self.feed, self.corked = owner, number, spec, feed, corked
+        self.size = wire.frame_size(spec)
         self.maxlength, self.tlength, self.prebuf, self.minreq = lengths
         self.read = self.write = 0
         self.held = {}
@@ -72,6 +76,11 @@ class Stream:
     def frame(self, ahead):
         """The samples of the frame so far ahead, or None."""
         return self.held.get(self.read + ahead) if self.given(ahead + 1) > ahead else None
+
+    def share(self, ahead, width):
+        """What it adds to each channel of a sink of this width, so far ahead."""
+        frame, own = self.frame(ahead), samples.WIDTHS[self.spec[0]]
+        return frame and [samples.brought(frame[channel], own, width) for channel in self.feed]
 
     def go(self, frames):
         """Goes forward, and answers what is told of it."""
@@ -113,9 +122,11 @@ class Sink:
         self.waiting, self.notices = [], []
 
     def mix(self, ahead):
-        found = [frame for stream in self.inputs.values() if (frame := stream.frame(ahead))]
+        width = samples.WIDTHS[self.spec.spec[0]]
+        found = [share for stream in self.inputs.values() if (share := stream.share(ahead, width))]
         sums = [sum(parts) for parts in zip(*found)] or [0] * self.spec.spec[1]
-        return [min(max(value, -32768), 32767) for value in sums]
+        most = (1 << width - 1) - 1
+        return b"".join(samples.sample_of(self.spec.spec[0], min(max(value, -most - 1), most)) for value in sums)
 
     def turn(self, frames, taken):
         played = self.frames[self.consumed : self.consumed + frames]
@@ -252,8 +263,7 @@ class Server:
         elif kind == 5:
             played = self.sink.turn(event[2], event[3])
             if played:
-                sound = b"".join(value.to_bytes(2, "little", signed=True) for frame in played for value in frame)
-                self.said += b"\3\0" + len(played).to_bytes(4, "big") + sound
+                self.said += b"\3\0" + len(played).to_bytes(4, "big") + b"".join(played)
         elif kind == 6:
             for _ in range(event[3]):
                 self.notice(*self.sink.notices.pop(0))
@@ -271,13 +281,13 @@ class Server:
         elif word == "latency":
             tag, buffered, plays, then = frames
             time = self.answer(number, "latency", tag)[3]
-            size, rate = 2 * self.sink.spec.spec[1], self.sink.spec.spec[2]
+            size, rate = stream.size, self.sink.spec.spec[2]
             fields = usec(buffered * 1_000_000 // rate) + usec(0) + wire.flag(plays) + wire.time(time) * 2
             fields += eight(b"r", then.write * size) + eight(b"r", then.read * size)
             self.send(stream.owner, 2, tag, fields + eight(b"R", then.quiet * then.run * size) + eight(b"R", (not then.quiet) * then.run * size))
         else:
             code = {"request": 61, "overflow": 62, "underflow": 63, "started": 86}[word]
-            more = wire.number(2 * self.sink.spec.spec[1] * frames) if word == "request" else b""
+            more = wire.number(stream.size * frames) if word == "request" else b""
             self.send(stream.owner, code, NONE, wire.number(stream.number) + more)
 
     def hear(self, conn, data):
@@ -298,12 +308,13 @@ class Server:
 
     def data(self, conn, head, payload):
         number = self.clients[conn].streams.get(head.channel)
-        size = 2 * self.sink.spec.spec[1]
-        if number is None or len(payload) % size or head.offset % size:
+        if number is None:
             return
-        samples = [int.from_bytes(payload[at : at + 2], "little", signed=True) for at in range(0, len(payload), 2)]
-        frames = [samples[at : at + size // 2] for at in range(0, len(samples), size // 2)]
-        self.sink.waiting.append(("write", number, (head.flags & 0xFF, head.offset // size, frames)))
+        stream = self.inputs[number]
+        if len(payload) % stream.size or head.offset % stream.size:
+            return
+        frames = samples.frames_of(stream.spec[0], stream.spec[1], payload)
+        self.sink.waiting.append(("write", number, (head.flags & 0xFF, head.offset // stream.size, frames)))
 
     def packet(self, conn, packet):
         client, read = self.clients[conn], read_packet(packet)
@@ -332,15 +343,13 @@ class Server:
     def do_name(self, conn, tag, values):
         self.send(conn, 2, tag, wire.number(self.clients[conn].number))
 
-    def repaired(self, command, values):
-        """The attributes that a command asks for, in bytes: maxlength, tlength, prebuf, minreq."""
-        asked = dict(zip((name for name, _, _ in COMMANDS[command][1]), values))
-        spec = self.sink.spec
-        size = 2 * spec.spec[1]
+    def repaired(self, spec, asked):
+        """The attributes that a stream asks for, in bytes: maxlength, tlength, prebuf, minreq; and in frames."""
+        size, rate = wire.frame_size(spec), spec[2]
         whole = lambda count: max(count // size * size, size)
         maxlength = whole(min(asked["maxlength"], 4_194_304))
-        tlength = min(whole(2 * spec.spec[2] * size if asked["tlength"] == WORD else asked["tlength"]), maxlength)
-        minreq = min(whole(spec.spec[2] * 20 // 1000 * size if asked["minreq"] == WORD else asked["minreq"]), tlength)
+        tlength = min(whole(2 * rate * size if asked["tlength"] == WORD else asked["tlength"]), maxlength)
+        minreq = min(whole(rate * 20 // 1000 * size if asked["minreq"] == WORD else asked["minreq"]), tlength)
         most = tlength + size - minreq
         prebuf = most if asked["prebuf"] == WORD else min(-(-asked["prebuf"] // size) * size, most)
         return [maxlength, tlength, prebuf, minreq], [length // size for length in (maxlength, tlength, prebuf, minreq)]
@@ -348,22 +357,40 @@ class Server:
     def latency(self):
         return usec(self.sink.spec.depth * 1_000_000 // self.sink.spec.spec[2])
 
+    def cannot_be(self, spec, positions, volume):
+        """What a stream asks for can't be."""
+        code, channels, rate = spec
+        return (
+            code > 12 or not 1 <= channels <= 32 or not 1 <= rate <= 192_000
+            or len(positions) != channels or max(positions) > 50
+            or len(volume) not in (1, channels) or max(volume) > 0x7FFFFFFF
+        )
+
     def do_create(self, conn, tag, values):
-        lengths, frames = self.repaired("create", values)
-        corked = dict(zip((name for name, _, _ in COMMANDS["create"][1]), values))["corked"]
-        spec = self.sink.spec
-        going = sum(not stream.leaving for stream in self.inputs.values())
-        if going >= 256:
+        asked = dict(zip((name for name, _, _ in COMMANDS["create"][1]), values))
+        sink, (code, channels, rate), positions = self.sink.spec, values[0], list(asked["map"])
+        if self.cannot_be(values[0], positions, asked["volume"]):
+            return self.error(conn, tag, 3)
+        code = sink.spec[0] if asked["fix_format"] else code
+        rate = sink.spec[2] if asked["fix_rate"] else rate
+        if asked["fix_channels"]:
+            channels, positions = sink.spec[1], list(sink.positions)
+        feed = samples.plan(positions, list(sink.positions), asked["no_remap"], asked["no_remix"])
+        if code in (5, 6) or asked["variable_rate"] or rate != sink.spec[2] or feed is None:
+            return self.error(conn, tag, 19)
+        if sum(not stream.leaving for stream in self.inputs.values()) >= 256:
             return self.error(conn, tag, 18)
+        spec = (code, channels, rate)
+        lengths, frames = self.repaired(spec, asked)
         client, number = self.clients[conn], self.input_count
-        stream = Stream(conn, client.made, frames, corked)
+        stream = Stream(conn, client.made, spec, feed, frames, asked["corked"])
         self.inputs[number], client.streams[client.made] = stream, number
         numbers = [client.made, number, lengths[1], *lengths]
         self.input_count += 1
         client.made += 1
         self.sink.waiting += [("new", number, stream), ("factors", None, None)]
-        fields = b"".join(map(wire.number, numbers)) + wire.spec(spec.spec) + wire.channel_map(spec.positions)
-        fields += wire.number(0) + wire.text(spec.name) + wire.flag(False) + self.latency()
+        fields = b"".join(map(wire.number, numbers)) + wire.spec(spec) + wire.channel_map(positions)
+        fields += wire.number(0) + wire.text(sink.name) + wire.flag(False) + self.latency()
         return self.send(conn, 2, tag, fields)
 
     def do_stream(self, conn, tag, word, values):
@@ -376,7 +403,8 @@ class Server:
             self.waiting.append((number, word, tag, *values[1:]))
             told, more, reply = ("drain" if word == "drain" else "query"), tag, None
         elif word == "attributes":
-            lengths, more = self.repaired(word, values)
+            asked = dict(zip((name for name, _, _ in COMMANDS[word][1]), values))
+            lengths, more = self.repaired(self.inputs[number].spec, asked)
             reply = b"".join(map(wire.number, lengths)) + self.latency()
         elif word == "cork":
             more = values[1]
@@ -455,6 +483,21 @@ def thrown_life(number, turns):
     return "\n".join([*said, *collected(lines, dice), "end", ""])
 
 
+def thrown_formats(number, word):
+    """Streams of every format with one, two and swapped channels, each heard with half of the one before it, to a sink of a format."""
+    dice = random.Random(number)
+    lines = [f"# Thrown with the dice of {number}: streams of every format to a sink of {word}. Its output is conformance/reckon.py's.", ""]
+    lines += [f"sink out {word} 2 48000 map 1,2 guard 0 depth 200", "", "connect 1", "auth 1 tag 0 version 13"]
+    specs = [(code, *more) for code in samples.STREAMS for more in ((1, "0"), (2, "1,2"), (2, "2,1"))]
+    for code, channels, positions in specs:
+        lines.append(f"create 1 {wire.format_word(code)} {channels} 48000 map {positions} tlength 64 prebuf 0 minreq 32")
+    for stream, (code, channels, _) in enumerate(specs):
+        size = channels * samples.SIZES[code]
+        lines.append(f"data 1 stream {stream} offset {4 * stream * size} hex {dice.randbytes(8 * size).hex()}")
+    lines += [f"turn out 0 take {3 * len(specs)}", f"turn out {4 * len(specs) + 6} take 0"]
+    return "".join(line_of(line.split()) if line.startswith("data") else line + "\n" for line in [*lines, "end"])
+
+
 def collected(lines, dice):
     """The events of these lines, with some of the notices collected behind each turn."""
     cookie, sinks, events = read_session(make("\n".join([*lines, "end", ""])))
@@ -472,6 +515,9 @@ def main(words):
     if len(words) == 3 and words[0] in ("--dice", "--life"):
         throw = thrown if words[0] == "--dice" else thrown_life
         sys.stdout.write(throw(int(words[1]), int(words[2])))
+        return 0
+    if len(words) == 3 and words[0] == "--formats":
+        sys.stdout.write(thrown_formats(int(words[1]), words[2]))
         return 0
     if len(words) != 1:
         print(__doc__, file=sys.stderr)

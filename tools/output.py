@@ -119,8 +119,13 @@ def told(record, sinks, asked):
             said.append(f"{FAULTS.get(fault, f'fault {fault}')} at byte {at} of what it sent")
         return f"closed {conn}: {', '.join(said)}\n"
     sink, frames, sound = record[1:]
-    samples = wire.samples_words(sinks[sink].spec, sound)
-    return line_of(["played", quoted(sinks[sink].name), str(frames), "frames:", *samples])
+    return line_of(["played", quoted(sinks[sink].name), str(frames), "frames:", *sound_words(sinks[sink].spec, sound)])
+
+
+def sound_words(spec, sound):
+    """Its samples; its bytes where the upper byte of 24 bits in 32, which no sample says, is another than 0."""
+    unsaid = {11: sound[3::4], 12: sound[::4]}.get(spec[0], b"")
+    return ["hex", *hex_words(sound)] if any(unsaid) else wire.samples_words(spec, sound)
 
 
 def show(data, session=None):

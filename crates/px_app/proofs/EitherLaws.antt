@@ -1,8 +1,5 @@
 -- Each list of bytes is a session that is played, or is refused.
-use Rattle.std.proofs.Common.{◌≡◌, ◌⊎◌, inl, inr, ℕ, List, [], ◌∷◌, ◌++◌, Option, None, Some, Ok, refl}
-use Rattle.px_sample.specs.declared.format.Format.{Format}
-use Rattle.px_sample.specs.declared.format.Format.TheVariants as format
-use Rattle.px_session.specs.declared.header.SinkSpec.{SinkSpec}
+use Rattle.std.proofs.Common.{◌≡◌, ◌⊎◌, inl, inr, ℕ, zero, suc, List, [], ◌∷◌, ◌++◌, length, Option, None, Some, Ok, refl}
 use Rattle.px_session.specs.declared.header.Header.{Header}
 use Rattle.px_session.specs.declared.event.Event.{Event}
 use Rattle.px_session.specs.Place.{Place, start_of}
@@ -15,7 +12,7 @@ use Rattle.px_world.specs.Admission.{refusal_of}
 use Rattle.px_world.specs.Output.{world_by, records_by}
 use Rattle.px_app.specs.declared.refusal.Refusal.{Refusal}
 use Rattle.px_app.specs.Refusal.{of_bytes, not_built, of_event}
-use Rattle.px_app.specs.Built.{AreBuilt, IsBuilt}
+use Rattle.px_app.specs.Built.{IsBuilt}
 use Rattle.px_app.specs.Session.{IsPlayed, Begins, IsRefused}
 use Rattle.px_app.proofs.BeginLaws.{begins_next, ends_played}
 
@@ -27,28 +24,10 @@ IsRefusedSo bytes = (refusal : Refusal) × (records : List ℕ) × IsRefused byt
 
 -- ---- built, or not
 
-abbrev IsS16Le : Format → Type 0
-IsS16Le f = f ≡ format.S16Le
-
-is_s16le : (f : Format) → IsS16Le f ⊎ (IsS16Le f → ⊥)
-is_s16le format.U8 = inr (λ e. cc)
-is_s16le format.Alaw = inr (λ e. cc)
-is_s16le format.Ulaw = inr (λ e. cc)
-is_s16le format.S16Le = inl refl
-is_s16le format.S16Be = inr (λ e. cc)
-is_s16le format.Float32Le = inr (λ e. cc)
-is_s16le format.Float32Be = inr (λ e. cc)
-is_s16le format.S32Le = inr (λ e. cc)
-is_s16le format.S32Be = inr (λ e. cc)
-is_s16le format.S24Le = inr (λ e. cc)
-is_s16le format.S24Be = inr (λ e. cc)
-is_s16le format.S24In32Le = inr (λ e. cc)
-is_s16le format.S24In32Be = inr (λ e. cc)
-
-are_built : (sinks : List SinkSpec) → AreBuilt sinks ⊎ (AreBuilt sinks → ⊥)
-are_built [] = inr (λ b. b)
-are_built (s ∷ []) = is_s16le s.spec.format
-are_built (s ∷ t ∷ sinks) = inr (λ b. b)
+one_or_not : (n : ℕ) → (n ≡ 1) ⊎ (n ≡ 1 → ⊥)
+one_or_not zero = inr (λ e. cc)
+one_or_not (suc zero) = inl refl
+one_or_not (suc (suc n)) = inr (λ e. cc)
 
 -- ---- event by event
 
@@ -68,7 +47,7 @@ module _ (bytes : List ℕ) (header : Header) where
 
 by_session : (bytes : List ℕ) (s : Session) → IsSession bytes s → IsPlayedSo bytes ⊎ IsRefusedSo bytes
 by_session bytes (NoHeader f) is = inr (of_bytes f, [], inl (inl (f, is, refl), refl))
-by_session bytes (Events header events ending) is = from_header bytes header is.0 events ending is.1 is.2 (are_built header.sinks)
+by_session bytes (Events header events ending) is = from_header bytes header is.0 events ending is.1 is.2 (one_or_not (length header.sinks))
 
 pub either : (bytes : List ℕ) → IsPlayedSo bytes ⊎ IsRefusedSo bytes
 either bytes = let s = some_reading bytes in by_session bytes s.0 s.1

@@ -13,7 +13,6 @@ use crate::reading::{next_event, next_header, unread};
 use crate::records::write_outcome;
 use crate::refusal::{Refusal, Why, number_of};
 use px_ends::{Sink, Source};
-use px_sample::Format;
 use px_session::{Cause, Event, Header, Reader, write_end};
 use px_world::{World, WorldFault};
 use std::alloc::Global;
@@ -29,10 +28,7 @@ pub(crate) struct Playing {
 fn is_built(header: &Header) -> bool
     ensures { IsTrue result ↔ IsBuilt header.now }
 {
-    match header.sinks.as_slice() {
-        [sink] => matches!(sink.spec.format, Format::S16Le),
-        _ => false,
-    }
+    header.sinks.as_slice().len() == 1
 }
 
 // The sink of a turn.

@@ -1,10 +1,10 @@
 -- The changes that data and notices make are lawful.
-use Rattle.std.proofs.Common.{◌≡◌, ℕ, ◌<◌, ◌≤◌, List, [], ◌∷◌, map, length, Option, Some, None, Bool, true, refl, ap, sym, subst, ◌∙◌, arith}
-use Rattle.std.specs.Prelude.{◌*◌, ◌/◌, ◌%◌, ◌&&◌, filter, nat_eq, nat_lt, ℤ, pos, unsigned_abs, slice_get, IfSome}
+use Rattle.std.proofs.Common.{◌≡◌, ℕ, ◌<◌, ◌≤◌, List, [], ◌∷◌, ◌++◌, map, length, Option, Some, None, Bool, true, refl, ap, sym, subst, ◌∙◌, arith}
+use Rattle.std.specs.Prelude.{◌*◌, ◌/◌, ◌%◌, ◌&&◌, not, cond, filter, nat_eq, nat_lt, ℤ, pos, unsigned_abs, slice_get, IfSome}
 use Rattle.std.specs.Int.{int_div_euclid, int_rem_euclid}
 use Rattle.std.specs.List.{AllByRecursion}
-use Rattle.std.proofs.lemmas.Bool.{cond_both, eqb-true, false≢true, and_parts}
-use Rattle.std.proofs.lemmas.List.{length-replicate}
+use Rattle.std.specs.Option.{option_map}
+use Rattle.std.proofs.lemmas.Bool.{cond_both, eqb-true, eq-eqb, false≢true, and_parts}
 use Rattle.px_types.specs.declared.ids.ConnId.{ConnId}
 use Rattle.px_types.specs.declared.ids.InputId.{InputId}
 use Rattle.px_types.specs.declared.ids.SinkId.{SinkId}
@@ -13,6 +13,9 @@ use Rattle.px_session.specs.declared.header.SinkSpec.{SinkSpec}
 use Rattle.px_model.specs.Message.{InputFactors as Gains}
 use Rattle.px_model.specs.Frame.{SampleSpec}
 use Rattle.px_model.specs.Orderly.{AreFactors, IsWhole}
+use Rattle.px_flat.specs.declared.member.Member.{Member}
+use Rattle.px_flat.specs.FlatVolume.{FlatGroup, member_of, factors_of, factors_for, detached}
+use Rattle.px_flat.proofs.Inputs.{rest_of, detached_in, length_factors}
 use Rattle.px_msg.specs.declared.factors.InputFactors.{InputFactors}
 use Rattle.px_msg.specs.View.{sample_spec, gains}
 use Rattle.px_msg.proofs.Sizes.{same_frame_size}
@@ -25,16 +28,17 @@ use Rattle.px_plan.specs.declared.change.Change.TheVariants.{Gone}
 use Rattle.px_plan.specs.Plan.{idle, changing}
 use Rattle.px_ctl_play.specs.declared.data.Frames.{Frames}
 use Rattle.px_ctl_play.specs.Data.{are_frames, write, written, data_for}
-use Rattle.px_ctl_play.specs.Factors.{UNITY, factors_of, regrouped}
-use Rattle.px_ctl_play.specs.Told.{has_left, same_spec, gives_up, left}
-use Rattle.px_core.specs.State.{State, is_leaving, is_stream, stream_of, is_settled, settled_on}
-use Rattle.px_core.specs.Change.{changed}
+use Rattle.px_ctl_play.specs.Factors.{gains_of, factor_list, regrouped}
+use Rattle.px_ctl_play.specs.Told.{has_left, same_spec, gives_up, gone, left}
+use Rattle.px_core.specs.State.{State, has_index, input_of, is_leaving, is_stream, stream_of, is_settled, settled_on}
+use Rattle.px_core.specs.Change.{changed, drop_first}
+use Rattle.px_core.specs.Grouped.{channels_there, IsGroupOf, paid}
 use Rattle.px_core.specs.Keeps.{IsInput, IsKept, IsRising, IsIncreasing, AllAbove}
-use Rattle.px_core.specs.Lawful.{Suits, HasLeft, Lawful, AreLawful}
+use Rattle.px_core.specs.Lawful.{Suits, HasLeft, Lawful, AreLawful, owed_for, IsPaid}
 use Rattle.px_core.specs.Notice.{is_on, input_on}
 use Rattle.px_core.specs.Plan.{Plan}
-use Rattle.px_core.specs.Sinks.{channels_of, channels_on}
 use Rattle.px_core.proofs.EntryLaws.{found_by_index}
+use Rattle.px_core.proofs.GroupLaws.{gone_there}
 use Rattle.px_core.proofs.ListLaws.{found_test, found_all}
 
 -- the changes of a plan are lawful
@@ -81,24 +85,45 @@ pub rising_filter : (p : Input → Bool) (xs : List Input) → IsRising xs → I
 rising_filter p [] r = tt
 rising_filter p (x ∷ xs) r = cond_both (p x) (x ∷ filter p xs) (filter p xs) IsRising (λ e. (above_filter p x.index.0 xs r.0, rising_filter p xs r.1)) (λ e. rising_filter p xs r.1)
 
-factors_fit : (channels : ℕ) (s : SinkSpec) → channels ≡ s.spec.channels → (settled : List Input) → AllByRecursion (λ f. AreFactors (sample_spec s.spec) (Gains.factors f)) (map gains (factors_of channels settled))
-factors_fit channels s e [] = tt
-factors_fit channels s e (x ∷ settled) = (length-replicate channels UNITY ∙ e, factors_fit channels s e settled)
+module _ (group : FlatGroup) where
+  factors_fit : (s : SinkSpec) → length group.reference ≡ s.spec.channels → (settled : List Input) → AllByRecursion (λ f. AreFactors (sample_spec s.spec) (Gains.factors f)) (map gains (factor_list group settled))
+  factors_fit s e [] = tt
+  factors_fit s e (x ∷ settled) = step (member_of group.members x.index) (factors_fit s e settled)
+    where
+      step : (o : Option Member) → AllByRecursion (λ f. AreFactors (sample_spec s.spec) (Gains.factors f)) (map gains (factor_list group settled))
+          → AllByRecursion (λ f. AreFactors (sample_spec s.spec) (Gains.factors f)) (map gains (gains_of x.index (option_map (factors_of group) o) ++ factor_list group settled))
+      step None rest = rest
+      step (Some m) rest = (length_factors group m ∙ e, rest)
 
-factors_above : (channels i : ℕ) (settled : List Input) → AllAbove i settled → AllByRecursion (λ j. i < j) (map (λ f. (InputFactors.input f).0) (factors_of channels settled))
-factors_above channels i [] a = tt
-factors_above channels i (x ∷ settled) a = (a.0, factors_above channels i settled a.1)
+  factors_above : (i : ℕ) (settled : List Input) → AllAbove i settled → AllByRecursion (λ j. i < j) (map (λ f. (InputFactors.input f).0) (factor_list group settled))
+  factors_above i [] a = tt
+  factors_above i (x ∷ settled) a = step (member_of group.members x.index) (factors_above i settled a.1)
+    where
+      step : (o : Option Member) → AllByRecursion (λ j. i < j) (map (λ f. (InputFactors.input f).0) (factor_list group settled))
+          → AllByRecursion (λ j. i < j) (map (λ f. (InputFactors.input f).0) (gains_of x.index (option_map (factors_of group) o) ++ factor_list group settled))
+      step None rest = rest
+      step (Some m) rest = (a.0, rest)
 
-factors_in_order : (channels : ℕ) (settled : List Input) → IsRising settled → IsIncreasing (map (λ f. (InputFactors.input f).0) (factors_of channels settled))
-factors_in_order channels [] r = tt
-factors_in_order channels (x ∷ settled) r = (factors_above channels x.index.0 settled r.0, factors_in_order channels settled r.1)
+  factors_in_order : (settled : List Input) → IsRising settled → IsIncreasing (map (λ f. (InputFactors.input f).0) (factor_list group settled))
+  factors_in_order [] r = tt
+  factors_in_order (x ∷ settled) r = step (member_of group.members x.index) (factors_above x.index.0 settled r.0) (factors_in_order settled r.1)
+    where
+      step : (o : Option Member) → AllByRecursion (λ j. x.index.0 < j) (map (λ f. (InputFactors.input f).0) (factor_list group settled)) → IsIncreasing (map (λ f. (InputFactors.input f).0) (factor_list group settled))
+          → IsIncreasing (map (λ f. (InputFactors.input f).0) (gains_of x.index (option_map (factors_of group) o) ++ factor_list group settled))
+      step None above rest = rest
+      step (Some m) above rest = (above, rest)
 
-pub regroups : {P : Type 0} (state : State P) (index : SinkId) (channels : ℕ) → index.0 < length state.sinks → ((s : SinkSpec) → slice_get state.sinks index.0 ≡ Some s → channels ≡ s.spec.channels) → (settled : List Input) → IsRising settled
-    → Lawful state (regrouped index channels settled)
-regroups state index channels there same settled r = record {
+pub regroups : {P : Type 0} (state : State P) (index : SinkId) (group : FlatGroup) → index.0 < length state.sinks → ((s : SinkSpec) → slice_get state.sinks index.0 ≡ Some s → IsGroupOf index s state.inputs group) → (settled : List Input) → IsRising settled
+    → Lawful state (regrouped index group settled)
+regroups state index group there is settled r = record {
   there = there;
-  factors = λ s g. (factors_fit channels s (same s g) settled, factors_in_order channels settled r);
+  group = is;
+  factors = λ s g. (factors_fit group s (is s g).channels settled, factors_in_order group settled r);
 }
+
+-- a sink's group that has followed is owed no more
+pub is_paid : (sink : SinkId) → IsPaid (paid sink (sink ∷ []))
+is_paid sink = subst (λ b. IsPaid (cond (not b) (sink ∷ []) [])) (sym (eq-eqb sink.0 sink.0 refl)) tt
 
 -- ---- a sink has given up a stream
 
@@ -112,29 +137,38 @@ left_all Settled e = absurd (false≢true e)
 left_all (Moving to) e = absurd (false≢true e)
 left_all Leaving e = refl
 
--- the channels of the sink that an input is on
-own_channels : (sinks : List SinkSpec) (sink on : SinkId) → on.0 ≡ sink.0 → (s : SinkSpec) → slice_get sinks on.0 ≡ Some s → channels_on sinks sink ≡ s.spec.channels
-own_channels sinks sink on same s e = ap channels_of (ap (slice_get sinks) (sym same) ∙ e)
+-- the group without it
+without_it : (sink : SinkId) (s : SinkSpec) (inputs : List Input) (x : Input) (group : FlatGroup) → x.sink ≡ sink → input_of inputs x.index ≡ Some x → IsGroupOf sink s inputs group → IsGroupOf sink s (drop_first (has_index x.index) inputs) (detached x.index group)
+without_it sink s inputs x group on here is = record {
+  channels = is.channels;
+  inputs = λ i. detached_in x.index group i
+      ∙ (λ k. cond (nat_eq x.index.0 i.0) (rest_of (is.inputs i k)) (is.inputs i k))
+      ∙ sym (subst (λ (n : SinkId). channels_there (drop_first (has_index x.index) inputs) n i ≡ cond (nat_eq x.index.0 i.0) (rest_of (channels_there inputs n i)) (channels_there inputs n i)) on (gone_there inputs x here i));
+}
 
 pub left_lawful : {P : Type 0} (spec_of : P → SampleSpec) (state : State P) → IsKept spec_of state → (sink : SinkId) (input : InputId) (spec : SampleSpec) (o : Option Input) → input_on state.inputs sink input ≡ o
-    → IsLawful state (left o spec (channels_on state.sinks sink) state.inputs)
+    → IsLawful state (left o (slice_get state.groups sink.0) spec state.inputs)
 left_lawful spec_of state h sink input spec None e = tt
 left_lawful {P} spec_of state h sink input spec (Some x) e =
-    cond_both (gives_up spec x) (changing (Gone x.index ∷ regrouped x.sink (channels_on state.sinks sink) (settled_on state.inputs x.sink) ∷ [])) idle (IsLawful state) gone (λ t. tt)
+    cond_both (gives_up spec x) (gone x (slice_get state.groups sink.0) state.inputs) idle (IsLawful state) (λ t. went t (slice_get state.groups sink.0) refl) (λ t. tt)
   where
     on : x.sink.0 ≡ sink.0
     on = eqb-true x.sink.0 sink.0 (and_parts (nat_eq x.index.0 input.0) (nat_eq x.sink.0 sink.0) (found_test (is_on sink input) state.inputs x e)).1
 
-    gone : gives_up spec x ≡ true → AreLawful state (Gone x.index ∷ regrouped x.sink (channels_on state.sinks sink) (settled_on state.inputs x.sink) ∷ [])
-    gone t =
+    here : input_of state.inputs x.index ≡ Some x
+    here = found_by_index (is_on sink input) state.inputs h.steady.rising x e
+
+    went : gives_up spec x ≡ true → (group : Option FlatGroup) → slice_get state.groups sink.0 ≡ group → IsLawful state (gone x group state.inputs)
+    went t None owned = tt
+    went t (Some group) owned =
         let parts = and_parts (is_leaving x.standing && has_left x.way) (same_spec spec (sample_spec x.spec)) t in
         let first = and_parts (is_leaving x.standing) (has_left x.way) parts.0 in (
-          subst (λ o. IfSome o HasLeft) (sym (found_by_index (is_on sink input) state.inputs h.rising x e)) (record { standing = left_all x.standing first.0; way = away x.way first.1 }),
+          subst (λ o. IfSome o HasLeft) (sym here) (record { standing = left_all x.standing first.0; way = away x.way first.1 }),
           (
-            regroups (changed state (Gone x.index)) x.sink (channels_on state.sinks sink)
-                (found_all (IsInput state.sinks state.inputs_made) (is_on sink input) state.inputs x h.inputs e).sink_there
-                (λ s g. own_channels state.sinks sink x.sink on s g)
-                (settled_on state.inputs x.sink) (rising_filter (is_settled x.sink) state.inputs h.rising),
-            tt,
+            regroups (changed state (Gone x.index)) x.sink (detached x.index group)
+                (found_all (IsInput state.sinks state.inputs_made) (is_on sink input) state.inputs x h.steady.inputs e).sink_there
+                (λ s g. without_it x.sink s state.inputs x group refl here (h.grouped.each x.sink.0 s group g (ap (slice_get state.groups) on ∙ owned) refl))
+                (settled_on state.inputs x.sink) (rising_filter (is_settled x.sink) state.inputs h.steady.rising),
+            subst (λ o. IsPaid (paid x.sink (owed_for o []))) (sym here) (is_paid x.sink),
           ),
         )

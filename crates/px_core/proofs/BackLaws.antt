@@ -21,7 +21,7 @@ use Rattle.px_core.specs.State.{State, has_index}
 use Rattle.px_core.specs.Change.{change_first}
 use Rattle.px_core.specs.Orderly.{spec_in, specs_of, is_held_by, is_there}
 use Rattle.px_core.specs.Out.{first_of, rest_of, next_for, on_way, with_way, inputs_past, inputs_before, past, handed_out, put_back, Roomy, room_for, room_past, with_more_room, with_less_room, sent, unsent, sent_by, unsent_by}
-use Rattle.px_core.specs.Keeps.{AreInStep, IsKept, IsRising, is_coming_to, is_coming, brought_of, messages_out}
+use Rattle.px_core.specs.Keeps.{AreInStep, IsSteady, IsKept, IsRising, is_coming_to, is_coming, brought_of, messages_out}
 use Rattle.px_core.proofs.EntryLaws.{first_brought, Found, found_in, get_in}
 use Rattle.px_core.proofs.ChangeLaws.{sink_at}
 use Rattle.px_core.proofs.HandingLaws.{sink_there, list_there, some_of, out_keeps}
@@ -95,7 +95,7 @@ first_is : {A : Type 0} (xs : List A) (x : A) → first_of xs ≡ Some x → xs 
 first_is [] x e = absurd (none-some x e)
 first_is (y ∷ ys) x e = ap (λ z. z ∷ ys) (same_Some y x e)
 
-pub back_as_before : {P : Type 0} (spec_of : P → SampleSpec) (state : State P) (sink : SinkId) (m : Msg P) → IsKept spec_of state → next_for state sink ≡ Some m → put_back sink m (handed_out sink state) ≡ state
+pub back_as_before : {P : Type 0} (spec_of : P → SampleSpec) (state : State P) (sink : SinkId) (m : Msg P) → IsSteady spec_of state → next_for state sink ≡ Some m → put_back sink m (handed_out sink state) ≡ state
 back_as_before {P} spec_of state sink m h e =
     let first : get_or state.posted sink.0 [] ≡ m ∷ rest_of (get_or state.posted sink.0 []) = first_is (get_or state.posted sink.0 []) m e in
     let l = list_there state.posted sink.0 m (rest_of (get_or state.posted sink.0 [])) first in
@@ -123,7 +123,7 @@ room_back sink room =
     ∙ set_past room sink.0 (room_for sink room - 1) l)
     (cases_lt sink.0 (length room))
 
-one_back : {P : Type 0} (spec_of : P → SampleSpec) (core : Roomy P) (sink : SinkId) (m : Msg P) → IsKept spec_of core.state → next_for core.state sink ≡ Some m → unsent sink m (sent sink core) ≡ core
+one_back : {P : Type 0} (spec_of : P → SampleSpec) (core : Roomy P) (sink : SinkId) (m : Msg P) → IsSteady spec_of core.state → next_for core.state sink ≡ Some m → unsent sink m (sent sink core) ≡ core
 one_back {P} spec_of core sink m h e =
     let state = back_as_before spec_of core.state sink m h e in
     let room : with_less_room sink (room_past (next_for core.state sink) sink core.room) ≡ core.room = ap (λ (o : Option (Msg P)). with_less_room sink (room_past o sink core.room)) e ∙ room_back sink core.room in
@@ -132,7 +132,7 @@ one_back {P} spec_of core sink m h e =
 none_back : {P : Type 0} (core : Roomy P) (sink : SinkId) → next_for core.state sink ≡ None → sent sink core ≡ core
 none_back {P} core sink e = ap (λ (o : Option (Msg P)). record { state = past o sink core.state; room = room_past o sink core.room }) e
 
-pub all_back : {P : Type 0} (spec_of : P → SampleSpec) (sink : SinkId) (n : ℕ) (core : Roomy P) → IsKept spec_of core.state → unsent_by sink (messages_out n sink core.state) (sent_by n sink core) ≡ core
+pub all_back : {P : Type 0} (spec_of : P → SampleSpec) (sink : SinkId) (n : ℕ) (core : Roomy P) → IsSteady spec_of core.state → unsent_by sink (messages_out n sink core.state) (sent_by n sink core) ≡ core
 all_back spec_of sink zero core h = refl
 all_back {P} spec_of sink (suc n) core h = step (all_back spec_of sink n (sent sink core) (out_keeps spec_of core.state sink h)) (next_for core.state sink) refl
   where
@@ -144,7 +144,7 @@ all_back {P} spec_of sink (suc n) core h = step (all_back spec_of sink n (sent s
 
 pub whole_back : {P : Type 0} (spec_of : P → SampleSpec) (core now : Roomy P) (sink : SinkId) (r : Option (Msg P)) → IsKept spec_of core.state → r ≡ next_for core.state sink → now ≡ sent sink core → IfSome r (λ m. unsent sink m now ≡ core)
 whole_back spec_of core now sink None h e after = tt
-whole_back spec_of core now sink (Some m) h e after = ap (unsent sink m) after ∙ one_back spec_of core sink m h (sym e)
+whole_back spec_of core now sink (Some m) h e after = ap (unsent sink m) after ∙ one_back spec_of core sink m h.steady (sym e)
 
 pub kept_back : {P : Type 0} (spec_of : P → SampleSpec) (core now : Roomy P) (sink : SinkId) (r : Option (Msg P)) → IsKept spec_of core.state → r ≡ next_for core.state sink → now ≡ sent sink core → IfSome r (λ m. IsKept spec_of (put_back sink m now.state))
 kept_back spec_of core now sink None h e after = tt

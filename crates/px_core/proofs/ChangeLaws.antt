@@ -26,7 +26,7 @@ use Rattle.px_core.specs.State.{State, has_index, input_of, belongs_to, stays_on
 use Rattle.px_core.specs.Change.{change_first, drop_first, leaving, with_attr, posting, without_standing, ending}
 use Rattle.px_ctl_play.specs.Asked.{MOST_ON_SINK}
 use Rattle.px_core.specs.Orderly.{entry_of, spec_in, specs_of, is_held_by, is_there}
-use Rattle.px_core.specs.Keeps.{AreInStep, AreAllInStep, IsInput, IsKept, IsRising, IsPosted, is_coming_to, is_coming, brought_of}
+use Rattle.px_core.specs.Keeps.{AreInStep, AreAllInStep, IsInput, IsSteady, IsRising, IsPosted, is_coming_to, is_coming, brought_of}
 use Rattle.px_core.proofs.ListLaws.{same_passed, same_left, no_more_pass, fewer_pass, all_change, all_drop, all_push, all_weaken, found_all}
 use Rattle.px_core.proofs.EntryLaws.{get_in, here_in, in_same, removed, pushed, pushed_in, none_below, few_specs, rising_change, rising_drop, rising_push}
 use Rattle.px_core.proofs.InStepLaws.{view, unmoved, posted}
@@ -97,9 +97,9 @@ pub record Tells {P : Type 0} (spec_of : P → SampleSpec) (spec : SampleSpec) (
   pub left : inputs_left spec_of there (view m) ≡ there
   pub is_posted : IsPosted m
 
-pub telling_keeps : {P : Type 0} (spec_of : P → SampleSpec) (state : State P) (sink : SinkId) (m : Msg P) → IsKept spec_of state → sink.0 < length state.sinks
+pub telling_keeps : {P : Type 0} (spec_of : P → SampleSpec) (state : State P) (sink : SinkId) (m : Msg P) → IsSteady spec_of state → sink.0 < length state.sinks
     → ((s : SinkSpec) → slice_get state.sinks sink.0 ≡ Some s → Tells spec_of (sample_spec s.spec) (specs_of (settled_on state.inputs sink)) m)
-    → IsKept spec_of (posting sink.0 m state)
+    → IsSteady spec_of (posting sink.0 m state)
 telling_keeps spec_of state sink m h there tells = record {
   sinks = h.sinks;
   distinct = h.distinct;
@@ -142,7 +142,7 @@ module _ (index : InputId) (attr : Attr) (inputs : List Input) where
   attr_bound : (k : ℕ) → length (bound_for with_own (sink_at k)) ≤ length (bound_for inputs (sink_at k))
   attr_bound k = no_more_pass (is_bound_for (sink_at k)) (has_index index) (with_attr attr) (λ y t. t) inputs
 
-pub attr_keeps : {P : Type 0} (spec_of : P → SampleSpec) (state : State P) (index : InputId) (attr : Attr) → IsRepaired attr → IsKept spec_of state → IsKept spec_of (record state { inputs = change_first (has_index index) (with_attr attr) state.inputs })
+pub attr_keeps : {P : Type 0} (spec_of : P → SampleSpec) (state : State P) (index : InputId) (attr : Attr) → IsRepaired attr → IsSteady spec_of state → IsSteady spec_of (record state { inputs = change_first (has_index index) (with_attr attr) state.inputs })
 attr_keeps spec_of state index attr repaired h = record {
   sinks = h.sinks;
   distinct = h.distinct;
@@ -182,7 +182,7 @@ module _ (inputs : List Input) (x : Input) where
       (λ y found. sym (subst (λ z. is_settled (sink_at k) z ≡ false) (same_Some x y (sym here ∙ found)) off))
       (λ y. refl)
 
-settled_ends : {P : Type 0} (spec_of : P → SampleSpec) (state : State P) (x : Input) → IsKept spec_of state → input_of state.inputs x.index ≡ Some x → x.standing ≡ Settled → IsKept spec_of (posting x.sink.0 (Detach x.index) (without_standing x.index state))
+settled_ends : {P : Type 0} (spec_of : P → SampleSpec) (state : State P) (x : Input) → IsSteady spec_of state → input_of state.inputs x.index ≡ Some x → x.standing ≡ Settled → IsSteady spec_of (posting x.sink.0 (Detach x.index) (without_standing x.index state))
 settled_ends {P} spec_of state x h here settled = record {
   sinks = h.sinks;
   distinct = h.distinct;
@@ -204,7 +204,7 @@ settled_ends {P} spec_of state x h here settled = record {
       (ended_coming state.inputs x h.rising index) (ended_bound state.inputs x index) (h.in_step index s e));
 }
 
-moving_ends : {P : Type 0} (spec_of : P → SampleSpec) (state : State P) (x : Input) (to : SinkId) → IsKept spec_of state → input_of state.inputs x.index ≡ Some x → x.standing ≡ Moving to → IsKept spec_of (without_standing x.index state)
+moving_ends : {P : Type 0} (spec_of : P → SampleSpec) (state : State P) (x : Input) (to : SinkId) → IsSteady spec_of state → input_of state.inputs x.index ≡ Some x → x.standing ≡ Moving to → IsSteady spec_of (without_standing x.index state)
 moving_ends {P} spec_of state x to h here moves = record {
   sinks = h.sinks;
   distinct = h.distinct;
@@ -217,7 +217,7 @@ moving_ends {P} spec_of state x to h here moves = record {
       (ended_coming state.inputs x h.rising index) (ended_bound state.inputs x index) (h.in_step index s e);
 }
 
-pub ending_keeps : {P : Type 0} (spec_of : P → SampleSpec) (state : State P) (x : Input) (standing : Standing) → IsKept spec_of state → input_of state.inputs x.index ≡ Some x → x.standing ≡ standing → IsKept spec_of (ending standing x state)
+pub ending_keeps : {P : Type 0} (spec_of : P → SampleSpec) (state : State P) (x : Input) (standing : Standing) → IsSteady spec_of state → input_of state.inputs x.index ≡ Some x → x.standing ≡ standing → IsSteady spec_of (ending standing x state)
 ending_keeps spec_of state x Settled h here e = settled_ends spec_of state x h here e
 ending_keeps spec_of state x (Moving to) h here e = moving_ends spec_of state x to h here e
 ending_keeps spec_of state x Leaving h here e = h
@@ -229,7 +229,7 @@ ending_held state x Leaving k = refl
 
 -- ---- an input goes, that has ended and left its sink
 
-pub gone_keeps : {P : Type 0} (spec_of : P → SampleSpec) (state : State P) (x : Input) → IsKept spec_of state → input_of state.inputs x.index ≡ Some x → x.standing ≡ Leaving → x.way ≡ Left → IsKept spec_of (record state { inputs = drop_first (has_index x.index) state.inputs })
+pub gone_keeps : {P : Type 0} (spec_of : P → SampleSpec) (state : State P) (x : Input) → IsSteady spec_of state → input_of state.inputs x.index ≡ Some x → x.standing ≡ Leaving → x.way ≡ Left → IsSteady spec_of (record state { inputs = drop_first (has_index x.index) state.inputs })
 gone_keeps {P} spec_of state x h here leaves left = record {
   sinks = h.sinks;
   distinct = h.distinct;
@@ -271,14 +271,14 @@ pushed_own p inputs x e = filter-append p inputs (x ∷ []) ∙ ap (λ b. filter
 abbrev pub with_input : {P : Type 0} → Input → State P → State P
 with_input x state = record state { inputs = state.inputs ++ x ∷ []; inputs_made = state.inputs_made + 1 }
 
-pub new_keeps : {P : Type 0} (spec_of : P → SampleSpec) (state : State P) (x : Input) (n : NewStream) → IsKept spec_of state
+pub new_keeps : {P : Type 0} (spec_of : P → SampleSpec) (state : State P) (x : Input) (n : NewStream) → IsSteady spec_of state
     → x.index.0 ≡ state.inputs_made
     → x.way ≡ Coming → x.standing ≡ Settled
     → IsInput state.sinks (state.inputs_made + 1) x
     → n.input.0 ≡ x.index.0 → n.spec ≡ x.spec
     → length (bound_for state.inputs (sink_at x.sink.0)) < MOST_ON_SINK
     → ((s : SinkSpec) → slice_get state.sinks x.sink.0 ≡ Some s → Fits spec_of (sample_spec s.spec) (specs_of (settled_on state.inputs (sink_at x.sink.0))) (view (New n)))
-    → IsKept spec_of (posting x.sink.0 (New n) (with_input x state))
+    → IsSteady spec_of (posting x.sink.0 (New n) (with_input x state))
 new_keeps {P} spec_of state x n h fresh coming goes is same_index same_spec room fits = record {
   sinks = h.sinks;
   distinct = h.distinct;

@@ -1,18 +1,19 @@
 -- The changes of CREATE are lawful.
 use Rattle.std.proofs.Common.{◌≡◌, ℕ, zero, suc, ◌<◌, ◌≤◌, List, [], ◌∷◌, ◌++◌, length, min, max, Some, Bool, true, false, refl, ap, sym, subst, ◌∙◌, arith, cond}
 use Rattle.std.specs.Prelude.{◌+◌, ◌-◌, ◌*◌, ◌/◌, ◌≢◌, not, nat_eq, nat_lt, nat_le, slice_get, slice_index}
-use Rattle.std.specs.List.{All, list_all, range_with_len}
-use Rattle.std.specs.Cmp.Lexicographic.{pointwise}
+use Rattle.std.specs.List.{list_all}
 use Rattle.std.proofs.lemmas.Bool.{cond_both, eqb-true, eqb-false, leb-true, ltb-true, false≢true, and_parts, not-true, agree_below_at}
 use Rattle.std.proofs.lemmas.List.{length-replicate}
-use Rattle.std.proofs.lemmas.List.FromFn.{length-range_with_len, get_or-range_with_len}
 use Rattle.std.proofs.lemmas.Option.{none-some, same_Some, slice_get_within}
+use Rattle.px_types.specs.declared.ids.InputId.{InputId}
 use Rattle.px_types.specs.declared.ids.SinkId.{SinkId}
 use Rattle.px_cmd.specs.declared.command.CreateFields.{CreateFields}
 use Rattle.px_sample.specs.declared.format.Format.{Format}
 use Rattle.px_sample.specs.declared.format.Format.TheVariants.{U8, Alaw, Ulaw, S16Le, S16Be, Float32Le, Float32Be, S32Le, S32Be, S24Le, S24Be, S24In32Le, S24In32Be}
 use Rattle.px_sample.specs.declared.spec.Spec.{Spec}
 use Rattle.px_sample.specs.Format.{code_of, frame_size_of}
+use Rattle.px_chmap.specs.Plan.{FeedsAll}
+use Rattle.px_chmap.proofs.PlanLemmas.{plan_of-feeds}
 use Rattle.px_session.specs.declared.header.SinkSpec.{SinkSpec}
 use Rattle.px_session.specs.HeaderRules.{IsSink, AreSinks}
 use Rattle.px_model.specs.Frame.{SampleSpec}
@@ -27,18 +28,28 @@ use Rattle.px_plan.specs.declared.change.Change.TheVariants.{Made}
 use Rattle.px_plan.specs.declared.target.Target.{Target}
 use Rattle.px_plan.specs.declared.target.Named.{Named}
 use Rattle.px_plan.specs.Target.{target_of as target_in}
-use Rattle.px_ctl_play.specs.Asked.{format_on, channels_on, positions_on, same_positions, format_with, spec_on, attr_on, is_lawful, is_supported, is_built, has_room, MOST_ON_SINK}
-use Rattle.px_ctl_play.specs.Create.{straight, input_made, new_of, create}
-use Rattle.px_ctl_play.specs.Factors.{UNITY, unity}
+use Rattle.px_ctl_play.specs.Asked.{format_on, channels_on, positions_on, format_with, spec_on, attr_on, is_lawful, is_supported, feed_on, has_room, MOST_ON_SINK}
+use Rattle.px_ctl_play.specs.Create.{input_made, new_of, create}
+use Rattle.px_ctl_play.specs.Factors.{own_factors}
+use Rattle.px_ctl_play.specs.Joining.{volume_on, joined}
+use Rattle.px_flat.specs.declared.member.Member.{Member}
+use Rattle.px_flat.specs.declared.member.How.TheVariants.{Absolute}
+use Rattle.px_flat.specs.Member.{channels_of}
+use Rattle.px_flat.specs.FlatVolume.{FlatGroup, member_of, factors_of}
+use Rattle.px_flat.proofs.Inputs.{attached_in, attached_channels, attached_there, length_factors, feeds_count}
 use Rattle.px_ctl_play.proofs.Passed.{IsCreated, create_passed}
+use Rattle.px_core.specs.Command.{create_on}
+use Rattle.px_core.specs.Grouped.{channels_there, IsGroupOf}
 use Rattle.px_core.specs.Plan.{Plan}
+use Rattle.px_core.specs.Sinks.{group_of, group_named}
 use Rattle.px_core.proofs.RowLaws.{Each, each_by}
 use Rattle.px_core.proofs.Sinks.{IsThere}
 use Rattle.px_core.specs.Keeps.{IsInput, IsKept, IsRising}
 use Rattle.px_core.specs.Lawful.{IsNew}
 use Rattle.px_core.proofs.ListLaws.{all_weaken}
 use Rattle.px_core.proofs.EntryLaws.{rising_push}
-use Rattle.px_core.proofs.AnswerLaws.{IsLawful, regroups, rising_filter, all_filter}
+use Rattle.px_core.proofs.AnswerLaws.{IsLawful, regroups, is_paid, rising_filter, all_filter}
+use Rattle.px_core.proofs.GroupLaws.{made_there}
 
 -- ---- attributes as repaired
 
@@ -96,37 +107,35 @@ sink_rules earlier [] k s h e = absurd (none-some s e)
 sink_rules earlier (x ∷ sinks) zero s h e = (earlier, subst (IsSink earlier) (same_Some x s e) h.0)
 sink_rules earlier (x ∷ sinks) (suc k) s h e = sink_rules (earlier ++ x ∷ []) sinks k s h.1 e
 
-same_lengths : (a b : List ℕ) → pointwise nat_eq a b ≡ true → length a ≡ length b
-same_lengths [] [] e = refl
-same_lengths [] (y ∷ ys) e = absurd (false≢true e)
-same_lengths (x ∷ xs) [] e = absurd (false≢true e)
-same_lengths (x ∷ xs) (y ∷ ys) e = ap suc (same_lengths xs ys (and_parts (nat_eq x y) (pointwise nat_eq xs ys) e).1)
-
 -- ---- what is asked fits
 
--- on a sink's own map there are as many channels
-channels_fit : (fix : Bool) (sink : Target) (a : CreateFields) → length sink.map ≡ sink.spec.channels → length a.map ≡ a.spec.channels → length (cond fix sink.map a.map) ≡ length sink.map → cond fix sink.spec.channels a.spec.channels ≡ sink.spec.channels
-channels_fit true sink a own asked same = refl
-channels_fit false sink a own asked same = sym asked ∙ same ∙ own
+-- there is a position for each channel
+mapped : (fix : Bool) (sink : Target) (a : CreateFields) → length sink.map ≡ sink.spec.channels → length a.map ≡ a.spec.channels → length (cond fix sink.map a.map) ≡ cond fix sink.spec.channels a.spec.channels
+mapped true sink a own asked = own
+mapped false sink a own asked = asked
+
+channels_fit : (fix : Bool) (sink : Target) (a : CreateFields) → (1 ≤ sink.spec.channels) × (sink.spec.channels ≤ 32) → (1 ≤ a.spec.channels) × (a.spec.channels ≤ 32)
+    → (1 ≤ cond fix sink.spec.channels a.spec.channels) × (cond fix sink.spec.channels a.spec.channels ≤ 32)
+channels_fit true sink a own asked = own
+channels_fit false sink a own asked = asked
 
 formats_fit : (fix : Bool) (sink : Target) (a : CreateFields) → a.spec.format ≤ 12 → cond fix (code_of sink.spec.format) a.spec.format ≤ 12
 formats_fit true sink a l = few_codes sink.spec.format
 formats_fit false sink a l = l
-
-own_positions : (sink : Target) (a : CreateFields) → is_built sink a ≡ true → same_positions (positions_on sink a) sink.map ≡ true
-own_positions sink a built = (and_parts _ _ (and_parts _ _ (and_parts _ _ built).0).0).1
 
 -- what is asked of a sink was tested
 pub record Asked (sink : Target) (a : CreateFields) : Type 0 where
   pub format : format_on sink a ≤ 12
   pub no_float_le : format_on sink a ≢ 5
   pub no_float_be : format_on sink a ≢ 6
-  pub channels : channels_on sink a ≡ sink.spec.channels
+  pub channels : (1 ≤ channels_on sink a) × (channels_on sink a ≤ 32)
+  pub mapped : length (positions_on sink a) ≡ channels_on sink a
 
-pub asked_by : (sink : Target) (a : CreateFields) → length sink.map ≡ sink.spec.channels → is_lawful a ≡ true → is_supported sink a ≡ true → is_built sink a ≡ true → Asked sink a
-asked_by sink a own can supported built =
+pub asked_by : (sink : Target) (a : CreateFields) → (1 ≤ sink.spec.channels) × (sink.spec.channels ≤ 32) → length sink.map ≡ sink.spec.channels → is_lawful a ≡ true → is_supported sink a ≡ true → Asked sink a
+asked_by sink a some own can supported =
     let spec_map = and_parts _ _ (and_parts _ _ can).0 in
-    let spec_2 = and_parts _ _ (and_parts _ _ spec_map.0).0 in
+    let spec_3 = and_parts _ _ (and_parts _ _ spec_map.0).0 in
+    let spec_2 = and_parts _ (nat_le a.spec.channels 32) spec_3.0 in
     let spec_1 = and_parts (nat_le a.spec.format 12) (nat_lt 0 a.spec.channels) spec_2.0 in
     let positions = and_parts (nat_eq (length a.map) a.spec.channels) (list_all (λ p. nat_le p 50) a.map) spec_map.1 in
     let floats = and_parts (not (nat_eq (format_on sink a) 5)) (not (nat_eq (format_on sink a) 6)) (and_parts _ _ (and_parts _ _ supported).0).0 in
@@ -134,92 +143,131 @@ asked_by sink a own can supported built =
       format = formats_fit a.fix_format sink a (leb-true a.spec.format 12 spec_1.0);
       no_float_le = eqb-false (format_on sink a) 5 (not-true (nat_eq (format_on sink a) 5) floats.0);
       no_float_be = eqb-false (format_on sink a) 6 (not-true (nat_eq (format_on sink a) 6) floats.1);
-      channels = channels_fit a.fix_channels sink a own (eqb-true (length a.map) a.spec.channels positions.0) (same_lengths (positions_on sink a) sink.map (own_positions sink a built));
+      channels = channels_fit a.fix_channels sink a some (ltb-true 0 a.spec.channels spec_1.1, leb-true a.spec.channels 32 spec_2.1);
+      mapped = mapped a.fix_channels sink a own (eqb-true (length a.map) a.spec.channels positions.0);
     }
 
 -- ---- the new input fits
 
-all_range : (n : ℕ) → All (λ channel. channel < n) (range_with_len 0 n)
-all_range n k d high =
-    let l : k < n = omega (arith, high, length-range_with_len 0 n) in
-    omega (arith, get_or-range_with_len 0 n k d l, l)
-
-playable : (sink : Target) (a : CreateFields) → (1 ≤ sink.spec.channels) × (sink.spec.channels ≤ 32) → Asked sink a → IsPlayable (sample_spec (spec_on sink a))
-playable sink a few asked =
+playable : (sink : Target) (a : CreateFields) → Asked sink a → IsPlayable (sample_spec (spec_on sink a))
+playable sink a asked =
     let code : code_of (format_with (format_on sink a)) ≡ format_on sink a = same_code (format_on sink a) asked.format in
     record {
       known = subst (λ n. n ≤ 12) (sym code) asked.format;
       no_float_le = λ e. asked.no_float_le (sym code ∙ e);
       no_float_be = λ e. asked.no_float_be (sym code ∙ e);
-      some_channels = subst (λ n. 1 ≤ n) (sym asked.channels) few.0;
-      few_channels = subst (λ n. n ≤ 32) (sym asked.channels) few.1;
+      some_channels = asked.channels.0;
+      few_channels = asked.channels.1;
     }
 
-new_fits : (sink : Target) (s : SinkSpec) → sink.spec.channels ≡ s.spec.channels → (a : CreateFields) → (1 ≤ sink.spec.channels) × (sink.spec.channels ≤ 32) → Asked sink a → (input : ℕ) → IsNewStream (sample_spec s.spec) (record { input = input; spec = sample_spec (spec_on sink a); feed = straight sink.spec.channels; factors = unity sink.spec.channels; attr = attr_on sink a; corked = a.corked })
-new_fits sink s same a few asked input = record {
-  playable = playable sink a few asked;
-  feed_fits = record {
-    places = length-range_with_len 0 sink.spec.channels ∙ same;
-    channels = subst (λ n. All (λ channel. channel < n) (range_with_len 0 sink.spec.channels)) (sym asked.channels) (all_range sink.spec.channels);
-  };
-  factors_fit = length-replicate sink.spec.channels UNITY ∙ same;
+-- a plan has a place for each of the sink's channels, and names the stream's
+planned : (sink : Target) (a : CreateFields) (feed : List ℕ) → (1 ≤ sink.spec.channels) → length sink.map ≡ sink.spec.channels → Asked sink a → feed_on sink a ≡ Some feed → FeedsAll (channels_on sink a) sink.spec.channels feed
+planned sink a feed some own asked fed =
+    subst (λ n. FeedsAll n sink.spec.channels feed) asked.mapped
+    (subst (λ n. FeedsAll (length (positions_on sink a)) n feed) own
+    (plan_of-feeds (positions_on sink a) sink.map a.no_remap a.no_remix feed (subst (λ n. 1 ≤ n) (sym own) some) fed))
+
+own_fits : (group : FlatGroup) (index : InputId) → IsSome (member_of group.members index) → length (own_factors group index) ≡ length group.reference
+own_fits group index some = step (member_of group.members index) some
+  where
+    step : (o : Option Member) → IsSome o → length (unwrap_or (option_map (factors_of group) o) []) ≡ length group.reference
+    step None some = absurd cc
+    step (Some m) some = length_factors group m
+
+new_fits : (sink : Target) (s : SinkSpec) → sink.spec.channels ≡ s.spec.channels → (a : CreateFields) → Asked sink a → (feed factors : List ℕ) → FeedsAll (channels_on sink a) sink.spec.channels feed → length factors ≡ s.spec.channels → (input : ℕ)
+    → IsNewStream (sample_spec s.spec) (record { input = input; spec = sample_spec (spec_on sink a); feed = feed; factors = factors; attr = attr_on sink a; corked = a.corked })
+new_fits sink s same a asked feed factors feeds fit input = record {
+  playable = playable sink a asked;
+  feed_fits = record { places = feeds.places ∙ same; channels = feeds.known };
+  factors_fit = fit;
   attr_repaired = repaired_fits (spec_on sink a) a.asked;
 }
 
 room_on : (inputs : List Input) (made : ℕ) (me : Connection) (sink : SinkId) → has_room inputs made me sink ≡ true → length (bound_for inputs sink) < MOST_ON_SINK
 room_on inputs made me sink e = ltb-true (length (bound_for inputs sink)) MOST_ON_SINK (and_parts _ _ (and_parts _ _ (and_parts _ _ e).0).0).0
 
+-- ---- the group of the sink with the new input
+
+joined_is : (sink : Target) (s : SinkSpec) (inputs : List Input) (a : CreateFields) (feed : List ℕ) (x : Input) (group : FlatGroup) → x.sink ≡ sink.index → channels_of feed ≡ x.spec.channels → IsGroupOf sink.index s inputs group
+    → IsGroupOf sink.index s (inputs ++ x ∷ []) (joined group sink a feed x)
+joined_is sink s inputs a feed x group on count is = record {
+  channels = attached_channels x.index (volume_on sink a) Absolute a.muted feed group ∙ is.channels;
+  inputs = λ i. attached_in x.index (volume_on sink a) Absolute a.muted feed group i
+      ∙ (λ k. is.inputs i k ++ cond (nat_eq x.index.0 i.0) (count k ∷ []) [])
+      ∙ sym (subst (λ (n : SinkId). channels_there (inputs ++ x ∷ []) n i ≡ channels_there inputs n i ++ cond (nat_eq x.index.0 i.0) (x.spec.channels ∷ []) []) on (made_there inputs x i));
+}
+
 -- ---- the row
 
-created_lawful : {P : Type 0} (spec_of : P → SampleSpec) (state : State P) → IsKept spec_of state → (me : Connection) (tag : ℕ) (named : Named) (a : CreateFields) (plan : Plan P) → IsCreated state.inputs state.inputs_made me tag named a plan
-    → ((target : Target) → target_in named ≡ Some target → IsThere state.sinks target) → IsLawful state plan
-created_lawful {P} spec_of state h me tag named a plan made there =
-    subst (IsLawful state) (sym made.planned)
-    ((new, refl), (regroups (changed state (Made x (new_of sink a x) (me.streams + 1) (state.inputs_made + 1))) sink.index sink.spec.channels (slice_get_within state.sinks sink.index.0 it.sink it.there) same (settled_on state.inputs sink.index ++ x ∷ []) rising, tt, tt))
-  where
-    sink : Target
-    sink = made.sink
+module _ {P : Type 0} (spec_of : P → SampleSpec) (state : State P) (h : IsKept spec_of state) (me : Connection) (tag : ℕ) (named : Named) (a : CreateFields) (plan : Plan P)
+    (made : IsCreated state.inputs state.inputs_made me tag named (group_named state.groups named) a plan) (it : IsThere state.sinks made.sink) where
+  x : Input
+  x = input_made state.inputs_made me made.sink a
 
-    x : Input
-    x = input_made state.inputs_made me made.sink a
+  after : FlatGroup
+  after = joined made.owner made.sink a made.feed x
 
-    it : IsThere state.sinks made.sink
-    it = there made.sink made.there
+  there : made.sink.index.0 < length state.sinks
+  there = slice_get_within state.sinks made.sink.index.0 it.sink it.there
 
-    rules : (before : List SinkSpec) × IsSink before it.sink
-    rules = sink_rules [] state.sinks made.sink.index.0 it.sink h.sinks it.there
+  owned : slice_get state.groups made.sink.index.0 ≡ Some made.owner
+  owned = sym (ap (group_of state.groups) made.there) ∙ made.owned
 
-    same : (s : SinkSpec) → slice_get state.sinks made.sink.index.0 ≡ Some s → made.sink.spec.channels ≡ s.spec.channels
-    same s e = ap (λ (t : Target). t.spec.channels) it.is ∙ ap (λ (z : SinkSpec). z.spec.channels) (same_Some it.sink s (sym it.there ∙ e))
+  rules : (before : List SinkSpec) × IsSink before it.sink
+  rules = sink_rules [] state.sinks made.sink.index.0 it.sink h.steady.sinks it.there
 
-    few : (1 ≤ made.sink.spec.channels) × (made.sink.spec.channels ≤ 32)
-    few = subst (λ (t : Target). (1 ≤ t.spec.channels) × (t.spec.channels ≤ 32)) (sym it.is) rules.1.channels
+  same : (s : SinkSpec) → slice_get state.sinks made.sink.index.0 ≡ Some s → made.sink.spec.channels ≡ s.spec.channels
+  same s e = ap (λ (t : Target). t.spec.channels) it.is ∙ ap (λ (z : SinkSpec). z.spec.channels) (same_Some it.sink s (sym it.there ∙ e))
 
-    asked : Asked made.sink a
-    asked = asked_by made.sink a (subst (λ (t : Target). length t.map ≡ t.spec.channels) (sym it.is) rules.1.map_size) made.lawful made.supported made.built
+  few : (1 ≤ made.sink.spec.channels) × (made.sink.spec.channels ≤ 32)
+  few = subst (λ (t : Target). (1 ≤ t.spec.channels) × (t.spec.channels ≤ 32)) (sym it.is) rules.1.channels
 
-    new : IsNew state x (new_of sink a x)
-    new = record {
-      next = refl;
-      way = refl;
-      standing = refl;
-      is = record {
-        given = omega arith;
-        sink_there = slice_get_within state.sinks made.sink.index.0 it.sink it.there;
-        goes_there = tt;
-        playable = playable made.sink a few asked;
-        repaired = repaired_fits (spec_on made.sink a) a.asked;
-      };
-      room = room_on state.inputs state.inputs_made me made.sink.index made.room;
-      brings = λ s e. (refl, refl, new_fits made.sink s (same s e) a few asked state.inputs_made);
-    }
+  own : length made.sink.map ≡ made.sink.spec.channels
+  own = subst (λ (t : Target). length t.map ≡ t.spec.channels) (sym it.is) rules.1.map_size
 
-    rising : IsRising (settled_on state.inputs sink.index ++ x ∷ [])
-    rising = rising_push (settled_on state.inputs made.sink.index) x (rising_filter (is_settled made.sink.index) state.inputs h.rising) (all_filter (λ y. (Input.index y).0 < state.inputs_made) (is_settled made.sink.index) state.inputs
-        (all_weaken (IsInput state.sinks state.inputs_made) (λ y. (Input.index y).0 < state.inputs_made) (λ y i. i.given) state.inputs h.inputs))
+  asked : Asked made.sink a
+  asked = asked_by made.sink a few own made.lawful made.supported
+
+  feeds : FeedsAll (channels_on made.sink a) made.sink.spec.channels made.feed
+  feeds = planned made.sink a made.feed few.0 own asked made.fed
+
+  follows : (s : SinkSpec) → slice_get state.sinks made.sink.index.0 ≡ Some s → IsGroupOf made.sink.index s (state.inputs ++ x ∷ []) after
+  follows s e =
+      joined_is made.sink s state.inputs a made.feed x made.owner refl (feeds_count (channels_on made.sink a) made.sink.spec.channels made.feed asked.channels.0 feeds)
+      (h.grouped.each made.sink.index.0 s made.owner e owned refl)
+
+  fit : (s : SinkSpec) → slice_get state.sinks made.sink.index.0 ≡ Some s → length (own_factors after x.index) ≡ s.spec.channels
+  fit s e = own_fits after x.index (attached_there x.index (volume_on made.sink a) Absolute a.muted made.feed made.owner) ∙ (follows s e).channels
+
+  new : IsNew state x (new_of a after made.feed x)
+  new = record {
+    next = refl;
+    way = refl;
+    standing = refl;
+    is = record {
+      given = omega arith;
+      sink_there = there;
+      goes_there = tt;
+      playable = playable made.sink a asked;
+      repaired = repaired_fits (spec_on made.sink a) a.asked;
+    };
+    room = room_on state.inputs state.inputs_made me made.sink.index made.room;
+    brings = λ s e. (refl, refl, new_fits made.sink s (same s e) a asked made.feed (own_factors after x.index) feeds (fit s e) state.inputs_made);
+  }
+
+  rising : IsRising (settled_on state.inputs made.sink.index ++ x ∷ [])
+  rising = rising_push (settled_on state.inputs made.sink.index) x (rising_filter (is_settled made.sink.index) state.inputs h.steady.rising) (all_filter (λ y. (Input.index y).0 < state.inputs_made) (is_settled made.sink.index) state.inputs
+      (all_weaken (IsInput state.sinks state.inputs_made) (λ y. (Input.index y).0 < state.inputs_made) (λ y i. i.given) state.inputs h.steady.inputs))
+
+  created_lawful : IsLawful state plan
+  created_lawful =
+      subst (IsLawful state) (sym made.planned)
+      ((new, refl), (regroups (changed state (Made x (new_of a after made.feed x) (me.streams + 1) (state.inputs_made + 1))) made.sink.index after there follows (settled_on state.inputs made.sink.index ++ x ∷ []) rising, tt, is_paid made.sink.index))
 
 pub create_lawful : {P : Type 0} (spec_of : P → SampleSpec) (state : State P) → IsKept spec_of state → (me : Connection) (tag : ℕ) (named : Named) (a : CreateFields) → ((target : Target) → target_in named ≡ Some target → IsThere state.sinks target)
-    → Each (IsLawful state) (create state.inputs state.inputs_made me tag named a)
+    → Each (IsLawful state) (create_on state me tag a named)
 create_lawful {P} spec_of state h me tag named a there =
-    each_by (IsLawful state) (create state.inputs state.inputs_made me tag named a)
-    (λ plan e. created_lawful spec_of state h me tag named a plan (create_passed state.inputs state.inputs_made me tag named a plan e) there)
+    each_by (IsLawful state) (create_on state me tag a named)
+    (λ plan e.
+    let made = create_passed state.inputs state.inputs_made me tag named (group_named state.groups named) a plan e in
+    created_lawful spec_of state h me tag named a plan made (there made.sink made.there))

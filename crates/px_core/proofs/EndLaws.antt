@@ -33,8 +33,8 @@ use Rattle.px_core.specs.Plan.{Plan, reply_to_asker, sent_all, closed_by, closed
 use Rattle.px_core.specs.Command.{head_answer}
 use Rattle.px_core.specs.Connecting.{is_full, joined, new_connection, connected, connect_effects, unmarked, going_on}
 use Rattle.px_core.specs.Out.{next_for, past}
-use Rattle.px_core.specs.Keeps.{AreDistinct, IsKept, IsStep}
-use Rattle.px_core.specs.Lawful.{Lawful, AreLawful}
+use Rattle.px_core.specs.Keeps.{AreDistinct, IsSteady, IsKept, IsStep}
+use Rattle.px_core.specs.Lawful.{Lawful, AreLawfulOwing, owed_after}
 use Rattle.px_core.specs.Ending.{is_end_of, ends_of, goes_on, begins_with, begins_of, begins_by}
 use Rattle.px_core.specs.Step.{Step, connect, frame, broken, close, cut, sweep, notice, out, body_answer, frame_of, answer_of, stepped, effects_of, stepped_by, effects_by}
 use Rattle.px_core.proofs.AnswerLaws.{IsLawful}
@@ -213,12 +213,12 @@ ends_joined conn xs ys = ap length (filter-append (is_end_of conn) xs ys) ∙ le
 then_once : (all first later before mid after : ℕ) → all ≡ first + later → first + mid ≤ before → later + after ≤ mid → all + after ≤ before
 then_once all first later before mid after e f g = omega (arith, e, f, g)
 
-changes_once : {P : Type 0} (spec_of : P → SampleSpec) (conn : ConnId) (state : State P) (changes : List (Change P)) → IsKept spec_of state → AreLawful state changes → ends_of conn (closed_all changes) + goes_on (committed state changes).connections conn ≤ goes_on state.connections conn
-changes_once spec_of conn state [] h lawful = no_end (goes_on state.connections conn)
-changes_once spec_of conn state (c ∷ changes) h lawful =
+changes_once : {P : Type 0} (spec_of : P → SampleSpec) (conn : ConnId) (owed : List SinkId) (state : State P) (changes : List (Change P)) → IsSteady spec_of state → AreLawfulOwing owed state changes → ends_of conn (closed_all changes) + goes_on (committed state changes).connections conn ≤ goes_on state.connections conn
+changes_once spec_of conn owed state [] h lawful = no_end (goes_on state.connections conn)
+changes_once spec_of conn owed state (c ∷ changes) h lawful =
     then_once (ends_of conn (closed_in c ++ closed_all changes)) (ends_of conn (closed_in c)) (ends_of conn (closed_all changes)) (goes_on state.connections conn) (goes_on (changed state c).connections conn) (goes_on (committed (changed state c) changes).connections conn)
     (ends_joined conn (closed_in c) (closed_all changes)) (change_once conn state c h.distinct lawful.0)
-    (changes_once spec_of conn (changed state c) changes (change_follows spec_of state c h lawful.0).keeps lawful.1)
+    (changes_once spec_of conn (owed_after state c owed) (changed state c) changes (change_follows spec_of state c h lawful.0).keeps lawful.1)
 
 -- ---- plans
 
@@ -251,7 +251,7 @@ abbrev Once : {P : Type 0} → ConnId → Option ConnId → State P → Plan P �
 Once conn asker state plan = ends_of conn (plan_effects asker plan) + goes_on (committed state plan.changes).connections conn ≤ goes_on state.connections conn
 
 lawful_once : {P : Type 0} (spec_of : P → SampleSpec) (conn : ConnId) (asker : Option ConnId) (state : State P) (plan : Plan P) → IsKept spec_of state → IsLawful state plan → Once conn asker state plan
-lawful_once spec_of conn asker state plan h lawful = omega (arith, plan_ends conn asker plan, changes_once spec_of conn state plan.changes h lawful)
+lawful_once spec_of conn asker state plan h lawful = omega (arith, plan_ends conn asker plan, changes_once spec_of conn [] state plan.changes h.steady lawful)
 
 -- data tells nobody anything, be it lawful or not
 said_once : {P : Type 0} (conn : ConnId) (asker : Option ConnId) (state : State P) (frames : Option Frames) (x : Input) (seek : ℕ) (bytes : List ℕ) → Once {P = P} conn asker state (written frames x seek bytes)

@@ -22,7 +22,7 @@ use Rattle.px_plan.specs.declared.waiting.Waiting.{Waiting}
 use Rattle.px_core.specs.State.{State, has_index, is_bound_for, is_settled, bound_for, settled_on}
 use Rattle.px_core.specs.Orderly.{entry_of, spec_in, specs_of, is_held_by, is_there, inputs_there}
 use Rattle.px_core.specs.Out.{waiting_for, first_of, rest_of, on_way, with_way, inputs_past, past, handed_out}
-use Rattle.px_core.specs.Keeps.{AreInStep, IsAwaiting, IsInput, IsKept, IsRising, is_coming_to, is_coming, brought_of, handed_out_by, messages_out}
+use Rattle.px_core.specs.Keeps.{AreInStep, IsAwaiting, IsInput, IsSteady, IsRising, is_coming_to, is_coming, brought_of, handed_out_by, messages_out}
 use Rattle.px_core.proofs.ListLaws.{no_cons, same_passed, no_more_pass, all_change}
 use Rattle.px_core.proofs.EntryLaws.{FirstBrought, first_brought, Found, found_in, get_in, in_same, removed, inserted, rising_change}
 use Rattle.px_core.proofs.InStepLaws.{view, unmoved, handed}
@@ -180,7 +180,7 @@ list_there lists k x xs e =
     (λ (l : length lists ≤ k). absurd (no_cons x xs (sym e ∙ get_or_past lists k [] l)))
     (cases_lt k (length lists))
 
-past_keeps : {P : Type 0} (spec_of : P → SampleSpec) (state : State P) (sink : SinkId) → IsKept spec_of state → (waiting : List (Msg P)) → get_or state.posted sink.0 [] ≡ waiting → IsKept spec_of (past (first_of waiting) sink state)
+past_keeps : {P : Type 0} (spec_of : P → SampleSpec) (state : State P) (sink : SinkId) → IsSteady spec_of state → (waiting : List (Msg P)) → get_or state.posted sink.0 [] ≡ waiting → IsSteady spec_of (past (first_of waiting) sink state)
 past_keeps spec_of state sink h [] e = h
 past_keeps spec_of state sink h (m ∷ rest) e =
     let l = list_there state.posted sink.0 m rest e in
@@ -204,23 +204,23 @@ past_keeps spec_of state sink h (m ∷ rest) e =
           (h.in_step index s g));
     }
 
-pub out_keeps : {P : Type 0} (spec_of : P → SampleSpec) (state : State P) (sink : SinkId) → IsKept spec_of state → IsKept spec_of (handed_out sink state)
+pub out_keeps : {P : Type 0} (spec_of : P → SampleSpec) (state : State P) (sink : SinkId) → IsSteady spec_of state → IsSteady spec_of (handed_out sink state)
 out_keeps spec_of state sink h = past_keeps spec_of state sink h (get_or state.posted sink.0 []) refl
 
 -- ---- what it leaves
 
-past_spares : {P : Type 0} (spec_of : P → SampleSpec) (state : State P) (sink other : SinkId) → (other.0 ≡ sink.0 → ⊥) → IsKept spec_of state → (waiting : List (Msg P)) → get_or state.posted sink.0 [] ≡ waiting → held_on other.0 (past (first_of waiting) sink state).inputs ≡ held_on other.0 state.inputs
+past_spares : {P : Type 0} (spec_of : P → SampleSpec) (state : State P) (sink other : SinkId) → (other.0 ≡ sink.0 → ⊥) → IsSteady spec_of state → (waiting : List (Msg P)) → get_or state.posted sink.0 [] ≡ waiting → held_on other.0 (past (first_of waiting) sink state).inputs ≡ held_on other.0 state.inputs
 past_spares spec_of state sink other apart h [] e = refl
 past_spares spec_of state sink other apart h (m ∷ rest) e =
     let l = list_there state.posted sink.0 m rest e in
     let own = sink_there state.sinks sink.0 (subst (λ n. sink.0 < n) h.lists l) in
     (past_by spec_of sink.0 own.0 state.inputs m rest h.rising (subst (λ ms. AreInStep spec_of (sink_at sink.0) own.0 state.inputs ms) e (h.in_step sink.0 own.0 own.1))).others_held other.0 apart
 
-pub out_spares : {P : Type 0} (spec_of : P → SampleSpec) (state : State P) (sink other : SinkId) → (other.0 ≡ sink.0 → ⊥) → IsKept spec_of state → held_on other.0 (handed_out sink state).inputs ≡ held_on other.0 state.inputs
+pub out_spares : {P : Type 0} (spec_of : P → SampleSpec) (state : State P) (sink other : SinkId) → (other.0 ≡ sink.0 → ⊥) → IsSteady spec_of state → held_on other.0 (handed_out sink state).inputs ≡ held_on other.0 state.inputs
 out_spares spec_of state sink other apart h = past_spares spec_of state sink other apart h (get_or state.posted sink.0 []) refl
 
 -- one message: those behind it wait, and the sink's inputs are those that it leaves
-pub past_leaves : {P : Type 0} (spec_of : P → SampleSpec) (state : State P) (sink : SinkId) → IsKept spec_of state → (m : Msg P) (rest : List (Msg P)) → get_or state.posted sink.0 [] ≡ m ∷ rest
+pub past_leaves : {P : Type 0} (spec_of : P → SampleSpec) (state : State P) (sink : SinkId) → IsSteady spec_of state → (m : Msg P) (rest : List (Msg P)) → get_or state.posted sink.0 [] ≡ m ∷ rest
     → (waiting_for (past (Some m) sink state) sink ≡ rest) × (inputs_there (past (Some m) sink state) sink ≡ inputs_left spec_of (inputs_there state sink) (view m))
 past_leaves spec_of state sink h m rest e =
     let l = list_there state.posted sink.0 m rest e in
@@ -231,13 +231,13 @@ past_leaves spec_of state sink h m rest e =
 
 -- so many messages
 pub record Out {P : Type 0} (spec_of : P → SampleSpec) (state : State P) (sink : SinkId) (n : ℕ) (waiting : List (Msg P)) : Type 0 where
-  pub keeps : IsKept spec_of (handed_out_by n sink state)
+  pub keeps : IsSteady spec_of (handed_out_by n sink state)
   pub messages : messages_out n sink state ≡ take n waiting
   pub waits : waiting_for (handed_out_by n sink state) sink ≡ drop n waiting
   pub leaves : inputs_there (handed_out_by n sink state) sink ≡ inputs_left_by spec_of (inputs_there state sink) (map view (take n waiting))
 
 -- where none waits, nothing changes
-none_out : {P : Type 0} (spec_of : P → SampleSpec) (state : State P) (sink : SinkId) → IsKept spec_of state → waiting_for state sink ≡ [] → (n : ℕ) → (handed_out_by n sink state ≡ state) × (messages_out n sink state ≡ [])
+none_out : {P : Type 0} (spec_of : P → SampleSpec) (state : State P) (sink : SinkId) → IsSteady spec_of state → waiting_for state sink ≡ [] → (n : ℕ) → (handed_out_by n sink state ≡ state) × (messages_out n sink state ≡ [])
 none_out spec_of state sink h e zero = (refl, refl)
 none_out {P} spec_of state sink h e (suc n) =
     let same : handed_out sink state ≡ state = ap (λ ms. past (first_of ms) sink state) e in
@@ -246,12 +246,12 @@ none_out {P} spec_of state sink h e (suc n) =
       (λ i. option_to_list (first_of (e i)) ++ messages_out n sink (same i)) ∙ more.1,
     )
 
-pub all_out : {P : Type 0} (spec_of : P → SampleSpec) (state : State P) (sink : SinkId) → IsKept spec_of state → (n : ℕ) (waiting : List (Msg P)) → waiting_for state sink ≡ waiting → Out spec_of state sink n waiting
+pub all_out : {P : Type 0} (spec_of : P → SampleSpec) (state : State P) (sink : SinkId) → IsSteady spec_of state → (n : ℕ) (waiting : List (Msg P)) → waiting_for state sink ≡ waiting → Out spec_of state sink n waiting
 all_out spec_of state sink h zero waiting e = record { keeps = h; messages = refl; waits = e; leaves = refl }
 all_out {P} spec_of state sink h (suc n) [] e =
     let stays = none_out spec_of state sink h e (suc n) in
     record {
-      keeps = subst (IsKept spec_of) (sym stays.0) h;
+      keeps = subst (IsSteady spec_of) (sym stays.0) h;
       messages = stays.1;
       waits = ap (λ (s : State P). waiting_for s sink) stays.0 ∙ e;
       leaves = ap (λ (s : State P). inputs_there s sink) stays.0;
@@ -259,9 +259,9 @@ all_out {P} spec_of state sink h (suc n) [] e =
 all_out {P} spec_of state sink h (suc n) (m ∷ rest) e =
     let next : handed_out sink state ≡ past (Some m) sink state = ap (λ ms. past (first_of ms) sink state) e in
     let one = past_leaves spec_of state sink h m rest e in
-    let it : Out spec_of (past (Some m) sink state) sink n rest = all_out spec_of (past (Some m) sink state) sink (subst (IsKept spec_of) next (out_keeps spec_of state sink h)) n rest one.0 in
+    let it : Out spec_of (past (Some m) sink state) sink n rest = all_out spec_of (past (Some m) sink state) sink (subst (IsSteady spec_of) next (out_keeps spec_of state sink h)) n rest one.0 in
     record {
-      keeps = subst (λ (s : State P). IsKept spec_of (handed_out_by n sink s)) (sym next) it.keeps;
+      keeps = subst (λ (s : State P). IsSteady spec_of (handed_out_by n sink s)) (sym next) it.keeps;
       messages = (λ i. option_to_list (first_of (e i)) ++ messages_out n sink (next i)) ∙ ap (λ ms. m ∷ ms) it.messages;
       waits = ap (λ (s : State P). waiting_for (handed_out_by n sink s) sink) next ∙ it.waits;
       leaves = ap (λ (s : State P). inputs_there (handed_out_by n sink s) sink) next ∙ it.leaves ∙ ap (λ inputs. inputs_left_by spec_of inputs (map view (take n rest))) one.1;

@@ -108,9 +108,9 @@ from_same spec_of s before mid after messages e h = subst (λ inputs. Heard spec
 heard_next : {P : Type 0} (spec_of : P → SampleSpec) (state : State P) (sink : SinkId) (s : SinkSpec) → slice_get state.sinks sink.0 ≡ Some s → IsKept spec_of state → (waiting : List (Msg P)) → get_or state.posted sink.0 [] ≡ waiting → (after : Inputs) (later : List (Msg P)) → Heard spec_of s (inputs_there (past (first_of waiting) sink state) sink) after later → Heard spec_of s (inputs_there state sink) after (option_to_list (first_of waiting) ++ later)
 heard_next spec_of state sink s there h [] e after later heard = heard
 heard_next spec_of state sink s there h (m ∷ rest) e after later heard =
-    let first : AreInStep spec_of (sink_at sink.0) s state.inputs (m ∷ rest) = subst (λ ms. AreInStep spec_of (sink_at sink.0) s state.inputs ms) e (h.in_step sink.0 s there) in
+    let first : AreInStep spec_of (sink_at sink.0) s state.inputs (m ∷ rest) = subst (λ ms. AreInStep spec_of (sink_at sink.0) s state.inputs ms) e (h.steady.in_step sink.0 s there) in
     let it : Heard spec_of s (inputs_left spec_of (inputs_there state sink) (view m)) after later =
-    from_same spec_of s (inputs_left spec_of (inputs_there state sink) (view m)) (inputs_there (past (Some m) sink state) sink) after later (past_leaves spec_of state sink h m rest e).1 heard in
+    from_same spec_of s (inputs_left spec_of (inputs_there state sink) (view m)) (inputs_there (past (Some m) sink state) sink) after later (past_leaves spec_of state sink h.steady m rest e).1 heard in
     record { orderly = (first.orderly.0, first.orderly.1, it.orderly); left = it.left; each = (first.each.0, it.each) }
 
 heard_step : {P : Type 0} (spec_of : P → SampleSpec) (state : State P) (sink : SinkId) (s : SinkSpec) → slice_get state.sinks sink.0 ≡ Some s → IsKept spec_of state → (t : Step P) → IsStep t → (after : Inputs) (later : List (Msg P)) → Heard spec_of s (inputs_there (stepped spec_of state t) sink) after later → Heard spec_of s (inputs_there state sink) after (told_in sink state t ++ later)
@@ -172,4 +172,4 @@ outs_told spec_of sink (suc n) state =
     ∙ ap (λ messages. option_to_list (next_for state sink) ++ messages) (outs_told spec_of sink n (handed_out sink state))
 
 pub outs_take : {P : Type 0} (spec_of : P → SampleSpec) (sink : SinkId) (n : ℕ) (state : State P) → IsKept spec_of state → told_by spec_of sink state (replicate n (out sink)) ≡ take n (waiting_for state sink)
-outs_take spec_of sink n state h = outs_told spec_of sink n state ∙ (all_out spec_of state sink h n (waiting_for state sink) refl).messages
+outs_take spec_of sink n state h = outs_told spec_of sink n state ∙ (all_out spec_of state sink h.steady n (waiting_for state sink) refl).messages

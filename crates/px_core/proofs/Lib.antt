@@ -10,6 +10,7 @@ pub mod InStepLaws
 pub mod GoingLaws
 pub mod ChangeLaws
 pub mod MoveLaws
+pub mod GroupLaws
 pub mod HandingLaws
 pub mod VerbLaws
 pub mod RowLaws

@@ -19,7 +19,7 @@ use Rattle.px_core.specs.State.{State, has_index, input_of, belongs_to, is_bound
 use Rattle.px_core.specs.Change.{change_first, moving_to, arrived_at, departing, arriving}
 use Rattle.px_ctl_play.specs.Asked.{MOST_ON_SINK}
 use Rattle.px_core.specs.Orderly.{entry_of, spec_in, specs_of, is_held_by, is_there}
-use Rattle.px_core.specs.Keeps.{IsInput, IsKept, IsRising, is_coming_to, is_coming}
+use Rattle.px_core.specs.Keeps.{IsInput, IsSteady, IsRising, is_coming_to, is_coming}
 use Rattle.px_core.proofs.ListLaws.{same_passed, no_more_pass, one_more_passes, fewer_by_one, all_change, found_all}
 use Rattle.px_core.proofs.EntryLaws.{get_in, here_in, in_same, removed, inserted, arrived_in, few_specs, rising_change}
 use Rattle.px_core.proofs.InStepLaws.{unmoved, still_few, posted}
@@ -64,8 +64,8 @@ module _ (to : SinkId) (inputs : List Input) (x : Input) where
 departing_input : (sinks : List SinkSpec) (made : ℕ) (to : SinkId) → to.0 < length sinks → (y : Input) → IsInput sinks made y → IsInput sinks made (moving_to to y)
 departing_input sinks made to there y k = record { given = k.given; sink_there = k.sink_there; goes_there = there; playable = k.playable; repaired = k.repaired }
 
-pub departing_keeps : {P : Type 0} (spec_of : P → SampleSpec) (state : State P) (x : Input) (to : SinkId) → IsKept spec_of state → input_of state.inputs x.index ≡ Some x → x.standing ≡ Settled → to.0 < length state.sinks → length (bound_for state.inputs to) < MOST_ON_SINK
-    → IsKept spec_of (departing to x state)
+pub departing_keeps : {P : Type 0} (spec_of : P → SampleSpec) (state : State P) (x : Input) (to : SinkId) → IsSteady spec_of state → input_of state.inputs x.index ≡ Some x → x.standing ≡ Settled → to.0 < length state.sinks → length (bound_for state.inputs to) < MOST_ON_SINK
+    → IsSteady spec_of (departing to x state)
 departing_keeps {P} spec_of state x to h here settled there room = record {
   sinks = h.sinks;
   distinct = h.distinct;
@@ -139,10 +139,10 @@ module _ (to : SinkId) (inputs : List Input) (x : Input) (here : input_of inputs
 arriving_input : (sinks : List SinkSpec) (made : ℕ) (to : SinkId) → to.0 < length sinks → (y : Input) → IsInput sinks made y → IsInput sinks made (arrived_at to y)
 arriving_input sinks made to there y k = record { given = k.given; sink_there = there; goes_there = tt; playable = k.playable; repaired = k.repaired }
 
-pub arriving_keeps : {P : Type 0} (spec_of : P → SampleSpec) (state : State P) (x : Input) (to : SinkId) (parcel : P) (feed factors : List ℕ) → IsKept spec_of state → input_of state.inputs x.index ≡ Some x → x.standing ≡ Moving to → x.way ≡ Left → to.0 < length state.sinks
+pub arriving_keeps : {P : Type 0} (spec_of : P → SampleSpec) (state : State P) (x : Input) (to : SinkId) (parcel : P) (feed factors : List ℕ) → IsSteady spec_of state → input_of state.inputs x.index ≡ Some x → x.standing ≡ Moving to → x.way ≡ Left → to.0 < length state.sinks
     → spec_of parcel ≡ sample_spec x.spec
     → ((s : SinkSpec) → slice_get state.sinks to.0 ≡ Some s → IsParcel (sample_spec s.spec) (spec_of parcel) feed factors)
-    → IsKept spec_of (arriving to x (Attach x.index parcel feed factors) state)
+    → IsSteady spec_of (arriving to x (Attach x.index parcel feed factors) state)
 arriving_keeps {P} spec_of state x to parcel feed factors h here moves left there same fits = record {
   sinks = h.sinks;
   distinct = h.distinct;

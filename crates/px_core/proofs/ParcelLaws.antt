@@ -18,8 +18,8 @@ use Rattle.px_plan.specs.declared.input.Input.{Input}
 use Rattle.px_plan.specs.declared.input.Standing.{Standing}
 use Rattle.px_plan.specs.declared.input.Standing.TheVariants.{Settled, Moving, Leaving}
 use Rattle.px_core.specs.State.{State, new_state, connection_of, input_of}
-use Rattle.px_core.specs.Change.{Change, posting, ending, ending_of, saying, saying_of, changed, committed}
-use Rattle.px_core.specs.Lawful.{Brings, Suits, AreFor, Lawful, AreLawful}
+use Rattle.px_core.specs.Change.{Change, posting, regrouping, ending, ending_of, saying, saying_of, changed, committed}
+use Rattle.px_core.specs.Lawful.{Brings, Suits, AreFor, Lawful, AreLawfulOwing, owed_after}
 use Rattle.px_plan.specs.Plan.{Planned}
 use Rattle.px_core.specs.Connecting.{is_full, joined, connected}
 use Rattle.px_core.specs.Out.{first_of, rest_of, waiting_for, next_for, past, handed_out}
@@ -138,16 +138,16 @@ module _ {P : Type 0} (whole : P → Type 0) where
   change_carries state (Said index m) lawful h = saying_carries (input_of state.inputs index) m state lawful h
   change_carries state (Regrouped sink group m) lawful h =
       let own = sink_there state.sinks sink.0 lawful.there in
-      posting_carries sink.0 m state (factors_none own.0 m (lawful.factors own.0 own.1)) h
+      posting_carries sink.0 m (regrouping sink.0 group state) (factors_none own.0 m (lawful.factors own.0 own.1)) h
   change_carries state (Asked w) lawful h = h
   change_carries state (Answered w) lawful h = h
   change_carries state (Gone index) lawful h = h
   change_carries state (Ended conn reason fault at) lawful h = h
   change_carries state (Forgotten conn) lawful h = h
 
-  changes_carry : (changes : List (Change P)) (state : State P) → AreLawful state changes → AllCarry whole state → AllCarry whole (committed state changes)
-  changes_carry [] state lawful h = h
-  changes_carry (c ∷ changes) state lawful h = changes_carry changes (changed state c) lawful.1 (change_carries state c lawful.0 h)
+  changes_carry : (owed : List SinkId) (changes : List (Change P)) (state : State P) → AreLawfulOwing owed state changes → AllCarry whole state → AllCarry whole (committed state changes)
+  changes_carry owed [] state lawful h = h
+  changes_carry owed (c ∷ changes) state lawful h = changes_carry (owed_after state c owed) changes (changed state c) lawful.1 (change_carries state c lawful.0 h)
 
   -- ---- steps
 
@@ -165,7 +165,7 @@ module _ {P : Type 0} (whole : P → Type 0) where
           (all_rest (Carries whole) (waiting_for state sink) (all_get (AllByRecursion (Carries whole)) state.posted sink.0 [] h tt))
 
   answer_carries : (spec_of : P → SampleSpec) (state : State P) (s : Step P) → IsStep s → IsKept spec_of state → AllCarry whole state → AllCarry whole (committed state (Planned.changes (answer_of spec_of state s)))
-  answer_carries spec_of state s is kept h = changes_carry (Planned.changes (answer_of spec_of state s)) state (answer_lawful spec_of state s is kept) h
+  answer_carries spec_of state s is kept h = changes_carry [] (Planned.changes (answer_of spec_of state s)) state (answer_lawful spec_of state s is kept) h
 
   pub step_carries : (spec_of : P → SampleSpec) (state : State P) (s : Step P) → IsStep s → Takes whole s → IsKept spec_of state → AllCarry whole state → AllCarry whole (stepped spec_of state s)
   step_carries spec_of state (connect conn) is takes kept h = connected_carries (connection_of state.connections conn) conn state h

@@ -43,8 +43,8 @@ use Rattle.px_ctl_play.specs.declared.timing.Progress.{Progress}
 use Rattle.px_ctl_play.specs.Answer.{answered}
 use Rattle.px_ctl_play.specs.Drain.{drain_answered, drained}
 use Rattle.px_ctl_play.specs.Latency.{fields_of, time_given, latency_answered, measured}
-use Rattle.px_ctl_play.specs.Factors.{regrouped}
-use Rattle.px_ctl_play.specs.Told.{message_of, told, gives_up, left}
+use Rattle.px_flat.specs.FlatVolume.{FlatGroup}
+use Rattle.px_ctl_play.specs.Told.{message_of, told, gives_up, gone, left}
 use Rattle.px_core.specs.declared.effect.Effect.{Effect}
 use Rattle.px_core.specs.declared.effect.Effect.TheVariants.{Sent, Closed}
 use Rattle.px_core.specs.State.{State, goes_on, connection_of, settled_on, stream_of, marked_of, is_from}
@@ -54,7 +54,7 @@ use Rattle.px_core.specs.Plan.{Plan, reply_to_asker, sent_all, closed_by, closed
 use Rattle.px_core.specs.Command.{row, read_answer, is_barred, is_waiting_for_work, command_answer, head_answer}
 use Rattle.px_core.specs.Connecting.{is_full, connect_effects, going_on, ended, ends, swept, sweep_of}
 use Rattle.px_core.specs.Notice.{input_on, owner_of, notice_answer}
-use Rattle.px_core.specs.Sinks.{channels_on, rate_on}
+use Rattle.px_core.specs.Sinks.{rate_on}
 use Rattle.px_core.specs.Step.{Step, connect, frame, broken, close, cut, sweep, notice, out, body_answer, frame_of, sender_of, answer_of, stepped, effects_of}
 use Rattle.px_core.proofs.ListLaws.{heads, no_cons}
 use Rattle.px_core.proofs.RowLaws.{Each}
@@ -171,10 +171,13 @@ told_kind None owner about = still refl
 told_kind (Some x) None about = still refl
 told_kind {P} (Some x) (Some c) about = cond_both (goes_on x) (telling c.conn (message_of about x)) idle (Kind {P = P} None) (λ e. still refl) (λ e. still refl)
 
-left_kind : {P : Type 0} (input : Option Input) (spec : SampleSpec) (channels : ℕ) (inputs : List Input) → Kind {P = P} None (left input spec channels inputs)
-left_kind None spec channels inputs = still refl
-left_kind {P} (Some x) spec channels inputs =
-    cond_both (gives_up spec x) (changing (Gone x.index ∷ regrouped x.sink channels (settled_on inputs x.sink) ∷ [])) idle (Kind {P = P} None) (λ e. silent refl) (λ e. still refl)
+left_kind : {P : Type 0} (input : Option Input) (group : Option FlatGroup) (spec : SampleSpec) (inputs : List Input) → Kind {P = P} None (left input group spec inputs)
+left_kind None group spec inputs = still refl
+left_kind {P} (Some x) group spec inputs = cond_both (gives_up spec x) (gone x group inputs) idle (Kind {P = P} None) (λ e. goes group) (λ e. still refl)
+  where
+    goes : (group : Option FlatGroup) → Kind {P = P} None (gone x group inputs)
+    goes None = still refl
+    goes (Some own) = silent refl
 
 -- a request is answered: its client has a reply
 answered_kind : {P : Type 0} (owner : Option Connection) (w : Waiting) (reply : List ℕ) → get_or reply 4 0 ≡ 2 → Kind {P = P} None (answered owner w reply)
@@ -210,7 +213,7 @@ notice_kind spec_of state sink (Overflow input) = told_kind (input_on state.inpu
 notice_kind spec_of state sink (Underflow input) = told_kind (input_on state.inputs sink input) (owner_of state.connections (input_on state.inputs sink input)) news.Underflow
 notice_kind spec_of state sink (Started input) = told_kind (input_on state.inputs sink input) (owner_of state.connections (input_on state.inputs sink input)) news.Started
 notice_kind spec_of state sink (Drained input t) = drained_kind (input_on state.inputs sink input) (owner_of state.connections (input_on state.inputs sink input)) state.waiting t
-notice_kind spec_of state sink (Detached input parcel) = left_kind (input_on state.inputs sink input) (spec_of parcel) (channels_on state.sinks sink) state.inputs
+notice_kind spec_of state sink (Detached input parcel) = left_kind (input_on state.inputs sink input) (slice_get state.groups sink.0) (spec_of parcel) state.inputs
 notice_kind spec_of state sink (Latency input t write read buffered playing run) =
     measured_kind (input_on state.inputs sink input) (owner_of state.connections (input_on state.inputs sink input)) state.waiting (rate_on state.sinks sink) t (record { write = write; read = read; buffered = buffered; playing = playing; run = run })
 

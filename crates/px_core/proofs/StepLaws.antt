@@ -1,5 +1,5 @@
 -- Each step keeps what the state keeps, and so does a new state.
-use Rattle.std.proofs.Common.{◌≡◌, ℕ, List, [], ◌∷◌, ◌++◌, length, Option, Some, None, Bool, true, false, refl, ap, sym, subst, arith, cond, ⊎_elim}
+use Rattle.std.proofs.Common.{◌≡◌, ℕ, zero, suc, List, [], ◌∷◌, ◌++◌, length, Option, Some, None, Bool, true, false, refl, ap, sym, subst, arith, cond, ⊎_elim}
 use Rattle.std.specs.Prelude.{nat_eq, nat_le, ◌+◌, replicate, get_or, not, is_some, IsSome, Result, Ok, Err}
 use Rattle.std.specs.List.{AllByRecursion}
 use Rattle.std.specs.FinMap as finite
@@ -49,13 +49,15 @@ use Rattle.px_core.specs.Command.{default_sink, row, read_answer, is_barred, is_
 use Rattle.px_core.specs.Connecting.{is_full, new_connection, joined, connected, ended, going_on}
 use Rattle.px_core.specs.Notice.{input_on, owner_of, told_of, notice_answer}
 use Rattle.px_core.specs.Orderly.{inputs_there}
-use Rattle.px_core.specs.Keeps.{AreDistinct, AreInStep, IsKept, IsStep, Spares}
+use Rattle.px_core.specs.Keeps.{AreDistinct, AreInStep, IsKept, IsStep, Spares, handed_out_by}
+use Rattle.px_core.specs.Out.{next_for, handed_out}
 use Rattle.px_core.specs.Plan.{Plan, refused, reply_fits, requested, broken_off}
 use Rattle.px_core.specs.Sinks.{rate_of, rate_on, depth_of, sink_of, named_by}
 use Rattle.px_core.specs.Step.{Step, connect, frame, broken, close, cut, sweep, notice, out, body_answer, frame_of, answered, answer_of, stepped, stepped_by}
 use Rattle.px_core.proofs.ListLaws.{all_push}
 use Rattle.px_core.proofs.ChangeLaws.{sink_at, held_on}
 use Rattle.px_core.proofs.HandingLaws.{out_keeps, out_spares}
+use Rattle.px_core.proofs.GroupLaws.{changes_grouped, past_grouped, new_grouped}
 use Rattle.px_core.proofs.VerbLaws.{Follows, others_keep, changes_follow}
 use Rattle.px_core.proofs.RowLaws.{Each, each_check, each_then}
 use Rattle.px_core.proofs.Going.{going_by_own}
@@ -73,14 +75,17 @@ no_lists none n index = ⊎_elim (λ l. get_or-replicate n index none none l) (�
 
 pub new_keeps : {P : Type 0} (spec_of : P → SampleSpec) (header : Header) → IsHeader header → IsKept spec_of (new_state {P = P} header)
 new_keeps {P} spec_of header h = record {
-  sinks = h.sinks;
-  distinct = tt;
-  rising = tt;
-  inputs = tt;
-  waiting = tt;
-  lists = length-replicate (length header.sinks) [];
-  in_step = λ index s e. subst (AreInStep spec_of (sink_at index) s []) (sym (no_lists [] (length header.sinks) index))
-      (record { orderly = tt; leaves = refl; bring = λ i. refl; each = tt; few = omega arith });
+  steady = record {
+    sinks = h.sinks;
+    distinct = tt;
+    rising = tt;
+    inputs = tt;
+    waiting = tt;
+    lists = length-replicate (length header.sinks) [];
+    in_step = λ index s e. subst (AreInStep spec_of (sink_at index) s []) (sym (no_lists [] (length header.sinks) index))
+        (record { orderly = tt; leaves = refl; bring = λ i. refl; each = tt; few = omega arith });
+  };
+  grouped = new_grouped header.sinks;
 }
 
 -- ---- commands
@@ -98,14 +103,14 @@ row_lawful spec_of state h me tag (commands.Create fields) =
     create_lawful spec_of state h me tag (named_by state.names state.sinks fields.sink true) fields
     (named_there state.sinks (sink_named state.names fields.sink.index fields.sink.name true))
 row_lawful spec_of state h me tag (commands.Delete stream) = delete_lawful state (stream_of state.inputs me.conn stream) state.waiting tag
-row_lawful spec_of state h me tag (commands.Drain stream) = drain_lawful state h.rising me.conn stream tag (stream_of state.inputs me.conn stream) refl
-row_lawful spec_of state h me tag (commands.Latency stream time) = latency_lawful state h.rising me.conn stream time tag (stream_of state.inputs me.conn stream) refl
-row_lawful spec_of state h me tag (commands.Cork stream on) = cork_lawful state h.rising me.conn stream on tag (stream_of state.inputs me.conn stream) refl
-row_lawful spec_of state h me tag (commands.Flush stream) = flush_lawful state h.rising me.conn stream tag (stream_of state.inputs me.conn stream) refl
-row_lawful spec_of state h me tag (commands.Trigger stream) = trigger_lawful state h.rising me.conn stream tag (stream_of state.inputs me.conn stream) refl
-row_lawful spec_of state h me tag (commands.Prebuf stream) = prebuf_lawful state h.rising me.conn stream tag (stream_of state.inputs me.conn stream) refl
+row_lawful spec_of state h me tag (commands.Drain stream) = drain_lawful state h.steady.rising me.conn stream tag (stream_of state.inputs me.conn stream) refl
+row_lawful spec_of state h me tag (commands.Latency stream time) = latency_lawful state h.steady.rising me.conn stream time tag (stream_of state.inputs me.conn stream) refl
+row_lawful spec_of state h me tag (commands.Cork stream on) = cork_lawful state h.steady.rising me.conn stream on tag (stream_of state.inputs me.conn stream) refl
+row_lawful spec_of state h me tag (commands.Flush stream) = flush_lawful state h.steady.rising me.conn stream tag (stream_of state.inputs me.conn stream) refl
+row_lawful spec_of state h me tag (commands.Trigger stream) = trigger_lawful state h.steady.rising me.conn stream tag (stream_of state.inputs me.conn stream) refl
+row_lawful spec_of state h me tag (commands.Prebuf stream) = prebuf_lawful state h.steady.rising me.conn stream tag (stream_of state.inputs me.conn stream) refl
 row_lawful spec_of state h me tag (commands.Attributes stream asked adjust_latency early_requests) =
-    attributes_lawful state h.rising me.conn stream (depth_of (sink_of state.sinks (stream_of state.inputs me.conn stream))) (rate_of (sink_of state.sinks (stream_of state.inputs me.conn stream))) asked tag (stream_of state.inputs me.conn stream) refl
+    attributes_lawful state h.steady.rising me.conn stream (depth_of (sink_of state.sinks (stream_of state.inputs me.conn stream))) (rate_of (sink_of state.sinks (stream_of state.inputs me.conn stream))) asked tag (stream_of state.inputs me.conn stream) refl
 row_lawful spec_of state h me tag (commands.EmptyList number) = tt
 row_lawful spec_of state h me tag (commands.LookupSink name) = each_then (IsLawful state) (sink_called state.names name) _ (λ sink. tt)
 row_lawful spec_of state h me tag (commands.DefaultSink name) = each_then (IsLawful state) (sink_called state.names name) _ (λ sink. (tt, tt))
@@ -162,7 +167,7 @@ head_lawful spec_of state h c e at packet (Ok head) = command_lawful spec_of sta
 
 body_lawful : {P : Type 0} (spec_of : P → SampleSpec) (state : State P) → IsKept spec_of state → (c : Connection) → going_on state.connections c.conn ≡ Some c → (at : ℕ) (body : Body) → IsBody body → IsLawful state (body_answer state c at body)
 body_lawful spec_of state h c e at (Control packet) is = head_lawful spec_of state h c e at packet (head_at (start_of packet))
-body_lawful spec_of state h c e at (Write stream offset seek bytes) is = data_lawful state h.rising c.conn stream offset seek bytes is.1 (stream_of state.inputs c.conn stream) refl
+body_lawful spec_of state h c e at (Write stream offset seek bytes) is = data_lawful state h.steady.rising c.conn stream offset seek bytes is.1 (stream_of state.inputs c.conn stream) refl
 
 frame_lawful : {P : Type 0} (spec_of : P → SampleSpec) (state : State P) → IsKept spec_of state → (conn : ConnId) (o : Option Connection) → going_on state.connections conn ≡ o → (f : Frame) → IsBody f.body → IsLawful state (frame_of state o f)
 frame_lawful spec_of state h conn None e f is = tt
@@ -184,8 +189,11 @@ connected_keeps spec_of state h (Some c) conn e = h
 connected_keeps spec_of state h None conn e =
     cond_both (is_full state) state (joined conn state) (IsKept spec_of)
     (λ f. h)
-    (λ f. others_keep spec_of state h (state.connections ++ new_connection conn state.clients_made ∷ []) (distinct_push conn state.clients_made state.connections e h.distinct)
-    (record state.names { clients = state.names.clients ++ new_client conn state.clients_made ∷ [] }) (state.clients_made + 1))
+    (λ f. record {
+      steady = others_keep spec_of state h.steady (state.connections ++ new_connection conn state.clients_made ∷ []) (distinct_push conn state.clients_made state.connections e h.steady.distinct)
+          (record state.names { clients = state.names.clients ++ new_client conn state.clients_made ∷ [] }) (state.clients_made + 1);
+      grouped = h.grouped;
+    })
 
 -- ---- notices
 
@@ -224,17 +232,31 @@ answer_lawful spec_of state (notice sink n) is h = notice_lawful spec_of state h
 answer_lawful spec_of state (out sink) is h = tt
 
 step_answered : {P : Type 0} (spec_of : P → SampleSpec) (state : State P) (s : Step P) → IsStep s → IsKept spec_of state → Follows spec_of state (answered state (answer_of spec_of state s))
-step_answered spec_of state s is h = changes_follow spec_of state (Planned.changes (answer_of spec_of state s)) h (answer_lawful spec_of state s is h)
+step_answered spec_of state s is h = changes_follow spec_of [] state (Planned.changes (answer_of spec_of state s)) h.steady (answer_lawful spec_of state s is h)
+
+answer_keeps : {P : Type 0} (spec_of : P → SampleSpec) (state : State P) (s : Step P) → IsStep s → IsKept spec_of state → IsKept spec_of (answered state (answer_of spec_of state s))
+answer_keeps spec_of state s is h = record {
+  steady = (step_answered spec_of state s is h).keeps;
+  grouped = changes_grouped [] state (Planned.changes (answer_of spec_of state s)) (answer_lawful spec_of state s is h) h.grouped;
+}
+
+-- what is handed out
+pub out_kept : {P : Type 0} (spec_of : P → SampleSpec) (state : State P) (sink : SinkId) → IsKept spec_of state → IsKept spec_of (handed_out sink state)
+out_kept spec_of state sink h = record { steady = out_keeps spec_of state sink h.steady; grouped = past_grouped state (next_for state sink) sink h.grouped }
+
+pub outs_kept : {P : Type 0} (spec_of : P → SampleSpec) (state : State P) (sink : SinkId) (n : ℕ) → IsKept spec_of state → IsKept spec_of (handed_out_by n sink state)
+outs_kept spec_of state sink zero h = h
+outs_kept spec_of state sink (suc n) h = outs_kept spec_of (handed_out sink state) sink n (out_kept spec_of state sink h)
 
 pub step_keeps : {P : Type 0} (spec_of : P → SampleSpec) (state : State P) (s : Step P) → IsStep s → IsKept spec_of state → IsKept spec_of (stepped spec_of state s)
 step_keeps spec_of state (connect conn) is h = connected_keeps spec_of state h (connection_of state.connections conn) conn refl
-step_keeps spec_of state (frame conn f) is h = (step_answered spec_of state (frame conn f) is h).keeps
-step_keeps spec_of state (broken conn fault at) is h = (step_answered spec_of state (broken conn fault at) is h).keeps
-step_keeps spec_of state (close conn) is h = (step_answered spec_of state (close conn) is h).keeps
-step_keeps spec_of state (cut conn) is h = (step_answered spec_of state (cut conn) is h).keeps
-step_keeps spec_of state sweep is h = (step_answered spec_of state sweep is h).keeps
-step_keeps spec_of state (notice sink n) is h = (step_answered spec_of state (notice sink n) is h).keeps
-step_keeps spec_of state (out sink) is h = out_keeps spec_of state sink h
+step_keeps spec_of state (frame conn f) is h = answer_keeps spec_of state (frame conn f) is h
+step_keeps spec_of state (broken conn fault at) is h = answer_keeps spec_of state (broken conn fault at) is h
+step_keeps spec_of state (close conn) is h = answer_keeps spec_of state (close conn) is h
+step_keeps spec_of state (cut conn) is h = answer_keeps spec_of state (cut conn) is h
+step_keeps spec_of state sweep is h = answer_keeps spec_of state sweep is h
+step_keeps spec_of state (notice sink n) is h = answer_keeps spec_of state (notice sink n) is h
+step_keeps spec_of state (out sink) is h = out_kept spec_of state sink h
 
 -- and all of them, one after the other
 pub steps_keep : {P : Type 0} (spec_of : P → SampleSpec) (state : State P) (steps : List (Step P)) → AllByRecursion IsStep steps → IsKept spec_of state → IsKept spec_of (stepped_by spec_of state steps)
@@ -253,4 +275,4 @@ step_spares {P} spec_of state s sink is spares h = ap finite.from_entries (same 
     same (cut conn) is spares = (step_answered spec_of state (cut conn) is h).held sink.0
     same sweep is spares = (step_answered spec_of state sweep is h).held sink.0
     same (notice from n) is spares = (step_answered spec_of state (notice from n) is h).held sink.0
-    same (out to) is spares = out_spares spec_of state to sink (λ e. spares (sym e)) h
+    same (out to) is spares = out_spares spec_of state to sink (λ e. spares (sym e)) h.steady

@@ -28,6 +28,7 @@ use Rattle.px_names.specs.InputLists.{list_of as list_of_input}
 use Rattle.px_ctl_info.specs.Clients.{SERVER_VERSION, version_in, auth, info_of, connection_with}
 use Rattle.px_ctl_info.specs.Properties.{list_of, mode_of, has_keys, name_in}
 use Rattle.px_ctl_info.specs.Sinks.{sink_called, server_of}
+use Rattle.px_flat.specs.FlatVolume.{FlatGroup}
 use Rattle.px_ctl_play.specs.Create.{created_of, input_made, create}
 use Rattle.px_ctl_play.specs.Attributes.{attributes}
 use Rattle.px_ctl_play.specs.Control.{cork, flush, trigger, prebuf}
@@ -39,7 +40,7 @@ use Rattle.px_ctl_play.proofs.Passed.{IsCreated, create_passed}
 use Rattle.px_core.specs.State.{State, stream_of, input_numbered}
 use Rattle.px_core.specs.Plan.{Plan, plan_effects}
 use Rattle.px_core.specs.Command.{default_sink, row}
-use Rattle.px_core.specs.Sinks.{rate_of, depth_of, sink_of, named_by}
+use Rattle.px_core.specs.Sinks.{rate_of, depth_of, sink_of, named_by, group_named}
 use Rattle.px_core.proofs.RowLaws.{Each, each_check, each_then, each_by}
 
 -- ---- replies: the fifth byte, the last of a reply's first number, is 2
@@ -132,17 +133,17 @@ auth_tells P names me t version cookie =
     (each_check (Tells {P = P}) (same_text cookie names.cookie) Access _
     (a_reply (reply_to t ++ number SERVER_VERSION) refl (reply_byte t (number SERVER_VERSION)))))
 
-pub create_tells : (P : Type 0) (inputs : List Input) (made : ℕ) (me : Connection) (t : ℕ) (named : Named) (a : CreateFields) → Each (Tells {P = P}) (create inputs made me t named a)
-create_tells P inputs made me t named a = each_by (Tells {P = P}) (create inputs made me t named a) (λ plan e. by plan (create_passed inputs made me t named a plan e))
+pub create_tells : (P : Type 0) (inputs : List Input) (made : ℕ) (me : Connection) (t : ℕ) (named : Named) (group : Option FlatGroup) (a : CreateFields) → Each (Tells {P = P}) (create inputs made me t named group a)
+create_tells P inputs made me t named group a = each_by (Tells {P = P}) (create inputs made me t named group a) (λ plan e. by plan (create_passed inputs made me t named group a plan e))
   where
-    by : (plan : Plan P) → IsCreated inputs made me t named a plan → Tells plan
+    by : (plan : Plan P) → IsCreated inputs made me t named group a plan → Tells plan
     by plan p =
         a_reply (created_reply t (created_of p.sink a (input_made made me p.sink a))) (ap (λ (x : Plan P). x.reply) p.planned) (created_byte t (created_of p.sink a (input_made made me p.sink a)))
 
 pub row_tells : {P : Type 0} (state : State P) (me : Connection) (t : ℕ) (command : Command) → Each Tells (row state me t command)
 row_tells {P} state me t (commands.Auth version cookie) = auth_tells P state.names me t version cookie
 row_tells state me t (commands.SetClientName list) = a_reply (reply_to t ++ number me.client) refl (reply_byte t (number me.client))
-row_tells {P} state me t (commands.Create fields) = create_tells P state.inputs state.inputs_made me t (named_by state.names state.sinks fields.sink true) fields
+row_tells {P} state me t (commands.Create fields) = create_tells P state.inputs state.inputs_made me t (named_by state.names state.sinks fields.sink true) (group_named state.groups (named_by state.names state.sinks fields.sink true)) fields
 row_tells {P} state me t (commands.Delete stream) = delete_tells P (stream_of state.inputs me.conn stream) state.waiting t
 row_tells {P} state me t (commands.Drain stream) = drain_tells P (stream_of state.inputs me.conn stream) t
 row_tells {P} state me t (commands.Latency stream time) = latency_tells P (stream_of state.inputs me.conn stream) time t

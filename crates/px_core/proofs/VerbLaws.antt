@@ -7,12 +7,14 @@ use Rattle.std.proofs.lemmas.Bool.{cond_both, eqb-true}
 use Rattle.std.proofs.lemmas.Option.{none-some}
 use Rattle.px_types.specs.declared.ids.ConnId.{ConnId}
 use Rattle.px_types.specs.declared.ids.InputId.{InputId}
+use Rattle.px_types.specs.declared.ids.SinkId.{SinkId}
 use Rattle.px_names.specs.Names.{Naming}
 use Rattle.px_names.specs.declared.input_lists.InputList.{InputList}
 use Rattle.px_names.specs.InputLists.{with_list_of, without_list_of}
 use Rattle.px_session.specs.declared.header.SinkSpec.{SinkSpec}
 use Rattle.px_model.specs.Frame.{SampleSpec}
 use Rattle.px_model.specs.Orderly.{Inputs, IsWhole}
+use Rattle.px_flat.specs.FlatVolume.{FlatGroup}
 use Rattle.px_msg.specs.declared.message.Msg.{Msg}
 use Rattle.px_msg.specs.declared.message.Msg.TheVariants.{New, Attach, Detach, Write, Cork, Flush, Trigger, Prebuf, Drain, Attr, Factors, Query}
 use Rattle.px_msg.specs.declared.message.NewStream.{NewStream}
@@ -24,10 +26,10 @@ use Rattle.px_plan.specs.declared.input.Standing.TheVariants.{Settled, Moving, L
 use Rattle.px_plan.specs.declared.change.Change.TheVariants.{Authed, Named, Masked, Defaulted, Made, Described, Leaves, Said, Regrouped, Asked, Answered, Gone, Ended, Forgotten}
 use Rattle.px_plan.specs.declared.waiting.Waiting.{Waiting}
 use Rattle.px_core.specs.State.{State, has_index, has_number, input_of, settled_on, is_as}
-use Rattle.px_core.specs.Change.{Change, change_first, drop_first, authed, marked, with_streams, with_connection, renamed, masked, defaulted, forgotten, posting, ending_of, telling, saying, saying_of, changed, committed}
+use Rattle.px_core.specs.Change.{Change, change_first, drop_first, authed, marked, with_streams, with_connection, renamed, masked, defaulted, forgotten, posting, regrouping, ending_of, telling, saying, saying_of, changed, committed}
 use Rattle.px_core.specs.Orderly.{specs_of}
-use Rattle.px_core.specs.Keeps.{AreDistinct, IsAwaiting, IsInput, IsKept}
-use Rattle.px_core.specs.Lawful.{Brings, IsNew, Suits, AreFor, HasLeft, Lawful, AreLawful}
+use Rattle.px_core.specs.Keeps.{AreDistinct, IsAwaiting, IsInput, IsSteady}
+use Rattle.px_core.specs.Lawful.{Brings, IsNew, Suits, AreFor, HasLeft, Lawful, AreLawfulOwing, owed_after}
 use Rattle.px_core.proofs.ListLaws.{all_change, all_drop, all_push, found_all, found_test}
 use Rattle.px_core.proofs.HandingLaws.{sink_there}
 use Rattle.px_core.proofs.ChangeLaws.{sink_at, held_on, settled_spec, on_own, Tells, telling_keeps, attr_held, attr_keeps, ending_keeps, ending_held, gone_keeps, gone_held, with_input, new_keeps, new_held}
@@ -48,8 +50,13 @@ distinct_drop q (c ∷ cs) d =
     (λ e. d.1)
     (λ e. (all_drop (λ b. (Connection.conn b).0 ≡ c.conn.0 → ⊥) q cs d.0, distinct_drop q cs d.1))
 
+-- a sink may have another group
+regrouped_keeps : {P : Type 0} (spec_of : P → SampleSpec) (state : State P) → IsSteady spec_of state → (sink : ℕ) (group : FlatGroup) → IsSteady spec_of (regrouping sink group state)
+regrouped_keeps spec_of state h sink group =
+    record { sinks = h.sinks; distinct = h.distinct; rising = h.rising; inputs = h.inputs; waiting = h.waiting; lists = h.lists; in_step = h.in_step }
+
 -- all but inputs and messages may change
-pub others_keep : {P : Type 0} (spec_of : P → SampleSpec) (state : State P) → IsKept spec_of state → (connections : List Connection) → AreDistinct connections → (names : Naming) (clients : ℕ) → IsKept spec_of (record state { connections = connections; names = names; clients_made = clients })
+pub others_keep : {P : Type 0} (spec_of : P → SampleSpec) (state : State P) → IsSteady spec_of state → (connections : List Connection) → AreDistinct connections → (names : Naming) (clients : ℕ) → IsSteady spec_of (record state { connections = connections; names = names; clients_made = clients })
 others_keep spec_of state h connections d names clients = record {
   sinks = h.sinks;
   distinct = d;
@@ -61,7 +68,7 @@ others_keep spec_of state h connections d names clients = record {
 }
 
 -- and so may the lists of inputs
-listed_keeps : {P : Type 0} (spec_of : P → SampleSpec) (state : State P) → IsKept spec_of state → (lists : List InputList) → IsKept spec_of (record state { lists = lists })
+listed_keeps : {P : Type 0} (spec_of : P → SampleSpec) (state : State P) → IsSteady spec_of state → (lists : List InputList) → IsSteady spec_of (record state { lists = lists })
 listed_keeps spec_of state h lists = record {
   sinks = h.sinks;
   distinct = h.distinct;
@@ -72,7 +79,7 @@ listed_keeps spec_of state h lists = record {
   in_step = h.in_step;
 }
 
-connection_keeps : {P : Type 0} (spec_of : P → SampleSpec) (state : State P) → IsKept spec_of state → (conn : ConnId) (f : Connection → Connection) → ((c : Connection) → (f c).conn.0 ≡ c.conn.0) → IsKept spec_of (record state { connections = change_first (has_number conn) f state.connections })
+connection_keeps : {P : Type 0} (spec_of : P → SampleSpec) (state : State P) → IsSteady spec_of state → (conn : ConnId) (f : Connection → Connection) → ((c : Connection) → (f c).conn.0 ≡ c.conn.0) → IsSteady spec_of (record state { connections = change_first (has_number conn) f state.connections })
 connection_keeps spec_of state h conn f keeps =
     others_keep spec_of state h (change_first (has_number conn) f state.connections) (distinct_change (has_number conn) f keeps state.connections h.distinct) state.names state.clients_made
 
@@ -80,17 +87,17 @@ connection_keeps spec_of state h conn f keeps =
 
 -- what is kept is kept, and each sink has the inputs that it had
 pub record Follows {P : Type 0} (spec_of : P → SampleSpec) (before after : State P) : Type 0 where
-  pub keeps : IsKept spec_of after
+  pub keeps : IsSteady spec_of after
   pub held : (k : ℕ) → held_on k after.inputs ≡ held_on k before.inputs
 
-same_held : {P : Type 0} (spec_of : P → SampleSpec) (before after : State P) → after.inputs ≡ before.inputs → IsKept spec_of after → Follows spec_of before after
+same_held : {P : Type 0} (spec_of : P → SampleSpec) (before after : State P) → after.inputs ≡ before.inputs → IsSteady spec_of after → Follows spec_of before after
 same_held spec_of before after e h = record { keeps = h; held = λ k. ap (held_on k) e }
 
-pub unchanged : {P : Type 0} {spec_of : P → SampleSpec} {state : State P} → IsKept spec_of state → Follows spec_of state state
+pub unchanged : {P : Type 0} {spec_of : P → SampleSpec} {state : State P} → IsSteady spec_of state → Follows spec_of state state
 unchanged h = record { keeps = h; held = λ k. refl }
 
 -- other requests are answered later
-asked_follow : {P : Type 0} (spec_of : P → SampleSpec) (state : State P) → IsKept spec_of state → (waiting : List Waiting) → AllByRecursion (IsAwaiting state.inputs) waiting → Follows spec_of state (record state { waiting = waiting })
+asked_follow : {P : Type 0} (spec_of : P → SampleSpec) (state : State P) → IsSteady spec_of state → (waiting : List Waiting) → AllByRecursion (IsAwaiting state.inputs) waiting → Follows spec_of state (record state { waiting = waiting })
 asked_follow spec_of state h waiting all =
     same_held spec_of state (record state { waiting = waiting }) refl
     (record { sinks = h.sinks; distinct = h.distinct; rising = h.rising; inputs = h.inputs; waiting = all; lists = h.lists; in_step = h.in_step })
@@ -111,11 +118,11 @@ is_new_stream x s (Attr input attr) b = absurd b
 is_new_stream x s (Factors each) b = absurd b
 is_new_stream x s (Query input tag) b = absurd b
 
-made_keeps : {P : Type 0} (spec_of : P → SampleSpec) (state : State P) (x : Input) (m : Msg P) → IsKept spec_of state → IsNew state x m → IsKept spec_of (posting x.sink.0 m (with_input x state))
+made_keeps : {P : Type 0} (spec_of : P → SampleSpec) (state : State P) (x : Input) (m : Msg P) → IsSteady spec_of state → IsNew state x m → IsSteady spec_of (posting x.sink.0 m (with_input x state))
 made_keeps {P} spec_of state x m h new =
     let own = sink_there state.sinks x.sink.0 new.is.sink_there in
     let it = is_new_stream x own.0 m (new.brings own.0 own.1) in
-    subst (λ message. IsKept spec_of (posting x.sink.0 message (with_input x state))) (sym it.1)
+    subst (λ message. IsSteady spec_of (posting x.sink.0 message (with_input x state))) (sym it.1)
     (new_keeps spec_of state x it.0 h new.next new.way new.standing new.is it.2 it.3 new.room
     (λ s e. (subst (Brings x s) it.1 (new.brings s e)).2))
 
@@ -145,7 +152,7 @@ tells_input spec_of spec x there get (Factors each) suits = absurd suits
 tells_input {P} spec_of spec x there get (Query input tag) suits = record { brings = λ i. refl; names = named x there get input.0 suits; fits = tt; left = refl; is_posted = tt }
 
 -- new buffer attributes are its own
-told_keeps : {P : Type 0} (spec_of : P → SampleSpec) (state : State P) (x : Input) (m : Msg P) → IsKept spec_of state → Suits x m → Follows spec_of state (telling x.index m state)
+told_keeps : {P : Type 0} (spec_of : P → SampleSpec) (state : State P) (x : Input) (m : Msg P) → IsSteady spec_of state → Suits x m → Follows spec_of state (telling x.index m state)
 told_keeps spec_of state x (New n) h suits = unchanged h
 told_keeps spec_of state x (Attach input parcel feed factors) h suits = unchanged h
 told_keeps spec_of state x (Detach input) h suits = unchanged h
@@ -159,9 +166,9 @@ told_keeps spec_of state x (Attr input attr) h suits = record { keeps = attr_kee
 told_keeps spec_of state x (Factors each) h suits = unchanged h
 told_keeps spec_of state x (Query input tag) h suits = unchanged h
 
-saying_keeps : {P : Type 0} (spec_of : P → SampleSpec) (state : State P) (x : Input) (m : Msg P) (standing : Standing) → IsKept spec_of state → input_of state.inputs x.index ≡ Some x → x.standing ≡ standing → Suits x m → Follows spec_of state (saying standing x m state)
+saying_keeps : {P : Type 0} (spec_of : P → SampleSpec) (state : State P) (x : Input) (m : Msg P) (standing : Standing) → IsSteady spec_of state → input_of state.inputs x.index ≡ Some x → x.standing ≡ standing → Suits x m → Follows spec_of state (saying standing x m state)
 saying_keeps {P} spec_of state x m Settled h here settled suits =
-    let posted : IsKept spec_of (posting x.sink.0 m state) =
+    let posted : IsSteady spec_of (posting x.sink.0 m state) =
     telling_keeps spec_of state (sink_at x.sink.0) m h (found_all (IsInput state.sinks state.inputs_made) (has_index x.index) state.inputs x h.inputs here).sink_there
     (λ s e. tells_input spec_of (sample_spec s.spec) x (specs_of (settled_on state.inputs (sink_at x.sink.0))) (settled_spec state.inputs h.rising x.sink.0 x here (on_own x settled)) m suits) in
     let told = told_keeps spec_of (posting x.sink.0 m state) x m posted suits in
@@ -194,14 +201,14 @@ by_own inputs index x here = sym (ap (λ n. input_of inputs (record { 0 = n })) 
     own : (a b : ℕ) → nat_eq b a ≡ true → a ≡ b
     own a b e = sym (eqb-true b a e)
 
-leaves_follow : {P : Type 0} (spec_of : P → SampleSpec) (state : State P) → IsKept spec_of state → (index : InputId) (o : Option Input) → input_of state.inputs index ≡ o → Follows spec_of state (ending_of o state)
+leaves_follow : {P : Type 0} (spec_of : P → SampleSpec) (state : State P) → IsSteady spec_of state → (index : InputId) (o : Option Input) → input_of state.inputs index ≡ o → Follows spec_of state (ending_of o state)
 leaves_follow spec_of state h index None e = unchanged h
 leaves_follow spec_of state h index (Some x) e = record {
   keeps = ending_keeps spec_of state x x.standing h (by_own state.inputs index x e) refl;
   held = ending_held state x x.standing;
 }
 
-said_follow : {P : Type 0} (spec_of : P → SampleSpec) (state : State P) → IsKept spec_of state → (index : InputId) (m : Msg P) (o : Option Input) → input_of state.inputs index ≡ o → IfSome o (λ x. Suits x m) → Follows spec_of state (saying_of o m state)
+said_follow : {P : Type 0} (spec_of : P → SampleSpec) (state : State P) → IsSteady spec_of state → (index : InputId) (m : Msg P) (o : Option Input) → input_of state.inputs index ≡ o → IfSome o (λ x. Suits x m) → Follows spec_of state (saying_of o m state)
 said_follow spec_of state h index m None e suits = unchanged h
 said_follow spec_of state h index m (Some x) e suits = saying_keeps spec_of state x m x.standing h (by_own state.inputs index x e) refl suits
 
@@ -214,7 +221,7 @@ none_goes {A} q (x ∷ xs) e = step (none_goes q xs) (q x) e
     step later true f = absurd (none-some x (sym f))
     step later false f = ap (λ ys. x ∷ ys) (later f)
 
-gone_follow : {P : Type 0} (spec_of : P → SampleSpec) (state : State P) → IsKept spec_of state → (index : InputId) (o : Option Input) → input_of state.inputs index ≡ o → IfSome o HasLeft → Follows spec_of state (changed state (Gone index))
+gone_follow : {P : Type 0} (spec_of : P → SampleSpec) (state : State P) → IsSteady spec_of state → (index : InputId) (o : Option Input) → input_of state.inputs index ≡ o → IfSome o HasLeft → Follows spec_of state (changed state (Gone index))
 gone_follow {P} spec_of state h index None e left =
     subst (λ (inputs : List Input). Follows spec_of state (record state { inputs = inputs; lists = without_list_of index state.lists })) (sym (none_goes (has_index index) state.inputs e))
     (same_held spec_of state (record state { lists = without_list_of index state.lists }) refl (listed_keeps spec_of state h (without_list_of index state.lists)))
@@ -226,7 +233,7 @@ gone_follow {P} spec_of state h index (Some x) e left =
       held = gone_held state x here left.way;
     })
 
-pub change_follows : {P : Type 0} (spec_of : P → SampleSpec) (state : State P) (c : Change P) → IsKept spec_of state → Lawful state c → Follows spec_of state (changed state c)
+pub change_follows : {P : Type 0} (spec_of : P → SampleSpec) (state : State P) (c : Change P) → IsSteady spec_of state → Lawful state c → Follows spec_of state (changed state c)
 change_follows spec_of state (Authed conn version) h lawful = same_held spec_of state (changed state (Authed conn version)) refl (connection_keeps spec_of state h conn (authed version) (λ d. refl))
 change_follows spec_of state (Named conn list) h lawful = same_held spec_of state (changed state (Named conn list)) refl (others_keep spec_of state h state.connections h.distinct (renamed conn list state.names) state.clients_made)
 change_follows spec_of state (Masked conn mask) h lawful = same_held spec_of state (changed state (Masked conn mask)) refl (others_keep spec_of state h state.connections h.distinct (masked conn mask state.names) state.clients_made)
@@ -242,8 +249,8 @@ change_follows spec_of state (Described index list) h lawful = same_held spec_of
 change_follows spec_of state (Leaves index) h lawful = leaves_follow spec_of state h index (input_of state.inputs index) refl
 change_follows spec_of state (Said index m) h lawful = said_follow spec_of state h index m (input_of state.inputs index) refl lawful
 change_follows spec_of state (Regrouped sink group m) h lawful =
-    same_held spec_of state (posting sink.0 m state) refl
-    (telling_keeps spec_of state sink m h lawful.there (λ s e. tells_factors spec_of s (specs_of (settled_on state.inputs sink)) m (lawful.factors s e)))
+    same_held spec_of state (posting sink.0 m (regrouping sink.0 group state)) refl
+    (telling_keeps spec_of (regrouping sink.0 group state) sink m (regrouped_keeps spec_of state h sink.0 group) lawful.there (λ s e. tells_factors spec_of s (specs_of (settled_on state.inputs sink)) m (lawful.factors s e)))
 change_follows spec_of state (Asked w) h lawful = asked_follow spec_of state h (state.waiting ++ w ∷ []) (all_push (IsAwaiting state.inputs) state.waiting w h.waiting lawful)
 change_follows spec_of state (Answered w) h lawful = asked_follow spec_of state h (drop_first (is_as w) state.waiting) (all_drop (IsAwaiting state.inputs) (is_as w) state.waiting h.waiting)
 change_follows spec_of state (Gone index) h lawful = gone_follow spec_of state h index (input_of state.inputs index) refl lawful
@@ -253,9 +260,9 @@ change_follows spec_of state (Forgotten conn) h lawful =
     (others_keep spec_of state h (drop_first (has_number conn) state.connections) (distinct_drop (has_number conn) state.connections h.distinct) (forgotten conn state.names) state.clients_made)
 
 -- and all of them
-pub changes_follow : {P : Type 0} (spec_of : P → SampleSpec) (state : State P) (changes : List (Change P)) → IsKept spec_of state → AreLawful state changes → Follows spec_of state (committed state changes)
-changes_follow spec_of state [] h lawful = unchanged h
-changes_follow spec_of state (c ∷ changes) h lawful =
+pub changes_follow : {P : Type 0} (spec_of : P → SampleSpec) (owed : List SinkId) (state : State P) (changes : List (Change P)) → IsSteady spec_of state → AreLawfulOwing owed state changes → Follows spec_of state (committed state changes)
+changes_follow spec_of owed state [] h lawful = unchanged h
+changes_follow spec_of owed state (c ∷ changes) h lawful =
     let one = change_follows spec_of state c h lawful.0 in
-    let more = changes_follow spec_of (changed state c) changes one.keeps lawful.1 in
+    let more = changes_follow spec_of (owed_after state c owed) (changed state c) changes one.keeps lawful.1 in
     record { keeps = more.keeps; held = λ k. more.held k ∙ one.held k }

@@ -8,6 +8,7 @@ use Rattle.px_tag.specs.PropList.{Property}
 use Rattle.px_names.specs.Clients.{is_on, change_first as change_client, without_first as without_client, with_list, with_mask}
 use Rattle.px_names.specs.Names.{Naming}
 use Rattle.px_names.specs.InputLists.{with_list_of, without_list_of}
+use Rattle.px_flat.specs.FlatVolume.{FlatGroup}
 use Rattle.px_msg.specs.declared.message.Msg.{Msg}
 use Rattle.px_model.specs.declared.data.Attr.{Attr as Attributes}
 use Rattle.px_msg.specs.declared.message.Msg.TheVariants.{New, Attach, Detach, Write, Cork, Flush, Trigger, Prebuf, Drain, Attr, Factors, Query}
@@ -20,9 +21,9 @@ use Rattle.px_plan.specs.declared.change.Change.{Change as AnyChange}
 use Rattle.px_plan.specs.declared.change.Change.TheVariants.{Authed, Named, Masked, Defaulted, Made, Described, Leaves, Said, Regrouped, Asked, Answered, Gone, Ended, Forgotten}
 use Rattle.px_core.specs.State.{State, has_number, has_index, input_of, is_as, waiting_of_others}
 
--- a change with the messages of the core; a sink has no group of volumes yet
+-- a change with the messages of the core, and its groups of volumes
 abbrev pub Change : Type 0 → Type 0
-Change P = AnyChange (Msg P) (Unit {0})
+Change P = AnyChange (Msg P) FlatGroup
 
 -- ---- lists, of which the first that is so changes or goes
 
@@ -141,6 +142,12 @@ arrived_at to x = record x { sink = to; standing = Settled; way = Coming }
 abbrev pub arriving : {P : Type 0} → SinkId → Input → Msg P → State P → State P
 arriving to x m state = posting to.0 m (record state { inputs = change_first (has_index x.index) (arrived_at to) state.inputs })
 
+-- ---- volumes
+
+-- a sink has this group
+abbrev pub regrouping : {P : Type 0} → ℕ → FlatGroup → State P → State P
+regrouping sink group state = record state { groups = set state.groups sink group }
+
 -- ---- the state after a change
 
 abbrev pub changed : {P : Type 0} → State P → Change P → State P
@@ -153,7 +160,7 @@ changed state (Made x m streams inputs) =
 changed state (Described index list) = record state { lists = with_list_of index list state.lists }
 changed state (Leaves index) = ending_of (input_of state.inputs index) state
 changed state (Said index m) = saying_of (input_of state.inputs index) m state
-changed state (Regrouped sink group m) = posting sink.0 m state
+changed state (Regrouped sink group m) = posting sink.0 m (regrouping sink.0 group state)
 changed state (Asked w) = record state { waiting = state.waiting ++ w ∷ [] }
 changed state (Answered w) = record state { waiting = drop_first (is_as w) state.waiting }
 changed state (Gone index) = record state { inputs = drop_first (has_index index) state.inputs; lists = without_list_of index state.lists }

@@ -7,6 +7,7 @@ use Rattle.px_cmd.specs.Packet.{head_at}
 use Rattle.px_cmd.specs.Meant.{meant}
 use Rattle.px_cmd.specs.Table.{kinds_of}
 use Rattle.px_cmd.specs.declared.command.Command.{Command}
+use Rattle.px_cmd.specs.declared.command.CreateFields.{CreateFields}
 use Rattle.px_cmd.specs.declared.command.Command.TheVariants as commands
 use Rattle.px_cmd.specs.declared.fault.CmdFault.{CmdFault}
 use Rattle.px_cmd.specs.declared.fault.CmdFault.TheVariants.{Protocol, Unknown, Unsupported, NoMemory}
@@ -32,7 +33,7 @@ use Rattle.px_ctl_play.specs.Latency.{latency}
 use Rattle.px_core.specs.State.{State, stream_of, input_numbered}
 use Rattle.px_core.specs.Notice.{owner_of}
 use Rattle.px_core.specs.Plan.{Plan, refused, requested, broken_off}
-use Rattle.px_core.specs.Sinks.{rate_of, depth_of, sink_of, named_as, named_by}
+use Rattle.px_core.specs.Sinks.{rate_of, depth_of, sink_of, named_as, named_by, group_named}
 
 -- ---- the commands
 
@@ -65,11 +66,15 @@ default_sink state = named_as state.sinks (sink_named state.names NO_INDEX None 
 abbrev pub killed_input : {P : Type 0} → State P → Option Input → ℕ → Row (Plan P)
 killed_input state input tag = kill_input input (owner_of state.connections input) state.waiting tag
 
+-- a new stream on the sink that is named
+abbrev pub create_on : {P : Type 0} → State P → Connection → ℕ → CreateFields → Named → Row (Plan P)
+create_on state me tag fields named = create state.inputs state.inputs_made me tag named (group_named state.groups named) fields
+
 -- a command's row: what it gives on the parts of the state that it reads
 abbrev pub row : {P : Type 0} → State P → Connection → ℕ → Command → Row (Plan P)
 row state me tag (commands.Auth version cookie) = auth state.names me tag version cookie
 row state me tag (commands.SetClientName list) = set_client_name (client_on state.names.clients me.conn) me tag list
-row state me tag (commands.Create fields) = create state.inputs state.inputs_made me tag (named_by state.names state.sinks fields.sink true) fields
+row state me tag (commands.Create fields) = create_on state me tag fields (named_by state.names state.sinks fields.sink true)
 row state me tag (commands.Delete stream) = delete (stream_of state.inputs me.conn stream) state.waiting tag
 row state me tag (commands.Drain stream) = drain (stream_of state.inputs me.conn stream) tag
 row state me tag (commands.Latency stream time) = latency (stream_of state.inputs me.conn stream) time tag

@@ -22,6 +22,7 @@ use Rattle.px_plan.specs.declared.input.Standing.TheVariants.{Settled, Moving, L
 use Rattle.px_plan.specs.declared.waiting.Waiting.{Waiting}
 use Rattle.px_core.specs.State.{State, goes_on, input_of, settled_on, bound_for}
 use Rattle.px_ctl_play.specs.Asked.{MOST_ON_SINK}
+use Rattle.px_core.specs.Grouped.{AreGrouped}
 use Rattle.px_core.specs.Orderly.{spec_in, specs_of, is_held_by}
 use Rattle.px_core.specs.Out.{next_for, handed_out}
 use Rattle.px_core.specs.Step.{Step, connect, frame, broken, close, cut, sweep, notice, out}
@@ -114,7 +115,8 @@ AreAllInStep spec_of sinks inputs posted =
 
 -- ---- the state
 
-pub record IsKept {P : Type 0} (spec_of : P → SampleSpec) (state : State P) : Type 0 where
+-- what every change keeps
+pub record IsSteady {P : Type 0} (spec_of : P → SampleSpec) (state : State P) : Type 0 where
   pub sinks : AreSinks [] state.sinks
   pub distinct : AreDistinct state.connections
   pub rising : IsRising state.inputs
@@ -123,6 +125,11 @@ pub record IsKept {P : Type 0} (spec_of : P → SampleSpec) (state : State P) : 
   -- one list of messages a sink
   pub lists : length state.posted ≡ length state.sinks
   pub in_step : AreAllInStep spec_of state.sinks state.inputs state.posted
+
+-- and what all changes of a step keep together: the groups have followed the inputs
+pub record IsKept {P : Type 0} (spec_of : P → SampleSpec) (state : State P) : Type 0 where
+  pub steady : IsSteady spec_of state
+  pub grouped : AreGrouped [] state.sinks state.inputs state.groups
 
 -- a step that can be: a frame says what a frame can say
 abbrev pub IsStep : {P : Type 0} → Step P → Type 0

@@ -1,11 +1,12 @@
 -- What a change asks of the state, so that it keeps what the state keeps.
-use Rattle.std.specs.Prelude.{◌≡◌, ◌+◌, ◌<◌, List, [], ◌∷◌, map, length, slice_get, Some, IfSome, IsSome, ⊤}
+use Rattle.std.specs.Prelude.{◌≡◌, ◌+◌, ◌<◌, List, [], ◌∷◌, map, length, slice_get, Option, Some, None, IfSome, IsSome, ⊤}
 use Rattle.std.specs.List.{AllByRecursion}
 use Rattle.px_types.specs.declared.ids.SinkId.{SinkId}
 use Rattle.px_session.specs.declared.header.SinkSpec.{SinkSpec}
 use Rattle.px_model.specs.Orderly.{IsNewStream, IsRepaired, IsWhole, AreFactors}
 use Rattle.px_model.specs.Message.{InputFactors as Gains}
 use Rattle.px_msg.specs.declared.factors.InputFactors.{InputFactors}
+use Rattle.px_flat.specs.FlatVolume.{FlatGroup}
 use Rattle.px_msg.specs.declared.message.Msg.{Msg}
 use Rattle.px_msg.specs.declared.message.Msg.TheVariants.{New, Attach, Detach, Write, Cork, Flush, Trigger, Prebuf, Drain, Attr, Factors, Query}
 use Rattle.px_msg.specs.View.{sample_spec, opened, gains}
@@ -17,6 +18,7 @@ use Rattle.px_core.specs.State.{State, input_of, bound_for}
 use Rattle.px_core.specs.Change.{Change, changed}
 use Rattle.px_core.specs.Connecting.{going_on}
 use Rattle.px_ctl_play.specs.Asked.{MOST_ON_SINK}
+use Rattle.px_core.specs.Grouped.{IsGroupOf, paid}
 use Rattle.px_core.specs.Keeps.{IsInput, IsIncreasing, IsAwaiting}
 
 -- a message brings a new input's stream to its sink, and fits it
@@ -80,9 +82,10 @@ pub record HasLeft (x : Input) : Type 0 where
   pub standing : x.standing ≡ Leaving
   pub way : x.way ≡ Left
 
--- the sink is there, and the factors are for it
-pub record IsRegrouped {P : Type 0} (state : State P) (sink : SinkId) (m : Msg P) : Type 0 where
+-- the sink is there, the group is that of the inputs on it, and the factors are for it
+pub record IsRegrouped {P : Type 0} (state : State P) (sink : SinkId) (group : FlatGroup) (m : Msg P) : Type 0 where
   pub there : sink.0 < length state.sinks
+  pub group : (s : SinkSpec) → slice_get state.sinks sink.0 ≡ Some s → IsGroupOf sink s state.inputs group
   pub factors : (s : SinkSpec) → slice_get state.sinks sink.0 ≡ Some s → AreFor s m
 
 abbrev pub Lawful : {P : Type 0} → State P → Change P → Type 0
@@ -94,14 +97,37 @@ Lawful state (Made x m streams inputs) = IsNew state x m × (inputs ≡ state.in
 Lawful state (Described index list) = ⊤
 Lawful state (Leaves index) = ⊤
 Lawful state (Said index m) = IfSome (input_of state.inputs index) (λ x. Suits x m)
-Lawful state (Regrouped sink group m) = IsRegrouped state sink m
+Lawful state (Regrouped sink group m) = IsRegrouped state sink group m
 Lawful state (Asked w) = IsAwaiting state.inputs w
 Lawful state (Answered w) = ⊤
 Lawful state (Gone index) = IfSome (input_of state.inputs index) HasLeft
 Lawful state (Ended conn reason fault at) = IsSome (going_on state.connections conn)
 Lawful state (Forgotten conn) = ⊤
 
--- each of them, in the state that those before it leave
+-- ---- the sinks whose groups are still to follow, after a change
+
+-- those that the end of an input leaves
+abbrev pub owed_for : Option Input → List SinkId → List SinkId
+owed_for None owed = owed
+owed_for (Some x) owed = x.sink ∷ owed
+
+abbrev pub owed_after : {P : Type 0} → State P → Change P → List SinkId → List SinkId
+owed_after state (Made x m streams inputs) owed = x.sink ∷ owed
+owed_after state (Gone index) owed = owed_for (input_of state.inputs index) owed
+owed_after state (Regrouped sink group m) owed = paid sink owed
+owed_after state _ owed = owed
+
+-- none is
+abbrev pub IsPaid : List SinkId → Type 0
+IsPaid [] = ⊤
+IsPaid (sink ∷ owed) = ⊥
+
+-- ---- changes
+
+-- each is lawful in the state that those before it leave, and in the end the groups have followed the inputs
+abbrev pub AreLawfulOwing : {P : Type 0} → List SinkId → State P → List (Change P) → Type 0
+AreLawfulOwing owed state [] = IsPaid owed
+AreLawfulOwing owed state (c ∷ changes) = Lawful state c × AreLawfulOwing (owed_after state c owed) (changed state c) changes
+
 abbrev pub AreLawful : {P : Type 0} → State P → List (Change P) → Type 0
-AreLawful state [] = ⊤
-AreLawful state (c ∷ changes) = Lawful state c × AreLawful (changed state c) changes
+AreLawful state changes = AreLawfulOwing [] state changes

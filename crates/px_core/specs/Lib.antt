@@ -12,6 +12,7 @@ pub mod Out
 pub mod Lending
 pub mod Step
 pub mod Orderly
+pub mod Grouped
 pub mod Keeps
 pub mod Parcels
 pub mod Lawful

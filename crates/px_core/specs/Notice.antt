@@ -1,5 +1,5 @@
 -- What a sink's notice is answered (PulseAudio: `sink_input_process_msg` of pulsecore/protocol-native.c; which notices fit is own).
-use Rattle.std.specs.Prelude.{ℕ, Bool, ◌&&◌, nat_eq, List, Option, None, Some}
+use Rattle.std.specs.Prelude.{ℕ, Bool, ◌&&◌, nat_eq, List, slice_get, Option, None, Some}
 use Rattle.std.specs.List.{find}
 use Rattle.px_types.specs.declared.ids.InputId.{InputId}
 use Rattle.px_types.specs.declared.ids.SinkId.{SinkId}
@@ -17,7 +17,7 @@ use Rattle.px_ctl_play.specs.Told.{told, left}
 use Rattle.px_core.specs.State.{State}
 use Rattle.px_core.specs.Connecting.{going_on}
 use Rattle.px_core.specs.Plan.{Plan}
-use Rattle.px_core.specs.Sinks.{channels_on, rate_on}
+use Rattle.px_core.specs.Sinks.{rate_on}
 
 -- the input with an index, where it is on the sink
 abbrev pub is_on : SinkId → InputId → Input → Bool
@@ -49,6 +49,6 @@ notice_answer spec_of state sink (Overflow input) = told_of state (input_on stat
 notice_answer spec_of state sink (Underflow input) = told_of state (input_on state.inputs sink input) news.Underflow
 notice_answer spec_of state sink (Started input) = told_of state (input_on state.inputs sink input) news.Started
 notice_answer spec_of state sink (Drained input tag) = drained_of state (input_on state.inputs sink input) tag
-notice_answer spec_of state sink (Detached input parcel) = left (input_on state.inputs sink input) (spec_of parcel) (channels_on state.sinks sink) state.inputs
+notice_answer spec_of state sink (Detached input parcel) = left (input_on state.inputs sink input) (slice_get state.groups sink.0) (spec_of parcel) state.inputs
 notice_answer spec_of state sink (Latency input tag write read buffered playing run) =
     measured_of state (input_on state.inputs sink input) sink tag (record { write = write; read = read; buffered = buffered; playing = playing; run = run })

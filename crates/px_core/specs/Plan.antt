@@ -6,6 +6,7 @@ use Rattle.px_types.specs.declared.error_code.ErrorCode.TheVariants.{TooLarge}
 use Rattle.px_types.specs.ErrorCode.{code_of}
 use Rattle.px_tag.specs.declared.fault.TagFault.{TagFault}
 use Rattle.px_reply.specs.Front.{refusal}
+use Rattle.px_flat.specs.FlatVolume.{FlatGroup}
 use Rattle.px_msg.specs.declared.message.Msg.{Msg}
 use Rattle.px_plan.specs.declared.change.Change.TheVariants.{Authed, Named, Masked, Defaulted, Made, Described, Leaves, Said, Regrouped, Asked, Answered, Gone, Ended, Forgotten}
 use Rattle.px_plan.specs.declared.refusal.Refusal.TheVariants.{Code, NoMemory}
@@ -20,7 +21,7 @@ use Rattle.px_core.specs.Effect.{fits, sending, fault_code, fault_place, offset_
 use Rattle.px_core.specs.Change.{Change}
 
 abbrev pub Plan : Type 0 → Type 0
-Plan P = Planned (Msg P) (Unit {0})
+Plan P = Planned (Msg P) FlatGroup
 
 -- ---- what a plan does to the outside
 

@@ -7,24 +7,18 @@ use Rattle.px_session.specs.declared.header.SinkSpec.{SinkSpec}
 use Rattle.px_session.specs.HeaderRules.{IsSink}
 use Rattle.px_cmd.specs.declared.command.SinkRef.{SinkRef}
 use Rattle.px_names.specs.Names.{Naming, sink_named}
+use Rattle.px_flat.specs.FlatVolume.{FlatGroup}
 use Rattle.px_plan.specs.declared.input.Input.{Input}
 use Rattle.px_plan.specs.declared.target.Target.{Target}
 use Rattle.px_plan.specs.declared.target.Named.{Named}
 use Rattle.px_plan.specs.declared.target.Named.TheVariants.{Unclear, Unknown, Sink}
+use Rattle.px_plan.specs.Target.{target_of as target_in}
 
 -- a sink that stands in a header behind others
 abbrev pub IsOfHeader : SinkSpec → Type 0
 IsOfHeader sink = (earlier : List SinkSpec) × IsSink earlier sink
 
--- how many channels the sink with an index has, where it is there
-abbrev pub channels_of : Option SinkSpec → ℕ
-channels_of None = 0
-channels_of (Some sink) = sink.spec.channels
-
-abbrev pub channels_on : List SinkSpec → SinkId → ℕ
-channels_on sinks index = channels_of (slice_get sinks index.0)
-
--- and its rate and its depth; a sink that isn't there has a rate of 1
+-- its rate and its depth; a sink that isn't there has a rate of 1
 abbrev pub rate_of : Option SinkSpec → ℕ
 rate_of None = 1
 rate_of (Some sink) = sink.spec.rate
@@ -41,7 +35,7 @@ abbrev pub sink_of : List SinkSpec → Option Input → Option SinkSpec
 sink_of sinks None = None
 sink_of sinks (Some x) = slice_get sinks x.sink.0
 
--- ---- the sink that a command names
+-- ---- the sink that a command names, and its group
 
 abbrev pub target_of : SinkId → SinkSpec → Target
 target_of index sink = record { index = index; name = sink.name; spec = sink.spec; map = sink.map; depth = sink.depth }
@@ -58,3 +52,11 @@ named_as sinks (Err code) = Unknown
 -- by an index or a name, or by neither where the default sink will do
 abbrev pub named_by : Naming → List SinkSpec → SinkRef → Bool → Named
 named_by names sinks sink fallback = named_as sinks (sink_named names sink.index sink.name fallback)
+
+abbrev pub group_of : List FlatGroup → Option Target → Option FlatGroup
+group_of groups None = None
+group_of groups (Some target) = slice_get groups target.index.0
+
+-- where the sink is there
+abbrev pub group_named : List FlatGroup → Named → Option FlatGroup
+group_named groups named = group_of groups (target_in named)

@@ -1,9 +1,10 @@
--- The state of the core: the names, the sinks, the connections with their streams, the requests that are answered later, and the messages that wait for each sink (PulseAudio: `pa_core`, and `pa_native_connection` of pulsecore/protocol-native.c; that messages wait as data is own).
+-- The state of the core: the names, the sinks, the connections with their streams, the requests that are answered later, and the messages that wait for each sink, with its group of volumes (PulseAudio: `pa_core`, and `pa_native_connection` of pulsecore/protocol-native.c; that messages wait as data is own).
 use Rattle.std.specs.Prelude.{ℕ, List, [], map, filter, length, replicate}
 use Rattle.px_names.specs.Names.{Naming}
 use Rattle.px_names.specs.declared.input_lists.InputList.{InputList}
 use Rattle.px_session.specs.declared.header.Header.{Header}
 use Rattle.px_session.specs.declared.header.SinkSpec.{SinkSpec}
+use Rattle.px_flat.specs.FlatVolume.{FlatGroup, new_group}
 use Rattle.px_msg.specs.declared.message.Msg.{Msg}
 use Rattle.px_plan.specs.declared.input.Connection.{Connection}
 use Rattle.px_plan.specs.declared.input.Input.{Input}
@@ -27,6 +28,8 @@ pub record State (P : Type 0) : Type 0 where
   pub waiting : List Waiting
   -- for each sink the messages that wait for it, in order
   pub posted : List (List (Msg P))
+  -- for each sink its group: its volume, and those of the inputs on it
+  pub groups : List FlatGroup
   -- how many clients and inputs were ever made: the next index of each
   pub clients_made : ℕ
   pub inputs_made : ℕ
@@ -41,6 +44,7 @@ new_state header = record {
   lists = [];
   waiting = [];
   posted = replicate (length header.sinks) [];
+  groups = map (λ s. new_group (SinkSpec.spec s).channels) header.sinks;
   clients_made = 0;
   inputs_made = 0;
 }

@@ -21,6 +21,7 @@ state_of t = record {
   lists = t.lists.items;
   waiting = t.waiting.items;
   posted = lists_of t.posted.items;
+  groups = t.groups.items;
   clients_made = t.clients_made;
   inputs_made = t.inputs_made;
 }

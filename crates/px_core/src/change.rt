@@ -2,14 +2,15 @@
 
 ghost use Rattle.std.specs.Prelude.{◌≡◌, ◌∷◌, [], IfOk};
 
+use px_flat::Group;
 use px_msg::Msg;
 use px_plan::Change;
 use px_types::Mem;
 use std::alloc::Global;
 
 /// One change of the core's state, with the message that it tells a sink. `P` is the type of a parcel: a stream on its way from
-/// one sink to another. A sink has no group of volumes yet.
-pub type CoreChange<P> = Change<Msg<P>, ()>;
+/// one sink to another.
+pub type CoreChange<P> = Change<Msg<P>, Group>;
 
 /// This change alone.
 pub(crate) fn alone<P: Drop>(alloc: Global, change: CoreChange<P>) -> Mem<Vec<CoreChange<P>>>

@@ -6,16 +6,17 @@ ghost use Rattle.px_cmd.specs.Meant.{meant};
 ghost use Rattle.px_plan.specs.Row.{Plans};
 ghost use Rattle.px_session.specs.HeaderRules.{AreSinks};
 ghost use Rattle.px_ctl_info.specs.Sinks.{server_info};
-ghost use Rattle.px_ctl_play.specs.Create.{create};
 ghost use Rattle.std.specs.List.{AllByRecursion};
 ghost use Rattle.std.specs.Option.{option_map};
+ghost use Rattle.px_core.specs.Grouped.{AreGrouped};
 ghost use Rattle.px_core.specs.Keeps.{IsInput};
 ghost use Rattle.px_core.specs.Sinks.{named_by};
 ghost use Rattle.px_core.specs.State.{stream_of, input_numbered};
 ghost use Rattle.px_core.specs.Tables.{state_of};
-ghost use Rattle.px_core.specs.Command.{is_built, is_waiting_for_work, is_barred, new_attributes, default_sink, killed_input, row, read_answer, command_answer, packet_answer};
+ghost use Rattle.px_core.specs.Command.{is_built, is_waiting_for_work, is_barred, new_attributes, create_on, default_sink, killed_input, row, read_answer, command_answer, packet_answer};
 
 use crate::found::copied;
+use crate::groups::group_named;
 use crate::notice::owner_of;
 use crate::plan::{broken_off, refused, requested};
 use crate::standing::goes_on;
@@ -30,6 +31,7 @@ use px_ctl_info::{
 use px_ctl_play::{
     attributes, cork, create, delete, drain, flush, kill_input, latency, prebuf, trigger,
 };
+use px_flat::Group;
 use px_msg::Msg;
 use px_plan::{Connection, Input, Plan, Refusal};
 use px_types::{ErrorCode, InputId, Mem, NoMemory};
@@ -115,14 +117,17 @@ fn create_named<P: Drop>(
     me: &Connection,
     tag: u32,
     fields: &CreateFields,
-) -> Result<Plan<Msg<P>, ()>, Refusal>
-    requires { AreSinks [] tables.now.sinks }
-    ensures { Plans result (create tables.now.inputs.items tables.now.inputs_made me.now tag (named_by tables.now.names tables.now.sinks fields.now.sink true) fields.now) }
+) -> Result<Plan<Msg<P>, Group>, Refusal>
+    requires sinks { AreSinks [] tables.now.sinks }
+    requires inputs { AllByRecursion (IsInput tables.now.sinks tables.now.inputs_made) tables.now.inputs.items }
+    requires groups { AreGrouped [] tables.now.sinks tables.now.inputs.items tables.now.groups.items }
+    ensures { Plans result (create_on (state_of tables.now) me.now tag fields.now (named_by tables.now.names tables.now.sinks fields.now.sink true)) }
 {
     let sinks = tables.sinks.as_slice();
     let named = named_by(alloc, &tables.names, sinks, &fields.sink, true)?;
+    let group = group_named(&tables.groups, &named);
     let inputs = tables.inputs.as_slice();
-    create(alloc, inputs, tables.inputs_made, me, tag, named, fields)
+    create(alloc, inputs, tables.inputs_made, me, tag, named, group, fields)
 }
 
 // New buffer attributes of a stream, with the latency of its sink.
@@ -132,7 +137,7 @@ fn new_attributes<P: Drop>(
     stream: Option<Input>,
     asked: [u32; 4],
     tag: u32,
-) -> Result<Plan<Msg<P>, ()>, Refusal>
+) -> Result<Plan<Msg<P>, Group>, Refusal>
     requires sinks { AreSinks [] tables.now.sinks }
     requires channels { IfSome stream (λ x. 1 ≤ x.spec.channels) }
     ensures { Plans result (new_attributes (state_of tables.now) stream asked tag) }
@@ -142,7 +147,7 @@ fn new_attributes<P: Drop>(
 }
 
 // What the server is.
-fn server<P: Drop>(alloc: Global, tables: &Tables<P>, tag: u32) -> Result<Plan<Msg<P>, ()>, Refusal>
+fn server<P: Drop>(alloc: Global, tables: &Tables<P>, tag: u32) -> Result<Plan<Msg<P>, Group>, Refusal>
     requires { AreSinks [] tables.now.sinks }
     ensures { Plans result (server_info (default_sink (state_of tables.now)) tag) }
 {
@@ -180,9 +185,10 @@ fn row<P: Drop>(
     me: &Connection,
     tag: u32,
     command: Command,
-) -> Result<Plan<Msg<P>, ()>, Refusal>
+) -> Result<Plan<Msg<P>, Group>, Refusal>
     requires sinks { AreSinks [] tables.now.sinks }
     requires inputs { AllByRecursion (IsInput tables.now.sinks tables.now.inputs_made) tables.now.inputs.items }
+    requires groups { AreGrouped [] tables.now.sinks tables.now.inputs.items tables.now.groups.items }
     ensures { Plans result (row (state_of tables.now) me.now tag command) }
 {
     match command {
@@ -273,9 +279,10 @@ fn read_answer<P: Drop>(
     at: u64,
     tag: u32,
     packet: &[u8],
-) -> Mem<Plan<Msg<P>, ()>>
+) -> Mem<Plan<Msg<P>, Group>>
     requires sinks { AreSinks [] tables.now.sinks }
     requires inputs { AllByRecursion (IsInput tables.now.sinks tables.now.inputs_made) tables.now.inputs.items }
+    requires groups { AreGrouped [] tables.now.sinks tables.now.inputs.items tables.now.groups.items }
     ensures { IfOk result (λ plan. plan ≡ read_answer (state_of tables.now) c.now at tag (meant packet.now)) }
 {
     match read_command(alloc, packet, SERVER_VERSION) {
@@ -296,9 +303,10 @@ fn command_answer<P: Drop>(
     packet: &[u8],
     command: u32,
     tag: u32,
-) -> Mem<Plan<Msg<P>, ()>>
+) -> Mem<Plan<Msg<P>, Group>>
     requires sinks { AreSinks [] tables.now.sinks }
     requires inputs { AllByRecursion (IsInput tables.now.sinks tables.now.inputs_made) tables.now.inputs.items }
+    requires groups { AreGrouped [] tables.now.sinks tables.now.inputs.items tables.now.groups.items }
     ensures { IfOk result (λ plan. plan ≡ command_answer (state_of tables.now) c.now at packet.now command tag) }
 {
     if is_barred(c, command) {
@@ -321,9 +329,10 @@ pub(crate) fn packet_answer<P: Drop>(
     c: &Connection,
     at: u64,
     packet: &[u8],
-) -> Mem<Plan<Msg<P>, ()>>
+) -> Mem<Plan<Msg<P>, Group>>
     requires sinks { AreSinks [] tables.now.sinks }
     requires inputs { AllByRecursion (IsInput tables.now.sinks tables.now.inputs_made) tables.now.inputs.items }
+    requires groups { AreGrouped [] tables.now.sinks tables.now.inputs.items tables.now.groups.items }
     ensures { IfOk result (λ plan. plan ≡ packet_answer (state_of tables.now) c.now at packet.now) }
 {
     match read_head(packet) {

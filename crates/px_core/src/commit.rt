@@ -1,7 +1,7 @@
 //! Changes are made, one after the other, in room that was reserved for them.
 
 ghost use Rattle.std.specs.Prelude.{◌≡◌, ◌≤◌, ◌+◌, ℕ, length, IfOk, OnOk, OnErr};
-ghost use Rattle.px_plan.specs.declared.change.Change.TheVariants.{Made, Leaves, Said, Gone};
+ghost use Rattle.px_plan.specs.declared.change.Change.TheVariants.{Made, Leaves, Said, Regrouped, Gone};
 ghost use Rattle.px_core.specs.Change.{changed, committed, defaulted, inputs_told, posting, saying, ending};
 ghost use Rattle.px_core.specs.Plan.{plan_effects};
 ghost use Rattle.px_core.specs.Step.{answered};
@@ -12,6 +12,7 @@ use crate::effects::{Effects, plan_effects};
 use crate::input_table::InputTable;
 use crate::tables::Tables;
 use crate::{awaited, queues, verbs};
+use px_flat::Group;
 use px_msg::Msg;
 use px_names::Names;
 use px_plan::{Change, Input, Plan, Standing};
@@ -137,6 +138,16 @@ fn give_up<P: Drop>(tables: &mut Tables<P>, index: InputId)
     tables.lists.remove(index);
 }
 
+// A sink has this group, and is to hear this.
+fn regroup<P: Drop>(tables: &mut Tables<P>, sink: SinkId, group: Group, msg: Msg<P>)
+    requires { HasRoom 1 tables.old }
+    ensures state { state_of tables.new ≡ changed (state_of tables.old) (Regrouped sink group msg) }
+    ensures room { (n : ℕ) → HasRoom (n + 1) tables.old → HasRoom n tables.new }
+{
+    verbs::set_group(&mut tables.groups, sink, group);
+    post(tables, sink, msg);
+}
+
 // A sink that is there is the default sink.
 fn make_default(names: &mut Names, sink: SinkId)
     ensures { names.new ≡ defaulted sink names.old }
@@ -168,7 +179,7 @@ fn apply<P: Drop>(tables: &mut Tables<P>, change: CoreChange<P>)
         Change::Described(index, list) => tables.lists.set(index, list),
         Change::Leaves(index) => leave(tables, index),
         Change::Said(index, msg) => say(tables, index, msg),
-        Change::Regrouped(sink, _group, msg) => post(tables, sink, msg),
+        Change::Regrouped(sink, group, msg) => regroup(tables, sink, group, msg),
         Change::Asked(w) => tables.waiting.push_reserved(w),
         Change::Answered(w) => awaited::answer(&mut tables.waiting, &w),
         Change::Gone(index) => give_up(tables, index),
@@ -197,7 +208,7 @@ pub(crate) fn finish<P: Drop>(
     alloc: Global,
     tables: &mut Tables<P>,
     asker: Option<ConnId>,
-    plan: Plan<Msg<P>, ()>,
+    plan: Plan<Msg<P>, Group>,
 ) -> Mem<Effects>
     ensures effects { IfOk result (λ effects. effects ≡ plan_effects asker plan) }
     ensures after { OnOk result (state_of tables.new ≡ answered (state_of tables.old) plan) }

@@ -25,6 +25,7 @@ use crate::standing::goes_on;
 use crate::tables::Tables;
 use crate::verbs::mark;
 use px_frame::FrameFault;
+use px_flat::Group;
 use px_msg::Msg;
 use px_plan::{Change, Connection, Input, Plan, Reason};
 use px_types::{ConnId, Mem};
@@ -113,7 +114,7 @@ fn sweep<P: Drop>(
     alloc: Global,
     connections: &[Connection],
     inputs: &[Input],
-) -> Mem<Plan<Msg<P>, ()>>
+) -> Mem<Plan<Msg<P>, Group>>
     ensures { IfOk result (λ plan. plan ≡ changing (flat_map (swept inputs.now) (marked_of connections.now))) }
 {
     let mut changes = Vec::new(alloc);

@@ -8,6 +8,7 @@ ghost use Rattle.px_core.specs.Plan.{reply_to_asker, sent_all, closed_all, plan_
 
 use crate::change::CoreChange;
 use crate::effect::{Effect, closed_in, sent};
+use px_flat::Group;
 use px_msg::Msg;
 use px_plan::{Plan, Sending};
 use px_tag::Packet;
@@ -175,7 +176,7 @@ fn close_all<P>(effects: &mut Effects, changes: &[CoreChange<P>]) -> Mem<()>
 pub(crate) fn plan_effects<P>(
     alloc: Global,
     asker: Option<ConnId>,
-    plan: &Plan<Msg<P>, ()>,
+    plan: &Plan<Msg<P>, Group>,
 ) -> Mem<Effects>
     ensures { IfOk result (λ effects. effects ≡ plan_effects asker plan.now) }
 {

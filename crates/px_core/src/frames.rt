@@ -5,6 +5,7 @@ ghost use Rattle.std.specs.List.{AllByRecursion};
 ghost use Rattle.px_frame.specs.Frame.{IsBody};
 ghost use Rattle.px_session.specs.HeaderRules.{AreSinks};
 ghost use Rattle.px_core.specs.Command.{packet_answer};
+ghost use Rattle.px_core.specs.Grouped.{AreGrouped};
 ghost use Rattle.px_core.specs.Keeps.{IsInput, IsRising};
 ghost use Rattle.px_core.specs.Plan.{plan_effects};
 ghost use Rattle.px_core.specs.Step.{answered, body_answer, frame_answer};
@@ -32,6 +33,7 @@ fn control<P: Drop>(
 ) -> Mem<Effects>
     requires sinks { AreSinks [] tables.old.sinks }
     requires inputs { AllByRecursion (IsInput tables.old.sinks tables.old.inputs_made) tables.old.inputs.items }
+    requires groups { AreGrouped [] tables.old.sinks tables.old.inputs.items tables.old.groups.items }
     ensures effects { IfOk result (λ effects. effects ≡ plan_effects (Some conn) (packet_answer (state_of tables.old) c.now at packet.now)) }
     ensures after { OnOk result (state_of tables.new ≡ answered (state_of tables.old) (packet_answer (state_of tables.old) c.now at packet.now)) }
     ensures err { OnErr result (state_of tables.new ≡ state_of tables.old) }
@@ -53,6 +55,7 @@ fn body<P: Drop>(
 ) -> Result<Effects, Body>
     requires sinks { AreSinks [] tables.old.sinks }
     requires inputs { AllByRecursion (IsInput tables.old.sinks tables.old.inputs_made) tables.old.inputs.items }
+    requires groups { AreGrouped [] tables.old.sinks tables.old.inputs.items tables.old.groups.items }
     requires rising { IsRising tables.old.inputs.items }
     requires body { IsBody body }
     ensures effects { IfOk result (λ effects. effects ≡ plan_effects (Some conn) (body_answer (state_of tables.old) c.now at body)) }
@@ -92,6 +95,7 @@ pub(crate) fn take<P: Drop>(
 ) -> Result<Effects, Frame>
     requires sinks { AreSinks [] tables.old.sinks }
     requires inputs { AllByRecursion (IsInput tables.old.sinks tables.old.inputs_made) tables.old.inputs.items }
+    requires groups { AreGrouped [] tables.old.sinks tables.old.inputs.items tables.old.groups.items }
     requires rising { IsRising tables.old.inputs.items }
     requires body { IsBody frame.body }
     ensures effects { IfOk result (λ effects. effects ≡ plan_effects (Some conn) (frame_answer (state_of tables.old) conn frame)) }

@@ -23,8 +23,9 @@ ghost use Rattle.px_core.specs.Connecting.{going_on};
 ghost use Rattle.px_core.specs.Out.{Roomy, waiting_for, next_for, handed_out, put_back, sent_by, unsent_by};
 ghost use Rattle.px_core.specs.Step.{Step, out, sender_of, stepped, effects_of, stepped_by, effects_by};
 ghost use Rattle.px_core.specs.Orderly.{specs_of, inputs_there, IsOrderlyState};
-ghost use Rattle.px_core.specs.Keeps.{IsKept, IsPosted, IsStep, Spares, handed_out_by, messages_out};
+ghost use Rattle.px_core.specs.Keeps.{IsSteady, IsKept, IsPosted, IsStep, Spares, handed_out_by, messages_out};
 ghost use Rattle.px_core.specs.Parcels.{given_in, Carries, AllCarry, IsAmong};
+ghost use Rattle.px_core.specs.Grouped.{AreGrouped};
 ghost use Rattle.px_core.specs.Hearing.{told_by};
 ghost use Rattle.px_core.specs.Ending.{ends_of, goes_on, begins_of, begins_by};
 
@@ -86,8 +87,8 @@ pub fn sinks_hear_what_is_orderly<P>()
 {}
 
 /// A settled input may move to a sink that has room for it, and one that moves, once its sink has given up its stream, may be
-/// brought to the new sink by a parcel of its sample spec that fits there: both keep what the state keeps. It does nothing: its
-/// contract is the law. Source: own.
+/// brought to the new sink by a parcel of its sample spec that fits there: both keep what the state keeps, but that the groups of
+/// the two sinks are to follow once it was brought. It does nothing: its contract is the law. Source: own.
 pub fn moves_keep_states<P>()
     ensures departs { (spec_of : P → SampleSpec) (state : State P) (x : Input) (to : SinkId) → IsKept spec_of state
         → input_of state.inputs x.index ≡ Some x → x.standing ≡ Settled → to.0 < length state.sinks
@@ -96,7 +97,8 @@ pub fn moves_keep_states<P>()
         → IsKept spec_of state → input_of state.inputs x.index ≡ Some x → x.standing ≡ Moving to → x.way ≡ Left
         → to.0 < length state.sinks → spec_of parcel ≡ sample_spec x.spec
         → ((s : SinkSpec) → slice_get state.sinks to.0 ≡ Some s → IsParcel (sample_spec s.spec) (spec_of parcel) feed factors)
-        → IsKept spec_of (arriving to x (Attach x.index parcel feed factors) state) }
+        → IsSteady spec_of (arriving to x (Attach x.index parcel feed factors) state)
+        × AreGrouped (x.sink ∷ to ∷ []) state.sinks (arriving to x (Attach x.index parcel feed factors) state).inputs state.groups }
 {}
 
 /// No parcel waits for a sink, and none is handed out to it, but those that notices gave up. It does nothing: its contract is the

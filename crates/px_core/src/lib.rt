@@ -13,6 +13,7 @@ mod effect;
 mod effects;
 mod found;
 mod frames;
+mod groups;
 mod input_table;
 mod laws;
 mod lending;

@@ -3,6 +3,7 @@
 
 ghost use Rattle.std.specs.Prelude.{◌≡◌, [], None, IfOk, IfErr, OnOk, OnErr};
 ghost use Rattle.px_session.specs.HeaderRules.{AreSinks};
+ghost use Rattle.px_core.specs.Grouped.{AreGrouped};
 ghost use Rattle.px_core.specs.Notice.{owner_of, told_of, drained_of, measured_of, notice_answer};
 ghost use Rattle.px_core.specs.Plan.{plan_effects};
 ghost use Rattle.px_core.specs.Step.{answered};
@@ -11,9 +12,11 @@ ghost use Rattle.px_core.specs.Tables.{state_of};
 use crate::commit::finish;
 use crate::effects::Effects;
 use crate::found::{going_on, input_on};
+use crate::groups::group_on;
 use crate::tables::Tables;
-use crate::targets::{channels_on, rate_on};
+use crate::targets::rate_on;
 use px_ctl_play::{News, Progress, drained, left, measured, tell};
+use px_flat::Group;
 use px_msg::{Msg, Notice, Parcel};
 use px_plan::{Connection, Input, Plan};
 use px_types::{Mem, SinkId};
@@ -35,7 +38,7 @@ fn told_of<P: Drop>(
     tables: &Tables<P>,
     input: Option<Input>,
     news: News,
-) -> Mem<Plan<Msg<P>, ()>>
+) -> Mem<Plan<Msg<P>, Group>>
     ensures { IfOk result (λ plan. plan ≡ told_of (state_of tables.now) input news) }
 {
     tell(alloc, input, owner_of(&tables.connections, input), news)
@@ -47,7 +50,7 @@ fn drained_of<P: Drop>(
     tables: &Tables<P>,
     input: Option<Input>,
     tag: u32,
-) -> Mem<Plan<Msg<P>, ()>>
+) -> Mem<Plan<Msg<P>, Group>>
     ensures { IfOk result (λ plan. plan ≡ drained_of (state_of tables.now) input tag) }
 {
     let owner = owner_of(&tables.connections, input);
@@ -62,7 +65,7 @@ fn measured_of<P: Drop>(
     sink: SinkId,
     tag: u32,
     progress: Progress,
-) -> Mem<Plan<Msg<P>, ()>>
+) -> Mem<Plan<Msg<P>, Group>>
     requires { AreSinks [] tables.now.sinks }
     ensures { IfOk result (λ plan. plan ≡ measured_of (state_of tables.now) input sink tag progress) }
 {
@@ -78,8 +81,9 @@ fn notice_answer<P: Parcel + Drop>(
     tables: &Tables<P>,
     sink: SinkId,
     notice: &Notice<P>,
-) -> Mem<Plan<Msg<P>, ()>>
-    requires { AreSinks [] tables.now.sinks }
+) -> Mem<Plan<Msg<P>, Group>>
+    requires sinks { AreSinks [] tables.now.sinks }
+    requires groups { AreGrouped [] tables.now.sinks tables.now.inputs.items tables.now.groups.items }
     ensures { IfOk result (λ plan. plan ≡ notice_answer P.spec_of (state_of tables.now) sink notice.now) }
 {
     let inputs = tables.inputs.as_slice();
@@ -108,9 +112,9 @@ fn notice_answer<P: Parcel + Drop>(
             told_of(alloc, tables, input_on(inputs, sink, *input), News::Started)
         }
         Notice::Detached { input, parcel } => {
-            let channels = channels_on(tables.sinks.as_slice(), sink);
+            let group = group_on(&tables.groups, sink);
             let input = input_on(inputs, sink, *input);
-            left(alloc, input, parcel.spec(), channels, inputs)
+            left(alloc, input, group, parcel.spec(), inputs)
         }
         Notice::Drained { input, tag } => {
             drained_of(alloc, tables, input_on(inputs, sink, *input), *tag)
@@ -150,7 +154,8 @@ pub(crate) fn take<P: Parcel + Drop>(
     sink: SinkId,
     notice: Notice<P>,
 ) -> Result<Effects, Notice<P>>
-    requires { AreSinks [] tables.old.sinks }
+    requires sinks { AreSinks [] tables.old.sinks }
+    requires groups { AreGrouped [] tables.old.sinks tables.old.inputs.items tables.old.groups.items }
     ensures effects { IfOk result (λ effects. effects ≡ plan_effects None (notice_answer P.spec_of (state_of tables.old) sink notice)) }
     ensures after { OnOk result (state_of tables.new ≡ answered (state_of tables.old) (notice_answer P.spec_of (state_of tables.old) sink notice)) }
     ensures back { IfErr result (λ back. back ≡ notice) }

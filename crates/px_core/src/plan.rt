@@ -7,6 +7,7 @@ ghost use Rattle.px_core.specs.Plan.{Plan as CorePlan, refused, reply_fits, fitt
 
 use crate::change::alone;
 use crate::effects::fits;
+use px_flat::Group;
 use px_msg::Msg;
 use px_plan::{Change, Plan, Reason, Refusal};
 use px_tag::{Packet, TagFault};
@@ -14,7 +15,7 @@ use px_types::{ConnId, ErrorCode, Mem, NoMemory};
 use std::alloc::Global;
 
 /// Who asked under the tag is sent an error, and nothing changes.
-pub(crate) fn refused<P: Drop>(alloc: Global, tag: u32, code: ErrorCode) -> Mem<Plan<Msg<P>, ()>>
+pub(crate) fn refused<P: Drop>(alloc: Global, tag: u32, code: ErrorCode) -> Mem<Plan<Msg<P>, Group>>
     ensures { IfOk result (λ plan. plan ≡ refused tag code) }
 {
     match px_reply::error(alloc, tag, code) {
@@ -34,7 +35,7 @@ fn reply_fits(reply: &Option<Packet>) -> bool
 }
 
 // A plan whose reply no frame can carry is refused instead.
-fn fitting<P: Drop>(alloc: Global, tag: u32, plan: Plan<Msg<P>, ()>) -> Mem<Plan<Msg<P>, ()>>
+fn fitting<P: Drop>(alloc: Global, tag: u32, plan: Plan<Msg<P>, Group>) -> Mem<Plan<Msg<P>, Group>>
     ensures { IfOk result (λ made. made ≡ fitting tag plan) }
 {
     if reply_fits(&plan.reply) {
@@ -49,8 +50,8 @@ fn fitting<P: Drop>(alloc: Global, tag: u32, plan: Plan<Msg<P>, ()>) -> Mem<Plan
 pub(crate) fn requested<P: Drop>(
     alloc: Global,
     tag: u32,
-    given: Result<Plan<Msg<P>, ()>, Refusal>,
-) -> Mem<Plan<Msg<P>, ()>>
+    given: Result<Plan<Msg<P>, Group>, Refusal>,
+) -> Mem<Plan<Msg<P>, Group>>
     ensures { (row : Row (CorePlan P)) → Plans given row → IfOk result (λ plan. plan ≡ requested tag row) }
 {
     match given {
@@ -90,7 +91,7 @@ pub(crate) fn broken_off<P: Drop>(
     conn: ConnId,
     at: u64,
     fault: TagFault,
-) -> Mem<Plan<Msg<P>, ()>>
+) -> Mem<Plan<Msg<P>, Group>>
     ensures { IfOk result (λ plan. plan ≡ broken_off conn at fault) }
 {
     let end = Change::Ended {

@@ -3,11 +3,15 @@
 ghost use Rattle.std.specs.Prelude.{◌≡◌, ◌++◌, ◌∷◌, [], map, replicate, length, List, IfOk, OnOk};
 ghost use Rattle.px_session.specs.declared.header.SinkSpec.{SinkSpec};
 ghost use Rattle.px_session.specs.HeaderRules.{IsHeader, AreSinks};
+ghost use Rattle.std.specs.List.{AllByRecursion};
+ghost use Rattle.px_flat.specs.FlatVolume.{new_group};
+ghost use Rattle.px_core.specs.Sinks.{IsOfHeader};
 ghost use Rattle.px_core.specs.State.{new_state};
 ghost use Rattle.px_core.specs.Tables.{lists_of, state_of};
 
 use crate::input_table::InputTable;
 use crate::tables::Tables;
+use px_flat::Group;
 use px_msg::Msg;
 use px_names::{InputLists, Names, SinkNames};
 use px_session::{Header, SinkSpec, SinkSpecs};
@@ -61,6 +65,26 @@ fn queues_for<P: Drop>(alloc: Global, sinks: &[SinkSpec]) -> Mem<Vec<VecDeque<Ms
     Ok(made)
 }
 
+// The group of a sink that no input is on.
+fn group_for(alloc: Global, sink: &SinkSpec) -> Group
+    requires { IsOfHeader sink.now }
+    ensures { result ≡ new_group sink.now.spec.channels }
+{
+    Group::new(alloc, sink.spec.channels)
+}
+
+// Such a group for each sink.
+fn groups_for(alloc: Global, sinks: &[SinkSpec]) -> Mem<Vec<Group>>
+    requires { AllByRecursion IsOfHeader sinks.now }
+    ensures { IfOk result (λ made. made.items ≡ map (λ s. new_group (SinkSpec.spec s).channels) sinks.now) }
+{
+    let mut made = Vec::new(alloc);
+    for sink in sinks {
+        made.push(group_for(alloc, sink))?;
+    }
+    Ok(made)
+}
+
 /// The tables of a server with this header: no client, no input and no message.
 pub(crate) fn new_tables<P: Drop>(alloc: Global, header: &Header) -> Mem<Tables<P>>
     requires { IsHeader header.now }
@@ -77,6 +101,7 @@ pub(crate) fn new_tables<P: Drop>(alloc: Global, header: &Header) -> Mem<Tables<
         lists: InputLists::new(alloc),
         waiting: Vec::new(alloc),
         posted: queues_for(alloc, sinks)?,
+        groups: groups_for(alloc, sinks)?,
         clients_made: 0,
         inputs_made: 0,
     })

@@ -1,6 +1,7 @@
 //! The tables that the core keeps its state in.
 
 use crate::input_table::InputTable;
+use px_flat::Group;
 use px_msg::Msg;
 use px_names::{InputLists, Names};
 use px_plan::{Connection, Waiting};
@@ -23,6 +24,8 @@ pub(crate) struct Tables<P> {
     pub(crate) waiting: Vec<Waiting>,
     /// The messages that wait for each sink, in order.
     pub(crate) posted: Vec<VecDeque<Msg<P>>>,
+    /// The group of volumes of each sink.
+    pub(crate) groups: Vec<Group>,
     /// How many clients were ever made, and how many inputs.
     pub(crate) clients_made: u32,
     pub(crate) inputs_made: u32,

@@ -5,7 +5,7 @@ ghost use Rattle.std.specs.Option.{option_map};
 ghost use Rattle.px_session.specs.HeaderRules.{AreSinks};
 ghost use Rattle.px_names.specs.Names.{NO_INDEX, sink_named};
 ghost use Rattle.px_plan.specs.Target.{IsTarget, IsNamed};
-ghost use Rattle.px_core.specs.Sinks.{IsOfHeader, channels_on, rate_on, rate_of, depth_of, sink_of, target_of, found_as, named_as, named_by};
+ghost use Rattle.px_core.specs.Sinks.{IsOfHeader, rate_on, rate_of, depth_of, sink_of, target_of, found_as, named_as, named_by};
 
 use px_cmd::SinkRef;
 use px_names::{NO_INDEX, Names};
@@ -24,19 +24,7 @@ fn sink_at(sinks: &[SinkSpec], index: SinkId) -> Option<&SinkSpec>
     sinks.get(index.0 as usize)
 }
 
-/// How many channels the sink with an index has; 0 where there is none. Takes no memory.
-pub(crate) fn channels_on(sinks: &[SinkSpec], index: SinkId) -> u8
-    requires { AreSinks [] sinks.now }
-    ensures value { result ≡ channels_on sinks.now index }
-    ensures few { result ≤ 32 }
-{
-    match sink_at(sinks, index) {
-        None => 0,
-        Some(sink) => sink.spec.channels,
-    }
-}
-
-/// Its rate, in frames a second; 1 where there is none. Takes no memory.
+/// The rate of the sink with an index, in frames a second; 1 where there is none. Takes no memory.
 pub(crate) fn rate_on(sinks: &[SinkSpec], index: SinkId) -> u32
     requires { AreSinks [] sinks.now }
     ensures value { result ≡ rate_on sinks.now index }

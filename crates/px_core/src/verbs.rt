@@ -1,15 +1,16 @@
 //! How a change is made: the first connection or input with a number, where there is one, is changed or goes. Nothing takes
 //! memory.
 
-ghost use Rattle.std.specs.Prelude.{◌≡◌, ◌<◌, ◌≤◌, vec_len, vec_capacity};
+ghost use Rattle.std.specs.Prelude.{◌≡◌, ◌<◌, ◌≤◌, set, vec_len, vec_capacity};
 ghost use Rattle.std.specs.List.{position};
 ghost use Rattle.px_core.specs.State.{has_number, has_index};
 ghost use Rattle.px_core.specs.Change.{change_first, drop_first, authed, marked, with_streams, leaving, with_attr};
 ghost use Rattle.px_core.specs.Out.{on_way};
 
+use px_flat::Group;
 use px_model::Attr;
 use px_plan::{Connection, Input, Standing, Way};
-use px_types::{ConnId, InputId};
+use px_types::{ConnId, InputId, SinkId};
 
 // The place of the connection with a number.
 fn place_of(connections: &[Connection], conn: ConnId) -> Option<usize>
@@ -60,6 +61,16 @@ pub(crate) fn forget(connections: &mut Vec<Connection>, conn: ConnId)
 {
     if let Some(place) = place_of(connections.as_slice(), conn) {
         connections.remove(place);
+    }
+}
+
+/// A sink has this group.
+pub(crate) fn set_group(groups: &mut Vec<Group>, sink: SinkId, group: Group)
+    ensures { groups.new.items ≡ set groups.old.items sink.0 group }
+{
+    let place = usize::from(sink.0);
+    if place < groups.len() {
+        groups[place] = group;
     }
 }
 

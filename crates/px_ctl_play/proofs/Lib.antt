@@ -1,3 +1,3 @@
-pub mod Straight
 pub mod Naming
 pub mod Passed
+pub mod Joined

@@ -1,7 +1,8 @@
 -- What a row that planned has passed.
 use Rattle.std.proofs.Common.{◌≡◌, ℕ, Bool, true, false, List, Option, None, Some, Ok, refl}
-use Rattle.px_types.specs.declared.error_code.ErrorCode.TheVariants.{Invalid, NoEntity, TooLarge, NotSupported, NotImplemented}
+use Rattle.px_types.specs.declared.error_code.ErrorCode.TheVariants.{Invalid, NoEntity, TooLarge, NotSupported}
 use Rattle.px_cmd.specs.declared.command.CreateFields.{CreateFields}
+use Rattle.px_flat.specs.FlatVolume.{FlatGroup}
 use Rattle.px_msg.specs.declared.message.Msg.{Msg}
 use Rattle.px_plan.specs.declared.input.Connection.{Connection}
 use Rattle.px_plan.specs.declared.input.Input.{Input}
@@ -11,49 +12,54 @@ use Rattle.px_plan.specs.declared.waiting.Waiting.{Waiting}
 use Rattle.px_plan.specs.Plan.{Planned}
 use Rattle.px_plan.specs.Row.{Row, ◌>>=◌, check, present}
 use Rattle.px_plan.specs.Target.{is_clear, target_of}
-use Rattle.px_ctl_play.specs.Asked.{is_lawful, is_supported, is_built, has_room}
+use Rattle.px_ctl_play.specs.Asked.{is_lawful, is_supported, feed_on, has_room}
 use Rattle.px_ctl_play.specs.Create.{input_made, created, create}
 use Rattle.px_ctl_play.specs.Delete.{deleted, delete}
 
 -- ---- CREATE_PLAYBACK_STREAM
 
-pub record IsCreated {P : Type 0} (inputs : List Input) (made : ℕ) (me : Connection) (tag : ℕ) (named : Named) (a : CreateFields) (plan : Planned (Msg P) (Unit {0})) : Type 0 where
+pub record IsCreated {P : Type 0} (inputs : List Input) (made : ℕ) (me : Connection) (tag : ℕ) (named : Named) (group : Option FlatGroup) (a : CreateFields) (plan : Planned (Msg P) FlatGroup) : Type 0 where
   pub sink : Target
   pub there : target_of named ≡ Some sink
+  pub owner : FlatGroup
+  pub owned : group ≡ Some owner
   pub lawful : is_lawful a ≡ true
   pub supported : is_supported sink a ≡ true
+  pub feed : List ℕ
+  pub fed : feed_on sink a ≡ Some feed
   pub room : has_room inputs made me sink.index ≡ true
-  pub built : is_built sink a ≡ true
-  pub planned : plan ≡ created inputs made me tag sink a (input_made made me sink a)
+  pub planned : plan ≡ created inputs made me tag sink owner a feed (input_made made me sink a)
 
-abbrev on_sink : {B : Type 0} → Bool → Bool → Bool → B → Row B
-on_sink supported room built plan = do
+abbrev on_sink : {A B : Type 0} → Bool → Option A → Bool → (A → B) → Row B
+on_sink supported feed room plan = do
   s ← check supported NotSupported
+  f ← present feed NotSupported
   r ← check room TooLarge
-  b ← check built NotImplemented
-  Ok plan
+  Ok (plan f)
 
-passed_on : {B : Type 0} (supported room built : Bool) (made plan : B) → on_sink supported room built made ≡ Ok plan → (supported ≡ true) × (room ≡ true) × (built ≡ true) × (plan ≡ made)
-passed_on true true true made plan e = (refl, refl, refl, cc)
-passed_on false room built made plan e = absurd cc
-passed_on true false built made plan e = absurd cc
-passed_on true true false made plan e = absurd cc
+passed_on : {A B : Type 0} (supported : Bool) (feed : Option A) (room : Bool) (made : A → B) (plan : B) → on_sink supported feed room made ≡ Ok plan
+    → (supported ≡ true) × ((f : A) × (feed ≡ Some f) × (plan ≡ made f)) × (room ≡ true)
+passed_on true (Some f) true made plan e = (refl, (f, refl, cc), refl)
+passed_on false feed room made plan e = absurd cc
+passed_on true None room made plan e = absurd cc
+passed_on true (Some f) false made plan e = absurd cc
 
-module _ {P : Type 0} (inputs : List Input) (made : ℕ) (me : Connection) (tag : ℕ) (named : Named) (a : CreateFields) (plan : Planned (Msg P) (Unit {0})) where
-  abbrev on_target : Target → Row (Planned (Msg P) (Unit {0}))
-  on_target sink = on_sink (is_supported sink a) (has_room inputs made me sink.index) (is_built sink a) (created inputs made me tag sink a (input_made made me sink a))
+module _ {P : Type 0} (inputs : List Input) (made : ℕ) (me : Connection) (tag : ℕ) (named : Named) (group : Option FlatGroup) (a : CreateFields) (plan : Planned (Msg P) FlatGroup) where
+  abbrev on_group : Target → FlatGroup → Row (Planned (Msg P) FlatGroup)
+  on_group sink owner = on_sink (is_supported sink a) (feed_on sink a) (has_room inputs made me sink.index) (λ feed. created inputs made me tag sink owner a feed (input_made made me sink a))
 
-  passed : (lawful clear : Bool) (target : Option Target) → is_lawful a ≡ lawful → target_of named ≡ target
-      → (check lawful Invalid >>= λ l. check clear Invalid >>= λ c. present target NoEntity >>= on_target) ≡ Ok plan → IsCreated inputs made me tag named a plan
-  passed false clear target lawful there e = absurd cc
-  passed true false target lawful there e = absurd cc
-  passed true true None lawful there e = absurd cc
-  passed true true (Some sink) lawful there e =
-      let p = passed_on (is_supported sink a) (has_room inputs made me sink.index) (is_built sink a) (created inputs made me tag sink a (input_made made me sink a)) plan e in
-      record { sink = sink; there = there; lawful = lawful; supported = p.0; room = p.1; built = p.2; planned = p.3 }
+  passed : (lawful clear : Bool) (target : Option Target) (owner : Option FlatGroup) → is_lawful a ≡ lawful → target_of named ≡ target → group ≡ owner
+      → (check lawful Invalid >>= λ l. check clear Invalid >>= λ c. present target NoEntity >>= λ sink. present owner NoEntity >>= on_group sink) ≡ Ok plan → IsCreated inputs made me tag named group a plan
+  passed false clear target owner lawful there owned e = absurd cc
+  passed true false target owner lawful there owned e = absurd cc
+  passed true true None owner lawful there owned e = absurd cc
+  passed true true (Some sink) None lawful there owned e = absurd cc
+  passed true true (Some sink) (Some owner) lawful there owned e =
+      let p = passed_on (is_supported sink a) (feed_on sink a) (has_room inputs made me sink.index) (λ feed. created inputs made me tag sink owner a feed (input_made made me sink a)) plan e in
+      record { sink = sink; there = there; owner = owner; owned = owned; lawful = lawful; supported = p.0; feed = p.1.0; fed = p.1.1; room = p.2; planned = p.1.2 }
 
-  pub create_passed : create inputs made me tag named a ≡ Ok plan → IsCreated inputs made me tag named a plan
-  create_passed e = passed (is_lawful a) (is_clear named) (target_of named) refl refl e
+  pub create_passed : create inputs made me tag named group a ≡ Ok plan → IsCreated inputs made me tag named group a plan
+  create_passed e = passed (is_lawful a) (is_clear named) (target_of named) group refl refl refl e
 
 -- ---- a command of one stream, which is there
 
@@ -67,6 +73,6 @@ pub of_stream_passed : {A : Type 0} (stream : Option Input) (f : Input → A) (p
 of_stream_passed None f plan e = absurd cc
 of_stream_passed (Some x) f plan e = (x, refl, same_plan (f x) plan e)
 
-pub delete_passed : {P : Type 0} (stream : Option Input) (waiting : List Waiting) (tag : ℕ) (plan : Planned (Msg P) (Unit {0}))
+pub delete_passed : {P : Type 0} (stream : Option Input) (waiting : List Waiting) (tag : ℕ) (plan : Planned (Msg P) FlatGroup)
     → delete stream waiting tag ≡ Ok plan → (x : Input) × (stream ≡ Some x) × (plan ≡ deleted x waiting tag)
 delete_passed stream waiting tag plan e = of_stream_passed stream (λ x. deleted x waiting tag) plan e

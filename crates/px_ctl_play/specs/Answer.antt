@@ -1,5 +1,6 @@
 -- Requests that are answered later, once a stream's sink has told what they ask for.
 use Rattle.std.specs.Prelude.{ℕ, List, [], ◌∷◌, Option, None, Some}
+use Rattle.px_flat.specs.FlatVolume.{FlatGroup}
 use Rattle.px_msg.specs.declared.message.Msg.{Msg}
 use Rattle.px_plan.specs.declared.change.Change.TheVariants.{Said, Asked, Answered}
 use Rattle.px_plan.specs.declared.input.Connection.{Connection}
@@ -10,7 +11,7 @@ use Rattle.px_plan.specs.declared.waiting.Waiting.{Waiting}
 use Rattle.px_plan.specs.Plan.{Planned, changing}
 
 -- an input's sink is asked, and the request waits
-abbrev pub asked : {P : Type 0} → Input → Msg P → Awaited → ℕ → Planned (Msg P) (Unit {0})
+abbrev pub asked : {P : Type 0} → Input → Msg P → Awaited → ℕ → Planned (Msg P) FlatGroup
 asked x message awaited tag =
     changing (Said x.index message ∷ Asked (record { input = x.index; tag = tag; awaited = awaited }) ∷ [])
 
@@ -20,5 +21,5 @@ sent_to None packet = []
 sent_to (Some c) packet = record { conn = c.conn; packet = packet } ∷ []
 
 -- a request waits no more, and its connection, where that is there, has the reply
-abbrev pub answered : {P : Type 0} → Option Connection → Waiting → List ℕ → Planned (Msg P) (Unit {0})
+abbrev pub answered : {P : Type 0} → Option Connection → Waiting → List ℕ → Planned (Msg P) FlatGroup
 answered owner w reply = record { reply = None; errors = []; told = sent_to owner reply; changes = Answered w ∷ [] }

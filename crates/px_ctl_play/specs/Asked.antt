@@ -1,7 +1,6 @@
--- What a stream is that a client asks for, and what it becomes on its sink (PulseAudio: `command_create_playback_stream` of pulsecore/protocol-native.c; that rates and formats of other kinds are refused is own).
-use Rattle.std.specs.Prelude.{ℕ, Bool, not, cond, ◌&&◌, ◌||◌, nat_eq, nat_lt, nat_le, List, [], ◌∷◌, length, get_or}
+-- What a stream is that a client asks for, and what it becomes on its sink (PulseAudio: `command_create_playback_stream` of pulsecore/protocol-native.c; that other rates, floating point and maps without a plan are refused is own).
+use Rattle.std.specs.Prelude.{ℕ, Bool, not, cond, ◌&&◌, ◌||◌, nat_eq, nat_lt, nat_le, List, [], ◌∷◌, length, get_or, Option}
 use Rattle.std.specs.List.{list_all}
-use Rattle.std.specs.Cmp.Lexicographic.{pointwise}
 use Rattle.px_types.specs.declared.ids.SinkId.{SinkId}
 use Rattle.px_tag.specs.declared.raw.RawSpec.{RawSpec}
 use Rattle.px_cmd.specs.declared.command.CreateFields.{CreateFields}
@@ -9,7 +8,8 @@ use Rattle.px_sample.specs.declared.spec.Spec.{Spec}
 use Rattle.px_sample.specs.declared.format.Format.{Format}
 use Rattle.px_sample.specs.declared.format.Format.TheVariants.{U8, Alaw, Ulaw, S16Le, S16Be, Float32Le, Float32Be, S32Le, S32Be, S24Le, S24Be, S24In32Le, S24In32Be}
 use Rattle.px_sample.specs.Format.{code_of}
-use Rattle.px_vol.specs.Volume.{norm, greatest}
+use Rattle.px_chmap.specs.Plan.{plan_of}
+use Rattle.px_vol.specs.Volume.{greatest}
 use Rattle.px_model.specs.declared.data.Attr.{Attr}
 use Rattle.px_msg.specs.Repair.{repaired}
 use Rattle.px_plan.specs.declared.input.Connection.{Connection}
@@ -19,9 +19,9 @@ use Rattle.px_plan.specs.Input.{bound_for, going_of}
 
 -- ---- what can be at all
 
--- a sample spec that can be: a known format, a channel, a rate up to 192,000
+-- a sample spec that can be (`pa_sample_spec_valid` of pulse/sample.c; the greatest rate is own): a known format, 1 to 32 channels, a rate up to 192,000
 abbrev pub is_spec : RawSpec → Bool
-is_spec spec = nat_le spec.format 12 && nat_lt 0 spec.channels && nat_lt 0 spec.rate && nat_le spec.rate 192000
+is_spec spec = nat_le spec.format 12 && nat_lt 0 spec.channels && nat_le spec.channels 32 && nat_lt 0 spec.rate && nat_le spec.rate 192000
 
 -- a position for each channel, of the 51 that there are
 abbrev pub is_map : RawSpec → List ℕ → Bool
@@ -36,9 +36,6 @@ abbrev pub is_lawful : CreateFields → Bool
 is_lawful a = is_spec a.spec && is_map a.spec a.map && are_volumes a.spec a.volume
 
 -- ---- what it becomes on its sink: where the client says so, format, rate and channels are the sink's
-
-abbrev pub same_positions : List ℕ → List ℕ → Bool
-same_positions a b = pointwise nat_eq a b
 
 abbrev pub format_on : Target → CreateFields → ℕ
 format_on sink a = cond a.fix_format (code_of sink.spec.format) a.spec.format
@@ -69,11 +66,9 @@ abbrev pub is_supported : Target → CreateFields → Bool
 is_supported sink a =
     not (nat_eq (format_on sink a) 5) && not (nat_eq (format_on sink a) 6) && not a.variable_rate && nat_eq (rate_on sink a) sink.spec.rate
 
--- one in S16LE on the sink's own map, not muted and at the volume that leaves the sound as it is
-abbrev pub is_built : Target → CreateFields → Bool
-is_built sink a =
-    nat_eq (format_on sink a) 3 && same_positions (positions_on sink a) sink.map
-    && not a.muted && list_all (λ v. nat_eq v norm) a.volume
+-- the stream channel that feeds each of the sink's channels, by its channel map there, where there is a plan
+abbrev pub feed_on : Target → CreateFields → Option (List ℕ)
+feed_on sink a = plan_of (positions_on sink a) sink.map a.no_remap a.no_remix
 
 -- ---- the room for it
 

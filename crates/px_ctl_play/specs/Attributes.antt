@@ -2,6 +2,7 @@
 use Rattle.std.specs.Prelude.{ℕ, List, [], ◌∷◌, Option, Ok}
 use Rattle.px_types.specs.declared.error_code.ErrorCode.TheVariants.{NoEntity}
 use Rattle.px_model.specs.declared.data.Attr.{Attr}
+use Rattle.px_flat.specs.FlatVolume.{FlatGroup}
 use Rattle.px_msg.specs.declared.message.Msg.{Msg}
 use Rattle.px_msg.specs.declared.message.Msg.TheVariants.{Attr as NewAttr}
 use Rattle.px_msg.specs.Repair.{repaired, bytes_of}
@@ -13,12 +14,12 @@ use Rattle.px_plan.specs.Row.{Row, ◌>>=◌, present}
 use Rattle.px_ctl_play.specs.Time.{microseconds}
 
 -- an input's sink, of a depth and a rate, is told these attributes, and the client has them in bytes, with the sink's latency
-abbrev pub attributed : {P : Type 0} → ℕ → ℕ → Input → Attr → ℕ → Planned (Msg P) (Unit {0})
+abbrev pub attributed : {P : Type 0} → ℕ → ℕ → Input → Attr → ℕ → Planned (Msg P) FlatGroup
 attributed depth rate x attr tag =
     replied (attributes_reply tag (bytes_of x.spec attr) (microseconds rate depth)) (Said x.index (NewAttr x.index attr) ∷ [])
 
 -- the connection's stream, where it is there, gets what is asked, as it is repaired
-abbrev pub attributes : {P : Type 0} → Option Input → ℕ → ℕ → List ℕ → ℕ → Row (Planned (Msg P) (Unit {0}))
+abbrev pub attributes : {P : Type 0} → Option Input → ℕ → ℕ → List ℕ → ℕ → Row (Planned (Msg P) FlatGroup)
 attributes stream depth rate asked tag = do
   x ← present stream NoEntity
   Ok (attributed depth rate x (repaired (Input.spec x) asked) tag)

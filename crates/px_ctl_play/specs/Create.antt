@@ -1,11 +1,11 @@
 -- CREATE_PLAYBACK_STREAM (PulseAudio: `command_create_playback_stream` of pulsecore/protocol-native.c; the order of refusals is own).
-use Rattle.std.specs.Prelude.{ℕ, ◌+◌, List, [], ◌∷◌, ◌++◌, Ok}
-use Rattle.std.specs.List.{range_with_len}
-use Rattle.px_types.specs.declared.error_code.ErrorCode.TheVariants.{Invalid, NoEntity, TooLarge, NotSupported, NotImplemented}
+use Rattle.std.specs.Prelude.{ℕ, ◌+◌, List, [], ◌∷◌, ◌++◌, Option, Ok}
+use Rattle.px_types.specs.declared.error_code.ErrorCode.TheVariants.{Invalid, NoEntity, TooLarge, NotSupported}
 use Rattle.px_tag.specs.declared.raw.RawSpec.{RawSpec}
 use Rattle.px_cmd.specs.declared.command.CreateFields.{CreateFields}
 use Rattle.px_sample.specs.declared.spec.Spec.{Spec}
 use Rattle.px_sample.specs.Format.{code_of}
+use Rattle.px_flat.specs.FlatVolume.{FlatGroup}
 use Rattle.px_msg.specs.Repair.{bytes_of}
 use Rattle.px_msg.specs.declared.message.Msg.{Msg}
 use Rattle.px_msg.specs.declared.message.Msg.TheVariants.{New}
@@ -23,15 +23,12 @@ use Rattle.px_plan.specs.Input.{settled_on}
 use Rattle.px_plan.specs.Plan.{Planned, replied}
 use Rattle.px_plan.specs.Row.{Row, ◌>>=◌, check, present}
 use Rattle.px_plan.specs.Target.{is_clear, target_of}
-use Rattle.px_ctl_play.specs.Asked.{spec_on, attr_on, positions_on, is_lawful, is_supported, is_built, has_room}
-use Rattle.px_ctl_play.specs.Factors.{unity, regrouped}
+use Rattle.px_ctl_play.specs.Asked.{spec_on, attr_on, positions_on, is_lawful, is_supported, feed_on, has_room}
+use Rattle.px_ctl_play.specs.Factors.{own_factors, regrouped}
+use Rattle.px_ctl_play.specs.Joining.{joined}
 use Rattle.px_ctl_play.specs.Time.{microseconds}
 
 -- ---- the new input
-
--- each channel of the sink is fed by the stream's channel of the same place
-abbrev pub straight : ℕ → List ℕ
-straight channels = range_with_len 0 channels
 
 abbrev pub input_made : ℕ → Connection → Target → CreateFields → Input
 input_made made me sink a = record {
@@ -47,13 +44,13 @@ input_made made me sink a = record {
   standing = Settled;
 }
 
--- the message that brings it to its sink
-abbrev pub new_of : {P : Type 0} → Target → CreateFields → Input → Msg P
-new_of sink a x = New (record {
+-- the message that brings it to its sink, where these of its channels feed the sink's and this is the sink's group
+abbrev pub new_of : {P : Type 0} → CreateFields → FlatGroup → List ℕ → Input → Msg P
+new_of a group feed x = New (record {
   input = x.index;
   spec = x.spec;
-  feed = straight sink.spec.channels;
-  factors = unity sink.spec.channels;
+  feed = feed;
+  factors = own_factors group x.index;
   attr = x.attr;
   corked = a.corked;
 })
@@ -81,21 +78,23 @@ created_of sink a x = record {
 
 -- ---- the command
 
--- the input is there, its sink gets its stream, and then the factors of all inputs on it; and it has the list that the client gave it
-abbrev pub changes_of : {P : Type 0} → List Input → ℕ → Connection → Target → CreateFields → Input → List (Change (Msg P) (Unit {0}))
-changes_of inputs made me sink a x =
-    Made x (new_of sink a x) (me.streams + 1) (made + 1) ∷ regrouped x.sink sink.spec.channels (settled_on inputs x.sink ++ x ∷ []) ∷ Described x.index a.list ∷ []
+-- the input is there, its sink gets its stream, and then this group, with the factors of all inputs on it; and it has the list that the client gave it
+abbrev pub changes_of : {P : Type 0} → List Input → ℕ → Connection → CreateFields → FlatGroup → List ℕ → Input → List (Change (Msg P) FlatGroup)
+changes_of inputs made me a group feed x =
+    Made x (new_of a group feed x) (me.streams + 1) (made + 1) ∷ regrouped x.sink group (settled_on inputs x.sink ++ x ∷ []) ∷ Described x.index a.list ∷ []
 
-abbrev pub created : {P : Type 0} → List Input → ℕ → Connection → ℕ → Target → CreateFields → Input → Planned (Msg P) (Unit {0})
-created inputs made me tag sink a x = replied (created_reply tag (created_of sink a x)) (changes_of inputs made me sink a x)
+abbrev pub created : {P : Type 0} → List Input → ℕ → Connection → ℕ → Target → FlatGroup → CreateFields → List ℕ → Input → Planned (Msg P) FlatGroup
+created inputs made me tag sink group a feed x =
+    replied (created_reply tag (created_of sink a x)) (changes_of inputs made me a (joined group sink a feed x) feed x)
 
--- a connection asks for a stream, where these inputs are there and so many were ever made
-abbrev pub create : {P : Type 0} → List Input → ℕ → Connection → ℕ → Named → CreateFields → Row (Planned (Msg P) (Unit {0}))
-create inputs made me tag named a = do
+-- a connection asks for a stream, where these inputs are there, so many were ever made, and the sink that is named has this group
+abbrev pub create : {P : Type 0} → List Input → ℕ → Connection → ℕ → Named → Option FlatGroup → CreateFields → Row (Planned (Msg P) FlatGroup)
+create inputs made me tag named group a = do
   lawful ← check (is_lawful a) Invalid
   clear ← check (is_clear named) Invalid
   sink ← present (target_of named) NoEntity
+  group ← present group NoEntity
   supported ← check (is_supported sink a) NotSupported
+  feed ← present (feed_on sink a) NotSupported
   room ← check (has_room inputs made me sink.index) TooLarge
-  built ← check (is_built sink a) NotImplemented
-  Ok (created inputs made me tag sink a (input_made made me sink a))
+  Ok (created inputs made me tag sink group a feed (input_made made me sink a))

@@ -2,6 +2,7 @@
 use Rattle.std.specs.Prelude.{ℕ, ◌/◌, ◌%◌, Bool, cond, ◌&&◌, nat_eq, nat_lt, ℤ, pos, unsigned_abs, List, [], ◌∷◌, length, Option, None, Some}
 use Rattle.std.specs.Int.{int_div_euclid, int_rem_euclid}
 use Rattle.px_sample.specs.Format.{frame_size_of}
+use Rattle.px_flat.specs.FlatVolume.{FlatGroup}
 use Rattle.px_msg.specs.declared.message.Msg.{Msg}
 use Rattle.px_msg.specs.declared.message.Msg.TheVariants.{Write}
 use Rattle.px_plan.specs.declared.change.Change.TheVariants.{Said}
@@ -26,11 +27,11 @@ frames_of x offset bytes = frames_in (frame_size_of x.spec) offset bytes
 abbrev pub write : {P : Type 0} → Input → Frames → ℕ → List ℕ → Msg P
 write x frames seek bytes = Write x.index seek frames.offset frames.count bytes
 
-abbrev pub written : {P : Type 0} → Option Frames → Input → ℕ → List ℕ → Planned (Msg P) (Unit {0})
+abbrev pub written : {P : Type 0} → Option Frames → Input → ℕ → List ℕ → Planned (Msg P) FlatGroup
 written None x seek bytes = idle
 written (Some frames) x seek bytes = changing (Said x.index (write x frames seek bytes) ∷ [])
 
 -- data on a channel; one that is none of the connection's streams is ignored, and so is data that isn't whole frames
-abbrev pub data_for : {P : Type 0} → Option Input → ℤ → ℕ → List ℕ → Planned (Msg P) (Unit {0})
+abbrev pub data_for : {P : Type 0} → Option Input → ℤ → ℕ → List ℕ → Planned (Msg P) FlatGroup
 data_for None offset seek bytes = idle
 data_for (Some x) offset seek bytes = written (frames_of x offset (length bytes)) x seek bytes

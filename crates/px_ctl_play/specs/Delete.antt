@@ -2,6 +2,7 @@
 use Rattle.std.specs.Prelude.{ℕ, List, [], ◌∷◌, map, Option, Some, Ok}
 use Rattle.px_types.specs.declared.error_code.ErrorCode.TheVariants.{NoEntity}
 use Rattle.px_types.specs.ErrorCode.{code_of}
+use Rattle.px_flat.specs.FlatVolume.{FlatGroup}
 use Rattle.px_msg.specs.declared.message.Msg.{Msg}
 use Rattle.px_reply.specs.Front.{reply_to, refusal}
 use Rattle.px_plan.specs.declared.change.Change.TheVariants.{Leaves}
@@ -21,11 +22,11 @@ abbrev pub errors_for : Input → List Waiting → List Sending
 errors_for x waiting = map (error_for x) (waiting_of waiting x.index)
 
 -- an input ends: the client has its reply, and then an error for each request that waits
-abbrev pub deleted : {P : Type 0} → Input → List Waiting → ℕ → Planned (Msg P) (Unit {0})
+abbrev pub deleted : {P : Type 0} → Input → List Waiting → ℕ → Planned (Msg P) FlatGroup
 deleted x waiting tag = record { reply = Some (reply_to tag); errors = errors_for x waiting; told = []; changes = Leaves x.index ∷ [] }
 
 -- the connection's stream ends, where it is there
-abbrev pub delete : {P : Type 0} → Option Input → List Waiting → ℕ → Row (Planned (Msg P) (Unit {0}))
+abbrev pub delete : {P : Type 0} → Option Input → List Waiting → ℕ → Row (Planned (Msg P) FlatGroup)
 delete stream waiting tag = do
   x ← present stream NoEntity
   Ok (deleted x waiting tag)

@@ -1,6 +1,8 @@
--- The factors of inputs on a sink. Each leaves the sound as it is, as long as no volume is built.
-use Rattle.std.specs.Prelude.{ℕ, List, map, replicate}
+-- The factors of the inputs on a sink, as its group of volumes gives them.
+use Rattle.std.specs.Prelude.{ℕ, List, [], ◌∷◌, flat_map, unwrap_or, Option, None, Some}
+use Rattle.px_types.specs.declared.ids.InputId.{InputId}
 use Rattle.px_types.specs.declared.ids.SinkId.{SinkId}
+use Rattle.px_flat.specs.FlatVolume.{FlatGroup, factors_for}
 use Rattle.px_msg.specs.declared.factors.InputFactors.{InputFactors}
 use Rattle.px_msg.specs.declared.message.Msg.{Msg}
 use Rattle.px_msg.specs.declared.message.Msg.TheVariants.{Factors}
@@ -8,18 +10,19 @@ use Rattle.px_plan.specs.declared.change.Change.{Change}
 use Rattle.px_plan.specs.declared.change.Change.TheVariants.{Regrouped}
 use Rattle.px_plan.specs.declared.input.Input.{Input}
 
--- the factor of a volume that leaves the sound as it is
-abbrev pub UNITY : ℕ
-UNITY = 65536
+-- the factors of an input, where it has some
+abbrev pub gains_of : InputId → Option (List ℕ) → List InputFactors
+gains_of input None = []
+gains_of input (Some factors) = record { input = input; factors = factors } ∷ []
 
--- one for each channel of a sink
-abbrev pub unity : ℕ → List ℕ
-unity channels = replicate channels UNITY
+-- those that a group gives inputs, in their order; one that isn't in the group has none
+abbrev pub factor_list : FlatGroup → List Input → List InputFactors
+factor_list group inputs = flat_map (λ x. gains_of (Input.index x) (factors_for group (Input.index x))) inputs
 
--- those of inputs, in order
-abbrev pub factors_of : ℕ → List Input → List InputFactors
-factors_of channels inputs = map (λ x. record { input = Input.index x; factors = unity channels }) inputs
+-- those of an input that is in the group
+abbrev pub own_factors : FlatGroup → InputId → List ℕ
+own_factors group input = unwrap_or (factors_for group input) []
 
--- a sink of so many channels is told the factors of these inputs
-abbrev pub regrouped : {P : Type 0} → SinkId → ℕ → List Input → Change (Msg P) (Unit {0})
-regrouped sink channels inputs = Regrouped sink tt (Factors (factors_of channels inputs))
+-- a sink has this group, and is told the factors of these inputs
+abbrev pub regrouped : {P : Type 0} → SinkId → FlatGroup → List Input → Change (Msg P) FlatGroup
+regrouped sink group inputs = Regrouped sink group (Factors (factor_list group inputs))

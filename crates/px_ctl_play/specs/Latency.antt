@@ -7,6 +7,7 @@ use Rattle.px_sample.specs.declared.spec.Spec.{Spec}
 use Rattle.px_sample.specs.Format.{frame_size_of}
 use Rattle.px_model.specs.declared.data.Run.{Run}
 use Rattle.px_model.specs.declared.data.Run.TheVariants.{Quiet, Playing}
+use Rattle.px_flat.specs.FlatVolume.{FlatGroup}
 use Rattle.px_msg.specs.declared.message.Msg.{Msg}
 use Rattle.px_msg.specs.declared.message.Msg.TheVariants.{Query}
 use Rattle.px_reply.specs.declared.played.LatencyFields.{LatencyFields}
@@ -25,7 +26,7 @@ use Rattle.px_ctl_play.specs.Answer.{asked, answered}
 use Rattle.px_ctl_play.specs.Time.{microseconds}
 
 -- the sink of the connection's stream, where it is there, is asked how far it is; the time that the client gives waits with the request
-abbrev pub latency : {P : Type 0} → Option Input → TimeVal → ℕ → Row (Planned (Msg P) (Unit {0}))
+abbrev pub latency : {P : Type 0} → Option Input → TimeVal → ℕ → Row (Planned (Msg P) FlatGroup)
 latency stream time tag = do
   x ← present stream NoEntity
   Ok (asked x (Query (Input.index x) tag) (Latency time) tag)
@@ -68,12 +69,12 @@ fields_of rate x progress time = record {
 -- ---- the sink's answer
 
 -- the request has its reply, where it waits
-abbrev pub latency_answered : {P : Type 0} → ℕ → Input → Option Connection → Option Waiting → Progress → Planned (Msg P) (Unit {0})
+abbrev pub latency_answered : {P : Type 0} → ℕ → Input → Option Connection → Option Waiting → Progress → Planned (Msg P) FlatGroup
 latency_answered rate x owner None progress = idle
 latency_answered rate x owner (Some w) progress = answered owner w (latency_reply w.tag (fields_of rate x progress (time_given w.awaited)))
 
 -- an input on a sink of a rate is so far: the first question under the tag that waits of it is answered, where it is there and goes on
-abbrev pub measured : {P : Type 0} → Option Input → Option Connection → List Waiting → ℕ → ℕ → Progress → Planned (Msg P) (Unit {0})
+abbrev pub measured : {P : Type 0} → Option Input → Option Connection → List Waiting → ℕ → ℕ → Progress → Planned (Msg P) FlatGroup
 measured None owner waiting rate tag progress = idle
 measured (Some x) owner waiting rate tag progress =
     cond (goes_on x) (latency_answered rate x owner (question_under waiting x.index tag) progress) idle

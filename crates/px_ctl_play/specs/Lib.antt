@@ -1,6 +1,7 @@
 pub mod Time
 pub mod Asked
 pub mod Factors
+pub mod Joining
 pub mod Create
 pub mod Delete
 pub mod Kill

@@ -1,8 +1,9 @@
 -- What a sink tells of a stream (PulseAudio: `sink_input_process_msg` and the callbacks of pulsecore/protocol-native.c; which notices fit is own).
-use Rattle.std.specs.Prelude.{ℕ, ◌-◌, ◌*◌, ◌^◌, min, Bool, true, false, cond, ◌&&◌, nat_eq, List, [], ◌∷◌, ◌++◌, Option, None, Some}
+use Rattle.std.specs.Prelude.{ℕ, ◌-◌, ◌*◌, ◌^◌, min, Bool, true, false, cond, ◌&&◌, nat_eq, List, [], ◌∷◌, ◌++◌, Option, None, Some, IsSome, ⊤}
 use Rattle.px_tag.specs.Item.{number}
 use Rattle.px_sample.specs.Format.{frame_size_of}
 use Rattle.px_model.specs.Frame.{SampleSpec}
+use Rattle.px_flat.specs.FlatVolume.{FlatGroup, member_of, detached}
 use Rattle.px_msg.specs.declared.message.Msg.{Msg}
 use Rattle.px_msg.specs.View.{sample_spec}
 use Rattle.px_reply.specs.Front.{message}
@@ -30,7 +31,7 @@ message_of Underflow x = message 63 ++ number x.stream
 message_of Started x = message 86 ++ number x.stream
 
 -- the input is the one on the sink that the notice names, and the connection is the input's, each where it is there and goes on
-abbrev pub told : {P : Type 0} → Option Input → Option Connection → News → Planned (Msg P) (Unit {0})
+abbrev pub told : {P : Type 0} → Option Input → Option Connection → News → Planned (Msg P) FlatGroup
 told None owner news = idle
 told (Some x) None news = idle
 told (Some x) (Some c) news = cond (goes_on x) (telling c.conn (message_of news x)) idle
@@ -49,8 +50,17 @@ same_spec a b = nat_eq a.format b.format && nat_eq a.channels b.channels && nat_
 abbrev pub gives_up : SampleSpec → Input → Bool
 gives_up spec x = is_leaving x.standing && has_left x.way && same_spec spec (sample_spec x.spec)
 
--- an ended input goes, and its sink, of so many channels, is told the factors of those that stay there
-abbrev pub left : {P : Type 0} → Option Input → SampleSpec → ℕ → List Input → Planned (Msg P) (Unit {0})
-left None spec channels inputs = idle
-left (Some x) spec channels inputs =
-    cond (gives_up spec x) (changing (Gone x.index ∷ regrouped x.sink channels (settled_on inputs x.sink) ∷ [])) idle
+-- an ended input goes and leaves the group of its sink, which is told the factors of those that stay there
+abbrev pub gone : {P : Type 0} → Input → Option FlatGroup → List Input → Planned (Msg P) FlatGroup
+gone x None inputs = idle
+gone x (Some group) inputs = changing (Gone x.index ∷ regrouped x.sink (detached x.index group) (settled_on inputs x.sink) ∷ [])
+
+-- its sink has this group
+abbrev pub left : {P : Type 0} → Option Input → Option FlatGroup → SampleSpec → List Input → Planned (Msg P) FlatGroup
+left None group spec inputs = idle
+left (Some x) group spec inputs = cond (gives_up spec x) (gone x group inputs) idle
+
+-- the input is in its sink's group, where both are there
+abbrev pub IsMemberIn : Option FlatGroup → Input → Type 0
+IsMemberIn None x = ⊤
+IsMemberIn (Some group) x = IsSome (member_of group.members x.index)

@@ -4,6 +4,7 @@ ghost use Rattle.std.specs.Prelude.{◌≡◌, IfOk, Ok};
 ghost use Rattle.px_plan.specs.Row.{Plans};
 ghost use Rattle.px_ctl_play.specs.Answer.{asked, sent_to, answered};
 
+use px_flat::Group;
 use px_msg::Msg;
 use px_plan::{Awaited, Change, Connection, Input, Plan, Refusal, Sending, Waiting};
 use px_tag::Packet;
@@ -17,7 +18,7 @@ pub(crate) fn asked<P: Drop>(
     message: Msg<P>,
     awaited: Awaited,
     tag: u32,
-) -> Result<Plan<Msg<P>, ()>, Refusal>
+) -> Result<Plan<Msg<P>, Group>, Refusal>
     ensures { Plans result (Ok (asked x.now message awaited tag)) }
 {
     let mut changes = Vec::new(alloc);
@@ -53,7 +54,7 @@ pub(crate) fn answered<P: Drop>(
     owner: Option<Connection>,
     request: Waiting,
     reply: Packet,
-) -> Mem<Plan<Msg<P>, ()>>
+) -> Mem<Plan<Msg<P>, Group>>
     ensures { IfOk result (λ plan. plan ≡ answered owner request reply) }
 {
     let told = sent_to(alloc, owner, reply)?;

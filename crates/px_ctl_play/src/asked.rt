@@ -1,13 +1,15 @@
 //! What a stream is that a client asks for, and what it becomes on its sink.
 
-ghost use Rattle.std.specs.Prelude.{◌≡◌, ◌≤◌, true, nat_le, length};
+ghost use Rattle.std.specs.Prelude.{◌≡◌, ◌≤◌, ◌⊎◌, true, nat_le, length, All};
 ghost use Rattle.std.specs.List.{list_all};
-ghost use Rattle.px_vol.specs.Volume.{greatest};
+ghost use Rattle.px_chmap.specs.ChannelMap.{IsChannelMap};
+ghost use Rattle.px_vol.specs.Volume.{IsChannelVolume, greatest};
 ghost use Rattle.px_model.specs.Orderly.{IsRepaired};
 ghost use Rattle.px_msg.specs.Repair.{IsWithinBytes};
 ghost use Rattle.px_plan.specs.Target.{IsTarget};
-ghost use Rattle.px_ctl_play.specs.Asked.{is_spec, is_map, are_volumes, is_lawful, format_on, rate_on, channels_on, positions_on, format_with, spec_on, attr_on};
+ghost use Rattle.px_ctl_play.specs.Asked.{is_spec, is_map, are_volumes, is_lawful, format_on, rate_on, channels_on, positions_on, feed_on, format_with, spec_on, attr_on};
 
+use px_chmap::{Feed, Map, plan};
 use px_cmd::CreateFields;
 use px_msg::{Attr, repair};
 use px_plan::Target;
@@ -15,17 +17,23 @@ use px_sample::{Format, Spec};
 use px_tag::RawSpec;
 use px_vol::MAX;
 
-// A known format, a channel, and a rate up to 192,000.
+// A known format, 1 to 32 channels, and a rate up to 192,000.
 fn is_spec(spec: RawSpec) -> bool
     ensures value { result ≡ is_spec spec }
     ensures some { result ≡ true → 1 ≤ spec.channels }
+    ensures few { result ≡ true → spec.channels ≤ 32 }
 {
-    spec.format <= 12 && spec.channels > 0 && spec.rate > 0 && spec.rate <= 192_000
+    spec.format <= 12
+        && spec.channels > 0
+        && spec.channels <= 32
+        && spec.rate > 0
+        && spec.rate <= 192_000
 }
 
 // Positions, of the 51 that there are.
 fn are_positions(positions: &[u8]) -> bool
-    ensures { result ≡ list_all (λ p. nat_le p 50) positions.now }
+    ensures value { result ≡ list_all (λ p. nat_le p 50) positions.now }
+    ensures known { result ≡ true → All (λ p. p ≤ 50) positions.now }
 {
     positions.iter().all(|p| *p <= 50)
 }
@@ -34,20 +42,24 @@ fn are_positions(positions: &[u8]) -> bool
 fn is_map(spec: RawSpec, positions: &[u8]) -> bool
     ensures value { result ≡ is_map spec positions.now }
     ensures length { result ≡ true → spec.channels ≡ length positions.now }
+    ensures known { result ≡ true → All (λ p. p ≤ 50) positions.now }
 {
     positions.len() == spec.channels as usize && are_positions(positions)
 }
 
 // Volumes, none above the greatest.
 fn are_in_range(volumes: &[u32]) -> bool
-    ensures { result ≡ list_all (λ v. nat_le v greatest) volumes.now }
+    ensures value { result ≡ list_all (λ v. nat_le v greatest) volumes.now }
+    ensures bounded { result ≡ true → All (λ v. v ≤ greatest) volumes.now }
 {
     volumes.iter().all(|v| *v <= MAX)
 }
 
 // Volumes of all channels, or one for all of them.
 fn are_volumes(spec: RawSpec, volumes: &[u32]) -> bool
-    ensures { result ≡ are_volumes spec volumes.now }
+    ensures value { result ≡ are_volumes spec volumes.now }
+    ensures bounded { result ≡ true → All (λ v. v ≤ greatest) volumes.now }
+    ensures length { result ≡ true → (length volumes.now ≡ 1) ⊎ (length volumes.now ≡ spec.channels) }
 {
     (volumes.len() == 1 || volumes.len() == spec.channels as usize) && are_in_range(volumes)
 }
@@ -58,6 +70,9 @@ pub(crate) fn is_lawful(a: &CreateFields) -> bool
     ensures value { result ≡ is_lawful a.now }
     ensures some { result ≡ true → 1 ≤ a.now.spec.channels }
     ensures few { result ≡ true → a.now.spec.channels ≤ 32 }
+    ensures map { result ≡ true → IsChannelMap a.now.map }
+    ensures length { result ≡ true → a.now.spec.channels ≡ length a.now.map }
+    ensures volume { result ≡ true → IsChannelVolume a.now.volume }
 {
     is_spec(a.spec) && is_map(a.spec, a.map.as_slice()) && are_volumes(a.spec, a.volume.as_slice())
 }
@@ -84,8 +99,8 @@ pub(crate) fn rate_on(sink: &Target, a: &CreateFields) -> u32
     }
 }
 
-// How many channels it has on a sink: as many as the sink where the client says so.
-fn channels_on(sink: &Target, a: &CreateFields) -> u8
+/// How many channels it has on a sink: as many as the sink where the client says so. Takes no memory.
+pub(crate) fn channels_on(sink: &Target, a: &CreateFields) -> u8
     ensures { result ≡ channels_on sink.now a.now }
 {
     if a.fix_channels {
@@ -105,6 +120,27 @@ pub(crate) fn positions_on<'a>(sink: &'a Target, a: &'a CreateFields) -> &'a [u8
     } else {
         a.map.as_slice()
     }
+}
+
+// Its channel map on a sink: the sink's where the client says so.
+fn map_on(sink: &Target, a: &CreateFields) -> Map
+    requires { IsChannelMap a.now.map }
+    ensures { result ≡ positions_on sink.now a.now }
+{
+    if a.fix_channels {
+        sink.map
+    } else {
+        Map::new(a.map.as_slice()).unwrap()
+    }
+}
+
+/// The stream channel that feeds each of the sink's channels, by its channel map there. `None` exactly where there is no plan
+/// (own: PulseAudio mixes channels there). Takes no memory.
+pub(crate) fn feed_on(sink: &Target, a: &CreateFields) -> Option<Feed>
+    requires { IsChannelMap a.now.map }
+    ensures { result ≡ feed_on sink.now a.now }
+{
+    plan(&map_on(sink, a), &sink.map, a.no_remap, a.no_remix)
 }
 
 // The format with a code, 0 to 12.

@@ -7,6 +7,7 @@ ghost use Rattle.px_plan.specs.Row.{Plans};
 ghost use Rattle.px_ctl_play.specs.Attributes.{attributed, attributes};
 
 use crate::time::microseconds;
+use px_flat::Group;
 use px_msg::{Msg, in_bytes, repair};
 use px_plan::{Change, Input, Plan, Refusal, present};
 use px_types::ErrorCode;
@@ -20,7 +21,7 @@ fn attributed<P: Drop>(
     x: &Input,
     asked: [u32; 4],
     tag: u32,
-) -> Result<Plan<Msg<P>, ()>, Refusal>
+) -> Result<Plan<Msg<P>, Group>, Refusal>
     requires rate { 1 ≤ rate }
     requires channels { 1 ≤ x.now.spec.channels }
     ensures { Plans result (Ok (attributed depth rate x.now (repaired x.now.spec asked) tag)) }
@@ -48,7 +49,7 @@ pub fn attributes<P: Drop>(
     rate: u32,
     asked: [u32; 4],
     tag: u32,
-) -> Result<Plan<Msg<P>, ()>, Refusal>
+) -> Result<Plan<Msg<P>, Group>, Refusal>
     requires rate { 1 ≤ rate }
     requires channels { IfSome stream (λ x. 1 ≤ x.spec.channels) }
     ensures { Plans result (attributes stream depth rate asked tag) }

@@ -5,6 +5,7 @@ ghost use Rattle.std.specs.Prelude.{◌≡◌, Ok};
 ghost use Rattle.px_plan.specs.Row.{Plans};
 ghost use Rattle.px_ctl_play.specs.Control.{said, cork, flush, trigger, prebuf};
 
+use px_flat::Group;
 use px_msg::Msg;
 use px_plan::{Change, Input, Plan, Refusal, present};
 use px_types::ErrorCode;
@@ -16,7 +17,7 @@ fn said<P: Drop>(
     x: &Input,
     message: Msg<P>,
     tag: u32,
-) -> Result<Plan<Msg<P>, ()>, Refusal>
+) -> Result<Plan<Msg<P>, Group>, Refusal>
     ensures { Plans result (Ok (said x.now message tag)) }
 {
     let reply = px_reply::plain(alloc, tag)?;
@@ -32,7 +33,7 @@ pub fn cork<P: Drop>(
     stream: Option<Input>,
     on: bool,
     tag: u32,
-) -> Result<Plan<Msg<P>, ()>, Refusal>
+) -> Result<Plan<Msg<P>, Group>, Refusal>
     ensures { Plans result (cork stream on tag) }
 {
     let x = present(stream, ErrorCode::NoEntity)?;
@@ -45,7 +46,7 @@ pub fn flush<P: Drop>(
     alloc: Global,
     stream: Option<Input>,
     tag: u32,
-) -> Result<Plan<Msg<P>, ()>, Refusal>
+) -> Result<Plan<Msg<P>, Group>, Refusal>
     ensures { Plans result (flush stream tag) }
 {
     let x = present(stream, ErrorCode::NoEntity)?;
@@ -58,7 +59,7 @@ pub fn trigger<P: Drop>(
     alloc: Global,
     stream: Option<Input>,
     tag: u32,
-) -> Result<Plan<Msg<P>, ()>, Refusal>
+) -> Result<Plan<Msg<P>, Group>, Refusal>
     ensures { Plans result (trigger stream tag) }
 {
     let x = present(stream, ErrorCode::NoEntity)?;
@@ -71,7 +72,7 @@ pub fn prebuf<P: Drop>(
     alloc: Global,
     stream: Option<Input>,
     tag: u32,
-) -> Result<Plan<Msg<P>, ()>, Refusal>
+) -> Result<Plan<Msg<P>, Group>, Refusal>
     ensures { Plans result (prebuf stream tag) }
 {
     let x = present(stream, ErrorCode::NoEntity)?;

@@ -1,17 +1,19 @@
 //! What is told of a new stream: to its sink, and to the client that made it.
 
-ghost use Rattle.std.specs.Prelude.{◌≡◌, ◌≤◌, IfOk};
+ghost use Rattle.std.specs.Prelude.{◌≡◌, ◌≤◌, IsSome, IfOk};
+ghost use Rattle.px_flat.specs.FlatVolume.{member_of};
 ghost use Rattle.px_model.specs.Orderly.{IsRepaired};
 ghost use Rattle.px_msg.specs.Repair.{IsWithinBytes};
 ghost use Rattle.px_reply.specs.Message.{created_reply};
 ghost use Rattle.px_plan.specs.Target.{IsTarget};
-ghost use Rattle.px_ctl_play.specs.Create.{straight, new_of, latency_of, raw_of, created_of};
+ghost use Rattle.px_ctl_play.specs.Create.{new_of, latency_of, raw_of, created_of};
 
 use crate::asked::positions_on;
-use crate::factors::unity;
+use crate::factors::own_factors;
 use crate::time::microseconds;
 use px_chmap::Feed;
 use px_cmd::CreateFields;
+use px_flat::Group;
 use px_msg::{Msg, NewStream, in_bytes};
 use px_plan::{Input, Target};
 use px_reply::Created;
@@ -19,42 +21,17 @@ use px_sample::Spec;
 use px_tag::{Packet, RawMap, RawSpec};
 use std::alloc::Global;
 
-/// The channels of the widest sink, in order.
-const CHANNELS: [u8; 32] = [
-    0, 1, 2, 3, 4, 5, 6, 7, 8, 9, 10, 11, 12, 13, 14, 15, 16, 17, 18, 19, 20, 21, 22, 23, 24, 25,
-    26, 27, 28, 29, 30, 31,
-];
-
-// The first of them.
-#[tactic(auto, using(crate::proofs::Straight::first_channels))]
-fn first_of(all: &[u8], channels: u8) -> &[u8]
-    requires all { all.now ≡ straight 32 }
-    requires few { channels ≤ 32 }
-    ensures { result.now ≡ straight channels }
-{
-    &all[..channels as usize]
-}
-
-// Each channel of the sink is fed by the stream's channel of the same place.
-#[tactic(auto, using(crate::proofs::Straight::is_feed))]
-fn straight(channels: u8) -> Feed
-    requires some { 1 ≤ channels }
-    requires few { channels ≤ 32 }
-    ensures { result ≡ straight channels }
-{
-    Feed::new(first_of(&CHANNELS, channels)).unwrap()
-}
-
-/// The message that brings a stream to its sink. Takes no memory.
-pub(crate) fn new_of<P>(sink: &Target, a: &CreateFields, x: &Input) -> Msg<P>
-    requires { IsTarget sink.now }
-    ensures { result ≡ new_of sink.now a.now x.now }
+/// The message that brings a stream to its sink, where these of its channels feed the sink's and this is the sink's group, in
+/// which it is. Takes no memory.
+pub(crate) fn new_of<P>(a: &CreateFields, group: &Group, feed: Feed, x: &Input) -> Msg<P>
+    requires { IsSome (member_of group.now.members x.now.index) }
+    ensures { result ≡ new_of a.now group.now feed x.now }
 {
     Msg::New(NewStream {
         input: x.index,
         spec: x.spec,
-        feed: straight(sink.spec.channels),
-        factors: unity(sink.spec.channels),
+        feed,
+        factors: own_factors(group, x.index),
         attr: x.attr,
         corked: a.corked,
     })

@@ -1,18 +1,27 @@
 //! CREATE_PLAYBACK_STREAM (PulseAudio: `command_create_playback_stream` of `pulsecore/protocol-native.c`).
 
-ghost use Rattle.std.specs.Prelude.{◌≡◌, ◌<◌, ◌≤◌, IfOk, Ok};
+ghost use Rattle.std.specs.Prelude.{◌≡◌, ◌<◌, ◌≤◌, IfOk, IsSome, Ok};
+ghost use Rattle.std.specs.Option.{option_map};
+ghost use Rattle.px_chmap.specs.Plan.{FeedsAll};
+ghost use Rattle.px_vol.specs.Volume.{IsChannelVolume};
+ghost use Rattle.px_flat.specs.FlatVolume.{member_of};
 ghost use Rattle.px_model.specs.Orderly.{IsRepaired};
 ghost use Rattle.px_msg.specs.Repair.{IsWithinBytes};
 ghost use Rattle.px_plan.specs.Row.{Plans};
 ghost use Rattle.px_plan.specs.Target.{IsTarget, IsNamed};
 ghost use Rattle.px_plan.specs.declared.change.Change.TheVariants.{Described};
+ghost use Rattle.px_ctl_play.specs.Asked.{channels_on};
+ghost use Rattle.px_ctl_play.specs.Joining.{IsReady, IsReadyAt};
 ghost use Rattle.px_ctl_play.specs.Create.{input_made, changes_of, created, create};
 
-use crate::asked::{attr_on, is_lawful, spec_on};
+use crate::asked::{attr_on, feed_on, is_lawful, spec_on};
 use crate::created::{new_of, reply_of};
-use crate::factors::regrouped;
-use crate::refusals::{has_room, is_built, is_supported};
+use crate::factors::regrouped_with;
+use crate::joining::joined;
+use crate::refusals::{has_room, is_supported};
+use px_chmap::Feed;
 use px_cmd::CreateFields;
+use px_flat::Group;
 use px_msg::Msg;
 use px_plan::{
     Change, Connection, Input, Named, Plan, Refusal, Standing, Target, Way, check, present,
@@ -53,29 +62,30 @@ fn described<M: Drop, G: Drop>(input: InputId, a: &CreateFields) -> Mem<Change<M
     }
 }
 
-// The changes that a new stream makes.
+// The changes that a new stream makes, whose input is in this group of its sink.
 fn changes_of<P: Drop>(
     alloc: Global,
     inputs: &[Input],
     made: u32,
     me: &Connection,
-    sink: &Target,
     a: &CreateFields,
+    group: Group,
+    feed: Feed,
     x: Input,
-) -> Mem<Vec<Change<Msg<P>, ()>>>
-    requires sink { IsTarget sink.now }
+) -> Mem<Vec<Change<Msg<P>, Group>>>
+    requires there { IsSome (member_of group.members x.index) }
     requires inputs { made < 4294967295 }
     requires streams { me.now.streams < 4294967295 }
-    ensures { IfOk result (λ changes. changes.items ≡ changes_of inputs.now made me.now sink.now a.now x) }
+    ensures { IfOk result (λ changes. changes.items ≡ changes_of inputs.now made me.now a.now group feed x) }
 {
     let mut changes = Vec::new(alloc);
     changes.push(Change::Made {
         input: x,
-        new: new_of(sink, a, &x),
+        new: new_of(a, &group, feed, &x),
         streams: me.streams + 1,
         inputs: made + 1,
     })?;
-    changes.push(regrouped(alloc, x.sink, sink.spec.channels, inputs, Some(x.index))?)?;
+    changes.push(regrouped_with(alloc, x.sink, group, inputs, &x)?)?;
     changes.push(described(x.index, a)?)?;
     Ok(changes)
 }
@@ -88,26 +98,33 @@ fn created<P: Drop>(
     me: &Connection,
     tag: u32,
     sink: Target,
+    group: &Group,
     a: &CreateFields,
-) -> Result<Plan<Msg<P>, ()>, Refusal>
+    feed: Feed,
+) -> Result<Plan<Msg<P>, Group>, Refusal>
     requires sink { IsTarget sink }
+    requires ready { IsReady sink made group.now }
     requires some { 1 ≤ a.now.spec.channels }
     requires few { a.now.spec.channels ≤ 32 }
+    requires volume { IsChannelVolume a.now.volume }
+    requires feeds { FeedsAll (channels_on sink a.now) sink.spec.channels feed }
     requires inputs { made < 4294967295 }
     requires streams { me.now.streams < 4294967295 }
-    ensures { Plans result (Ok (created inputs.now made me.now tag sink a.now (input_made made me.now sink a.now))) }
+    ensures { Plans result (Ok (created inputs.now made me.now tag sink group.now a.now feed (input_made made me.now sink a.now))) }
 {
     let x = input_made(made, me, &sink, a);
-    let changes = changes_of(alloc, inputs, made, me, &sink, a, x)?;
+    let group = joined(alloc, group, &sink, a, &feed, &x)?;
+    let changes = changes_of(alloc, inputs, made, me, a, group, feed, x)?;
     let reply = reply_of(alloc, tag, sink, a, &x)?;
     Ok(Plan::replied(alloc, reply, changes))
 }
 
-/// CREATE_PLAYBACK_STREAM of a connection, where these inputs are there and so many were ever made: a stream is made on the
-/// sink that is named. Refused, by the first of these that holds: `Invalid` for a spec, a map or volumes that
+/// CREATE_PLAYBACK_STREAM of a connection, where these inputs are there, so many were ever made, and the sink that is named has
+/// this group, which can take one more: a stream is made on the sink, in its group at the very volume that is given. Refused, by the first of these that holds: `Invalid` for a spec, a map or volumes that
 /// can't be, and where a sink is named twice over; `NoEntity` where no sink is there; `NotSupported` for floating point, a
-/// variable rate or another rate than the sink's; `TooLarge` where 256 inputs are bound for the sink, or 1,024 go on in all,
-/// or no number is left; `NotImplemented` for one that isn't built. Own: PulseAudio resamples, and has no such limits.
+/// variable rate or another rate than the sink's, and where no plan feeds the sink's channels from the stream's; `TooLarge` where 256
+/// inputs are bound for the sink, or 1,024 go on in all, or no number is left. Format,
+/// rate and channel map are the sink's where the client says so. Own: PulseAudio resamples and mixes channels, and has no such limits.
 pub fn create<P: Drop>(
     alloc: Global,
     inputs: &[Input],
@@ -115,16 +132,21 @@ pub fn create<P: Drop>(
     me: &Connection,
     tag: u32,
     named: Named,
+    group: Option<&Group>,
     a: &CreateFields,
-) -> Result<Plan<Msg<P>, ()>, Refusal>
-    requires { IsNamed named }
-    ensures { Plans result (create inputs.now made me.now tag named a.now) }
+) -> Result<Plan<Msg<P>, Group>, Refusal>
+    requires named { IsNamed named }
+    requires ready { IsReadyAt named made (option_map (λ g. g.now) group) }
+    ensures { Plans result (create inputs.now made me.now tag named (option_map (λ g. g.now) group.entry) a.now) }
 {
     check(is_lawful(a), ErrorCode::Invalid)?;
     check(named.is_clear(), ErrorCode::Invalid)?;
     let sink = present(named.target(), ErrorCode::NoEntity)?;
+    let Some(group) = group else {
+        return Err(Refusal::Code(ErrorCode::NoEntity));
+    };
     check(is_supported(&sink, a), ErrorCode::NotSupported)?;
+    let feed = present(feed_on(&sink, a), ErrorCode::NotSupported)?;
     check(has_room(inputs, made, me, sink.index), ErrorCode::TooLarge)?;
-    check(is_built(&sink, a), ErrorCode::NotImplemented)?;
-    created(alloc, inputs, made, me, tag, sink, a)
+    created(alloc, inputs, made, me, tag, sink, group, a, feed)
 }

@@ -6,6 +6,7 @@ ghost use Rattle.px_plan.specs.declared.waiting.Waiting.{Waiting};
 ghost use Rattle.px_plan.specs.Row.{Plans};
 ghost use Rattle.px_ctl_play.specs.Delete.{errors_for, delete};
 
+use px_flat::Group;
 use px_msg::Msg;
 use px_plan::{Change, Input, Plan, Refusal, Sending, Waiting, present};
 use px_tag::Mem;
@@ -45,7 +46,7 @@ pub fn delete<P: Drop>(
     stream: Option<Input>,
     waiting: &[Waiting],
     tag: u32,
-) -> Result<Plan<Msg<P>, ()>, Refusal>
+) -> Result<Plan<Msg<P>, Group>, Refusal>
     ensures { Plans result (delete stream waiting.now tag) }
 {
     let x = present(stream, ErrorCode::NoEntity)?;

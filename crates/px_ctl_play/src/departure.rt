@@ -1,17 +1,17 @@
 //! A sink has given up a stream (PulseAudio: `pa_sink_input_unlink`; that the input stays until then is own).
 
-ghost use Rattle.std.specs.Prelude.{◌≡◌, ◌≤◌, [], ◌∷◌, IfOk};
+ghost use Rattle.std.specs.Prelude.{◌≡◌, IfOk, IfSome, IsSome};
+ghost use Rattle.std.specs.Option.{option_map};
+ghost use Rattle.px_flat.specs.FlatVolume.{member_of, detached};
 ghost use Rattle.px_msg.specs.View.{sample_spec};
-ghost use Rattle.px_plan.specs.Input.{settled_on};
-ghost use Rattle.px_plan.specs.declared.change.Change.TheVariants.{Gone};
-ghost use Rattle.px_ctl_play.specs.Factors.{regrouped};
-ghost use Rattle.px_ctl_play.specs.Told.{gives_up, left};
+ghost use Rattle.px_ctl_play.specs.Told.{gives_up, gone, left, IsMemberIn};
 
 use crate::factors::regrouped;
+use px_flat::Group;
 use px_msg::Msg;
 use px_plan::{Change, Input, Plan, Standing, Way};
 use px_sample::Spec;
-use px_types::Mem;
+use px_types::{InputId, Mem};
 use std::alloc::Global;
 
 // Whether a stream with this spec is what a sink gives up for an input: the input ends, and the sink was told.
@@ -25,40 +25,52 @@ fn gives_up(spec: Spec, x: &Input) -> bool
         && spec.rate == x.spec.rate
 }
 
-// An ended input goes, and its sink is told the factors of those that stay.
+// The group without an input that is in it.
+fn without(alloc: Global, group: &Group, input: InputId) -> Mem<Group>
+    requires { IsSome (member_of group.now.members input) }
+    ensures { IfOk result (λ made. made ≡ detached input group.now) }
+{
+    let mut made = group.copy(alloc)?;
+    made.detach(input);
+    Ok(made)
+}
+
+// An ended input goes and leaves the group of its sink, which is told the factors of those that stay.
 fn gone<P: Drop>(
     alloc: Global,
     x: &Input,
-    channels: u8,
+    group: Option<&Group>,
     inputs: &[Input],
-) -> Mem<Vec<Change<Msg<P>, ()>>>
-    requires { channels ≤ 32 }
-    ensures { IfOk result (λ changes. changes.items ≡ Gone x.now.index ∷ regrouped x.now.sink channels (settled_on inputs.now x.now.sink) ∷ []) }
+) -> Mem<Plan<Msg<P>, Group>>
+    requires { IsMemberIn (option_map (λ g. g.now) group) x.now }
+    ensures { IfOk result (λ plan. plan ≡ gone x.now (option_map (λ g. g.now) group.entry) inputs.now) }
 {
+    let Some(group) = group else {
+        return Ok(Plan::idle(alloc));
+    };
+    let group = without(alloc, group, x.index)?;
     let mut changes = Vec::new(alloc);
     changes.push(Change::Gone(x.index))?;
-    changes.push(regrouped(alloc, x.sink, channels, inputs, None)?)?;
-    Ok(changes)
+    changes.push(regrouped(alloc, x.sink, group, inputs)?)?;
+    Ok(Plan::changing(alloc, changes))
 }
 
-/// A sink of so many channels, at most 32, has given up a stream with this spec, for the input that it has, if it has that
-/// one: an ended input goes, and the sink is told the factors of those that stay. What doesn't fit is ignored: of an input
-/// that isn't there or goes on, of one whose sink wasn't told to give it up, and of a stream with another spec.
+/// A sink with this group has given up a stream with this spec, for the input that it has, if it has that one, which is in the
+/// group: an ended input goes and leaves the group, and the sink is told the factors of those that stay. What doesn't fit is
+/// ignored: of an input that isn't there or goes on, of one whose sink wasn't told to give it up, and of a stream with another
+/// spec.
 pub fn left<P: Drop>(
     alloc: Global,
     input: Option<Input>,
+    group: Option<&Group>,
     spec: Spec,
-    channels: u8,
     inputs: &[Input],
-) -> Mem<Plan<Msg<P>, ()>>
-    requires { channels ≤ 32 }
-    ensures { IfOk result (λ plan. plan ≡ left input (sample_spec spec) channels inputs.now) }
+) -> Mem<Plan<Msg<P>, Group>>
+    requires { IfSome input (IsMemberIn (option_map (λ g. g.now) group)) }
+    ensures { IfOk result (λ plan. plan ≡ left input (option_map (λ g. g.now) group.entry) (sample_spec spec) inputs.now) }
 {
     match input {
-        Some(x) if gives_up(spec, &x) => {
-            let changes = gone(alloc, &x, channels, inputs)?;
-            Ok(Plan::changing(alloc, changes))
-        }
+        Some(x) if gives_up(spec, &x) => gone(alloc, &x, group, inputs),
         _ => Ok(Plan::idle(alloc)),
     }
 }

@@ -10,6 +10,7 @@ ghost use Rattle.px_ctl_play.specs.Drain.{drain, drain_answered, drained};
 
 use crate::answer::{answered, asked};
 use crate::refusals::goes_on;
+use px_flat::Group;
 use px_msg::Msg;
 use px_plan::{Awaited, Connection, Input, Plan, Refusal, Waiting, present};
 use px_types::{ErrorCode, InputId, Mem, NoMemory};
@@ -21,7 +22,7 @@ pub fn drain<P: Drop>(
     alloc: Global,
     stream: Option<Input>,
     tag: u32,
-) -> Result<Plan<Msg<P>, ()>, Refusal>
+) -> Result<Plan<Msg<P>, Group>, Refusal>
     ensures { Plans result (drain stream tag) }
 {
     let x = present(stream, ErrorCode::NoEntity)?;
@@ -53,7 +54,7 @@ fn drain_answered<P: Drop>(
     alloc: Global,
     owner: Option<Connection>,
     request: Option<&Waiting>,
-) -> Mem<Plan<Msg<P>, ()>>
+) -> Mem<Plan<Msg<P>, Group>>
     ensures { IfOk result (λ plan. plan ≡ drain_answered owner (option_map (λ request. request.now) request.entry)) }
 {
     let Some(request) = request else {
@@ -74,7 +75,7 @@ pub fn drained<P: Drop>(
     owner: Option<Connection>,
     waiting: &[Waiting],
     tag: u32,
-) -> Mem<Plan<Msg<P>, ()>>
+) -> Mem<Plan<Msg<P>, Group>>
     ensures { IfOk result (λ plan. plan ≡ drained input owner waiting.now tag) }
 {
     match input {

@@ -1,27 +1,17 @@
-//! The factors of the inputs that are settled on a sink. Each leaves the sound as it is, as long as no volume is built.
+//! A sink has another group of volumes, and is told the factors that this gives.
 
-ghost use Rattle.std.specs.Prelude.{◌≡◌, ◌++◌, ◌≤◌, ◌∷◌, [], List, None, Some, IfOk, OnOk, drop};
-ghost use Rattle.px_plan.specs.Input.{settled_on, is_settled, stays_on};
+ghost use Rattle.std.specs.Prelude.{◌≡◌, ◌++◌, ◌∷◌, [], List, None, Some, IsSome, IfOk, OnOk};
+ghost use Rattle.px_flat.specs.FlatVolume.{factors_for, member_of, real_of};
+ghost use Rattle.px_plan.specs.Input.{settled_on, is_settled};
 ghost use Rattle.px_plan.specs.declared.input.Input.{Input};
-ghost use Rattle.px_ctl_play.specs.Factors.{unity, factors_of, regrouped};
+ghost use Rattle.px_ctl_play.specs.Factors.{gains_of, factor_list, own_factors, regrouped};
 
+use px_flat::Group;
 use px_msg::{FactorList, InputFactors, Msg};
 use px_plan::{Change, Input, Standing};
 use px_types::{InputId, Mem, SinkId};
-use px_vol::Factors;
+use px_vol::{CVolume, Factors};
 use std::alloc::Global;
-
-/// The factor that leaves the sound as it is, in 16.16.
-const UNITY: u32 = 65_536;
-
-/// A factor that leaves the sound as it is, for each of a sink's channels. Takes no memory.
-pub(crate) fn unity(channels: u8) -> Factors
-    requires { channels ≤ 32 }
-    ensures { result ≡ unity channels }
-{
-    let each = [UNITY; 32];
-    Factors::new(&each[..channels as usize]).unwrap()
-}
 
 // Whether an input is on a sink and belongs there.
 fn is_settled(sink: SinkId, x: &Input) -> bool
@@ -30,57 +20,93 @@ fn is_settled(sink: SinkId, x: &Input) -> bool
     matches!(x.standing, Standing::Settled) && x.sink.0 == sink.0
 }
 
-// One more, where the input is settled on the sink.
-fn add_settled(list: &mut Vec<InputFactors>, sink: SinkId, channels: u8, x: &Input) -> Mem<()>
-    requires { channels ≤ 32 }
-    ensures { OnOk result ((more : List Input) →
-        list.new.items ++ factors_of channels (settled_on more sink) ≡ list.old.items ++ factors_of channels (settled_on (x.now ∷ more) sink)) }
+/// The factors of an input that is in the group. Takes no memory.
+pub(crate) fn own_factors(group: &Group, input: InputId) -> Factors
+    requires { IsSome (member_of group.now.members input) }
+    ensures { result ≡ own_factors group.now input }
 {
-    if is_settled(sink, x) {
-        list.push(InputFactors {
-            input: x.index,
-            factors: unity(channels),
-        })?;
+    group.factors(input)
+}
+
+// The factors of one more input, where it is in the group.
+fn add_factors(
+    list: &mut Vec<InputFactors>,
+    group: &Group,
+    real: &CVolume,
+    input: InputId,
+) -> Mem<()>
+    requires { real.now ≡ real_of group.now }
+    ensures { OnOk result (list.new.items ≡ list.old.items ++ gains_of input (factors_for group.now input)) }
+{
+    if let Some(factors) = group.factors_under(real, input) {
+        list.push(InputFactors { input, factors })?;
     }
     Ok(())
 }
 
-// The factors of the inputs that are settled on a sink of so many channels.
+// And where it is settled on the sink.
+fn add_settled(
+    list: &mut Vec<InputFactors>,
+    sink: SinkId,
+    group: &Group,
+    real: &CVolume,
+    x: &Input,
+) -> Mem<()>
+    requires { real.now ≡ real_of group.now }
+    ensures { OnOk result ((more : List Input) →
+        list.new.items ++ factor_list group.now (settled_on more sink) ≡ list.old.items ++ factor_list group.now (settled_on (x.now ∷ more) sink)) }
+{
+    if is_settled(sink, x) {
+        add_factors(list, group, real, x.index)?;
+    }
+    Ok(())
+}
+
+// The factors of the inputs that are settled on a sink with this group.
 fn settled_factors(
     alloc: Global,
     sink: SinkId,
-    channels: u8,
+    group: &Group,
+    real: &CVolume,
     inputs: &[Input],
 ) -> Mem<Vec<InputFactors>>
-    requires { channels ≤ 32 }
-    ensures { IfOk result (λ list. list.items ≡ factors_of channels (settled_on inputs.now sink)) }
+    requires { real.now ≡ real_of group.now }
+    ensures { IfOk result (λ list. list.items ≡ factor_list group.now (settled_on inputs.now sink)) }
 {
     let mut list = Vec::new(alloc);
     for input in inputs {
-        add_settled(&mut list, sink, channels, input)?;
+        add_settled(&mut list, sink, group, real, input)?;
     }
     Ok(list)
 }
 
-/// A sink of so many channels, at most 32, is told the factors of all inputs that are settled on it, and of one more behind
-/// them where it is given.
+/// A sink has this group, and is told the factors of all inputs that are settled on it. Own: PulseAudio sets each stream's
+/// soft volume for itself.
 pub(crate) fn regrouped<P: Drop>(
     alloc: Global,
     sink: SinkId,
-    channels: u8,
+    group: Group,
     inputs: &[Input],
-    more: Option<InputId>,
-) -> Mem<Change<Msg<P>, ()>>
-    requires { channels ≤ 32 }
-    ensures alone { IfOk result (λ change. more ≡ None → change ≡ regrouped sink channels (settled_on inputs.now sink)) }
-    ensures one_more { IfOk result (λ change. (x : Input) → more ≡ Some x.index → change ≡ regrouped sink channels (settled_on inputs.now sink ++ x ∷ [])) }
+) -> Mem<Change<Msg<P>, Group>>
+    ensures { IfOk result (λ change. change ≡ regrouped sink group (settled_on inputs.now sink)) }
 {
-    let mut list = settled_factors(alloc, sink, channels, inputs)?;
-    if let Some(input) = more {
-        list.push(InputFactors {
-            input,
-            factors: unity(channels),
-        })?;
-    }
-    Ok(Change::Regrouped(sink, (), Msg::Factors(FactorList::from_vec(list))))
+    let real = group.real();
+    let list = settled_factors(alloc, sink, &group, &real, inputs)?;
+    Ok(Change::Regrouped(sink, group, Msg::Factors(FactorList::from_vec(list))))
+}
+
+/// And of one more behind them.
+pub(crate) fn regrouped_with<P: Drop>(
+    alloc: Global,
+    sink: SinkId,
+    group: Group,
+    inputs: &[Input],
+    more: &Input,
+) -> Mem<Change<Msg<P>, Group>>
+    ensures { IfOk result (λ change. change ≡ regrouped sink group (settled_on inputs.now sink ++ more.now ∷ [])) }
+{
+    let real = group.real();
+    let mut list = settled_factors(alloc, sink, &group, &real, inputs)?;
+    add_factors(&mut list, &group, &real, more.index)?;
+    Ok(Change::Regrouped(sink, group, Msg::Factors(FactorList::from_vec(list))))
 }

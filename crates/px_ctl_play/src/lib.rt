@@ -13,6 +13,7 @@ mod deletion;
 mod departure;
 mod draining;
 mod factors;
+mod joining;
 mod killing;
 mod refusals;
 mod time;

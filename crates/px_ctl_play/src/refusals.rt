@@ -1,16 +1,13 @@
 //! Why a stream that could be isn't made on its sink.
 
-ghost use Rattle.std.specs.Prelude.{◌≡◌, ◌<◌, true, nat_eq, length};
-ghost use Rattle.std.specs.List.{list_all};
-ghost use Rattle.px_vol.specs.Volume.{norm};
+ghost use Rattle.std.specs.Prelude.{◌≡◌, ◌<◌, true, length};
 ghost use Rattle.px_plan.specs.Input.{belongs_to, is_bound_for, bound_for, going_of, is_leaving, goes_on};
-ghost use Rattle.px_ctl_play.specs.Asked.{same_positions, is_supported, is_built, has_room};
+ghost use Rattle.px_ctl_play.specs.Asked.{is_supported, has_room};
 
-use crate::asked::{format_on, positions_on, rate_on};
+use crate::asked::{format_on, rate_on};
 use px_cmd::CreateFields;
 use px_plan::{Connection, Input, Standing, Target};
 use px_types::SinkId;
-use px_vol::NORM;
 
 /// The most inputs that are bound for one sink.
 const MOST_ON_SINK: usize = 256;
@@ -79,29 +76,4 @@ pub(crate) fn has_room(inputs: &[Input], made: u32, me: &Connection, sink: SinkI
         && count_in_all(inputs) < MOST_IN_ALL
         && made < LAST_INDEX
         && me.streams < LAST_INDEX
-}
-
-// Whether the maps are the same, position for position.
-fn same_positions(a: &[u8], b: &[u8]) -> bool
-    ensures { result ≡ same_positions a.now b.now }
-{
-    a == b
-}
-
-// Volumes that leave the sound as it is.
-fn are_neutral(volumes: &[u32]) -> bool
-    ensures { result ≡ list_all (λ v. nat_eq v norm) volumes.now }
-{
-    volumes.iter().all(|v| *v == NORM)
-}
-
-/// Whether such a stream is in S16LE on the sink's own map, not muted and at the volume that leaves the sound as it is. Takes
-/// no memory.
-pub(crate) fn is_built(sink: &Target, a: &CreateFields) -> bool
-    ensures { result ≡ is_built sink.now a.now }
-{
-    format_on(sink, a) == 3
-        && same_positions(positions_on(sink, a), sink.map.positions())
-        && !a.muted
-        && are_neutral(a.volume.as_slice())
 }

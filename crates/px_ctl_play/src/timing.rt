@@ -11,6 +11,7 @@ use crate::answer::{answered, asked};
 use crate::data::frame_size;
 use crate::refusals::goes_on;
 use crate::time::microseconds;
+use px_flat::Group;
 use px_msg::{Msg, Run};
 use px_plan::{Awaited, Connection, Input, Plan, Refusal, Waiting, present};
 use px_reply::LatencyFields;
@@ -41,7 +42,7 @@ pub fn latency<P: Drop>(
     stream: Option<Input>,
     time: TimeVal,
     tag: u32,
-) -> Result<Plan<Msg<P>, ()>, Refusal>
+) -> Result<Plan<Msg<P>, Group>, Refusal>
     ensures { Plans result (latency stream time tag) }
 {
     let x = present(stream, ErrorCode::NoEntity)?;
@@ -139,7 +140,7 @@ fn latency_answered<P: Drop>(
     owner: Option<Connection>,
     request: Option<&Waiting>,
     progress: Progress,
-) -> Mem<Plan<Msg<P>, ()>>
+) -> Mem<Plan<Msg<P>, Group>>
     requires { 1 ≤ rate }
     ensures { IfOk result (λ plan. plan ≡ latency_answered rate x.now owner (option_map (λ request. request.now) request.entry) progress) }
 {
@@ -164,7 +165,7 @@ pub fn measured<P: Drop>(
     rate: u32,
     tag: u32,
     progress: Progress,
-) -> Mem<Plan<Msg<P>, ()>>
+) -> Mem<Plan<Msg<P>, Group>>
     requires { 1 ≤ rate }
     ensures { IfOk result (λ plan. plan ≡ measured input owner waiting.now rate tag progress) }
 {

@@ -6,6 +6,7 @@ ghost use Rattle.px_ctl_play.specs.Told.{bytes_asked, message_of, told};
 
 use crate::data::frame_size;
 use crate::refusals::goes_on;
+use px_flat::Group;
 use px_msg::Msg;
 use px_plan::{Connection, Input, Plan};
 use px_tag::Packet;
@@ -52,7 +53,7 @@ pub fn tell<P: Drop>(
     input: Option<Input>,
     owner: Option<Connection>,
     news: News,
-) -> Mem<Plan<Msg<P>, ()>>
+) -> Mem<Plan<Msg<P>, Group>>
     ensures { IfOk result (λ plan. plan ≡ told input owner news) }
 {
     match (input, owner) {

@@ -3,3 +3,4 @@ pub mod Found
 pub mod EachOne
 pub mod Kept
 pub mod TrueTo
+pub mod Inputs

@@ -1,6 +1,7 @@
 -- Flat volumes (PulseAudio: pulsecore/sink.c, sink-input.c; the rules on ratios are own): the loudest input sets a sink's real volume.
 use Rattle.std.specs.Prelude.{ℕ, Bool, false, ◌||◌, List, [], ◌∷◌, ◌++◌, map, length, replicate, cond, Option}
 use Rattle.std.specs.List.{find}
+use Rattle.std.specs.Option.{option_map}
 use Rattle.px_types.specs.declared.ids.InputId.{InputId}
 use Rattle.px_vol.specs.Volume.{norm}
 use Rattle.px_flat.specs.declared.member.Member.{Member}
@@ -97,3 +98,7 @@ with_sink_mute on group = record group { muted = on }
 
 abbrev pub factors_of : FlatGroup → Member → List ℕ
 factors_of group m = factors_under (real_of group) (group.muted || m.muted) m
+
+-- those of an input, where it is there
+abbrev pub factors_for : FlatGroup → InputId → Option (List ℕ)
+factors_for group input = option_map (factors_of group) (member_of group.members input)

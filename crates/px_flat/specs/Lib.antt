@@ -2,3 +2,4 @@ pub mod Channels
 pub mod Member
 pub mod FlatVolume
 pub mod Keeps
+pub mod Inputs

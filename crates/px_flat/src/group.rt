@@ -3,12 +3,14 @@ ghost use Rattle.std.specs.Prelude.{◌≡◌, ◌<◌, ◌≤◌, length, IsSom
 ghost use Rattle.std.specs.List.{AllByRecursion};
 ghost use Rattle.px_chmap.specs.Plan.{FeedsAll};
 ghost use Rattle.px_flat.specs.Member.{channels_of, SuitsChannels, SuitsHow};
-ghost use Rattle.px_flat.specs.FlatVolume.{new_group, member_of, attached, detached, with_input_volume, with_sink_volume, with_input_mute, with_sink_mute, factors_of, real_of};
+ghost use Rattle.px_flat.specs.FlatVolume.{new_group, member_of, attached, detached, with_input_volume, with_sink_volume, with_input_mute, with_sink_mute, factors_of, factors_for, real_of};
 ghost use Rattle.px_flat.specs.Keeps.{IsTrueTo};
 
 use crate::channels::{neutral, widened};
 use crate::member::{How, Member, Ratios, coming, factors_under};
-use crate::members::{follow, forget, member_of, mute, real_of, set_all, set_volume, settle};
+use crate::members::{
+    follow, forget, found, member_of, mute, real_of, set_all, set_volume, settle,
+};
 use px_chmap::Feed;
 use px_types::{InputId, Mem};
 use px_vol::{CVolume, Factors, dividing_is_undone};
@@ -133,6 +135,18 @@ impl Group {
         let member = member_of(self.members.as_slice(), input);
         let real = real_of(&self.reference, self.members.as_slice());
         factors_under(&real, self.muted || member.muted, member)
+    }
+
+    /// The linear factors of an input, one a channel of the sink, where this is the sink's real volume, so that it isn't taken anew for
+    /// each of many inputs; 0 where the input or the sink is muted. `None` exactly where the input isn't there. Takes no memory.
+    pub fn factors_under(&self, real: &CVolume, input: InputId) -> Option<Factors>
+        requires { real.now ≡ real_of self.now }
+        ensures { result ≡ factors_for self.now input }
+    {
+        match found(self.members.as_slice(), input) {
+            None => None,
+            Some(member) => Some(factors_under(real, self.muted || member.muted, member)),
+        }
     }
 
     /// The volume of an input that is there, one number a channel of its stream. Takes no memory.

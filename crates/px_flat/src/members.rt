@@ -1,6 +1,7 @@
 //! All members of a group. No call takes memory.
 ghost use Rattle.std.specs.Prelude.{◌≡◌, ◌<◌, ◌≤◌, length, map, IsSome, IfSome, Some};
 ghost use Rattle.std.specs.List.{AllByRecursion, position};
+ghost use Rattle.std.specs.Option.{option_map};
 ghost use Rattle.px_vol.specs.Volume.{greatest};
 ghost use Rattle.px_flat.specs.Member.{IsMember, SuitsChannels, is_input, with_volume, with_mute, at_reference, to_reference, to_real};
 ghost use Rattle.px_flat.specs.FlatVolume.{member_of, change_first, without_first, real_at, real_over, followed_over, raised_over, settled_over};
@@ -15,6 +16,15 @@ pub fn place_of(members: &[Member], input: InputId) -> Option<usize>
     ensures { result ≡ position (is_input input) members.now }
 {
     members.iter().position(|member| member.input.0 == input.0)
+}
+
+/// The member of an input, where it is there.
+pub fn found(members: &[Member], input: InputId) -> Option<&Member>
+    ensures { option_map (λ m. m.now) result ≡ member_of members.now input }
+{
+    members
+        .iter()
+        .find(|member| member.input.0 == input.0)
 }
 
 /// The member of an input that is there.

@@ -14,7 +14,7 @@ pub returns-clause-steps : goal.returns-clause-steps
 returns-clause-steps g c = steps.steps_keep
 
 pub returns-clause-orderly : goal.returns-clause-orderly
-returns-clause-orderly g c = λ spec_of state h index s e. (h.in_step index s e).orderly
+returns-clause-orderly g c = λ spec_of state h index s e. (h.steady.in_step index s e).orderly
 
 pub returns-clause-back : goal.returns-clause-back
-returns-clause-back g c = λ spec_of state sink m h e. subst (IsKept spec_of) (sym (back.back_as_before spec_of state sink m h e)) h
+returns-clause-back g c = λ spec_of state sink m h e. subst (IsKept spec_of) (sym (back.back_as_before spec_of state sink m h.steady e)) h

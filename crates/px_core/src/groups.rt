@@ -1,0 +1,26 @@
+//! The groups of volumes, one a sink.
+
+ghost use Rattle.std.specs.Prelude.{◌≡◌, slice_get};
+ghost use Rattle.std.specs.Option.{option_map};
+ghost use Rattle.px_core.specs.Sinks.{group_named};
+
+use px_flat::Group;
+use px_plan::Named;
+use px_types::SinkId;
+
+/// The group of a sink, where it is there. Takes no memory.
+pub(crate) fn group_on(groups: &[Group], sink: SinkId) -> Option<&Group>
+    ensures { option_map (λ g. g.now) result ≡ slice_get groups.now sink.0 }
+{
+    groups.get(sink.0 as usize)
+}
+
+/// The group of the sink that is named, where it is there. Takes no memory.
+pub(crate) fn group_named<'a>(groups: &'a [Group], named: &Named) -> Option<&'a Group>
+    ensures { option_map (λ g. g.now) result ≡ group_named groups.now named.now }
+{
+    match named {
+        Named::Sink(target) => group_on(groups, target.index),
+        Named::Unclear | Named::Unknown => None,
+    }
+}

@@ -1,0 +1,53 @@
+-- The volume of a new input, and the feed by which it joins the group of its sink.
+use Rattle.std.proofs.Common.{◌≡◌, ◌<◌, ◌≤◌, ◌⊎◌, ℕ, zero, suc, arith, Bool, true, false, List, [], ◌∷◌, length, get_or, max, cond, Option, Some, None, Ok, refl, sym, subst, inl, inr}
+use Rattle.std.specs.Prelude.{All}
+use Rattle.std.specs.List.{fold}
+use Rattle.px_types.specs.declared.error_code.ErrorCode.{ErrorCode}
+use Rattle.px_chmap.specs.Plan.{FeedsAll}
+use Rattle.px_chmap.proofs.PlanLemmas.{plan_of-feeds}
+use Rattle.px_cmd.specs.declared.command.CreateFields.{CreateFields}
+use Rattle.px_vol.specs.Volume.{IsChannelVolume, greatest}
+use Rattle.px_flat.specs.Channels.{greatest_of}
+use Rattle.px_plan.specs.declared.target.Target.{Target}
+use Rattle.px_plan.specs.Row.{present}
+use Rattle.px_plan.specs.Target.{IsTarget}
+use Rattle.px_ctl_play.specs.Asked.{channels_on, positions_on, feed_on}
+
+-- the greatest of some volumes is one
+fold_bounded : (a : ℕ) (xs : List ℕ) → a ≤ greatest → All (λ v. v ≤ greatest) xs → fold max a xs ≤ greatest
+fold_bounded a [] l all = l
+fold_bounded a (x ∷ xs) l all =
+    let first = all 0 0 (omega arith) in
+    fold_bounded (max a x) xs (omega (arith, l, first)) (λ k d below. all (suc k) d (omega (arith, below)))
+
+pub one_volume : (volumes : List ℕ) → IsChannelVolume volumes → IsChannelVolume (greatest_of volumes ∷ [])
+one_volume volumes is = record {
+  some = omega arith;
+  few = omega arith;
+  bounded = one (greatest_of volumes) (fold_bounded 0 volumes (omega arith) is.bounded);
+}
+  where
+    one : (v : ℕ) → v ≤ greatest → All (λ x. x ≤ greatest) (v ∷ [])
+    one v l zero d below = l
+    one v l (suc k) d below = absurd (omega (arith, below))
+
+-- volumes of all channels, or one for all of them
+pub are_volumes : (channels : ℕ) (volumes : List ℕ) → 1 ≤ channels → channels ≤ 32 → (length volumes ≡ 1) ⊎ (length volumes ≡ channels) → All (λ v. v ≤ greatest) volumes → IsChannelVolume volumes
+are_volumes channels volumes some few (inl e) bounded = record { some = omega (arith, e); few = omega (arith, e); bounded = bounded }
+are_volumes channels volumes some few (inr e) bounded = record { some = omega (arith, e, some); few = omega (arith, e, few); bounded = bounded }
+
+-- what was found is there
+pub found_is : {A : Type 0} (o : Option A) (code : ErrorCode) (x : A) → present o code ≡ Ok x → o ≡ Some x
+found_is None code x e = absurd cc
+found_is (Some y) code x e = cc
+
+-- the feed of a plan is one for the channels that the input has on its sink
+pub fed : (sink : Target) (a : CreateFields) (feed : List ℕ) → IsTarget sink → a.spec.channels ≡ length a.map → feed_on sink a ≡ Some feed → FeedsAll (channels_on sink a) sink.spec.channels feed
+fed sink a feed target count planned =
+    subst (λ n. FeedsAll n sink.spec.channels feed) (same a.fix_channels)
+    (subst (λ n. FeedsAll (length (positions_on sink a)) n feed) target.map_size
+    (plan_of-feeds (positions_on sink a) sink.map a.no_remap a.no_remix feed (omega (arith, target.map_size, target.some)) planned))
+  where
+    same : (fix : Bool) → length (cond fix sink.map a.map) ≡ cond fix sink.spec.channels a.spec.channels
+    same true = target.map_size
+    same false = sym count

@@ -1,0 +1,71 @@
+//! A new input joins the group of its sink, with the volume that the client gave it.
+
+ghost use Rattle.std.specs.Prelude.{◌≡◌, ◌≤◌, length, true, None, IsSome, IfOk};
+ghost use Rattle.px_vol.specs.Volume.{IsChannelVolume};
+ghost use Rattle.px_chmap.specs.Plan.{FeedsAll};
+ghost use Rattle.px_flat.specs.Channels.{greatest_of};
+ghost use Rattle.px_flat.specs.FlatVolume.{member_of};
+ghost use Rattle.px_ctl_play.specs.Asked.{channels_on};
+ghost use Rattle.px_ctl_play.specs.Joining.{gives_each, volume_on, joined};
+
+use crate::asked::channels_on;
+use px_chmap::Feed;
+use px_cmd::CreateFields;
+use px_flat::{Group, How};
+use px_plan::{Input, Target};
+use px_types::Mem;
+use px_vol::CVolume;
+use std::alloc::Global;
+
+// The greatest of some volumes.
+fn greatest_of(volumes: &[u32]) -> u32
+    ensures { result ≡ greatest_of volumes.now }
+{
+    let mut greatest: u32 = 0;
+    for volume in volumes {
+        greatest = greatest.max(*volume);
+    }
+    greatest
+}
+
+// Whether the client gave one volume for all channels that the input has on its sink, or one each.
+fn gives_each(sink: &Target, a: &CreateFields) -> bool
+    ensures { result ≡ gives_each sink.now a.now }
+{
+    let count = a.volume.as_slice().len();
+    count == 1 || count == usize::from(channels_on(sink, a))
+}
+
+// The volume that it has on its sink: where that has other channels than the client gave volumes, the greatest of them for all.
+#[tactic(auto, using(crate::proofs::Joined::one_volume))]
+fn volume_on(sink: &Target, a: &CreateFields) -> CVolume
+    requires { IsChannelVolume a.now.volume }
+    ensures { result ≡ volume_on sink.now a.now }
+{
+    if gives_each(sink, a) {
+        CVolume::new(a.volume.as_slice()).unwrap()
+    } else {
+        CVolume::new(&[greatest_of(a.volume.as_slice())]).unwrap()
+    }
+}
+
+/// The group of the sink with a new input, which isn't there yet, so fed and with the volume and the mute that the client gave.
+pub(crate) fn joined(
+    alloc: Global,
+    group: &Group,
+    sink: &Target,
+    a: &CreateFields,
+    feed: &Feed,
+    x: &Input,
+) -> Mem<Group>
+    requires new { member_of group.now.members x.now.index ≡ None }
+    requires some { 1 ≤ channels_on sink.now a.now }
+    requires feeds { FeedsAll (channels_on sink.now a.now) (length group.now.reference) feed.now }
+    requires volume { IsChannelVolume a.now.volume }
+    ensures value { IfOk result (λ made. made ≡ joined group.now sink.now a.now feed.now x.now) }
+    ensures there { IfOk result (λ made. IsSome (member_of made.members x.now.index)) }
+{
+    let mut made = group.copy(alloc)?;
+    made.attach(x.index, &volume_on(sink, a), How::Absolute, a.muted, feed)?;
+    Ok(made)
+}
