@@ -37,9 +37,10 @@ use Rattle.px_plan.specs.declared.input.Connection.{Connection}
 use Rattle.px_plan.specs.declared.input.Input.{Input}
 use Rattle.px_plan.specs.Plan.{Planned, idle, telling}
 use Rattle.px_plan.specs.Row.{Row, check, present}
-use Rattle.px_plan.specs.Target.{target_of}
+use Rattle.px_plan.specs.Target.{is_clear, target_of}
 use Rattle.px_ctl_info.specs.Clients.{SERVER_VERSION, version_in, auth, connection_with}
 use Rattle.px_ctl_info.specs.Properties.{list_of, mode_of, has_keys, name_in}
+use Rattle.px_ctl_info.specs.Infos.{group_on, member_on}
 use Rattle.px_ctl_info.specs.Sinks.{sink_called}
 use Rattle.px_ctl_play.specs.declared.told.News.{News}
 use Rattle.px_ctl_play.specs.declared.told.News.TheVariants as news
@@ -120,6 +121,14 @@ row_lawful spec_of state h me tag commands.ClientInfoList = tt
 row_lawful spec_of state h me tag (commands.UpdateClient mode list) = each_then (IsLawful state) (present (mode_of mode) Invalid) _ (λ known. (tt, tt))
 row_lawful spec_of state h me tag (commands.RemoveClient keys) =
     each_then (IsLawful state) (check (has_keys (list_of (client_on state.names.clients me.conn)) keys) NoEntity) _ (λ there. (tt, tt))
+row_lawful spec_of state h me tag (commands.SinkInfo sink) =
+    each_check (IsLawful state) (is_clear (named_by state.names state.sinks sink false)) Invalid _
+    (each_then (IsLawful state) (present (target_of (named_by state.names state.sinks sink false)) NoEntity) _
+    (λ found. each_then (IsLawful state) (present (group_on state.groups found) NoEntity) _ (λ group. tt)))
+row_lawful spec_of state h me tag commands.SinkInfoList = tt
+row_lawful spec_of state h me tag (commands.InputInfo input) =
+    each_then (IsLawful state) (present (input_numbered state.inputs input) NoEntity) _ (λ x. each_then (IsLawful state) (present (member_on state.groups x) NoEntity) _ (λ m. tt))
+row_lawful spec_of state h me tag commands.InputInfoList = tt
 row_lawful spec_of state h me tag (commands.StreamName stream name) =
     each_then (IsLawful state) (present (stream_of state.inputs me.conn stream) NoEntity) _ (λ x. each_then (IsLawful state) (present (name_in name) Invalid) _ (λ text. (tt, tt)))
 row_lawful spec_of state h me tag (commands.UpdateStream stream mode list) =
@@ -127,7 +136,7 @@ row_lawful spec_of state h me tag (commands.UpdateStream stream mode list) =
 row_lawful spec_of state h me tag (commands.RemoveStream stream keys) =
     each_then (IsLawful state) (present (stream_of state.inputs me.conn stream) NoEntity) _
     (λ x. each_then (IsLawful state) (check (has_keys (list_of_input state.lists (Input.index x)) keys) NoEntity) _ (λ there. (tt, tt)))
-row_lawful spec_of state h me tag (commands.KillClient client) = kill_client_lawful state h.distinct client tag (connection_with state.connections client) refl
+row_lawful spec_of state h me tag (commands.KillClient client) = kill_client_lawful state h.steady.distinct client tag (connection_with state.connections client) refl
 row_lawful spec_of state h me tag (commands.KillInput input) =
     kill_input_lawful state (input_numbered state.inputs input) (owner_of state.connections (input_numbered state.inputs input)) state.waiting tag
 row_lawful spec_of state h me tag _ = tt

@@ -42,6 +42,11 @@ pub has_channels : (sinks : List SinkSpec) (made : ℕ) (inputs : List Input) (c
 has_channels sinks made inputs conn stream None h e = tt
 has_channels sinks made inputs conn stream (Some x) h e = (found_all (IsInput sinks made) (is_stream conn stream) inputs x h (sym e)).playable.some_channels
 
+-- an input has at most 32 channels
+pub few_channels : (sinks : List SinkSpec) (made : ℕ) (inputs : List Input) (index : ℕ) (o : Option Input) → AllByRecursion (IsInput sinks made) inputs → o ≡ input_of inputs (record { 0 = index }) → IfSome o (λ x. x.spec.channels ≤ 32)
+few_channels sinks made inputs index None h e = tt
+few_channels sinks made inputs index (Some x) h e = (found_all (IsInput sinks made) (has_index (record { 0 = index })) inputs x h (sym e)).playable.few_channels
+
 module _ {P : Type 0} (state : State P) (r : IsRising state.inputs) (conn : ConnId) (stream : ℕ) where
   -- it is told something
   said : (x : Input) → stream_of state.inputs conn stream ≡ Some x → (m : Msg P) → Suits x m → Lawful state (Said x.index m)

@@ -1,5 +1,5 @@
 -- What a control packet is answered, and in which order it is refused (PulseAudio: `pa_pdispatch_run` and the handlers of pulsecore/protocol-native.c; the order is own).
-use Rattle.std.specs.Prelude.{ℕ, Bool, true, not, cond, ◌&&◌, ◌||◌, nat_eq, List, is_some, Option, None, Result, Ok, Err}
+use Rattle.std.specs.Prelude.{ℕ, Bool, true, false, not, cond, ◌&&◌, ◌||◌, nat_eq, List, is_some, Option, None, Result, Ok, Err}
 use Rattle.px_types.specs.declared.error_code.ErrorCode.TheVariants.{Access, Command as UnknownCommand, NotSupported, NotImplemented}
 use Rattle.px_tag.specs.declared.fault.TagFault.{TagFault}
 use Rattle.px_tag.specs.Place.{Place, start_of}
@@ -20,6 +20,7 @@ use Rattle.px_plan.specs.declared.target.Named.{Named}
 use Rattle.px_plan.specs.Plan.{idle}
 use Rattle.px_plan.specs.Row.{Row}
 use Rattle.px_ctl_info.specs.Clients.{auth, set_client_name, client_info, client_infos, connection_with, kill_client}
+use Rattle.px_ctl_info.specs.Infos.{sink_info, sink_infos, input_info, input_infos}
 use Rattle.px_ctl_info.specs.Lists.{empty_list}
 use Rattle.px_ctl_info.specs.Properties.{update_client, remove_client, update_stream, remove_stream, set_stream_name}
 use Rattle.px_ctl_info.specs.Sinks.{lookup_sink, set_default_sink, server_info}
@@ -33,7 +34,7 @@ use Rattle.px_ctl_play.specs.Latency.{latency}
 use Rattle.px_core.specs.State.{State, stream_of, input_numbered}
 use Rattle.px_core.specs.Notice.{owner_of}
 use Rattle.px_core.specs.Plan.{Plan, refused, requested, broken_off}
-use Rattle.px_core.specs.Sinks.{rate_of, depth_of, sink_of, named_as, named_by, group_named}
+use Rattle.px_core.specs.Sinks.{rate_of, depth_of, sink_of, named_as, named_by, group_named, targets_of}
 
 -- ---- the commands
 
@@ -44,7 +45,7 @@ AUTH = 8
 abbrev pub is_built : ℕ → Bool
 is_built command =
     nat_eq command 3 || nat_eq command 4 || nat_eq command 8 || nat_eq command 9 || nat_eq command 10 || nat_eq command 12 || nat_eq command 14
-    || nat_eq command 20 || nat_eq command 24 || nat_eq command 26 || nat_eq command 27 || nat_eq command 28 || nat_eq command 32 || nat_eq command 34
+    || nat_eq command 20 || nat_eq command 21 || nat_eq command 22 || nat_eq command 24 || nat_eq command 26 || nat_eq command 27 || nat_eq command 28 || nat_eq command 29 || nat_eq command 30 || nat_eq command 32 || nat_eq command 34
     || nat_eq command 41 || nat_eq command 42 || nat_eq command 43 || nat_eq command 44 || nat_eq command 46 || nat_eq command 48 || nat_eq command 49 || nat_eq command 60 || nat_eq command 72
     || nat_eq command 81 || nat_eq command 82 || nat_eq command 84 || nat_eq command 85 || nat_eq command 89
 
@@ -86,12 +87,12 @@ row state me tag (commands.Attributes stream asked adjust_latency early_requests
 row state me tag (commands.EmptyList number) = empty_list tag
 row state me tag (commands.LookupSink name) = lookup_sink state.names tag name
 row state me tag commands.ServerInfo = server_info (default_sink state) tag
-row state me tag (commands.SinkInfo sink) = not_built
-row state me tag commands.SinkInfoList = not_built
+row state me tag (commands.SinkInfo sink) = sink_info (named_by state.names state.sinks sink false) state.groups tag
+row state me tag commands.SinkInfoList = sink_infos (targets_of state.sinks) state.groups tag
 row state me tag (commands.ClientInfo client) = client_info (client_numbered state.names.clients client) tag
 row state me tag commands.ClientInfoList = client_infos state.names.clients tag
-row state me tag (commands.InputInfo input) = not_built
-row state me tag commands.InputInfoList = not_built
+row state me tag (commands.InputInfo input) = input_info (input_numbered state.inputs input) state.groups state.lists tag
+row state me tag commands.InputInfoList = input_infos state.inputs state.groups state.lists tag
 row state me tag (commands.Subscribe mask) = not_built
 row state me tag (commands.SinkVolume sink volume) = not_built
 row state me tag (commands.InputVolume input volume) = not_built

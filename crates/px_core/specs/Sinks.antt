@@ -1,5 +1,5 @@
 -- The sinks as commands see them.
-use Rattle.std.specs.Prelude.{ℕ, Bool, List, slice_get, Option, None, Some, Result, Ok, Err}
+use Rattle.std.specs.Prelude.{ℕ, ◌+◌, Bool, List, [], ◌∷◌, take, slice_get, Option, None, Some, Result, Ok, Err}
 use Rattle.px_types.specs.declared.ids.SinkId.{SinkId}
 use Rattle.px_types.specs.declared.error_code.ErrorCode.{ErrorCode}
 use Rattle.px_types.specs.declared.error_code.ErrorCode.TheVariants.{Invalid}
@@ -60,3 +60,17 @@ group_of groups (Some target) = slice_get groups target.index.0
 -- where the sink is there
 abbrev pub group_named : List FlatGroup → Named → Option FlatGroup
 group_named groups named = group_of groups (target_in named)
+
+-- ---- all sinks, as commands see them
+
+-- the most sinks of a header
+abbrev pub MOST_SINKS : ℕ
+MOST_SINKS = 16
+
+-- these, the first of which has an index
+abbrev pub targets_from : ℕ → List SinkSpec → List Target
+targets_from index [] = []
+targets_from index (sink ∷ sinks) = target_of (record { 0 = index }) sink ∷ targets_from (index + 1) sinks
+
+abbrev pub targets_of : List SinkSpec → List Target
+targets_of sinks = targets_from 0 (take MOST_SINKS sinks)

@@ -1,16 +1,17 @@
 //! What a control packet is answered, and in which order it is refused (PulseAudio: `pa_pdispatch_run` and the handlers of
 //! `pulsecore/protocol-native.c`; the order is own).
 
-ghost use Rattle.std.specs.Prelude.{◌≡◌, ◌≤◌, [], true, IfOk, IfSome};
+ghost use Rattle.std.specs.Prelude.{◌≡◌, ◌≤◌, [], true, false, IfOk, IfSome};
 ghost use Rattle.px_cmd.specs.Meant.{meant};
 ghost use Rattle.px_plan.specs.Row.{Plans};
 ghost use Rattle.px_session.specs.HeaderRules.{AreSinks};
+ghost use Rattle.px_ctl_info.specs.Infos.{sink_info, sink_infos, input_infos};
 ghost use Rattle.px_ctl_info.specs.Sinks.{server_info};
 ghost use Rattle.std.specs.List.{AllByRecursion};
 ghost use Rattle.std.specs.Option.{option_map};
 ghost use Rattle.px_core.specs.Grouped.{AreGrouped};
 ghost use Rattle.px_core.specs.Keeps.{IsInput};
-ghost use Rattle.px_core.specs.Sinks.{named_by};
+ghost use Rattle.px_core.specs.Sinks.{named_by, targets_of};
 ghost use Rattle.px_core.specs.State.{stream_of, input_numbered};
 ghost use Rattle.px_core.specs.Tables.{state_of};
 ghost use Rattle.px_core.specs.Command.{is_built, is_waiting_for_work, is_barred, new_attributes, create_on, default_sink, killed_input, row, read_answer, command_answer, packet_answer};
@@ -21,12 +22,13 @@ use crate::notice::owner_of;
 use crate::plan::{broken_off, refused, requested};
 use crate::standing::goes_on;
 use crate::tables::Tables;
-use crate::targets::{default_sink, depth_of, named_by, rate_of, sink_of};
-use px_cmd::{CmdFault, Command, CreateFields, Text, is_command, read_command, read_head};
+use crate::targets::{default_sink, depth_of, named_by, rate_of, sink_of, targets_of};
+use px_cmd::{CmdFault, Command, CreateFields, SinkRef, Text, is_command, read_command, read_head};
 use px_ctl_info::{
-    SERVER_VERSION, auth, client_info, client_infos, connection_with, empty_list, kill_client,
-    lookup_sink, remove_client, remove_stream, server_info, set_client_name, set_default_sink,
-    set_stream_name, update_client, update_stream,
+    SERVER_VERSION, auth, client_info, client_infos, connection_with, empty_list, input_info,
+    input_infos, kill_client, lookup_sink, remove_client, remove_stream, server_info,
+    set_client_name, set_default_sink, set_stream_name, sink_info, sink_infos, update_client,
+    update_stream,
 };
 use px_ctl_play::{
     attributes, cork, create, delete, drain, flush, kill_input, latency, prebuf, trigger,
@@ -53,10 +55,14 @@ fn is_built(command: u32) -> bool
             | 12
             | 14
             | 20
+            | 21
+            | 22
             | 24
             | 26
             | 27
             | 28
+            | 29
+            | 30
             | 32
             | 34
             | 41
@@ -127,7 +133,16 @@ fn create_named<P: Drop>(
     let named = named_by(alloc, &tables.names, sinks, &fields.sink, true)?;
     let group = group_named(&tables.groups, &named);
     let inputs = tables.inputs.as_slice();
-    create(alloc, inputs, tables.inputs_made, me, tag, named, group, fields)
+    create(
+        alloc,
+        inputs,
+        tables.inputs_made,
+        me,
+        tag,
+        named,
+        group,
+        fields,
+    )
 }
 
 // New buffer attributes of a stream, with the latency of its sink.
@@ -147,7 +162,11 @@ fn new_attributes<P: Drop>(
 }
 
 // What the server is.
-fn server<P: Drop>(alloc: Global, tables: &Tables<P>, tag: u32) -> Result<Plan<Msg<P>, Group>, Refusal>
+fn server<P: Drop>(
+    alloc: Global,
+    tables: &Tables<P>,
+    tag: u32,
+) -> Result<Plan<Msg<P>, Group>, Refusal>
     requires { AreSinks [] tables.now.sinks }
     ensures { Plans result (server_info (default_sink (state_of tables.now)) tag) }
 {
@@ -155,9 +174,52 @@ fn server<P: Drop>(alloc: Global, tables: &Tables<P>, tag: u32) -> Result<Plan<M
     server_info(alloc, named, tag, SERVER_VERSION)
 }
 
+// The sink that is named.
+fn told_sink<P: Drop>(
+    alloc: Global,
+    tables: &Tables<P>,
+    sink: &SinkRef,
+    tag: u32,
+) -> Result<Plan<Msg<P>, Group>, Refusal>
+    requires { AreSinks [] tables.now.sinks }
+    ensures { Plans result (sink_info (named_by tables.now.names tables.now.sinks sink.now false) tables.now.groups.items tag) }
+{
+    let named = named_by(alloc, &tables.names, tables.sinks.as_slice(), sink, false)?;
+    sink_info(alloc, named, &tables.groups, tag)
+}
+
+// All sinks.
+fn told_sinks<P: Drop>(
+    alloc: Global,
+    tables: &Tables<P>,
+    tag: u32,
+) -> Result<Plan<Msg<P>, Group>, Refusal>
+    requires { AreSinks [] tables.now.sinks }
+    ensures { Plans result (sink_infos (targets_of tables.now.sinks) tables.now.groups.items tag) }
+{
+    let sinks = targets_of(alloc, tables.sinks.as_slice())?;
+    sink_infos(alloc, &sinks, &tables.groups, tag)
+}
+
+// All inputs that go on.
+fn told_inputs<P: Drop>(
+    alloc: Global,
+    tables: &Tables<P>,
+    tag: u32,
+) -> Result<Plan<Msg<P>, Group>, Refusal>
+    requires { AllByRecursion (IsInput tables.now.sinks tables.now.inputs_made) tables.now.inputs.items }
+    ensures { Plans result (input_infos tables.now.inputs.items tables.now.groups.items tables.now.lists.items tag) }
+{
+    let inputs = tables.inputs.as_slice();
+    input_infos(alloc, inputs, &tables.groups, &tables.lists, tag)
+}
+
 // The input with an index, where it goes on.
+#[tactic(auto, using(crate::proofs::StreamLaws::few_channels))]
 fn input_numbered<P>(tables: &Tables<P>, index: u32) -> Option<Input>
-    ensures { result ≡ input_numbered tables.now.inputs.items index }
+    requires { AllByRecursion (IsInput tables.now.sinks tables.now.inputs_made) tables.now.inputs.items }
+    ensures value { result ≡ input_numbered tables.now.inputs.items index }
+    ensures channels { IfSome result (λ x. x.spec.channels ≤ 32) }
 {
     match tables.inputs.input_of(InputId(index)) {
         Some(x) if goes_on(&x) => Some(x),
@@ -171,7 +233,7 @@ fn killed_input<P: Drop>(
     tables: &Tables<P>,
     input: Option<Input>,
     tag: u32,
-) -> Result<Plan<Msg<P>, ()>, Refusal>
+) -> Result<Plan<Msg<P>, Group>, Refusal>
     ensures { Plans result (killed_input (state_of tables.now) input tag) }
 {
     let owner = owner_of(&tables.connections, input);
@@ -240,6 +302,16 @@ fn row<P: Drop>(
             remove_client(alloc, client, me, tag, &keys)
         }
         Command::ServerInfo => server(alloc, tables, tag),
+        Command::SinkInfo { sink } => told_sink(alloc, tables, &sink, tag),
+        Command::SinkInfoList => told_sinks(alloc, tables, tag),
+        Command::InputInfo { input } => input_info(
+            alloc,
+            input_numbered(tables, input),
+            &tables.groups,
+            &tables.lists,
+            tag,
+        ),
+        Command::InputInfoList => told_inputs(alloc, tables, tag),
         Command::StreamName { stream, name } => {
             let stream = stream_of(tables, me, stream);
             set_stream_name(alloc, stream, &tables.lists, tag, text_of(&name))
@@ -258,11 +330,7 @@ fn row<P: Drop>(
         Command::KillInput { input } => {
             killed_input(alloc, tables, input_numbered(tables, input), tag)
         }
-        Command::SinkInfo { .. }
-        | Command::SinkInfoList
-        | Command::InputInfo { .. }
-        | Command::InputInfoList
-        | Command::Subscribe { .. }
+        Command::Subscribe { .. }
         | Command::SinkVolume { .. }
         | Command::InputVolume { .. }
         | Command::SinkMute { .. }

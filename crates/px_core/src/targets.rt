@@ -1,11 +1,12 @@
 //! The sinks as commands see them.
 
-ghost use Rattle.std.specs.Prelude.{◌≡◌, ◌≤◌, [], true, None, slice_get, IfOk, IfSome};
+ghost use Rattle.std.specs.Prelude.{◌≡◌, ◌≤◌, ◌+◌, ◌++◌, ◌∷◌, [], true, None, List, All, length, slice_get, IfOk, IfSome, OnOk};
+ghost use Rattle.px_session.specs.declared.header.SinkSpec.{SinkSpec};
 ghost use Rattle.std.specs.Option.{option_map};
 ghost use Rattle.px_session.specs.HeaderRules.{AreSinks};
 ghost use Rattle.px_names.specs.Names.{NO_INDEX, sink_named};
 ghost use Rattle.px_plan.specs.Target.{IsTarget, IsNamed};
-ghost use Rattle.px_core.specs.Sinks.{IsOfHeader, rate_on, rate_of, depth_of, sink_of, target_of, found_as, named_as, named_by};
+ghost use Rattle.px_core.specs.Sinks.{IsOfHeader, rate_on, rate_of, depth_of, sink_of, target_of, found_as, named_as, named_by, targets_from, targets_of};
 
 use px_cmd::SinkRef;
 use px_names::{NO_INDEX, Names};
@@ -13,6 +14,9 @@ use px_plan::{Input, Named, Target};
 use px_session::SinkSpec;
 use px_types::{ErrorCode, Mem, SinkId, Text};
 use std::alloc::Global;
+
+/// The most sinks of a header.
+const MOST_SINKS: usize = 16;
 
 // The sink with an index.
 #[tactic(auto, using(crate::proofs::Sinks::is_of_header))]
@@ -143,4 +147,40 @@ pub(crate) fn named_by(
         sinks,
         names.sink(sink.index, name_of(sink), fallback),
     )
+}
+
+// One more sink as a command sees it.
+fn add_target(alloc: Global, made: &mut Vec<Target>, index: SinkId, sink: &SinkSpec) -> Mem<()>
+    requires { IsOfHeader sink.now }
+    ensures value { OnOk result ((more : List SinkSpec) → made.new.items ++ targets_from (index.0 + 1) more ≡ made.old.items ++ targets_from index.0 (sink.now ∷ more)) }
+    ensures lawful { OnOk result (All IsTarget made.old.items → All IsTarget made.new.items) }
+{
+    made.push(target_of(alloc, index, sink)?)?;
+    Ok(())
+}
+
+// These sinks, from the first one on.
+fn targets_in(alloc: Global, sinks: &[SinkSpec]) -> Mem<Vec<Target>>
+    requires few { length sinks.now ≤ 16 }
+    requires header { All IsOfHeader sinks.now }
+    ensures value { IfOk result (λ made. made.items ≡ targets_from 0 sinks.now) }
+    ensures lawful { IfOk result (λ made. All IsTarget made.items) }
+{
+    let mut made = Vec::new(alloc);
+    let mut index: u8 = 0;
+    for sink in sinks {
+        add_target(alloc, &mut made, SinkId(index), sink)?;
+        index += 1;
+    }
+    Ok(made)
+}
+
+/// All sinks, of which a header has at most 16, as commands see them.
+pub(crate) fn targets_of(alloc: Global, sinks: &[SinkSpec]) -> Mem<Vec<Target>>
+    requires { AreSinks [] sinks.now }
+    ensures value { IfOk result (λ made. made.items ≡ targets_of sinks.now) }
+    ensures lawful { IfOk result (λ made. All IsTarget made.items) }
+{
+    let count = sinks.len().min(MOST_SINKS);
+    targets_in(alloc, &sinks[..count])
 }

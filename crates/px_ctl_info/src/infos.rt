@@ -72,12 +72,7 @@ pub fn sink_info<M: Drop, G: Drop>(
 
 // What is told of one more.
 #[tactic(auto, using(crate::proofs::Told::one_more_sink))]
-fn add_sink(
-    alloc: Global,
-    infos: &mut Vec<SinkInfo>,
-    sink: &Target,
-    groups: &[Group],
-) -> Mem<()>
+fn add_sink(alloc: Global, infos: &mut Vec<SinkInfo>, sink: &Target, groups: &[Group]) -> Mem<()>
     requires { IsTarget sink.now }
     ensures value { OnOk result ((more : List Target) → infos.new.items ++ sinks_told groups.now more ≡ infos.old.items ++ sinks_told groups.now (sink.now ∷ more)) }
     ensures told { OnOk result (All IsSinkInfo infos.old.items → All IsSinkInfo infos.new.items) }
