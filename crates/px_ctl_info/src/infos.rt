@@ -71,7 +71,7 @@ pub fn sink_info<M: Drop, G: Drop>(
 }
 
 // What is told of one more.
-#[tactic(auto, using(crate::proofs::Told::one_more_sink))]
+#[tactic(auto, using(crate::proofs::Sayable::one_more_sink))]
 fn add_sink(alloc: Global, infos: &mut Vec<SinkInfo>, sink: &Target, groups: &[Group]) -> Mem<()>
     requires { IsTarget sink.now }
     ensures value { OnOk result ((more : List Target) → infos.new.items ++ sinks_told groups.now more ≡ infos.old.items ++ sinks_told groups.now (sink.now ∷ more)) }
@@ -201,7 +201,7 @@ fn told_of(alloc: Global, x: &Input, m: &Member, lists: &InputLists) -> Mem<Inpu
 }
 
 // What is told of one more, where it goes on.
-#[tactic(auto, using(crate::proofs::Told::one_more_input))]
+#[tactic(auto, using(crate::proofs::Sayable::one_more_input))]
 fn add_input(
     alloc: Global,
     infos: &mut Vec<InputInfo>,
