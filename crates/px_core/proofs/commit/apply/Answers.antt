@@ -1,12 +1,6 @@
 use Rattle.std.proofs.Common.{arith, ◌∷◌, [], length-append}
 use Rattle.px_core.proofs.Waiting.{fewer_places}
-use Rattle.px_core.proofs.Rooms.{same_roomy, same_waits, room_left}
 use Rattle.px_core.proofs.commit.apply.Goals as goal
-
-pub returns-in-Regrouped-clause-room : goal.returns-in-Regrouped-clause-room
-returns-in-Regrouped-clause-room g c = λ n had.
-    room_left n c.args.tables.now c.post.new.tables (same_roomy c.args.tables.now.inputs c.post.new.tables.inputs c.post.ensures.inputs)
-    (same_waits c.args.tables.now c.post.new.tables c.post.ensures.waiting) (c.post.ensures.room n had.posted) had
 
 pub returns-in-Asked-clause-room : goal.returns-in-Asked-clause-room
 returns-in-Asked-clause-room g c = λ n had.
