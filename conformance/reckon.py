@@ -6,8 +6,8 @@
   conformance/reckon.py --life NUMBER TURNS > SESSION.session     the same, with prebuffering and all commands of a stream's life
   conformance/reckon.py --formats NUMBER FORMAT > SESSION.session     streams of every format to a sink of this one, with dice
 
-It keeps each sample that was ever written in a map from index to sample, and mixes each frame anew. It knows streams at volume 65536, the
-commands of a stream's life, and only sessions that are played to their end and ask for nothing that is refused but by ACCESS, BADSTATE,
+It keeps each sample that was ever written in a map from index to sample, and mixes each frame anew. It knows the volumes
+that streams are made with, the commands of a stream's life, and only sessions that are played to their end and ask for nothing that is refused but by ACCESS, BADSTATE,
 VERSION, NOENTITY and TOOLARGE, and a stream that is made by INVALID and NOTSUPPORTED too."""
 
 import copy
@@ -21,6 +21,7 @@ sys.path[:0] = [HERE, os.path.join(os.path.dirname(HERE), "tools")]
 
 import output
 import samples
+import volumes
 import wire
 from maker import make
 from packets import COMMANDS, read_packet
@@ -52,6 +53,7 @@ class Stream:
         self.hold = self.prebuf > 0
         self.draining = []
         self.requested = self.tlength
+        self.factors = None  # one for each channel of the sink
         self.quiet, self.run = True, 0
         self.leaving = False
 
@@ -80,7 +82,8 @@ class Stream:
     def share(self, ahead, width):
         """What it adds to each channel of a sink of this width, so far ahead."""
         frame, own = self.frame(ahead), samples.WIDTHS[self.spec[0]]
-        return frame and [samples.brought(frame[channel], own, width) for channel in self.feed]
+        fed = frame and [samples.brought(frame[channel], own, width) for channel in self.feed]
+        return fed and [value * factor >> 16 for value, factor in zip(fed, self.factors)]
 
     def go(self, frames):
         """Goes forward, and answers what is told of it."""
@@ -155,7 +158,10 @@ class Sink:
             stream = self.inputs[number]
             if stream.take(*more, stream.read_after(self.filled - self.horizon)):
                 self.notices.append((number, "overflow", 0))
-        elif kind != "factors":
+        elif kind == "factors":
+            for known in self.inputs.keys() & more.keys():
+                self.inputs[known].factors = more[known]
+        else:
             self.tell(kind, number, self.inputs[number], more)
 
     def tell(self, kind, number, stream, more):
@@ -205,6 +211,7 @@ class Server:
 
     def __init__(self, cookie, sinks):
         self.cookie, self.sink = cookie, Sink(sinks[0])
+        self.group = volumes.Group(sinks[0].spec[1])
         self.clients, self.inputs = {}, {}
         self.waiting = []  # (input, command, tag, time), in the order in which they were asked
         self.client_count = self.input_count = 0
@@ -236,6 +243,10 @@ class Server:
         waited = [it for it in self.waiting if it[0] == number]
         self.waiting = [it for it in self.waiting if it[0] != number]
         return waited
+
+    def regroup(self):
+        """The sink is told the factors of all inputs that don't end."""
+        self.sink.waiting.append(("factors", None, {n: self.group.factors(n) for n in sorted(self.inputs) if not self.inputs[n].leaving}))
 
     def answer(self, number, command, tag):
         """The first request of a kind and a tag that waits of an input waits no more."""
@@ -272,7 +283,8 @@ class Server:
         stream = self.inputs[number]
         if word == "detached":
             del self.inputs[number]
-            self.sink.waiting.append(("factors", None, None))
+            self.group.detach(number)
+            self.regroup()
         elif stream.leaving:
             pass
         elif word == "drained":
@@ -388,7 +400,11 @@ class Server:
         numbers = [client.made, number, lengths[1], *lengths]
         self.input_count += 1
         client.made += 1
-        self.sink.waiting += [("new", number, stream), ("factors", None, None)]
+        volume = list(asked["volume"])
+        self.group.attach(number, volume if len(volume) in (1, channels) else [max(volume)], asked["muted"], feed)
+        stream.factors = self.group.factors(number)
+        self.sink.waiting.append(("new", number, stream))
+        self.regroup()
         fields = b"".join(map(wire.number, numbers)) + wire.spec(spec) + wire.channel_map(positions)
         fields += wire.number(0) + wire.text(sink.name) + wire.flag(False) + self.latency()
         return self.send(conn, 2, tag, fields)

@@ -1,9 +1,8 @@
 -- The changes of CREATE are lawful.
-use Rattle.std.proofs.Common.{◌≡◌, ℕ, zero, suc, ◌<◌, ◌≤◌, List, [], ◌∷◌, ◌++◌, length, min, max, Some, Bool, true, false, refl, ap, sym, subst, ◌∙◌, arith, cond}
-use Rattle.std.specs.Prelude.{◌+◌, ◌-◌, ◌*◌, ◌/◌, ◌≢◌, not, nat_eq, nat_lt, nat_le, slice_get, slice_index}
+use Rattle.std.proofs.Common.{◌≡◌, ℕ, zero, suc, ◌<◌, ◌≤◌, List, [], ◌∷◌, ◌++◌, length, min, max, Option, Some, None, Bool, true, false, refl, ap, sym, subst, ◌∙◌, arith, cond}
+use Rattle.std.specs.Prelude.{◌+◌, ◌-◌, ◌*◌, ◌/◌, ◌≢◌, not, nat_eq, nat_lt, nat_le, slice_get, slice_index, unwrap_or, IsSome}
 use Rattle.std.specs.List.{list_all}
-use Rattle.std.proofs.lemmas.Bool.{cond_both, eqb-true, eqb-false, leb-true, ltb-true, false≢true, and_parts, not-true, agree_below_at}
-use Rattle.std.proofs.lemmas.List.{length-replicate}
+use Rattle.std.proofs.lemmas.Bool.{cond_both, eqb-true, eqb-false, leb-true, ltb-true, and_parts, not-true, agree_below_at}
 use Rattle.std.proofs.lemmas.Option.{none-some, same_Some, slice_get_within}
 use Rattle.px_types.specs.declared.ids.InputId.{InputId}
 use Rattle.px_types.specs.declared.ids.SinkId.{SinkId}
@@ -13,7 +12,8 @@ use Rattle.px_sample.specs.declared.format.Format.TheVariants.{U8, Alaw, Ulaw, S
 use Rattle.px_sample.specs.declared.spec.Spec.{Spec}
 use Rattle.px_sample.specs.Format.{code_of, frame_size_of}
 use Rattle.px_chmap.specs.Plan.{FeedsAll}
-use Rattle.px_chmap.proofs.PlanLemmas.{plan_of-feeds}
+use Rattle.px_chmap.proofs.PlanLemmas.{plan_fits}
+use Rattle.px_chmap.specs.ChannelMap.{IsChannelMap}
 use Rattle.px_session.specs.declared.header.SinkSpec.{SinkSpec}
 use Rattle.px_session.specs.HeaderRules.{IsSink, AreSinks}
 use Rattle.px_model.specs.Frame.{SampleSpec}
@@ -161,11 +161,11 @@ playable sink a asked =
     }
 
 -- a plan has a place for each of the sink's channels, and names the stream's
-planned : (sink : Target) (a : CreateFields) (feed : List ℕ) → (1 ≤ sink.spec.channels) → length sink.map ≡ sink.spec.channels → Asked sink a → feed_on sink a ≡ Some feed → FeedsAll (channels_on sink a) sink.spec.channels feed
-planned sink a feed some own asked fed =
+planned : (sink : Target) (a : CreateFields) (feed : List ℕ) → IsChannelMap sink.map → length sink.map ≡ sink.spec.channels → Asked sink a → feed_on sink a ≡ Some feed → FeedsAll (channels_on sink a) sink.spec.channels feed
+planned sink a feed can own asked fed =
     subst (λ n. FeedsAll n sink.spec.channels feed) asked.mapped
     (subst (λ n. FeedsAll (length (positions_on sink a)) n feed) own
-    (plan_of-feeds (positions_on sink a) sink.map a.no_remap a.no_remix feed (subst (λ n. 1 ≤ n) (sym own) some) fed))
+    (plan_fits (positions_on sink a) sink.map a.no_remap a.no_remix (Some feed) can (sym fed)))
 
 own_fits : (group : FlatGroup) (index : InputId) → IsSome (member_of group.members index) → length (own_factors group index) ≡ length group.reference
 own_fits group index some = step (member_of group.members index) some
@@ -229,7 +229,7 @@ module _ {P : Type 0} (spec_of : P → SampleSpec) (state : State P) (h : IsKept
   asked = asked_by made.sink a few own made.lawful made.supported
 
   feeds : FeedsAll (channels_on made.sink a) made.sink.spec.channels made.feed
-  feeds = planned made.sink a made.feed few.0 own asked made.fed
+  feeds = planned made.sink a made.feed (subst (λ (t : Target). IsChannelMap t.map) (sym it.is) rules.1.map) own asked made.fed
 
   follows : (s : SinkSpec) → slice_get state.sinks made.sink.index.0 ≡ Some s → IsGroupOf made.sink.index s (state.inputs ++ x ∷ []) after
   follows s e =

@@ -11,7 +11,7 @@ use Rattle.px_core.specs.State.{is_leaving, goes_on, has_index, input_of, waitin
 use Rattle.px_core.specs.Change.{change_first, drop_first, leaving}
 use Rattle.px_core.specs.Keeps.{IsGoing, IsAwaiting}
 use Rattle.px_core.proofs.ListLaws.{all_weaken}
-use Rattle.px_core.proofs.ByStream.{found-changed, found-dropped}
+use Rattle.px_inputs.proofs.ByStream.{found-changed, found-dropped}
 
 -- the input that was found is there and goes on
 abbrev Goes : Option Input → Type 0

@@ -1,4 +1,3 @@
-pub mod First
 pub mod Rooms
 pub mod Sendable
 pub mod Silent
@@ -29,4 +28,3 @@ pub mod TellsLaws
 pub mod RefusalLaws
 pub mod Undone
 pub mod HearingLaws
-pub mod ByStream

@@ -1,6 +1,6 @@
 -- What is known of a header's sinks.
-use Rattle.std.proofs.Common.{◌≡◌, ℕ, suc, zero, Bool, true, false, ◌&&◌, not, eqb, List, [], ◌∷◌, ◌++◌, length, get_or, slice_get, IsTrue, IfSome, is_some, ltb, Option, None, Some, Result, Ok, Err, refl, sym, subst, arith}
-use Rattle.std.specs.List.{list_all}
+use Rattle.std.proofs.Common.{◌≡◌, ℕ, suc, zero, ◌<◌, Bool, true, false, ◌&&◌, not, eqb, List, [], ◌∷◌, ◌++◌, length, get_or, slice_get, IsTrue, IfSome, is_some, ltb, Option, None, Some, Result, Ok, Err, refl, sym, subst, arith}
+use Rattle.std.specs.List.{AllByRecursion, list_all}
 use Rattle.std.proofs.lemmas.Bool.{ltb-true}
 use Rattle.std.proofs.lemmas.Option.{slice_get_read}
 use Rattle.std.proofs.lemmas.Bool.Decides.{nat_tests}
@@ -78,3 +78,14 @@ named_there sinks (Ok index) target e = found (slice_get sinks index.0) refl e
         (record { sink = sink; there = there; is = refl })
 named_there sinks (Err Invalid) target e = absurd cc
 named_there sinks (Err _) target e = absurd cc
+
+-- ---- each of a header's sinks
+
+pub each_of_header : (earlier sinks : List SinkSpec) → AreSinks earlier sinks → AllByRecursion IsOfHeader sinks
+each_of_header earlier [] h = tt
+each_of_header earlier (x ∷ sinks) h = ((earlier, h.0), each_of_header (earlier ++ x ∷ []) sinks h.1)
+
+pub next_of_header : (sinks : List SinkSpec) (i : ℕ) (d : SinkSpec) → i < length sinks → AllByRecursion IsOfHeader sinks → IsOfHeader (get_or sinks i d)
+next_of_header [] i d l h = absurd (omega (arith, l))
+next_of_header (x ∷ sinks) zero d l h = h.0
+next_of_header (x ∷ sinks) (suc i) d l h = next_of_header sinks i d (omega (arith, l)) h.1

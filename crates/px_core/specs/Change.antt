@@ -19,21 +19,13 @@ use Rattle.px_plan.specs.declared.input.Standing.TheVariants.{Settled, Moving, L
 use Rattle.px_plan.specs.declared.input.Way.TheVariants.{Coming}
 use Rattle.px_plan.specs.declared.change.Change.{Change as AnyChange}
 use Rattle.px_plan.specs.declared.change.Change.TheVariants.{Authed, Named, Masked, Defaulted, Made, Described, Leaves, Said, Regrouped, Asked, Answered, Gone, Ended, Forgotten}
+pub use Rattle.px_inputs.specs.Lists.{change_first, drop_first}
+pub use Rattle.px_inputs.specs.Inputs.{leaving, with_attr}
 use Rattle.px_core.specs.State.{State, has_number, has_index, input_of, is_as, waiting_of_others}
 
 -- a change with the messages of the core, and its groups of volumes
 abbrev pub Change : Type 0 → Type 0
 Change P = AnyChange (Msg P) FlatGroup
-
--- ---- lists, of which the first that is so changes or goes
-
-abbrev pub change_first : {A : Type 0} → (A → Bool) → (A → A) → List A → List A
-change_first is change [] = []
-change_first is change (x ∷ xs) = cond (is x) (change x ∷ xs) (x ∷ change_first is change xs)
-
-abbrev pub drop_first : {A : Type 0} → (A → Bool) → List A → List A
-drop_first is [] = []
-drop_first is (x ∷ xs) = cond (is x) xs (x ∷ drop_first is xs)
 
 -- ---- names
 
@@ -75,9 +67,6 @@ posting sink m state = record state { posted = posted_to sink m state.posted }
 
 -- ---- inputs
 
-abbrev pub leaving : Input → Input
-leaving x = record x { standing = Leaving }
-
 -- what waited of it waits no more
 abbrev pub without_standing : {P : Type 0} → InputId → State P → State P
 without_standing index state = record state {
@@ -94,9 +83,6 @@ ending Leaving x state = state
 abbrev pub ending_of : {P : Type 0} → Option Input → State P → State P
 ending_of None state = state
 ending_of (Some x) state = ending x.standing x state
-
-abbrev pub with_attr : Attributes → Input → Input
-with_attr attr x = record x { attr = attr }
 
 -- new buffer attributes that an input is told of are its own
 abbrev pub inputs_told : {P : Type 0} → InputId → Msg P → List Input → List Input

@@ -1,6 +1,5 @@
 pub mod Effect
 pub mod State
-pub mod InputTable
 pub mod Tables
 pub mod Change
 pub mod Plan

@@ -7,6 +7,7 @@ use Rattle.px_msg.specs.declared.message.Msg.TheVariants.{New, Attach, Detach, W
 use Rattle.px_plan.specs.declared.input.Input.{Input}
 use Rattle.px_plan.specs.declared.input.Way.{Way}
 use Rattle.px_plan.specs.declared.input.Way.TheVariants.{Coming, There, Left}
+pub use Rattle.px_inputs.specs.Inputs.{on_way}
 use Rattle.px_core.specs.State.{State, has_index}
 use Rattle.px_core.specs.Change.{change_first}
 
@@ -27,9 +28,6 @@ abbrev pub next_for : {P : Type 0} → State P → SinkId → Option (Msg P)
 next_for state sink = first_of (waiting_for state sink)
 
 -- ---- the way of the input that a message names
-
-abbrev pub on_way : Way → Input → Input
-on_way way x = record x { way = way }
 
 abbrev pub with_way : InputId → Way → List Input → List Input
 with_way index way inputs = change_first (has_index index) (on_way way) inputs

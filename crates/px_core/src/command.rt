@@ -20,7 +20,6 @@ use crate::found::copied;
 use crate::groups::group_named;
 use crate::notice::owner_of;
 use crate::plan::{broken_off, refused, requested};
-use crate::standing::goes_on;
 use crate::tables::Tables;
 use crate::targets::{default_sink, depth_of, named_by, rate_of, sink_of, targets_of};
 use px_cmd::{CmdFault, Command, CreateFields, SinkRef, Text, is_command, read_command, read_head};
@@ -34,6 +33,7 @@ use px_ctl_play::{
     attributes, cork, create, delete, drain, flush, kill_input, latency, prebuf, trigger,
 };
 use px_flat::Group;
+use px_inputs::goes_on;
 use px_msg::Msg;
 use px_plan::{Connection, Input, Plan, Refusal};
 use px_types::{ErrorCode, InputId, Mem, NoMemory};

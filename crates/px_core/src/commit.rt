@@ -1,7 +1,7 @@
 //! Changes are made, one after the other, in room that was reserved for them.
 
 ghost use Rattle.std.specs.Prelude.{◌≡◌, ◌≤◌, ◌+◌, ℕ, length, IfOk, OnOk, OnErr};
-ghost use Rattle.px_plan.specs.declared.change.Change.TheVariants.{Made, Leaves, Said, Regrouped, Gone};
+ghost use Rattle.px_plan.specs.declared.change.Change.TheVariants.{Made, Described, Leaves, Said, Regrouped, Asked, Answered, Gone};
 ghost use Rattle.px_core.specs.Change.{changed, committed, defaulted, inputs_told, posting, saying, ending};
 ghost use Rattle.px_core.specs.Plan.{plan_effects};
 ghost use Rattle.px_core.specs.Step.{answered};
@@ -9,13 +9,15 @@ ghost use Rattle.px_core.specs.Tables.{state_of, HasRoom, HavePlaces};
 
 use crate::change::CoreChange;
 use crate::effects::{Effects, plan_effects};
-use crate::input_table::InputTable;
+use crate::groups::set_group;
 use crate::tables::Tables;
 use crate::{awaited, queues, verbs};
 use px_flat::Group;
+use px_inputs::InputTable;
 use px_msg::Msg;
 use px_names::Names;
-use px_plan::{Change, Input, Plan, Standing};
+use px_plan::{Change, Input, Plan, Standing, Waiting};
+use px_tag::PropList;
 use px_types::{ConnId, InputId, Mem, SinkId};
 use std::alloc::Global;
 use std::collections::VecDeque;
@@ -128,24 +130,49 @@ fn make<P: Drop>(tables: &mut Tables<P>, x: Input, new: Msg<P>, streams: u32, in
     post(tables, x.sink, new);
 }
 
-// An ended input and its property list are given up.
-fn give_up<P: Drop>(tables: &mut Tables<P>, index: InputId)
-    requires { HasRoom 1 tables.old }
-    ensures state { state_of tables.new ≡ changed (state_of tables.old) (Gone index) }
-    ensures room { (n : ℕ) → HasRoom (n + 1) tables.old → HasRoom n tables.new }
-{
-    tables.inputs.remove(index);
-    tables.lists.remove(index);
-}
-
 // A sink has this group, and is to hear this.
 fn regroup<P: Drop>(tables: &mut Tables<P>, sink: SinkId, group: Group, msg: Msg<P>)
     requires { HasRoom 1 tables.old }
     ensures state { state_of tables.new ≡ changed (state_of tables.old) (Regrouped sink group msg) }
     ensures room { (n : ℕ) → HasRoom (n + 1) tables.old → HasRoom n tables.new }
 {
-    verbs::set_group(&mut tables.groups, sink, group);
+    set_group(&mut tables.groups, sink, group);
     post(tables, sink, msg);
+}
+
+// A request is answered later.
+fn ask<P>(tables: &mut Tables<P>, w: Waiting)
+    requires { HasRoom 1 tables.old }
+    ensures state { state_of tables.new ≡ changed (state_of tables.old) (Asked w) }
+    ensures room { (n : ℕ) → HasRoom (n + 1) tables.old → HasRoom n tables.new }
+{
+    tables.waiting.push_reserved(w);
+}
+
+// A request that waited is answered.
+fn answer<P>(tables: &mut Tables<P>, w: &Waiting)
+    ensures state { state_of tables.new ≡ changed (state_of tables.old) (Answered w.now) }
+    ensures room { (n : ℕ) → HasRoom (n + 1) tables.old → HasRoom n tables.new }
+{
+    awaited::answer(&mut tables.waiting, w);
+}
+
+// The property list of an input is this one.
+fn describe<P>(tables: &mut Tables<P>, index: InputId, list: PropList)
+    requires { HasRoom 1 tables.old }
+    ensures state { state_of tables.new ≡ changed (state_of tables.old) (Described index list) }
+    ensures room { (n : ℕ) → HasRoom (n + 1) tables.old → HasRoom n tables.new }
+{
+    tables.lists.set(index, list);
+}
+
+// The input with an index and its property list are given up.
+fn give_up<P>(tables: &mut Tables<P>, index: InputId)
+    ensures state { state_of tables.new ≡ changed (state_of tables.old) (Gone index) }
+    ensures room { (n : ℕ) → HasRoom (n + 1) tables.old → HasRoom n tables.new }
+{
+    tables.inputs.remove(index);
+    tables.lists.remove(index);
 }
 
 // A sink that is there is the default sink.
@@ -176,12 +203,12 @@ fn apply<P: Drop>(tables: &mut Tables<P>, change: CoreChange<P>)
             streams,
             inputs,
         } => make(tables, input, new, streams, inputs),
-        Change::Described(index, list) => tables.lists.set(index, list),
+        Change::Described(index, list) => describe(tables, index, list),
         Change::Leaves(index) => leave(tables, index),
         Change::Said(index, msg) => say(tables, index, msg),
         Change::Regrouped(sink, group, msg) => regroup(tables, sink, group, msg),
-        Change::Asked(w) => tables.waiting.push_reserved(w),
-        Change::Answered(w) => awaited::answer(&mut tables.waiting, &w),
+        Change::Asked(w) => ask(tables, w),
+        Change::Answered(w) => answer(tables, &w),
         Change::Gone(index) => give_up(tables, index),
         Change::Ended { conn, .. } => verbs::mark(&mut tables.connections, conn),
         Change::Forgotten(conn) => {

@@ -21,11 +21,11 @@ use crate::commit::finish;
 use crate::effect::{Effect, closed_for};
 use crate::effects::Effects;
 use crate::found::{connection_of, going_on};
-use crate::standing::goes_on;
 use crate::tables::Tables;
 use crate::verbs::mark;
 use px_flat::Group;
 use px_frame::FrameFault;
+use px_inputs::goes_on;
 use px_msg::Msg;
 use px_plan::{Change, Connection, Input, Plan, Reason};
 use px_types::{ConnId, Mem};
@@ -109,7 +109,22 @@ fn add_swept<P: Drop>(changes: &mut Vec<CoreChange<P>>, inputs: &[Input], c: &Co
     Ok(())
 }
 
-// What sweeps the connections away that have ended: the streams of each end, in order, and its client goes.
+// The changes that sweep the connections away that have ended: the streams of each end, in order, and its client goes.
+fn swept_changes<P: Drop>(
+    alloc: Global,
+    connections: &[Connection],
+    inputs: &[Input],
+) -> Mem<Vec<CoreChange<P>>>
+    ensures { IfOk result (λ changes. changes.items ≡ flat_map (swept inputs.now) (marked_of connections.now)) }
+{
+    let mut changes = Vec::new(alloc);
+    for c in connections {
+        add_swept(&mut changes, inputs, c)?;
+    }
+    Ok(changes)
+}
+
+// What sweeps them away.
 fn sweep<P: Drop>(
     alloc: Global,
     connections: &[Connection],
@@ -117,10 +132,7 @@ fn sweep<P: Drop>(
 ) -> Mem<Plan<Msg<P>, Group>>
     ensures { IfOk result (λ plan. plan ≡ changing (flat_map (swept inputs.now) (marked_of connections.now))) }
 {
-    let mut changes = Vec::new(alloc);
-    for c in connections {
-        add_swept(&mut changes, inputs, c)?;
-    }
+    let changes = swept_changes(alloc, connections, inputs)?;
     Ok(Plan::changing(alloc, changes))
 }
 

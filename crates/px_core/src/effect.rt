@@ -79,6 +79,7 @@ pub(crate) fn closed_in<P>(change: &CoreChange<P>) -> Option<Effect>
         | Change::Masked(..)
         | Change::Defaulted(_)
         | Change::Made { .. }
+        | Change::Described(..)
         | Change::Leaves(_)
         | Change::Said(..)
         | Change::Regrouped(..)

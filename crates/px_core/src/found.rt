@@ -2,7 +2,7 @@
 
 ghost use Rattle.std.specs.Prelude.{◌≡◌};
 ghost use Rattle.std.specs.Option.{option_map};
-ghost use Rattle.px_core.specs.State.{connection_of, input_of};
+ghost use Rattle.px_core.specs.State.{connection_of};
 ghost use Rattle.px_core.specs.Connecting.{going_on};
 ghost use Rattle.px_core.specs.Notice.{input_on};
 
@@ -25,13 +25,6 @@ pub(crate) fn going_on(connections: &[Connection], conn: ConnId) -> Option<Conne
         Some(c) => Some(*c),
         None => None,
     }
-}
-
-/// The input with an index. Takes no memory.
-pub(crate) fn input_of(inputs: &[Input], index: InputId) -> Option<&Input>
-    ensures { option_map (λ x. x.now) result ≡ input_of inputs.now index }
-{
-    inputs.iter().find(|x| x.index.0 == index.0)
 }
 
 // The input with an index, where it is on the sink, as the table has it.

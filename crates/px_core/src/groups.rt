@@ -1,6 +1,6 @@
 //! The groups of volumes, one a sink.
 
-ghost use Rattle.std.specs.Prelude.{◌≡◌, slice_get};
+ghost use Rattle.std.specs.Prelude.{◌≡◌, set, slice_get};
 ghost use Rattle.std.specs.Option.{option_map};
 ghost use Rattle.px_core.specs.Sinks.{group_named};
 
@@ -22,5 +22,15 @@ pub(crate) fn group_named<'a>(groups: &'a [Group], named: &Named) -> Option<&'a 
     match named {
         Named::Sink(target) => group_on(groups, target.index),
         Named::Unclear | Named::Unknown => None,
+    }
+}
+
+/// A sink has this group. Takes no memory.
+pub(crate) fn set_group(groups: &mut Vec<Group>, sink: SinkId, group: Group)
+    ensures { groups.new.items ≡ set groups.old.items sink.0 group }
+{
+    let place = sink.0 as usize;
+    if place < groups.len() {
+        groups[place] = group;
     }
 }

@@ -5,9 +5,9 @@ ghost use Rattle.std.specs.Prelude.{◌≡◌, ◌<◌};
 ghost use Rattle.px_core.specs.Out.{inputs_past, inputs_before, next_for, sent, unsent, room_for};
 ghost use Rattle.px_core.specs.Tables.{state_of, core_of, rooms_of};
 
-use crate::input_table::InputTable;
 use crate::queues;
 use crate::tables::Tables;
+use px_inputs::InputTable;
 use px_msg::Msg;
 use px_plan::Way;
 use px_types::SinkId;

@@ -9,9 +9,9 @@ ghost use Rattle.px_core.specs.Sinks.{IsOfHeader};
 ghost use Rattle.px_core.specs.State.{new_state};
 ghost use Rattle.px_core.specs.Tables.{lists_of, state_of};
 
-use crate::input_table::InputTable;
 use crate::tables::Tables;
 use px_flat::Group;
+use px_inputs::InputTable;
 use px_msg::Msg;
 use px_names::{InputLists, Names, SinkNames};
 use px_session::{Header, SinkSpec, SinkSpecs};

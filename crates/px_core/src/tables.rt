@@ -1,7 +1,7 @@
 //! The tables that the core keeps its state in.
 
-use crate::input_table::InputTable;
 use px_flat::Group;
+use px_inputs::InputTable;
 use px_msg::Msg;
 use px_names::{InputLists, Names};
 use px_plan::{Connection, Waiting};

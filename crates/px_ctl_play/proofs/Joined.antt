@@ -1,17 +1,20 @@
 -- The volume of a new input, and the feed by which it joins the group of its sink.
 use Rattle.std.proofs.Common.{◌≡◌, ◌<◌, ◌≤◌, ◌⊎◌, ℕ, zero, suc, arith, Bool, true, false, List, [], ◌∷◌, length, get_or, max, cond, Option, Some, None, Ok, refl, sym, subst, inl, inr}
-use Rattle.std.specs.Prelude.{All}
+use Rattle.std.specs.Prelude.{All, IfSome}
 use Rattle.std.specs.List.{fold}
 use Rattle.px_types.specs.declared.error_code.ErrorCode.{ErrorCode}
 use Rattle.px_chmap.specs.Plan.{FeedsAll}
-use Rattle.px_chmap.proofs.PlanLemmas.{plan_of-feeds}
 use Rattle.px_cmd.specs.declared.command.CreateFields.{CreateFields}
 use Rattle.px_vol.specs.Volume.{IsChannelVolume, greatest}
 use Rattle.px_flat.specs.Channels.{greatest_of}
+use Rattle.px_flat.specs.FlatVolume.{FlatGroup}
+use Rattle.px_plan.specs.declared.target.Named.{Named}
+use Rattle.px_plan.specs.declared.target.Named.TheVariants.{Unclear, Unknown, Sink}
 use Rattle.px_plan.specs.declared.target.Target.{Target}
 use Rattle.px_plan.specs.Row.{present}
-use Rattle.px_plan.specs.Target.{IsTarget}
-use Rattle.px_ctl_play.specs.Asked.{channels_on, positions_on, feed_on}
+use Rattle.px_plan.specs.Target.{IsTarget, target_of}
+use Rattle.px_ctl_play.specs.Asked.{channels_on, positions_on}
+use Rattle.px_ctl_play.specs.Joining.{IsReady, IsReadyAt}
 
 -- the greatest of some volumes is one
 fold_bounded : (a : ℕ) (xs : List ℕ) → a ≤ greatest → All (λ v. v ≤ greatest) xs → fold max a xs ≤ greatest
@@ -36,18 +39,24 @@ pub are_volumes : (channels : ℕ) (volumes : List ℕ) → 1 ≤ channels → c
 are_volumes channels volumes some few (inl e) bounded = record { some = omega (arith, e); few = omega (arith, e); bounded = bounded }
 are_volumes channels volumes some few (inr e) bounded = record { some = omega (arith, e, some); few = omega (arith, e, few); bounded = bounded }
 
--- what was found is there
-pub found_is : {A : Type 0} (o : Option A) (code : ErrorCode) (x : A) → present o code ≡ Ok x → o ≡ Some x
-found_is None code x e = absurd cc
-found_is (Some y) code x e = cc
-
--- the feed of a plan is one for the channels that the input has on its sink
-pub fed : (sink : Target) (a : CreateFields) (feed : List ℕ) → IsTarget sink → a.spec.channels ≡ length a.map → feed_on sink a ≡ Some feed → FeedsAll (channels_on sink a) sink.spec.channels feed
-fed sink a feed target count planned =
+-- the feed that was found is one for the channels that the input has on its sink
+pub fed : (sink : Target) (a : CreateFields) (o : Option (List ℕ)) (code : ErrorCode) (feed : List ℕ) → IsTarget sink → a.spec.channels ≡ length a.map → IfSome o (FeedsAll (length (positions_on sink a)) (length sink.map)) → present o code ≡ Ok feed
+    → FeedsAll (channels_on sink a) sink.spec.channels feed
+fed sink a None code feed target count feeds found = absurd cc
+fed sink a (Some other) code feed target count feeds found =
+    let is : other ≡ feed = cc in
     subst (λ n. FeedsAll n sink.spec.channels feed) (same a.fix_channels)
     (subst (λ n. FeedsAll (length (positions_on sink a)) n feed) target.map_size
-    (plan_of-feeds (positions_on sink a) sink.map a.no_remap a.no_remix feed (omega (arith, target.map_size, target.some)) planned))
+    (subst (FeedsAll (length (positions_on sink a)) (length sink.map)) is feeds))
   where
     same : (fix : Bool) → length (cond fix sink.map a.map) ≡ cond fix sink.spec.channels a.spec.channels
     same true = target.map_size
     same false = sym count
+
+-- the group of the sink that was found can take the new input
+pub is_ready : (named : Named) (code : ErrorCode) (sink : Target) (made : ℕ) (group : FlatGroup) → IsReadyAt named made (Some group) → present (target_of named) code ≡ Ok sink → IsReady sink made group
+is_ready Unclear code sink made group h e = absurd cc
+is_ready Unknown code sink made group h e = absurd cc
+is_ready (Sink target) code sink made group h e =
+    let same : target ≡ sink = cc in
+    subst (λ (t : Target). IsReady t made group) same h

@@ -1,8 +1,9 @@
 //! What a stream is that a client asks for, and what it becomes on its sink.
 
-ghost use Rattle.std.specs.Prelude.{◌≡◌, ◌≤◌, ◌⊎◌, true, nat_le, length, All};
+ghost use Rattle.std.specs.Prelude.{◌≡◌, ◌≤◌, ◌⊎◌, true, nat_le, length, All, IfSome};
 ghost use Rattle.std.specs.List.{list_all};
 ghost use Rattle.px_chmap.specs.ChannelMap.{IsChannelMap};
+ghost use Rattle.px_chmap.specs.Plan.{FeedsAll};
 ghost use Rattle.px_vol.specs.Volume.{IsChannelVolume, greatest};
 ghost use Rattle.px_model.specs.Orderly.{IsRepaired};
 ghost use Rattle.px_msg.specs.Repair.{IsWithinBytes};
@@ -138,7 +139,8 @@ pub(crate) fn map_on(sink: &Target, a: &CreateFields) -> Map
 /// (own: PulseAudio mixes channels there). Takes no memory.
 pub(crate) fn feed_on(sink: &Target, a: &CreateFields) -> Option<Feed>
     requires { IsChannelMap a.now.map }
-    ensures { result ≡ feed_on sink.now a.now }
+    ensures value { result ≡ feed_on sink.now a.now }
+    ensures fits { IfSome result (FeedsAll (length (positions_on sink.now a.now)) (length sink.now.map)) }
 {
     plan(&map_on(sink, a), &sink.map, a.no_remap, a.no_remix)
 }

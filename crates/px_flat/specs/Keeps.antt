@@ -1,11 +1,13 @@
 -- What a group keeps.
 use Rattle.std.specs.Prelude.{ℕ, ◌≡◌, ◌≤◌, ◌<◌, List, length}
 use Rattle.std.specs.List.{AllByRecursion}
+use Rattle.px_types.specs.declared.ids.InputId.{InputId}
 use Rattle.px_vol.specs.Volume.{norm, product_of}
 use Rattle.px_flat.specs.declared.member.Member.{Member}
 use Rattle.px_flat.specs.Channels.{at, value_for}
 use Rattle.px_flat.specs.Member.{IsMember}
 use Rattle.px_flat.specs.FlatVolume.{FlatGroup, real_of}
+use Rattle.px_flat.specs.Inputs.{channels_in}
 
 -- where the real volume for a channel leaves or lowers sound, the ratio to it gives the member's volume again, exactly
 abbrev pub IsTrueTo : List ℕ → Member → Type 0
@@ -15,3 +17,8 @@ IsTrueTo real m = (c : ℕ) → c < length m.volume → value_for m.feed real c 
 pub record IsGroup (group : FlatGroup) : Type 0 where
   pub members : AllByRecursion (IsMember (length group.reference)) group.members
   pub true_to : AllByRecursion (IsTrueTo (real_of group)) group.members
+
+-- it is for as many channels as another, and has the same inputs with as many channels
+pub record HasSameInputs (before after : FlatGroup) : Type 0 where
+  pub channels : length after.reference ≡ length before.reference
+  pub inputs : (input : InputId) → channels_in after.members input ≡ channels_in before.members input

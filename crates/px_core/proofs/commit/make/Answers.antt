@@ -1,5 +1,5 @@
 use Rattle.std.proofs.Common.{arith, ◌∙◌, ◌∷◌, [], ap, length, length-append}
-use Rattle.px_core.specs.InputTable.{RoomyInputs}
+use Rattle.px_inputs.specs.InputTable.{RoomyInputs}
 use Rattle.px_core.proofs.Rooms.{same_listed, same_waits, room_left}
 use Rattle.px_core.proofs.commit.make.Goals as goal
 

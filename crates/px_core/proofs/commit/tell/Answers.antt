@@ -1,5 +1,5 @@
 use Rattle.std.proofs.Common.{arith, ◌∙◌, ap, length}
-use Rattle.px_core.specs.InputTable.{RoomyInputs}
+use Rattle.px_inputs.specs.InputTable.{RoomyInputs}
 use Rattle.px_core.proofs.Waiting.{fewer_places}
 use Rattle.px_core.proofs.Rooms.{less_room, same_listed, same_waits, room_left}
 use Rattle.px_core.proofs.commit.tell.Goals as goal

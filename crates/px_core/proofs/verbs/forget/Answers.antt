@@ -1,7 +1,7 @@
 use Rattle.std.proofs.Common.{◌≡◌, Some, None, sym, ◌∙◌}
 use Rattle.std.specs.List.{position}
 use Rattle.px_core.specs.State.{has_number}
-use Rattle.px_core.proofs.First.{dropped, undropped}
+use Rattle.px_inputs.proofs.First.{dropped, undropped}
 use Rattle.px_core.proofs.verbs.forget.Goals as goal
 
 pub returns-in-Some-clause-items : goal.returns-in-Some-clause-items

@@ -1,7 +1,7 @@
 use Rattle.std.proofs.Common.{sym}
 use Rattle.px_core.specs.State.{has_number}
 use Rattle.px_core.specs.Change.{with_streams}
-use Rattle.px_core.proofs.First.{changed, unchanged}
+use Rattle.px_inputs.proofs.First.{changed, unchanged}
 use Rattle.px_core.proofs.verbs.set_streams.Goals as goal
 
 pub returns-in-Some : goal.returns-in-Some

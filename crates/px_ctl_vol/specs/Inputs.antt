@@ -1,0 +1,39 @@
+-- The volume of an input and its mute: SET_SINK_INPUT_VOLUME and SET_SINK_INPUT_MUTE (PulseAudio: `command_set_volume` and `command_set_mute` of pulsecore/protocol-native.c; that one volume is for all channels, and that an input on its way to another sink is busy, is own).
+use Rattle.std.specs.Prelude.{ℕ, Bool, true, false, not, List, length, Option, Ok}
+use Rattle.px_types.specs.declared.error_code.ErrorCode.TheVariants.{Busy, Invalid, NoEntity}
+use Rattle.px_flat.specs.declared.member.Member.{Member}
+use Rattle.px_flat.specs.FlatVolume.{FlatGroup, member_of, with_input_volume, with_input_mute}
+use Rattle.px_msg.specs.declared.message.Msg.{Msg}
+use Rattle.px_plan.specs.declared.input.Input.{Input}
+use Rattle.px_plan.specs.declared.input.Standing.{Standing}
+use Rattle.px_plan.specs.declared.input.Standing.TheVariants.{Settled, Moving, Leaving}
+use Rattle.px_plan.specs.Plan.{Planned}
+use Rattle.px_plan.specs.Row.{Row, ◌>>=◌, check, present}
+use Rattle.px_ctl_vol.specs.Asked.{is_volume, fits}
+use Rattle.px_ctl_vol.specs.Factors.{regrouped}
+
+-- it is on its way to another sink
+abbrev pub is_moving : Standing → Bool
+is_moving Settled = false
+is_moving (Moving to) = true
+is_moving Leaving = false
+
+-- the input, in this group of the sink that it is on, has the volume, and the sink and its other inputs follow
+abbrev pub set_input_volume : {P : Type 0} → Option Input → Option FlatGroup → List Input → List ℕ → ℕ → Row (Planned (Msg P) FlatGroup)
+set_input_volume input group inputs volume tag = do
+  valid ← check (is_volume volume) Invalid
+  x ← present input NoEntity
+  group ← present group NoEntity
+  member ← present (member_of (FlatGroup.members group) (Input.index x)) NoEntity
+  suits ← check (fits volume (length (Member.volume member))) Invalid
+  free ← check (not (is_moving (Input.standing x))) Busy
+  Ok (regrouped (Input.sink x) (with_input_volume (Input.index x) volume group) inputs tag)
+
+-- the input, in this group of the sink that it is on, is muted or not
+abbrev pub set_input_mute : {P : Type 0} → Option Input → Option FlatGroup → List Input → Bool → ℕ → Row (Planned (Msg P) FlatGroup)
+set_input_mute input group inputs on tag = do
+  x ← present input NoEntity
+  group ← present group NoEntity
+  member ← present (member_of (FlatGroup.members group) (Input.index x)) NoEntity
+  free ← check (not (is_moving (Input.standing x))) Busy
+  Ok (regrouped (Input.sink x) (with_input_mute (Input.index x) on group) inputs tag)

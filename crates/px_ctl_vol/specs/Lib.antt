@@ -1,0 +1,4 @@
+pub mod Asked
+pub mod Factors
+pub mod Sinks
+pub mod Inputs

@@ -1,0 +1,130 @@
+//! SET_SINK_INPUT_VOLUME and SET_SINK_INPUT_MUTE (PulseAudio: `command_set_volume` and `command_set_mute` of
+//! `pulsecore/protocol-native.c`; that one volume is for all channels, and that an input on its way to another sink is busy, is own).
+
+ghost use Rattle.std.specs.Prelude.{◌≡◌, length, IsSome, IfSome, Ok};
+ghost use Rattle.std.specs.Option.{option_map};
+ghost use Rattle.px_vol.specs.Volume.{IsChannelVolume};
+ghost use Rattle.px_flat.specs.Member.{SuitsChannels};
+ghost use Rattle.px_flat.specs.FlatVolume.{member_of, with_input_volume, with_input_mute};
+ghost use Rattle.px_plan.specs.Row.{Plans};
+ghost use Rattle.px_ctl_vol.specs.Factors.{regrouped};
+ghost use Rattle.px_ctl_vol.specs.Inputs.{is_moving, set_input_volume, set_input_mute};
+
+use crate::asked::{asked, fits, is_volume};
+use crate::factors::regrouped;
+use px_flat::{Group, Member};
+use px_msg::Msg;
+use px_plan::{Input, Plan, Refusal, Standing, check, present};
+use px_tag::RawVolume;
+use px_types::{ErrorCode, InputId};
+use std::alloc::Global;
+
+// The member of an input, where it is there.
+fn found(members: &[Member], input: InputId) -> Option<&Member>
+    ensures { option_map (λ m. m.now) result ≡ member_of members.now input }
+{
+    members.iter().find(|member| member.input.0 == input.0)
+}
+
+// The same, as a copy.
+fn member_of(members: &[Member], input: InputId) -> Option<Member>
+    ensures { result ≡ member_of members.now input }
+{
+    match found(members, input) {
+        Some(member) => Some(*member),
+        None => None,
+    }
+}
+
+// Whether an input is on its way to another sink.
+fn is_moving(standing: Standing) -> bool
+    ensures { result ≡ is_moving standing }
+{
+    matches!(standing, Standing::Moving(_))
+}
+
+// The input has this volume, and the sink and its other inputs follow.
+fn with_volume<P: Drop>(
+    alloc: Global,
+    x: &Input,
+    group: &Group,
+    inputs: &[Input],
+    volume: &RawVolume,
+    tag: u32,
+) -> Result<Plan<Msg<P>, Group>, Refusal>
+    requires valid { IsChannelVolume volume.now }
+    requires there { IsSome (member_of group.now.members x.now.index) }
+    requires suits { IfSome (member_of group.now.members x.now.index) (λ m. SuitsChannels volume.now (length m.volume)) }
+    ensures { Plans result (Ok (regrouped x.now.sink (with_input_volume x.now.index volume.now group.now) inputs.now tag)) }
+{
+    let mut changed = group.copy(alloc)?;
+    changed.set_input(x.index, &asked(volume));
+    regrouped(alloc, x.sink, changed, inputs, tag)
+}
+
+// The input is muted, or not.
+fn with_mute<P: Drop>(
+    alloc: Global,
+    x: &Input,
+    group: &Group,
+    inputs: &[Input],
+    on: bool,
+    tag: u32,
+) -> Result<Plan<Msg<P>, Group>, Refusal>
+    requires { IsSome (member_of group.now.members x.now.index) }
+    ensures { Plans result (Ok (regrouped x.now.sink (with_input_mute x.now.index on group.now) inputs.now tag)) }
+{
+    let mut changed = group.copy(alloc)?;
+    changed.mute_input(x.index, on);
+    regrouped(alloc, x.sink, changed, inputs, tag)
+}
+
+/// SET_SINK_INPUT_VOLUME of an input, where the sink that it is on has this group: it has the volume, one for all channels of its
+/// stream or one each, the sink's volume is raised to it where it is below, and the sink is told the factors of the inputs that are
+/// settled on it. Refused, by the first of these that holds: `Invalid` for no volume or one above the greatest; `NoEntity` where no
+/// such input is there; `Invalid` for another count than 1 and that of its channels; `Busy` where it is on its way to another sink.
+pub fn set_input_volume<P: Drop>(
+    alloc: Global,
+    input: Option<Input>,
+    group: Option<&Group>,
+    inputs: &[Input],
+    volume: &RawVolume,
+    tag: u32,
+) -> Result<Plan<Msg<P>, Group>, Refusal>
+    ensures { Plans result (set_input_volume input (option_map (λ group. group.now) group.entry) inputs.now volume.now tag) }
+{
+    check(is_volume(volume), ErrorCode::Invalid)?;
+    let x = present(input, ErrorCode::NoEntity)?;
+    let Some(group) = group else {
+        return Err(Refusal::Code(ErrorCode::NoEntity));
+    };
+    let member = present(member_of(group.members(), x.index), ErrorCode::NoEntity)?;
+    check(
+        fits(volume, member.volume.values().len()),
+        ErrorCode::Invalid,
+    )?;
+    check(!is_moving(x.standing), ErrorCode::Busy)?;
+    with_volume(alloc, &x, group, inputs, volume, tag)
+}
+
+/// SET_SINK_INPUT_MUTE of an input, where the sink that it is on has this group: it is muted or not, and the sink is told the factors
+/// of the inputs that are settled on it. Refused, by the first of these that holds: `NoEntity` where no such input is there; `Busy`
+/// where it is on its way to another sink.
+pub fn set_input_mute<P: Drop>(
+    alloc: Global,
+    input: Option<Input>,
+    group: Option<&Group>,
+    inputs: &[Input],
+    on: bool,
+    tag: u32,
+) -> Result<Plan<Msg<P>, Group>, Refusal>
+    ensures { Plans result (set_input_mute input (option_map (λ group. group.now) group.entry) inputs.now on tag) }
+{
+    let x = present(input, ErrorCode::NoEntity)?;
+    let Some(group) = group else {
+        return Err(Refusal::Code(ErrorCode::NoEntity));
+    };
+    present(member_of(group.members(), x.index), ErrorCode::NoEntity)?;
+    check(!is_moving(x.standing), ErrorCode::Busy)?;
+    with_mute(alloc, &x, group, inputs, on, tag)
+}

@@ -1,0 +1,102 @@
+//! SET_SINK_VOLUME and SET_SINK_MUTE (PulseAudio: `command_set_volume` and `command_set_mute` of `pulsecore/protocol-native.c`; that
+//! one volume is for all channels is own).
+
+ghost use Rattle.std.specs.Prelude.{◌≡◌, length, Ok};
+ghost use Rattle.std.specs.Option.{option_map};
+ghost use Rattle.px_vol.specs.Volume.{IsChannelVolume};
+ghost use Rattle.px_flat.specs.Member.{SuitsChannels};
+ghost use Rattle.px_flat.specs.FlatVolume.{with_sink_volume, with_sink_mute};
+ghost use Rattle.px_plan.specs.Row.{Plans};
+ghost use Rattle.px_ctl_vol.specs.Factors.{regrouped};
+ghost use Rattle.px_ctl_vol.specs.Sinks.{set_sink_volume, set_sink_mute};
+
+use crate::asked::{asked, fits, is_volume};
+use crate::factors::regrouped;
+use px_flat::Group;
+use px_msg::Msg;
+use px_plan::{Input, Named, Plan, Refusal, check, present};
+use px_tag::RawVolume;
+use px_types::{ErrorCode, SinkId};
+use std::alloc::Global;
+
+// The sink has this volume, and its inputs follow.
+fn with_volume<P: Drop>(
+    alloc: Global,
+    sink: SinkId,
+    group: &Group,
+    inputs: &[Input],
+    volume: &RawVolume,
+    tag: u32,
+) -> Result<Plan<Msg<P>, Group>, Refusal>
+    requires valid { IsChannelVolume volume.now }
+    requires suits { SuitsChannels volume.now (length group.now.reference) }
+    ensures { Plans result (Ok (regrouped sink (with_sink_volume volume.now group.now) inputs.now tag)) }
+{
+    let mut changed = group.copy(alloc)?;
+    changed.set_sink(&asked(volume));
+    regrouped(alloc, sink, changed, inputs, tag)
+}
+
+// The sink is muted, or not.
+fn with_mute<P: Drop>(
+    alloc: Global,
+    sink: SinkId,
+    group: &Group,
+    inputs: &[Input],
+    on: bool,
+    tag: u32,
+) -> Result<Plan<Msg<P>, Group>, Refusal>
+    ensures { Plans result (Ok (regrouped sink (with_sink_mute on group.now) inputs.now tag)) }
+{
+    let mut changed = group.copy(alloc)?;
+    changed.mute_sink(on);
+    regrouped(alloc, sink, changed, inputs, tag)
+}
+
+/// SET_SINK_VOLUME of the sink that is named, which has this group: it has the volume, one for all its channels or one each, each of
+/// its inputs keeps its ratio to it, and it is told the factors of those that are settled on it. Refused, by the first of these that
+/// holds: `Invalid` where a sink is named twice over or not at all, and for no volume or one above the greatest; `NoEntity` where no
+/// sink is there; `Invalid` for another count than 1 and that of its channels.
+pub fn set_sink_volume<P: Drop>(
+    alloc: Global,
+    named: Named,
+    group: Option<&Group>,
+    inputs: &[Input],
+    volume: &RawVolume,
+    tag: u32,
+) -> Result<Plan<Msg<P>, Group>, Refusal>
+    ensures { Plans result (set_sink_volume named (option_map (λ group. group.now) group.entry) inputs.now volume.now tag) }
+{
+    check(named.is_clear(), ErrorCode::Invalid)?;
+    check(is_volume(volume), ErrorCode::Invalid)?;
+    let sink = present(named.target(), ErrorCode::NoEntity)?;
+    let Some(group) = group else {
+        return Err(Refusal::Code(ErrorCode::NoEntity));
+    };
+    check(
+        fits(volume, group.reference().values().len()),
+        ErrorCode::Invalid,
+    )?;
+    with_volume(alloc, sink.index, group, inputs, volume, tag)
+}
+
+/// SET_SINK_MUTE of the sink that is named, which has this group: it is muted or not, and is told the factors of the inputs that are
+/// settled on it. Refused, by the first of these that holds: `Invalid` where a sink is named twice over or not at all; `NoEntity`
+/// where no sink is there.
+pub fn set_sink_mute<P: Drop>(
+    alloc: Global,
+    named: Named,
+    group: Option<&Group>,
+    inputs: &[Input],
+    on: bool,
+    tag: u32,
+) -> Result<Plan<Msg<P>, Group>, Refusal>
+    ensures { Plans result (set_sink_mute named (option_map (λ group. group.now) group.entry) inputs.now on tag) }
+{
+    check(named.is_clear(), ErrorCode::Invalid)?;
+    let sink = present(named.target(), ErrorCode::NoEntity)?;
+    let Some(group) = group else {
+        return Err(Refusal::Code(ErrorCode::NoEntity));
+    };
+    with_mute(alloc, sink.index, group, inputs, on, tag)
+}

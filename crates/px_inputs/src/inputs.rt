@@ -1,0 +1,69 @@
+//! How an input in a list changes: the first with an index, where there is one, is changed or goes. Nothing takes memory.
+
+ghost use Rattle.std.specs.Prelude.{◌≡◌, ◌≤◌, vec_len, vec_capacity};
+ghost use Rattle.std.specs.List.{position};
+ghost use Rattle.std.specs.Option.{option_map};
+ghost use Rattle.px_plan.specs.Input.{has_index, input_of};
+ghost use Rattle.px_inputs.specs.Lists.{change_first, drop_first};
+ghost use Rattle.px_inputs.specs.Inputs.{leaving, with_attr, on_way};
+
+use px_model::Attr;
+use px_plan::{Input, Standing, Way};
+use px_types::InputId;
+
+/// The input with an index. Takes no memory.
+pub(crate) fn input_of(inputs: &[Input], index: InputId) -> Option<&Input>
+    ensures { option_map (λ x. x.now) result ≡ input_of inputs.now index }
+{
+    inputs.iter().find(|x| x.index.0 == index.0)
+}
+
+// The place of the input with an index.
+fn place_at(inputs: &[Input], index: InputId) -> Option<usize>
+    ensures { result ≡ position (has_index index) inputs.now }
+{
+    inputs.iter().position(|x| x.index.0 == index.0)
+}
+
+/// An input has ended.
+pub(crate) fn leave(inputs: &mut Vec<Input>, index: InputId)
+    ensures items { inputs.new.items ≡ change_first (has_index index) leaving inputs.old.items }
+    ensures capacity { vec_capacity inputs.new ≡ vec_capacity inputs.old }
+    ensures len { vec_len inputs.new ≡ vec_len inputs.old }
+{
+    if let Some(place) = place_at(inputs, index) {
+        inputs[place].standing = Standing::Leaving;
+    }
+}
+
+/// An input has these buffer attributes.
+pub(crate) fn set_attr(inputs: &mut Vec<Input>, index: InputId, attr: Attr)
+    ensures items { inputs.new.items ≡ change_first (has_index index) (with_attr attr) inputs.old.items }
+    ensures capacity { vec_capacity inputs.new ≡ vec_capacity inputs.old }
+    ensures len { vec_len inputs.new ≡ vec_len inputs.old }
+{
+    if let Some(place) = place_at(inputs, index) {
+        inputs[place].attr = attr;
+    }
+}
+
+/// An input's stream is there on its way.
+pub(crate) fn set_way(inputs: &mut Vec<Input>, index: InputId, way: Way)
+    ensures items { inputs.new.items ≡ change_first (has_index index) (on_way way) inputs.old.items }
+    ensures capacity { vec_capacity inputs.new ≡ vec_capacity inputs.old }
+{
+    if let Some(place) = place_at(inputs, index) {
+        inputs[place].way = way;
+    }
+}
+
+/// An input is given up.
+pub(crate) fn remove(inputs: &mut Vec<Input>, index: InputId)
+    ensures items { inputs.new.items ≡ drop_first (has_index index) inputs.old.items }
+    ensures capacity { vec_capacity inputs.new ≡ vec_capacity inputs.old }
+    ensures len { vec_len inputs.new ≤ vec_len inputs.old }
+{
+    if let Some(place) = place_at(inputs.as_slice(), index) {
+        inputs.remove(place);
+    }
+}

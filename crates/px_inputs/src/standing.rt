@@ -1,0 +1,16 @@
+//! Where inputs belong.
+
+ghost use Rattle.std.specs.Prelude.{◌≡◌};
+ghost use Rattle.px_plan.specs.Input.{goes_on};
+
+use px_plan::{Input, Standing};
+
+/// Whether an input goes on: it hasn't ended. Takes no memory.
+pub fn goes_on(x: &Input) -> bool
+    ensures { result ≡ goes_on x.now }
+{
+    match x.standing {
+        Standing::Settled | Standing::Moving(_) => true,
+        Standing::Leaving => false,
+    }
+}
