@@ -262,7 +262,7 @@ module _ {P : Type 0} (spec_of : P → SampleSpec) (state : State P) (h : IsKept
   created_lawful : IsLawful state plan
   created_lawful =
       subst (IsLawful state) (sym made.planned)
-      ((new, refl), (regroups (changed state (Made x (new_of a after made.feed x) (me.streams + 1) (state.inputs_made + 1))) made.sink.index after there follows (settled_on state.inputs made.sink.index ++ x ∷ []) rising, tt, is_paid made.sink.index))
+      ((new, refl), (regroups (changed state (Made x (new_of a after made.feed x) (me.streams + 1) (state.inputs_made + 1))) made.sink.index after there follows (settled_on state.inputs made.sink.index ++ x ∷ []) rising, (tt, is_paid made.sink.index)))
 
 pub create_lawful : {P : Type 0} (spec_of : P → SampleSpec) (state : State P) → IsKept spec_of state → (me : Connection) (tag : ℕ) (named : Named) (a : CreateFields) → ((target : Target) → target_in named ≡ Some target → IsThere state.sinks target)
     → Each (IsLawful state) (create_on state me tag a named)
