@@ -17,6 +17,7 @@ pub mod Going
 pub mod AnswerLaws
 pub mod SweepLaws
 pub mod CreateLaws
+pub mod VolumeLaws
 pub mod StreamLaws
 pub mod StepLaws
 pub mod ParcelLaws

@@ -65,6 +65,7 @@ use Rattle.px_core.proofs.AnswerLaws.{IsLawful, data_lawful, left_lawful}
 use Rattle.px_core.proofs.StreamLaws.{cork_lawful, flush_lawful, trigger_lawful, prebuf_lawful, attributes_lawful, drain_lawful, latency_lawful, delete_lawful, drained_lawful, measured_lawful}
 use Rattle.px_core.proofs.SweepLaws.{sweep_lawful}
 use Rattle.px_core.proofs.CreateLaws.{create_lawful}
+use Rattle.px_core.proofs.VolumeLaws.{sink_volume_lawful, sink_mute_lawful, input_volume_lawful, input_mute_lawful}
 
 -- ---- a new state
 
@@ -118,6 +119,12 @@ row_lawful spec_of state h me tag commands.ClientInfoList = tt
 row_lawful spec_of state h me tag (commands.UpdateClient mode list) = each_then (IsLawful state) (present (mode_of mode) Invalid) _ (λ known. (tt, tt))
 row_lawful spec_of state h me tag (commands.RemoveClient keys) =
     each_then (IsLawful state) (check (has_keys (list_of (client_on state.names.clients me.conn)) keys) NoEntity) _ (λ there. (tt, tt))
+row_lawful spec_of state h me tag (commands.SinkVolume sink volume) =
+    sink_volume_lawful spec_of state h (named_by state.names state.sinks sink false) (named_there state.sinks (sink_named state.names sink.index sink.name false)) tag volume
+row_lawful spec_of state h me tag (commands.SinkMute sink on) =
+    sink_mute_lawful spec_of state h (named_by state.names state.sinks sink false) (named_there state.sinks (sink_named state.names sink.index sink.name false)) tag on
+row_lawful spec_of state h me tag (commands.InputVolume input volume) = input_volume_lawful spec_of state h input tag volume
+row_lawful spec_of state h me tag (commands.InputMute input on) = input_mute_lawful spec_of state h input tag on
 row_lawful spec_of state h me tag _ = tt
 
 requested_lawful : {P : Type 0} (state : State P) (tag : ℕ) (given : Row (Plan P)) → Each (IsLawful state) given → IsLawful state (requested tag given)

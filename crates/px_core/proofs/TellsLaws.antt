@@ -1,8 +1,8 @@
 -- What each command's row tells who asked: a reply that is no error, or nothing yet.
 use Rattle.std.proofs.Common.{◌≡◌, ℕ, List, [], ◌∷◌, ◌++◌, Option, Some, None, Bool, true, refl, ap}
-use Rattle.std.specs.Prelude.{not, get_or, map, fold, is_some, nat_le}
+use Rattle.std.specs.Prelude.{not, get_or, map, fold, is_some, nat_le, length}
 use Rattle.px_types.specs.declared.ids.ConnId.{ConnId}
-use Rattle.px_types.specs.declared.error_code.ErrorCode.TheVariants.{Access, BadState, Invalid, NoEntity, Version}
+use Rattle.px_types.specs.declared.error_code.ErrorCode.TheVariants.{Access, BadState, Busy, Invalid, NoEntity, Version}
 use Rattle.px_tag.specs.Item.{number}
 use Rattle.px_cmd.specs.declared.command.CreateFields.{CreateFields}
 use Rattle.px_cmd.specs.declared.command.Command.{Command}
@@ -22,12 +22,15 @@ use Rattle.px_plan.specs.declared.input.Input.{Input}
 use Rattle.px_plan.specs.declared.target.Named.{Named}
 use Rattle.px_plan.specs.declared.waiting.Waiting.{Waiting}
 use Rattle.px_plan.specs.Row.{check, present}
-use Rattle.px_plan.specs.Target.{target_of}
+use Rattle.px_plan.specs.Target.{is_clear, target_of}
 use Rattle.px_names.specs.Clients.{client_on, client_numbered}
 use Rattle.px_ctl_info.specs.Clients.{SERVER_VERSION, version_in, auth, info_of}
 use Rattle.px_ctl_info.specs.Properties.{list_of, mode_of, has_keys}
 use Rattle.px_ctl_info.specs.Sinks.{sink_called, server_of}
-use Rattle.px_flat.specs.FlatVolume.{FlatGroup}
+use Rattle.px_flat.specs.declared.member.Member.{Member}
+use Rattle.px_flat.specs.FlatVolume.{FlatGroup, member_of}
+use Rattle.px_ctl_vol.specs.Asked.{is_volume, fits}
+use Rattle.px_ctl_vol.specs.Inputs.{is_moving}
 use Rattle.px_ctl_play.specs.Create.{created_of, input_made, create}
 use Rattle.px_ctl_play.specs.Attributes.{attributes}
 use Rattle.px_ctl_play.specs.Control.{cork, flush, trigger, prebuf}
@@ -38,8 +41,8 @@ use Rattle.px_ctl_play.specs.Time.{microseconds}
 use Rattle.px_ctl_play.proofs.Passed.{IsCreated, create_passed}
 use Rattle.px_core.specs.State.{State, stream_of}
 use Rattle.px_core.specs.Plan.{Plan, plan_effects}
-use Rattle.px_core.specs.Command.{default_sink, row}
-use Rattle.px_core.specs.Sinks.{rate_of, depth_of, sink_of, named_by, group_named}
+use Rattle.px_core.specs.Command.{default_sink, sink_volume, sink_mute, input_volume, input_mute, row}
+use Rattle.px_core.specs.Sinks.{rate_of, depth_of, sink_of, named_by, group_named, input_named, group_under}
 use Rattle.px_core.proofs.RowLaws.{Each, each_check, each_then, each_by}
 
 -- ---- replies: the fifth byte, the last of a reply's first number, is 2
@@ -139,6 +142,38 @@ create_tells P inputs made me t named group a = each_by (Tells {P = P}) (create 
     by plan p =
         a_reply (created_reply t (created_of p.sink a (input_made made me p.sink a))) (ap (λ (x : Plan P). x.reply) p.planned) (created_byte t (created_of p.sink a (input_made made me p.sink a)))
 
+-- volumes and mutes
+module _ {P : Type 0} (state : State P) (t : ℕ) where
+  pub sink_volume_tells : (named : Named) (volume : List ℕ) → Each (Tells {P = P}) (sink_volume state named volume t)
+  sink_volume_tells named volume =
+      each_check (Tells {P = P}) (is_clear named) Invalid _
+      (each_check (Tells {P = P}) (is_volume volume) Invalid _
+      (each_then (Tells {P = P}) (present (target_of named) NoEntity) _
+      (λ sink. each_then (Tells {P = P}) (present (group_named state.groups named) NoEntity) _
+      (λ group. each_check (Tells {P = P}) (fits volume (length (FlatGroup.reference group))) Invalid _ (a_reply (reply_to t) refl (plain_byte t))))))
+
+  pub sink_mute_tells : (named : Named) (on : Bool) → Each (Tells {P = P}) (sink_mute state named on t)
+  sink_mute_tells named on =
+      each_check (Tells {P = P}) (is_clear named) Invalid _
+      (each_then (Tells {P = P}) (present (target_of named) NoEntity) _
+      (λ sink. each_then (Tells {P = P}) (present (group_named state.groups named) NoEntity) _ (λ group. a_reply (reply_to t) refl (plain_byte t))))
+
+  pub input_volume_tells : (input : Option Input) (volume : List ℕ) → Each (Tells {P = P}) (input_volume state input volume t)
+  input_volume_tells input volume =
+      each_check (Tells {P = P}) (is_volume volume) Invalid _
+      (each_then (Tells {P = P}) (present input NoEntity) _
+      (λ x. each_then (Tells {P = P}) (present (group_under state.groups input) NoEntity) _
+      (λ group. each_then (Tells {P = P}) (present (member_of (FlatGroup.members group) (Input.index x)) NoEntity) _
+      (λ member. each_check (Tells {P = P}) (fits volume (length (Member.volume member))) Invalid _
+      (each_check (Tells {P = P}) (not (is_moving (Input.standing x))) Busy _ (a_reply (reply_to t) refl (plain_byte t)))))))
+
+  pub input_mute_tells : (input : Option Input) (on : Bool) → Each (Tells {P = P}) (input_mute state input on t)
+  input_mute_tells input on =
+      each_then (Tells {P = P}) (present input NoEntity) _
+      (λ x. each_then (Tells {P = P}) (present (group_under state.groups input) NoEntity) _
+      (λ group. each_then (Tells {P = P}) (present (member_of (FlatGroup.members group) (Input.index x)) NoEntity) _
+      (λ member. each_check (Tells {P = P}) (not (is_moving (Input.standing x))) Busy _ (a_reply (reply_to t) refl (plain_byte t)))))
+
 pub row_tells : {P : Type 0} (state : State P) (me : Connection) (t : ℕ) (command : Command) → Each Tells (row state me t command)
 row_tells {P} state me t (commands.Auth version cookie) = auth_tells P state.names me t version cookie
 row_tells state me t (commands.SetClientName list) = a_reply (reply_to t ++ number me.client) refl (reply_byte t (number me.client))
@@ -162,4 +197,8 @@ row_tells state me t commands.ClientInfoList = a_reply (clients_reply t (map inf
 row_tells {P} state me t (commands.UpdateClient mode list) = each_then (Tells {P = P}) (present (mode_of mode) Invalid) _ (λ known. a_reply (reply_to t) refl (plain_byte t))
 row_tells {P} state me t (commands.RemoveClient keys) =
     each_then (Tells {P = P}) (check (has_keys (list_of (client_on state.names.clients me.conn)) keys) NoEntity) _ (λ there. a_reply (reply_to t) refl (plain_byte t))
+row_tells state me t (commands.SinkVolume sink volume) = sink_volume_tells state t (named_by state.names state.sinks sink false) volume
+row_tells state me t (commands.SinkMute sink on) = sink_mute_tells state t (named_by state.names state.sinks sink false) on
+row_tells state me t (commands.InputVolume input volume) = input_volume_tells state t (input_named state.inputs input) volume
+row_tells state me t (commands.InputMute input on) = input_mute_tells state t (input_named state.inputs input) on
 row_tells state me t _ = tt

@@ -19,6 +19,7 @@ use crate::found::copied;
 use crate::groups::group_named;
 use crate::plan::{broken_off, refused, requested};
 use crate::tables::Tables;
+use crate::volumes::{input_mute, input_volume, sink_mute, sink_volume};
 use crate::targets::{default_sink, depth_of, named_by, rate_of, sink_of};
 use px_cmd::{CmdFault, Command, CreateFields, Text, is_command, read_command, read_head};
 use px_ctl_info::{
@@ -54,11 +55,15 @@ fn is_built(command: u32) -> bool
             | 28
             | 32
             | 34
+            | 36
+            | 37
+            | 39
             | 41
             | 42
             | 43
             | 44
             | 60
+            | 69
             | 72
             | 82
             | 85
@@ -207,15 +212,15 @@ fn row<P: Drop>(
             remove_client(alloc, client, me, tag, &keys)
         }
         Command::ServerInfo => server(alloc, tables, tag),
+        Command::SinkVolume { sink, volume } => sink_volume(alloc, tables, &sink, &volume, tag),
+        Command::SinkMute { sink, on } => sink_mute(alloc, tables, &sink, on, tag),
+        Command::InputVolume { input, volume } => input_volume(alloc, tables, input, &volume, tag),
+        Command::InputMute { input, on } => input_mute(alloc, tables, input, on, tag),
         Command::SinkInfo { .. }
         | Command::SinkInfoList
         | Command::InputInfo { .. }
         | Command::InputInfoList
         | Command::Subscribe { .. }
-        | Command::SinkVolume { .. }
-        | Command::InputVolume { .. }
-        | Command::SinkMute { .. }
-        | Command::InputMute { .. }
         | Command::StreamName { .. }
         | Command::KillClient { .. }
         | Command::KillInput { .. }
