@@ -427,6 +427,50 @@ class Server:
         self.sink.waiting.append((told, number, more))
         return None if reply is None else self.send(conn, 2, tag, reply)
 
+    def set_volume(self, conn, tag, there, channels, volume, set_it):
+        """A volume of what has so many channels: one for all of them, or one each."""
+        if not volume or max(volume) > 0x7FFFFFFF:
+            return self.error(conn, tag, 3)
+        if not there:
+            return self.error(conn, tag, 5)
+        if len(volume) not in (1, channels):
+            return self.error(conn, tag, 3)
+        set_it(volume)
+        self.regroup()
+        return self.send(conn, 2, tag)
+
+    def is_named(self, index, name):
+        """Whether an index and a name together name one sink, and whether it is the one that is there."""
+        clear = (index == NONE) != (name is None)
+        return clear, index == 0 if name is None else name in (self.sink.spec.name, b"@DEFAULT_SINK@")
+
+    def do_sink_volume(self, conn, tag, values):
+        clear, there = self.is_named(*values[:2])
+        if not clear:
+            return self.error(conn, tag, 3)
+        return self.set_volume(conn, tag, there, self.sink.spec.spec[1], list(values[2]), self.group.set_sink)
+
+    def do_volume(self, conn, tag, values):
+        number = values[0]
+        there = number in self.inputs and not self.inputs[number].leaving
+        channels = self.inputs[number].spec[1] if there else 0
+        return self.set_volume(conn, tag, there, channels, list(values[1]), lambda volume: self.group.set_input(number, volume))
+
+    def mute(self, conn, tag, there, what, on):
+        if not there:
+            return self.error(conn, tag, 5)
+        what.muted = on
+        self.regroup()
+        return self.send(conn, 2, tag)
+
+    def do_sink_mute(self, conn, tag, values):
+        clear, there = self.is_named(*values[:2])
+        return self.mute(conn, tag, there, self.group, values[2]) if clear else self.error(conn, tag, 3)
+
+    def do_mute(self, conn, tag, values):
+        there = values[0] in self.inputs and not self.inputs[values[0]].leaving
+        return self.mute(conn, tag, there, self.group.members.get(values[0]), values[1])
+
     def do_delete(self, conn, tag, values):
         number = self.clients[conn].streams.pop(values[0], None)
         if number is None:

@@ -117,7 +117,7 @@ pub regroups : {P : Type 0} (state : State P) (index : SinkId) (group : FlatGrou
     → Lawful state (regrouped index group settled)
 regroups state index group there is settled r = record {
   there = there;
-  group = is;
+  follows = is;
   factors = λ s g. (factors_fit group s (is s g).channels settled, factors_in_order group settled r);
 }
 
@@ -141,8 +141,8 @@ left_all Leaving e = refl
 without_it : (sink : SinkId) (s : SinkSpec) (inputs : List Input) (x : Input) (group : FlatGroup) → x.sink ≡ sink → input_of inputs x.index ≡ Some x → IsGroupOf sink s inputs group → IsGroupOf sink s (drop_first (has_index x.index) inputs) (detached x.index group)
 without_it sink s inputs x group on here is = record {
   channels = is.channels;
-  inputs = λ i. detached_in x.index group i
-      ∙ (λ k. cond (nat_eq x.index.0 i.0) (rest_of (is.inputs i k)) (is.inputs i k))
+  members = λ i. detached_in x.index group i
+      ∙ (λ k. cond (nat_eq x.index.0 i.0) (rest_of (is.members i k)) (is.members i k))
       ∙ sym (subst (λ (n : SinkId). channels_there (drop_first (has_index x.index) inputs) n i ≡ cond (nat_eq x.index.0 i.0) (rest_of (channels_there inputs n i)) (channels_there inputs n i)) on (gone_there inputs x here i));
 }
 

@@ -192,8 +192,8 @@ joined_is : (sink : Target) (s : SinkSpec) (inputs : List Input) (a : CreateFiel
     → IsGroupOf sink.index s (inputs ++ x ∷ []) (joined group sink a feed x)
 joined_is sink s inputs a feed x group on count is = record {
   channels = attached_channels x.index (volume_on sink a) Absolute a.muted feed group ∙ is.channels;
-  inputs = λ i. attached_in x.index (volume_on sink a) Absolute a.muted feed group i
-      ∙ (λ k. is.inputs i k ++ cond (nat_eq x.index.0 i.0) (count k ∷ []) [])
+  members = λ i. attached_in x.index (volume_on sink a) Absolute a.muted feed group i
+      ∙ (λ k. is.members i k ++ cond (nat_eq x.index.0 i.0) (count k ∷ []) [])
       ∙ sym (subst (λ (n : SinkId). channels_there (inputs ++ x ∷ []) n i ≡ channels_there inputs n i ++ cond (nat_eq x.index.0 i.0) (x.spec.channels ∷ []) []) on (made_there inputs x i));
 }
 
@@ -201,10 +201,10 @@ joined_is sink s inputs a feed x group on count is = record {
 
 module _ {P : Type 0} (spec_of : P → SampleSpec) (state : State P) (h : IsKept spec_of state) (me : Connection) (tag : ℕ) (named : Named) (a : CreateFields) (plan : Plan P)
     (made : IsCreated state.inputs state.inputs_made me tag named (group_named state.groups named) a plan) (it : IsThere state.sinks made.sink) where
-  x : Input
+  abbrev x : Input
   x = input_made state.inputs_made me made.sink a
 
-  after : FlatGroup
+  abbrev after : FlatGroup
   after = joined made.owner made.sink a made.feed x
 
   there : made.sink.index.0 < length state.sinks

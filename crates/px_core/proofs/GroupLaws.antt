@@ -2,7 +2,7 @@
 use Rattle.std.proofs.Common.{◌≡◌, ℕ, zero, suc, ◌<◌, List, [], ◌∷◌, ◌++◌, map, length, Option, Some, None, Bool, true, false, refl, ap, sym, subst, ◌∙◌, arith, cond, ⊎_elim}
 use Rattle.std.specs.Prelude.{◌&&◌, ◌||◌, filter, nat_eq, not, set, slice_get, IfSome, IsSome}
 use Rattle.std.specs.List.{AllByRecursion, find}
-use Rattle.std.proofs.lemmas.Bool.{eqb-true, eqb-false, eq-eqb, ne_eqb, false≢true, cases_eq, and_right, cond_both}
+use Rattle.std.proofs.lemmas.Bool.{eqb-true, eqb-false, eq-eqb, ne_eqb, false≢true, cases_eq, and_right, and_parts}
 use Rattle.std.proofs.lemmas.List.{length-set, length-map, length-replicate, map-append}
 use Rattle.std.proofs.lemmas.List.Elements.{filter-append}
 use Rattle.std.proofs.lemmas.Option.{none-some, same_Some, slice_get_within}
@@ -72,7 +72,7 @@ changed_there q f same_place same_channels inputs sink index =
     same_passed (is_on sink index) q f (λ x. (Input.spec x).channels) inputs (λ x found. same_place sink index x) same_channels
 
 group_as : (sink : SinkId) (s : SinkSpec) (inputs later : List Input) (group : FlatGroup) → ((index : InputId) → channels_there later sink index ≡ channels_there inputs sink index) → IsGroupOf sink s inputs group → IsGroupOf sink s later group
-group_as sink s inputs later group same h = record { channels = h.channels; inputs = λ index. h.inputs index ∙ sym (same index) }
+group_as sink s inputs later group same h = record { channels = h.channels; members = λ index. h.members index ∙ sym (same index) }
 
 pub still_grouped : (owed : List SinkId) (sinks : List SinkSpec) (inputs later : List Input) (groups : List FlatGroup) → ((sink : SinkId) (index : InputId) → channels_there later sink index ≡ channels_there inputs sink index) → AreGrouped owed sinks inputs groups
     → AreGrouped owed sinks later groups
@@ -144,11 +144,7 @@ gone_there (y ∷ inputs) x here index = step (λ found. gone_there inputs x fou
     later false true apart rest = ap (λ more. channels_of y ∷ more) rest
 
     not_both : (d : Bool) → nat_eq y.index.0 x.index.0 ≡ false → (nat_eq y.index.0 index.0 && d) ≡ true → nat_eq x.index.0 index.0 ≡ false
-    not_both d off both = ne_eqb x.index.0 index.0 (λ same. eqb-false y.index.0 x.index.0 off (eqb-true y.index.0 index.0 (left_true (nat_eq y.index.0 index.0) d both) ∙ sym same))
-      where
-        left_true : (a b : Bool) → (a && b) ≡ true → a ≡ true
-        left_true true b e = refl
-        left_true false b e = absurd (false≢true e)
+    not_both d off both = ne_eqb x.index.0 index.0 (λ same. eqb-false y.index.0 x.index.0 off (eqb-true y.index.0 index.0 (and_parts (nat_eq y.index.0 index.0) d both).0 ∙ sym same))
 
     step : (input_of inputs x.index ≡ Some x → channels_there (drop_first (has_index x.index) inputs) x.sink index ≡ cond (nat_eq x.index.0 index.0) (rest_of (channels_there inputs x.sink index)) (channels_there inputs x.sink index))
         → (b : Bool) → nat_eq y.index.0 x.index.0 ≡ b → cond b (Some y) (input_of inputs x.index) ≡ Some x
@@ -232,7 +228,7 @@ change_grouped owed state (Defaulted sink) lawful h = h
 change_grouped owed state (Made x m streams inputs) lawful h = made_grouped owed state.sinks state.inputs state.groups x h
 change_grouped owed state (Leaves index) lawful h = left_grouped owed state (input_of state.inputs index) h
 change_grouped owed state (Said index m) lawful h = said_grouped owed state (input_of state.inputs index) m h
-change_grouped owed state (Regrouped sink group m) lawful h = regrouped_grouped owed state.sinks state.inputs state.groups sink group lawful.there lawful.group h
+change_grouped owed state (Regrouped sink group m) lawful h = regrouped_grouped owed state.sinks state.inputs state.groups sink group lawful.there lawful.follows h
 change_grouped owed state (Asked w) lawful h = h
 change_grouped owed state (Answered w) lawful h = h
 change_grouped owed state (Gone index) lawful h = gone_grouped owed state.sinks state.inputs state.groups index (input_of state.inputs index) refl h
@@ -299,7 +295,7 @@ new_group_of zero s (x ∷ sinks) group e g = sym (same_Some (new_group x.spec.c
 new_group_of (suc k) s (x ∷ sinks) group e g = new_group_of k s sinks group e g
 
 new_is : (k : ℕ) (s : SinkSpec) → IsGroupOf (sink_at k) s [] (new_group s.spec.channels)
-new_is k s = record { channels = length-replicate s.spec.channels norm; inputs = λ index. refl }
+new_is k s = record { channels = length-replicate s.spec.channels norm; members = λ index. refl }
 
 pub new_grouped : (sinks : List SinkSpec) → AreGrouped [] sinks [] (map (λ s. new_group (SinkSpec.spec s).channels) sinks)
 new_grouped sinks = record {
@@ -343,13 +339,9 @@ member_there sinks inputs groups h sink index (Some x) e None g = tt
 member_there sinks inputs groups h sink index (Some x) e (Some group) g =
     let s = sink_with sinks groups sink.0 group h.count (sym g) in
     let is = h.each sink.0 s.0 group s.1 (sym g) refl in
-    let same : x.index.0 ≡ index.0 = eqb-true x.index.0 index.0 (left_true (nat_eq x.index.0 index.0) (nat_eq x.sink.0 sink.0) (found_test (is_on sink index) inputs x (sym e))) in
+    let same : x.index.0 ≡ index.0 = eqb-true x.index.0 index.0 (and_parts (nat_eq x.index.0 index.0) (nat_eq x.sink.0 sink.0) (found_test (is_on sink index) inputs x (sym e))).0 in
     subst (λ n. IsSome (member_of group.members (record { 0 = n }))) (sym same)
-    (found_in group.members index (subst (λ xs. 0 < length xs) (sym (is.inputs index)) (found_there sink index inputs x (sym e))))
-  where
-    left_true : (a b : Bool) → (a && b) ≡ true → a ≡ true
-    left_true true b e = refl
-    left_true false b e = absurd (false≢true e)
+    (found_in group.members index (subst (λ xs. 0 < length xs) (sym (is.members index)) (found_there sink index inputs x (sym e))))
 
 pub named_ready : (sinks : List SinkSpec) (inputs : List Input) (groups : List FlatGroup) (made : ℕ) → AreGrouped [] sinks inputs groups → AllByRecursion (IsInput sinks made) inputs → (named : Named) → ((target : Target) → target_in named ≡ Some target → IsThere sinks target)
     → (own : Option FlatGroup) → own ≡ group_named groups named → IsReadyAt named made own
@@ -362,5 +354,5 @@ named_ready sinks inputs groups made h each (Sink target) there (Some group) g =
     record {
       channels = is.channels ∙ sym (ap (λ (t : Target). t.spec.channels) it.is);
       new = unfound_in group.members (record { 0 = made })
-          (is.inputs (record { 0 = made }) ∙ none_there made (sink_at target.index.0) inputs (all_weaken (IsInput sinks made) (λ y. (Input.index y).0 < made) (λ y i. i.given) inputs each));
+          (is.members (record { 0 = made }) ∙ none_there made (sink_at target.index.0) inputs (all_weaken (IsInput sinks made) (λ y. (Input.index y).0 < made) (λ y i. i.given) inputs each));
     }

@@ -18,6 +18,7 @@ pub mod AnswerLaws
 pub mod KillLaws
 pub mod SweepLaws
 pub mod CreateLaws
+pub mod VolumeLaws
 pub mod StreamLaws
 pub mod StepLaws
 pub mod ParcelLaws

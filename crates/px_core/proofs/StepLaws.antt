@@ -45,7 +45,7 @@ use Rattle.px_ctl_info.specs.Sinks.{sink_called}
 use Rattle.px_ctl_play.specs.declared.told.News.{News}
 use Rattle.px_ctl_play.specs.declared.told.News.TheVariants as news
 use Rattle.px_ctl_play.specs.Told.{message_of, told}
-use Rattle.px_core.specs.State.{State, new_state, goes_on, connection_of, input_numbered, stream_of}
+use Rattle.px_core.specs.State.{State, new_state, goes_on, connection_of, stream_of}
 use Rattle.px_core.specs.Command.{default_sink, row, read_answer, is_barred, is_waiting_for_work, command_answer, head_answer}
 use Rattle.px_core.specs.Connecting.{is_full, new_connection, joined, connected, ended, going_on}
 use Rattle.px_core.specs.Notice.{input_on, owner_of, told_of, notice_answer}
@@ -53,7 +53,7 @@ use Rattle.px_core.specs.Orderly.{inputs_there}
 use Rattle.px_core.specs.Keeps.{AreDistinct, AreInStep, IsKept, IsStep, Spares, handed_out_by}
 use Rattle.px_core.specs.Out.{next_for, handed_out}
 use Rattle.px_core.specs.Plan.{Plan, refused, reply_fits, requested, broken_off}
-use Rattle.px_core.specs.Sinks.{rate_of, rate_on, depth_of, sink_of, named_by}
+use Rattle.px_core.specs.Sinks.{rate_of, rate_on, depth_of, sink_of, named_by, input_named}
 use Rattle.px_core.specs.Step.{Step, connect, frame, broken, close, cut, sweep, notice, out, body_answer, frame_of, answered, answer_of, stepped, stepped_by}
 use Rattle.px_core.proofs.ListLaws.{all_push}
 use Rattle.px_core.proofs.ChangeLaws.{sink_at, held_on}
@@ -68,6 +68,7 @@ use Rattle.px_core.proofs.StreamLaws.{cork_lawful, flush_lawful, trigger_lawful,
 use Rattle.px_core.proofs.SweepLaws.{sweep_lawful}
 use Rattle.px_core.proofs.KillLaws.{kill_client_lawful, kill_input_lawful}
 use Rattle.px_core.proofs.CreateLaws.{create_lawful}
+use Rattle.px_core.proofs.VolumeLaws.{sink_volume_lawful, sink_mute_lawful, input_volume_lawful, input_mute_lawful}
 
 -- ---- a new state
 
@@ -127,7 +128,7 @@ row_lawful spec_of state h me tag (commands.SinkInfo sink) =
     (λ found. each_then (IsLawful state) (present (group_on state.groups found) NoEntity) _ (λ group. tt)))
 row_lawful spec_of state h me tag commands.SinkInfoList = tt
 row_lawful spec_of state h me tag (commands.InputInfo input) =
-    each_then (IsLawful state) (present (input_numbered state.inputs input) NoEntity) _ (λ x. each_then (IsLawful state) (present (member_on state.groups x) NoEntity) _ (λ m. tt))
+    each_then (IsLawful state) (present (input_named state.inputs input) NoEntity) _ (λ x. each_then (IsLawful state) (present (member_on state.groups x) NoEntity) _ (λ m. tt))
 row_lawful spec_of state h me tag commands.InputInfoList = tt
 row_lawful spec_of state h me tag (commands.StreamName stream name) =
     each_then (IsLawful state) (present (stream_of state.inputs me.conn stream) NoEntity) _ (λ x. each_then (IsLawful state) (present (name_in name) Invalid) _ (λ text. (tt, tt)))
@@ -138,7 +139,13 @@ row_lawful spec_of state h me tag (commands.RemoveStream stream keys) =
     (λ x. each_then (IsLawful state) (check (has_keys (list_of_input state.lists (Input.index x)) keys) NoEntity) _ (λ there. (tt, tt)))
 row_lawful spec_of state h me tag (commands.KillClient client) = kill_client_lawful state h.steady.distinct client tag (connection_with state.connections client) refl
 row_lawful spec_of state h me tag (commands.KillInput input) =
-    kill_input_lawful state (input_numbered state.inputs input) (owner_of state.connections (input_numbered state.inputs input)) state.waiting tag
+    kill_input_lawful state (input_named state.inputs input) (owner_of state.connections (input_named state.inputs input)) state.waiting tag
+row_lawful spec_of state h me tag (commands.SinkVolume sink volume) =
+    sink_volume_lawful spec_of state h (named_by state.names state.sinks sink false) (named_there state.sinks (sink_named state.names sink.index sink.name false)) tag volume
+row_lawful spec_of state h me tag (commands.SinkMute sink on) =
+    sink_mute_lawful spec_of state h (named_by state.names state.sinks sink false) (named_there state.sinks (sink_named state.names sink.index sink.name false)) tag on
+row_lawful spec_of state h me tag (commands.InputVolume input volume) = input_volume_lawful spec_of state h input tag volume
+row_lawful spec_of state h me tag (commands.InputMute input on) = input_mute_lawful spec_of state h input tag on
 row_lawful spec_of state h me tag _ = tt
 
 requested_lawful : {P : Type 0} (state : State P) (tag : ℕ) (given : Row (Plan P)) → Each (IsLawful state) given → IsLawful state (requested tag given)

@@ -27,7 +27,8 @@ use Rattle.px_ctl_play.specs.Control.{cork, flush, trigger, prebuf}
 use Rattle.px_ctl_play.specs.Delete.{delete}
 use Rattle.px_ctl_play.specs.Drain.{drain, drain_answered, drained}
 use Rattle.px_ctl_play.specs.Latency.{latency, latency_answered, measured}
-use Rattle.px_core.specs.State.{State, goes_on, input_of, is_stream, stream_of}
+use Rattle.px_core.specs.State.{State, goes_on, has_index, input_of, is_stream, stream_of}
+use Rattle.px_core.specs.Sinks.{going, input_named}
 use Rattle.px_core.specs.Change.{inputs_told, saying, saying_of}
 use Rattle.px_core.specs.Keeps.{IsInput, IsRising, IsGoing, IsAwaiting}
 use Rattle.px_core.specs.Lawful.{Suits, Lawful}
@@ -43,9 +44,15 @@ has_channels sinks made inputs conn stream None h e = tt
 has_channels sinks made inputs conn stream (Some x) h e = (found_all (IsInput sinks made) (is_stream conn stream) inputs x h (sym e)).playable.some_channels
 
 -- an input has at most 32 channels
-pub few_channels : (sinks : List SinkSpec) (made : ℕ) (inputs : List Input) (index : ℕ) (o : Option Input) → AllByRecursion (IsInput sinks made) inputs → o ≡ input_of inputs (record { 0 = index }) → IfSome o (λ x. x.spec.channels ≤ 32)
-few_channels sinks made inputs index None h e = tt
-few_channels sinks made inputs index (Some x) h e = (found_all (IsInput sinks made) (has_index (record { 0 = index })) inputs x h (sym e)).playable.few_channels
+pub few_channels : (sinks : List SinkSpec) (made : ℕ) (inputs : List Input) (index : ℕ) (o : Option Input) → AllByRecursion (IsInput sinks made) inputs → o ≡ input_named inputs index → IfSome o (λ x. x.spec.channels ≤ 32)
+few_channels sinks made inputs index o h e = subst (λ p. IfSome p (λ x. (Input.spec x).channels ≤ 32)) (sym e) (inner (input_of inputs (record { 0 = index })) refl)
+  where
+    inner : (p : Option Input) → input_of inputs (record { 0 = index }) ≡ p → IfSome (going p) (λ x. (Input.spec x).channels ≤ 32)
+    inner None found = tt
+    inner (Some x) found =
+        cond_both (goes_on x) (Some x) None (λ p. IfSome p (λ y. (Input.spec y).channels ≤ 32))
+        (λ g. (found_all (IsInput sinks made) (has_index (record { 0 = index })) inputs x h found).playable.few_channels)
+        (λ g. tt)
 
 module _ {P : Type 0} (state : State P) (r : IsRising state.inputs) (conn : ConnId) (stream : ℕ) where
   -- it is told something

@@ -1,8 +1,8 @@
 -- What each command's row tells who asked: a reply that is no error, or nothing yet.
 use Rattle.std.proofs.Common.{◌≡◌, ℕ, List, [], ◌∷◌, ◌++◌, Option, Some, None, Bool, true, refl, ap}
-use Rattle.std.specs.Prelude.{false, not, get_or, map, fold, is_some, nat_le}
+use Rattle.std.specs.Prelude.{false, not, get_or, map, fold, is_some, nat_le, length}
 use Rattle.px_types.specs.declared.ids.ConnId.{ConnId}
-use Rattle.px_types.specs.declared.error_code.ErrorCode.TheVariants.{Access, BadState, Invalid, NoEntity, Version}
+use Rattle.px_types.specs.declared.error_code.ErrorCode.TheVariants.{Access, BadState, Busy, Invalid, NoEntity, Version}
 use Rattle.px_tag.specs.Item.{number}
 use Rattle.px_cmd.specs.declared.command.CreateFields.{CreateFields}
 use Rattle.px_cmd.specs.declared.command.Command.{Command}
@@ -31,7 +31,10 @@ use Rattle.px_ctl_info.specs.Clients.{SERVER_VERSION, version_in, auth, info_of,
 use Rattle.px_ctl_info.specs.Infos.{sink_of as told_sink, input_of as told_input, group_on, member_on, sinks_told, inputs_told}
 use Rattle.px_ctl_info.specs.Properties.{list_of, mode_of, has_keys, name_in}
 use Rattle.px_ctl_info.specs.Sinks.{sink_called, server_of}
-use Rattle.px_flat.specs.FlatVolume.{FlatGroup}
+use Rattle.px_flat.specs.declared.member.Member.{Member}
+use Rattle.px_flat.specs.FlatVolume.{FlatGroup, member_of}
+use Rattle.px_ctl_vol.specs.Asked.{is_volume, fits}
+use Rattle.px_ctl_vol.specs.Inputs.{is_moving}
 use Rattle.px_ctl_play.specs.Create.{created_of, input_made, create}
 use Rattle.px_ctl_play.specs.Attributes.{attributes}
 use Rattle.px_ctl_play.specs.Control.{cork, flush, trigger, prebuf}
@@ -40,10 +43,10 @@ use Rattle.px_ctl_play.specs.Drain.{drain}
 use Rattle.px_ctl_play.specs.Latency.{latency}
 use Rattle.px_ctl_play.specs.Time.{microseconds}
 use Rattle.px_ctl_play.proofs.Passed.{IsCreated, create_passed}
-use Rattle.px_core.specs.State.{State, stream_of, input_numbered}
+use Rattle.px_core.specs.State.{State, stream_of}
 use Rattle.px_core.specs.Plan.{Plan, plan_effects}
-use Rattle.px_core.specs.Command.{default_sink, row}
-use Rattle.px_core.specs.Sinks.{rate_of, depth_of, sink_of, named_by, group_named}
+use Rattle.px_core.specs.Command.{default_sink, sink_volume, sink_mute, input_volume, input_mute, row}
+use Rattle.px_core.specs.Sinks.{rate_of, depth_of, sink_of, named_by, group_named, input_named, group_under, targets_of}
 use Rattle.px_core.proofs.RowLaws.{Each, each_check, each_then, each_by}
 
 -- ---- replies: the fifth byte, the last of a reply's first number, is 2
@@ -168,6 +171,38 @@ create_tells P inputs made me t named group a = each_by (Tells {P = P}) (create 
     by plan p =
         a_reply (created_reply t (created_of p.sink a (input_made made me p.sink a))) (ap (λ (x : Plan P). x.reply) p.planned) (created_byte t (created_of p.sink a (input_made made me p.sink a)))
 
+-- volumes and mutes
+module _ {P : Type 0} (state : State P) (t : ℕ) where
+  pub sink_volume_tells : (named : Named) (volume : List ℕ) → Each (Tells {P = P}) (sink_volume state named volume t)
+  sink_volume_tells named volume =
+      each_check (Tells {P = P}) (is_clear named) Invalid _
+      (each_check (Tells {P = P}) (is_volume volume) Invalid _
+      (each_then (Tells {P = P}) (present (target_of named) NoEntity) _
+      (λ sink. each_then (Tells {P = P}) (present (group_named state.groups named) NoEntity) _
+      (λ group. each_check (Tells {P = P}) (fits volume (length (FlatGroup.reference group))) Invalid _ (a_reply (reply_to t) refl (plain_byte t))))))
+
+  pub sink_mute_tells : (named : Named) (on : Bool) → Each (Tells {P = P}) (sink_mute state named on t)
+  sink_mute_tells named on =
+      each_check (Tells {P = P}) (is_clear named) Invalid _
+      (each_then (Tells {P = P}) (present (target_of named) NoEntity) _
+      (λ sink. each_then (Tells {P = P}) (present (group_named state.groups named) NoEntity) _ (λ group. a_reply (reply_to t) refl (plain_byte t))))
+
+  pub input_volume_tells : (input : Option Input) (volume : List ℕ) → Each (Tells {P = P}) (input_volume state input volume t)
+  input_volume_tells input volume =
+      each_check (Tells {P = P}) (is_volume volume) Invalid _
+      (each_then (Tells {P = P}) (present input NoEntity) _
+      (λ x. each_then (Tells {P = P}) (present (group_under state.groups input) NoEntity) _
+      (λ group. each_then (Tells {P = P}) (present (member_of (FlatGroup.members group) (Input.index x)) NoEntity) _
+      (λ member. each_check (Tells {P = P}) (fits volume (length (Member.volume member))) Invalid _
+      (each_check (Tells {P = P}) (not (is_moving (Input.standing x))) Busy _ (a_reply (reply_to t) refl (plain_byte t)))))))
+
+  pub input_mute_tells : (input : Option Input) (on : Bool) → Each (Tells {P = P}) (input_mute state input on t)
+  input_mute_tells input on =
+      each_then (Tells {P = P}) (present input NoEntity) _
+      (λ x. each_then (Tells {P = P}) (present (group_under state.groups input) NoEntity) _
+      (λ group. each_then (Tells {P = P}) (present (member_of (FlatGroup.members group) (Input.index x)) NoEntity) _
+      (λ member. each_check (Tells {P = P}) (not (is_moving (Input.standing x))) Busy _ (a_reply (reply_to t) refl (plain_byte t)))))
+
 pub row_tells : {P : Type 0} (state : State P) (me : Connection) (t : ℕ) (command : Command) → Each Tells (row state me t command)
 row_tells {P} state me t (commands.Auth version cookie) = auth_tells P state.names me t version cookie
 row_tells state me t (commands.SetClientName list) = a_reply (reply_to t ++ number me.client) refl (reply_byte t (number me.client))
@@ -198,7 +233,7 @@ row_tells {P} state me t (commands.SinkInfo sink) =
     (λ group. a_reply (with_sink (reply_to t) (told_sink found group)) refl (sink_byte t (told_sink found group)))))
 row_tells state me t commands.SinkInfoList = a_reply (sinks_reply t (sinks_told state.groups (targets_of state.sinks))) refl (sinks_byte t (sinks_told state.groups (targets_of state.sinks)))
 row_tells {P} state me t (commands.InputInfo input) =
-    each_then (Tells {P = P}) (present (input_numbered state.inputs input) NoEntity) _
+    each_then (Tells {P = P}) (present (input_named state.inputs input) NoEntity) _
     (λ x. each_then (Tells {P = P}) (present (member_on state.groups x) NoEntity) _
     (λ m. a_reply (with_input (reply_to t) (told_input x m (list_of_input state.lists x.index))) refl (input_byte t (told_input x m (list_of_input state.lists x.index)))))
 row_tells state me t commands.InputInfoList =
@@ -211,5 +246,9 @@ row_tells {P} state me t (commands.RemoveStream stream keys) =
     each_then (Tells {P = P}) (present (stream_of state.inputs me.conn stream) NoEntity) _
     (λ x. each_then (Tells {P = P}) (check (has_keys (list_of_input state.lists (Input.index x)) keys) NoEntity) _ (λ there. a_reply (reply_to t) refl (plain_byte t)))
 row_tells {P} state me t (commands.KillClient client) = each_then (Tells {P = P}) (present (connection_with state.connections client) NoEntity) _ (λ c. a_reply (reply_to t) refl (plain_byte t))
-row_tells {P} state me t (commands.KillInput input) = each_then (Tells {P = P}) (present (input_numbered state.inputs input) NoEntity) _ (λ x. a_reply (reply_to t) refl (plain_byte t))
+row_tells {P} state me t (commands.KillInput input) = each_then (Tells {P = P}) (present (input_named state.inputs input) NoEntity) _ (λ x. a_reply (reply_to t) refl (plain_byte t))
+row_tells state me t (commands.SinkVolume sink volume) = sink_volume_tells state t (named_by state.names state.sinks sink false) volume
+row_tells state me t (commands.SinkMute sink on) = sink_mute_tells state t (named_by state.names state.sinks sink false) on
+row_tells state me t (commands.InputVolume input volume) = input_volume_tells state t (input_named state.inputs input) volume
+row_tells state me t (commands.InputMute input on) = input_mute_tells state t (input_named state.inputs input) on
 row_tells state me t _ = tt

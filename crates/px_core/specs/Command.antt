@@ -31,10 +31,12 @@ use Rattle.px_ctl_play.specs.Delete.{delete}
 use Rattle.px_ctl_play.specs.Drain.{drain}
 use Rattle.px_ctl_play.specs.Kill.{kill_input}
 use Rattle.px_ctl_play.specs.Latency.{latency}
-use Rattle.px_core.specs.State.{State, stream_of, input_numbered}
+use Rattle.px_ctl_vol.specs.Inputs.{set_input_volume, set_input_mute}
+use Rattle.px_ctl_vol.specs.Sinks.{set_sink_volume, set_sink_mute}
+use Rattle.px_core.specs.State.{State, stream_of}
 use Rattle.px_core.specs.Notice.{owner_of}
 use Rattle.px_core.specs.Plan.{Plan, refused, requested, broken_off}
-use Rattle.px_core.specs.Sinks.{rate_of, depth_of, sink_of, named_as, named_by, group_named, targets_of}
+use Rattle.px_core.specs.Sinks.{rate_of, depth_of, sink_of, named_as, named_by, group_named, input_named, group_under, targets_of}
 
 -- ---- the commands
 
@@ -46,7 +48,8 @@ abbrev pub is_built : ℕ → Bool
 is_built command =
     nat_eq command 3 || nat_eq command 4 || nat_eq command 8 || nat_eq command 9 || nat_eq command 10 || nat_eq command 12 || nat_eq command 14
     || nat_eq command 20 || nat_eq command 21 || nat_eq command 22 || nat_eq command 24 || nat_eq command 26 || nat_eq command 27 || nat_eq command 28 || nat_eq command 29 || nat_eq command 30 || nat_eq command 32 || nat_eq command 34
-    || nat_eq command 41 || nat_eq command 42 || nat_eq command 43 || nat_eq command 44 || nat_eq command 46 || nat_eq command 48 || nat_eq command 49 || nat_eq command 60 || nat_eq command 72
+    || nat_eq command 36 || nat_eq command 37 || nat_eq command 39
+    || nat_eq command 41 || nat_eq command 42 || nat_eq command 43 || nat_eq command 44 || nat_eq command 46 || nat_eq command 48 || nat_eq command 49 || nat_eq command 60 || nat_eq command 69 || nat_eq command 72
     || nat_eq command 81 || nat_eq command 82 || nat_eq command 84 || nat_eq command 85 || nat_eq command 89
 
 abbrev pub is_waiting_for_work : ℕ → Bool
@@ -71,6 +74,20 @@ killed_input state input tag = kill_input input (owner_of state.connections inpu
 abbrev pub create_on : {P : Type 0} → State P → Connection → ℕ → CreateFields → Named → Row (Plan P)
 create_on state me tag fields named = create state.inputs state.inputs_made me tag named (group_named state.groups named) fields
 
+-- the volume of the sink that is named, and its mute
+abbrev pub sink_volume : {P : Type 0} → State P → Named → List ℕ → ℕ → Row (Plan P)
+sink_volume state named volume tag = set_sink_volume named (group_named state.groups named) state.inputs volume tag
+
+abbrev pub sink_mute : {P : Type 0} → State P → Named → Bool → ℕ → Row (Plan P)
+sink_mute state named on tag = set_sink_mute named (group_named state.groups named) state.inputs on tag
+
+-- and those of an input
+abbrev pub input_volume : {P : Type 0} → State P → Option Input → List ℕ → ℕ → Row (Plan P)
+input_volume state input volume tag = set_input_volume input (group_under state.groups input) state.inputs volume tag
+
+abbrev pub input_mute : {P : Type 0} → State P → Option Input → Bool → ℕ → Row (Plan P)
+input_mute state input on tag = set_input_mute input (group_under state.groups input) state.inputs on tag
+
 -- a command's row: what it gives on the parts of the state that it reads
 abbrev pub row : {P : Type 0} → State P → Connection → ℕ → Command → Row (Plan P)
 row state me tag (commands.Auth version cookie) = auth state.names me tag version cookie
@@ -91,17 +108,17 @@ row state me tag (commands.SinkInfo sink) = sink_info (named_by state.names stat
 row state me tag commands.SinkInfoList = sink_infos (targets_of state.sinks) state.groups tag
 row state me tag (commands.ClientInfo client) = client_info (client_numbered state.names.clients client) tag
 row state me tag commands.ClientInfoList = client_infos state.names.clients tag
-row state me tag (commands.InputInfo input) = input_info (input_numbered state.inputs input) state.groups state.lists tag
+row state me tag (commands.InputInfo input) = input_info (input_named state.inputs input) state.groups state.lists tag
 row state me tag commands.InputInfoList = input_infos state.inputs state.groups state.lists tag
 row state me tag (commands.Subscribe mask) = not_built
-row state me tag (commands.SinkVolume sink volume) = not_built
-row state me tag (commands.InputVolume input volume) = not_built
-row state me tag (commands.SinkMute sink on) = not_built
-row state me tag (commands.InputMute input on) = not_built
+row state me tag (commands.SinkVolume sink volume) = sink_volume state (named_by state.names state.sinks sink false) volume tag
+row state me tag (commands.InputVolume input volume) = input_volume state (input_named state.inputs input) volume tag
+row state me tag (commands.SinkMute sink on) = sink_mute state (named_by state.names state.sinks sink false) on tag
+row state me tag (commands.InputMute input on) = input_mute state (input_named state.inputs input) on tag
 row state me tag (commands.DefaultSink name) = set_default_sink state.names tag name
 row state me tag (commands.StreamName stream name) = set_stream_name (stream_of state.inputs me.conn stream) state.lists tag name
 row state me tag (commands.KillClient client) = kill_client (connection_with state.connections client) tag
-row state me tag (commands.KillInput input) = killed_input state (input_numbered state.inputs input) tag
+row state me tag (commands.KillInput input) = killed_input state (input_named state.inputs input) tag
 row state me tag (commands.Move input sink) = not_built
 row state me tag (commands.UpdateStream stream mode list) = update_stream (stream_of state.inputs me.conn stream) state.lists tag mode list
 row state me tag (commands.UpdateClient mode list) = update_client (client_on state.names.clients me.conn) me tag mode list

@@ -16,16 +16,16 @@ channels_there inputs sink index = map (λ x. (Input.spec x).channels) (filter (
 -- a group is that of a sink with these inputs
 pub record IsGroupOf (sink : SinkId) (s : SinkSpec) (inputs : List Input) (group : FlatGroup) : Type 0 where
   pub channels : length group.reference ≡ s.spec.channels
-  pub inputs : (index : InputId) → channels_in group.members index ≡ channels_there inputs sink index
+  pub members : (index : InputId) → channels_in group.members index ≡ channels_there inputs sink index
 
 -- ---- the sinks whose groups are still to follow their inputs, while the changes of one step are made
 
 abbrev pub is_owed : ℕ → List SinkId → Bool
-is_owed index owed = list_any (λ sink. nat_eq (SinkId.0 sink) index) owed
+is_owed index owed = list_any (λ (sink : SinkId). nat_eq sink.0 index) owed
 
 -- the group of a sink follows
 abbrev pub paid : SinkId → List SinkId → List SinkId
-paid sink owed = filter (λ other. not (nat_eq (SinkId.0 other) sink.0)) owed
+paid sink owed = filter (λ (other : SinkId). not (nat_eq other.0 sink.0)) owed
 
 -- ---- all groups
 

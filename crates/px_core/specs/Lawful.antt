@@ -85,7 +85,7 @@ pub record HasLeft (x : Input) : Type 0 where
 -- the sink is there, the group is that of the inputs on it, and the factors are for it
 pub record IsRegrouped {P : Type 0} (state : State P) (sink : SinkId) (group : FlatGroup) (m : Msg P) : Type 0 where
   pub there : sink.0 < length state.sinks
-  pub group : (s : SinkSpec) → slice_get state.sinks sink.0 ≡ Some s → IsGroupOf sink s state.inputs group
+  pub follows : (s : SinkSpec) → slice_get state.sinks sink.0 ≡ Some s → IsGroupOf sink s state.inputs group
   pub factors : (s : SinkSpec) → slice_get state.sinks sink.0 ≡ Some s → AreFor s m
 
 abbrev pub Lawful : {P : Type 0} → State P → Change P → Type 0

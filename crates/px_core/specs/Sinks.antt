@@ -1,5 +1,5 @@
 -- The sinks as commands see them.
-use Rattle.std.specs.Prelude.{ℕ, ◌+◌, Bool, List, [], ◌∷◌, take, slice_get, Option, None, Some, Result, Ok, Err}
+use Rattle.std.specs.Prelude.{ℕ, ◌+◌, Bool, cond, List, [], ◌∷◌, take, slice_get, Option, None, Some, Result, Ok, Err}
 use Rattle.px_types.specs.declared.ids.SinkId.{SinkId}
 use Rattle.px_types.specs.declared.error_code.ErrorCode.{ErrorCode}
 use Rattle.px_types.specs.declared.error_code.ErrorCode.TheVariants.{Invalid}
@@ -12,6 +12,7 @@ use Rattle.px_plan.specs.declared.input.Input.{Input}
 use Rattle.px_plan.specs.declared.target.Target.{Target}
 use Rattle.px_plan.specs.declared.target.Named.{Named}
 use Rattle.px_plan.specs.declared.target.Named.TheVariants.{Unclear, Unknown, Sink}
+use Rattle.px_plan.specs.Input.{goes_on, input_of}
 use Rattle.px_plan.specs.Target.{target_of as target_in}
 
 -- a sink that stands in a header behind others
@@ -60,6 +61,20 @@ group_of groups (Some target) = slice_get groups target.index.0
 -- where the sink is there
 abbrev pub group_named : List FlatGroup → Named → Option FlatGroup
 group_named groups named = group_of groups (target_in named)
+
+-- ---- the input that a command names, and the group of the sink that it is on
+
+-- one that has ended isn't there
+abbrev pub going : Option Input → Option Input
+going None = None
+going (Some x) = cond (goes_on x) (Some x) None
+
+abbrev pub input_named : List Input → ℕ → Option Input
+input_named inputs index = going (input_of inputs (record { 0 = index }))
+
+abbrev pub group_under : List FlatGroup → Option Input → Option FlatGroup
+group_under groups None = None
+group_under groups (Some x) = slice_get groups x.sink.0
 
 -- ---- all sinks, as commands see them
 

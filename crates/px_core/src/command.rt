@@ -11,8 +11,8 @@ ghost use Rattle.std.specs.List.{AllByRecursion};
 ghost use Rattle.std.specs.Option.{option_map};
 ghost use Rattle.px_core.specs.Grouped.{AreGrouped};
 ghost use Rattle.px_core.specs.Keeps.{IsInput};
-ghost use Rattle.px_core.specs.Sinks.{named_by, targets_of};
-ghost use Rattle.px_core.specs.State.{stream_of, input_numbered};
+ghost use Rattle.px_core.specs.Sinks.{named_by, input_named, targets_of};
+ghost use Rattle.px_core.specs.State.{stream_of};
 ghost use Rattle.px_core.specs.Tables.{state_of};
 ghost use Rattle.px_core.specs.Command.{is_built, is_waiting_for_work, is_barred, new_attributes, create_on, default_sink, killed_input, row, read_answer, command_answer, packet_answer};
 
@@ -22,6 +22,7 @@ use crate::notice::owner_of;
 use crate::plan::{broken_off, refused, requested};
 use crate::tables::Tables;
 use crate::targets::{default_sink, depth_of, named_by, rate_of, sink_of, targets_of};
+use crate::volumes::{input_mute, input_named, input_volume, sink_mute, sink_volume};
 use px_cmd::{CmdFault, Command, CreateFields, SinkRef, Text, is_command, read_command, read_head};
 use px_ctl_info::{
     SERVER_VERSION, auth, client_info, client_infos, connection_with, empty_list, input_info,
@@ -33,10 +34,9 @@ use px_ctl_play::{
     attributes, cork, create, delete, drain, flush, kill_input, latency, prebuf, trigger,
 };
 use px_flat::Group;
-use px_inputs::goes_on;
 use px_msg::Msg;
 use px_plan::{Connection, Input, Plan, Refusal};
-use px_types::{ErrorCode, InputId, Mem, NoMemory};
+use px_types::{ErrorCode, Mem, NoMemory};
 use std::alloc::Global;
 
 /// The number of AUTH.
@@ -65,6 +65,9 @@ fn is_built(command: u32) -> bool
             | 30
             | 32
             | 34
+            | 36
+            | 37
+            | 39
             | 41
             | 42
             | 43
@@ -73,6 +76,7 @@ fn is_built(command: u32) -> bool
             | 48
             | 49
             | 60
+            | 69
             | 72
             | 81
             | 82
@@ -216,15 +220,12 @@ fn told_inputs<P: Drop>(
 
 // The input with an index, where it goes on.
 #[tactic(auto, using(crate::proofs::StreamLaws::few_channels))]
-fn input_numbered<P>(tables: &Tables<P>, index: u32) -> Option<Input>
+fn input_there<P>(tables: &Tables<P>, index: u32) -> Option<Input>
     requires { AllByRecursion (IsInput tables.now.sinks tables.now.inputs_made) tables.now.inputs.items }
-    ensures value { result ≡ input_numbered tables.now.inputs.items index }
+    ensures value { result ≡ input_named tables.now.inputs.items index }
     ensures channels { IfSome result (λ x. x.spec.channels ≤ 32) }
 {
-    match tables.inputs.input_of(InputId(index)) {
-        Some(x) if goes_on(&x) => Some(x),
-        _ => None,
-    }
+    input_named(&tables.inputs, index)
 }
 
 // An input ends, whose connection is told so where that goes on.
@@ -306,7 +307,7 @@ fn row<P: Drop>(
         Command::SinkInfoList => told_sinks(alloc, tables, tag),
         Command::InputInfo { input } => input_info(
             alloc,
-            input_numbered(tables, input),
+            input_there(tables, input),
             &tables.groups,
             &tables.lists,
             tag,
@@ -328,14 +329,15 @@ fn row<P: Drop>(
             kill_client(alloc, connection_with(&tables.connections, client), tag)
         }
         Command::KillInput { input } => {
-            killed_input(alloc, tables, input_numbered(tables, input), tag)
+            killed_input(alloc, tables, input_there(tables, input), tag)
         }
-        Command::Subscribe { .. }
-        | Command::SinkVolume { .. }
-        | Command::InputVolume { .. }
-        | Command::SinkMute { .. }
-        | Command::InputMute { .. }
-        | Command::Move { .. } => Err(Refusal::Code(ErrorCode::NotImplemented)),
+        Command::SinkVolume { sink, volume } => sink_volume(alloc, tables, &sink, &volume, tag),
+        Command::SinkMute { sink, on } => sink_mute(alloc, tables, &sink, on, tag),
+        Command::InputVolume { input, volume } => input_volume(alloc, tables, input, &volume, tag),
+        Command::InputMute { input, on } => input_mute(alloc, tables, input, on, tag),
+        Command::Subscribe { .. } | Command::Move { .. } => Err(Refusal::Code(
+            ErrorCode::NotImplemented,
+        )),
     }
 }
 

@@ -25,6 +25,7 @@ mod start;
 mod tables;
 mod targets;
 mod verbs;
+mod volumes;
 
 pub use effect::Effect;
 pub use effects::Effects;

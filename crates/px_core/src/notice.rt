@@ -76,6 +76,7 @@ fn measured_of<P: Drop>(
 
 // What a sink's notice is answered. One that doesn't fit is ignored: of an input that isn't on the sink, of one that ends
 // where something is to be told, of a stream that wasn't to be given up, and an answer to a request that doesn't wait.
+#[tactic(auto, using(crate::proofs::GroupLaws::member_there))]
 fn notice_answer<P: Parcel + Drop>(
     alloc: Global,
     tables: &Tables<P>,

@@ -1,7 +1,8 @@
 -- The volume of a new input, and the feed by which it joins the group of its sink.
-use Rattle.std.proofs.Common.{◌≡◌, ◌<◌, ◌≤◌, ◌⊎◌, ℕ, zero, suc, arith, Bool, true, false, List, [], ◌∷◌, length, get_or, max, cond, Option, Some, None, Ok, refl, sym, subst, inl, inr}
-use Rattle.std.specs.Prelude.{All, IfSome}
+use Rattle.std.proofs.Common.{◌≡◌, ◌<◌, ◌≤◌, ◌⊎◌, ℕ, zero, suc, arith, Bool, true, false, List, [], ◌∷◌, length, get_or, max, cond, Option, Some, None, Ok, refl, sym, subst, ◌∙◌, inl, inr}
+use Rattle.std.specs.Prelude.{All, IfSome, nat_eq, ◌||◌}
 use Rattle.std.specs.List.{fold}
+use Rattle.std.proofs.lemmas.Bool.{eqb-true}
 use Rattle.px_types.specs.declared.error_code.ErrorCode.{ErrorCode}
 use Rattle.px_chmap.specs.Plan.{FeedsAll}
 use Rattle.px_cmd.specs.declared.command.CreateFields.{CreateFields}
@@ -14,7 +15,7 @@ use Rattle.px_plan.specs.declared.target.Target.{Target}
 use Rattle.px_plan.specs.Row.{present}
 use Rattle.px_plan.specs.Target.{IsTarget, target_of}
 use Rattle.px_ctl_play.specs.Asked.{channels_on, positions_on}
-use Rattle.px_ctl_play.specs.Joining.{IsReady, IsReadyAt}
+use Rattle.px_ctl_play.specs.Joining.{volume_on, IsReady, IsReadyAt}
 
 -- the greatest of some volumes is one
 fold_bounded : (a : ℕ) (xs : List ℕ) → a ≤ greatest → All (λ v. v ≤ greatest) xs → fold max a xs ≤ greatest
@@ -38,6 +39,16 @@ one_volume volumes is = record {
 pub are_volumes : (channels : ℕ) (volumes : List ℕ) → 1 ≤ channels → channels ≤ 32 → (length volumes ≡ 1) ⊎ (length volumes ≡ channels) → All (λ v. v ≤ greatest) volumes → IsChannelVolume volumes
 are_volumes channels volumes some few (inl e) bounded = record { some = omega (arith, e); few = omega (arith, e); bounded = bounded }
 are_volumes channels volumes some few (inr e) bounded = record { some = omega (arith, e, some); few = omega (arith, e, few); bounded = bounded }
+
+-- the volume that it has on its sink is one for all its channels, or one each
+pub suits : (sink : Target) (a : CreateFields) (n : ℕ) → n ≡ channels_on sink a → (length (volume_on sink a) ≡ 1) ⊎ (length (volume_on sink a) ≡ n)
+suits sink a n e = by (nat_eq (length a.volume) 1) (nat_eq (length a.volume) (channels_on sink a)) refl refl
+  where
+    by : (b c : Bool) → nat_eq (length a.volume) 1 ≡ b → nat_eq (length a.volume) (channels_on sink a) ≡ c
+        → (length (cond (b || c) a.volume (greatest_of a.volume ∷ [])) ≡ 1) ⊎ (length (cond (b || c) a.volume (greatest_of a.volume ∷ [])) ≡ n)
+    by true c f g = inl (eqb-true (length a.volume) 1 f)
+    by false true f g = inr (eqb-true (length a.volume) (channels_on sink a) g ∙ sym e)
+    by false false f g = inl refl
 
 -- the feed that was found is one for the channels that the input has on its sink
 pub fed : (sink : Target) (a : CreateFields) (o : Option (List ℕ)) (code : ErrorCode) (feed : List ℕ) → IsTarget sink → a.spec.channels ≡ length a.map → IfSome o (FeedsAll (length (positions_on sink a)) (length sink.map)) → present o code ≡ Ok feed

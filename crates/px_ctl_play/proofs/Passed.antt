@@ -1,5 +1,5 @@
 -- What a row that planned has passed.
-use Rattle.std.proofs.Common.{◌≡◌, ℕ, Bool, true, false, List, Option, None, Some, Ok, refl}
+use Rattle.std.proofs.Common.{◌≡◌, ℕ, Bool, true, false, List, Option, None, Some, Ok, refl, ap, sym, ◌∙◌}
 use Rattle.px_types.specs.declared.error_code.ErrorCode.TheVariants.{Invalid, NoEntity, TooLarge, NotSupported}
 use Rattle.px_cmd.specs.declared.command.CreateFields.{CreateFields}
 use Rattle.px_flat.specs.FlatVolume.{FlatGroup}
@@ -9,12 +9,18 @@ use Rattle.px_plan.specs.declared.input.Input.{Input}
 use Rattle.px_plan.specs.declared.target.Named.{Named}
 use Rattle.px_plan.specs.declared.target.Target.{Target}
 use Rattle.px_plan.specs.declared.waiting.Waiting.{Waiting}
-use Rattle.px_plan.specs.Plan.{Planned}
+use Rattle.px_plan.specs.Plan.{Planned, replied}
 use Rattle.px_plan.specs.Row.{Row, ◌>>=◌, check, present}
 use Rattle.px_plan.specs.Target.{is_clear, target_of}
 use Rattle.px_ctl_play.specs.Asked.{is_lawful, is_supported, feed_on, has_room}
-use Rattle.px_ctl_play.specs.Create.{input_made, created, create}
+use Rattle.px_reply.specs.Message.{created_reply}
+use Rattle.px_plan.specs.declared.change.Change.{Change}
+use Rattle.px_ctl_play.specs.Create.{input_made, created_of, changes_of, created, create}
+use Rattle.px_ctl_play.specs.Joining.{joined}
 use Rattle.px_ctl_play.specs.Delete.{deleted, delete}
+
+abbrev planned : {B : Type 0} → B → Row B
+planned plan = Ok plan
 
 -- ---- CREATE_PLAYBACK_STREAM
 
@@ -61,10 +67,18 @@ module _ {P : Type 0} (inputs : List Input) (made : ℕ) (me : Connection) (tag 
   pub create_passed : create inputs made me tag named group a ≡ Ok plan → IsCreated inputs made me tag named group a plan
   create_passed e = passed (is_lawful a) (is_clear named) (target_of named) group refl refl refl e
 
--- ---- a command of one stream, which is there
+-- what is planned, part by part
+pub created_as : {P : Type 0} (inputs : List Input) (made : ℕ) (me : Connection) (tag : ℕ) (sink : Target) (group : FlatGroup) (a : CreateFields) (feed : List ℕ) (plan : Planned (Msg P) FlatGroup) (x : Input) (own : FlatGroup) (reply : List ℕ) (changes : List (Change (Msg P) FlatGroup))
+    → plan ≡ replied reply changes → reply ≡ created_reply tag (created_of sink a x) → changes ≡ changes_of inputs made me a own feed x → own ≡ joined group sink a feed x → x ≡ input_made made me sink a
+    → planned (created inputs made me tag sink group a feed (input_made made me sink a)) ≡ planned plan
+created_as {P} inputs made me tag sink group a feed plan x own reply changes whole told does joins is =
+    sym (ap (λ (p : Planned (Msg P) FlatGroup). planned p)
+    (whole
+    ∙ (λ i. replied (told i) (does i))
+    ∙ ap (λ (g : FlatGroup). replied (created_reply tag (created_of sink a x)) (changes_of inputs made me a g feed x)) joins
+    ∙ ap (λ (y : Input). created inputs made me tag sink group a feed y) is))
 
-abbrev planned : {B : Type 0} → B → Row B
-planned plan = Ok plan
+-- ---- a command of one stream, which is there
 
 same_plan : {B : Type 0} (a b : B) → planned a ≡ Ok b → b ≡ a
 same_plan a b e = cc

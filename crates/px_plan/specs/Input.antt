@@ -1,5 +1,5 @@
 -- Inputs by their numbers, and where they belong.
-use Rattle.std.specs.Prelude.{ℕ, Bool, true, false, not, cond, ◌&&◌, nat_eq, List, filter, Option, None, Some}
+use Rattle.std.specs.Prelude.{ℕ, Bool, true, false, not, ◌&&◌, nat_eq, List, filter, Option}
 use Rattle.std.specs.List.{find}
 use Rattle.px_types.specs.declared.ids.ConnId.{ConnId}
 use Rattle.px_types.specs.declared.ids.InputId.{InputId}
@@ -56,14 +56,6 @@ has_index index x = nat_eq x.index.0 index.0
 -- the input with an index
 abbrev pub input_of : List Input → InputId → Option Input
 input_of inputs index = find (has_index index) inputs
-
--- and where it goes on
-abbrev pub going_on : Option Input → Option Input
-going_on None = None
-going_on (Some x) = cond (goes_on x) (Some x) None
-
-abbrev pub input_numbered : List Input → ℕ → Option Input
-input_numbered inputs index = going_on (input_of inputs (record { 0 = index }))
 
 -- it is that stream of the connection, and goes on
 abbrev pub is_stream : ConnId → ℕ → Input → Bool

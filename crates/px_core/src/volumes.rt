@@ -1,0 +1,104 @@
+//! The commands on volumes and mutes, each on the parts of the state that it reads.
+
+ghost use Rattle.std.specs.Prelude.{◌≡◌, [], false};
+ghost use Rattle.std.specs.Option.{option_map};
+ghost use Rattle.px_plan.specs.Row.{Plans};
+ghost use Rattle.px_session.specs.HeaderRules.{AreSinks};
+ghost use Rattle.px_core.specs.Command.{sink_volume, sink_mute, input_volume, input_mute};
+ghost use Rattle.px_core.specs.Sinks.{named_by, input_named, group_under};
+ghost use Rattle.px_core.specs.Tables.{state_of};
+
+use crate::groups::{group_named, group_on};
+use crate::tables::Tables;
+use crate::targets::named_by;
+use px_cmd::SinkRef;
+use px_ctl_vol::{set_input_mute, set_input_volume, set_sink_mute, set_sink_volume};
+use px_flat::Group;
+use px_inputs::{InputTable, goes_on};
+use px_msg::Msg;
+use px_plan::{Input, Plan, Refusal};
+use px_tag::RawVolume;
+use px_types::InputId;
+use std::alloc::Global;
+
+/// The volume of the sink that is named.
+pub(crate) fn sink_volume<P: Drop>(
+    alloc: Global,
+    tables: &Tables<P>,
+    sink: &SinkRef,
+    volume: &RawVolume,
+    tag: u32,
+) -> Result<Plan<Msg<P>, Group>, Refusal>
+    requires { AreSinks [] tables.now.sinks }
+    ensures { Plans result (sink_volume (state_of tables.now) (named_by tables.now.names tables.now.sinks sink.now false) volume.now tag) }
+{
+    let named = named_by(alloc, &tables.names, tables.sinks.as_slice(), sink, false)?;
+    let group = group_named(&tables.groups, &named);
+    set_sink_volume(alloc, named, group, tables.inputs.as_slice(), volume, tag)
+}
+
+/// Its mute.
+pub(crate) fn sink_mute<P: Drop>(
+    alloc: Global,
+    tables: &Tables<P>,
+    sink: &SinkRef,
+    on: bool,
+    tag: u32,
+) -> Result<Plan<Msg<P>, Group>, Refusal>
+    requires { AreSinks [] tables.now.sinks }
+    ensures { Plans result (sink_mute (state_of tables.now) (named_by tables.now.names tables.now.sinks sink.now false) on tag) }
+{
+    let named = named_by(alloc, &tables.names, tables.sinks.as_slice(), sink, false)?;
+    let group = group_named(&tables.groups, &named);
+    set_sink_mute(alloc, named, group, tables.inputs.as_slice(), on, tag)
+}
+
+/// The input that is named, where it goes on. Takes no memory.
+pub(crate) fn input_named(inputs: &InputTable, index: u32) -> Option<Input>
+    ensures { result ≡ input_named inputs.now.items index }
+{
+    match inputs.input_of(InputId(index)) {
+        Some(x) if goes_on(&x) => Some(x),
+        _ => None,
+    }
+}
+
+// The group of the sink that it is on.
+fn group_under(groups: &[Group], input: Option<Input>) -> Option<&Group>
+    ensures { option_map (λ g. g.now) result ≡ group_under groups.now input }
+{
+    match input {
+        None => None,
+        Some(x) => group_on(groups, x.sink),
+    }
+}
+
+/// The volume of an input.
+pub(crate) fn input_volume<P: Drop>(
+    alloc: Global,
+    tables: &Tables<P>,
+    input: u32,
+    volume: &RawVolume,
+    tag: u32,
+) -> Result<Plan<Msg<P>, Group>, Refusal>
+    ensures { Plans result (input_volume (state_of tables.now) (input_named tables.now.inputs.items input) volume.now tag) }
+{
+    let x = input_named(&tables.inputs, input);
+    let group = group_under(&tables.groups, x);
+    set_input_volume(alloc, x, group, tables.inputs.as_slice(), volume, tag)
+}
+
+/// Its mute.
+pub(crate) fn input_mute<P: Drop>(
+    alloc: Global,
+    tables: &Tables<P>,
+    input: u32,
+    on: bool,
+    tag: u32,
+) -> Result<Plan<Msg<P>, Group>, Refusal>
+    ensures { Plans result (input_mute (state_of tables.now) (input_named tables.now.inputs.items input) on tag) }
+{
+    let x = input_named(&tables.inputs, input);
+    let group = group_under(&tables.groups, x);
+    set_input_mute(alloc, x, group, tables.inputs.as_slice(), on, tag)
+}
