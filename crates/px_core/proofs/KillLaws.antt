@@ -2,8 +2,7 @@
 use Rattle.std.proofs.Common.{◌≡◌, ℕ, List, [], ◌∷◌, Option, Some, None, Bool, true, false, refl, ap, sym, subst, ◌∙◌, cond}
 use Rattle.std.specs.Prelude.{nat_eq, IsSome}
 use Rattle.std.specs.List.{find}
-use Rattle.std.specs.List.{AllByRecursion}
-use Rattle.std.proofs.lemmas.Bool.{cond_both, cond-true, cond-false, eq-eqb, ne_eqb}
+use Rattle.std.proofs.lemmas.Bool.{cond-true, cond-false, eq-eqb, ne_eqb}
 use Rattle.std.proofs.lemmas.Option.{none-some, same_Some}
 use Rattle.px_plan.specs.declared.input.Connection.{Connection}
 use Rattle.px_plan.specs.declared.input.Input.{Input}
@@ -13,8 +12,7 @@ use Rattle.px_plan.specs.declared.sending.Reason.TheVariants.{Killed}
 use Rattle.px_ctl_info.specs.Clients.{is_of, connection_with, kill_client}
 use Rattle.px_ctl_play.specs.Kill.{kill_input}
 use Rattle.px_core.specs.State.{State, connection_of}
-use Rattle.px_core.specs.Change.{Change}
-use Rattle.px_core.specs.Connecting.{unmarked, going_on}
+use Rattle.px_core.specs.Connecting.{unmarked}
 use Rattle.px_core.specs.Keeps.{AreDistinct}
 use Rattle.px_core.specs.Lawful.{AreLawful}
 use Rattle.px_core.proofs.ListLaws.{found_all}
