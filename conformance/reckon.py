@@ -6,9 +6,9 @@
   conformance/reckon.py --life NUMBER TURNS > SESSION.session     the same, with prebuffering and all commands of a stream's life
   conformance/reckon.py --formats NUMBER FORMAT > SESSION.session     streams of every format to a sink of this one, with dice
 
-It keeps each sample that was ever written in a map from index to sample, and mixes each frame anew. It knows the volumes
-that streams are made with, the commands of a stream's life, and only sessions that are played to their end and ask for nothing that is refused but by ACCESS, BADSTATE,
-VERSION, NOENTITY and TOOLARGE, and a stream that is made by INVALID and NOTSUPPORTED too."""
+It keeps each sample that was ever written in a map from index to sample, and mixes each frame anew. It knows volumes and mutes,
+the commands of a stream's life, names and property lists of clients and streams, the infos of sinks, inputs and clients, and only sessions that are played to their end and ask for nothing that is refused but by ACCESS, BADSTATE,
+VERSION, INVALID, NOENTITY and TOOLARGE, and a stream that is made by NOTSUPPORTED too."""
 
 import copy
 import os
@@ -19,6 +19,7 @@ sys.dont_write_bytecode = True
 HERE = os.path.dirname(os.path.realpath(__file__))
 sys.path[:0] = [HERE, os.path.join(os.path.dirname(HERE), "tools")]
 
+import infos
 import output
 import samples
 import volumes
@@ -56,6 +57,7 @@ class Stream:
         self.factors = None  # one for each channel of the sink
         self.quiet, self.run = True, 0
         self.leaving = False
+        self.client, self.positions, self.properties = 0, [], {}  # what is told of it beside
 
     def is_short(self):
         """It waits for frames until prebuf of them are there."""
@@ -204,6 +206,7 @@ class Client:
         self.known = self.ended = False
         self.streams = {}
         self.made = 0
+        self.properties = {}
 
 
 class Server:
@@ -353,7 +356,9 @@ class Server:
         return self.send(conn, 2, tag, wire.number(13))
 
     def do_name(self, conn, tag, values):
-        self.send(conn, 2, tag, wire.number(self.clients[conn].number))
+        client = self.clients[conn]
+        client.properties = infos.updated(infos.REPLACE, client.properties, values[0])
+        self.send(conn, 2, tag, wire.number(client.number))
 
     def repaired(self, spec, asked):
         """The attributes that a stream asks for, in bytes: maxlength, tlength, prebuf, minreq; and in frames."""
@@ -397,6 +402,7 @@ class Server:
         client, number = self.clients[conn], self.input_count
         stream = Stream(conn, client.made, spec, feed, frames, asked["corked"])
         self.inputs[number], client.streams[client.made] = stream, number
+        stream.client, stream.positions, stream.properties = client.number, positions, infos.listed(values[-1])
         numbers = [client.made, number, lengths[1], *lengths]
         self.input_count += 1
         client.made += 1
@@ -470,6 +476,85 @@ class Server:
     def do_mute(self, conn, tag, values):
         there = values[0] in self.inputs and not self.inputs[values[0]].leaving
         return self.mute(conn, tag, there, self.group.members.get(values[0]), values[1])
+
+    def tell(self, conn, tag, there, info):
+        """What is told of what is there."""
+        return self.send(conn, 2, tag, info()) if there else self.error(conn, tag, 5)
+
+    def going(self):
+        """The inputs that haven't ended, in rising index."""
+        return [number for number in sorted(self.inputs) if not self.inputs[number].leaving]
+
+    def sink_info(self):
+        return infos.sink_info(0, self.sink.spec, self.group)
+
+    def input_info(self, number):
+        return infos.input_info(number, 0, self.inputs[number], self.group.members[number])
+
+    def do_sink_info(self, conn, tag, values):
+        clear, there = self.is_named(*values)
+        return self.tell(conn, tag, there, self.sink_info) if clear else self.error(conn, tag, 3)
+
+    def do_sink_infos(self, conn, tag, values):
+        self.send(conn, 2, tag, self.sink_info())
+
+    def do_input_info(self, conn, tag, values):
+        self.tell(conn, tag, values[0] in self.going(), lambda: self.input_info(values[0]))
+
+    def do_input_infos(self, conn, tag, values):
+        self.send(conn, 2, tag, b"".join(map(self.input_info, self.going())))
+
+    def known_clients(self):
+        """In rising index; one that was ended is none."""
+        return {client.number: client for client in self.clients.values() if not client.ended}
+
+    def do_client_info(self, conn, tag, values):
+        clients = self.known_clients()
+        self.tell(conn, tag, values[0] in clients, lambda: infos.client_info(clients[values[0]]))
+
+    def do_client_infos(self, conn, tag, values):
+        self.send(conn, 2, tag, b"".join(infos.client_info(client) for _, client in sorted(self.known_clients().items())))
+
+    def do_subscribe(self, conn, tag, values):
+        """Nobody is told of changes yet."""
+        return self.error(conn, tag, 3) if values[0] & ~0x2FF else self.send(conn, 2, tag)
+
+    # property lists
+
+    def update(self, conn, tag, holder, mode, pairs):
+        if holder is None:
+            return self.error(conn, tag, 5)
+        if mode > 2:
+            return self.error(conn, tag, 3)
+        holder.properties = infos.updated(mode, holder.properties, pairs)
+        return self.send(conn, 2, tag)
+
+    def remove(self, conn, tag, holder, keys):
+        if holder is None or not set(keys) <= set(holder.properties):
+            return self.error(conn, tag, 5)
+        holder.properties = {key: value for key, value in holder.properties.items() if key not in keys}
+        return self.send(conn, 2, tag)
+
+    def stream(self, conn, number):
+        return self.inputs.get(self.clients[conn].streams.get(number))
+
+    def do_update_client(self, conn, tag, values):
+        return self.update(conn, tag, self.clients[conn], *values)
+
+    def do_remove_client(self, conn, tag, values):
+        return self.remove(conn, tag, self.clients[conn], *values)
+
+    def do_update_stream(self, conn, tag, values):
+        return self.update(conn, tag, self.stream(conn, values[0]), *values[1:])
+
+    def do_remove_stream(self, conn, tag, values):
+        return self.remove(conn, tag, self.stream(conn, values[0]), *values[1:])
+
+    def do_stream_name(self, conn, tag, values):
+        stream, name = self.stream(conn, values[0]), values[1]
+        if stream is not None and (name is None or len(name) > 65_535):
+            return self.error(conn, tag, 3)
+        return self.update(conn, tag, stream, infos.REPLACE, [(infos.STREAM_NAME, (name or b"") + b"\0")])
 
     def do_delete(self, conn, tag, values):
         number = self.clients[conn].streams.pop(values[0], None)

@@ -42,9 +42,9 @@ use Rattle.px_ctl_play.proofs.Passed.{IsCreated, create_passed}
 use Rattle.px_core.specs.Command.{create_on}
 use Rattle.px_core.specs.Grouped.{channels_there, IsGroupOf}
 use Rattle.px_core.specs.Plan.{Plan}
-use Rattle.px_core.specs.Sinks.{group_of, group_named}
+use Rattle.px_targets.specs.Sinks.{group_of, group_named}
 use Rattle.px_core.proofs.RowLaws.{Each, each_by}
-use Rattle.px_core.proofs.Sinks.{IsThere}
+use Rattle.px_targets.proofs.Sinks.{IsThere}
 use Rattle.px_core.specs.Keeps.{IsInput, IsKept, IsRising}
 use Rattle.px_core.specs.Lawful.{IsNew}
 use Rattle.px_core.proofs.ListLaws.{all_weaken}

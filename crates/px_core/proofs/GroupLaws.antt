@@ -34,9 +34,9 @@ use Rattle.px_core.specs.Lawful.{Lawful, AreLawfulOwing, owed_for, owed_after, I
 use Rattle.px_core.specs.Keeps.{IsInput}
 use Rattle.px_core.specs.Notice.{is_on, input_on}
 use Rattle.px_core.specs.Out.{on_way, inputs_past, past}
-use Rattle.px_core.specs.Sinks.{group_named}
+use Rattle.px_targets.specs.Sinks.{group_named}
 use Rattle.px_core.proofs.ListLaws.{same_passed, same_left, all_weaken, found_test}
-use Rattle.px_core.proofs.Sinks.{IsThere}
+use Rattle.px_targets.proofs.Sinks.{IsThere}
 use Rattle.px_core.proofs.ChangeLaws.{sink_at, pushed_other}
 
 abbrev channels_of : Input → ℕ

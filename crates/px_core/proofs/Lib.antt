@@ -1,7 +1,6 @@
 pub mod Rooms
 pub mod Sendable
 pub mod Silent
-pub mod Sinks
 pub mod Waiting
 pub mod ListLaws
 pub mod EntryLaws

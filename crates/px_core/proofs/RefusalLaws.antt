@@ -54,7 +54,7 @@ use Rattle.px_core.specs.Plan.{Plan, reply_to_asker, sent_all, closed_by, closed
 use Rattle.px_core.specs.Command.{row, read_answer, is_barred, is_waiting_for_work, command_answer, head_answer}
 use Rattle.px_core.specs.Connecting.{is_full, connect_effects, going_on, ended, ends, swept, sweep_of}
 use Rattle.px_core.specs.Notice.{input_on, owner_of, notice_answer}
-use Rattle.px_core.specs.Sinks.{rate_on}
+use Rattle.px_targets.specs.Sinks.{rate_on}
 use Rattle.px_core.specs.Step.{Step, connect, frame, broken, close, cut, sweep, notice, out, body_answer, frame_of, sender_of, answer_of, stepped, effects_of}
 use Rattle.px_core.proofs.ListLaws.{heads, no_cons}
 use Rattle.px_core.proofs.RowLaws.{Each}

@@ -37,14 +37,15 @@ use Rattle.px_plan.specs.declared.input.Connection.{Connection}
 use Rattle.px_plan.specs.declared.input.Input.{Input}
 use Rattle.px_plan.specs.Plan.{Planned, idle, telling}
 use Rattle.px_plan.specs.Row.{Row, check, present}
-use Rattle.px_plan.specs.Target.{target_of}
-use Rattle.px_ctl_info.specs.Clients.{SERVER_VERSION, version_in, auth, connection_with}
+use Rattle.px_plan.specs.Target.{is_clear, target_of}
+use Rattle.px_ctl_info.specs.Clients.{SERVER_VERSION, version_in, auth, connection_with, is_mask}
 use Rattle.px_ctl_info.specs.Properties.{list_of, mode_of, has_keys, name_in}
+use Rattle.px_ctl_info.specs.Infos.{group_on, member_on}
 use Rattle.px_ctl_info.specs.Sinks.{sink_called}
 use Rattle.px_ctl_play.specs.declared.told.News.{News}
 use Rattle.px_ctl_play.specs.declared.told.News.TheVariants as news
 use Rattle.px_ctl_play.specs.Told.{message_of, told}
-use Rattle.px_core.specs.State.{State, new_state, goes_on, connection_of, input_numbered, stream_of}
+use Rattle.px_core.specs.State.{State, new_state, goes_on, connection_of, input_named, stream_of}
 use Rattle.px_core.specs.Command.{default_sink, row, read_answer, is_barred, is_waiting_for_work, command_answer, head_answer}
 use Rattle.px_core.specs.Connecting.{is_full, new_connection, joined, connected, ended, going_on}
 use Rattle.px_core.specs.Notice.{input_on, owner_of, told_of, notice_answer}
@@ -52,7 +53,7 @@ use Rattle.px_core.specs.Orderly.{inputs_there}
 use Rattle.px_core.specs.Keeps.{AreDistinct, AreInStep, IsKept, IsStep, Spares, handed_out_by}
 use Rattle.px_core.specs.Out.{next_for, handed_out}
 use Rattle.px_core.specs.Plan.{Plan, refused, reply_fits, requested, broken_off}
-use Rattle.px_core.specs.Sinks.{rate_of, rate_on, depth_of, sink_of, named_by}
+use Rattle.px_targets.specs.Sinks.{rate_of, rate_on, depth_of, sink_of, named_by}
 use Rattle.px_core.specs.Step.{Step, connect, frame, broken, close, cut, sweep, notice, out, body_answer, frame_of, answered, answer_of, stepped, stepped_by}
 use Rattle.px_core.proofs.ListLaws.{all_push}
 use Rattle.px_core.proofs.ChangeLaws.{sink_at, held_on}
@@ -61,7 +62,7 @@ use Rattle.px_core.proofs.GroupLaws.{changes_grouped, past_grouped, new_grouped}
 use Rattle.px_core.proofs.VerbLaws.{Follows, others_keep, changes_follow}
 use Rattle.px_core.proofs.RowLaws.{Each, each_check, each_then}
 use Rattle.px_core.proofs.Going.{going_by_own}
-use Rattle.px_core.proofs.Sinks.{named_there}
+use Rattle.px_targets.proofs.Sinks.{named_there}
 use Rattle.px_core.proofs.AnswerLaws.{IsLawful, data_lawful, left_lawful}
 use Rattle.px_core.proofs.StreamLaws.{cork_lawful, flush_lawful, trigger_lawful, prebuf_lawful, attributes_lawful, drain_lawful, latency_lawful, delete_lawful, drained_lawful, measured_lawful}
 use Rattle.px_core.proofs.SweepLaws.{sweep_lawful}
@@ -121,6 +122,15 @@ row_lawful spec_of state h me tag commands.ClientInfoList = tt
 row_lawful spec_of state h me tag (commands.UpdateClient mode list) = each_then (IsLawful state) (present (mode_of mode) Invalid) _ (λ known. (tt, tt))
 row_lawful spec_of state h me tag (commands.RemoveClient keys) =
     each_then (IsLawful state) (check (has_keys (list_of (client_on state.names.clients me.conn)) keys) NoEntity) _ (λ there. (tt, tt))
+row_lawful spec_of state h me tag (commands.SinkInfo sink) =
+    each_check (IsLawful state) (is_clear (named_by state.names state.sinks sink false)) Invalid _
+    (each_then (IsLawful state) (present (target_of (named_by state.names state.sinks sink false)) NoEntity) _
+    (λ found. each_then (IsLawful state) (present (group_on state.groups found) NoEntity) _ (λ group. tt)))
+row_lawful spec_of state h me tag commands.SinkInfoList = tt
+row_lawful spec_of state h me tag (commands.InputInfo input) =
+    each_then (IsLawful state) (present (input_named state.inputs input) NoEntity) _ (λ x. each_then (IsLawful state) (present (member_on state.groups x) NoEntity) _ (λ m. tt))
+row_lawful spec_of state h me tag commands.InputInfoList = tt
+row_lawful spec_of state h me tag (commands.Subscribe mask) = each_check (IsLawful state) (is_mask mask) Invalid _ (tt, tt)
 row_lawful spec_of state h me tag (commands.StreamName stream name) =
     each_then (IsLawful state) (present (stream_of state.inputs me.conn stream) NoEntity) _ (λ x. each_then (IsLawful state) (present (name_in name) Invalid) _ (λ text. (tt, tt)))
 row_lawful spec_of state h me tag (commands.UpdateStream stream mode list) =
@@ -130,7 +140,7 @@ row_lawful spec_of state h me tag (commands.RemoveStream stream keys) =
     (λ x. each_then (IsLawful state) (check (has_keys (list_of_input state.lists (Input.index x)) keys) NoEntity) _ (λ there. (tt, tt)))
 row_lawful spec_of state h me tag (commands.KillClient client) = kill_client_lawful state h.steady.distinct client tag (connection_with state.connections client) refl
 row_lawful spec_of state h me tag (commands.KillInput input) =
-    kill_input_lawful state (input_numbered state.inputs input) (owner_of state.connections (input_numbered state.inputs input)) state.waiting tag
+    kill_input_lawful state (input_named state.inputs input) (owner_of state.connections (input_named state.inputs input)) state.waiting tag
 row_lawful spec_of state h me tag (commands.SinkVolume sink volume) =
     sink_volume_lawful spec_of state h (named_by state.names state.sinks sink false) (named_there state.sinks (sink_named state.names sink.index sink.name false)) tag volume
 row_lawful spec_of state h me tag (commands.SinkMute sink on) =

@@ -1,5 +1,5 @@
 -- The changes that a command of a stream makes are lawful.
-use Rattle.std.proofs.Common.{◌≡◌, ℕ, ◌≤◌, List, Option, None, Some, Bool, true, refl, sym, subst}
+use Rattle.std.proofs.Common.{◌≡◌, ℕ, zero, suc, ◌≤◌, List, [], ◌∷◌, All, Option, None, Some, Bool, true, refl, sym, subst, arith}
 use Rattle.std.specs.Prelude.{◌&&◌, nat_eq, IfSome, MatchOption}
 use Rattle.std.specs.List.{AllByRecursion}
 use Rattle.std.proofs.lemmas.Bool.{cond_both, and_parts}
@@ -27,7 +27,7 @@ use Rattle.px_ctl_play.specs.Control.{cork, flush, trigger, prebuf}
 use Rattle.px_ctl_play.specs.Delete.{delete}
 use Rattle.px_ctl_play.specs.Drain.{drain, drain_answered, drained}
 use Rattle.px_ctl_play.specs.Latency.{latency, latency_answered, measured}
-use Rattle.px_core.specs.State.{State, goes_on, input_of, is_stream, stream_of}
+use Rattle.px_core.specs.State.{State, goes_on, going as still_going, has_index, input_of, input_named, is_stream, stream_of}
 use Rattle.px_core.specs.Change.{inputs_told, saying, saying_of}
 use Rattle.px_core.specs.Keeps.{IsInput, IsRising, IsGoing, IsAwaiting}
 use Rattle.px_core.specs.Lawful.{Suits, Lawful}
@@ -41,6 +41,23 @@ use Rattle.px_core.proofs.CreateLaws.{repaired_fits}
 pub has_channels : (sinks : List SinkSpec) (made : ℕ) (inputs : List Input) (conn : ConnId) (stream : ℕ) (o : Option Input) → AllByRecursion (IsInput sinks made) inputs → o ≡ stream_of inputs conn stream → IfSome o (λ x. 1 ≤ x.spec.channels)
 has_channels sinks made inputs conn stream None h e = tt
 has_channels sinks made inputs conn stream (Some x) h e = (found_all (IsInput sinks made) (is_stream conn stream) inputs x h (sym e)).playable.some_channels
+
+-- an input has at most 32 channels
+pub few_channels : (sinks : List SinkSpec) (made : ℕ) (inputs : List Input) (index : ℕ) (o : Option Input) → AllByRecursion (IsInput sinks made) inputs → o ≡ input_named inputs index → IfSome o (λ x. x.spec.channels ≤ 32)
+few_channels sinks made inputs index o h e = subst (λ p. IfSome p (λ x. (Input.spec x).channels ≤ 32)) (sym e) (inner (input_of inputs (record { 0 = index })) refl)
+  where
+    inner : (p : Option Input) → input_of inputs (record { 0 = index }) ≡ p → IfSome (still_going p) (λ x. (Input.spec x).channels ≤ 32)
+    inner None found = tt
+    inner (Some x) found =
+        cond_both (goes_on x) (Some x) None (λ p. IfSome p (λ y. (Input.spec y).channels ≤ 32))
+        (λ g. (found_all (IsInput sinks made) (has_index (record { 0 = index })) inputs x h found).playable.few_channels)
+        (λ g. tt)
+
+-- and so has each of them
+pub each_few_channels : (sinks : List SinkSpec) (made : ℕ) (inputs : List Input) → AllByRecursion (IsInput sinks made) inputs → All (λ x. (Input.spec x).channels ≤ 32) inputs
+each_few_channels sinks made [] h k d l = absurd (omega (arith, l))
+each_few_channels sinks made (x ∷ inputs) h zero d l = h.0.playable.few_channels
+each_few_channels sinks made (x ∷ inputs) h (suc k) d l = each_few_channels sinks made inputs h.1 k d (omega (arith, l))
 
 module _ {P : Type 0} (state : State P) (r : IsRising state.inputs) (conn : ConnId) (stream : ℕ) where
   -- it is told something

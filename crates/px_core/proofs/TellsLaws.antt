@@ -11,8 +11,10 @@ use Rattle.px_names.specs.Names.{Naming, same_text}
 use Rattle.px_reply.specs.Front.{reply_to}
 use Rattle.px_reply.specs.declared.played.Created.{Created}
 use Rattle.px_reply.specs.declared.info.ClientInfo.{ClientInfo}
+use Rattle.px_reply.specs.declared.info.InputInfo.{InputInfo}
 use Rattle.px_reply.specs.declared.info.ServerInfo.{ServerInfo}
-use Rattle.px_reply.specs.Info.{server_reply, with_client, clients_reply}
+use Rattle.px_reply.specs.declared.info.SinkInfo.{SinkInfo}
+use Rattle.px_reply.specs.Info.{server_reply, with_sink, with_input, with_client, sinks_reply, inputs_reply, clients_reply}
 use Rattle.px_reply.specs.declared.played.LatencyFields.{LatencyFields}
 use Rattle.px_reply.specs.Message.{created_reply, latency_reply, attributes_reply}
 use Rattle.px_msg.specs.Repair.{repaired, bytes_of as bytes_of_attr}
@@ -25,7 +27,8 @@ use Rattle.px_plan.specs.Row.{check, present}
 use Rattle.px_plan.specs.Target.{is_clear, target_of}
 use Rattle.px_names.specs.Clients.{client_on, client_numbered}
 use Rattle.px_names.specs.InputLists.{list_of as list_of_input}
-use Rattle.px_ctl_info.specs.Clients.{SERVER_VERSION, version_in, auth, info_of, connection_with}
+use Rattle.px_ctl_info.specs.Clients.{SERVER_VERSION, version_in, auth, info_of, connection_with, is_mask}
+use Rattle.px_ctl_info.specs.Infos.{sink_of as told_sink, input_of as told_input, group_on, member_on, sinks_told, inputs_told}
 use Rattle.px_ctl_info.specs.Properties.{list_of, mode_of, has_keys, name_in}
 use Rattle.px_ctl_info.specs.Sinks.{sink_called, server_of}
 use Rattle.px_flat.specs.declared.member.Member.{Member}
@@ -40,10 +43,10 @@ use Rattle.px_ctl_play.specs.Drain.{drain}
 use Rattle.px_ctl_play.specs.Latency.{latency}
 use Rattle.px_ctl_play.specs.Time.{microseconds}
 use Rattle.px_ctl_play.proofs.Passed.{IsCreated, create_passed}
-use Rattle.px_core.specs.State.{State, stream_of, input_numbered}
+use Rattle.px_core.specs.State.{State, stream_of, input_named}
 use Rattle.px_core.specs.Plan.{Plan, plan_effects}
 use Rattle.px_core.specs.Command.{default_sink, sink_volume, sink_mute, input_volume, input_mute, row}
-use Rattle.px_core.specs.Sinks.{rate_of, depth_of, sink_of, named_by, group_named, input_named, group_under}
+use Rattle.px_targets.specs.Sinks.{rate_of, depth_of, sink_of, named_by, group_named, group_under, targets_of}
 use Rattle.px_core.proofs.RowLaws.{Each, each_check, each_then, each_by}
 
 -- ---- replies: the fifth byte, the last of a reply's first number, is 2
@@ -84,6 +87,31 @@ clients_front a b c d e rest (i ∷ infos) = clients_front a b c d e (with_clien
 pub clients_byte : (tag : ℕ) (infos : List ClientInfo) → get_or (clients_reply tag infos) 4 0 ≡ 2
 unfolding number
 clients_byte tag infos = clients_front _ _ _ _ _ _ infos
+
+pub sink_byte : (tag : ℕ) (info : SinkInfo) → get_or (with_sink (reply_to tag) info) 4 0 ≡ 2
+unfolding number
+sink_byte tag info = refl
+
+pub input_byte : (tag : ℕ) (info : InputInfo) → get_or (with_input (reply_to tag) info) 4 0 ≡ 2
+unfolding number
+input_byte tag info = refl
+
+-- more sinks and inputs behind the front of a packet
+sinks_front : (a b c d e : ℕ) (rest : List ℕ) (infos : List SinkInfo) → get_or (fold with_sink (a ∷ b ∷ c ∷ d ∷ e ∷ rest) infos) 4 0 ≡ e
+sinks_front a b c d e rest [] = refl
+sinks_front a b c d e rest (i ∷ infos) = sinks_front a b c d e (with_sink rest i) infos
+
+inputs_front : (a b c d e : ℕ) (rest : List ℕ) (infos : List InputInfo) → get_or (fold with_input (a ∷ b ∷ c ∷ d ∷ e ∷ rest) infos) 4 0 ≡ e
+inputs_front a b c d e rest [] = refl
+inputs_front a b c d e rest (i ∷ infos) = inputs_front a b c d e (with_input rest i) infos
+
+pub sinks_byte : (tag : ℕ) (infos : List SinkInfo) → get_or (sinks_reply tag infos) 4 0 ≡ 2
+unfolding number
+sinks_byte tag infos = sinks_front _ _ _ _ _ _ infos
+
+pub inputs_byte : (tag : ℕ) (infos : List InputInfo) → get_or (inputs_reply tag infos) 4 0 ≡ 2
+unfolding number
+inputs_byte tag infos = inputs_front _ _ _ _ _ _ infos
 
 -- ---- what a row tells
 
@@ -198,6 +226,19 @@ row_tells state me t commands.ClientInfoList = a_reply (clients_reply t (map inf
 row_tells {P} state me t (commands.UpdateClient mode list) = each_then (Tells {P = P}) (present (mode_of mode) Invalid) _ (λ known. a_reply (reply_to t) refl (plain_byte t))
 row_tells {P} state me t (commands.RemoveClient keys) =
     each_then (Tells {P = P}) (check (has_keys (list_of (client_on state.names.clients me.conn)) keys) NoEntity) _ (λ there. a_reply (reply_to t) refl (plain_byte t))
+row_tells {P} state me t (commands.SinkInfo sink) =
+    each_check (Tells {P = P}) (is_clear (named_by state.names state.sinks sink false)) Invalid _
+    (each_then (Tells {P = P}) (present (target_of (named_by state.names state.sinks sink false)) NoEntity) _
+    (λ found. each_then (Tells {P = P}) (present (group_on state.groups found) NoEntity) _
+    (λ group. a_reply (with_sink (reply_to t) (told_sink found group)) refl (sink_byte t (told_sink found group)))))
+row_tells state me t commands.SinkInfoList = a_reply (sinks_reply t (sinks_told state.groups (targets_of state.sinks))) refl (sinks_byte t (sinks_told state.groups (targets_of state.sinks)))
+row_tells {P} state me t (commands.InputInfo input) =
+    each_then (Tells {P = P}) (present (input_named state.inputs input) NoEntity) _
+    (λ x. each_then (Tells {P = P}) (present (member_on state.groups x) NoEntity) _
+    (λ m. a_reply (with_input (reply_to t) (told_input x m (list_of_input state.lists x.index))) refl (input_byte t (told_input x m (list_of_input state.lists x.index)))))
+row_tells state me t commands.InputInfoList =
+    a_reply (inputs_reply t (inputs_told state.groups state.lists state.inputs)) refl (inputs_byte t (inputs_told state.groups state.lists state.inputs))
+row_tells {P} state me t (commands.Subscribe mask) = each_check (Tells {P = P}) (is_mask mask) Invalid _ (a_reply (reply_to t) refl (plain_byte t))
 row_tells {P} state me t (commands.StreamName stream name) =
     each_then (Tells {P = P}) (present (stream_of state.inputs me.conn stream) NoEntity) _ (λ x. each_then (Tells {P = P}) (present (name_in name) Invalid) _ (λ text. a_reply (reply_to t) refl (plain_byte t)))
 row_tells {P} state me t (commands.UpdateStream stream mode list) =
@@ -206,7 +247,7 @@ row_tells {P} state me t (commands.RemoveStream stream keys) =
     each_then (Tells {P = P}) (present (stream_of state.inputs me.conn stream) NoEntity) _
     (λ x. each_then (Tells {P = P}) (check (has_keys (list_of_input state.lists (Input.index x)) keys) NoEntity) _ (λ there. a_reply (reply_to t) refl (plain_byte t)))
 row_tells {P} state me t (commands.KillClient client) = each_then (Tells {P = P}) (present (connection_with state.connections client) NoEntity) _ (λ c. a_reply (reply_to t) refl (plain_byte t))
-row_tells {P} state me t (commands.KillInput input) = each_then (Tells {P = P}) (present (input_numbered state.inputs input) NoEntity) _ (λ x. a_reply (reply_to t) refl (plain_byte t))
+row_tells {P} state me t (commands.KillInput input) = each_then (Tells {P = P}) (present (input_named state.inputs input) NoEntity) _ (λ x. a_reply (reply_to t) refl (plain_byte t))
 row_tells state me t (commands.SinkVolume sink volume) = sink_volume_tells state t (named_by state.names state.sinks sink false) volume
 row_tells state me t (commands.SinkMute sink on) = sink_mute_tells state t (named_by state.names state.sinks sink false) on
 row_tells state me t (commands.InputVolume input volume) = input_volume_tells state t (input_named state.inputs input) volume

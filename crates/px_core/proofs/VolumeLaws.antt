@@ -20,16 +20,16 @@ use Rattle.px_plan.specs.Target.{is_clear, target_of as target_in}
 use Rattle.px_ctl_vol.specs.Asked.{is_volume, fits}
 use Rattle.px_ctl_vol.specs.Factors.{regrouped}
 use Rattle.px_ctl_vol.specs.Inputs.{is_moving}
-use Rattle.px_core.specs.State.{State, goes_on, has_index, input_of, is_settled, settled_on}
+use Rattle.px_core.specs.State.{State, goes_on, going, has_index, input_named, input_of, is_settled, settled_on}
 use Rattle.px_core.specs.Command.{sink_volume, sink_mute, input_volume, input_mute}
 use Rattle.px_core.specs.Grouped.{IsGroupOf}
 use Rattle.px_core.specs.Keeps.{IsInput, IsKept}
 use Rattle.px_core.specs.Plan.{Plan}
-use Rattle.px_core.specs.Sinks.{group_of, group_named, going, input_named, group_under}
+use Rattle.px_targets.specs.Sinks.{group_of, group_named, group_under}
 use Rattle.px_core.proofs.AnswerLaws.{IsLawful, regroups, rising_filter}
 use Rattle.px_core.proofs.ListLaws.{found_all}
 use Rattle.px_core.proofs.RowLaws.{Each, each_check, each_then}
-use Rattle.px_core.proofs.Sinks.{IsThere}
+use Rattle.px_targets.proofs.Sinks.{IsThere}
 
 same_group : (sink : SinkId) (s : SinkSpec) (inputs : List Input) (group after : FlatGroup) → HasSameInputs group after → IsGroupOf sink s inputs group → IsGroupOf sink s inputs after
 same_group sink s inputs group after same is = record { channels = same.channels ∙ is.channels; members = λ i. same.inputs i ∙ is.members i }

@@ -19,7 +19,8 @@ use Rattle.px_plan.specs.declared.refusal.Refusal.TheVariants.{Code}
 use Rattle.px_plan.specs.declared.target.Named.{Named}
 use Rattle.px_plan.specs.Plan.{idle}
 use Rattle.px_plan.specs.Row.{Row}
-use Rattle.px_ctl_info.specs.Clients.{auth, set_client_name, client_info, client_infos, connection_with, kill_client}
+use Rattle.px_ctl_info.specs.Clients.{auth, set_client_name, client_info, client_infos, connection_with, kill_client, subscribe}
+use Rattle.px_ctl_info.specs.Infos.{sink_info, sink_infos, input_info, input_infos}
 use Rattle.px_ctl_info.specs.Lists.{empty_list}
 use Rattle.px_ctl_info.specs.Properties.{update_client, remove_client, update_stream, remove_stream, set_stream_name}
 use Rattle.px_ctl_info.specs.Sinks.{lookup_sink, set_default_sink, server_info}
@@ -32,10 +33,10 @@ use Rattle.px_ctl_play.specs.Kill.{kill_input}
 use Rattle.px_ctl_play.specs.Latency.{latency}
 use Rattle.px_ctl_vol.specs.Inputs.{set_input_volume, set_input_mute}
 use Rattle.px_ctl_vol.specs.Sinks.{set_sink_volume, set_sink_mute}
-use Rattle.px_core.specs.State.{State, stream_of, input_numbered}
+use Rattle.px_core.specs.State.{State, stream_of, input_named}
 use Rattle.px_core.specs.Notice.{owner_of}
 use Rattle.px_core.specs.Plan.{Plan, refused, requested, broken_off}
-use Rattle.px_core.specs.Sinks.{rate_of, depth_of, sink_of, named_as, named_by, group_named, input_named, group_under}
+use Rattle.px_targets.specs.Sinks.{rate_of, depth_of, sink_of, named_as, named_by, group_named, group_under, targets_of}
 
 -- ---- the commands
 
@@ -46,8 +47,8 @@ AUTH = 8
 abbrev pub is_built : ℕ → Bool
 is_built command =
     nat_eq command 3 || nat_eq command 4 || nat_eq command 8 || nat_eq command 9 || nat_eq command 10 || nat_eq command 12 || nat_eq command 14
-    || nat_eq command 20 || nat_eq command 24 || nat_eq command 26 || nat_eq command 27 || nat_eq command 28 || nat_eq command 32 || nat_eq command 34
-    || nat_eq command 36 || nat_eq command 37 || nat_eq command 39
+    || nat_eq command 20 || nat_eq command 21 || nat_eq command 22 || nat_eq command 24 || nat_eq command 26 || nat_eq command 27 || nat_eq command 28
+    || nat_eq command 29 || nat_eq command 30 || nat_eq command 32 || nat_eq command 34 || nat_eq command 35 || nat_eq command 36 || nat_eq command 37 || nat_eq command 39
     || nat_eq command 41 || nat_eq command 42 || nat_eq command 43 || nat_eq command 44 || nat_eq command 46 || nat_eq command 48 || nat_eq command 49 || nat_eq command 60 || nat_eq command 69
     || nat_eq command 72 || nat_eq command 81 || nat_eq command 82 || nat_eq command 84 || nat_eq command 85 || nat_eq command 89
 
@@ -103,13 +104,13 @@ row state me tag (commands.Attributes stream asked adjust_latency early_requests
 row state me tag (commands.EmptyList number) = empty_list tag
 row state me tag (commands.LookupSink name) = lookup_sink state.names tag name
 row state me tag commands.ServerInfo = server_info (default_sink state) tag
-row state me tag (commands.SinkInfo sink) = not_built
-row state me tag commands.SinkInfoList = not_built
+row state me tag (commands.SinkInfo sink) = sink_info (named_by state.names state.sinks sink false) state.groups tag
+row state me tag commands.SinkInfoList = sink_infos (targets_of state.sinks) state.groups tag
 row state me tag (commands.ClientInfo client) = client_info (client_numbered state.names.clients client) tag
 row state me tag commands.ClientInfoList = client_infos state.names.clients tag
-row state me tag (commands.InputInfo input) = not_built
-row state me tag commands.InputInfoList = not_built
-row state me tag (commands.Subscribe mask) = not_built
+row state me tag (commands.InputInfo input) = input_info (input_named state.inputs input) state.groups state.lists tag
+row state me tag commands.InputInfoList = input_infos state.inputs state.groups state.lists tag
+row state me tag (commands.Subscribe mask) = subscribe me tag mask
 row state me tag (commands.SinkVolume sink volume) = sink_volume state (named_by state.names state.sinks sink false) volume tag
 row state me tag (commands.InputVolume input volume) = input_volume state (input_named state.inputs input) volume tag
 row state me tag (commands.SinkMute sink on) = sink_mute state (named_by state.names state.sinks sink false) on tag
@@ -117,7 +118,7 @@ row state me tag (commands.InputMute input on) = input_mute state (input_named s
 row state me tag (commands.DefaultSink name) = set_default_sink state.names tag name
 row state me tag (commands.StreamName stream name) = set_stream_name (stream_of state.inputs me.conn stream) state.lists tag name
 row state me tag (commands.KillClient client) = kill_client (connection_with state.connections client) tag
-row state me tag (commands.KillInput input) = killed_input state (input_numbered state.inputs input) tag
+row state me tag (commands.KillInput input) = killed_input state (input_named state.inputs input) tag
 row state me tag (commands.Move input sink) = not_built
 row state me tag (commands.UpdateStream stream mode list) = update_stream (stream_of state.inputs me.conn stream) state.lists tag mode list
 row state me tag (commands.UpdateClient mode list) = update_client (client_on state.names.clients me.conn) me tag mode list

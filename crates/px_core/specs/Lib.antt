@@ -3,7 +3,6 @@ pub mod State
 pub mod Tables
 pub mod Change
 pub mod Plan
-pub mod Sinks
 pub mod Connecting
 pub mod Notice
 pub mod Command

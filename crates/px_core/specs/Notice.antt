@@ -17,7 +17,7 @@ use Rattle.px_ctl_play.specs.Told.{told, left}
 use Rattle.px_core.specs.State.{State}
 use Rattle.px_core.specs.Connecting.{going_on}
 use Rattle.px_core.specs.Plan.{Plan}
-use Rattle.px_core.specs.Sinks.{rate_on}
+use Rattle.px_targets.specs.Sinks.{rate_on}
 
 -- the input with an index, where it is on the sink
 abbrev pub is_on : SinkId → InputId → Input → Bool

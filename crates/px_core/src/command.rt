@@ -10,32 +10,31 @@ ghost use Rattle.std.specs.List.{AllByRecursion};
 ghost use Rattle.std.specs.Option.{option_map};
 ghost use Rattle.px_core.specs.Grouped.{AreGrouped};
 ghost use Rattle.px_core.specs.Keeps.{IsInput};
-ghost use Rattle.px_core.specs.Sinks.{named_by};
-ghost use Rattle.px_core.specs.State.{stream_of, input_numbered};
+ghost use Rattle.px_core.specs.State.{stream_of};
+ghost use Rattle.px_targets.specs.Sinks.{named_by};
 ghost use Rattle.px_core.specs.Tables.{state_of};
 ghost use Rattle.px_core.specs.Command.{is_built, is_waiting_for_work, is_barred, new_attributes, create_on, default_sink, killed_input, row, read_answer, command_answer, packet_answer};
 
 use crate::found::copied;
-use crate::groups::group_named;
+use crate::infos::{told_input, told_inputs, told_sink, told_sinks};
 use crate::notice::owner_of;
 use crate::plan::{broken_off, refused, requested};
 use crate::tables::Tables;
-use crate::targets::{default_sink, depth_of, named_by, rate_of, sink_of};
 use crate::volumes::{input_mute, input_volume, sink_mute, sink_volume};
 use px_cmd::{CmdFault, Command, CreateFields, Text, is_command, read_command, read_head};
 use px_ctl_info::{
     SERVER_VERSION, auth, client_info, client_infos, connection_with, empty_list, kill_client,
     lookup_sink, remove_client, remove_stream, server_info, set_client_name, set_default_sink,
-    set_stream_name, update_client, update_stream,
+    set_stream_name, subscribe, update_client, update_stream,
 };
 use px_ctl_play::{
     attributes, cork, create, delete, drain, flush, kill_input, latency, prebuf, trigger,
 };
 use px_flat::Group;
-use px_inputs::goes_on;
 use px_msg::Msg;
 use px_plan::{Connection, Input, Plan, Refusal};
-use px_types::{ErrorCode, InputId, Mem, NoMemory};
+use px_targets::{default_sink, depth_of, group_named, named_by, rate_of, sink_of};
+use px_types::{ErrorCode, Mem, NoMemory};
 use std::alloc::Global;
 
 /// The number of AUTH.
@@ -54,12 +53,17 @@ fn is_built(command: u32) -> bool
             | 12
             | 14
             | 20
+            | 21
+            | 22
             | 24
             | 26
             | 27
             | 28
+            | 29
+            | 30
             | 32
             | 34
+            | 35
             | 36
             | 37
             | 39
@@ -173,14 +177,6 @@ fn server<P: Drop>(
     server_info(alloc, named, tag, SERVER_VERSION)
 }
 
-// The input with an index, where it goes on.
-fn input_numbered<P>(tables: &Tables<P>, index: u32) -> Option<Input>
-    ensures { result ≡ input_numbered tables.now.inputs.items index }
-{
-    match tables.inputs.input_of(InputId(index)) {
-        Some(x) if goes_on(&x) => Some(x),
-        _ => None,
-    }
 }
 
 // An input ends, whose connection is told so where that goes on.
@@ -238,6 +234,7 @@ fn row<P: Drop>(
             new_attributes(alloc, tables, stream, asked, tag)
         }
         Command::EmptyList { .. } => empty_list(alloc, tag),
+        Command::Subscribe { mask } => subscribe(alloc, me, tag, mask),
         Command::LookupSink { name } => lookup_sink(alloc, &tables.names, tag, text_of(&name)),
         Command::DefaultSink { name } => set_default_sink(
             alloc,
@@ -258,6 +255,10 @@ fn row<P: Drop>(
             remove_client(alloc, client, me, tag, &keys)
         }
         Command::ServerInfo => server(alloc, tables, tag),
+        Command::SinkInfo { sink } => told_sink(alloc, tables, &sink, tag),
+        Command::SinkInfoList => told_sinks(alloc, tables, tag),
+        Command::InputInfo { input } => told_input(alloc, tables, input, tag),
+        Command::InputInfoList => told_inputs(alloc, tables, tag),
         Command::StreamName { stream, name } => {
             let stream = stream_of(tables, me, stream);
             set_stream_name(alloc, stream, &tables.lists, tag, text_of(&name))
@@ -274,18 +275,13 @@ fn row<P: Drop>(
             kill_client(alloc, connection_with(&tables.connections, client), tag)
         }
         Command::KillInput { input } => {
-            killed_input(alloc, tables, input_numbered(tables, input), tag)
+            killed_input(alloc, tables, tables.inputs.input_named(input), tag)
         }
         Command::SinkVolume { sink, volume } => sink_volume(alloc, tables, &sink, &volume, tag),
         Command::SinkMute { sink, on } => sink_mute(alloc, tables, &sink, on, tag),
         Command::InputVolume { input, volume } => input_volume(alloc, tables, input, &volume, tag),
         Command::InputMute { input, on } => input_mute(alloc, tables, input, on, tag),
-        Command::SinkInfo { .. }
-        | Command::SinkInfoList
-        | Command::InputInfo { .. }
-        | Command::InputInfoList
-        | Command::Subscribe { .. }
-        | Command::Move { .. } => Err(Refusal::Code(ErrorCode::NotImplemented)),
+        Command::Move { .. } => Err(Refusal::Code(ErrorCode::NotImplemented)),
     }
 }
 

@@ -9,7 +9,6 @@ ghost use Rattle.px_core.specs.Tables.{state_of, HasRoom, HavePlaces};
 
 use crate::change::CoreChange;
 use crate::effects::{Effects, plan_effects};
-use crate::groups::set_group;
 use crate::tables::Tables;
 use crate::{awaited, queues, verbs};
 use px_flat::Group;
@@ -18,6 +17,7 @@ use px_msg::Msg;
 use px_names::Names;
 use px_plan::{Change, Input, Plan, Standing, Waiting};
 use px_tag::PropList;
+use px_targets::set_group;
 use px_types::{ConnId, InputId, Mem, SinkId};
 use std::alloc::Global;
 use std::collections::VecDeque;

@@ -13,7 +13,7 @@ mod effect;
 mod effects;
 mod found;
 mod frames;
-mod groups;
+mod infos;
 mod laws;
 mod lending;
 mod machine;
@@ -23,7 +23,6 @@ mod plan;
 mod queues;
 mod start;
 mod tables;
-mod targets;
 mod verbs;
 mod volumes;
 

@@ -12,13 +12,12 @@ ghost use Rattle.px_core.specs.Tables.{state_of};
 use crate::commit::finish;
 use crate::effects::Effects;
 use crate::found::{going_on, input_on};
-use crate::groups::group_on;
 use crate::tables::Tables;
-use crate::targets::rate_on;
 use px_ctl_play::{News, Progress, drained, left, measured, tell};
 use px_flat::Group;
 use px_msg::{Msg, Notice, Parcel};
 use px_plan::{Connection, Input, Plan};
+use px_targets::{group_on, rate_on};
 use px_types::{Mem, SinkId};
 use std::alloc::Global;
 

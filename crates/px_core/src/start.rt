@@ -5,7 +5,7 @@ ghost use Rattle.px_session.specs.declared.header.SinkSpec.{SinkSpec};
 ghost use Rattle.px_session.specs.HeaderRules.{IsHeader, AreSinks};
 ghost use Rattle.std.specs.List.{AllByRecursion};
 ghost use Rattle.px_flat.specs.FlatVolume.{new_group};
-ghost use Rattle.px_core.specs.Sinks.{IsOfHeader};
+ghost use Rattle.px_targets.specs.Sinks.{IsOfHeader};
 ghost use Rattle.px_core.specs.State.{new_state};
 ghost use Rattle.px_core.specs.Tables.{lists_of, state_of};
 
@@ -74,7 +74,7 @@ fn group_for(alloc: Global, sink: &SinkSpec) -> Group
 }
 
 // Such a group for each sink.
-#[tactic(auto, using(crate::proofs::Sinks::next_of_header))]
+#[tactic(auto, using(px_targets::proofs::Sinks::next_of_header))]
 fn groups_for(alloc: Global, sinks: &[SinkSpec]) -> Mem<Vec<Group>>
     requires { AllByRecursion IsOfHeader sinks.now }
     ensures { IfOk result (λ made. made.items ≡ map (λ s. new_group (SinkSpec.spec s).channels) sinks.now) }
@@ -87,7 +87,7 @@ fn groups_for(alloc: Global, sinks: &[SinkSpec]) -> Mem<Vec<Group>>
 }
 
 /// The tables of a server with this header: no client, no input and no message.
-#[tactic(auto, using(crate::proofs::Sinks::each_of_header))]
+#[tactic(auto, using(px_targets::proofs::Sinks::each_of_header))]
 pub(crate) fn new_tables<P: Drop>(alloc: Global, header: &Header) -> Mem<Tables<P>>
     requires { IsHeader header.now }
     ensures state { IfOk result (λ tables. state_of tables ≡ new_state header.now) }

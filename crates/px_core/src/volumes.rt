@@ -1,24 +1,21 @@
 //! The commands on volumes and mutes, each on the parts of the state that it reads.
 
 ghost use Rattle.std.specs.Prelude.{◌≡◌, [], false};
-ghost use Rattle.std.specs.Option.{option_map};
 ghost use Rattle.px_plan.specs.Row.{Plans};
 ghost use Rattle.px_session.specs.HeaderRules.{AreSinks};
 ghost use Rattle.px_core.specs.Command.{sink_volume, sink_mute, input_volume, input_mute};
-ghost use Rattle.px_core.specs.Sinks.{named_by, input_named, group_under};
+ghost use Rattle.px_core.specs.State.{input_named};
 ghost use Rattle.px_core.specs.Tables.{state_of};
+ghost use Rattle.px_targets.specs.Sinks.{named_by};
 
-use crate::groups::{group_named, group_on};
 use crate::tables::Tables;
-use crate::targets::named_by;
 use px_cmd::SinkRef;
 use px_ctl_vol::{set_input_mute, set_input_volume, set_sink_mute, set_sink_volume};
 use px_flat::Group;
-use px_inputs::{InputTable, goes_on};
 use px_msg::Msg;
-use px_plan::{Input, Plan, Refusal};
+use px_plan::{Plan, Refusal};
 use px_tag::RawVolume;
-use px_types::InputId;
+use px_targets::{group_named, group_under, named_by};
 use std::alloc::Global;
 
 /// The volume of the sink that is named.
@@ -53,26 +50,6 @@ pub(crate) fn sink_mute<P: Drop>(
     set_sink_mute(alloc, named, group, tables.inputs.as_slice(), on, tag)
 }
 
-// The input that is named, where it goes on.
-fn input_named(inputs: &InputTable, index: u32) -> Option<Input>
-    ensures { result ≡ input_named inputs.now.items index }
-{
-    match inputs.input_of(InputId(index)) {
-        Some(x) if goes_on(&x) => Some(x),
-        _ => None,
-    }
-}
-
-// The group of the sink that it is on.
-fn group_under(groups: &[Group], input: Option<Input>) -> Option<&Group>
-    ensures { option_map (λ g. g.now) result ≡ group_under groups.now input }
-{
-    match input {
-        None => None,
-        Some(x) => group_on(groups, x.sink),
-    }
-}
-
 /// The volume of an input.
 pub(crate) fn input_volume<P: Drop>(
     alloc: Global,
@@ -83,7 +60,7 @@ pub(crate) fn input_volume<P: Drop>(
 ) -> Result<Plan<Msg<P>, Group>, Refusal>
     ensures { Plans result (input_volume (state_of tables.now) (input_named tables.now.inputs.items input) volume.now tag) }
 {
-    let x = input_named(&tables.inputs, input);
+    let x = tables.inputs.input_named(input);
     let group = group_under(&tables.groups, x);
     set_input_volume(alloc, x, group, tables.inputs.as_slice(), volume, tag)
 }
@@ -98,7 +75,7 @@ pub(crate) fn input_mute<P: Drop>(
 ) -> Result<Plan<Msg<P>, Group>, Refusal>
     ensures { Plans result (input_mute (state_of tables.now) (input_named tables.now.inputs.items input) on tag) }
 {
-    let x = input_named(&tables.inputs, input);
+    let x = tables.inputs.input_named(input);
     let group = group_under(&tables.groups, x);
     set_input_mute(alloc, x, group, tables.inputs.as_slice(), on, tag)
 }

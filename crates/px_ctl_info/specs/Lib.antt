@@ -2,3 +2,4 @@ pub mod Properties
 pub mod Clients
 pub mod Sinks
 pub mod Lists
+pub mod Infos

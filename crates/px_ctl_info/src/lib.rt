@@ -3,6 +3,7 @@
 #![tactic(auto)]
 
 mod clients;
+mod infos;
 mod kills;
 mod lists;
 mod properties;
@@ -11,6 +12,7 @@ mod streams;
 mod told;
 
 pub use clients::{SERVER_VERSION, auth, set_client_name, subscribe};
+pub use infos::{input_info, input_infos, sink_info, sink_infos};
 pub use kills::{connection_with, kill_client};
 pub use lists::empty_list;
 pub use properties::{remove_client, update_client};

@@ -34,9 +34,11 @@ abbrev pub input_made : ℕ → Connection → Target → CreateFields → Input
 input_made made me sink a = record {
   index = record { 0 = made };
   conn = me.conn;
+  client = me.client;
   stream = me.streams;
   sink = sink.index;
   spec = spec_on sink a;
+  map = positions_on sink a;
   attr = attr_on sink a;
   way = Coming;
   standing = Settled;

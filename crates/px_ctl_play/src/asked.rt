@@ -124,8 +124,8 @@ pub(crate) fn positions_on<'a>(sink: &'a Target, a: &'a CreateFields) -> &'a [u8
     }
 }
 
-// Its channel map on a sink: the sink's where the client says so.
-fn map_on(sink: &Target, a: &CreateFields) -> Map
+/// Its channel map on a sink: the sink's where the client says so. Takes no memory.
+pub(crate) fn map_on(sink: &Target, a: &CreateFields) -> Map
     requires { IsChannelMap a.now.map }
     ensures { result ≡ positions_on sink.now a.now }
 {

@@ -2,6 +2,7 @@
 
 ghost use Rattle.std.specs.Prelude.{◌≡◌, ◌<◌, ◌≤◌, IfOk, IsSome, Ok};
 ghost use Rattle.std.specs.Option.{option_map};
+ghost use Rattle.px_chmap.specs.ChannelMap.{IsChannelMap};
 ghost use Rattle.px_chmap.specs.Plan.{FeedsAll};
 ghost use Rattle.px_vol.specs.Volume.{IsChannelVolume};
 ghost use Rattle.px_flat.specs.FlatVolume.{member_of};
@@ -14,7 +15,7 @@ ghost use Rattle.px_ctl_play.specs.Asked.{channels_on};
 ghost use Rattle.px_ctl_play.specs.Joining.{IsReady, IsReadyAt};
 ghost use Rattle.px_ctl_play.specs.Create.{input_made, changes_of, created, create};
 
-use crate::asked::{attr_on, feed_on, is_lawful, spec_on};
+use crate::asked::{attr_on, feed_on, is_lawful, map_on, spec_on};
 use crate::created::{new_of, reply_of};
 use crate::factors::regrouped_with;
 use crate::joining::joined;
@@ -34,6 +35,7 @@ fn input_made(made: u32, me: &Connection, sink: &Target, a: &CreateFields) -> In
     requires sink { IsTarget sink.now }
     requires some { 1 ≤ a.now.spec.channels }
     requires few { a.now.spec.channels ≤ 32 }
+    requires map { IsChannelMap a.now.map }
     ensures value { result ≡ input_made made me.now sink.now a.now }
     ensures some { 1 ≤ result.spec.channels }
     ensures few { result.spec.channels ≤ 32 }
@@ -43,9 +45,11 @@ fn input_made(made: u32, me: &Connection, sink: &Target, a: &CreateFields) -> In
     Input {
         index: InputId(made),
         conn: me.conn,
+        client: me.client,
         stream: me.streams,
         sink: sink.index,
         spec: spec_on(sink, a),
+        map: map_on(sink, a),
         attr: attr_on(sink, a),
         way: Way::Coming,
         standing: Standing::Settled,
@@ -106,6 +110,7 @@ fn created<P: Drop>(
     requires ready { IsReady sink made group.now }
     requires some { 1 ≤ a.now.spec.channels }
     requires few { a.now.spec.channels ≤ 32 }
+    requires map { IsChannelMap a.now.map }
     requires volume { IsChannelVolume a.now.volume }
     requires feeds { FeedsAll (channels_on sink a.now) sink.spec.channels feed }
     requires inputs { made < 4294967295 }

@@ -5,7 +5,7 @@ ghost use Rattle.std.specs.List.{find};
 ghost use Rattle.std.specs.Option.{option_map};
 ghost use Rattle.indexmap.specs.IndexMap.{get, spare, ContainsKey};
 ghost use Rattle.px_inputs.specs.declared.input_table.StreamKey.{StreamKey as Key};
-ghost use Rattle.px_plan.specs.Input.{has_index, input_of, stream_of};
+ghost use Rattle.px_plan.specs.Input.{has_index, input_of, input_named, stream_of};
 ghost use Rattle.px_inputs.specs.Lists.{change_first, drop_first};
 ghost use Rattle.px_inputs.specs.Inputs.{leaving, with_attr};
 ghost use Rattle.px_inputs.specs.InputTable.{same_stream, key_of, first_of};
@@ -124,6 +124,16 @@ impl InputTable {
         match input_of(&self.all, index) {
             None => None,
             Some(x) => Some(*x),
+        }
+    }
+
+    /// The input with an index, where it goes on. Takes no memory.
+    pub fn input_named(&self, index: u32) -> Option<Input>
+        ensures { result ≡ input_named self.now.items index }
+    {
+        match self.input_of(InputId(index)) {
+            Some(x) if goes_on(&x) => Some(x),
+            _ => None,
         }
     }
 

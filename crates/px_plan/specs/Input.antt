@@ -57,13 +57,13 @@ has_index index x = nat_eq x.index.0 index.0
 abbrev pub input_of : List Input → InputId → Option Input
 input_of inputs index = find (has_index index) inputs
 
--- and where it goes on
-abbrev pub going_on : Option Input → Option Input
-going_on None = None
-going_on (Some x) = cond (goes_on x) (Some x) None
+-- and where it goes on: one that has ended isn't there for a command
+abbrev pub going : Option Input → Option Input
+going None = None
+going (Some x) = cond (goes_on x) (Some x) None
 
-abbrev pub input_numbered : List Input → ℕ → Option Input
-input_numbered inputs index = going_on (input_of inputs (record { 0 = index }))
+abbrev pub input_named : List Input → ℕ → Option Input
+input_named inputs index = going (input_of inputs (record { 0 = index }))
 
 -- it is that stream of the connection, and goes on
 abbrev pub is_stream : ConnId → ℕ → Input → Bool

@@ -1,5 +1,6 @@
 //! What the server keeps of a connection and of a sink input.
 
+use px_chmap::Map;
 use px_model::Attr;
 use px_sample::Spec;
 use px_types::{ConnId, InputId, SinkId};
@@ -47,13 +48,15 @@ pub enum Standing {
 pub struct Input {
     /// Its index, which no other input ever has.
     pub index: InputId,
-    /// The connection that made it, and the number of the stream there.
+    /// The connection that made it, the index of its client, and the number of the stream there.
     pub conn: ConnId,
+    pub client: u32,
     pub stream: u32,
     /// The sink that it is on.
     pub sink: SinkId,
-    /// The sample spec of what is written to it.
+    /// The sample spec of what is written to it, and a speaker position for each of its channels.
     pub spec: Spec,
+    pub map: Map,
     /// Its buffer attributes, in frames, repaired.
     pub attr: Attr,
     /// Where its stream is.

@@ -15,7 +15,7 @@ use Rattle.px_model.proofs.Rounds.{empty_keeps}
 use Rattle.px_core.specs.State.{State, new_state}
 use Rattle.px_core.proofs.ParcelLaws.{new_carry}
 use Rattle.px_core.proofs.StepLaws.{new_keeps}
-use Rattle.px_core.proofs.Sinks.{is_of_header}
+use Rattle.px_targets.proofs.Sinks.{is_of_header}
 use Rattle.px_world.specs.declared.fault.WorldFault.{WorldFault}
 use Rattle.px_world.specs.declared.fault.WorldFault.TheVariants.{Live, NotLive, NoSink, Worn, TooMany, NoMemory}
 use Rattle.px_world.specs.declared.outcome.Outcome.{Outcome}

@@ -1,5 +1,5 @@
 -- What is known of a header's sinks.
-use Rattle.std.proofs.Common.{◌≡◌, ℕ, suc, zero, ◌<◌, Bool, true, false, ◌&&◌, not, eqb, List, [], ◌∷◌, ◌++◌, length, get_or, slice_get, IsTrue, IfSome, is_some, ltb, Option, None, Some, Result, Ok, Err, refl, sym, subst, arith}
+use Rattle.std.proofs.Common.{◌≡◌, ℕ, suc, zero, ◌<◌, ◌≤◌, Bool, true, false, ◌&&◌, not, eqb, List, [], ◌∷◌, ◌++◌, length, get_or, slice_get, take, IsTrue, IfSome, is_some, ltb, Option, None, Some, Result, Ok, Err, refl, ap, sym, subst, arith}
 use Rattle.std.specs.List.{AllByRecursion, list_all}
 use Rattle.std.proofs.lemmas.Bool.{ltb-true}
 use Rattle.std.proofs.lemmas.Option.{slice_get_read}
@@ -12,7 +12,7 @@ use Rattle.px_types.specs.declared.error_code.ErrorCode.TheVariants.{Invalid}
 use Rattle.px_types.specs.declared.ids.SinkId.{SinkId}
 use Rattle.px_plan.specs.declared.target.Target.{Target}
 use Rattle.px_plan.specs.Target.{target_of as target_in, IsTarget}
-use Rattle.px_core.specs.Sinks.{IsOfHeader, target_of, found_as, named_as}
+use Rattle.px_targets.specs.Sinks.{IsOfHeader, target_of, found_as, named_as}
 
 both_true : (a b : Bool) → (a && b) ≡ true → (a ≡ true) × (b ≡ true)
 both_true true b e = (refl, e)
@@ -89,3 +89,18 @@ pub next_of_header : (sinks : List SinkSpec) (i : ℕ) (d : SinkSpec) → i < le
 next_of_header [] i d l h = absurd (omega (arith, l))
 next_of_header (x ∷ sinks) zero d l h = h.0
 next_of_header (x ∷ sinks) (suc i) d l h = next_of_header sinks i d (omega (arith, l)) h.1
+
+-- the first of them, as many as there are or more
+pub all_first : (n : ℕ) (sinks : List SinkSpec) → length sinks ≤ n → take n sinks ≡ sinks
+all_first zero [] few = refl
+all_first zero (x ∷ sinks) few = absurd (omega (arith, few))
+all_first (suc n) [] few = refl
+all_first (suc n) (x ∷ sinks) few = ap (λ (rest : List SinkSpec). x ∷ rest) (all_first n sinks (omega (arith, few)))
+
+take_each : (n : ℕ) (sinks : List SinkSpec) → AllByRecursion IsOfHeader sinks → AllByRecursion IsOfHeader (take n sinks)
+take_each zero sinks h = tt
+take_each (suc n) [] h = tt
+take_each (suc n) (x ∷ sinks) h = (h.0, take_each n sinks h.1)
+
+pub first_of_header : (n : ℕ) (sinks : List SinkSpec) → AreSinks [] sinks → AllByRecursion IsOfHeader (take n sinks)
+first_of_header n sinks h = take_each n sinks (each_of_header [] sinks h)

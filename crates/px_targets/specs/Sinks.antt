@@ -1,5 +1,5 @@
 -- The sinks as commands see them.
-use Rattle.std.specs.Prelude.{ℕ, Bool, cond, List, slice_get, Option, None, Some, Result, Ok, Err}
+use Rattle.std.specs.Prelude.{ℕ, ◌+◌, Bool, List, [], ◌∷◌, take, slice_get, Option, None, Some, Result, Ok, Err}
 use Rattle.px_types.specs.declared.ids.SinkId.{SinkId}
 use Rattle.px_types.specs.declared.error_code.ErrorCode.{ErrorCode}
 use Rattle.px_types.specs.declared.error_code.ErrorCode.TheVariants.{Invalid}
@@ -12,7 +12,6 @@ use Rattle.px_plan.specs.declared.input.Input.{Input}
 use Rattle.px_plan.specs.declared.target.Target.{Target}
 use Rattle.px_plan.specs.declared.target.Named.{Named}
 use Rattle.px_plan.specs.declared.target.Named.TheVariants.{Unclear, Unknown, Sink}
-use Rattle.px_plan.specs.Input.{goes_on, input_of}
 use Rattle.px_plan.specs.Target.{target_of as target_in}
 
 -- a sink that stands in a header behind others
@@ -62,16 +61,21 @@ group_of groups (Some target) = slice_get groups target.index.0
 abbrev pub group_named : List FlatGroup → Named → Option FlatGroup
 group_named groups named = group_of groups (target_in named)
 
--- ---- the input that a command names, and the group of the sink that it is on
-
--- one that has ended isn't there
-abbrev pub going : Option Input → Option Input
-going None = None
-going (Some x) = cond (goes_on x) (Some x) None
-
-abbrev pub input_named : List Input → ℕ → Option Input
-input_named inputs index = going (input_of inputs (record { 0 = index }))
-
+-- that of the sink that an input is on
 abbrev pub group_under : List FlatGroup → Option Input → Option FlatGroup
 group_under groups None = None
 group_under groups (Some x) = slice_get groups x.sink.0
+
+-- ---- all sinks, as commands see them
+
+-- the most sinks of a header
+abbrev pub MOST_SINKS : ℕ
+MOST_SINKS = 16
+
+-- these, the first of which has an index
+abbrev pub targets_from : ℕ → List SinkSpec → List Target
+targets_from index [] = []
+targets_from index (sink ∷ sinks) = target_of (record { 0 = index }) sink ∷ targets_from (index + 1) sinks
+
+abbrev pub targets_of : List SinkSpec → List Target
+targets_of sinks = targets_from 0 (take MOST_SINKS sinks)

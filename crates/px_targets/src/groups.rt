@@ -2,21 +2,21 @@
 
 ghost use Rattle.std.specs.Prelude.{◌≡◌, set, slice_get};
 ghost use Rattle.std.specs.Option.{option_map};
-ghost use Rattle.px_core.specs.Sinks.{group_named};
+ghost use Rattle.px_targets.specs.Sinks.{group_named, group_under};
 
 use px_flat::Group;
-use px_plan::Named;
+use px_plan::{Input, Named};
 use px_types::SinkId;
 
 /// The group of a sink, where it is there. Takes no memory.
-pub(crate) fn group_on(groups: &[Group], sink: SinkId) -> Option<&Group>
+pub fn group_on(groups: &[Group], sink: SinkId) -> Option<&Group>
     ensures { option_map (λ g. g.now) result ≡ slice_get groups.now sink.0 }
 {
     groups.get(sink.0 as usize)
 }
 
 /// The group of the sink that is named, where it is there. Takes no memory.
-pub(crate) fn group_named<'a>(groups: &'a [Group], named: &Named) -> Option<&'a Group>
+pub fn group_named<'a>(groups: &'a [Group], named: &Named) -> Option<&'a Group>
     ensures { option_map (λ g. g.now) result ≡ group_named groups.now named.now }
 {
     match named {
@@ -25,8 +25,18 @@ pub(crate) fn group_named<'a>(groups: &'a [Group], named: &Named) -> Option<&'a 
     }
 }
 
+/// The group of the sink that an input is on, where both are there. Takes no memory.
+pub fn group_under(groups: &[Group], input: Option<Input>) -> Option<&Group>
+    ensures { option_map (λ g. g.now) result ≡ group_under groups.now input }
+{
+    match input {
+        None => None,
+        Some(x) => group_on(groups, x.sink),
+    }
+}
+
 /// A sink has this group. Takes no memory.
-pub(crate) fn set_group(groups: &mut Vec<Group>, sink: SinkId, group: Group)
+pub fn set_group(groups: &mut Vec<Group>, sink: SinkId, group: Group)
     ensures { groups.new.items ≡ set groups.old.items sink.0 group }
 {
     let place = sink.0 as usize;

@@ -1,11 +1,13 @@
 //! The sinks as commands see them.
 
-ghost use Rattle.std.specs.Prelude.{◌≡◌, ◌≤◌, [], true, None, slice_get, IfOk, IfSome};
+ghost use Rattle.std.specs.Prelude.{◌≡◌, ◌≤◌, ◌+◌, ◌++◌, ◌∷◌, [], true, None, List, All, length, slice_get, take, IfOk, IfSome, OnOk};
+ghost use Rattle.std.specs.List.{AllByRecursion};
 ghost use Rattle.std.specs.Option.{option_map};
+ghost use Rattle.px_session.specs.declared.header.SinkSpec.{SinkSpec};
 ghost use Rattle.px_session.specs.HeaderRules.{AreSinks};
 ghost use Rattle.px_names.specs.Names.{NO_INDEX, sink_named};
 ghost use Rattle.px_plan.specs.Target.{IsTarget, IsNamed};
-ghost use Rattle.px_core.specs.Sinks.{IsOfHeader, rate_on, rate_of, depth_of, sink_of, target_of, found_as, named_as, named_by};
+ghost use Rattle.px_targets.specs.Sinks.{MOST_SINKS, IsOfHeader, rate_on, rate_of, depth_of, sink_of, target_of, found_as, named_as, named_by, targets_from, targets_of};
 
 use px_cmd::SinkRef;
 use px_names::{NO_INDEX, Names};
@@ -13,6 +15,9 @@ use px_plan::{Input, Named, Target};
 use px_session::SinkSpec;
 use px_types::{ErrorCode, Mem, SinkId, Text};
 use std::alloc::Global;
+
+/// The most sinks of a header.
+const MOST_SINKS: usize = 16;
 
 // The sink with an index.
 #[tactic(auto, using(crate::proofs::Sinks::is_of_header))]
@@ -25,7 +30,7 @@ fn sink_at(sinks: &[SinkSpec], index: SinkId) -> Option<&SinkSpec>
 }
 
 /// The rate of the sink with an index, in frames a second; 1 where there is none. Takes no memory.
-pub(crate) fn rate_on(sinks: &[SinkSpec], index: SinkId) -> u32
+pub fn rate_on(sinks: &[SinkSpec], index: SinkId) -> u32
     requires { AreSinks [] sinks.now }
     ensures value { result ≡ rate_on sinks.now index }
     ensures some { 1 ≤ result }
@@ -34,7 +39,7 @@ pub(crate) fn rate_on(sinks: &[SinkSpec], index: SinkId) -> u32
 }
 
 /// The sink of an input, where both are there. Takes no memory.
-pub(crate) fn sink_of(sinks: &[SinkSpec], input: Option<Input>) -> Option<&SinkSpec>
+pub fn sink_of(sinks: &[SinkSpec], input: Option<Input>) -> Option<&SinkSpec>
     requires { AreSinks [] sinks.now }
     ensures value { option_map (λ s. s.now) result ≡ sink_of sinks.now input }
     ensures header { IfSome result (λ s. IsOfHeader s.now) }
@@ -46,7 +51,7 @@ pub(crate) fn sink_of(sinks: &[SinkSpec], input: Option<Input>) -> Option<&SinkS
 }
 
 /// The rate of a sink, in frames a second; 1 where there is none. Takes no memory.
-pub(crate) fn rate_of(sink: Option<&SinkSpec>) -> u32
+pub fn rate_of(sink: Option<&SinkSpec>) -> u32
     requires { IfSome sink (λ s. IsOfHeader s.now) }
     ensures value { result ≡ rate_of (option_map (λ s. s.now) sink.entry) }
     ensures some { 1 ≤ result }
@@ -58,7 +63,7 @@ pub(crate) fn rate_of(sink: Option<&SinkSpec>) -> u32
 }
 
 /// The depth of a sink, in frames; 0 where there is none. Takes no memory.
-pub(crate) fn depth_of(sink: Option<&SinkSpec>) -> u32
+pub fn depth_of(sink: Option<&SinkSpec>) -> u32
     ensures { result ≡ depth_of (option_map (λ s. s.now) sink.entry) }
 {
     match sink {
@@ -118,7 +123,7 @@ fn named_as(alloc: Global, sinks: &[SinkSpec], found: Result<SinkId, ErrorCode>)
 }
 
 /// The default sink.
-pub(crate) fn default_sink(alloc: Global, names: &Names, sinks: &[SinkSpec]) -> Mem<Named>
+pub fn default_sink(alloc: Global, names: &Names, sinks: &[SinkSpec]) -> Mem<Named>
     requires { AreSinks [] sinks.now }
     ensures value { IfOk result (λ named. named ≡ named_as sinks.now (sink_named names.now NO_INDEX None true)) }
     ensures lawful { IfOk result IsNamed }
@@ -127,7 +132,7 @@ pub(crate) fn default_sink(alloc: Global, names: &Names, sinks: &[SinkSpec]) -> 
 }
 
 /// The sink that a command names by an index or a name, or, where `fallback` is set, by neither: the default sink.
-pub(crate) fn named_by(
+pub fn named_by(
     alloc: Global,
     names: &Names,
     sinks: &[SinkSpec],
@@ -143,4 +148,55 @@ pub(crate) fn named_by(
         sinks,
         names.sink(sink.index, name_of(sink), fallback),
     )
+}
+
+// One more sink as a command sees it.
+fn add_target(alloc: Global, made: &mut Vec<Target>, index: SinkId, sink: &SinkSpec) -> Mem<()>
+    requires { IsOfHeader sink.now }
+    ensures value { OnOk result ((more : List SinkSpec) → made.new.items ++ targets_from (index.0 + 1) more ≡ made.old.items ++ targets_from index.0 (sink.now ∷ more)) }
+    ensures lawful { OnOk result (All IsTarget made.old.items → All IsTarget made.new.items) }
+{
+    made.push(target_of(alloc, index, sink)?)?;
+    Ok(())
+}
+
+// These sinks, from the first one on.
+#[tactic(auto, using(crate::proofs::Sinks::next_of_header))]
+fn targets_in(alloc: Global, sinks: &[SinkSpec]) -> Mem<Vec<Target>>
+    requires few { length sinks.now ≤ MOST_SINKS }
+    requires header { AllByRecursion IsOfHeader sinks.now }
+    ensures value { IfOk result (λ made. made.items ≡ targets_from 0 sinks.now) }
+    ensures lawful { IfOk result (λ made. All IsTarget made.items) }
+{
+    let mut made = Vec::new(alloc);
+    let mut index: u8 = 0;
+    for sink in sinks {
+        add_target(alloc, &mut made, SinkId(index), sink)?;
+        index += 1;
+    }
+    Ok(made)
+}
+
+// As many as a header can have.
+#[tactic(auto, using(crate::proofs::Sinks::first_of_header, crate::proofs::Sinks::all_first))]
+fn first_of(sinks: &[SinkSpec]) -> &[SinkSpec]
+    requires { AreSinks [] sinks.now }
+    ensures value { result.now ≡ take MOST_SINKS sinks.now }
+    ensures few { length result.now ≤ MOST_SINKS }
+    ensures header { AllByRecursion IsOfHeader result.now }
+{
+    if sinks.len() <= MOST_SINKS {
+        sinks
+    } else {
+        &sinks[..MOST_SINKS]
+    }
+}
+
+/// All sinks, of which a header has at most 16, as commands see them.
+pub fn targets_of(alloc: Global, sinks: &[SinkSpec]) -> Mem<Vec<Target>>
+    requires { AreSinks [] sinks.now }
+    ensures value { IfOk result (λ made. made.items ≡ targets_of sinks.now) }
+    ensures lawful { IfOk result (λ made. All IsTarget made.items) }
+{
+    targets_in(alloc, first_of(sinks))
 }

@@ -1,0 +1,99 @@
+//! The commands that ask about sinks and inputs, each on the parts of the state that it reads.
+
+ghost use Rattle.std.specs.Prelude.{◌≡◌, ◌≤◌, [], false, All, IfSome};
+ghost use Rattle.std.specs.List.{AllByRecursion};
+ghost use Rattle.px_plan.specs.declared.input.Input.{Input};
+ghost use Rattle.px_plan.specs.Row.{Plans};
+ghost use Rattle.px_session.specs.HeaderRules.{AreSinks};
+ghost use Rattle.px_ctl_info.specs.Infos.{sink_info, sink_infos, input_info, input_infos};
+ghost use Rattle.px_targets.specs.Sinks.{named_by, targets_of};
+ghost use Rattle.px_core.specs.Keeps.{IsInput};
+ghost use Rattle.px_core.specs.State.{input_named};
+
+use crate::tables::Tables;
+use px_cmd::SinkRef;
+use px_ctl_info::{input_info, input_infos, sink_info, sink_infos};
+use px_flat::Group;
+use px_msg::Msg;
+use px_plan::{Input, Plan, Refusal};
+use px_targets::{named_by, targets_of};
+use std::alloc::Global;
+
+/// The sink that is named.
+pub(crate) fn told_sink<P: Drop>(
+    alloc: Global,
+    tables: &Tables<P>,
+    sink: &SinkRef,
+    tag: u32,
+) -> Result<Plan<Msg<P>, Group>, Refusal>
+    requires { AreSinks [] tables.now.sinks }
+    ensures { Plans result (sink_info (named_by tables.now.names tables.now.sinks sink.now false) tables.now.groups.items tag) }
+{
+    let named = named_by(alloc, &tables.names, tables.sinks.as_slice(), sink, false)?;
+    sink_info(alloc, named, &tables.groups, tag)
+}
+
+/// All sinks.
+pub(crate) fn told_sinks<P: Drop>(
+    alloc: Global,
+    tables: &Tables<P>,
+    tag: u32,
+) -> Result<Plan<Msg<P>, Group>, Refusal>
+    requires { AreSinks [] tables.now.sinks }
+    ensures { Plans result (sink_infos (targets_of tables.now.sinks) tables.now.groups.items tag) }
+{
+    let sinks = targets_of(alloc, tables.sinks.as_slice())?;
+    sink_infos(alloc, &sinks, &tables.groups, tag)
+}
+
+// The input with an index, where it goes on.
+#[tactic(auto, using(crate::proofs::StreamLaws::few_channels))]
+fn input_there<P>(tables: &Tables<P>, index: u32) -> Option<Input>
+    requires { AllByRecursion (IsInput tables.now.sinks tables.now.inputs_made) tables.now.inputs.items }
+    ensures value { result ≡ input_named tables.now.inputs.items index }
+    ensures channels { IfSome result (λ x. x.spec.channels ≤ 32) }
+{
+    tables.inputs.input_named(index)
+}
+
+/// The input with an index, where it goes on.
+pub(crate) fn told_input<P: Drop>(
+    alloc: Global,
+    tables: &Tables<P>,
+    index: u32,
+    tag: u32,
+) -> Result<Plan<Msg<P>, Group>, Refusal>
+    requires { AllByRecursion (IsInput tables.now.sinks tables.now.inputs_made) tables.now.inputs.items }
+    ensures { Plans result (input_info (input_named tables.now.inputs.items index) tables.now.groups.items tables.now.lists.items tag) }
+{
+    let x = input_there(tables, index);
+    input_info(alloc, x, &tables.groups, &tables.lists, tag)
+}
+
+// All inputs.
+#[tactic(auto, using(crate::proofs::StreamLaws::each_few_channels))]
+fn all_inputs<P>(tables: &Tables<P>) -> &[Input]
+    requires { AllByRecursion (IsInput tables.now.sinks tables.now.inputs_made) tables.now.inputs.items }
+    ensures value { result.now ≡ tables.now.inputs.items }
+    ensures channels { All (λ x. (Input.spec x).channels ≤ 32) result.now }
+{
+    tables.inputs.as_slice()
+}
+
+/// All inputs that go on.
+pub(crate) fn told_inputs<P: Drop>(
+    alloc: Global,
+    tables: &Tables<P>,
+    tag: u32,
+) -> Result<Plan<Msg<P>, Group>, Refusal>
+    requires { AllByRecursion (IsInput tables.now.sinks tables.now.inputs_made) tables.now.inputs.items }
+    ensures { Plans result (input_infos tables.now.inputs.items tables.now.groups.items tables.now.lists.items tag) }
+{
+    input_infos(
+        alloc,
+        all_inputs(tables),
+        &tables.groups,
+        &tables.lists,
+        tag,
+    )
+}

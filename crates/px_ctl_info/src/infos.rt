@@ -1,0 +1,258 @@
+//! What is told of sinks and of sink inputs (PulseAudio: `sink_fill_tagstruct`, `sink_input_fill_tagstruct`, `command_get_info`
+//! and `command_get_info_list` of `pulsecore/protocol-native.c`).
+
+ghost use Rattle.std.specs.Prelude.{◌≡◌, ◌≤◌, ◌++◌, ◌∷◌, List, All, IfOk, IfSome, OnOk};
+ghost use Rattle.std.specs.Option.{option_map};
+ghost use Rattle.px_tag.specs.Item.{IsText};
+ghost use Rattle.px_flat.specs.FlatVolume.{member_of};
+ghost use Rattle.px_names.specs.InputLists.{list_of};
+ghost use Rattle.px_plan.specs.declared.input.Input.{Input};
+ghost use Rattle.px_plan.specs.declared.target.Target.{Target};
+ghost use Rattle.px_plan.specs.Input.{goes_on};
+ghost use Rattle.px_plan.specs.Row.{Plans};
+ghost use Rattle.px_plan.specs.Target.{IsTarget, IsNamed};
+ghost use Rattle.px_ctl_info.specs.Properties.{STREAM_NAME, text_under};
+ghost use Rattle.px_ctl_info.specs.Infos.{IsSinkInfo, IsInputInfo, sink_of, group_on, sink_info, sinks_told, sink_infos, member_on, input_of, input_info, inputs_told, input_infos};
+
+use crate::clients::SERVER_VERSION;
+use crate::properties::text_under;
+use px_flat::{Group, Member};
+use px_names::InputLists;
+use px_plan::{Input, Named, Plan, Refusal, Standing, Target, check, present, raw_of};
+use px_reply::{InputInfo, SinkInfo};
+use px_tag::{PropList, RawMap, RawVolume};
+use px_types::{ErrorCode, InputId, Mem, NoMemory, Text};
+use std::alloc::Global;
+
+// ---- sinks
+
+// What is told of a sink.
+fn sink_of(alloc: Global, sink: &Target, group: &Group) -> Mem<SinkInfo>
+    requires { IsTarget sink.now }
+    ensures value { IfOk result (λ info. info ≡ sink_of sink.now group.now) }
+    ensures told { IfOk result IsSinkInfo }
+{
+    Ok(SinkInfo {
+        index: u32::from(sink.index.0),
+        name: Text::copied(alloc, sink.name.as_slice())?,
+        spec: raw_of(&sink.spec),
+        map: RawMap::new(sink.map.positions()),
+        volume: RawVolume::new(group.reference().values()),
+        mute: group.muted(),
+    })
+}
+
+// The group of a sink.
+fn group_on<'a>(groups: &'a [Group], sink: &Target) -> Option<&'a Group>
+    ensures { option_map (λ g. g.now) result ≡ group_on groups.now sink.now }
+{
+    groups.get(usize::from(sink.index.0))
+}
+
+/// GET_SINK_INFO of the sink that is named, where each sink has the group of its index. Refused: `Invalid` where it isn't clear
+/// which sink is meant, then `NoEntity` where that isn't there.
+pub fn sink_info<M: Drop, G: Drop>(
+    alloc: Global,
+    named: Named,
+    groups: &[Group],
+    tag: u32,
+) -> Result<Plan<M, G>, Refusal>
+    requires { IsNamed named }
+    ensures { Plans result (sink_info named groups.now tag) }
+{
+    check(named.is_clear(), ErrorCode::Invalid)?;
+    let sink = present(named.target(), ErrorCode::NoEntity)?;
+    let Some(group) = group_on(groups, &sink) else {
+        return Err(Refusal::Code(ErrorCode::NoEntity));
+    };
+    let info = sink_of(alloc, &sink, group)?;
+    let reply = px_reply::sink_info(alloc, tag, SERVER_VERSION, &info)?;
+    Ok(Plan::replied(alloc, reply, Vec::new(alloc)))
+}
+
+// What is told of one more.
+#[tactic(auto, using(crate::proofs::Sayable::one_more_sink))]
+fn add_sink(alloc: Global, infos: &mut Vec<SinkInfo>, sink: &Target, groups: &[Group]) -> Mem<()>
+    requires { IsTarget sink.now }
+    ensures value { OnOk result ((more : List Target) → infos.new.items ++ sinks_told groups.now more ≡ infos.old.items ++ sinks_told groups.now (sink.now ∷ more)) }
+    ensures told { OnOk result (All IsSinkInfo infos.old.items → All IsSinkInfo infos.new.items) }
+{
+    if let Some(group) = group_on(groups, sink) {
+        infos.push(sink_of(alloc, sink, group)?)?;
+    }
+    Ok(())
+}
+
+// What is told of each of them.
+fn sinks_told(alloc: Global, sinks: &[Target], groups: &[Group]) -> Mem<Vec<SinkInfo>>
+    requires { All IsTarget sinks.now }
+    ensures value { IfOk result (λ infos. infos.items ≡ sinks_told groups.now sinks.now) }
+    ensures told { IfOk result (λ infos. All IsSinkInfo infos.items) }
+{
+    let mut infos = Vec::new(alloc);
+    for sink in sinks {
+        add_sink(alloc, &mut infos, sink, groups)?;
+    }
+    Ok(infos)
+}
+
+/// GET_SINK_INFO_LIST: these sinks in their order, each with the group of its index.
+pub fn sink_infos<M: Drop, G: Drop>(
+    alloc: Global,
+    sinks: &[Target],
+    groups: &[Group],
+    tag: u32,
+) -> Result<Plan<M, G>, Refusal>
+    requires { All IsTarget sinks.now }
+    ensures { Plans result (sink_infos sinks.now groups.now tag) }
+{
+    let infos = sinks_told(alloc, sinks, groups)?;
+    let reply = px_reply::sink_infos(alloc, tag, SERVER_VERSION, infos.as_slice())?;
+    Ok(Plan::replied(alloc, reply, Vec::new(alloc)))
+}
+
+// ---- sink inputs
+
+// The member of a group with an index.
+fn member_in(members: &[Member], input: InputId) -> Option<&Member>
+    ensures { option_map (λ m. m.now) result ≡ member_of members.now input }
+{
+    members.iter().find(|m| m.input.0 == input.0)
+}
+
+// An input as a member of its sink's group.
+fn member_on<'a>(groups: &'a [Group], x: &Input) -> Option<&'a Member>
+    ensures { option_map (λ m. m.now) result ≡ member_on groups.now x.now }
+{
+    match groups.get(usize::from(x.sink.0)) {
+        None => None,
+        Some(group) => member_in(group.members(), x.index),
+    }
+}
+
+// The name that a stream's list says.
+fn name_of(alloc: Global, list: &PropList) -> Mem<Option<Text>>
+    ensures value { IfOk result (λ name. name ≡ text_under list.now STREAM_NAME) }
+    ensures text { IfOk result IsText }
+{
+    match text_under(list, b"media.name") {
+        None => Ok(None),
+        Some(name) => Ok(Some(Text::copied(alloc, name)?)),
+    }
+}
+
+// What is told of an input with this list.
+fn input_of(alloc: Global, x: &Input, m: &Member, list: PropList) -> Mem<InputInfo>
+    requires { x.now.spec.channels ≤ 32 }
+    ensures value { IfOk result (λ info. info ≡ input_of x.now m.now list) }
+    ensures told { IfOk result IsInputInfo }
+{
+    Ok(InputInfo {
+        index: x.index.0,
+        name: name_of(alloc, &list)?,
+        client: x.client,
+        sink: u32::from(x.sink.0),
+        spec: raw_of(&x.spec),
+        map: RawMap::new(x.map.positions()),
+        volume: RawVolume::new(m.volume.values()),
+        mute: m.muted,
+        list,
+    })
+}
+
+/// GET_SINK_INPUT_INFO of this input, of at most 32 channels, where each sink has the group of its index. Refused: `NoEntity`
+/// where there is no such input.
+pub fn input_info<M: Drop, G: Drop>(
+    alloc: Global,
+    input: Option<Input>,
+    groups: &[Group],
+    lists: &InputLists,
+    tag: u32,
+) -> Result<Plan<M, G>, Refusal>
+    requires { IfSome input (λ x. x.spec.channels ≤ 32) }
+    ensures { Plans result (input_info input groups.now lists.now.items tag) }
+{
+    let x = present(input, ErrorCode::NoEntity)?;
+    let Some(m) = member_on(groups, &x) else {
+        return Err(Refusal::Code(ErrorCode::NoEntity));
+    };
+    let info = input_of(alloc, &x, m, lists.copy_of(x.index)?)?;
+    let reply = px_reply::input_info(alloc, tag, &info)?;
+    Ok(Plan::replied(alloc, reply, Vec::new(alloc)))
+}
+
+// Whether an input goes on: it hasn't ended.
+fn goes_on(x: &Input) -> bool
+    ensures { result ≡ goes_on x.now }
+{
+    !matches!(x.standing, Standing::Leaving)
+}
+
+// What is told of an input that is a member.
+fn told_of(alloc: Global, x: &Input, m: &Member, lists: &InputLists) -> Mem<InputInfo>
+    requires { x.now.spec.channels ≤ 32 }
+    ensures value { IfOk result (λ info. info ≡ input_of x.now m.now (list_of lists.now.items x.now.index)) }
+    ensures told { IfOk result IsInputInfo }
+{
+    match lists.copy_of(x.index) {
+        Ok(list) => input_of(alloc, x, m, list),
+        Err(_) => Err(NoMemory),
+    }
+}
+
+// What is told of one more, where it goes on.
+#[tactic(auto, using(crate::proofs::Sayable::one_more_input))]
+fn add_input(
+    alloc: Global,
+    infos: &mut Vec<InputInfo>,
+    x: &Input,
+    groups: &[Group],
+    lists: &InputLists,
+) -> Mem<()>
+    requires { x.now.spec.channels ≤ 32 }
+    ensures value { OnOk result ((more : List Input) → infos.new.items ++ inputs_told groups.now lists.now.items more ≡ infos.old.items ++ inputs_told groups.now lists.now.items (x.now ∷ more)) }
+    ensures told { OnOk result (All IsInputInfo infos.old.items → All IsInputInfo infos.new.items) }
+{
+    if !goes_on(x) {
+        return Ok(());
+    }
+    if let Some(m) = member_on(groups, x) {
+        infos.push(told_of(alloc, x, m, lists)?)?;
+    }
+    Ok(())
+}
+
+// What is told of each of them.
+fn inputs_told(
+    alloc: Global,
+    inputs: &[Input],
+    groups: &[Group],
+    lists: &InputLists,
+) -> Mem<Vec<InputInfo>>
+    requires { All (λ x. (Input.spec x).channels ≤ 32) inputs.now }
+    ensures value { IfOk result (λ infos. infos.items ≡ inputs_told groups.now lists.now.items inputs.now) }
+    ensures told { IfOk result (λ infos. All IsInputInfo infos.items) }
+{
+    let mut infos = Vec::new(alloc);
+    for x in inputs {
+        add_input(alloc, &mut infos, x, groups, lists)?;
+    }
+    Ok(infos)
+}
+
+/// GET_SINK_INPUT_INFO_LIST: those of these inputs, each of at most 32 channels, that haven't ended, in their order. Each sink has
+/// the group of its index.
+pub fn input_infos<M: Drop, G: Drop>(
+    alloc: Global,
+    inputs: &[Input],
+    groups: &[Group],
+    lists: &InputLists,
+    tag: u32,
+) -> Result<Plan<M, G>, Refusal>
+    requires { All (λ x. (Input.spec x).channels ≤ 32) inputs.now }
+    ensures { Plans result (input_infos inputs.now groups.now lists.now.items tag) }
+{
+    let infos = inputs_told(alloc, inputs, groups, lists)?;
+    let reply = px_reply::input_infos(alloc, tag, infos.as_slice())?;
+    Ok(Plan::replied(alloc, reply, Vec::new(alloc)))
+}

@@ -1,0 +1,4 @@
+pub mod Event
+pub mod Announce
+pub mod Infos
+pub mod Became

@@ -1,0 +1,11 @@
+//! What is told of changes to those who subscribed to them. It exports an event, which facilities a mask hears, who is told of
+//! an event, and the law of the events between two moments.
+#![tactic(auto)]
+
+mod announce;
+mod event;
+mod laws;
+
+pub use announce::{Subscriber, announce_all};
+pub use event::{Event, Facility, Kind, NO_INDEX, hears};
+pub use laws::events_tell_what_became;
