@@ -235,7 +235,7 @@ row_tells state me t commands.SinkInfoList = a_reply (sinks_reply t (sinks_told 
 row_tells {P} state me t (commands.InputInfo input) =
     each_then (Tells {P = P}) (present (input_named state.inputs input) NoEntity) _
     (λ x. each_then (Tells {P = P}) (present (member_on state.groups x) NoEntity) _
-    (λ m. a_reply (with_input (reply_to t) (told_input x m (list_of_input state.lists x.index))) refl (input_byte t (told_input x m (list_of_input state.lists x.index)))))
+    (λ m. a_reply (with_input (reply_to t) (told_input x m (list_of_input state.lists (Input.index x)))) refl (input_byte t (told_input x m (list_of_input state.lists (Input.index x))))))
 row_tells state me t commands.InputInfoList =
     a_reply (inputs_reply t (inputs_told state.groups state.lists state.inputs)) refl (inputs_byte t (inputs_told state.groups state.lists state.inputs))
 row_tells {P} state me t (commands.Subscribe mask) = each_check (Tells {P = P}) (is_mask mask) Invalid _ (a_reply (reply_to t) refl (plain_byte t))

@@ -135,7 +135,7 @@ module _ (given : Given) (before after : Infos) where
 
   not_server : (f : Facility) (i : ℕ) → nat_eq (facility_code Server) (facility_code f) ≡ false → about f i of_server ≡ []
   not_server f i apart =
-      other f Server i NO_INDEX (became (server_reply 0) (Some before.server) (Some after.server)) (apart_left (nat_eq (facility_code Server) (facility_code f)) (nat_eq NO_INDEX i) apart)
+      other f Server i NO_INDEX (became (server_reply 0) before.server after.server) (apart_left (nat_eq (facility_code Server) (facility_code f)) (nat_eq NO_INDEX i) apart)
 
   no_sink : (f : Facility) (i : ℕ) → nat_eq (facility_code Sink) (facility_code f) ≡ false → about f i of_sinks ≡ []
   no_sink f i apart = strange f Sink apart (with_sink []) before.sinks after.sinks i (range_with_len 0 given.sinks)
@@ -161,7 +161,7 @@ module _ (given : Given) (before after : Infos) where
         (no_sink Client i refl) (no_input Client i refl) (each Client (with_client []) before.clients after.clients i 0 given.clients (omega arith) l) (not_server Client i refl)
         ∙ append-nil (events_at Client (with_client []) before.clients after.clients i);
     server = only Server NO_INDEX [] [] [] of_server (no_sink Server NO_INDEX refl) (no_input Server NO_INDEX refl) (no_client Server NO_INDEX refl)
-        (own Server NO_INDEX (became (server_reply 0) (Some before.server) (Some after.server)) (both true (nat_eq NO_INDEX NO_INDEX) refl (same_number NO_INDEX)));
+        (own Server NO_INDEX (became (server_reply 0) before.server after.server) (both true (nat_eq NO_INDEX NO_INDEX) refl (same_number NO_INDEX)));
   }
 
 -- ---- between a moment and itself
@@ -181,4 +181,4 @@ pub none_between : (given : Given) (infos : Infos) → events_between given info
 none_between given infos =
     rw (none_of Sink (with_sink []) infos.sinks (range_with_len 0 given.sinks), none_of Input (with_input []) infos.inputs (range_with_len 0 given.inputs),
         none_of Client (with_client []) infos.clients (range_with_len 0 given.clients))
-    (ap (λ o. option_to_list (option_map (event Server NO_INDEX) o)) (nothing_became (server_reply 0) (Some infos.server)))
+    (ap (λ o. option_to_list (option_map (event Server NO_INDEX) o)) (nothing_became (server_reply 0) infos.server))

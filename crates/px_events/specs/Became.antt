@@ -33,7 +33,7 @@ abbrev pub events_of : {A : Type 0} → Facility → (A → List ℕ) → (ℕ �
 events_of facility told before after given = flat_map (events_at facility told before after) (range_with_len 0 given)
 
 abbrev pub server_events : Infos → Infos → List Event
-server_events before after = option_to_list (option_map (event Server NO_INDEX) (became (server_reply 0) (Some before.server) (Some after.server)))
+server_events before after = option_to_list (option_map (event Server NO_INDEX) (became (server_reply 0) before.server after.server))
 
 -- sinks, inputs, clients, and then the server
 abbrev pub events_between : Given → Infos → Infos → List Event

@@ -1,7 +1,7 @@
 //! An event: of which kind of object, what became of it, and which one (PulseAudio: `pa_subscription_event_type_t` and
 //! `pa_subscription_mask_t` of `pulse/def.h`).
 
-ghost use Rattle.std.specs.Prelude.{◌≡◌, IfOk};
+ghost use Rattle.std.specs.Prelude.{◌≡◌, ◌≤◌, IfOk};
 ghost use Rattle.px_events.specs.Event.{facility_code, kind_code, number_of, message_of, hears};
 
 use px_tag::Packet;
@@ -44,6 +44,7 @@ impl Facility {
     /// Its number in events. Takes no memory.
     pub fn code(self) -> u32
         ensures value { result ≡ facility_code self }
+        ensures small { result ≤ 7 }
     {
         match self {
             Facility::Sink => 0,
@@ -58,6 +59,7 @@ impl Kind {
     /// Its number in events. Takes no memory.
     pub fn code(self) -> u32
         ensures value { result ≡ kind_code self }
+        ensures small { result ≤ 32 }
     {
         match self {
             Kind::New => 0,

@@ -1,2 +1,3 @@
+mod events;
 mod names;
 mod steps;
