@@ -127,7 +127,7 @@ is_paid sink = subst (λ b. IsPaid (cond (not b) (sink ∷ []) [])) (sym (eq-eqb
 
 -- ---- a sink has given up a stream
 
-away : (way : Way) → has_left way ≡ true → way ≡ Left
+pub away : (way : Way) → has_left way ≡ true → way ≡ Left
 away Coming e = absurd (false≢true e)
 away There e = absurd (false≢true e)
 away Left e = refl

@@ -119,7 +119,7 @@ telling_keeps spec_of state sink m h there tells = record {
 -- ---- an input has other buffer attributes
 
 attr_input : (sinks : List SinkSpec) (made : ℕ) (attr : Attr) → IsRepaired attr → (y : Input) → IsInput sinks made y → IsInput sinks made (with_attr attr y)
-attr_input sinks made attr repaired y k = record { given = k.given; sink_there = k.sink_there; goes_there = k.goes_there; playable = k.playable; repaired = repaired }
+attr_input sinks made attr repaired y k = record { given = k.given; sink_there = k.sink_there; goes_there = k.goes_there; playable = k.playable; map = k.map; repaired = repaired }
 
 module _ (index : InputId) (attr : Attr) (inputs : List Input) where
   abbrev with_own : List Input
@@ -158,7 +158,7 @@ attr_keeps spec_of state index attr repaired h = record {
 -- ---- an input ends
 
 still_input : (sinks : List SinkSpec) (made : ℕ) (y : Input) → IsInput sinks made y → IsInput sinks made (leaving y)
-still_input sinks made y k = record { given = k.given; sink_there = k.sink_there; goes_there = tt; playable = k.playable; repaired = k.repaired }
+still_input sinks made y k = record { given = k.given; sink_there = k.sink_there; goes_there = tt; playable = k.playable; map = k.map; repaired = k.repaired }
 
 module _ (inputs : List Input) (x : Input) where
   ended_held : (k : ℕ) → held_on k (change_first (has_index x.index) leaving inputs) ≡ held_on k inputs
@@ -259,7 +259,7 @@ gone_held state x here left k =
 pub made_inputs : (sinks : List SinkSpec) (made : ℕ) (inputs : List Input) (x : Input) → AllByRecursion (IsInput sinks made) inputs → IsInput sinks (made + 1) x → AllByRecursion (IsInput sinks (made + 1)) (inputs ++ x ∷ [])
 made_inputs sinks made inputs x h k =
     all_push (IsInput sinks (made + 1)) inputs x
-    (all_weaken (IsInput sinks made) (IsInput sinks (made + 1)) (λ y i. record { given = omega (arith, i.given); sink_there = i.sink_there; goes_there = i.goes_there; playable = i.playable; repaired = i.repaired }) inputs h)
+    (all_weaken (IsInput sinks made) (IsInput sinks (made + 1)) (λ y i. record { given = omega (arith, i.given); sink_there = i.sink_there; goes_there = i.goes_there; playable = i.playable; map = i.map; repaired = i.repaired }) inputs h)
     k
 
 pub pushed_other : (p : Input → Bool) (inputs : List Input) (x : Input) → p x ≡ false → filter p (inputs ++ x ∷ []) ≡ filter p inputs

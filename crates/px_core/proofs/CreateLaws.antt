@@ -103,7 +103,7 @@ few_codes S24In32Be = omega arith
 
 -- ---- the sinks
 
-sink_rules : (earlier sinks : List SinkSpec) (k : ℕ) (s : SinkSpec) → AreSinks earlier sinks → slice_get sinks k ≡ Some s → (before : List SinkSpec) × IsSink before s
+pub sink_rules : (earlier sinks : List SinkSpec) (k : ℕ) (s : SinkSpec) → AreSinks earlier sinks → slice_get sinks k ≡ Some s → (before : List SinkSpec) × IsSink before s
 sink_rules earlier [] k s h e = absurd (none-some s e)
 sink_rules earlier (x ∷ sinks) zero s h e = (earlier, subst (IsSink earlier) (same_Some x s e) h.0)
 sink_rules earlier (x ∷ sinks) (suc k) s h e = sink_rules (earlier ++ x ∷ []) sinks k s h.1 e
@@ -168,7 +168,7 @@ planned sink a feed can own asked fed =
     (subst (λ n. FeedsAll (length (positions_on sink a)) n feed) own
     (plan_fits (positions_on sink a) sink.map a.no_remap a.no_remix (Some feed) can (sym fed)))
 
-own_fits : (group : FlatGroup) (index : InputId) → IsSome (member_of group.members index) → length (own_factors group index) ≡ length group.reference
+pub own_fits : (group : FlatGroup) (index : InputId) → IsSome (member_of group.members index) → length (own_factors group index) ≡ length group.reference
 own_fits group index some = step (member_of group.members index) some
   where
     step : (o : Option Member) → IsSome o → length (unwrap_or (option_map (factors_of group) o) []) ≡ length group.reference
@@ -250,6 +250,7 @@ module _ {P : Type 0} (spec_of : P → SampleSpec) (state : State P) (h : IsKept
       sink_there = there;
       goes_there = tt;
       playable = playable made.sink a asked;
+      map = asked.mapped;
       repaired = repaired_fits (spec_on made.sink a) a.asked;
     };
     room = room_on state.inputs state.inputs_made me made.sink.index made.room;

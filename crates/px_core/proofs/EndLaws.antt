@@ -1,7 +1,7 @@
 -- A connection is ended once at the most each time that it begins.
-use Rattle.std.proofs.Common.{◌≡◌, ℕ, ◌+◌, ◌≤◌, List, [], ◌∷◌, ◌++◌, length, Option, Some, None, Bool, true, false, refl, ap, sym, ◌∙◌, arith, cond, length-append}
+use Rattle.std.proofs.Common.{◌≡◌, ◌⊎◌, inl, inr, ℕ, ◌+◌, ◌≤◌, List, [], ◌∷◌, ◌++◌, length, Option, Some, None, Bool, true, false, refl, ap, sym, ◌∙◌, arith, cond, length-append}
 use Rattle.std.specs.Prelude.{filter, nat_eq, is_some, IsSome, ℤ}
-use Rattle.std.specs.List.{AllByRecursion}
+use Rattle.std.specs.List.{AllByRecursion, find}
 use Rattle.std.proofs.lemmas.Bool.{cond_both, cond-false, eqb-true, eqb-false, ne_eqb, false≢true}
 use Rattle.std.proofs.lemmas.List.Elements.{filter-append}
 use Rattle.std.proofs.lemmas.Option.{none-some}
@@ -14,7 +14,7 @@ use Rattle.px_frame.specs.declared.frame.Body.{Body}
 use Rattle.px_frame.specs.declared.frame.Body.TheVariants.{Control, Write}
 use Rattle.px_model.specs.Frame.{SampleSpec}
 use Rattle.px_msg.specs.declared.message.Msg.{Msg}
-use Rattle.px_plan.specs.declared.change.Change.TheVariants.{Authed, Named, Masked, Defaulted, Made, Described, Leaves, Said, Regrouped, Asked, Answered, Gone, Ended, Forgotten}
+use Rattle.px_plan.specs.declared.change.Change.TheVariants.{Authed, Named, Masked, Defaulted, Made, Described, Leaves, Moves, Arrives, Released, Said, Regrouped, Asked, Answered, Gone, Ended, Forgotten}
 use Rattle.px_plan.specs.declared.sending.Reason.{Reason}
 use Rattle.px_plan.specs.declared.sending.Reason.TheVariants.{Limit}
 use Rattle.px_plan.specs.declared.sending.Sending.{Sending}
@@ -27,12 +27,15 @@ use Rattle.px_ctl_play.specs.Data.{frames_of, write, written, data_for}
 use Rattle.px_core.specs.declared.effect.Effect.{Effect}
 use Rattle.px_core.specs.declared.effect.Effect.TheVariants.{Closed}
 use Rattle.px_core.specs.Effect.{fits, sent, sending, closed_for}
+use Rattle.px_core.specs.declared.delayed.Delayed.{Delayed}
+use Rattle.px_core.specs.Delayed.{is_of}
 use Rattle.px_core.specs.State.{State, has_number, connection_of, input_of, stream_of}
-use Rattle.px_core.specs.Change.{Change, change_first, drop_first, authed, marked, with_streams, ending, ending_of, saying, saying_of, changed, committed}
+use Rattle.px_core.specs.Change.{Change, change_first, drop_first, authed, marked, with_streams, ending, ending_of, saying, saying_of, departs, departs_of, releasing, releasing_of, changed, committed}
 use Rattle.px_core.specs.Plan.{Plan, reply_to_asker, sent_all, closed_by, closed_in, closed_all, plan_effects}
 use Rattle.px_core.specs.Command.{head_answer}
 use Rattle.px_core.specs.Connecting.{is_full, joined, new_connection, connected, connect_effects, unmarked, going_on}
 use Rattle.px_core.specs.Out.{next_for, past}
+use Rattle.px_core.specs.Parcels.{given_in}
 use Rattle.px_core.specs.Keeps.{AreDistinct, IsSteady, IsKept, IsStep}
 use Rattle.px_core.specs.Lawful.{Lawful, AreLawfulOwing, owed_after}
 use Rattle.px_core.specs.Ending.{is_end_of, ends_of, goes_on, begins_with, begins_of, begins_by}
@@ -40,7 +43,8 @@ use Rattle.px_core.specs.Step.{Step, connect, frame, broken, close, cut, sweep, 
 use Rattle.px_core.proofs.AnswerLaws.{IsLawful}
 use Rattle.px_core.proofs.Going.{going_by_own}
 use Rattle.px_core.proofs.VerbLaws.{change_follows}
-use Rattle.px_core.proofs.StepLaws.{head_lawful, answer_lawful, step_keeps}
+use Rattle.px_core.proofs.ArrivalLaws.{IsArrival, arrival_committed}
+use Rattle.px_core.proofs.StepLaws.{head_lawful, answer_sound, step_keeps}
 
 -- 1 where it goes on
 abbrev goes : Option Connection → ℕ
@@ -179,6 +183,23 @@ left_stays (Some x) state = by x.standing
     by (Moving to) = refl
     by Leaving = refl
 
+moved_stays : {P : Type 0} (to : SinkId) (o : Option Input) (state : State P) → (departs_of to o state).connections ≡ state.connections
+moved_stays to None state = refl
+moved_stays to (Some x) state = by x.standing
+  where
+    by : (standing : Standing) → (departs to standing x state).connections ≡ state.connections
+    by Settled = refl
+    by (Moving on) = refl
+    by Leaving = refl
+
+released_stays : {P : Type 0} (o : Option Input) (state : State P) → (releasing_of o state).connections ≡ state.connections
+released_stays None state = refl
+released_stays {P} (Some x) state = by (find (is_of x.index) state.delayed)
+  where
+    by : (o : Option (Delayed P)) → (releasing x o state).connections ≡ state.connections
+    by None = refl
+    by (Some d) = refl
+
 closed_once : (conn n : ConnId) (reason : Option Reason) (fault at : ℕ) → ends_of conn (closed_by n reason fault at) ≤ same n conn
 closed_once conn n None fault at = omega arith
 closed_once conn n (Some reason) fault at = omega (arith, one_end (nat_eq n.0 conn.0) (Closed n reason fault at))
@@ -199,6 +220,9 @@ change_once conn state (Defaulted sink) d lawful = no_end (goes_on state.connect
 change_once conn state (Made x m streams inputs) d lawful = omega (arith, change_goes x.conn (with_streams streams) (λ c. refl) (λ c. refl) conn state.connections)
 change_once conn state (Described index list) d lawful = no_end (goes_on state.connections conn)
 change_once conn state (Leaves index) d lawful = omega (arith, ap (λ connections. goes_on connections conn) (left_stays (input_of state.inputs index) state))
+change_once conn state (Moves index to) d lawful = omega (arith, ap (λ connections. goes_on connections conn) (moved_stays to (input_of state.inputs index) state))
+change_once conn state (Arrives index m) d lawful = absurd lawful
+change_once conn state (Released index) d lawful = omega (arith, ap (λ connections. goes_on connections conn) (released_stays (input_of state.inputs index) state))
 change_once conn state (Said index m) d lawful = omega (arith, ap (λ connections. goes_on connections conn) (said_stays (input_of state.inputs index) m state))
 change_once conn state (Regrouped sink group m) d lawful = no_end (goes_on state.connections conn)
 change_once conn state (Asked w) d lawful = no_end (goes_on state.connections conn)
@@ -253,6 +277,20 @@ Once conn asker state plan = ends_of conn (plan_effects asker plan) + goes_on (c
 lawful_once : {P : Type 0} (spec_of : P → SampleSpec) (conn : ConnId) (asker : Option ConnId) (state : State P) (plan : Plan P) → IsKept spec_of state → IsLawful state plan → Once conn asker state plan
 lawful_once spec_of conn asker state plan h lawful = omega (arith, plan_ends conn asker plan, changes_once spec_of conn [] state plan.changes h.steady lawful)
 
+-- nor does an arrival end one
+arrival_once : {P : Type 0} (spec_of : P → SampleSpec) (conn : ConnId) (asker : Option ConnId) (state : State P) (plan : Plan P) (given : List P) → IsArrival spec_of state plan given → Once conn asker state plan
+arrival_once {P} spec_of conn asker state plan given a =
+    let closed : closed_all plan.changes ≡ closed_all a.behind = ap (λ (changes : List (Change P)). closed_all changes) a.changes in
+    let later = changes_once spec_of conn a.owed a.after a.behind a.follows.keeps a.lawful in
+    omega (
+      arith,
+      plan_ends conn asker plan,
+      ap (ends_of conn) closed,
+      later,
+      ap (λ (s : State P). goes_on s.connections conn) (arrival_committed spec_of state plan given a),
+      ap (λ connections. goes_on connections conn) a.connections,
+    )
+
 -- data tells nobody anything, be it lawful or not
 said_once : {P : Type 0} (conn : ConnId) (asker : Option ConnId) (state : State P) (frames : Option Frames) (x : Input) (seek : ℕ) (bytes : List ℕ) → Once {P = P} conn asker state (written frames x seek bytes)
 said_once conn asker state None x seek bytes = no_end (goes_on state.connections conn)
@@ -290,7 +328,14 @@ connect_once {P} conn n state None = either (is_full state)
     either false = omega (arith, pushed_goes (new_connection n state.clients_made) conn state.connections)
 
 other_once : {P : Type 0} (spec_of : P → SampleSpec) (conn : ConnId) (asker : Option ConnId) (state : State P) (s : Step P) → IsStep s → IsKept spec_of state → Once conn asker state (answer_of spec_of state s)
-other_once spec_of conn asker state s is h = lawful_once spec_of conn asker state (answer_of spec_of state s) h (answer_lawful spec_of state s is h)
+other_once {P} spec_of conn asker state s is h = by (answer_sound spec_of state s is h)
+  where
+    plan : Plan P
+    plan = answer_of spec_of state s
+
+    by : IsLawful state plan ⊎ IsArrival spec_of state plan (given_in s) → Once conn asker state plan
+    by (inl lawful) = lawful_once spec_of conn asker state plan h lawful
+    by (inr a) = arrival_once spec_of conn asker state plan (given_in s) a
 
 -- a step ends a connection only where it went on, and goes on no more, or where it isn't taken
 pub step_once : {P : Type 0} (conn : ConnId) (spec_of : P → SampleSpec) (state : State P) (s : Step P) → IsKept spec_of state → ends_of conn (effects_of spec_of state s) + goes_on (stepped spec_of state s).connections conn ≤ goes_on state.connections conn + begins_of conn state s

@@ -26,9 +26,11 @@ use Rattle.px_plan.specs.declared.target.Target.{Target}
 use Rattle.px_plan.specs.Target.{target_of as target_in}
 use Rattle.px_ctl_play.specs.Joining.{IsReadyAt}
 use Rattle.px_ctl_play.specs.Told.{IsMemberIn}
-use Rattle.px_plan.specs.declared.change.Change.TheVariants.{Authed, Named as Renamed, Masked, Defaulted, Made, Described, Leaves, Said, Regrouped, Asked, Answered, Gone, Ended, Forgotten}
+use Rattle.px_plan.specs.declared.change.Change.TheVariants.{Authed, Named as Renamed, Masked, Defaulted, Made, Described, Leaves, Moves, Arrives, Released, Said, Regrouped, Asked, Answered, Gone, Ended, Forgotten}
+use Rattle.px_core.specs.declared.delayed.Delayed.{Delayed}
+use Rattle.px_core.specs.Delayed.{is_of}
 use Rattle.px_core.specs.State.{State, has_index, input_of}
-use Rattle.px_core.specs.Change.{Change, change_first, drop_first, leaving, with_attr, moving_to, arrived_at, inputs_told, ending, ending_of, saying, saying_of, changed, committed}
+use Rattle.px_core.specs.Change.{Change, change_first, drop_first, leaving, with_attr, moving_to, arrived_at, inputs_told, ending, ending_of, saying, saying_of, departs, departs_of, releasing, releasing_of, changed, committed}
 use Rattle.px_core.specs.Grouped.{channels_there, IsGroupOf, AreGrouped, is_owed, paid}
 use Rattle.px_core.specs.Lawful.{Lawful, AreLawfulOwing, owed_for, owed_after, IsPaid}
 use Rattle.px_core.specs.Keeps.{IsInput}
@@ -220,6 +222,29 @@ left_grouped {P} owed state (Some x) h = by x.standing
     by (Moving to) = ended
     by Leaving = h
 
+-- ---- an input moves
+
+pub departed_grouped : (owed : List SinkId) (sinks : List SinkSpec) (inputs : List Input) (groups : List FlatGroup) (index : InputId) (to : SinkId) → AreGrouped owed sinks inputs groups → AreGrouped owed sinks (change_first (has_index index) (moving_to to) inputs) groups
+departed_grouped owed sinks inputs groups index to h =
+    still_grouped owed sinks inputs (change_first (has_index index) (moving_to to) inputs) groups (changed_there (has_index index) (moving_to to) (λ sink index x. refl) (λ x. refl) inputs) h
+
+moved_grouped : {P : Type 0} (owed : List SinkId) (state : State P) (to : SinkId) (o : Option Input) → Grouped owed state → Grouped owed (departs_of to o state)
+moved_grouped owed state to None h = h
+moved_grouped {P} owed state to (Some x) h = by x.standing
+  where
+    by : (standing : Standing) → Grouped owed (departs to standing x state)
+    by Settled = departed_grouped owed state.sinks state.inputs state.groups x.index to h
+    by (Moving on) = h
+    by Leaving = h
+
+released_grouped : {P : Type 0} (owed : List SinkId) (state : State P) (o : Option Input) → Grouped owed state → Grouped owed (releasing_of o state)
+released_grouped owed state None h = h
+released_grouped {P} owed state (Some x) h = by (find (is_of x.index) state.delayed)
+  where
+    by : (o : Option (Delayed P)) → Grouped owed (releasing x o state)
+    by None = h
+    by (Some d) = h
+
 change_grouped : {P : Type 0} (owed : List SinkId) (state : State P) (c : Change P) → Lawful state c → Grouped owed state → Grouped (owed_after state c owed) (changed state c)
 change_grouped owed state (Authed conn version) lawful h = h
 change_grouped owed state (Renamed conn list) lawful h = h
@@ -228,6 +253,9 @@ change_grouped owed state (Defaulted sink) lawful h = h
 change_grouped owed state (Made x m streams inputs) lawful h = made_grouped owed state.sinks state.inputs state.groups x h
 change_grouped owed state (Described index list) lawful h = h
 change_grouped owed state (Leaves index) lawful h = left_grouped owed state (input_of state.inputs index) h
+change_grouped owed state (Moves index to) lawful h = moved_grouped owed state to (input_of state.inputs index) h
+change_grouped owed state (Arrives index m) lawful h = absurd lawful
+change_grouped owed state (Released index) lawful h = released_grouped owed state (input_of state.inputs index) h
 change_grouped owed state (Said index m) lawful h = said_grouped owed state (input_of state.inputs index) m h
 change_grouped owed state (Regrouped sink group m) lawful h = regrouped_grouped owed state.sinks state.inputs state.groups sink group lawful.there lawful.follows h
 change_grouped owed state (Asked w) lawful h = h
@@ -265,11 +293,7 @@ pub past_grouped : {P : Type 0} (state : State P) (o : Option (Msg P)) (sink : S
 past_grouped state None sink h = h
 past_grouped state (Some m) sink h = still_grouped [] state.sinks state.inputs (inputs_past m state.inputs) state.groups (past_there m state.inputs) h
 
--- ---- an input moves
-
-pub departed_grouped : (owed : List SinkId) (sinks : List SinkSpec) (inputs : List Input) (groups : List FlatGroup) (index : InputId) (to : SinkId) → AreGrouped owed sinks inputs groups → AreGrouped owed sinks (change_first (has_index index) (moving_to to) inputs) groups
-departed_grouped owed sinks inputs groups index to h =
-    still_grouped owed sinks inputs (change_first (has_index index) (moving_to to) inputs) groups (changed_there (has_index index) (moving_to to) (λ sink index x. refl) (λ x. refl) inputs) h
+-- ---- an input comes from another sink
 
 -- the groups of the sink that it leaves and of the one that it comes to are still to follow
 pub arrived_grouped : (owed : List SinkId) (sinks : List SinkSpec) (inputs : List Input) (groups : List FlatGroup) (x : Input) (to : SinkId) → input_of inputs x.index ≡ Some x → AreGrouped owed sinks inputs groups

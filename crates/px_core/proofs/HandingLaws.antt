@@ -44,7 +44,7 @@ pub record Past {P : Type 0} (spec_of : P → SampleSpec) (k : ℕ) (inputs late
 
 way_each : (j : InputId) (way : Way) (inputs : List Input) (sinks : List SinkSpec) (made : ℕ) → AllByRecursion (IsInput sinks made) inputs → AllByRecursion (IsInput sinks made) (with_way j way inputs)
 way_each j way inputs sinks made h =
-    all_change (IsInput sinks made) (has_index j) (on_way way) (λ y k. record { given = k.given; sink_there = k.sink_there; goes_there = k.goes_there; playable = k.playable; repaired = k.repaired }) inputs h
+    all_change (IsInput sinks made) (has_index j) (on_way way) (λ y k. record { given = k.given; sink_there = k.sink_there; goes_there = k.goes_there; playable = k.playable; map = k.map; repaired = k.repaired }) inputs h
 
 way_waits : (j : InputId) (way : Way) (inputs : List Input) (asked : List Waiting) → AllByRecursion (IsAwaiting inputs) asked → AllByRecursion (IsAwaiting (with_way j way inputs)) asked
 way_waits j way inputs asked h = still_waits (has_index j) (on_way way) (λ y. refl) (λ y t. t) inputs asked h

@@ -1,7 +1,7 @@
 -- All that a sink is handed out over any steps is orderly, and leaves the inputs that the core knows to be there.
 use Rattle.std.proofs.Common.{◌≡◌, ℕ, zero, suc, List, [], ◌∷◌, ◌++◌, map, take, Option, Some, None, refl, ap, sym, subst, ◌∙◌}
 use Rattle.std.specs.Prelude.{nat_eq, get_or, slice_get, replicate}
-use Rattle.std.specs.List.{AllByRecursion}
+use Rattle.std.specs.List.{AllByRecursion, find}
 use Rattle.std.specs.Option.{option_to_list}
 use Rattle.std.proofs.lemmas.Bool.{cond_both, cond-true, cond-false, eqb-true, eqb-false, eq-eqb, ne_eqb}
 use Rattle.std.proofs.lemmas.List.{append_assoc}
@@ -12,13 +12,15 @@ use Rattle.px_model.specs.Frame.{SampleSpec}
 use Rattle.px_model.specs.Orderly.{Inputs, IsOrderly, inputs_left, inputs_left_by}
 use Rattle.px_msg.specs.declared.message.Msg.{Msg}
 use Rattle.px_msg.specs.View.{sample_spec}
-use Rattle.px_plan.specs.declared.change.Change.TheVariants.{Authed, Named, Masked, Defaulted, Made, Described, Leaves, Said, Regrouped, Asked, Answered, Gone, Ended, Forgotten}
+use Rattle.px_plan.specs.declared.change.Change.TheVariants.{Authed, Named, Masked, Defaulted, Made, Described, Leaves, Moves, Arrives, Released, Said, Regrouped, Asked, Answered, Gone, Ended, Forgotten}
 use Rattle.px_plan.specs.declared.input.Input.{Input}
 use Rattle.px_plan.specs.declared.input.Standing.{Standing}
 use Rattle.px_plan.specs.declared.input.Standing.TheVariants.{Settled, Moving, Leaving}
 use Rattle.px_plan.specs.declared.input.Connection.{Connection}
+use Rattle.px_core.specs.declared.delayed.Delayed.{Delayed}
+use Rattle.px_core.specs.Delayed.{is_of}
 use Rattle.px_core.specs.State.{State, connection_of, input_of}
-use Rattle.px_core.specs.Change.{Change, ending, ending_of, saying, saying_of, changed, committed}
+use Rattle.px_core.specs.Change.{Change, ending, ending_of, saying, saying_of, departs, departs_of, arrives, arrives_of, releasing, releasing_of, changed, committed}
 use Rattle.px_plan.specs.Plan.{Planned}
 use Rattle.px_core.specs.Connecting.{is_full, joined, connected}
 use Rattle.px_core.specs.Orderly.{inputs_there}
@@ -51,6 +53,32 @@ saying_sinks (Some x) m state = by x.standing
     by (Moving to) = refl
     by Leaving = refl
 
+moved_sinks : {P : Type 0} (to : SinkId) (o : Option Input) (state : State P) → (departs_of to o state).sinks ≡ state.sinks
+moved_sinks to None state = refl
+moved_sinks to (Some x) state = by x.standing
+  where
+    by : (standing : Standing) → (departs to standing x state).sinks ≡ state.sinks
+    by Settled = refl
+    by (Moving on) = refl
+    by Leaving = refl
+
+arrived_sinks : {P : Type 0} (o : Option Input) (m : Msg P) (state : State P) → (arrives_of o m state).sinks ≡ state.sinks
+arrived_sinks None m state = refl
+arrived_sinks (Some x) m state = by x.standing
+  where
+    by : (standing : Standing) → (arrives standing x m state).sinks ≡ state.sinks
+    by Settled = refl
+    by (Moving to) = refl
+    by Leaving = refl
+
+released_sinks : {P : Type 0} (o : Option Input) (state : State P) → (releasing_of o state).sinks ≡ state.sinks
+released_sinks None state = refl
+released_sinks {P} (Some x) state = by (find (is_of x.index) state.delayed)
+  where
+    by : (o : Option (Delayed P)) → (releasing x o state).sinks ≡ state.sinks
+    by None = refl
+    by (Some d) = refl
+
 change_sinks : {P : Type 0} (state : State P) (c : Change P) → (changed state c).sinks ≡ state.sinks
 change_sinks state (Authed conn version) = refl
 change_sinks state (Named conn list) = refl
@@ -59,6 +87,9 @@ change_sinks state (Defaulted sink) = refl
 change_sinks state (Made x m streams inputs) = refl
 change_sinks state (Described index list) = refl
 change_sinks state (Leaves index) = ending_sinks (input_of state.inputs index) state
+change_sinks state (Moves index to) = moved_sinks to (input_of state.inputs index) state
+change_sinks state (Arrives index m) = arrived_sinks (input_of state.inputs index) m state
+change_sinks state (Released index) = released_sinks (input_of state.inputs index) state
 change_sinks state (Said index m) = saying_sinks (input_of state.inputs index) m state
 change_sinks state (Regrouped sink group m) = refl
 change_sinks state (Asked w) = refl

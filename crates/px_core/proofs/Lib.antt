@@ -13,11 +13,14 @@ pub mod HandingLaws
 pub mod VerbLaws
 pub mod RowLaws
 pub mod Going
+pub mod StillLaws
 pub mod AnswerLaws
 pub mod KillLaws
 pub mod SweepLaws
 pub mod CreateLaws
 pub mod VolumeLaws
+pub mod RoadLaws
+pub mod ArrivalLaws
 pub mod StreamLaws
 pub mod StepLaws
 pub mod ParcelLaws

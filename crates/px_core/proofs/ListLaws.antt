@@ -49,6 +49,15 @@ pub all_change : {A : Type 0} (P : A → Type 0) (q : A → Bool) (f : A → A) 
 all_change P q f k [] h = tt
 all_change P q f k (x ∷ xs) h = cond_both (q x) (f x ∷ xs) (x ∷ change_first q f xs) (AllByRecursion P) (λ e. (k x h.0, h.1)) (λ e. (h.0, all_change P q f k xs h.1))
 
+-- where it is known of the one that changes alone
+pub all_change_found : {A : Type 0} (P : A → Type 0) (q : A → Bool) (f : A → A) (xs : List A) → ((x : A) → find q xs ≡ Some x → P x → P (f x)) → AllByRecursion P xs → AllByRecursion P (change_first q f xs)
+all_change_found P q f [] k h = tt
+all_change_found {A} P q f (x ∷ xs) k h = step (λ later. all_change_found P q f xs later h.1) (q x) refl
+  where
+    step : (((y : A) → find q xs ≡ Some y → P y → P (f y)) → AllByRecursion P (change_first q f xs)) → (b : Bool) → q x ≡ b → AllByRecursion P (cond b (f x ∷ xs) (x ∷ change_first q f xs))
+    step later true e = (k x (ap (λ b. cond b (Some x) (find q xs)) e) h.0, h.1)
+    step later false e = (h.0, later (λ y found. k y (ap (λ b. cond b (Some x) (find q xs)) e ∙ found)))
+
 pub all_drop : {A : Type 0} (P : A → Type 0) (q : A → Bool) (xs : List A) → AllByRecursion P xs → AllByRecursion P (drop_first q xs)
 all_drop P q [] h = tt
 all_drop P q (x ∷ xs) h = cond_both (q x) xs (x ∷ drop_first q xs) (AllByRecursion P) (λ e. h.1) (λ e. (h.0, all_drop P q xs h.1))

@@ -19,8 +19,8 @@ use Rattle.px_core.specs.State.{State, has_index, input_of, belongs_to, is_bound
 use Rattle.px_core.specs.Change.{change_first, moving_to, arrived_at, departing, arriving}
 use Rattle.px_ctl_play.specs.Asked.{MOST_ON_SINK}
 use Rattle.px_core.specs.Orderly.{entry_of, spec_in, specs_of, is_held_by, is_there}
-use Rattle.px_core.specs.Keeps.{IsInput, IsSteady, IsRising, is_coming_to, is_coming}
-use Rattle.px_core.proofs.ListLaws.{same_passed, no_more_pass, one_more_passes, fewer_by_one, all_change, found_all}
+use Rattle.px_core.specs.Keeps.{IsFedAt, GoesTo, IsInput, IsSteady, IsRising, is_coming_to, is_coming}
+use Rattle.px_core.proofs.ListLaws.{same_passed, no_more_pass, one_more_passes, fewer_by_one, all_change, all_change_found, found_all}
 use Rattle.px_core.proofs.EntryLaws.{get_in, here_in, in_same, removed, inserted, arrived_in, few_specs, rising_change}
 use Rattle.px_core.proofs.InStepLaws.{unmoved, still_few, posted}
 use Rattle.px_core.proofs.GoingLaws.{still_waits}
@@ -61,16 +61,17 @@ module _ (to : SinkId) (inputs : List Input) (x : Input) where
       omega (arith, no_more_pass (is_bound_for (sink_at k)) (has_index x.index) (moving_to to) (λ y t. absurd (apart (sym (eqb-true to.0 k t)))) inputs, few))
       (cases_eq k to.0)
 
-departing_input : (sinks : List SinkSpec) (made : ℕ) (to : SinkId) → to.0 < length sinks → (y : Input) → IsInput sinks made y → IsInput sinks made (moving_to to y)
-departing_input sinks made to there y k = record { given = k.given; sink_there = k.sink_there; goes_there = there; playable = k.playable; repaired = k.repaired }
+departing_input : (sinks : List SinkSpec) (made : ℕ) (to : SinkId) (y : Input) → GoesTo sinks y.sink (IsFedAt y) to → IsInput sinks made y → IsInput sinks made (moving_to to y)
+departing_input sinks made to y goes k = record { given = k.given; sink_there = k.sink_there; goes_there = goes; playable = k.playable; map = k.map; repaired = k.repaired }
 
-pub departing_keeps : {P : Type 0} (spec_of : P → SampleSpec) (state : State P) (x : Input) (to : SinkId) → IsSteady spec_of state → input_of state.inputs x.index ≡ Some x → x.standing ≡ Settled → to.0 < length state.sinks → length (bound_for state.inputs to) < MOST_ON_SINK
+pub departing_keeps : {P : Type 0} (spec_of : P → SampleSpec) (state : State P) (x : Input) (to : SinkId) → IsSteady spec_of state → input_of state.inputs x.index ≡ Some x → x.standing ≡ Settled → GoesTo state.sinks x.sink (IsFedAt x) to → length (bound_for state.inputs to) < MOST_ON_SINK
     → IsSteady spec_of (departing to x state)
-departing_keeps {P} spec_of state x to h here settled there room = record {
+departing_keeps {P} spec_of state x to h here settled goes room = record {
   sinks = h.sinks;
   distinct = h.distinct;
   rising = departed_rising to state.inputs x h.rising;
-  inputs = all_change (IsInput state.sinks state.inputs_made) (has_index x.index) (moving_to to) (departing_input state.sinks state.inputs_made to there) state.inputs h.inputs;
+  inputs = all_change_found (IsInput state.sinks state.inputs_made) (has_index x.index) (moving_to to) state.inputs
+      (λ y found k. departing_input state.sinks state.inputs_made to y (subst (λ (z : Input). GoesTo state.sinks z.sink (IsFedAt z) to) (same_Some x y (sym here ∙ found)) goes) k) h.inputs;
   waiting = still_waits (has_index x.index) (moving_to to) (λ y. refl) (λ y t. refl) state.inputs state.waiting h.waiting;
   lists = length-set state.posted x.sink.0 (get_or state.posted x.sink.0 [] ++ Detach x.index ∷ []) ∙ h.lists;
   in_step = set_in_step spec_of state.sinks (departed to state.inputs x) state.posted x.sink.0 (get_or state.posted x.sink.0 [] ++ Detach x.index ∷ []) (subst (λ n. x.sink.0 < n) (sym h.lists) (found_all (IsInput state.sinks state.inputs_made) (has_index x.index) state.inputs x h.inputs here).sink_there)
@@ -137,7 +138,7 @@ module _ (to : SinkId) (inputs : List Input) (x : Input) (here : input_of inputs
       )
 
 arriving_input : (sinks : List SinkSpec) (made : ℕ) (to : SinkId) → to.0 < length sinks → (y : Input) → IsInput sinks made y → IsInput sinks made (arrived_at to y)
-arriving_input sinks made to there y k = record { given = k.given; sink_there = there; goes_there = tt; playable = k.playable; repaired = k.repaired }
+arriving_input sinks made to there y k = record { given = k.given; sink_there = there; goes_there = tt; playable = k.playable; map = k.map; repaired = k.repaired }
 
 pub arriving_keeps : {P : Type 0} (spec_of : P → SampleSpec) (state : State P) (x : Input) (to : SinkId) (parcel : P) (feed factors : List ℕ) → IsSteady spec_of state → input_of state.inputs x.index ≡ Some x → x.standing ≡ Moving to → x.way ≡ Left → to.0 < length state.sinks
     → spec_of parcel ≡ sample_spec x.spec

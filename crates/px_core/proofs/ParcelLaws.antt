@@ -1,7 +1,7 @@
 -- No parcel waits for a sink but those that notices gave up.
-use Rattle.std.proofs.Common.{ℕ, zero, suc, List, [], ◌∷◌, ◌++◌, Option, Some, None, inl, inr, refl}
+use Rattle.std.proofs.Common.{◌≡◌, ◌⊎◌, ◌∙◌, sym, subst, ℕ, zero, suc, List, [], ◌∷◌, ◌++◌, Option, Some, None, inl, inr, refl}
 use Rattle.std.specs.Prelude.{set, get_or, replicate, length, flat_map, nat_eq, IfSome}
-use Rattle.std.specs.List.{AllByRecursion}
+use Rattle.std.specs.List.{AllByRecursion, find}
 use Rattle.std.specs.Option.{option_to_list}
 use Rattle.std.proofs.lemmas.Bool.{cond_both}
 use Rattle.px_types.specs.declared.ids.ConnId.{ConnId}
@@ -12,15 +12,17 @@ use Rattle.px_session.specs.HeaderRules.{IsHeader}
 use Rattle.px_model.specs.Frame.{SampleSpec}
 use Rattle.px_msg.specs.declared.message.Msg.{Msg}
 use Rattle.px_msg.specs.declared.message.Msg.TheVariants.{New, Attach, Detach, Write, Cork, Flush, Trigger, Prebuf, Drain, Attr, Factors, Query}
-use Rattle.px_plan.specs.declared.change.Change.TheVariants.{Authed, Named, Masked, Defaulted, Made, Described, Leaves, Said, Regrouped, Asked, Answered, Gone, Ended, Forgotten}
+use Rattle.px_plan.specs.declared.change.Change.TheVariants.{Authed, Named, Masked, Defaulted, Made, Described, Leaves, Moves, Arrives, Released, Said, Regrouped, Asked, Answered, Gone, Ended, Forgotten}
 use Rattle.px_plan.specs.declared.input.Connection.{Connection}
 use Rattle.px_plan.specs.declared.input.Input.{Input}
 use Rattle.px_plan.specs.declared.input.Standing.{Standing}
 use Rattle.px_plan.specs.declared.input.Standing.TheVariants.{Settled, Moving, Leaving}
+use Rattle.px_core.specs.declared.delayed.Delayed.{Delayed}
 use Rattle.px_core.specs.State.{State, new_state, connection_of, input_of}
-use Rattle.px_core.specs.Change.{Change, posting, regrouping, ending, ending_of, saying, saying_of, changed, committed}
-use Rattle.px_core.specs.Lawful.{Brings, Suits, AreFor, Lawful, AreLawfulOwing, owed_after}
+use Rattle.px_core.specs.Change.{Change, posting, regrouping, ending, ending_of, saying, saying_of, departs, departs_of, releasing, releasing_of, changed, committed}
+use Rattle.px_core.specs.Lawful.{is_of, Brings, Suits, AreFor, IsReleased, AreReleased, Lawful, AreLawfulOwing, owed_after}
 use Rattle.px_plan.specs.Plan.{Planned}
+use Rattle.px_core.specs.Plan.{Plan}
 use Rattle.px_core.specs.Connecting.{is_full, joined, connected}
 use Rattle.px_core.specs.Out.{first_of, rest_of, waiting_for, next_for, past, handed_out}
 use Rattle.px_core.specs.Keeps.{IsKept, IsStep}
@@ -29,7 +31,9 @@ use Rattle.px_core.specs.Hearing.{told_in, told_by}
 use Rattle.px_core.specs.Step.{Step, connect, frame, broken, close, cut, sweep, notice, out, answer_of, stepped, stepped_by}
 use Rattle.px_core.proofs.ListLaws.{all_push}
 use Rattle.px_core.proofs.HandingLaws.{sink_there}
-use Rattle.px_core.proofs.StepLaws.{answer_lawful, step_keeps, new_keeps}
+use Rattle.px_core.proofs.AnswerLaws.{IsLawful}
+use Rattle.px_core.proofs.ArrivalLaws.{IsArrival, arrival_committed}
+use Rattle.px_core.proofs.StepLaws.{answer_sound, step_keeps, new_keeps}
 
 -- ---- lists
 
@@ -125,6 +129,23 @@ module _ {P : Type 0} (whole : P → Type 0) where
       by (Moving to) = h
       by Leaving = h
 
+  moved_carries : (to : SinkId) (o : Option Input) (state : State P) → AllCarry whole state → AllCarry whole (departs_of to o state)
+  moved_carries to None state h = h
+  moved_carries to (Some x) state h = by x.standing
+    where
+      by : (standing : Standing) → AllCarry whole (departs to standing x state)
+      by Settled = posting_carries x.sink.0 (Detach x.index) state tt h
+      by (Moving on) = h
+      by Leaving = h
+
+  released_carries : (o : Option Input) (state : State P) → IfSome o (AreReleased state.delayed) → AllCarry whole state → AllCarry whole (releasing_of o state)
+  released_carries None state ok h = h
+  released_carries (Some x) state ok h = by (find (is_of x.index) state.delayed) ok
+    where
+      by : (o : Option (Delayed P)) → IfSome o (IsReleased x) → AllCarry whole (releasing x o state)
+      by None ok = h
+      by (Some d) ok = posting_carries x.sink.0 d.message state (suits_none x d.message ok.suits) h
+
   change_carries : (state : State P) (c : Change P) → Lawful state c → AllCarry whole state → AllCarry whole (changed state c)
   change_carries state (Authed conn version) lawful h = h
   change_carries state (Named conn list) lawful h = h
@@ -135,6 +156,9 @@ module _ {P : Type 0} (whole : P → Type 0) where
       posting_carries x.sink.0 m state (brings_none x own.0 m (lawful.0.brings own.0 own.1)) h
   change_carries state (Described index list) lawful h = h
   change_carries state (Leaves index) lawful h = ending_carries (input_of state.inputs index) state h
+  change_carries state (Moves index to) lawful h = moved_carries to (input_of state.inputs index) state h
+  change_carries state (Arrives index m) lawful h = absurd lawful
+  change_carries state (Released index) lawful h = released_carries (input_of state.inputs index) state lawful h
   change_carries state (Said index m) lawful h = saying_carries (input_of state.inputs index) m state lawful h
   change_carries state (Regrouped sink group m) lawful h =
       let own = sink_there state.sinks sink.0 lawful.there in
@@ -164,17 +188,29 @@ module _ {P : Type 0} (whole : P → Type 0) where
           all_set (AllByRecursion (Carries whole)) state.posted sink.0 (rest_of (waiting_for state sink)) h
           (all_rest (Carries whole) (waiting_for state sink) (all_get (AllByRecursion (Carries whole)) state.posted sink.0 [] h tt))
 
-  answer_carries : (spec_of : P → SampleSpec) (state : State P) (s : Step P) → IsStep s → IsKept spec_of state → AllCarry whole state → AllCarry whole (committed state (Planned.changes (answer_of spec_of state s)))
-  answer_carries spec_of state s is kept h = changes_carry [] (Planned.changes (answer_of spec_of state s)) state (answer_lawful spec_of state s is kept) h
+  -- what arrives was given up
+  arrival_carries : (spec_of : P → SampleSpec) (state : State P) (plan : Plan P) (given : List P) → IsArrival spec_of state plan given → AllByRecursion whole given → AllCarry whole state → AllCarry whole (committed state plan.changes)
+  arrival_carries spec_of state plan given a takes h =
+      subst (AllCarry whole) (sym (arrival_committed spec_of state plan given a))
+      (changes_carry a.owed a.behind a.after a.lawful
+      (subst (λ (posted : List (List (Msg P))). AllByRecursion (AllByRecursion (Carries whole)) posted) (sym a.posted)
+      (posting_carries a.to.0 a.message state (subst (AllByRecursion whole) a.carried takes) h)))
+
+  answer_carries : (spec_of : P → SampleSpec) (state : State P) (s : Step P) → IsStep s → Takes whole s → IsKept spec_of state → AllCarry whole state → AllCarry whole (committed state (Planned.changes (answer_of spec_of state s)))
+  answer_carries spec_of state s is takes kept h = by (answer_sound spec_of state s is kept)
+    where
+      by : IsLawful state (answer_of spec_of state s) ⊎ IsArrival spec_of state (answer_of spec_of state s) (given_in s) → AllCarry whole (committed state (Planned.changes (answer_of spec_of state s)))
+      by (inl lawful) = changes_carry [] (Planned.changes (answer_of spec_of state s)) state lawful h
+      by (inr a) = arrival_carries spec_of state (answer_of spec_of state s) (given_in s) a takes h
 
   pub step_carries : (spec_of : P → SampleSpec) (state : State P) (s : Step P) → IsStep s → Takes whole s → IsKept spec_of state → AllCarry whole state → AllCarry whole (stepped spec_of state s)
   step_carries spec_of state (connect conn) is takes kept h = connected_carries (connection_of state.connections conn) conn state h
-  step_carries spec_of state (frame conn f) is takes kept h = answer_carries spec_of state (frame conn f) is kept h
-  step_carries spec_of state (broken conn fault at) is takes kept h = answer_carries spec_of state (broken conn fault at) is kept h
-  step_carries spec_of state (close conn) is takes kept h = answer_carries spec_of state (close conn) is kept h
-  step_carries spec_of state (cut conn) is takes kept h = answer_carries spec_of state (cut conn) is kept h
-  step_carries spec_of state sweep is takes kept h = answer_carries spec_of state sweep is kept h
-  step_carries spec_of state (notice sink n) is takes kept h = answer_carries spec_of state (notice sink n) is kept h
+  step_carries spec_of state (frame conn f) is takes kept h = answer_carries spec_of state (frame conn f) is takes kept h
+  step_carries spec_of state (broken conn fault at) is takes kept h = answer_carries spec_of state (broken conn fault at) is takes kept h
+  step_carries spec_of state (close conn) is takes kept h = answer_carries spec_of state (close conn) is takes kept h
+  step_carries spec_of state (cut conn) is takes kept h = answer_carries spec_of state (cut conn) is takes kept h
+  step_carries spec_of state sweep is takes kept h = answer_carries spec_of state sweep is takes kept h
+  step_carries spec_of state (notice sink n) is takes kept h = answer_carries spec_of state (notice sink n) is takes kept h
   step_carries spec_of state (out sink) is takes kept h = out_carries sink state h
 
   pub steps_carry : (spec_of : P → SampleSpec) (steps : List (Step P)) (state : State P) → AllByRecursion IsStep steps → AllByRecursion (Takes whole) steps → IsKept spec_of state → AllCarry whole state → AllCarry whole (stepped_by spec_of state steps)

@@ -1,13 +1,13 @@
 -- Where an error is answered nothing has changed, and what a connection sends that has ended is ignored.
-use Rattle.std.proofs.Common.{◌≡◌, ℕ, List, [], ◌∷◌, ◌++◌, Option, Some, None, Bool, true, false, refl, ap, sym, subst, ◌∙◌, arith, cond}
-use Rattle.std.specs.Prelude.{get_or, slice_get, filter, flat_map, Result, Ok, Err}
+use Rattle.std.proofs.Common.{◌≡◌, ◌≤◌, ℕ, zero, suc, length, List, [], ◌∷◌, ◌++◌, Option, Some, None, Bool, true, false, refl, ap, sym, subst, ◌∙◌, arith, cond}
+use Rattle.std.specs.Prelude.{get_or, slice_get, filter, replicate, flat_map, Result, Ok, Err}
 use Rattle.std.specs.List.{AllByRecursion}
 use Rattle.std.proofs.lemmas.Bool.{cond_both, cond-true, cond-false, false≢true}
 use Rattle.std.proofs.lemmas.List.{append_assoc}
 use Rattle.std.proofs.lemmas.Option.{none-some, same_Some}
 use Rattle.px_types.specs.declared.ids.ConnId.{ConnId}
 use Rattle.px_types.specs.declared.ids.SinkId.{SinkId}
-use Rattle.px_types.specs.declared.error_code.ErrorCode.TheVariants.{Access, NotImplemented, TooLarge}
+use Rattle.px_types.specs.declared.error_code.ErrorCode.TheVariants.{Access, TooLarge}
 use Rattle.px_tag.specs.declared.fault.TagFault.{TagFault}
 use Rattle.px_tag.specs.Place.{Place, start_of}
 use Rattle.px_tag.specs.Item.{number}
@@ -22,12 +22,12 @@ use Rattle.px_frame.specs.declared.frame.Frame.{Frame}
 use Rattle.px_frame.specs.declared.frame.Body.{Body}
 use Rattle.px_frame.specs.declared.frame.Body.TheVariants.{Control, Write}
 use Rattle.px_reply.specs.Front.{reply_to, refusal}
-use Rattle.px_reply.specs.Message.{latency_reply}
+use Rattle.px_reply.specs.Message.{latency_reply, moved_message}
 use Rattle.px_model.specs.Frame.{SampleSpec}
 use Rattle.px_msg.specs.declared.notice.Notice.{Notice}
 use Rattle.px_msg.specs.declared.notice.Notice.TheVariants.{Request, Overflow, Underflow, Started, Drained, Detached, Latency}
 use Rattle.px_plan.specs.declared.refusal.Refusal.TheVariants.{Code, NoMemory}
-use Rattle.px_plan.specs.declared.change.Change.TheVariants.{Gone, Ended, Forgotten}
+use Rattle.px_plan.specs.declared.change.Change.TheVariants.{Gone, Released, Ended, Forgotten}
 use Rattle.px_plan.specs.declared.sending.Reason.{Reason}
 use Rattle.px_plan.specs.declared.sending.Reason.TheVariants.{Protocol as Breach, Limit, Cut as ForMemory}
 use Rattle.px_plan.specs.declared.sending.Sending.{Sending}
@@ -51,10 +51,20 @@ use Rattle.px_core.specs.State.{State, goes_on, connection_of, settled_on, strea
 use Rattle.px_core.specs.Change.{Change, marked, with_connection, committed}
 use Rattle.px_core.specs.Effect.{reason_code, framed, fits, sent, sending, closed_at, closed_for, fault_code, fault_place, offset_behind}
 use Rattle.px_core.specs.Plan.{Plan, reply_to_asker, sent_all, closed_by, closed_all, plan_effects, refused, reply_fits, requested, ended_by, broken_off}
-use Rattle.px_core.specs.Command.{row, read_answer, is_barred, is_waiting_for_work, command_answer, head_answer}
+use Rattle.px_core.specs.Command.{row, read_answer, is_barred, command_answer, head_answer}
 use Rattle.px_core.specs.Connecting.{is_full, connect_effects, going_on, ended, ends, swept, sweep_of}
-use Rattle.px_core.specs.Notice.{input_on, owner_of, notice_answer}
-use Rattle.px_targets.specs.Sinks.{rate_on}
+use Rattle.px_types.specs.declared.ids.InputId.{InputId}
+use Rattle.px_flat.specs.declared.member.Member.{Member}
+use Rattle.px_flat.specs.FlatVolume.{member_of}
+use Rattle.px_plan.specs.declared.input.Standing.{Standing}
+use Rattle.px_plan.specs.declared.input.Standing.TheVariants.{Settled, Moving, Leaving}
+use Rattle.px_plan.specs.declared.target.Target.{Target}
+use Rattle.px_ctl_play.specs.Arrival.{hands_over, attributes_told, arrived_message, arrival_of, arrival_by, arriving_with}
+use Rattle.px_ctl_play.specs.Create.{latency_of}
+use Rattle.px_ctl_play.specs.Move.{feed_to}
+use Rattle.px_core.specs.Delayed.{delayed_of}
+use Rattle.px_core.specs.Notice.{input_on, owner_of, left_of, arrival_between, arrival_at, arrived_with, given_up_by, given_up, notice_answer}
+use Rattle.px_targets.specs.Sinks.{rate_on, target_at}
 use Rattle.px_core.specs.Step.{Step, connect, frame, broken, close, cut, sweep, notice, out, body_answer, frame_of, sender_of, answer_of, stepped, effects_of}
 use Rattle.px_core.proofs.ListLaws.{heads, no_cons}
 use Rattle.px_core.proofs.RowLaws.{Each}
@@ -76,10 +86,10 @@ refusal_byte : (tag code : ℕ) → get_or (refusal tag code) 4 0 ≡ 0
 unfolding number
 refusal_byte tag code = refl
 
-sent_apart : (a b : ConnId) (packet other : List ℕ) → get_or packet 4 0 ≡ 2 → get_or other 4 0 ≡ 0 → sent a packet ≡ sent b other → ⊥
-sent_apart a b packet other two none e =
+sent_apart : (a b : ConnId) (packet other : List ℕ) → 1 ≤ get_or packet 4 0 → get_or other 4 0 ≡ 0 → sent a packet ≡ sent b other → ⊥
+sent_apart a b packet other some none e =
     let bytes : get_or (framed packet) 24 0 ≡ get_or (framed other) 24 0 = ap (λ effect. get_or (bytes_of effect) 24 0) e in
-    absurd (omega (arith, bytes, framed_byte packet, framed_byte other, two, none))
+    absurd (omega (arith, bytes, framed_byte packet, framed_byte other, some, none))
 
 abbrev is_sent : Effect → Bool
 is_sent (Sent conn packet) = true
@@ -93,8 +103,8 @@ closed_apart a b reason fault at packet e = false≢true (ap is_sent e)
 pub data Kind {P : Type 0} (asker : Option ConnId) (plan : Plan P) : Type 0 where
   -- nothing changes
   still : plan.changes ≡ [] → Kind asker plan
-  -- who asked has a reply, before all else
-  replies : (to : ConnId) (packet : List ℕ) (more : List Effect) → plan_effects asker plan ≡ sent to packet ∷ more → get_or packet 4 0 ≡ 2 → Kind asker plan
+  -- a connection is sent what is no error, before all else
+  replies : (to : ConnId) (packet : List ℕ) (more : List Effect) → plan_effects asker plan ≡ sent to packet ∷ more → 1 ≤ get_or packet 4 0 → Kind asker plan
   -- nobody is told
   silent : plan_effects asker plan ≡ [] → Kind asker plan
   -- a connection ends
@@ -106,7 +116,7 @@ reply_first to plan packet e f =
     ∙ ap (λ effects. effects ++ sent_all plan.errors ++ sent_all plan.told ++ closed_all plan.changes) (cond-true (fits packet) (sent to packet ∷ []) [] f)
 
 fitting_kind : {P : Type 0} (to : ConnId) (plan : Plan P) → Tells plan → reply_fits plan.reply ≡ true → Kind (Some to) plan
-fitting_kind to plan (a_reply packet is two) e = replies to packet (sent_all plan.errors ++ sent_all plan.told ++ closed_all plan.changes) (reply_first to plan packet is (sym (ap reply_fits is) ∙ e)) two
+fitting_kind to plan (a_reply packet is two) e = replies to packet (sent_all plan.errors ++ sent_all plan.told ++ closed_all plan.changes) (reply_first to plan packet is (sym (ap reply_fits is) ∙ e)) (omega (arith, two))
 fitting_kind to plan (nothing none) e = silent (none (Some to))
 
 requested_kind : {P : Type 0} (to : ConnId) (t : ℕ) (given : Row (Plan P)) → Each Tells given → Kind (Some to) (requested t given)
@@ -128,11 +138,7 @@ read_kind state n c at t (Err OutOfMemory) = still refl
 
 command_kind : {P : Type 0} (state : State P) (n : ConnId) (c : Connection) (at : ℕ) (packet : List ℕ) (command t : ℕ) → Kind (Some n) (command_answer state c at packet command t)
 command_kind {P} state n c at packet command t =
-    cond_both (is_barred c command) (refused t Access) (cond (is_waiting_for_work command) (refused t NotImplemented) (read_answer state c at t (meant packet))) (Kind {P = P} (Some n))
-    (λ e. still refl)
-    (λ e. cond_both (is_waiting_for_work command) (refused t NotImplemented) (read_answer state c at t (meant packet)) (Kind {P = P} (Some n))
-    (λ f. still refl)
-    (λ f. read_kind state n c at t (meant packet)))
+    cond_both (is_barred c command) (refused t Access) (read_answer state c at t (meant packet)) (Kind {P = P} (Some n)) (λ e. still refl) (λ e. read_kind state n c at t (meant packet))
 
 head_kind : {P : Type 0} (state : State P) (n : ConnId) (c : Connection) (at : ℕ) (packet : List ℕ) (r : Result ((ℕ × ℕ) × Place) TagFault) → Kind (Some n) (head_answer state c at packet r)
 head_kind state n c at packet (Err fault) = broken_off_kind (Some n) c.conn at fault
@@ -179,13 +185,68 @@ left_kind {P} (Some x) group spec inputs = cond_both (gives_up spec x) (gone x g
     goes None = still refl
     goes (Some own) = silent refl
 
+-- an input is on the sink that it moves to: its client is told so
+released_silent : (P : Type 0) (n : ℕ) (index : InputId) → closed_all {P = P} (replicate n (Released index)) ≡ []
+released_silent P zero index = refl
+released_silent P (suc n) index = released_silent P n index
+
+moved_byte : (stream sink : ℕ) (name attr : List ℕ) (latency : ℕ) → get_or (moved_message stream sink name attr latency) 4 0 ≡ 78
+unfolding number
+moved_byte stream sink name attr latency = refl
+
+arrival_kind : {P : Type 0} (state : State P) (x : Input) (parcel : P) (sink : Target) (from group : FlatGroup) (waited : ℕ) (m : Member) (feed : List ℕ) (owner : Option Connection)
+    → Kind {P = P} None (arriving_with x.index parcel (arrival_of x m feed from group sink owner state.inputs waited))
+arrival_kind {P} state x parcel sink from group waited m feed None = silent (released_silent P waited x.index)
+arrival_kind {P} state x parcel sink from group waited m feed (Some c) = by (fits packet) refl
+  where
+    packet : List ℕ
+    packet = arrived_message x sink
+
+    closing : (effects : List Effect) → (effects ++ []) ++ closed_all {P = P} (replicate waited (Released x.index)) ≡ (effects ++ []) ++ []
+    closing effects = ap (λ more. (effects ++ []) ++ more) (released_silent P waited x.index)
+
+    by : (b : Bool) → fits packet ≡ b → Kind {P = P} None (arriving_with x.index parcel (arrival_of x m feed from group sink (Some c) state.inputs waited))
+    by true e =
+        replies c.conn packet [] (closing (sending c.conn packet) ∙ ap (λ effects. (effects ++ []) ++ []) (cond-true (fits packet) (sent c.conn packet ∷ []) [] e))
+        (omega (arith, moved_byte x.stream sink.index.0 sink.name (attributes_told x) (latency_of sink)))
+    by false e = silent (closing (sending c.conn packet) ∙ ap (λ effects. (effects ++ []) ++ []) (cond-false (fits packet) (sent c.conn packet ∷ []) [] e))
+
+arrived_kind : {P : Type 0} (state : State P) (x : Input) (parcel : P) (t : Option Target) (f g : Option FlatGroup) → Kind {P = P} None (arrived_with x.index parcel (arrival_between state x t f g))
+arrived_kind state x parcel None f g = still refl
+arrived_kind state x parcel (Some sink) None g = still refl
+arrived_kind state x parcel (Some sink) (Some from) None = still refl
+arrived_kind {P} state x parcel (Some sink) (Some from) (Some group) = by (member_of from.members x.index) (feed_to x sink.map)
+  where
+    waited : ℕ
+    waited = length (delayed_of state.delayed x.index)
+
+    by : (o : Option Member) (r : Option (List ℕ)) → Kind {P = P} None (arrived_with x.index parcel (arrival_by x o r from group sink (owner_of state.connections (Some x)) state.inputs waited))
+    by None r = still refl
+    by (Some m) None = still refl
+    by (Some m) (Some feed) = arrival_kind state x parcel sink from group waited m feed (owner_of state.connections (Some x))
+
+given_up_kind : {P : Type 0} (spec_of : P → SampleSpec) (state : State P) (sink : SinkId) (o : Option Input) (parcel : P) → Kind None (given_up spec_of state sink o parcel)
+given_up_kind spec_of state sink None parcel = still refl
+given_up_kind {P} spec_of state sink (Some x) parcel = by x.standing
+  where
+    leaves : Kind None (left_of spec_of state sink (Some x) parcel)
+    leaves = left_kind (Some x) (slice_get state.groups sink.0) (spec_of parcel) state.inputs
+
+    by : (standing : Standing) → Kind None (given_up_by spec_of state sink x parcel standing)
+    by Settled = leaves
+    by (Moving to) =
+        cond_both (hands_over (spec_of parcel) x) (arrived_with x.index parcel (arrival_at state to x)) (left_of spec_of state sink (Some x) parcel) (Kind None)
+        (λ e. arrived_kind state x parcel (target_at state.sinks to) (slice_get state.groups x.sink.0) (slice_get state.groups to.0))
+        (λ e. leaves)
+    by Leaving = leaves
+
 -- a request is answered: its client has a reply
 answered_kind : {P : Type 0} (owner : Option Connection) (w : Waiting) (reply : List ℕ) → get_or reply 4 0 ≡ 2 → Kind {P = P} None (answered owner w reply)
 answered_kind None w reply two = silent refl
 answered_kind {P} (Some c) w reply two = by (fits reply) refl
   where
     by : (b : Bool) → fits reply ≡ b → Kind {P = P} None (answered (Some c) w reply)
-    by true e = replies c.conn reply [] (ap (λ effects. (effects ++ []) ++ []) (cond-true (fits reply) (sent c.conn reply ∷ []) [] e)) two
+    by true e = replies c.conn reply [] (ap (λ effects. (effects ++ []) ++ []) (cond-true (fits reply) (sent c.conn reply ∷ []) [] e)) (omega (arith, two))
     by false e = silent (ap (λ effects. (effects ++ []) ++ []) (cond-false (fits reply) (sent c.conn reply ∷ []) [] e))
 
 drain_answered_kind : {P : Type 0} (owner : Option Connection) (o : Option Waiting) → Kind {P = P} None (drain_answered owner o)
@@ -213,7 +274,7 @@ notice_kind spec_of state sink (Overflow input) = told_kind (input_on state.inpu
 notice_kind spec_of state sink (Underflow input) = told_kind (input_on state.inputs sink input) (owner_of state.connections (input_on state.inputs sink input)) news.Underflow
 notice_kind spec_of state sink (Started input) = told_kind (input_on state.inputs sink input) (owner_of state.connections (input_on state.inputs sink input)) news.Started
 notice_kind spec_of state sink (Drained input t) = drained_kind (input_on state.inputs sink input) (owner_of state.connections (input_on state.inputs sink input)) state.waiting t
-notice_kind spec_of state sink (Detached input parcel) = left_kind (input_on state.inputs sink input) (slice_get state.groups sink.0) (spec_of parcel) state.inputs
+notice_kind spec_of state sink (Detached input parcel) = given_up_kind spec_of state sink (input_on state.inputs sink input) parcel
 notice_kind spec_of state sink (Latency input t write read buffered playing run) =
     measured_kind (input_on state.inputs sink input) (owner_of state.connections (input_on state.inputs sink input)) state.waiting (rate_on state.sinks sink) t (record { write = write; read = read; buffered = buffered; playing = playing; run = run })
 

@@ -1,14 +1,14 @@
 -- Each step keeps what the state keeps, and so does a new state.
-use Rattle.std.proofs.Common.{◌≡◌, ℕ, zero, suc, List, [], ◌∷◌, ◌++◌, length, Option, Some, None, Bool, true, false, refl, ap, sym, subst, arith, cond, ⊎_elim}
+use Rattle.std.proofs.Common.{◌≡◌, ℕ, zero, suc, List, [], ◌∷◌, ◌++◌, length, Option, Some, None, Bool, true, false, refl, ap, sym, subst, ◌∙◌, arith, cond, ⊎_elim, inl, inr}
 use Rattle.std.specs.Prelude.{nat_eq, nat_le, ◌+◌, replicate, get_or, not, is_some, IsSome, Result, Ok, Err}
 use Rattle.std.specs.List.{AllByRecursion}
 use Rattle.std.specs.FinMap as finite
-use Rattle.std.proofs.lemmas.Bool.{cond_both, eqb-false, cases_lt}
+use Rattle.std.proofs.lemmas.Bool.{cond_both, eqb-false, cases_lt, and_parts}
 use Rattle.std.proofs.lemmas.List.{length-replicate, get_or-replicate, get_or_past}
 use Rattle.std.proofs.lemmas.Option.{none-some}
 use Rattle.px_types.specs.declared.ids.ConnId.{ConnId}
 use Rattle.px_types.specs.declared.ids.SinkId.{SinkId}
-use Rattle.px_types.specs.declared.error_code.ErrorCode.TheVariants.{Access, BadState, Invalid, NoEntity, Version, TooLarge, NotImplemented}
+use Rattle.px_types.specs.declared.error_code.ErrorCode.TheVariants.{Access, BadState, Invalid, NoEntity, Version, TooLarge}
 use Rattle.px_tag.specs.declared.fault.TagFault.{TagFault}
 use Rattle.px_tag.specs.Place.{Place, start_of}
 use Rattle.px_cmd.specs.Packet.{head_at}
@@ -44,11 +44,17 @@ use Rattle.px_ctl_info.specs.Infos.{group_on, member_on}
 use Rattle.px_ctl_info.specs.Sinks.{sink_called}
 use Rattle.px_ctl_play.specs.declared.told.News.{News}
 use Rattle.px_ctl_play.specs.declared.told.News.TheVariants as news
-use Rattle.px_ctl_play.specs.Told.{message_of, told}
+use Rattle.px_ctl_play.specs.Arrival.{hands_over}
+use Rattle.px_ctl_play.specs.Told.{message_of, has_left, same_spec, told}
+use Rattle.px_msg.specs.View.{sample_spec}
+use Rattle.px_types.specs.declared.ids.InputId.{InputId}
+use Rattle.px_plan.specs.declared.input.Standing.{Standing}
+use Rattle.px_plan.specs.declared.input.Standing.TheVariants.{Settled, Moving, Leaving}
 use Rattle.px_core.specs.State.{State, new_state, goes_on, connection_of, input_named, stream_of}
-use Rattle.px_core.specs.Command.{default_sink, row, read_answer, is_barred, is_waiting_for_work, command_answer, head_answer}
+use Rattle.px_core.specs.Command.{default_sink, row, read_answer, is_barred, command_answer, head_answer}
 use Rattle.px_core.specs.Connecting.{is_full, new_connection, joined, connected, ended, going_on}
-use Rattle.px_core.specs.Notice.{input_on, owner_of, told_of, notice_answer}
+use Rattle.px_core.specs.Notice.{is_on, input_on, owner_of, told_of, left_of, arrival_at, arrived_with, given_up_by, given_up, notice_answer}
+use Rattle.px_core.specs.Parcels.{given_by, given_in}
 use Rattle.px_core.specs.Orderly.{inputs_there}
 use Rattle.px_core.specs.Keeps.{AreDistinct, AreInStep, IsKept, IsStep, Spares, handed_out_by}
 use Rattle.px_core.specs.Out.{next_for, handed_out}
@@ -63,9 +69,13 @@ use Rattle.px_core.proofs.VerbLaws.{Follows, others_keep, changes_follow}
 use Rattle.px_core.proofs.RowLaws.{Each, each_check, each_then}
 use Rattle.px_core.proofs.Going.{going_by_own}
 use Rattle.px_targets.proofs.Sinks.{named_there}
-use Rattle.px_core.proofs.AnswerLaws.{IsLawful, data_lawful, left_lawful}
+use Rattle.px_core.proofs.EntryLaws.{found_by_index}
+use Rattle.px_core.proofs.AnswerLaws.{IsLawful, data_lawful, away, left_lawful}
+use Rattle.px_core.proofs.ArrivalLaws.{IsSound, spec_is, arrival_sound, arrival_committed}
+use Rattle.px_core.proofs.StillLaws.{changes_still, past_still}
 use Rattle.px_core.proofs.StreamLaws.{cork_lawful, flush_lawful, trigger_lawful, prebuf_lawful, attributes_lawful, drain_lawful, latency_lawful, delete_lawful, drained_lawful, measured_lawful}
 use Rattle.px_core.proofs.SweepLaws.{sweep_lawful}
+use Rattle.px_core.proofs.RoadLaws.{move_lawful}
 use Rattle.px_core.proofs.KillLaws.{kill_client_lawful, kill_input_lawful}
 use Rattle.px_core.proofs.CreateLaws.{create_lawful}
 use Rattle.px_core.proofs.VolumeLaws.{sink_volume_lawful, sink_mute_lawful, input_volume_lawful, input_mute_lawful}
@@ -88,6 +98,7 @@ new_keeps {P} spec_of header h = record {
         (record { orderly = tt; leaves = refl; bring = λ i. refl; each = tt; few = omega arith });
   };
   grouped = new_grouped header.sinks;
+  still = tt;
 }
 
 -- ---- commands
@@ -139,6 +150,8 @@ row_lawful spec_of state h me tag (commands.RemoveStream stream keys) =
     each_then (IsLawful state) (present (stream_of state.inputs me.conn stream) NoEntity) _
     (λ x. each_then (IsLawful state) (check (has_keys (list_of_input state.lists (Input.index x)) keys) NoEntity) _ (λ there. (tt, tt)))
 row_lawful spec_of state h me tag (commands.KillClient client) = kill_client_lawful state h.steady.distinct client tag (connection_with state.connections client) refl
+row_lawful spec_of state h me tag (commands.Move input sink) =
+    move_lawful state input tag (named_by state.names state.sinks sink false) (named_there state.sinks (sink_named state.names sink.index sink.name false))
 row_lawful spec_of state h me tag (commands.KillInput input) =
     kill_input_lawful state (input_named state.inputs input) (owner_of state.connections (input_named state.inputs input)) state.waiting tag
 row_lawful spec_of state h me tag (commands.SinkVolume sink volume) =
@@ -170,11 +183,8 @@ read_lawful spec_of state h c e at tag (Err OutOfMemory) = tt
 
 command_lawful : {P : Type 0} (spec_of : P → SampleSpec) (state : State P) → IsKept spec_of state → (c : Connection) → going_on state.connections c.conn ≡ Some c → (at : ℕ) (packet : List ℕ) (command tag : ℕ) → IsLawful state (command_answer state c at packet command tag)
 command_lawful spec_of state h c e at packet command tag =
-    cond_both (is_barred c command) (refused tag Access) (cond (is_waiting_for_work command) (refused tag NotImplemented) (read_answer state c at tag (meant packet))) (IsLawful state)
-    (λ f. tt)
-    (λ f. cond_both (is_waiting_for_work command) (refused tag NotImplemented) (read_answer state c at tag (meant packet)) (IsLawful state)
-    (λ g. tt)
-    (λ g. read_lawful spec_of state h c e at tag (meant packet)))
+    cond_both (is_barred c command) (refused tag Access) (read_answer state c at tag (meant packet)) (IsLawful state)
+    (λ f. tt) (λ f. read_lawful spec_of state h c e at tag (meant packet))
 
 pub head_lawful : {P : Type 0} (spec_of : P → SampleSpec) (state : State P) → IsKept spec_of state → (c : Connection) → going_on state.connections c.conn ≡ Some c → (at : ℕ) (packet : List ℕ) (r : Result ((ℕ × ℕ) × Place) TagFault) → IsLawful state (head_answer state c at packet r)
 head_lawful spec_of state h c e at packet (Err fault) = broken_off_lawful state c e at fault
@@ -210,6 +220,7 @@ connected_keeps spec_of state h None conn e =
       steady = others_keep spec_of state h.steady (state.connections ++ new_connection conn state.clients_made ∷ []) (distinct_push conn state.clients_made state.connections e h.steady.distinct)
           (record state.names { clients = state.names.clients ++ new_client conn state.clients_made ∷ [] }) (state.clients_made + 1);
       grouped = h.grouped;
+      still = h.still;
     })
 
 -- ---- notices
@@ -222,15 +233,35 @@ told_lawful state (Some x) (Some c) about = cond_both (goes_on x) (telling c.con
 told_of_lawful : {P : Type 0} (state : State P) (input : Option Input) (about : News) → IsLawful state (told_of state input about)
 told_of_lawful state input about = told_lawful state input (owner_of state.connections input) about
 
-notice_lawful : {P : Type 0} (spec_of : P → SampleSpec) (state : State P) → IsKept spec_of state → (sink : SinkId) (n : Notice P) → IsLawful state (notice_answer spec_of state sink n)
-notice_lawful spec_of state h sink (Request input frames) = told_of_lawful state (input_on state.inputs sink input) (news.Request frames)
-notice_lawful spec_of state h sink (Overflow input) = told_of_lawful state (input_on state.inputs sink input) news.Overflow
-notice_lawful spec_of state h sink (Underflow input) = told_of_lawful state (input_on state.inputs sink input) news.Underflow
-notice_lawful spec_of state h sink (Started input) = told_of_lawful state (input_on state.inputs sink input) news.Started
-notice_lawful spec_of state h sink (Drained input tag) = drained_lawful state (input_on state.inputs sink input) (owner_of state.connections (input_on state.inputs sink input)) state.waiting tag
-notice_lawful spec_of state h sink (Detached input parcel) = left_lawful spec_of state h sink input (spec_of parcel) (input_on state.inputs sink input) refl
-notice_lawful spec_of state h sink (Latency input tag write read buffered playing run) =
-    measured_lawful state (input_on state.inputs sink input) (owner_of state.connections (input_on state.inputs sink input)) state.waiting (rate_on state.sinks sink) tag (record { write = write; read = read; buffered = buffered; playing = playing; run = run })
+-- a sink has given up a stream
+given_up_sound : {P : Type 0} (spec_of : P → SampleSpec) (state : State P) → IsKept spec_of state → (sink : SinkId) (input : InputId) (parcel : P) (o : Option Input) → input_on state.inputs sink input ≡ o
+    → IsSound spec_of state (given_up spec_of state sink o parcel) (parcel ∷ [])
+given_up_sound spec_of state h sink input parcel None e = inl tt
+given_up_sound {P} spec_of state h sink input parcel (Some x) e = by x.standing refl
+  where
+    lawful : IsLawful state (left_of spec_of state sink (Some x) parcel)
+    lawful = left_lawful spec_of state h sink input (spec_of parcel) (Some x) e
+
+    by : (standing : Standing) → x.standing ≡ standing → IsSound spec_of state (given_up_by spec_of state sink x parcel standing) (parcel ∷ [])
+    by Settled is = inl lawful
+    by (Moving to) is =
+        cond_both (hands_over (spec_of parcel) x) (arrived_with x.index parcel (arrival_at state to x)) (left_of spec_of state sink (Some x) parcel) (λ plan. IsSound spec_of state plan (parcel ∷ []))
+        (λ t.
+        let parts = and_parts (has_left x.way) (same_spec (spec_of parcel) (sample_spec x.spec)) t in
+        arrival_sound spec_of state h x to parcel (found_by_index (is_on sink input) state.inputs h.steady.rising x e) is (away x.way parts.0) (spec_is (spec_of parcel) (sample_spec x.spec) parts.1))
+        (λ t. inl lawful)
+    by Leaving is = inl lawful
+
+notice_sound : {P : Type 0} (spec_of : P → SampleSpec) (state : State P) → IsKept spec_of state → (sink : SinkId) (n : Notice P) → IsSound spec_of state (notice_answer spec_of state sink n) (given_by n)
+notice_sound spec_of state h sink (Request input frames) = inl (told_of_lawful state (input_on state.inputs sink input) (news.Request frames))
+notice_sound spec_of state h sink (Overflow input) = inl (told_of_lawful state (input_on state.inputs sink input) news.Overflow)
+notice_sound spec_of state h sink (Underflow input) = inl (told_of_lawful state (input_on state.inputs sink input) news.Underflow)
+notice_sound spec_of state h sink (Started input) = inl (told_of_lawful state (input_on state.inputs sink input) news.Started)
+notice_sound spec_of state h sink (Drained input tag) =
+    inl (drained_lawful state (input_on state.inputs sink input) (owner_of state.connections (input_on state.inputs sink input)) state.waiting tag)
+notice_sound spec_of state h sink (Detached input parcel) = given_up_sound spec_of state h sink input parcel (input_on state.inputs sink input) refl
+notice_sound spec_of state h sink (Latency input tag write read buffered playing run) =
+    inl (measured_lawful state (input_on state.inputs sink input) (owner_of state.connections (input_on state.inputs sink input)) state.waiting (rate_on state.sinks sink) tag (record { write = write; read = read; buffered = buffered; playing = playing; run = run }))
 
 -- ---- steps
 
@@ -238,28 +269,45 @@ connected_inputs : {P : Type 0} (o : Option Connection) (conn : ConnId) (state :
 connected_inputs (Some c) conn state = refl
 connected_inputs None conn state = cond_both (is_full state) state (joined conn state) (λ after. after.inputs ≡ state.inputs) (λ e. refl) (λ e. refl)
 
-pub answer_lawful : {P : Type 0} (spec_of : P → SampleSpec) (state : State P) (s : Step P) → IsStep s → IsKept spec_of state → IsLawful state (answer_of spec_of state s)
-answer_lawful spec_of state (connect conn) is h = tt
-answer_lawful spec_of state (frame conn f) is h = frame_lawful spec_of state h conn (going_on state.connections conn) refl f is
-answer_lawful spec_of state (broken conn fault at) is h = ended_lawful state conn (going_on state.connections conn) refl (Some Breach) (rule_of fault) at
-answer_lawful spec_of state (close conn) is h = ended_lawful state conn (going_on state.connections conn) refl None 0 0
-answer_lawful spec_of state (cut conn) is h = ended_lawful state conn (going_on state.connections conn) refl (Some ForMemory) 0 0
-answer_lawful spec_of state sweep is h = sweep_lawful state
-answer_lawful spec_of state (notice sink n) is h = notice_lawful spec_of state h sink n
-answer_lawful spec_of state (out sink) is h = tt
+pub answer_sound : {P : Type 0} (spec_of : P → SampleSpec) (state : State P) (s : Step P) → IsStep s → IsKept spec_of state → IsSound spec_of state (answer_of spec_of state s) (given_in s)
+answer_sound spec_of state (connect conn) is h = inl tt
+answer_sound spec_of state (frame conn f) is h = inl (frame_lawful spec_of state h conn (going_on state.connections conn) refl f is)
+answer_sound spec_of state (broken conn fault at) is h = inl (ended_lawful state conn (going_on state.connections conn) refl (Some Breach) (rule_of fault) at)
+answer_sound spec_of state (close conn) is h = inl (ended_lawful state conn (going_on state.connections conn) refl None 0 0)
+answer_sound spec_of state (cut conn) is h = inl (ended_lawful state conn (going_on state.connections conn) refl (Some ForMemory) 0 0)
+answer_sound spec_of state sweep is h = inl (sweep_lawful state)
+answer_sound spec_of state (notice sink n) is h = notice_sound spec_of state h sink n
+answer_sound spec_of state (out sink) is h = inl tt
 
-step_answered : {P : Type 0} (spec_of : P → SampleSpec) (state : State P) (s : Step P) → IsStep s → IsKept spec_of state → Follows spec_of state (answered state (answer_of spec_of state s))
-step_answered spec_of state s is h = changes_follow spec_of [] state (Planned.changes (answer_of spec_of state s)) h.steady (answer_lawful spec_of state s is h)
+-- what is sound keeps what the state keeps, and each sink has the inputs that it had
+pub record Keeps {P : Type 0} (spec_of : P → SampleSpec) (before after : State P) : Type 0 where
+  pub kept : IsKept spec_of after
+  pub held : (k : ℕ) → held_on k after.inputs ≡ held_on k before.inputs
+
+sound_keeps : {P : Type 0} (spec_of : P → SampleSpec) (state : State P) (plan : Plan P) (given : List P) → IsKept spec_of state → IsSound spec_of state plan given → Keeps spec_of state (answered state plan)
+sound_keeps spec_of state plan given h (inl lawful) =
+    let after = changes_follow spec_of [] state plan.changes h.steady lawful in
+    record {
+      kept = record { steady = after.keeps; grouped = changes_grouped [] state plan.changes lawful h.grouped; still = changes_still [] state plan.changes lawful h.still };
+      held = after.held;
+    }
+sound_keeps {P} spec_of state plan given h (inr a) =
+    let after = changes_follow spec_of a.owed a.after a.behind a.follows.keeps a.lawful in
+    subst (Keeps spec_of state) (sym (arrival_committed spec_of state plan given a))
+    (record {
+      kept = record { steady = after.keeps; grouped = changes_grouped a.owed a.after a.behind a.lawful a.grouped; still = a.still };
+      held = λ k. after.held k ∙ a.follows.held k;
+    })
+
+step_answered : {P : Type 0} (spec_of : P → SampleSpec) (state : State P) (s : Step P) → IsStep s → IsKept spec_of state → Keeps spec_of state (answered state (answer_of spec_of state s))
+step_answered spec_of state s is h = sound_keeps spec_of state (answer_of spec_of state s) (given_in s) h (answer_sound spec_of state s is h)
 
 answer_keeps : {P : Type 0} (spec_of : P → SampleSpec) (state : State P) (s : Step P) → IsStep s → IsKept spec_of state → IsKept spec_of (answered state (answer_of spec_of state s))
-answer_keeps spec_of state s is h = record {
-  steady = (step_answered spec_of state s is h).keeps;
-  grouped = changes_grouped [] state (Planned.changes (answer_of spec_of state s)) (answer_lawful spec_of state s is h) h.grouped;
-}
+answer_keeps spec_of state s is h = (step_answered spec_of state s is h).kept
 
 -- what is handed out
 pub out_kept : {P : Type 0} (spec_of : P → SampleSpec) (state : State P) (sink : SinkId) → IsKept spec_of state → IsKept spec_of (handed_out sink state)
-out_kept spec_of state sink h = record { steady = out_keeps spec_of state sink h.steady; grouped = past_grouped state (next_for state sink) sink h.grouped }
+out_kept spec_of state sink h = record { steady = out_keeps spec_of state sink h.steady; grouped = past_grouped state (next_for state sink) sink h.grouped; still = past_still state (next_for state sink) sink h.still }
 
 pub outs_kept : {P : Type 0} (spec_of : P → SampleSpec) (state : State P) (sink : SinkId) (n : ℕ) → IsKept spec_of state → IsKept spec_of (handed_out_by n sink state)
 outs_kept spec_of state sink zero h = h

@@ -1,8 +1,8 @@
 -- What each command's row tells who asked: a reply that is no error, or nothing yet.
-use Rattle.std.proofs.Common.{◌≡◌, ℕ, List, [], ◌∷◌, ◌++◌, Option, Some, None, Bool, true, false, refl, ap}
-use Rattle.std.specs.Prelude.{not, get_or, map, fold, is_some, nat_le, length}
+use Rattle.std.proofs.Common.{◌≡◌, ℕ, List, [], ◌∷◌, ◌++◌, Option, Some, None, Bool, true, false, Ok, refl, ap}
+use Rattle.std.specs.Prelude.{not, get_or, map, fold, is_some, nat_eq, nat_le, length}
 use Rattle.px_types.specs.declared.ids.ConnId.{ConnId}
-use Rattle.px_types.specs.declared.error_code.ErrorCode.TheVariants.{Access, BadState, Busy, Invalid, NoEntity, Version}
+use Rattle.px_types.specs.declared.error_code.ErrorCode.TheVariants.{Access, BadState, Busy, Invalid, NoEntity, NotSupported, TooLarge, Version}
 use Rattle.px_tag.specs.Item.{number}
 use Rattle.px_cmd.specs.declared.command.CreateFields.{CreateFields}
 use Rattle.px_cmd.specs.declared.command.Command.{Command}
@@ -34,13 +34,17 @@ use Rattle.px_ctl_info.specs.Sinks.{sink_called, server_of}
 use Rattle.px_flat.specs.declared.member.Member.{Member}
 use Rattle.px_flat.specs.FlatVolume.{FlatGroup, member_of}
 use Rattle.px_ctl_vol.specs.Asked.{is_volume, fits}
-use Rattle.px_ctl_vol.specs.Inputs.{is_moving}
+use Rattle.px_plan.specs.Input.{is_moving}
 use Rattle.px_ctl_play.specs.Create.{created_of, input_made, create}
 use Rattle.px_ctl_play.specs.Attributes.{attributes}
 use Rattle.px_ctl_play.specs.Control.{cork, flush, trigger, prebuf}
 use Rattle.px_ctl_play.specs.Delete.{delete}
 use Rattle.px_ctl_play.specs.Drain.{drain}
 use Rattle.px_ctl_play.specs.Latency.{latency}
+use Rattle.px_ctl_play.specs.Move.{feed_to, has_place, sent_off, move_input}
+use Rattle.px_plan.specs.Plan.{replied}
+use Rattle.px_plan.specs.declared.target.Target.{Target}
+use Rattle.std.proofs.lemmas.Bool.{cond_both}
 use Rattle.px_ctl_play.specs.Time.{microseconds}
 use Rattle.px_ctl_play.proofs.Passed.{IsCreated, create_passed}
 use Rattle.px_core.specs.State.{State, stream_of, input_named}
@@ -203,6 +207,19 @@ module _ {P : Type 0} (state : State P) (t : ℕ) where
       (λ group. each_then (Tells {P = P}) (present (member_of (FlatGroup.members group) (Input.index x)) NoEntity) _
       (λ member. each_check (Tells {P = P}) (not (is_moving (Input.standing x))) Busy _ (a_reply (reply_to t) refl (plain_byte t)))))
 
+  pub move_tells : (input : Option Input) (named : Named) (inputs : List Input) → Each (Tells {P = P}) (move_input input named inputs t)
+  move_tells input named inputs =
+      each_check (Tells {P = P}) (is_clear named) Invalid _
+      (each_then (Tells {P = P}) (present input NoEntity) _
+      (λ x. each_then (Tells {P = P}) (present (target_of named) NoEntity) _
+      (λ sink. each_check (Tells {P = P}) (not (is_moving (Input.standing x))) Busy _
+      (cond_both (nat_eq (Input.sink x).0 (Target.index sink).0) (Ok (replied (reply_to t) [])) (sent_off x sink inputs t) (Each (Tells {P = P}))
+      (λ e. a_reply (reply_to t) refl (plain_byte t))
+      (λ e. each_check (Tells {P = P}) (not x.no_move) Invalid _
+      (each_check (Tells {P = P}) (nat_eq x.spec.rate sink.spec.rate) NotSupported _
+      (each_then (Tells {P = P}) (present (feed_to x sink.map) NotSupported) _
+      (λ feed. each_check (Tells {P = P}) (has_place inputs sink.index) TooLarge _ (a_reply (reply_to t) refl (plain_byte t))))))))))
+
 pub row_tells : {P : Type 0} (state : State P) (me : Connection) (t : ℕ) (command : Command) → Each Tells (row state me t command)
 row_tells {P} state me t (commands.Auth version cookie) = auth_tells P state.names me t version cookie
 row_tells state me t (commands.SetClientName list) = a_reply (reply_to t ++ number me.client) refl (reply_byte t (number me.client))
@@ -247,6 +264,7 @@ row_tells {P} state me t (commands.RemoveStream stream keys) =
     each_then (Tells {P = P}) (present (stream_of state.inputs me.conn stream) NoEntity) _
     (λ x. each_then (Tells {P = P}) (check (has_keys (list_of_input state.lists (Input.index x)) keys) NoEntity) _ (λ there. a_reply (reply_to t) refl (plain_byte t)))
 row_tells {P} state me t (commands.KillClient client) = each_then (Tells {P = P}) (present (connection_with state.connections client) NoEntity) _ (λ c. a_reply (reply_to t) refl (plain_byte t))
+row_tells state me t (commands.Move input sink) = move_tells state t (input_named state.inputs input) (named_by state.names state.sinks sink false) state.inputs
 row_tells {P} state me t (commands.KillInput input) = each_then (Tells {P = P}) (present (input_named state.inputs input) NoEntity) _ (λ x. a_reply (reply_to t) refl (plain_byte t))
 row_tells state me t (commands.SinkVolume sink volume) = sink_volume_tells state t (named_by state.names state.sinks sink false) volume
 row_tells state me t (commands.SinkMute sink on) = sink_mute_tells state t (named_by state.names state.sinks sink false) on

@@ -1,5 +1,5 @@
 -- Each lawful change keeps what the state keeps, and so do all of a step.
-use Rattle.std.proofs.Common.{◌≡◌, ℕ, List, [], ◌∷◌, ◌++◌, Option, Some, None, Bool, true, false, refl, ap, sym, subst, ◌∙◌}
+use Rattle.std.proofs.Common.{◌≡◌, ◌<◌, ℕ, length, List, [], ◌∷◌, ◌++◌, Option, Some, None, Bool, true, false, refl, ap, sym, subst, ◌∙◌}
 use Rattle.std.specs.Prelude.{cond, nat_eq, IfSome, MatchOption, IsSome, ⊤}
 use Rattle.std.specs.List.{AllByRecursion, find}
 use Rattle.std.specs.FinMap as finite
@@ -23,16 +23,19 @@ use Rattle.px_plan.specs.declared.input.Connection.{Connection}
 use Rattle.px_plan.specs.declared.input.Input.{Input}
 use Rattle.px_plan.specs.declared.input.Standing.{Standing}
 use Rattle.px_plan.specs.declared.input.Standing.TheVariants.{Settled, Moving, Leaving}
-use Rattle.px_plan.specs.declared.change.Change.TheVariants.{Authed, Named, Masked, Defaulted, Made, Described, Leaves, Said, Regrouped, Asked, Answered, Gone, Ended, Forgotten}
+use Rattle.px_plan.specs.declared.change.Change.TheVariants.{Authed, Named, Masked, Defaulted, Made, Described, Leaves, Moves, Arrives, Released, Said, Regrouped, Asked, Answered, Gone, Ended, Forgotten}
 use Rattle.px_plan.specs.declared.waiting.Waiting.{Waiting}
-use Rattle.px_core.specs.State.{State, has_index, has_number, input_of, settled_on, is_as}
-use Rattle.px_core.specs.Change.{Change, change_first, drop_first, authed, marked, with_streams, with_connection, renamed, masked, defaulted, forgotten, posting, regrouping, ending_of, telling, saying, saying_of, changed, committed}
+use Rattle.px_ctl_play.specs.Asked.{MOST_ON_SINK}
+use Rattle.px_core.specs.declared.delayed.Delayed.{Delayed}
+use Rattle.px_core.specs.State.{State, has_index, has_number, input_of, settled_on, bound_for, is_as}
+use Rattle.px_core.specs.Change.{Change, change_first, drop_first, authed, marked, with_streams, with_connection, renamed, masked, defaulted, forgotten, posting, regrouping, ending_of, telling, saying, saying_of, departs, departs_of, releasing, releasing_of, changed, committed}
 use Rattle.px_core.specs.Orderly.{specs_of}
-use Rattle.px_core.specs.Keeps.{AreDistinct, IsAwaiting, IsInput, IsSteady}
-use Rattle.px_core.specs.Lawful.{Brings, IsNew, Suits, AreFor, HasLeft, Lawful, AreLawfulOwing, owed_after}
+use Rattle.px_core.specs.Keeps.{AreDistinct, IsAwaiting, IsInput, IsFedAt, GoesTo, IsSteady}
+use Rattle.px_core.specs.Lawful.{is_of, Brings, IsNew, Suits, AreFor, HasLeft, IsReleased, AreReleased, Lawful, AreLawfulOwing, owed_after}
 use Rattle.px_core.proofs.ListLaws.{all_change, all_drop, all_push, found_all, found_test}
 use Rattle.px_core.proofs.HandingLaws.{sink_there}
 use Rattle.px_core.proofs.ChangeLaws.{sink_at, held_on, settled_spec, on_own, Tells, telling_keeps, attr_held, attr_keeps, ending_keeps, ending_held, gone_keeps, gone_held, with_input, new_keeps, new_held}
+use Rattle.px_core.proofs.MoveLaws.{departing_keeps, departed_held}
 
 -- ---- connections
 
@@ -70,6 +73,18 @@ others_keep spec_of state h connections d names clients = record {
 -- and so may the lists of inputs
 listed_keeps : {P : Type 0} (spec_of : P → SampleSpec) (state : State P) → IsSteady spec_of state → (lists : List InputList) → IsSteady spec_of (record state { lists = lists })
 listed_keeps spec_of state h lists = record {
+  sinks = h.sinks;
+  distinct = h.distinct;
+  rising = h.rising;
+  inputs = h.inputs;
+  waiting = h.waiting;
+  lists = h.lists;
+  in_step = h.in_step;
+}
+
+-- and the messages that wait while their inputs move
+pub delayed_keeps : {P : Type 0} (spec_of : P → SampleSpec) (state : State P) → IsSteady spec_of state → (delayed : List (Delayed P)) → IsSteady spec_of (record state { delayed = delayed })
+delayed_keeps spec_of state h delayed = record {
   sinks = h.sinks;
   distinct = h.distinct;
   rising = h.rising;
@@ -173,7 +188,9 @@ saying_keeps {P} spec_of state x m Settled h here settled suits =
     (λ s e. tells_input spec_of (sample_spec s.spec) x (specs_of (settled_on state.inputs (sink_at x.sink.0))) (settled_spec state.inputs h.rising x.sink.0 x here (on_own x settled)) m suits) in
     let told = told_keeps spec_of (posting x.sink.0 m state) x m posted suits in
     record { keeps = told.keeps; held = told.held }
-saying_keeps spec_of state x m (Moving to) h here e suits = told_keeps spec_of state x m h suits
+saying_keeps {P} spec_of state x m (Moving to) h here e suits =
+    let told = told_keeps spec_of state x m h suits in
+    record { keeps = delayed_keeps spec_of (telling x.index m state) told.keeps (state.delayed ++ record { input = x.index; message = m } ∷ []); held = told.held }
 saying_keeps spec_of state x m Leaving h here e suits = unchanged h
 
 -- ---- a sink has other factors
@@ -195,7 +212,7 @@ tells_factors spec_of s there (Query input tag) f = absurd f
 -- ---- the changes
 
 -- the input with an index is found by its own
-by_own : (inputs : List Input) (index : InputId) (x : Input) → input_of inputs index ≡ Some x → input_of inputs x.index ≡ Some x
+pub by_own : (inputs : List Input) (index : InputId) (x : Input) → input_of inputs index ≡ Some x → input_of inputs x.index ≡ Some x
 by_own inputs index x here = sym (ap (λ n. input_of inputs (record { 0 = n })) (own index.0 x.index.0 (found_test (has_index index) inputs x here))) ∙ here
   where
     own : (a b : ℕ) → nat_eq b a ≡ true → a ≡ b
@@ -213,7 +230,7 @@ said_follow spec_of state h index m None e suits = unchanged h
 said_follow spec_of state h index m (Some x) e suits = saying_keeps spec_of state x m x.standing h (by_own state.inputs index x e) refl suits
 
 -- where none is found, none goes
-none_goes : {A : Type 0} (q : A → Bool) (xs : List A) → find q xs ≡ None → drop_first q xs ≡ xs
+pub none_goes : {A : Type 0} (q : A → Bool) (xs : List A) → find q xs ≡ None → drop_first q xs ≡ xs
 none_goes q [] e = refl
 none_goes {A} q (x ∷ xs) e = step (none_goes q xs) (q x) e
   where
@@ -233,6 +250,33 @@ gone_follow {P} spec_of state h index (Some x) e left =
       held = gone_held state x here left.way;
     })
 
+-- ---- an input moves
+
+departs_follow : {P : Type 0} (spec_of : P → SampleSpec) (state : State P) (to : SinkId) (x : Input) (standing : Standing) → IsSteady spec_of state → input_of state.inputs x.index ≡ Some x → x.standing ≡ standing
+    → GoesTo state.sinks x.sink (IsFedAt x) to → length (bound_for state.inputs to) < MOST_ON_SINK → Follows spec_of state (departs to standing x state)
+departs_follow spec_of state to x Settled h here e goes room = record { keeps = departing_keeps spec_of state x to h here e goes room; held = departed_held to state.inputs x }
+departs_follow spec_of state to x (Moving on) h here e goes room = unchanged h
+departs_follow spec_of state to x Leaving h here e goes room = unchanged h
+
+moves_follow : {P : Type 0} (spec_of : P → SampleSpec) (state : State P) → IsSteady spec_of state → (index : InputId) (to : SinkId) (o : Option Input) → input_of state.inputs index ≡ o
+    → IfSome o (λ x. GoesTo state.sinks x.sink (IsFedAt x) to) → length (bound_for state.inputs to) < MOST_ON_SINK → Follows spec_of state (departs_of to o state)
+moves_follow spec_of state h index to None e goes room = unchanged h
+moves_follow spec_of state h index to (Some x) e goes room = departs_follow spec_of state to x x.standing h (by_own state.inputs index x e) refl goes room
+
+-- a message that waited goes on its way
+releases : {P : Type 0} (spec_of : P → SampleSpec) (state : State P) → IsSteady spec_of state → (x : Input) → input_of state.inputs x.index ≡ Some x → (o : Option (Delayed P)) → IfSome o (IsReleased x) → Follows spec_of state (releasing x o state)
+releases spec_of state h x here None ok = unchanged h
+releases {P} spec_of state h x here (Some d) ok =
+    let later : State P = record state { delayed = drop_first (is_of x.index) state.delayed } in
+    same_held spec_of state (posting x.sink.0 d.message later) refl
+    (telling_keeps spec_of later (sink_at x.sink.0) d.message (delayed_keeps spec_of state h (drop_first (is_of x.index) state.delayed))
+    (found_all (IsInput state.sinks state.inputs_made) (has_index x.index) state.inputs x h.inputs here).sink_there
+    (λ s e. tells_input spec_of (sample_spec s.spec) x (specs_of (settled_on state.inputs (sink_at x.sink.0))) (settled_spec state.inputs h.rising x.sink.0 x here (on_own x ok.standing)) d.message ok.suits))
+
+released_follow : {P : Type 0} (spec_of : P → SampleSpec) (state : State P) → IsSteady spec_of state → (index : InputId) (o : Option Input) → input_of state.inputs index ≡ o → IfSome o (AreReleased state.delayed) → Follows spec_of state (releasing_of o state)
+released_follow spec_of state h index None e ok = unchanged h
+released_follow spec_of state h index (Some x) e ok = releases spec_of state h x (by_own state.inputs index x e) (find (is_of x.index) state.delayed) ok
+
 pub change_follows : {P : Type 0} (spec_of : P → SampleSpec) (state : State P) (c : Change P) → IsSteady spec_of state → Lawful state c → Follows spec_of state (changed state c)
 change_follows spec_of state (Authed conn version) h lawful = same_held spec_of state (changed state (Authed conn version)) refl (connection_keeps spec_of state h conn (authed version) (λ d. refl))
 change_follows spec_of state (Named conn list) h lawful = same_held spec_of state (changed state (Named conn list)) refl (others_keep spec_of state h state.connections h.distinct (renamed conn list state.names) state.clients_made)
@@ -247,6 +291,9 @@ change_follows {P} spec_of state (Made x m streams inputs) h lawful =
     })
 change_follows spec_of state (Described index list) h lawful = same_held spec_of state (changed state (Described index list)) refl (listed_keeps spec_of state h (with_list_of index list state.lists))
 change_follows spec_of state (Leaves index) h lawful = leaves_follow spec_of state h index (input_of state.inputs index) refl
+change_follows spec_of state (Moves index to) h lawful = moves_follow spec_of state h index to (input_of state.inputs index) refl lawful.goes lawful.room
+change_follows spec_of state (Arrives index m) h lawful = absurd lawful
+change_follows spec_of state (Released index) h lawful = released_follow spec_of state h index (input_of state.inputs index) refl lawful
 change_follows spec_of state (Said index m) h lawful = said_follow spec_of state h index m (input_of state.inputs index) refl lawful
 change_follows spec_of state (Regrouped sink group m) h lawful =
     same_held spec_of state (posting sink.0 m (regrouping sink.0 group state)) refl

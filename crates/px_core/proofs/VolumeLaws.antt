@@ -19,7 +19,7 @@ use Rattle.px_plan.specs.Row.{Row, ◌>>=◌, check, present}
 use Rattle.px_plan.specs.Target.{is_clear, target_of as target_in}
 use Rattle.px_ctl_vol.specs.Asked.{is_volume, fits}
 use Rattle.px_ctl_vol.specs.Factors.{regrouped}
-use Rattle.px_ctl_vol.specs.Inputs.{is_moving}
+use Rattle.px_plan.specs.Input.{is_moving}
 use Rattle.px_core.specs.State.{State, goes_on, going, has_index, input_named, input_of, is_settled, settled_on}
 use Rattle.px_core.specs.Command.{sink_volume, sink_mute, input_volume, input_mute}
 use Rattle.px_core.specs.Grouped.{IsGroupOf}
@@ -33,6 +33,15 @@ use Rattle.px_targets.proofs.Sinks.{IsThere}
 
 same_group : (sink : SinkId) (s : SinkSpec) (inputs : List Input) (group after : FlatGroup) → HasSameInputs group after → IsGroupOf sink s inputs group → IsGroupOf sink s inputs after
 same_group sink s inputs group after same is = record { channels = same.channels ∙ is.channels; members = λ i. same.inputs i ∙ is.members i }
+
+-- an input that is named is found
+pub going_is : (o : Option Input) (x : Input) → going o ≡ Some x → o ≡ Some x
+going_is None x e = absurd (none-some x e)
+going_is (Some y) x e = by (goes_on y) e
+  where
+    by : (b : Bool) → cond b (Some y) None ≡ Some x → Some y ≡ Some x
+    by true e = e
+    by false e = absurd (none-some x e)
 
 module _ {P : Type 0} (spec_of : P → SampleSpec) (state : State P) (h : IsKept spec_of state) where
   -- a sink has another group with the same inputs
@@ -71,14 +80,6 @@ module _ {P : Type 0} (spec_of : P → SampleSpec) (state : State P) (h : IsKept
         by (Some target) e (Some group) owned = of_sink (with_sink_mute on) (kept.sink_mute on) target e group owned
 
   -- ---- of an input
-
-  going_is : (o : Option Input) (x : Input) → going o ≡ Some x → o ≡ Some x
-  going_is None x e = absurd (none-some x e)
-  going_is (Some y) x e = by (goes_on y) e
-    where
-      by : (b : Bool) → cond b (Some y) None ≡ Some x → Some y ≡ Some x
-      by true e = e
-      by false e = absurd (none-some x e)
 
   module _ (index tag : ℕ) where
     of_input : (f : FlatGroup → FlatGroup) → ((group : FlatGroup) → HasSameInputs group (f group)) → (x : Input) → input_named state.inputs index ≡ Some x → (group : FlatGroup) → slice_get state.groups x.sink.0 ≡ Some group

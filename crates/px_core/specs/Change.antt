@@ -1,6 +1,6 @@
 -- The state after each change. A step is a list of changes, made one after the other.
 use Rattle.std.specs.Prelude.{ℕ, Bool, true, cond, nat_lt, length, List, [], ◌∷◌, ◌++◌, Option, None, Some, set, get_or}
-use Rattle.std.specs.List.{fold}
+use Rattle.std.specs.List.{fold, find}
 use Rattle.px_types.specs.declared.ids.ConnId.{ConnId}
 use Rattle.px_types.specs.declared.ids.InputId.{InputId}
 use Rattle.px_types.specs.declared.ids.SinkId.{SinkId}
@@ -16,11 +16,12 @@ use Rattle.px_plan.specs.declared.input.Connection.{Connection}
 use Rattle.px_plan.specs.declared.input.Input.{Input}
 use Rattle.px_plan.specs.declared.input.Standing.{Standing}
 use Rattle.px_plan.specs.declared.input.Standing.TheVariants.{Settled, Moving, Leaving}
-use Rattle.px_plan.specs.declared.input.Way.TheVariants.{Coming}
 use Rattle.px_plan.specs.declared.change.Change.{Change as AnyChange}
-use Rattle.px_plan.specs.declared.change.Change.TheVariants.{Authed, Named, Masked, Defaulted, Made, Described, Leaves, Said, Regrouped, Asked, Answered, Gone, Ended, Forgotten}
+use Rattle.px_plan.specs.declared.change.Change.TheVariants.{Authed, Named, Masked, Defaulted, Made, Described, Leaves, Moves, Arrives, Released, Said, Regrouped, Asked, Answered, Gone, Ended, Forgotten}
 pub use Rattle.px_inputs.specs.Lists.{change_first, drop_first}
-pub use Rattle.px_inputs.specs.Inputs.{leaving, with_attr}
+pub use Rattle.px_inputs.specs.Inputs.{leaving, with_attr, moving_to, arrived_at}
+use Rattle.px_core.specs.declared.delayed.Delayed.{Delayed}
+use Rattle.px_core.specs.Delayed.{is_of, delayed_of_others}
 use Rattle.px_core.specs.State.{State, has_number, has_index, input_of, is_as, waiting_of_others}
 
 -- a change with the messages of the core, and its groups of volumes
@@ -72,6 +73,7 @@ abbrev pub without_standing : {P : Type 0} → InputId → State P → State P
 without_standing index state = record state {
   inputs = change_first (has_index index) leaving state.inputs;
   waiting = waiting_of_others state.waiting index;
+  delayed = delayed_of_others state.delayed index;
 }
 
 -- an input ends: a settled one's sink is told to give up its stream, a moving one's was told already, and one that has ended stays so
@@ -102,10 +104,14 @@ inputs_told index (Query input tag) inputs = inputs
 abbrev pub telling : {P : Type 0} → InputId → Msg P → State P → State P
 telling index m state = record state { inputs = inputs_told index m state.inputs }
 
--- an input is told something; its sink is, where the input is settled there
+-- a message waits while its input moves
+abbrev pub delaying : {P : Type 0} → InputId → Msg P → State P → State P
+delaying index m state = record state { delayed = state.delayed ++ record { input = index; message = m } ∷ [] }
+
+-- an input is told something: its sink is, where the input is settled there
 abbrev pub saying : {P : Type 0} → Standing → Input → Msg P → State P → State P
 saying Settled x m state = posting x.sink.0 m (telling x.index m state)
-saying (Moving to) x m state = telling x.index m state
+saying (Moving to) x m state = delaying x.index m (telling x.index m state)
 saying Leaving x m state = state
 
 abbrev pub saying_of : {P : Type 0} → Option Input → Msg P → State P → State P
@@ -114,19 +120,41 @@ saying_of (Some x) m state = saying x.standing x m state
 
 -- ---- an input moves between sinks
 
-abbrev pub moving_to : SinkId → Input → Input
-moving_to to x = record x { standing = Moving to }
-
 -- a settled one's sink is told to give up its stream
 abbrev pub departing : {P : Type 0} → SinkId → Input → State P → State P
 departing to x state = posting x.sink.0 (Detach x.index) (record state { inputs = change_first (has_index x.index) (moving_to to) state.inputs })
 
-abbrev pub arrived_at : SinkId → Input → Input
-arrived_at to x = record x { sink = to; standing = Settled; way = Coming }
+abbrev pub departs : {P : Type 0} → SinkId → Standing → Input → State P → State P
+departs to Settled x state = departing to x state
+departs to (Moving on) x state = state
+departs to Leaving x state = state
+
+abbrev pub departs_of : {P : Type 0} → SinkId → Option Input → State P → State P
+departs_of to None state = state
+departs_of to (Some x) state = departs to x.standing x state
 
 -- and once it has, a message brings its stream to the other sink
 abbrev pub arriving : {P : Type 0} → SinkId → Input → Msg P → State P → State P
 arriving to x m state = posting to.0 m (record state { inputs = change_first (has_index x.index) (arrived_at to) state.inputs })
+
+abbrev pub arrives : {P : Type 0} → Standing → Input → Msg P → State P → State P
+arrives Settled x m state = state
+arrives (Moving to) x m state = arriving to x m state
+arrives Leaving x m state = state
+
+abbrev pub arrives_of : {P : Type 0} → Option Input → Msg P → State P → State P
+arrives_of None m state = state
+arrives_of (Some x) m state = arrives x.standing x m state
+
+-- a message that waited waits for the sink that its input is on
+abbrev pub releasing : {P : Type 0} → Input → Option (Delayed P) → State P → State P
+releasing x None state = state
+releasing x (Some d) state = posting x.sink.0 d.message (record state { delayed = drop_first (is_of x.index) state.delayed })
+
+-- the first of the input's
+abbrev pub releasing_of : {P : Type 0} → Option Input → State P → State P
+releasing_of None state = state
+releasing_of (Some x) state = releasing x (find (is_of x.index) state.delayed) state
 
 -- ---- volumes
 
@@ -145,6 +173,9 @@ changed state (Made x m streams inputs) =
     posting x.sink.0 m (record (with_connection x.conn (with_streams streams) state) { inputs = state.inputs ++ x ∷ []; inputs_made = inputs })
 changed state (Described index list) = record state { lists = with_list_of index list state.lists }
 changed state (Leaves index) = ending_of (input_of state.inputs index) state
+changed state (Moves index to) = departs_of to (input_of state.inputs index) state
+changed state (Arrives index m) = arrives_of (input_of state.inputs index) m state
+changed state (Released index) = releasing_of (input_of state.inputs index) state
 changed state (Said index m) = saying_of (input_of state.inputs index) m state
 changed state (Regrouped sink group m) = posting sink.0 m (regrouping sink.0 group state)
 changed state (Asked w) = record state { waiting = state.waiting ++ w ∷ [] }

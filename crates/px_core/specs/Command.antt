@@ -1,11 +1,10 @@
 -- What a control packet is answered, and in which order it is refused (PulseAudio: `pa_pdispatch_run` and the handlers of pulsecore/protocol-native.c; the order is own).
-use Rattle.std.specs.Prelude.{ℕ, Bool, true, false, not, cond, ◌&&◌, ◌||◌, nat_eq, List, is_some, Option, None, Result, Ok, Err}
-use Rattle.px_types.specs.declared.error_code.ErrorCode.TheVariants.{Access, Command as UnknownCommand, NotSupported, NotImplemented}
+use Rattle.std.specs.Prelude.{ℕ, Bool, true, false, not, cond, ◌&&◌, nat_eq, List, is_some, Option, None, Result, Ok, Err}
+use Rattle.px_types.specs.declared.error_code.ErrorCode.TheVariants.{Access, Command as UnknownCommand, NotSupported}
 use Rattle.px_tag.specs.declared.fault.TagFault.{TagFault}
 use Rattle.px_tag.specs.Place.{Place, start_of}
 use Rattle.px_cmd.specs.Packet.{head_at}
 use Rattle.px_cmd.specs.Meant.{meant}
-use Rattle.px_cmd.specs.Table.{kinds_of}
 use Rattle.px_cmd.specs.declared.command.Command.{Command}
 use Rattle.px_cmd.specs.declared.command.CreateFields.{CreateFields}
 use Rattle.px_cmd.specs.declared.command.Command.TheVariants as commands
@@ -15,7 +14,6 @@ use Rattle.px_names.specs.Clients.{client_on, client_numbered}
 use Rattle.px_names.specs.Names.{NO_INDEX, sink_named}
 use Rattle.px_plan.specs.declared.input.Connection.{Connection}
 use Rattle.px_plan.specs.declared.input.Input.{Input}
-use Rattle.px_plan.specs.declared.refusal.Refusal.TheVariants.{Code}
 use Rattle.px_plan.specs.declared.target.Named.{Named}
 use Rattle.px_plan.specs.Plan.{idle}
 use Rattle.px_plan.specs.Row.{Row}
@@ -31,6 +29,7 @@ use Rattle.px_ctl_play.specs.Delete.{delete}
 use Rattle.px_ctl_play.specs.Drain.{drain}
 use Rattle.px_ctl_play.specs.Kill.{kill_input}
 use Rattle.px_ctl_play.specs.Latency.{latency}
+use Rattle.px_ctl_play.specs.Move.{move_input}
 use Rattle.px_ctl_vol.specs.Inputs.{set_input_volume, set_input_mute}
 use Rattle.px_ctl_vol.specs.Sinks.{set_sink_volume, set_sink_mute}
 use Rattle.px_core.specs.State.{State, stream_of, input_named}
@@ -42,21 +41,6 @@ use Rattle.px_targets.specs.Sinks.{rate_of, depth_of, sink_of, named_as, named_b
 
 abbrev pub AUTH : ℕ
 AUTH = 8
-
--- the commands of the table that aren't built yet
-abbrev pub is_built : ℕ → Bool
-is_built command =
-    nat_eq command 3 || nat_eq command 4 || nat_eq command 8 || nat_eq command 9 || nat_eq command 10 || nat_eq command 12 || nat_eq command 14
-    || nat_eq command 20 || nat_eq command 21 || nat_eq command 22 || nat_eq command 24 || nat_eq command 26 || nat_eq command 27 || nat_eq command 28
-    || nat_eq command 29 || nat_eq command 30 || nat_eq command 32 || nat_eq command 34 || nat_eq command 35 || nat_eq command 36 || nat_eq command 37 || nat_eq command 39
-    || nat_eq command 41 || nat_eq command 42 || nat_eq command 43 || nat_eq command 44 || nat_eq command 46 || nat_eq command 48 || nat_eq command 49 || nat_eq command 60 || nat_eq command 69
-    || nat_eq command 72 || nat_eq command 81 || nat_eq command 82 || nat_eq command 84 || nat_eq command 85 || nat_eq command 89
-
-abbrev pub is_waiting_for_work : ℕ → Bool
-is_waiting_for_work command = is_some (kinds_of command) && not (is_built command)
-
-abbrev pub not_built : {A : Type 0} → Row A
-not_built = Err (Code NotImplemented)
 
 -- new buffer attributes of a stream, with the latency of its sink
 abbrev pub new_attributes : {P : Type 0} → State P → Option Input → List ℕ → ℕ → Row (Plan P)
@@ -119,7 +103,7 @@ row state me tag (commands.DefaultSink name) = set_default_sink state.names tag 
 row state me tag (commands.StreamName stream name) = set_stream_name (stream_of state.inputs me.conn stream) state.lists tag name
 row state me tag (commands.KillClient client) = kill_client (connection_with state.connections client) tag
 row state me tag (commands.KillInput input) = killed_input state (input_named state.inputs input) tag
-row state me tag (commands.Move input sink) = not_built
+row state me tag (commands.Move input sink) = move_input (input_named state.inputs input) (named_by state.names state.sinks sink false) state.inputs tag
 row state me tag (commands.UpdateStream stream mode list) = update_stream (stream_of state.inputs me.conn stream) state.lists tag mode list
 row state me tag (commands.UpdateClient mode list) = update_client (client_on state.names.clients me.conn) me tag mode list
 row state me tag (commands.RemoveStream stream keys) = remove_stream (stream_of state.inputs me.conn stream) state.lists tag keys
@@ -135,15 +119,13 @@ read_answer state c at tag (Err (Unknown command)) = refused tag UnknownCommand
 read_answer state c at tag (Err (Unsupported command)) = refused tag NotSupported
 read_answer state c at tag (Err NoMemory) = idle
 
--- before a successful AUTH every other command is refused, with its fields unread; then those that aren't built yet
+-- before a successful AUTH every other command is refused, with its fields unread
 abbrev pub is_barred : Connection → ℕ → Bool
 is_barred c command = not (is_some c.version) && not (nat_eq command AUTH)
 
 abbrev pub command_answer : {P : Type 0} → State P → Connection → ℕ → List ℕ → ℕ → ℕ → Plan P
 command_answer state c at packet command tag =
-    cond (is_barred c command) (refused tag Access)
-    (cond (is_waiting_for_work command) (refused tag NotImplemented)
-    (read_answer state c at tag (meant packet)))
+    cond (is_barred c command) (refused tag Access) (read_answer state c at tag (meant packet))
 
 abbrev pub head_answer : {P : Type 0} → State P → Connection → ℕ → List ℕ → Result ((ℕ × ℕ) × Place) TagFault → Plan P
 head_answer state c at packet (Err fault) = broken_off c.conn at fault

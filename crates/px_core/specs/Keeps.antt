@@ -1,5 +1,5 @@
 -- What the state of the core keeps from step to step.
-use Rattle.std.specs.Prelude.{◌≡◌, ℕ, zero, suc, ◌<◌, ◌≤◌, ◌≢◌, Bool, true, false, cond, ◌&&◌, nat_eq, List, [], ◌∷◌, ◌++◌, map, filter, length, flat_map, slice_get, get_or, Some, MatchOption, ⊤}
+use Rattle.std.specs.Prelude.{◌≡◌, ℕ, zero, suc, ◌<◌, ◌≤◌, ◌≢◌, Bool, true, false, cond, ◌&&◌, nat_eq, List, [], ◌∷◌, ◌++◌, map, filter, length, flat_map, slice_get, get_or, Some, IsSome, MatchOption, ⊤}
 use Rattle.std.specs.List.{AllByRecursion}
 use Rattle.std.specs.Option.{option_to_list}
 use Rattle.px_types.specs.declared.ids.InputId.{InputId}
@@ -22,6 +22,8 @@ use Rattle.px_plan.specs.declared.input.Standing.TheVariants.{Settled, Moving, L
 use Rattle.px_plan.specs.declared.waiting.Waiting.{Waiting}
 use Rattle.px_core.specs.State.{State, goes_on, input_of, settled_on, bound_for}
 use Rattle.px_ctl_play.specs.Asked.{MOST_ON_SINK}
+use Rattle.px_ctl_play.specs.Move.{feed_to}
+use Rattle.px_core.specs.Delayed.{IsDelayed}
 use Rattle.px_core.specs.Grouped.{AreGrouped}
 use Rattle.px_core.specs.Orderly.{spec_in, specs_of, is_held_by}
 use Rattle.px_core.specs.Out.{next_for, handed_out}
@@ -42,18 +44,28 @@ abbrev pub IsRising : List Input → Type 0
 IsRising [] = ⊤
 IsRising (x ∷ inputs) = AllAbove x.index.0 inputs × IsRising inputs
 
--- where it moves to a sink, that is there
-abbrev pub GoesThere : List SinkSpec → Standing → Type 0
-GoesThere sinks Settled = ⊤
-GoesThere sinks (Moving to) = to.0 < length sinks
-GoesThere sinks Leaving = ⊤
+-- a plan feeds a sink's channels from the input's
+abbrev pub IsFedAt : Input → SinkSpec → Type 0
+IsFedAt x s = IsSome (feed_to x s.map)
+
+-- where an input moves to a sink, that is there and another than the one that it is on, and there is a plan for it
+pub record GoesTo (sinks : List SinkSpec) (on : SinkId) (IsFed : SinkSpec → Type 0) (to : SinkId) : Type 0 where
+  pub there : to.0 < length sinks
+  pub apart : to.0 ≢ on.0
+  pub fed : (s : SinkSpec) → slice_get sinks to.0 ≡ Some s → IsFed s
+
+abbrev pub GoesThere : List SinkSpec → SinkId → (SinkSpec → Type 0) → Standing → Type 0
+GoesThere sinks on IsFed Settled = ⊤
+GoesThere sinks on IsFed (Moving to) = GoesTo sinks on IsFed to
+GoesThere sinks on IsFed Leaving = ⊤
 
 -- an input: its index is one of those that were given, its sinks are there, and a sink can play it
 pub record IsInput (sinks : List SinkSpec) (made : ℕ) (x : Input) : Type 0 where
   pub given : x.index.0 < made
   pub sink_there : x.sink.0 < length sinks
-  pub goes_there : GoesThere sinks x.standing
+  pub goes_there : GoesThere sinks x.sink (IsFedAt x) x.standing
   pub playable : IsPlayable (sample_spec x.spec)
+  pub map : length x.map ≡ x.spec.channels
   pub repaired : IsRepaired x.attr
 
 -- the input with an index is there and goes on
@@ -126,10 +138,11 @@ pub record IsSteady {P : Type 0} (spec_of : P → SampleSpec) (state : State P) 
   pub lists : length state.posted ≡ length state.sinks
   pub in_step : AreAllInStep spec_of state.sinks state.inputs state.posted
 
--- and what all changes of a step keep together: the groups have followed the inputs
+-- and what all changes of a step keep together: the groups have followed the inputs, and messages wait of those alone that move
 pub record IsKept {P : Type 0} (spec_of : P → SampleSpec) (state : State P) : Type 0 where
   pub steady : IsSteady spec_of state
   pub grouped : AreGrouped [] state.sinks state.inputs state.groups
+  pub still : AllByRecursion (IsDelayed state.inputs) state.delayed
 
 -- a step that can be: a frame says what a frame can say
 abbrev pub IsStep : {P : Type 0} → Step P → Type 0

@@ -1,9 +1,10 @@
 -- What a change asks of the state, so that it keeps what the state keeps.
 use Rattle.std.specs.Prelude.{◌≡◌, ◌+◌, ◌<◌, List, [], ◌∷◌, map, length, slice_get, Option, Some, None, IfSome, IsSome, ⊤}
-use Rattle.std.specs.List.{AllByRecursion}
+use Rattle.std.specs.List.{AllByRecursion, find}
+use Rattle.px_types.specs.declared.ids.InputId.{InputId}
 use Rattle.px_types.specs.declared.ids.SinkId.{SinkId}
 use Rattle.px_session.specs.declared.header.SinkSpec.{SinkSpec}
-use Rattle.px_model.specs.Orderly.{IsNewStream, IsRepaired, IsWhole, AreFactors}
+use Rattle.px_model.specs.Orderly.{IsNewStream, AreFactors}
 use Rattle.px_model.specs.Message.{InputFactors as Gains}
 use Rattle.px_msg.specs.declared.factors.InputFactors.{InputFactors}
 use Rattle.px_flat.specs.FlatVolume.{FlatGroup}
@@ -13,13 +14,15 @@ use Rattle.px_msg.specs.View.{sample_spec, opened, gains}
 use Rattle.px_plan.specs.declared.input.Input.{Input}
 use Rattle.px_plan.specs.declared.input.Standing.TheVariants.{Settled, Leaving}
 use Rattle.px_plan.specs.declared.input.Way.TheVariants.{Coming, Left}
-use Rattle.px_plan.specs.declared.change.Change.TheVariants.{Authed, Named, Masked, Defaulted, Made, Described, Leaves, Said, Regrouped, Asked, Answered, Gone, Ended, Forgotten}
+use Rattle.px_plan.specs.declared.change.Change.TheVariants.{Authed, Named, Masked, Defaulted, Made, Described, Leaves, Moves, Arrives, Released, Said, Regrouped, Asked, Answered, Gone, Ended, Forgotten}
+use Rattle.px_core.specs.declared.delayed.Delayed.{Delayed}
+pub use Rattle.px_core.specs.Delayed.{is_of, Suits}
 use Rattle.px_core.specs.State.{State, input_of, bound_for}
 use Rattle.px_core.specs.Change.{Change, changed}
 use Rattle.px_core.specs.Connecting.{going_on}
 use Rattle.px_ctl_play.specs.Asked.{MOST_ON_SINK}
 use Rattle.px_core.specs.Grouped.{IsGroupOf, paid}
-use Rattle.px_core.specs.Keeps.{IsInput, IsIncreasing, IsAwaiting}
+use Rattle.px_core.specs.Keeps.{IsInput, IsFedAt, GoesTo, IsIncreasing, IsAwaiting}
 
 -- a message brings a new input's stream to its sink, and fits it
 abbrev pub Brings : {P : Type 0} → Input → SinkSpec → Msg P → Type 0
@@ -44,22 +47,6 @@ pub record IsNew {P : Type 0} (state : State P) (x : Input) (m : Msg P) : Type 0
   pub is : IsInput state.sinks (state.inputs_made + 1) x
   pub room : length (bound_for state.inputs x.sink) < MOST_ON_SINK
   pub brings : (s : SinkSpec) → slice_get state.sinks x.sink.0 ≡ Some s → Brings x s m
-
--- a message tells the stream of an input something: it names it, and fits it
-abbrev pub Suits : {P : Type 0} → Input → Msg P → Type 0
-Suits x (New n) = ⊥
-Suits x (Attach input parcel feed factors) = ⊥
-Suits x (Detach input) = ⊥
-Suits x (Write input seek offset frames bytes) =
-    (input.0 ≡ x.index.0) × IsWhole (sample_spec x.spec) (record { input = input.0; seek = seek; offset = offset; frames = frames; bytes = bytes })
-Suits x (Cork input on) = input.0 ≡ x.index.0
-Suits x (Flush input) = input.0 ≡ x.index.0
-Suits x (Trigger input) = input.0 ≡ x.index.0
-Suits x (Prebuf input) = input.0 ≡ x.index.0
-Suits x (Drain input tag) = input.0 ≡ x.index.0
-Suits x (Attr input attr) = (input.0 ≡ x.index.0) × IsRepaired attr
-Suits x (Factors each) = ⊥
-Suits x (Query input tag) = input.0 ≡ x.index.0
 
 -- factors for a sink: one for each of its channels, of inputs in rising index
 abbrev pub AreFor : {P : Type 0} → SinkSpec → Msg P → Type 0
@@ -88,6 +75,19 @@ pub record IsRegrouped {P : Type 0} (state : State P) (sink : SinkId) (group : F
   pub follows : (s : SinkSpec) → slice_get state.sinks sink.0 ≡ Some s → IsGroupOf sink s state.inputs group
   pub factors : (s : SinkSpec) → slice_get state.sinks sink.0 ≡ Some s → AreFor s m
 
+-- an input may move to a sink: that has room for it
+pub record MayMove {P : Type 0} (state : State P) (index : InputId) (to : SinkId) : Type 0 where
+  pub goes : IfSome (input_of state.inputs index) (λ x. GoesTo state.sinks x.sink (IsFedAt x) to)
+  pub room : length (bound_for state.inputs to) < MOST_ON_SINK
+
+-- a message that waited suits an input that is settled now
+pub record IsReleased {P : Type 0} (x : Input) (d : Delayed P) : Type 0 where
+  pub standing : x.standing ≡ Settled
+  pub suits : Suits x d.message
+
+abbrev pub AreReleased : {P : Type 0} → List (Delayed P) → Input → Type 0
+AreReleased delayed x = IfSome (find (is_of x.index) delayed) (IsReleased x)
+
 abbrev pub Lawful : {P : Type 0} → State P → Change P → Type 0
 Lawful state (Authed conn version) = ⊤
 Lawful state (Named conn list) = ⊤
@@ -96,6 +96,9 @@ Lawful state (Defaulted sink) = ⊤
 Lawful state (Made x m streams inputs) = IsNew state x m × (inputs ≡ state.inputs_made + 1)
 Lawful state (Described index list) = ⊤
 Lawful state (Leaves index) = ⊤
+Lawful state (Moves index to) = MayMove state index to
+Lawful state (Arrives index m) = ⊥
+Lawful state (Released index) = IfSome (input_of state.inputs index) (AreReleased state.delayed)
 Lawful state (Said index m) = IfSome (input_of state.inputs index) (λ x. Suits x m)
 Lawful state (Regrouped sink group m) = IsRegrouped state sink group m
 Lawful state (Asked w) = IsAwaiting state.inputs w

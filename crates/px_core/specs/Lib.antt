@@ -1,4 +1,5 @@
 pub mod Effect
+pub mod Delayed
 pub mod State
 pub mod Tables
 pub mod Change

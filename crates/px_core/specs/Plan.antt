@@ -8,7 +8,7 @@ use Rattle.px_tag.specs.declared.fault.TagFault.{TagFault}
 use Rattle.px_reply.specs.Front.{refusal}
 use Rattle.px_flat.specs.FlatVolume.{FlatGroup}
 use Rattle.px_msg.specs.declared.message.Msg.{Msg}
-use Rattle.px_plan.specs.declared.change.Change.TheVariants.{Authed, Named, Masked, Defaulted, Made, Described, Leaves, Said, Regrouped, Asked, Answered, Gone, Ended, Forgotten}
+use Rattle.px_plan.specs.declared.change.Change.TheVariants.{Authed, Named, Masked, Defaulted, Made, Described, Leaves, Moves, Arrives, Released, Said, Regrouped, Asked, Answered, Gone, Ended, Forgotten}
 use Rattle.px_plan.specs.declared.refusal.Refusal.TheVariants.{Code, NoMemory}
 use Rattle.px_plan.specs.declared.sending.Reason.{Reason}
 use Rattle.px_plan.specs.declared.sending.Reason.TheVariants.{Protocol}
@@ -47,6 +47,9 @@ closed_in (Defaulted sink) = []
 closed_in (Made x m streams inputs) = []
 closed_in (Described index list) = []
 closed_in (Leaves index) = []
+closed_in (Moves index to) = []
+closed_in (Arrives index m) = []
+closed_in (Released index) = []
 closed_in (Said index m) = []
 closed_in (Regrouped sink group m) = []
 closed_in (Asked w) = []

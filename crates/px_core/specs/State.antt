@@ -10,6 +10,7 @@ use Rattle.px_plan.specs.declared.input.Connection.{Connection}
 use Rattle.px_plan.specs.declared.input.Input.{Input}
 use Rattle.px_plan.specs.declared.waiting.Waiting.{Waiting}
 pub use Rattle.px_plan.specs.Input.{has_number, connection_of, is_leaving, goes_on, belongs_to, is_bound_for, stays_on, is_settled, has_index, input_of, going, input_named, is_stream, stream_of, is_from, settled_on, bound_for, going_of}
+use Rattle.px_core.specs.declared.delayed.Delayed.{Delayed}
 pub use Rattle.px_plan.specs.Waiting.{is_as, waiting_of_others}
 
 -- P is the type of a parcel: a stream on its way from one sink to another
@@ -28,6 +29,8 @@ pub record State (P : Type 0) : Type 0 where
   pub waiting : List Waiting
   -- for each sink the messages that wait for it, in order
   pub posted : List (List (Msg P))
+  -- the messages that wait while their inputs move, in order
+  pub delayed : List (Delayed P)
   -- for each sink its group: its volume, and those of the inputs on it
   pub groups : List FlatGroup
   -- how many clients and inputs were ever made: the next index of each
@@ -44,6 +47,7 @@ new_state header = record {
   lists = [];
   waiting = [];
   posted = replicate (length header.sinks) [];
+  delayed = [];
   groups = map (λ s. new_group (SinkSpec.spec s).channels) header.sinks;
   clients_made = 0;
   inputs_made = 0;

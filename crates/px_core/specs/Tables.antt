@@ -21,6 +21,7 @@ state_of t = record {
   lists = t.lists.items;
   waiting = t.waiting.items;
   posted = lists_of t.posted.items;
+  delayed = t.delayed.items;
   groups = t.groups.items;
   clients_made = t.clients_made;
   inputs_made = t.inputs_made;
@@ -54,4 +55,5 @@ pub record HasRoom {P : Type 0} (n : ℕ) (t : Tables P) : Type 0 where
   pub streams : n ≤ t.inputs.streams
   pub lists : length t.lists.items + n ≤ t.lists.places
   pub waiting : length t.waiting.items + n ≤ vec_capacity t.waiting
+  pub delayed : length t.delayed.items + n ≤ vec_capacity t.delayed
   pub posted : HavePlaces n t.posted.items

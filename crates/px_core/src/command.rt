@@ -1,19 +1,20 @@
 //! What a control packet is answered, and in which order it is refused (PulseAudio: `pa_pdispatch_run` and the handlers of
 //! `pulsecore/protocol-native.c`; the order is own).
 
-ghost use Rattle.std.specs.Prelude.{◌≡◌, ◌≤◌, [], true, IfOk, IfSome};
+ghost use Rattle.std.specs.Prelude.{◌≡◌, ◌≤◌, [], true, false, IfOk, IfSome};
 ghost use Rattle.px_cmd.specs.Meant.{meant};
 ghost use Rattle.px_plan.specs.Row.{Plans};
 ghost use Rattle.px_session.specs.HeaderRules.{AreSinks};
 ghost use Rattle.px_ctl_info.specs.Sinks.{server_info};
+ghost use Rattle.px_ctl_play.specs.Move.{move_input};
 ghost use Rattle.std.specs.List.{AllByRecursion};
 ghost use Rattle.std.specs.Option.{option_map};
 ghost use Rattle.px_core.specs.Grouped.{AreGrouped};
 ghost use Rattle.px_core.specs.Keeps.{IsInput};
-ghost use Rattle.px_core.specs.State.{stream_of};
+ghost use Rattle.px_core.specs.State.{stream_of, input_named};
 ghost use Rattle.px_targets.specs.Sinks.{named_by};
 ghost use Rattle.px_core.specs.Tables.{state_of};
-ghost use Rattle.px_core.specs.Command.{is_built, is_waiting_for_work, is_barred, new_attributes, create_on, default_sink, killed_input, row, read_answer, command_answer, packet_answer};
+ghost use Rattle.px_core.specs.Command.{is_barred, new_attributes, create_on, default_sink, killed_input, row, read_answer, command_answer, packet_answer};
 
 use crate::found::copied;
 use crate::infos::{told_input, told_inputs, told_sink, told_sinks};
@@ -21,14 +22,14 @@ use crate::notice::owner_of;
 use crate::plan::{broken_off, refused, requested};
 use crate::tables::Tables;
 use crate::volumes::{input_mute, input_volume, sink_mute, sink_volume};
-use px_cmd::{CmdFault, Command, CreateFields, Text, is_command, read_command, read_head};
+use px_cmd::{CmdFault, Command, CreateFields, SinkRef, Text, read_command, read_head};
 use px_ctl_info::{
     SERVER_VERSION, auth, client_info, client_infos, connection_with, empty_list, kill_client,
     lookup_sink, remove_client, remove_stream, server_info, set_client_name, set_default_sink,
     set_stream_name, subscribe, update_client, update_stream,
 };
 use px_ctl_play::{
-    attributes, cork, create, delete, drain, flush, kill_input, latency, prebuf, trigger,
+    attributes, cork, create, delete, drain, flush, kill_input, latency, move_input, prebuf, trigger,
 };
 use px_flat::Group;
 use px_msg::Msg;
@@ -39,58 +40,6 @@ use std::alloc::Global;
 
 /// The number of AUTH.
 const AUTH: u32 = 8;
-
-// Whether the server has the command with this number.
-fn is_built(command: u32) -> bool
-    ensures { result ≡ is_built command }
-{
-    matches!(
-        command,
-        3 | 4
-            | 8
-            | 9
-            | 10
-            | 12
-            | 14
-            | 20
-            | 21
-            | 22
-            | 24
-            | 26
-            | 27
-            | 28
-            | 29
-            | 30
-            | 32
-            | 34
-            | 35
-            | 36
-            | 37
-            | 39
-            | 41
-            | 42
-            | 43
-            | 44
-            | 46
-            | 48
-            | 49
-            | 60
-            | 69
-            | 72
-            | 81
-            | 82
-            | 84
-            | 85
-            | 89
-    )
-}
-
-// Whether the protocol has the command, and the server hasn't yet.
-fn is_waiting_for_work(command: u32) -> bool
-    ensures { result ≡ is_waiting_for_work command }
-{
-    is_command(command) && !is_built(command)
-}
 
 // Whether the connection hasn't been let in yet, and the command isn't AUTH.
 fn is_barred(c: &Connection, command: u32) -> bool
@@ -177,6 +126,22 @@ fn server<P: Drop>(
     server_info(alloc, named, tag, SERVER_VERSION)
 }
 
+}
+
+// An input is to be on the sink that is named.
+fn moved<P: Drop>(
+    alloc: Global,
+    tables: &Tables<P>,
+    input: u32,
+    sink: &SinkRef,
+    tag: u32,
+) -> Result<Plan<Msg<P>, Group>, Refusal>
+    requires { AreSinks [] tables.now.sinks }
+    ensures { Plans result (move_input (input_named tables.now.inputs.items input) (named_by tables.now.names tables.now.sinks sink.now false) tables.now.inputs.items tag) }
+{
+    let named = named_by(alloc, &tables.names, tables.sinks.as_slice(), sink, false)?;
+    let x = tables.inputs.input_named(input);
+    move_input(alloc, x, named, tables.inputs.as_slice(), tag)
 }
 
 // An input ends, whose connection is told so where that goes on.
@@ -281,7 +246,7 @@ fn row<P: Drop>(
         Command::SinkMute { sink, on } => sink_mute(alloc, tables, &sink, on, tag),
         Command::InputVolume { input, volume } => input_volume(alloc, tables, input, &volume, tag),
         Command::InputMute { input, on } => input_mute(alloc, tables, input, on, tag),
-        Command::Move { .. } => Err(Refusal::Code(ErrorCode::NotImplemented)),
+        Command::Move { input, sink } => moved(alloc, tables, input, &sink, tag),
     }
 }
 
@@ -326,17 +291,13 @@ fn command_answer<P: Drop>(
     if is_barred(c, command) {
         return refused(alloc, tag, ErrorCode::Access);
     }
-    if is_waiting_for_work(command) {
-        return refused(alloc, tag, ErrorCode::NotImplemented);
-    }
     read_answer(alloc, tables, c, at, tag, packet)
 }
 
 /// What a connection's control packet is answered whose first byte has the offset `at`. Refused, by the first of these that
-/// holds: a fault in its front ends the connection; `Access` before a successful AUTH for any other command;
-/// `NotImplemented` for a command of the table that isn't built; `Command` for a number above the last; `NotSupported` for
-/// one that the table hasn't; a fault in its fields ends the connection; then as the command's row says; and `TooLarge` where
-/// no frame can carry the reply.
+/// holds: a fault in its front ends the connection; `Access` before a successful AUTH for any other command; `Command` for a
+/// number above the last; `NotSupported` for one that the table hasn't; a fault in its fields ends the connection; then as the
+/// command's row says; and `TooLarge` where no frame can carry the reply.
 pub(crate) fn packet_answer<P: Drop>(
     alloc: Global,
     tables: &Tables<P>,

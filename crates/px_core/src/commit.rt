@@ -1,16 +1,18 @@
 //! Changes are made, one after the other, in room that was reserved for them.
 
-ghost use Rattle.std.specs.Prelude.{◌≡◌, ◌≤◌, ◌+◌, ℕ, length, IfOk, OnOk, OnErr};
-ghost use Rattle.px_plan.specs.declared.change.Change.TheVariants.{Made, Described, Leaves, Said, Regrouped, Asked, Answered, Gone};
-ghost use Rattle.px_core.specs.Change.{changed, committed, defaulted, inputs_told, posting, saying, ending};
+ghost use Rattle.std.specs.Prelude.{◌≡◌, ◌≤◌, ◌+◌, ℕ, length, vec_capacity, Some, IfOk, OnOk, OnErr};
+ghost use Rattle.px_plan.specs.declared.change.Change.TheVariants.{Made, Described, Leaves, Moves, Arrives, Released, Said, Regrouped, Asked, Answered, Gone};
+ghost use Rattle.px_core.specs.Change.{changed, committed, defaulted, inputs_told, posting, delaying, saying, ending, departs, arrives};
 ghost use Rattle.px_core.specs.Plan.{plan_effects};
+ghost use Rattle.px_core.specs.State.{input_of};
 ghost use Rattle.px_core.specs.Step.{answered};
 ghost use Rattle.px_core.specs.Tables.{state_of, HasRoom, HavePlaces};
 
 use crate::change::CoreChange;
+use crate::delayed::Delayed;
 use crate::effects::{Effects, plan_effects};
 use crate::tables::Tables;
-use crate::{awaited, queues, verbs};
+use crate::{awaited, delayed, queues, verbs};
 use px_flat::Group;
 use px_inputs::InputTable;
 use px_msg::Msg;
@@ -30,6 +32,7 @@ pub(crate) fn reserve<P>(tables: &mut Tables<P>, more: usize) -> Mem<()>
     tables.inputs.reserve(more)?;
     tables.lists.reserve(more)?;
     tables.waiting.reserve(more)?;
+    tables.delayed.reserve(more)?;
     queues::reserve(&mut tables.posted, more)
 }
 
@@ -41,6 +44,7 @@ fn post<P: Drop>(tables: &mut Tables<P>, sink: SinkId, msg: Msg<P>)
     ensures inputs { tables.new.inputs ≡ tables.old.inputs }
     ensures lists { tables.new.lists ≡ tables.old.lists }
     ensures waiting { tables.new.waiting ≡ tables.old.waiting }
+    ensures delayed { tables.new.delayed ≡ tables.old.delayed }
 {
     queues::post(&mut tables.posted, sink, msg);
 }
@@ -58,7 +62,21 @@ fn note<P>(inputs: &mut InputTable, index: InputId, msg: &Msg<P>)
     }
 }
 
-/// An input is told something; its sink is, where the input is settled there. Takes one place of the room.
+// A message waits while its input moves.
+fn delay<P: Drop>(tables: &mut Tables<P>, input: InputId, message: Msg<P>)
+    requires { length tables.old.delayed.items + 1 ≤ vec_capacity tables.old.delayed }
+    ensures state { state_of tables.new ≡ delaying input message (state_of tables.old) }
+    ensures len { length tables.new.delayed.items ≡ length tables.old.delayed.items + 1 }
+    ensures capacity { vec_capacity tables.new.delayed ≡ vec_capacity tables.old.delayed }
+    ensures posted { tables.new.posted ≡ tables.old.posted }
+    ensures inputs { tables.new.inputs ≡ tables.old.inputs }
+    ensures lists { tables.new.lists ≡ tables.old.lists }
+    ensures waiting { tables.new.waiting ≡ tables.old.waiting }
+{
+    tables.delayed.push_reserved(Delayed { input, message });
+}
+
+/// An input is told something: its sink is, where the input is settled there. Takes one place of the room.
 pub(crate) fn tell<P: Drop>(tables: &mut Tables<P>, x: &Input, msg: Msg<P>)
     requires { HasRoom 1 tables.old }
     ensures state { state_of tables.new ≡ saying x.now.standing x.now msg (state_of tables.old) }
@@ -69,7 +87,10 @@ pub(crate) fn tell<P: Drop>(tables: &mut Tables<P>, x: &Input, msg: Msg<P>)
             note(&mut tables.inputs, x.index, &msg);
             post(tables, x.sink, msg);
         }
-        Standing::Moving(_) => note(&mut tables.inputs, x.index, &msg),
+        Standing::Moving(_) => {
+            note(&mut tables.inputs, x.index, &msg);
+            delay(tables, x.index, msg);
+        }
         Standing::Leaving => {}
     }
 }
@@ -96,11 +117,13 @@ fn end<P: Drop>(tables: &mut Tables<P>, x: &Input)
         Standing::Settled => {
             tables.inputs.leave(x.index);
             awaited::give_up(&mut tables.waiting, x.index);
+            delayed::give_up(&mut tables.delayed, x.index);
             post(tables, x.sink, Msg::Detach { input: x.index });
         }
         Standing::Moving(_) => {
             tables.inputs.leave(x.index);
             awaited::give_up(&mut tables.waiting, x.index);
+            delayed::give_up(&mut tables.delayed, x.index);
         }
         Standing::Leaving => {}
     }
@@ -115,6 +138,75 @@ fn leave<P: Drop>(tables: &mut Tables<P>, index: InputId)
     match tables.inputs.input_of(index) {
         None => {}
         Some(x) => end(tables, &x),
+    }
+}
+
+// A settled input is to be on a sink: the one that it is on is to give up its stream.
+fn depart<P: Drop>(tables: &mut Tables<P>, x: &Input, to: SinkId)
+    requires here { input_of tables.old.inputs.items x.now.index ≡ Some x.now }
+    requires room { HasRoom 1 tables.old }
+    ensures state { state_of tables.new ≡ departs to x.now.standing x.now (state_of tables.old) }
+    ensures room { (n : ℕ) → HasRoom (n + 1) tables.old → HasRoom n tables.new }
+{
+    match x.standing {
+        Standing::Settled => {
+            tables.inputs.depart(x.index, to);
+            post(tables, x.sink, Msg::Detach { input: x.index });
+        }
+        Standing::Moving(_) | Standing::Leaving => {}
+    }
+}
+
+// The input with an index is to be on a sink.
+fn send_off<P: Drop>(tables: &mut Tables<P>, index: InputId, to: SinkId)
+    requires { HasRoom 1 tables.old }
+    ensures state { state_of tables.new ≡ changed (state_of tables.old) (Moves index to) }
+    ensures room { (n : ℕ) → HasRoom (n + 1) tables.old → HasRoom n tables.new }
+{
+    match tables.inputs.input_of(index) {
+        None => {}
+        Some(x) => depart(tables, &x, to),
+    }
+}
+
+// An input that moves is on the sink that it moves to, which is told this.
+fn arrive<P: Drop>(tables: &mut Tables<P>, x: &Input, msg: Msg<P>)
+    requires here { input_of tables.old.inputs.items x.now.index ≡ Some x.now }
+    requires room { HasRoom 1 tables.old }
+    ensures state { state_of tables.new ≡ arrives x.now.standing x.now msg (state_of tables.old) }
+    ensures room { (n : ℕ) → HasRoom (n + 1) tables.old → HasRoom n tables.new }
+{
+    match x.standing {
+        Standing::Moving(to) => {
+            tables.inputs.arrive(x.index, to);
+            post(tables, to, msg);
+        }
+        Standing::Settled | Standing::Leaving => {}
+    }
+}
+
+// The input with an index is on the sink that it moves to.
+fn take_in<P: Drop>(tables: &mut Tables<P>, index: InputId, msg: Msg<P>)
+    requires { HasRoom 1 tables.old }
+    ensures state { state_of tables.new ≡ changed (state_of tables.old) (Arrives index msg) }
+    ensures room { (n : ℕ) → HasRoom (n + 1) tables.old → HasRoom n tables.new }
+{
+    match tables.inputs.input_of(index) {
+        None => {}
+        Some(x) => arrive(tables, &x, msg),
+    }
+}
+
+// The first message of an input that waited while it moved waits for the sink that it is on.
+fn release<P: Drop>(tables: &mut Tables<P>, index: InputId)
+    requires { HasRoom 1 tables.old }
+    ensures state { state_of tables.new ≡ changed (state_of tables.old) (Released index) }
+    ensures room { (n : ℕ) → HasRoom (n + 1) tables.old → HasRoom n tables.new }
+{
+    if let Some(x) = tables.inputs.input_of(index) {
+        if let Some(msg) = delayed::take_first(&mut tables.delayed, x.index) {
+            post(tables, x.sink, msg);
+        }
     }
 }
 
@@ -185,8 +277,8 @@ fn make_default(names: &mut Names, sink: SinkId)
     }
 }
 
-// One change, which takes one place of the room.
-fn apply<P: Drop>(tables: &mut Tables<P>, change: CoreChange<P>)
+/// One change, which takes one place of the room. Takes no memory.
+pub(crate) fn apply<P: Drop>(tables: &mut Tables<P>, change: CoreChange<P>)
     requires { HasRoom 1 tables.old }
     ensures state { state_of tables.new ≡ changed (state_of tables.old) change }
     ensures room { (n : ℕ) → HasRoom (n + 1) tables.old → HasRoom n tables.new }
@@ -206,6 +298,9 @@ fn apply<P: Drop>(tables: &mut Tables<P>, change: CoreChange<P>)
         } => make(tables, input, new, streams, inputs),
         Change::Described(index, list) => describe(tables, index, list),
         Change::Leaves(index) => leave(tables, index),
+        Change::Moves(index, to) => send_off(tables, index, to),
+        Change::Arrives(index, msg) => take_in(tables, index, msg),
+        Change::Released(index) => release(tables, index),
         Change::Said(index, msg) => say(tables, index, msg),
         Change::Regrouped(sink, group, msg) => regroup(tables, sink, group, msg),
         Change::Asked(w) => ask(tables, w),

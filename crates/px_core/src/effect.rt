@@ -81,6 +81,9 @@ pub(crate) fn closed_in<P>(change: &CoreChange<P>) -> Option<Effect>
         | Change::Made { .. }
         | Change::Described(..)
         | Change::Leaves(_)
+        | Change::Moves(..)
+        | Change::Arrives(..)
+        | Change::Released(_)
         | Change::Said(..)
         | Change::Regrouped(..)
         | Change::Asked(_)

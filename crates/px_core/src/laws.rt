@@ -86,21 +86,6 @@ pub fn sinks_hear_what_is_orderly<P>()
         → (stepped_by spec_of state steps).sinks ≡ state.sinks }
 {}
 
-/// A settled input may move to a sink that has room for it, and one that moves, once its sink has given up its stream, may be
-/// brought to the new sink by a parcel of its sample spec that fits there: both keep what the state keeps, but that the groups of
-/// the two sinks are to follow once it was brought. It does nothing: its contract is the law. Source: own.
-pub fn moves_keep_states<P>()
-    ensures departs { (spec_of : P → SampleSpec) (state : State P) (x : Input) (to : SinkId) → IsKept spec_of state
-        → input_of state.inputs x.index ≡ Some x → x.standing ≡ Settled → to.0 < length state.sinks
-        → length (bound_for state.inputs to) < MOST_ON_SINK → IsKept spec_of (departing to x state) }
-    ensures arrives { (spec_of : P → SampleSpec) (state : State P) (x : Input) (to : SinkId) (parcel : P) (feed factors : List ℕ)
-        → IsKept spec_of state → input_of state.inputs x.index ≡ Some x → x.standing ≡ Moving to → x.way ≡ Left
-        → to.0 < length state.sinks → spec_of parcel ≡ sample_spec x.spec
-        → ((s : SinkSpec) → slice_get state.sinks to.0 ≡ Some s → IsParcel (sample_spec s.spec) (spec_of parcel) feed factors)
-        → IsSteady spec_of (arriving to x (Attach x.index parcel feed factors) state)
-        × AreGrouped (x.sink ∷ to ∷ []) state.sinks (arriving to x (Attach x.index parcel feed factors) state).inputs state.groups }
-{}
-
 /// No parcel waits for a sink, and none is handed out to it, but those that notices gave up. It does nothing: its contract is the
 /// law. Source: own.
 pub fn parcels_are_those_given_up<P>()

@@ -3,12 +3,14 @@
 //! made of.
 #![tactic(auto)]
 
+mod arriving;
 mod awaited;
 mod change;
 mod command;
 mod commit;
 mod connecting;
 mod data;
+mod delayed;
 mod effect;
 mod effects;
 mod found;
@@ -29,7 +31,7 @@ mod volumes;
 pub use effect::Effect;
 pub use effects::Effects;
 pub use laws::{
-    connections_end_once, moves_keep_states, parcels_are_those_given_up, refusals_change_nothing,
+    connections_end_once, parcels_are_those_given_up, refusals_change_nothing,
     sinks_have_what_they_were_told, sinks_hear_step_by_step, sinks_hear_what_is_orderly,
     states_are_kept,
 };

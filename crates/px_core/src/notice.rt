@@ -1,24 +1,26 @@
 //! What a sink's notice is answered (PulseAudio: `sink_input_process_msg` of `pulsecore/protocol-native.c`; which notices fit is
 //! own).
 
-ghost use Rattle.std.specs.Prelude.{◌≡◌, [], None, IfOk, IfErr, OnOk, OnErr};
+ghost use Rattle.std.specs.Prelude.{◌≡◌, [], None, slice_get, IfSome, IfOk, IfErr, OnOk, OnErr};
 ghost use Rattle.px_session.specs.HeaderRules.{AreSinks};
-ghost use Rattle.px_core.specs.Grouped.{AreGrouped};
-ghost use Rattle.px_core.specs.Notice.{owner_of, told_of, drained_of, measured_of, notice_answer};
+ghost use Rattle.px_ctl_play.specs.Told.{IsMemberIn};
+ghost use Rattle.px_core.specs.Keeps.{IsKept};
+ghost use Rattle.px_core.specs.Notice.{IsNews, owner_of, told_of, drained_of, measured_of, input_on, left_of, given_up, notice_answer};
 ghost use Rattle.px_core.specs.Plan.{plan_effects};
 ghost use Rattle.px_core.specs.Step.{answered};
 ghost use Rattle.px_core.specs.Tables.{state_of};
 
+use crate::arriving::take_in;
 use crate::commit::finish;
 use crate::effects::Effects;
 use crate::found::{going_on, input_on};
 use crate::tables::Tables;
-use px_ctl_play::{News, Progress, drained, left, measured, tell};
+use px_ctl_play::{News, Progress, drained, hands_over, left, measured, tell};
 use px_flat::Group;
 use px_msg::{Msg, Notice, Parcel};
-use px_plan::{Connection, Input, Plan};
+use px_plan::{Connection, Input, Plan, Standing};
 use px_targets::{group_on, rate_on};
-use px_types::{Mem, SinkId};
+use px_types::{InputId, Mem, SinkId};
 use std::alloc::Global;
 
 /// The connection of an input, where both are there and it goes on. Takes no memory.
@@ -73,9 +75,8 @@ fn measured_of<P: Drop>(
     measured(alloc, input, owner, &tables.waiting, rate, tag, progress)
 }
 
-// What a sink's notice is answered. One that doesn't fit is ignored: of an input that isn't on the sink, of one that ends
-// where something is to be told, of a stream that wasn't to be given up, and an answer to a request that doesn't wait.
-#[tactic(auto, using(crate::proofs::GroupLaws::member_there))]
+// What news of a stream is answered. What doesn't fit is ignored: of an input that isn't on the sink, of one that ends, and an answer to
+// a request that doesn't wait.
 fn notice_answer<P: Parcel + Drop>(
     alloc: Global,
     tables: &Tables<P>,
@@ -83,7 +84,7 @@ fn notice_answer<P: Parcel + Drop>(
     notice: &Notice<P>,
 ) -> Mem<Plan<Msg<P>, Group>>
     requires sinks { AreSinks [] tables.now.sinks }
-    requires groups { AreGrouped [] tables.now.sinks tables.now.inputs.items tables.now.groups.items }
+    requires news { IsNews notice.now }
     ensures { IfOk result (λ plan. plan ≡ notice_answer P.spec_of (state_of tables.now) sink notice.now) }
 {
     let inputs = tables.inputs.as_slice();
@@ -93,31 +94,20 @@ fn notice_answer<P: Parcel + Drop>(
             told_of(alloc, tables, input, News::Request(*frames))
         }
         Notice::Overflow { input } => {
-            told_of(
-                alloc,
-                tables,
-                input_on(inputs, sink, *input),
-                News::Overflow,
-            )
+            let input = input_on(inputs, sink, *input);
+            told_of(alloc, tables, input, News::Overflow)
         }
         Notice::Underflow { input } => {
-            told_of(
-                alloc,
-                tables,
-                input_on(inputs, sink, *input),
-                News::Underflow,
-            )
+            let input = input_on(inputs, sink, *input);
+            told_of(alloc, tables, input, News::Underflow)
         }
         Notice::Started { input } => {
-            told_of(alloc, tables, input_on(inputs, sink, *input), News::Started)
-        }
-        Notice::Detached { input, parcel } => {
-            let group = group_on(&tables.groups, sink);
             let input = input_on(inputs, sink, *input);
-            left(alloc, input, group, parcel.spec(), inputs)
+            told_of(alloc, tables, input, News::Started)
         }
         Notice::Drained { input, tag } => {
-            drained_of(alloc, tables, input_on(inputs, sink, *input), *tag)
+            let input = input_on(inputs, sink, *input);
+            drained_of(alloc, tables, input, *tag)
         }
         Notice::Latency {
             input,
@@ -135,27 +125,22 @@ fn notice_answer<P: Parcel + Drop>(
                 playing: *playing,
                 run: *run,
             };
-            measured_of(
-                alloc,
-                tables,
-                input_on(inputs, sink, *input),
-                sink,
-                *tag,
-                progress,
-            )
+            let input = input_on(inputs, sink, *input);
+            measured_of(alloc, tables, input, sink, *tag, progress)
         }
+        Notice::Detached { .. } => unreachable!(),
     }
 }
 
-/// A sink's notice. Where there is no memory for it, it is handed back, and nothing has changed.
-pub(crate) fn take<P: Parcel + Drop>(
+// News of a stream. Where there is no memory for it, it is handed back, and nothing has changed.
+fn take_news<P: Parcel + Drop>(
     alloc: Global,
     tables: &mut Tables<P>,
     sink: SinkId,
     notice: Notice<P>,
 ) -> Result<Effects, Notice<P>>
     requires sinks { AreSinks [] tables.old.sinks }
-    requires groups { AreGrouped [] tables.old.sinks tables.old.inputs.items tables.old.groups.items }
+    requires news { IsNews notice }
     ensures effects { IfOk result (λ effects. effects ≡ plan_effects None (notice_answer P.spec_of (state_of tables.old) sink notice)) }
     ensures after { OnOk result (state_of tables.new ≡ answered (state_of tables.old) (notice_answer P.spec_of (state_of tables.old) sink notice)) }
     ensures back { IfErr result (λ back. back ≡ notice) }
@@ -167,5 +152,92 @@ pub(crate) fn take<P: Parcel + Drop>(
     match finish(alloc, tables, None, plan) {
         Ok(effects) => Ok(effects),
         Err(_) => Err(notice),
+    }
+}
+
+// A sink has given up the stream of an input that has ended, or of one that isn't to be given up.
+fn take_left<P: Parcel + Drop>(
+    alloc: Global,
+    tables: &mut Tables<P>,
+    sink: SinkId,
+    input: Option<Input>,
+    parcel: P,
+) -> Result<Effects, P>
+    requires { IfSome input (IsMemberIn (slice_get tables.old.groups.items sink.0)) }
+    ensures effects { IfOk result (λ effects. effects ≡ plan_effects None (left_of P.spec_of (state_of tables.old) sink input parcel)) }
+    ensures after { OnOk result (state_of tables.new ≡ answered (state_of tables.old) (left_of P.spec_of (state_of tables.old) sink input parcel)) }
+    ensures back { IfErr result (λ back. back ≡ parcel) }
+    ensures err { OnErr result (state_of tables.new ≡ state_of tables.old) }
+{
+    let group = group_on(&tables.groups, sink);
+    let Ok(plan) = left(alloc, input, group, parcel.spec(), tables.inputs.as_slice()) else {
+        return Err(parcel);
+    };
+    match finish(alloc, tables, None, plan) {
+        Ok(effects) => Ok(effects),
+        Err(_) => Err(parcel),
+    }
+}
+
+// A sink has given up a stream: an input that moves is on the sink that it moves to, and one that has ended goes. What doesn't fit is
+// ignored: of an input that isn't on the sink, of one that the sink wasn't told to give up, and a stream with another spec.
+#[tactic(auto, using(crate::proofs::GroupLaws::member_there))]
+fn give_up<P: Parcel + Drop>(
+    alloc: Global,
+    tables: &mut Tables<P>,
+    sink: SinkId,
+    input: InputId,
+    parcel: P,
+) -> Result<Effects, P>
+    requires { IsKept P.spec_of (state_of tables.old) }
+    ensures effects { IfOk result (λ effects. effects ≡ plan_effects None (given_up P.spec_of (state_of tables.old) sink (input_on tables.old.inputs.items sink input) parcel)) }
+    ensures after { OnOk result (state_of tables.new ≡ answered (state_of tables.old) (given_up P.spec_of (state_of tables.old) sink (input_on tables.old.inputs.items sink input) parcel)) }
+    ensures back { IfErr result (λ back. back ≡ parcel) }
+    ensures err { OnErr result (state_of tables.new ≡ state_of tables.old) }
+{
+    let input = input_on(tables.inputs.as_slice(), sink, input);
+    match input {
+        Some(x) => match x.standing {
+            Standing::Moving(to) => {
+                if hands_over(parcel.spec(), &x) {
+                    take_in(alloc, tables, to, &x, parcel)
+                } else {
+                    take_left(alloc, tables, sink, input, parcel)
+                }
+            }
+            Standing::Settled | Standing::Leaving => {
+                take_left(alloc, tables, sink, input, parcel)
+            }
+        },
+        None => Ok(Effects::new(alloc)),
+    }
+}
+
+/// A sink's notice. Where there is no memory for it, it is handed back, and nothing has changed.
+pub(crate) fn take<P: Parcel + Drop>(
+    alloc: Global,
+    tables: &mut Tables<P>,
+    sink: SinkId,
+    notice: Notice<P>,
+) -> Result<Effects, Notice<P>>
+    requires { IsKept P.spec_of (state_of tables.old) }
+    ensures effects { IfOk result (λ effects. effects ≡ plan_effects None (notice_answer P.spec_of (state_of tables.old) sink notice)) }
+    ensures after { OnOk result (state_of tables.new ≡ answered (state_of tables.old) (notice_answer P.spec_of (state_of tables.old) sink notice)) }
+    ensures back { IfErr result (λ back. back ≡ notice) }
+    ensures err { OnErr result (state_of tables.new ≡ state_of tables.old) }
+{
+    match notice {
+        Notice::Detached { input, parcel } => {
+            match give_up(alloc, tables, sink, input, parcel) {
+                Ok(effects) => Ok(effects),
+                Err(parcel) => Err(Notice::Detached { input, parcel }),
+            }
+        }
+        Notice::Request { .. }
+        | Notice::Overflow { .. }
+        | Notice::Underflow { .. }
+        | Notice::Started { .. }
+        | Notice::Drained { .. }
+        | Notice::Latency { .. } => take_news(alloc, tables, sink, notice),
     }
 }

@@ -103,6 +103,7 @@ pub(crate) fn new_tables<P: Drop>(alloc: Global, header: &Header) -> Mem<Tables<
         lists: InputLists::new(alloc),
         waiting: Vec::new(alloc),
         posted: queues_for(alloc, sinks)?,
+        delayed: Vec::new(alloc),
         groups: groups_for(alloc, sinks)?,
         clients_made: 0,
         inputs_made: 0,

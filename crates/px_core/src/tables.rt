@@ -1,5 +1,6 @@
 //! The tables that the core keeps its state in.
 
+use crate::delayed::Delayed;
 use px_flat::Group;
 use px_inputs::InputTable;
 use px_msg::Msg;
@@ -24,6 +25,8 @@ pub(crate) struct Tables<P> {
     pub(crate) waiting: Vec<Waiting>,
     /// The messages that wait for each sink, in order.
     pub(crate) posted: Vec<VecDeque<Msg<P>>>,
+    /// The messages that wait while their inputs move, in order.
+    pub(crate) delayed: Vec<Delayed<P>>,
     /// The group of volumes of each sink.
     pub(crate) groups: Vec<Group>,
     /// How many clients were ever made, and how many inputs.

@@ -1,14 +1,18 @@
 -- The volume of a new input, and the feed by which it joins the group of its sink.
-use Rattle.std.proofs.Common.{◌≡◌, ◌<◌, ◌≤◌, ◌⊎◌, ℕ, zero, suc, arith, Bool, true, false, List, [], ◌∷◌, length, get_or, max, cond, Option, Some, None, Ok, refl, sym, subst, ◌∙◌, inl, inr}
-use Rattle.std.specs.Prelude.{All, IfSome, nat_eq, ◌||◌}
-use Rattle.std.specs.List.{fold}
+use Rattle.std.proofs.Common.{◌≡◌, ◌<◌, ◌≤◌, ◌⊎◌, ◌+◌, ◌-◌, ◌++◌, ℕ, zero, suc, arith, Bool, true, false, List, [], ◌∷◌, length, get_or, max, cond, Option, Some, None, Ok, refl, ap, sym, subst, ◌∙◌, inl, inr, append_assoc}
+use Rattle.std.specs.Prelude.{All, IfSome, nat_eq, replicate, ◌||◌}
+use Rattle.std.specs.List.{AllByRecursion, find, fold}
 use Rattle.std.proofs.lemmas.Bool.{eqb-true}
+use Rattle.std.proofs.lemmas.List.{append-nil}
 use Rattle.px_types.specs.declared.error_code.ErrorCode.{ErrorCode}
 use Rattle.px_chmap.specs.Plan.{FeedsAll}
 use Rattle.px_cmd.specs.declared.command.CreateFields.{CreateFields}
 use Rattle.px_vol.specs.Volume.{IsChannelVolume, greatest}
 use Rattle.px_flat.specs.Channels.{greatest_of}
+use Rattle.px_flat.specs.declared.member.Member.{Member}
+use Rattle.px_flat.specs.Member.{channels_of, IsMember}
 use Rattle.px_flat.specs.FlatVolume.{FlatGroup}
+use Rattle.px_flat.proofs.Inputs.{feeds_count}
 use Rattle.px_plan.specs.declared.target.Named.{Named}
 use Rattle.px_plan.specs.declared.target.Named.TheVariants.{Unclear, Unknown, Sink}
 use Rattle.px_plan.specs.declared.target.Target.{Target}
@@ -76,3 +80,38 @@ is_ready Unknown code sink made group h e = absurd cc
 is_ready (Sink target) code sink made group h e =
     let same : target ≡ sink = cc in
     subst (λ (t : Target). IsReady t made group) same h
+
+-- ---- an input that comes from another sink
+
+-- what is found is one of them
+pub found_is : {A : Type 0} (Q : A → Type 0) (q : A → Bool) (xs : List A) (y : A) → AllByRecursion Q xs → find q xs ≡ Some y → Q y
+found_is Q q [] y h e = absurd cc
+found_is Q q (x ∷ xs) y h e = step (found_is Q q xs y h.1) (q x) e
+  where
+    step : (find q xs ≡ Some y → Q y) → (b : Bool) → cond b (Some x) (find q xs) ≡ Some y → Q y
+    step later true f = let same : x ≡ y = cc in subst Q same h.0
+    step later false f = later f
+
+-- one more of as many as are left, and none where none is
+pub one_more : {A : Type 0} (n i : ℕ) (r : A) (xs more all : List A) → i < n → more ≡ xs ++ r ∷ [] → xs ++ replicate (n - i) r ≡ all → more ++ replicate (n - (i + 1)) r ≡ all
+one_more {A} n i r xs more all l pushed before =
+    ap (λ (ys : List A). ys ++ replicate (n - (i + 1)) r) pushed
+    ∙ append_assoc xs (r ∷ []) (replicate (n - (i + 1)) r)
+    ∙ ap (λ (k : ℕ). xs ++ replicate k r) (less n i l)
+    ∙ before
+  where
+    less : (n i : ℕ) → i < n → suc (n - (i + 1)) ≡ n - i
+    less n i l = omega (arith, l)
+
+pub no_more : {A : Type 0} (n i : ℕ) (r : A) (xs all : List A) → n ≤ i → xs ++ replicate (n - i) r ≡ all → xs ≡ all
+no_more {A} n i r xs all done before =
+    sym (append-nil xs) ∙ ap (λ (k : ℕ). xs ++ replicate k r) (none n i done) ∙ before
+  where
+    none : (n i : ℕ) → n ≤ i → 0 ≡ n - i
+    none n i done = omega (arith, done)
+
+-- a member has a volume for each channel that its feed names
+pub volume_is : (sinks n : ℕ) (m : Member) → 1 ≤ sinks → IsMember sinks m → channels_of m.feed ≡ n → length m.volume ≡ n
+volume_is sinks n m some is named =
+    let first = is.feeds.known 0 0 (omega (arith, is.feeds.places, some)) in
+    sym (feeds_count (length m.volume) sinks m.feed (omega (arith, first)) is.feeds) ∙ named

@@ -12,3 +12,5 @@ pub mod Answer
 pub mod Drain
 pub mod Latency
 pub mod Told
+pub mod Move
+pub mod Arrival

@@ -37,8 +37,8 @@ pub(crate) fn new_of<P>(a: &CreateFields, group: &Group, feed: Feed, x: &Input) 
     })
 }
 
-// How long a frame waits at the most before the sink plays it, in microseconds.
-fn latency_of(sink: &Target) -> u64
+/// How long a frame waits at the most before the sink plays it, in microseconds. Takes no memory.
+pub(crate) fn latency_of(sink: &Target) -> u64
     requires { IsTarget sink.now }
     ensures { result ≡ latency_of sink.now }
 {

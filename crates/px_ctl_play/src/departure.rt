@@ -4,7 +4,7 @@ ghost use Rattle.std.specs.Prelude.{◌≡◌, IfOk, IfSome, IsSome};
 ghost use Rattle.std.specs.Option.{option_map};
 ghost use Rattle.px_flat.specs.FlatVolume.{member_of, detached};
 ghost use Rattle.px_msg.specs.View.{sample_spec};
-ghost use Rattle.px_ctl_play.specs.Told.{gives_up, gone, left, IsMemberIn};
+ghost use Rattle.px_ctl_play.specs.Told.{same_spec, gives_up, gone, left, IsMemberIn};
 
 use crate::factors::regrouped;
 use px_flat::Group;
@@ -14,19 +14,22 @@ use px_sample::Spec;
 use px_types::{InputId, Mem};
 use std::alloc::Global;
 
+/// Whether two specs are the same. Takes no memory.
+pub(crate) fn same_spec(a: Spec, b: Spec) -> bool
+    ensures { result ≡ same_spec (sample_spec a) (sample_spec b) }
+{
+    a.format.code() == b.format.code() && a.channels == b.channels && a.rate == b.rate
+}
+
 // Whether a stream with this spec is what a sink gives up for an input: the input ends, and the sink was told.
 fn gives_up(spec: Spec, x: &Input) -> bool
     ensures { result ≡ gives_up (sample_spec spec) x.now }
 {
-    matches!(x.standing, Standing::Leaving)
-        && x.way == Way::Left
-        && spec.format.code() == x.spec.format.code()
-        && spec.channels == x.spec.channels
-        && spec.rate == x.spec.rate
+    matches!(x.standing, Standing::Leaving) && x.way == Way::Left && same_spec(spec, x.spec)
 }
 
-// The group without an input that is in it.
-fn without(alloc: Global, group: &Group, input: InputId) -> Mem<Group>
+/// The group without an input that is in it.
+pub(crate) fn without(alloc: Global, group: &Group, input: InputId) -> Mem<Group>
     requires { IsSome (member_of group.now.members input) }
     ensures { IfOk result (λ made. made ≡ detached input group.now) }
 {

@@ -4,6 +4,7 @@ ghost use Rattle.std.specs.Prelude.{◌≡◌, ◌++◌, ◌∷◌, [], List, No
 ghost use Rattle.px_flat.specs.FlatVolume.{factors_for, member_of, real_of};
 ghost use Rattle.px_plan.specs.Input.{settled_on, is_settled};
 ghost use Rattle.px_plan.specs.declared.input.Input.{Input};
+ghost use Rattle.px_ctl_play.specs.Arrival.{is_settled_with, settled_with};
 ghost use Rattle.px_ctl_play.specs.Factors.{gains_of, factor_list, own_factors, regrouped};
 
 use px_flat::Group;
@@ -80,6 +81,51 @@ fn settled_factors(
     Ok(list)
 }
 
+// Whether an input is settled on a sink, or is this one.
+fn is_settled_with(sink: SinkId, index: InputId, x: &Input) -> bool
+    ensures { result ≡ is_settled_with sink index x.now }
+{
+    is_settled(sink, x) || x.index.0 == index.0
+}
+
+// The factors of one more input, where it is settled on the sink or is this one.
+fn add_settled_with(
+    list: &mut Vec<InputFactors>,
+    sink: SinkId,
+    index: InputId,
+    group: &Group,
+    real: &CVolume,
+    x: &Input,
+) -> Mem<()>
+    requires { real.now ≡ real_of group.now }
+    ensures { OnOk result ((more : List Input) →
+        list.new.items ++ factor_list group.now (settled_with more sink index) ≡ list.old.items ++ factor_list group.now (settled_with (x.now ∷ more) sink index)) }
+{
+    if is_settled_with(sink, index, x) {
+        add_factors(list, group, real, x.index)?;
+    }
+    Ok(())
+}
+
+// The factors of the inputs that are settled on a sink with this group, and of this one.
+fn settled_factors_with(
+    alloc: Global,
+    sink: SinkId,
+    index: InputId,
+    group: &Group,
+    real: &CVolume,
+    inputs: &[Input],
+) -> Mem<Vec<InputFactors>>
+    requires { real.now ≡ real_of group.now }
+    ensures { IfOk result (λ list. list.items ≡ factor_list group.now (settled_with inputs.now sink index)) }
+{
+    let mut list = Vec::new(alloc);
+    for input in inputs {
+        add_settled_with(&mut list, sink, index, group, real, input)?;
+    }
+    Ok(list)
+}
+
 /// A sink has this group, and is told the factors of all inputs that are settled on it. Own: PulseAudio sets each stream's
 /// soft volume for itself.
 pub(crate) fn regrouped<P: Drop>(
@@ -108,5 +154,20 @@ pub(crate) fn regrouped_with<P: Drop>(
     let real = group.real();
     let mut list = settled_factors(alloc, sink, &group, &real, inputs)?;
     add_factors(&mut list, &group, &real, more.index)?;
+    Ok(Change::Regrouped(sink, group, Msg::Factors(FactorList::from_vec(list))))
+}
+
+/// And of this one among them, which comes to the sink.
+pub(crate) fn regrouped_and<P: Drop>(
+    alloc: Global,
+    sink: SinkId,
+    group: Group,
+    inputs: &[Input],
+    index: InputId,
+) -> Mem<Change<Msg<P>, Group>>
+    ensures { IfOk result (λ change. change ≡ regrouped sink group (settled_with inputs.now sink index)) }
+{
+    let real = group.real();
+    let list = settled_factors_with(alloc, sink, index, &group, &real, inputs)?;
     Ok(Change::Regrouped(sink, group, Msg::Factors(FactorList::from_vec(list))))
 }

@@ -3,6 +3,7 @@
 #![tactic(auto)]
 
 mod answer;
+mod arrival;
 mod asked;
 mod buffer_attr;
 mod control;
@@ -15,11 +16,13 @@ mod draining;
 mod factors;
 mod joining;
 mod killing;
+mod moving;
 mod refusals;
 mod time;
 mod timing;
 mod told;
 
+pub use arrival::{Arrival, arrive, hands_over};
 pub use buffer_attr::attributes;
 pub use control::{cork, flush, prebuf, trigger};
 pub use creation::create;
@@ -28,5 +31,6 @@ pub use deletion::delete;
 pub use departure::left;
 pub use draining::{drain, drained};
 pub use killing::kill_input;
+pub use moving::move_input;
 pub use timing::{Progress, latency, measured};
 pub use told::{News, tell};

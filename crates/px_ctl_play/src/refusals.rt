@@ -51,8 +51,8 @@ pub(crate) fn goes_on(x: &Input) -> bool
     !matches!(x.standing, Standing::Leaving)
 }
 
-// How many inputs are bound for a sink.
-fn count_bound(inputs: &[Input], sink: SinkId) -> usize
+/// How many inputs are bound for a sink. Takes no memory.
+pub(crate) fn count_bound(inputs: &[Input], sink: SinkId) -> usize
     ensures { result ≡ length (bound_for inputs.now sink) }
 {
     inputs.iter().filter(|x| is_bound_for(sink, x)).count()

@@ -26,8 +26,8 @@ pub enum News {
     Started,
 }
 
-// The bytes of so many frames, or the last number of 32 bits where they are more.
-fn bytes_asked(x: &Input, frames: u32) -> u32
+/// The bytes of so many frames, or the last number of 32 bits where they are more. Takes no memory.
+pub(crate) fn bytes_asked(x: &Input, frames: u32) -> u32
     ensures { result ≡ bytes_asked x.now frames }
 {
     let bytes = u64::from(frames) * frame_size(x.spec) as u64;

@@ -1,22 +1,15 @@
 -- The volume of an input and its mute: SET_SINK_INPUT_VOLUME and SET_SINK_INPUT_MUTE (PulseAudio: `command_set_volume` and `command_set_mute` of pulsecore/protocol-native.c; that one volume is for all channels, and that an input on its way to another sink is busy, is own).
-use Rattle.std.specs.Prelude.{ℕ, Bool, true, false, not, List, length, Option, Ok}
+use Rattle.std.specs.Prelude.{ℕ, Bool, not, List, length, Option, Ok}
 use Rattle.px_types.specs.declared.error_code.ErrorCode.TheVariants.{Busy, Invalid, NoEntity}
 use Rattle.px_flat.specs.declared.member.Member.{Member}
 use Rattle.px_flat.specs.FlatVolume.{FlatGroup, member_of, with_input_volume, with_input_mute}
 use Rattle.px_msg.specs.declared.message.Msg.{Msg}
 use Rattle.px_plan.specs.declared.input.Input.{Input}
-use Rattle.px_plan.specs.declared.input.Standing.{Standing}
-use Rattle.px_plan.specs.declared.input.Standing.TheVariants.{Settled, Moving, Leaving}
+use Rattle.px_plan.specs.Input.{is_moving}
 use Rattle.px_plan.specs.Plan.{Planned}
 use Rattle.px_plan.specs.Row.{Row, ◌>>=◌, check, present}
 use Rattle.px_ctl_vol.specs.Asked.{is_volume, fits}
 use Rattle.px_ctl_vol.specs.Factors.{regrouped}
-
--- it is on its way to another sink
-abbrev pub is_moving : Standing → Bool
-is_moving Settled = false
-is_moving (Moving to) = true
-is_moving Leaving = false
 
 -- the input, in this group of the sink that it is on, has the volume, and the sink and its other inputs follow
 abbrev pub set_input_volume : {P : Type 0} → Option Input → Option FlatGroup → List Input → List ℕ → ℕ → Row (Planned (Msg P) FlatGroup)

@@ -6,9 +6,10 @@ ghost use Rattle.std.specs.Option.{option_map};
 ghost use Rattle.px_vol.specs.Volume.{IsChannelVolume};
 ghost use Rattle.px_flat.specs.Member.{SuitsChannels};
 ghost use Rattle.px_flat.specs.FlatVolume.{member_of, with_input_volume, with_input_mute};
+ghost use Rattle.px_plan.specs.Input.{is_moving};
 ghost use Rattle.px_plan.specs.Row.{Plans};
 ghost use Rattle.px_ctl_vol.specs.Factors.{regrouped};
-ghost use Rattle.px_ctl_vol.specs.Inputs.{is_moving, set_input_volume, set_input_mute};
+ghost use Rattle.px_ctl_vol.specs.Inputs.{set_input_volume, set_input_mute};
 
 use crate::asked::{asked, fits, is_volume};
 use crate::factors::regrouped;

@@ -2,7 +2,7 @@
 ghost use Rattle.std.specs.Prelude.{◌≡◌, ◌<◌, ◌≤◌, length, IsSome, IfSome, None, IfOk, OnOk, OnErr};
 ghost use Rattle.std.specs.List.{AllByRecursion};
 ghost use Rattle.px_chmap.specs.Plan.{FeedsAll};
-ghost use Rattle.px_flat.specs.Member.{channels_of, SuitsChannels, SuitsHow};
+ghost use Rattle.px_flat.specs.Member.{channels_of, SuitsChannels, SuitsHow, IsMember};
 ghost use Rattle.px_flat.specs.FlatVolume.{new_group, member_of, attached, detached, with_input_volume, with_sink_volume, with_input_mute, with_sink_mute, factors_of, factors_for, real_of};
 ghost use Rattle.px_flat.specs.Keeps.{IsTrueTo};
 
@@ -183,7 +183,8 @@ impl Group {
 
     /// The inputs, in the order in which they came. Takes no memory.
     pub fn members(&self) -> &[Member]
-        ensures { result.now ≡ self.now.members }
+        ensures members { result.now ≡ self.now.members }
+        ensures each { AllByRecursion (IsMember (length self.now.reference)) result.now }
     {
         self.members.as_slice()
     }

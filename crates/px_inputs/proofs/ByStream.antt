@@ -1,6 +1,6 @@
 -- The first input of each stream, where an input changes, goes or comes.
-use Rattle.std.proofs.Common.{◌≡◌, ◌&&◌, not, nat_eq, Bool, true, false, cond, List, [], ◌∷◌, ◌++◌, Option, None, Some, IsSome, refl, ap, sym, subst, ◌∙◌}
-use Rattle.std.proofs.lemmas.Bool.{cond-true, cond-false, eqb-true, false≢true}
+use Rattle.std.proofs.Common.{◌≡◌, ◌&&◌, not, nat_eq, Bool, true, false, cond, List, [], ◌∷◌, ◌++◌, Option, None, Some, IsSome, IfSome, refl, ap, sym, subst, ◌∙◌}
+use Rattle.std.proofs.lemmas.Bool.{cond-true, cond-false, eqb-true, eq-eqb, and_from, false≢true}
 use Rattle.std.proofs.lemmas.Option.{none-some, same_Some}
 use Rattle.std.specs.List.{find}
 use Rattle.std.specs.Option.{option_map}
@@ -187,6 +187,32 @@ never false b h = false≢true h
 -- an input that has ended is no stream's
 pub ended : (key : StreamKey) (z : Input) → is_stream key.conn key.stream (leaving z) ≡ true → is_stream key.conn key.stream z ≡ true
 ended key z h = absurd (never (nat_eq z.conn.0 key.conn.0) (nat_eq z.stream key.stream) h)
+
+-- what one test finds and another passes, the other finds too
+passes : {A : Type 0} (p is : A → Bool) (xs : List A) (x : A) → find p xs ≡ Some x → is x ≡ true → IsSome (find is xs)
+passes p is [] x found so = absurd (none-some x found)
+passes {A} p is (y ∷ ys) x found so = by (p y) refl (λ off. passes p is ys x (sym (cond-false (p y) (Some y) (find p ys) off) ∙ found) so)
+  where
+    by : (b : Bool) → p y ≡ b → (p y ≡ false → IsSome (find is ys)) → IsSome (cond (is y) (Some y) (find is ys))
+    by true on later =
+        let here : y ≡ x = same_Some y x (sym (cond-true (p y) (Some y) (find p ys) on) ∙ found) in
+        rw (ap is here ∙ so) refl
+    by false off later = in_tail (is y) y (find is ys) (later off)
+
+own_stream : (x : Input) → goes_on x ≡ true → is_stream x.conn x.stream x ≡ true
+own_stream x goes =
+    and_from (nat_eq x.conn.0 x.conn.0 && nat_eq x.stream x.stream) (goes_on x)
+    (and_from (nat_eq x.conn.0 x.conn.0) (nat_eq x.stream x.stream) (eq-eqb x.conn.0 x.conn.0 refl) (eq-eqb x.stream x.stream refl))
+    goes
+
+-- the stream of an input that goes on is in the table
+pub going-there : {S : Type 0} (inputs : List Input) (table : IndexMap StreamKey Input S) → AreByStream inputs table → (p : Input → Bool) (key : StreamKey) (o : Option Input) → find p inputs ≡ o
+    → option_map key_of o ≡ Some key → IfSome o (λ x. goes_on x ≡ true) → ContainsKey same_stream table key
+going-there inputs table by_stream p key None found at goes = absurd (none-some key at)
+going-there inputs table by_stream p key (Some x) found at goes =
+    subst IsSome (sym (by_stream key))
+    (passes p (is_stream key.conn key.stream) inputs x found
+    (subst (λ (k : StreamKey). is_stream k.conn k.stream x ≡ true) (same_Some (key_of x) key at) (own_stream x goes)))
 
 -- no input, so no stream of it
 pub unnamed : (r : Option Input) → None ≡ option_map key_of r → r ≡ None

@@ -1,8 +1,10 @@
 -- How an input changes.
 use Rattle.px_model.specs.declared.data.Attr.{Attr as Attributes}
 use Rattle.px_plan.specs.declared.input.Input.{Input}
-use Rattle.px_plan.specs.declared.input.Standing.TheVariants.{Leaving}
+use Rattle.px_types.specs.declared.ids.SinkId.{SinkId}
+use Rattle.px_plan.specs.declared.input.Standing.TheVariants.{Settled, Moving, Leaving}
 use Rattle.px_plan.specs.declared.input.Way.{Way}
+use Rattle.px_plan.specs.declared.input.Way.TheVariants.{Coming}
 
 -- it has ended
 abbrev pub leaving : Input → Input
@@ -15,3 +17,11 @@ with_attr attr x = record x { attr = attr }
 -- its stream is there on its way
 abbrev pub on_way : Way → Input → Input
 on_way way x = record x { way = way }
+
+-- it is to be on a sink
+abbrev pub moving_to : SinkId → Input → Input
+moving_to to x = record x { standing = Moving to }
+
+-- it is on the sink, and its stream is on its way there
+abbrev pub arrived_at : SinkId → Input → Input
+arrived_at to x = record x { sink = to; standing = Settled; way = Coming }

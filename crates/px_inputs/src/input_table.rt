@@ -1,13 +1,13 @@
 //! The inputs, in rising index and by their streams.
 
-ghost use Rattle.std.specs.Prelude.{◌≡◌, ◌⊎◌, ◌+◌, ◌<◌, ◌≤◌, ◌++◌, ◌∷◌, [], length, cond, vec_capacity, Some, IsSome, OnOk};
+ghost use Rattle.std.specs.Prelude.{◌≡◌, ◌⊎◌, ◌+◌, ◌<◌, ◌≤◌, ◌++◌, ◌∷◌, [], length, cond, vec_capacity, true, Some, IsSome, IfSome, OnOk};
 ghost use Rattle.std.specs.List.{find};
 ghost use Rattle.std.specs.Option.{option_map};
 ghost use Rattle.indexmap.specs.IndexMap.{get, spare, ContainsKey};
 ghost use Rattle.px_inputs.specs.declared.input_table.StreamKey.{StreamKey as Key};
-ghost use Rattle.px_plan.specs.Input.{has_index, input_of, input_named, stream_of};
+ghost use Rattle.px_plan.specs.Input.{has_index, input_of, input_named, stream_of, goes_on};
 ghost use Rattle.px_inputs.specs.Lists.{change_first, drop_first};
-ghost use Rattle.px_inputs.specs.Inputs.{leaving, with_attr};
+ghost use Rattle.px_inputs.specs.Inputs.{leaving, with_attr, moving_to, arrived_at};
 ghost use Rattle.px_inputs.specs.InputTable.{same_stream, key_of, first_of};
 ghost use Rattle.px_inputs.specs.Inputs.{on_way};
 
@@ -17,7 +17,7 @@ use crate::standing::goes_on;
 use indexmap::IndexMap;
 use px_model::Attr;
 use px_plan::{Input, Way};
-use px_types::{ConnId, InputId, Mem};
+use px_types::{ConnId, InputId, Mem, SinkId};
 use std::alloc::Global;
 use std::marker::Model;
 
@@ -169,6 +169,34 @@ impl InputTable {
     {
         if let Some(key) = key_at(&self.all, index) {
             inputs::leave(&mut self.all, index);
+            renew(&mut self.by_stream, &self.all, key);
+        }
+    }
+
+    /// The input with an index is to be on a sink. It goes on.
+    pub fn depart(&mut self, index: InputId, to: SinkId)
+        requires { IfSome (input_of self.old.items index) (λ x. goes_on x ≡ true) }
+        ensures items { self.new.items ≡ change_first (has_index index) (moving_to to) self.old.items }
+        ensures len { length self.new.items ≤ length self.old.items }
+        ensures places { self.new.places ≡ self.old.places }
+        ensures streams { self.old.streams ≤ self.new.streams + 1 }
+    {
+        if let Some(key) = key_at(&self.all, index) {
+            inputs::depart(&mut self.all, index, to);
+            renew(&mut self.by_stream, &self.all, key);
+        }
+    }
+
+    /// The input with an index is on a sink, and its stream is on its way there. It goes on.
+    pub fn arrive(&mut self, index: InputId, to: SinkId)
+        requires { IfSome (input_of self.old.items index) (λ x. goes_on x ≡ true) }
+        ensures items { self.new.items ≡ change_first (has_index index) (arrived_at to) self.old.items }
+        ensures len { length self.new.items ≤ length self.old.items }
+        ensures places { self.new.places ≡ self.old.places }
+        ensures streams { self.old.streams ≤ self.new.streams + 1 }
+    {
+        if let Some(key) = key_at(&self.all, index) {
+            inputs::arrive(&mut self.all, index, to);
             renew(&mut self.by_stream, &self.all, key);
         }
     }

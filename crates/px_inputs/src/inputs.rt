@@ -5,11 +5,11 @@ ghost use Rattle.std.specs.List.{position};
 ghost use Rattle.std.specs.Option.{option_map};
 ghost use Rattle.px_plan.specs.Input.{has_index, input_of};
 ghost use Rattle.px_inputs.specs.Lists.{change_first, drop_first};
-ghost use Rattle.px_inputs.specs.Inputs.{leaving, with_attr, on_way};
+ghost use Rattle.px_inputs.specs.Inputs.{leaving, with_attr, on_way, moving_to, arrived_at};
 
 use px_model::Attr;
 use px_plan::{Input, Standing, Way};
-use px_types::InputId;
+use px_types::{InputId, SinkId};
 
 /// The input with an index. Takes no memory.
 pub(crate) fn input_of(inputs: &[Input], index: InputId) -> Option<&Input>
@@ -54,6 +54,31 @@ pub(crate) fn set_way(inputs: &mut Vec<Input>, index: InputId, way: Way)
 {
     if let Some(place) = place_at(inputs, index) {
         inputs[place].way = way;
+    }
+}
+
+/// An input is to be on a sink.
+pub(crate) fn depart(inputs: &mut Vec<Input>, index: InputId, to: SinkId)
+    ensures items { inputs.new.items ≡ change_first (has_index index) (moving_to to) inputs.old.items }
+    ensures capacity { vec_capacity inputs.new ≡ vec_capacity inputs.old }
+    ensures len { vec_len inputs.new ≡ vec_len inputs.old }
+{
+    if let Some(place) = place_at(inputs, index) {
+        inputs[place].standing = Standing::Moving(to);
+    }
+}
+
+/// An input is on a sink, and its stream is on its way there.
+pub(crate) fn arrive(inputs: &mut Vec<Input>, index: InputId, to: SinkId)
+    ensures items { inputs.new.items ≡ change_first (has_index index) (arrived_at to) inputs.old.items }
+    ensures capacity { vec_capacity inputs.new ≡ vec_capacity inputs.old }
+    ensures len { vec_len inputs.new ≡ vec_len inputs.old }
+{
+    if let Some(place) = place_at(inputs, index) {
+        let x = &mut inputs[place];
+        x.sink = to;
+        x.standing = Standing::Settled;
+        x.way = Way::Coming;
     }
 }
 

@@ -29,6 +29,12 @@ is_leaving Leaving = true
 abbrev pub goes_on : Input → Bool
 goes_on x = not (is_leaving x.standing)
 
+-- it is on its way to another sink
+abbrev pub is_moving : Standing → Bool
+is_moving Settled = false
+is_moving (Moving to) = true
+is_moving Leaving = false
+
 -- the sink that an input on this one belongs to is the sink
 abbrev pub belongs_to : SinkId → SinkId → Standing → Bool
 belongs_to sink on Settled = nat_eq on.0 sink.0

@@ -30,7 +30,14 @@ pub enum Change<M, G> {
     Described(InputId, PropList),
     /// An input has ended. Where it was settled its sink is to give up its stream. What waited of it waits no more.
     Leaves(InputId),
-    /// An input's sink is told this. Where it is told new buffer attributes, they are the input's.
+    /// A settled input is to be on this sink. The one that it is on is to give up its stream.
+    Moves(InputId, SinkId),
+    /// The sink that an input moves to is to have its stream, and is told this. The input is settled there.
+    Arrives(InputId, M),
+    /// The first message of an input that waited while it moved waits for the sink that it is on.
+    Released(InputId),
+    /// An input's sink is told this, once the input has arrived where it moves. Where it is told new buffer attributes, they are
+    /// the input's.
     Said(InputId, M),
     /// A sink has this group, and is told the factors that it gives.
     Regrouped(SinkId, G, M),

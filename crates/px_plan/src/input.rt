@@ -57,6 +57,11 @@ pub struct Input {
     /// The sample spec of what is written to it, and a speaker position for each of its channels.
     pub spec: Spec,
     pub map: Map,
+    /// Whether it may not move, whether its channels go by their index alone, and whether one channel may not feed several
+    /// (`PA_STREAM_DONT_MOVE`, `NO_REMAP_CHANNELS`, `NO_REMIX_CHANNELS` of `pulse/def.h`).
+    pub no_move: bool,
+    pub no_remap: bool,
+    pub no_remix: bool,
     /// Its buffer attributes, in frames, repaired.
     pub attr: Attr,
     /// Where its stream is.

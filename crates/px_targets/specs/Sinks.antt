@@ -1,5 +1,6 @@
 -- The sinks as commands see them.
 use Rattle.std.specs.Prelude.{ℕ, ◌+◌, Bool, List, [], ◌∷◌, take, slice_get, Option, None, Some, Result, Ok, Err}
+use Rattle.std.specs.Option.{option_map}
 use Rattle.px_types.specs.declared.ids.SinkId.{SinkId}
 use Rattle.px_types.specs.declared.error_code.ErrorCode.{ErrorCode}
 use Rattle.px_types.specs.declared.error_code.ErrorCode.TheVariants.{Invalid}
@@ -39,6 +40,10 @@ sink_of sinks (Some x) = slice_get sinks x.sink.0
 
 abbrev pub target_of : SinkId → SinkSpec → Target
 target_of index sink = record { index = index; name = sink.name; spec = sink.spec; map = sink.map; depth = sink.depth }
+
+-- the sink with an index
+abbrev pub target_at : List SinkSpec → SinkId → Option Target
+target_at sinks index = option_map (target_of index) (slice_get sinks index.0)
 
 abbrev pub found_as : SinkId → Option SinkSpec → Named
 found_as index None = Unknown

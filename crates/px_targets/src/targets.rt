@@ -7,7 +7,7 @@ ghost use Rattle.px_session.specs.declared.header.SinkSpec.{SinkSpec};
 ghost use Rattle.px_session.specs.HeaderRules.{AreSinks};
 ghost use Rattle.px_names.specs.Names.{NO_INDEX, sink_named};
 ghost use Rattle.px_plan.specs.Target.{IsTarget, IsNamed};
-ghost use Rattle.px_targets.specs.Sinks.{MOST_SINKS, IsOfHeader, rate_on, rate_of, depth_of, sink_of, target_of, found_as, named_as, named_by, targets_from, targets_of};
+ghost use Rattle.px_targets.specs.Sinks.{MOST_SINKS, IsOfHeader, rate_on, rate_of, depth_of, sink_of, target_of, target_at, found_as, named_as, named_by, targets_from, targets_of};
 
 use px_cmd::SinkRef;
 use px_names::{NO_INDEX, Names};
@@ -85,6 +85,18 @@ fn target_of(alloc: Global, index: SinkId, sink: &SinkSpec) -> Mem<Target>
         map: sink.map,
         depth: sink.depth,
     })
+}
+
+/// The sink with an index, where there is one.
+pub fn target_at(alloc: Global, sinks: &[SinkSpec], index: SinkId) -> Mem<Option<Target>>
+    requires { AreSinks [] sinks.now }
+    ensures value { IfOk result (λ found. found ≡ target_at sinks.now index) }
+    ensures lawful { IfOk result (λ found. IfSome found IsTarget) }
+{
+    match sink_at(sinks, index) {
+        None => Ok(None),
+        Some(sink) => Ok(Some(target_of(alloc, index, sink)?)),
+    }
 }
 
 // The sink that was found by an index.

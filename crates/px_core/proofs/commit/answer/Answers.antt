@@ -9,5 +9,6 @@ returns-clause-room g c = λ n had.
       streams = omega (arith, had.streams);
       lists = omega (arith, had.lists);
       waiting = omega (arith, had.waiting, c.answer.ensures.len, c.answer.ensures.capacity);
+      delayed = omega (arith, had.delayed);
       posted = fewer_places n c.args.tables.now.posted.items had.posted;
     }

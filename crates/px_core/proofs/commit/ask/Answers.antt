@@ -9,5 +9,6 @@ returns-clause-room g c = λ n had.
       streams = omega (arith, had.streams);
       lists = omega (arith, had.lists);
       waiting = omega (arith, had.waiting, c.push_reserved.ensures.capacity, length-append c.args.tables.now.waiting.items (c.args.w ∷ []));
+      delayed = omega (arith, had.delayed);
       posted = fewer_places n c.args.tables.now.posted.items had.posted;
     }

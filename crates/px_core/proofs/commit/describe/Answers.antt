@@ -9,5 +9,6 @@ returns-clause-room g c = λ n had.
       streams = omega (arith, had.streams);
       lists = omega (arith, had.lists, c.set.ensures.len, c.set.ensures.places);
       waiting = omega (arith, had.waiting);
+      delayed = omega (arith, had.delayed);
       posted = fewer_places n c.args.tables.now.posted.items had.posted;
     }

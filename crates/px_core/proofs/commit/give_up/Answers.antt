@@ -11,5 +11,6 @@ returns-clause-room g c = λ n had.
       streams = omega (arith, had.streams, left.streams);
       lists = omega (arith, had.lists, listed.len, listed.places);
       waiting = omega (arith, had.waiting);
+      delayed = omega (arith, had.delayed);
       posted = fewer_places n c.args.tables.now.posted.items had.posted;
     }

@@ -1,6 +1,6 @@
 use Rattle.std.proofs.Common.{arith, ◌∙◌, ◌∷◌, [], ap, length, length-append}
 use Rattle.px_inputs.specs.InputTable.{RoomyInputs}
-use Rattle.px_core.proofs.Rooms.{same_listed, same_waits, room_left}
+use Rattle.px_core.proofs.Rooms.{same_listed, same_waits, same_delays, room_left}
 use Rattle.px_core.proofs.commit.make.Goals as goal
 
 pub returns-clause-room : goal.returns-clause-room
@@ -16,5 +16,5 @@ returns-clause-room g c = λ n had.
       streams = omega (arith, streams, c.push.ensures.streams);
     })
     (same_listed c.args.tables.now.lists c.post.new.tables.lists c.post.ensures.lists)
-    (same_waits c.args.tables.now c.post.new.tables c.post.ensures.waiting)
+    (same_waits c.args.tables.now c.post.new.tables c.post.ensures.waiting) (same_delays c.args.tables.now c.post.new.tables c.post.ensures.delayed)
     (c.post.ensures.room n had.posted) had

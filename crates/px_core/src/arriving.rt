@@ -1,0 +1,101 @@
+//! A sink has given up the stream of an input that moves: the input is on the sink that it moves to.
+
+ghost use Rattle.std.specs.Prelude.{◌≡◌, IfOk, IfErr, OnOk, OnErr, None, Some};
+ghost use Rattle.px_plan.specs.declared.input.Standing.TheVariants.{Moving};
+ghost use Rattle.px_ctl_play.specs.Arrival.{arriving_with};
+ghost use Rattle.px_core.specs.Keeps.{IsKept};
+ghost use Rattle.px_core.specs.Notice.{arrival_at, arrived_with};
+ghost use Rattle.px_core.specs.Plan.{plan_effects};
+ghost use Rattle.px_core.specs.State.{input_of};
+ghost use Rattle.px_core.specs.Step.{answered};
+ghost use Rattle.px_core.specs.Tables.{state_of};
+
+use crate::commit::{apply, commit, reserve};
+use crate::delayed;
+use crate::effects::{Effects, plan_effects};
+use crate::notice::owner_of;
+use crate::tables::Tables;
+use px_ctl_play::{Arrival, arrive};
+use px_flat::Group;
+use px_msg::{Msg, Parcel};
+use px_plan::{Change, Input, Plan};
+use px_targets::{group_on, target_at};
+use px_types::{InputId, Mem, SinkId};
+use std::alloc::Global;
+
+// What it does that an input is on a sink, but for its parcel.
+fn arrival_at<P: Parcel + Drop>(
+    alloc: Global,
+    tables: &Tables<P>,
+    to: SinkId,
+    x: &Input,
+) -> Mem<Option<Arrival<Msg<P>, Group>>>
+    requires kept { IsKept P.spec_of (state_of tables.now) }
+    requires here { input_of tables.now.inputs.items x.now.index ≡ Some x.now }
+    requires moves { x.now.standing ≡ Moving to }
+    ensures { IfOk result (λ made. made ≡ arrival_at (state_of tables.now) to x.now) }
+{
+    let Some(sink) = target_at(alloc, tables.sinks.as_slice(), to)? else {
+        return Ok(None);
+    };
+    let Some(from) = group_on(&tables.groups, x.sink) else {
+        return Ok(None);
+    };
+    let Some(group) = group_on(&tables.groups, to) else {
+        return Ok(None);
+    };
+    let owner = owner_of(&tables.connections, Some(*x));
+    let waited = delayed::count(&tables.delayed, x.index);
+    arrive(alloc, x, from, group, &sink, owner, tables.inputs.as_slice(), waited)
+}
+
+// The changes of an arrival with this parcel are made. Where there is no memory for them the parcel is handed back, and nothing has
+// changed.
+fn settle<P: Drop>(
+    alloc: Global,
+    tables: &mut Tables<P>,
+    input: InputId,
+    parcel: P,
+    made: Arrival<Msg<P>, Group>,
+) -> Result<Effects, P>
+    ensures effects { IfOk result (λ effects. effects ≡ plan_effects None (arriving_with input parcel made)) }
+    ensures after { OnOk result (state_of tables.new ≡ answered (state_of tables.old) (arriving_with input parcel made)) }
+    ensures back { IfErr result (λ back. back ≡ parcel) }
+    ensures err { OnErr result (state_of tables.new ≡ state_of tables.old) }
+{
+    let Arrival { feed, factors, told, later } = made;
+    let plan = Plan { reply: None, errors: Vec::new(alloc), told, changes: later };
+    let Ok(effects) = plan_effects(alloc, None, &plan) else {
+        return Err(parcel);
+    };
+    if reserve(tables, plan.changes.len() + 1).is_err() {
+        return Err(parcel);
+    }
+    apply(tables, Change::Arrives(input, Msg::Attach { input, parcel, feed, factors }));
+    commit(tables, plan.changes);
+    Ok(effects)
+}
+
+/// An input that moves to a sink is there with this parcel. Where there is no memory for it the parcel is handed back, and nothing has
+/// changed.
+pub(crate) fn take_in<P: Parcel + Drop>(
+    alloc: Global,
+    tables: &mut Tables<P>,
+    to: SinkId,
+    x: &Input,
+    parcel: P,
+) -> Result<Effects, P>
+    requires kept { IsKept P.spec_of (state_of tables.old) }
+    requires here { input_of tables.old.inputs.items x.now.index ≡ Some x.now }
+    requires moves { x.now.standing ≡ Moving to }
+    ensures effects { IfOk result (λ effects. effects ≡ plan_effects None (arrived_with x.now.index parcel (arrival_at (state_of tables.old) to x.now))) }
+    ensures after { OnOk result (state_of tables.new ≡ answered (state_of tables.old) (arrived_with x.now.index parcel (arrival_at (state_of tables.old) to x.now))) }
+    ensures back { IfErr result (λ back. back ≡ parcel) }
+    ensures err { OnErr result (state_of tables.new ≡ state_of tables.old) }
+{
+    match arrival_at(alloc, tables, to, x) {
+        Ok(Some(made)) => settle(alloc, tables, x.index, parcel, made),
+        Ok(None) => Ok(Effects::new(alloc)),
+        Err(_) => Err(parcel),
+    }
+}
