@@ -100,7 +100,7 @@ none_above i (x ∷ xs) sink a = step (none_above i xs sink a.1) (nat_eq x.index
     step rest false c e = rest
 
 -- what is there of one that is found
-only_there : (xs : List Input) → IsRising xs → (x : Input) → input_of xs x.index ≡ Some x → (sink : SinkId) → channels_there xs sink x.index ≡ cond (nat_eq x.sink.0 sink.0) (x.spec.channels ∷ []) []
+pub only_there : (xs : List Input) → IsRising xs → (x : Input) → input_of xs x.index ≡ Some x → (sink : SinkId) → channels_there xs sink x.index ≡ cond (nat_eq x.sink.0 sink.0) (x.spec.channels ∷ []) []
 only_there [] r x here sink = absurd (none-some x here)
 only_there (y ∷ xs) r x here sink = step (only_there xs r.1 x) (nat_eq y.index.0 x.index.0) refl here
   where
@@ -178,7 +178,7 @@ module _ (to : SinkId) (xs : List Input) (rising : IsRising xs) (x : Input) (her
 
 -- ---- what waited of it
 
-drops : {P : Type 0} → ℕ → InputId → List (Delayed P) → List (Delayed P)
+abbrev drops : {P : Type 0} → ℕ → InputId → List (Delayed P) → List (Delayed P)
 drops zero index ds = ds
 drops (suc n) index ds = drops n index (drop_first (is_of index) ds)
 

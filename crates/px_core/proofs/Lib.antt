@@ -21,6 +21,8 @@ pub mod CreateLaws
 pub mod VolumeLaws
 pub mod RoadLaws
 pub mod ArrivalLaws
+pub mod JoinLaws
+pub mod Late
 pub mod StreamLaws
 pub mod StepLaws
 pub mod ParcelLaws

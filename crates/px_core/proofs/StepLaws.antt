@@ -160,7 +160,6 @@ row_lawful spec_of state h me tag (commands.SinkMute sink on) =
     sink_mute_lawful spec_of state h (named_by state.names state.sinks sink false) (named_there state.sinks (sink_named state.names sink.index sink.name false)) tag on
 row_lawful spec_of state h me tag (commands.InputVolume input volume) = input_volume_lawful spec_of state h input tag volume
 row_lawful spec_of state h me tag (commands.InputMute input on) = input_mute_lawful spec_of state h input tag on
-row_lawful spec_of state h me tag _ = tt
 
 requested_lawful : {P : Type 0} (state : State P) (tag : ℕ) (given : Row (Plan P)) → Each (IsLawful state) given → IsLawful state (requested tag given)
 requested_lawful state tag (Ok plan) h = cond_both (reply_fits plan.reply) plan (refused tag TooLarge) (IsLawful state) (λ e. h) (λ e. tt)

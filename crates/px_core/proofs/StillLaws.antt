@@ -71,7 +71,7 @@ still_change : {P : Type 0} (q : Input → Bool) (f : Input → Input) → ((x :
 still_change q f keeps so xs ds h = all_weaken (IsDelayed xs) (IsDelayed (change_first q f xs)) (λ d has. has_change (λ x. Waits x d.message) q f keeps (λ x w. so x d.message w) xs d.input has) ds h
 
 -- what a message asks of an input is asked of its index and its spec
-suits_as : {P : Type 0} (x y : Input) → y.index ≡ x.index → y.spec ≡ x.spec → (m : Msg P) → Suits x m → Suits y m
+pub suits_as : {P : Type 0} (x y : Input) → y.index ≡ x.index → y.spec ≡ x.spec → (m : Msg P) → Suits x m → Suits y m
 suits_as x y index spec (New n) s = absurd s
 suits_as x y index spec (Attach input parcel feed factors) s = absurd s
 suits_as x y index spec (Detach input) s = absurd s

@@ -270,4 +270,3 @@ row_tells state me t (commands.SinkVolume sink volume) = sink_volume_tells state
 row_tells state me t (commands.SinkMute sink on) = sink_mute_tells state t (named_by state.names state.sinks sink false) on
 row_tells state me t (commands.InputVolume input volume) = input_volume_tells state t (input_named state.inputs input) volume
 row_tells state me t (commands.InputMute input on) = input_mute_tells state t (input_named state.inputs input) on
-row_tells state me t _ = tt

@@ -44,7 +44,7 @@ fn arrival_at<P: Parcel + Drop>(
     let Some(group) = group_on(&tables.groups, to) else {
         return Ok(None);
     };
-    let owner = owner_of(&tables.connections, Some(*x));
+    let owner = owner_of(&tables.connections, &Some(*x));
     let waited = delayed::count(&tables.delayed, x.index);
     arrive(alloc, x, from, group, &sink, owner, tables.inputs.as_slice(), waited)
 }
@@ -68,9 +68,9 @@ fn settle<P: Drop>(
     let Ok(effects) = plan_effects(alloc, None, &plan) else {
         return Err(parcel);
     };
-    if reserve(tables, plan.changes.len() + 1).is_err() {
+    let Ok(_) = reserve(tables, plan.changes.len() + 1) else {
         return Err(parcel);
-    }
+    };
     apply(tables, Change::Arrives(input, Msg::Attach { input, parcel, feed, factors }));
     commit(tables, plan.changes);
     Ok(effects)

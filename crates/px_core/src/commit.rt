@@ -1,9 +1,11 @@
 //! Changes are made, one after the other, in room that was reserved for them.
 
 ghost use Rattle.std.specs.Prelude.{◌≡◌, ◌≤◌, ◌+◌, ℕ, length, vec_capacity, Some, IfOk, OnOk, OnErr};
+ghost use Rattle.std.specs.List.{find};
 ghost use Rattle.px_plan.specs.declared.change.Change.TheVariants.{Made, Described, Leaves, Moves, Arrives, Released, Said, Regrouped, Asked, Answered, Gone};
-ghost use Rattle.px_core.specs.Change.{changed, committed, defaulted, inputs_told, posting, delaying, saying, ending, departs, arrives};
+ghost use Rattle.px_core.specs.Change.{changed, committed, defaulted, inputs_told, posting, delaying, saying, ending, departs, arrives, releasing};
 ghost use Rattle.px_core.specs.Plan.{plan_effects};
+ghost use Rattle.px_core.specs.Delayed.{is_of};
 ghost use Rattle.px_core.specs.State.{input_of};
 ghost use Rattle.px_core.specs.Step.{answered};
 ghost use Rattle.px_core.specs.Tables.{state_of, HasRoom, HavePlaces};
@@ -153,7 +155,8 @@ fn depart<P: Drop>(tables: &mut Tables<P>, x: &Input, to: SinkId)
             tables.inputs.depart(x.index, to);
             post(tables, x.sink, Msg::Detach { input: x.index });
         }
-        Standing::Moving(_) | Standing::Leaving => {}
+        Standing::Moving(_) => {}
+        Standing::Leaving => {}
     }
 }
 
@@ -181,7 +184,8 @@ fn arrive<P: Drop>(tables: &mut Tables<P>, x: &Input, msg: Msg<P>)
             tables.inputs.arrive(x.index, to);
             post(tables, to, msg);
         }
-        Standing::Settled | Standing::Leaving => {}
+        Standing::Settled => {}
+        Standing::Leaving => {}
     }
 }
 
@@ -198,15 +202,26 @@ fn take_in<P: Drop>(tables: &mut Tables<P>, index: InputId, msg: Msg<P>)
 }
 
 // The first message of an input that waited while it moved waits for the sink that it is on.
-fn release<P: Drop>(tables: &mut Tables<P>, index: InputId)
+fn release<P: Drop>(tables: &mut Tables<P>, x: &Input)
+    requires { HasRoom 1 tables.old }
+    ensures state { state_of tables.new ≡ releasing x.now (find (is_of x.now.index) tables.old.delayed.items) (state_of tables.old) }
+    ensures room { (n : ℕ) → HasRoom (n + 1) tables.old → HasRoom n tables.new }
+{
+    match delayed::take_first(&mut tables.delayed, x.index) {
+        None => {}
+        Some(msg) => post(tables, x.sink, msg),
+    }
+}
+
+// And of the input with an index.
+fn let_on<P: Drop>(tables: &mut Tables<P>, index: InputId)
     requires { HasRoom 1 tables.old }
     ensures state { state_of tables.new ≡ changed (state_of tables.old) (Released index) }
     ensures room { (n : ℕ) → HasRoom (n + 1) tables.old → HasRoom n tables.new }
 {
-    if let Some(x) = tables.inputs.input_of(index) {
-        if let Some(msg) = delayed::take_first(&mut tables.delayed, x.index) {
-            post(tables, x.sink, msg);
-        }
+    match tables.inputs.input_of(index) {
+        None => {}
+        Some(x) => release(tables, &x),
     }
 }
 
@@ -216,10 +231,11 @@ fn make<P: Drop>(tables: &mut Tables<P>, x: Input, new: Msg<P>, streams: u32, in
     ensures state { state_of tables.new ≡ changed (state_of tables.old) (Made x new streams inputs) }
     ensures room { (n : ℕ) → HasRoom (n + 1) tables.old → HasRoom n tables.new }
 {
+    let sink = x.sink;
     verbs::set_streams(&mut tables.connections, x.conn, streams);
     tables.inputs.push(x);
     tables.inputs_made = inputs;
-    post(tables, x.sink, new);
+    post(tables, sink, new);
 }
 
 // An input has this property list.
@@ -300,7 +316,7 @@ pub(crate) fn apply<P: Drop>(tables: &mut Tables<P>, change: CoreChange<P>)
         Change::Leaves(index) => leave(tables, index),
         Change::Moves(index, to) => send_off(tables, index, to),
         Change::Arrives(index, msg) => take_in(tables, index, msg),
-        Change::Released(index) => release(tables, index),
+        Change::Released(index) => let_on(tables, index),
         Change::Said(index, msg) => say(tables, index, msg),
         Change::Regrouped(sink, group, msg) => regroup(tables, sink, group, msg),
         Change::Asked(w) => ask(tables, w),

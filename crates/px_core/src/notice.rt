@@ -1,12 +1,13 @@
 //! What a sink's notice is answered (PulseAudio: `sink_input_process_msg` of `pulsecore/protocol-native.c`; which notices fit is
 //! own).
 
-ghost use Rattle.std.specs.Prelude.{◌≡◌, [], None, slice_get, IfSome, IfOk, IfErr, OnOk, OnErr};
+ghost use Rattle.std.specs.Prelude.{◌≡◌, [], None, Some, slice_get, IfOk, IfErr, OnOk, OnErr};
 ghost use Rattle.px_session.specs.HeaderRules.{AreSinks};
 ghost use Rattle.px_ctl_play.specs.Told.{IsMemberIn};
 ghost use Rattle.px_core.specs.Keeps.{IsKept};
 ghost use Rattle.px_core.specs.Notice.{IsNews, owner_of, told_of, drained_of, measured_of, input_on, left_of, given_up, notice_answer};
 ghost use Rattle.px_core.specs.Plan.{plan_effects};
+ghost use Rattle.px_core.specs.State.{input_of};
 ghost use Rattle.px_core.specs.Step.{answered};
 ghost use Rattle.px_core.specs.Tables.{state_of};
 
@@ -24,8 +25,8 @@ use px_types::{InputId, Mem, SinkId};
 use std::alloc::Global;
 
 /// The connection of an input, where both are there and it goes on. Takes no memory.
-pub(crate) fn owner_of(connections: &[Connection], input: Option<Input>) -> Option<Connection>
-    ensures { result ≡ owner_of connections.now input }
+pub(crate) fn owner_of(connections: &[Connection], input: &Option<Input>) -> Option<Connection>
+    ensures { result ≡ owner_of connections.now input.now }
 {
     match input {
         None => None,
@@ -42,7 +43,8 @@ fn told_of<P: Drop>(
 ) -> Mem<Plan<Msg<P>, Group>>
     ensures { IfOk result (λ plan. plan ≡ told_of (state_of tables.now) input news) }
 {
-    tell(alloc, input, owner_of(&tables.connections, input), news)
+    let owner = owner_of(&tables.connections, &input);
+    tell(alloc, input, owner, news)
 }
 
 // All of an input that is on the sink was played: the drain under the tag is answered.
@@ -54,7 +56,7 @@ fn drained_of<P: Drop>(
 ) -> Mem<Plan<Msg<P>, Group>>
     ensures { IfOk result (λ plan. plan ≡ drained_of (state_of tables.now) input tag) }
 {
-    let owner = owner_of(&tables.connections, input);
+    let owner = owner_of(&tables.connections, &input);
     drained(alloc, input, owner, &tables.waiting, tag)
 }
 
@@ -70,7 +72,7 @@ fn measured_of<P: Drop>(
     requires { AreSinks [] tables.now.sinks }
     ensures { IfOk result (λ plan. plan ≡ measured_of (state_of tables.now) input sink tag progress) }
 {
-    let owner = owner_of(&tables.connections, input);
+    let owner = owner_of(&tables.connections, &input);
     let rate = rate_on(tables.sinks.as_slice(), sink);
     measured(alloc, input, owner, &tables.waiting, rate, tag, progress)
 }
@@ -160,17 +162,18 @@ fn take_left<P: Parcel + Drop>(
     alloc: Global,
     tables: &mut Tables<P>,
     sink: SinkId,
-    input: Option<Input>,
+    x: Input,
     parcel: P,
 ) -> Result<Effects, P>
-    requires { IfSome input (IsMemberIn (slice_get tables.old.groups.items sink.0)) }
-    ensures effects { IfOk result (λ effects. effects ≡ plan_effects None (left_of P.spec_of (state_of tables.old) sink input parcel)) }
-    ensures after { OnOk result (state_of tables.new ≡ answered (state_of tables.old) (left_of P.spec_of (state_of tables.old) sink input parcel)) }
+    requires { IsMemberIn (slice_get tables.old.groups.items sink.0) x }
+    ensures effects { IfOk result (λ effects. effects ≡ plan_effects None (left_of P.spec_of (state_of tables.old) sink (Some x) parcel)) }
+    ensures after { OnOk result (state_of tables.new ≡ answered (state_of tables.old) (left_of P.spec_of (state_of tables.old) sink (Some x) parcel)) }
     ensures back { IfErr result (λ back. back ≡ parcel) }
     ensures err { OnErr result (state_of tables.new ≡ state_of tables.old) }
 {
     let group = group_on(&tables.groups, sink);
-    let Ok(plan) = left(alloc, input, group, parcel.spec(), tables.inputs.as_slice()) else {
+    let planned = left(alloc, Some(x), group, parcel.spec(), tables.inputs.as_slice());
+    let Ok(plan) = planned else {
         return Err(parcel);
     };
     match finish(alloc, tables, None, plan) {
@@ -179,10 +182,38 @@ fn take_left<P: Parcel + Drop>(
     }
 }
 
-// A sink has given up a stream: an input that moves is on the sink that it moves to, and one that has ended goes. What doesn't fit is
-// ignored: of an input that isn't on the sink, of one that the sink wasn't told to give up, and a stream with another spec.
-#[tactic(auto, using(crate::proofs::GroupLaws::member_there))]
+// A sink has given up the stream of an input that is on it: one that moves is on the sink that it moves to, and one that has ended goes.
+// What doesn't fit is ignored: of one that the sink wasn't told to give up, and a stream with another spec.
 fn give_up<P: Parcel + Drop>(
+    alloc: Global,
+    tables: &mut Tables<P>,
+    sink: SinkId,
+    x: Input,
+    parcel: P,
+) -> Result<Effects, P>
+    requires kept { IsKept P.spec_of (state_of tables.old) }
+    requires here { input_of tables.old.inputs.items x.index ≡ Some x }
+    requires member { IsMemberIn (slice_get tables.old.groups.items sink.0) x }
+    ensures effects { IfOk result (λ effects. effects ≡ plan_effects None (given_up P.spec_of (state_of tables.old) sink (Some x) parcel)) }
+    ensures after { OnOk result (state_of tables.new ≡ answered (state_of tables.old) (given_up P.spec_of (state_of tables.old) sink (Some x) parcel)) }
+    ensures back { IfErr result (λ back. back ≡ parcel) }
+    ensures err { OnErr result (state_of tables.new ≡ state_of tables.old) }
+{
+    match x.standing {
+        Standing::Moving(to) => {
+            if hands_over(parcel.spec(), &x) {
+                take_in(alloc, tables, to, &x, parcel)
+            } else {
+                take_left(alloc, tables, sink, x, parcel)
+            }
+        }
+        Standing::Settled | Standing::Leaving => take_left(alloc, tables, sink, x, parcel),
+    }
+}
+
+// And of an input that may not be on it, which is ignored then.
+#[tactic(auto, using(crate::proofs::EntryLaws::found_by_index))]
+fn detach<P: Parcel + Drop>(
     alloc: Global,
     tables: &mut Tables<P>,
     sink: SinkId,
@@ -195,21 +226,9 @@ fn give_up<P: Parcel + Drop>(
     ensures back { IfErr result (λ back. back ≡ parcel) }
     ensures err { OnErr result (state_of tables.new ≡ state_of tables.old) }
 {
-    let input = input_on(tables.inputs.as_slice(), sink, input);
-    match input {
-        Some(x) => match x.standing {
-            Standing::Moving(to) => {
-                if hands_over(parcel.spec(), &x) {
-                    take_in(alloc, tables, to, &x, parcel)
-                } else {
-                    take_left(alloc, tables, sink, input, parcel)
-                }
-            }
-            Standing::Settled | Standing::Leaving => {
-                take_left(alloc, tables, sink, input, parcel)
-            }
-        },
+    match input_on(tables.inputs.as_slice(), sink, input) {
         None => Ok(Effects::new(alloc)),
+        Some(x) => give_up(alloc, tables, sink, x, parcel),
     }
 }
 
@@ -228,7 +247,7 @@ pub(crate) fn take<P: Parcel + Drop>(
 {
     match notice {
         Notice::Detached { input, parcel } => {
-            match give_up(alloc, tables, sink, input, parcel) {
+            match detach(alloc, tables, sink, input, parcel) {
                 Ok(effects) => Ok(effects),
                 Err(parcel) => Err(Notice::Detached { input, parcel }),
             }

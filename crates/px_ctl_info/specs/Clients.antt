@@ -28,13 +28,17 @@ SERVER_VERSION = 13
 abbrev pub version_in : ℕ → ℕ
 version_in version = version % 2 ^ 16
 
+-- a connection is let in
+abbrev pub let_in : {M G : Type 0} → Connection → ℕ → Planned M G
+let_in me tag = replied (reply_to tag ++ number SERVER_VERSION) (Authed me.conn SERVER_VERSION ∷ [])
+
 -- AUTH: refused after a successful one, then for an old version, then for another cookie
 abbrev pub auth : {M G : Type 0} → Naming → Connection → ℕ → ℕ → List ℕ → Row (Planned M G)
 auth names me tag version cookie = do
   first ← check (not (is_some me.version)) BadState
   spoken ← check (nat_le SERVER_VERSION (version_in version)) Version
   known ← check (same_text cookie names.cookie) Access
-  Ok (replied (reply_to tag ++ number SERVER_VERSION) (Authed me.conn SERVER_VERSION ∷ []))
+  Ok (let_in me tag)
 
 -- a client's list once each key of another list is set
 abbrev pub list_with : Option Client → List Property → List Property

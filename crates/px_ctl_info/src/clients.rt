@@ -1,10 +1,10 @@
 //! AUTH, SET_CLIENT_NAME and SUBSCRIBE (PulseAudio: `command_auth`, `command_set_client_name` and `command_subscribe` of
 //! `pulsecore/protocol-native.c`).
 
-ghost use Rattle.std.specs.Prelude.{◌≡◌, IfOk};
+ghost use Rattle.std.specs.Prelude.{◌≡◌, nat_le, IfOk, Ok};
 ghost use Rattle.std.specs.Option.{option_map};
 ghost use Rattle.px_plan.specs.Row.{Plans};
-ghost use Rattle.px_ctl_info.specs.Clients.{auth, list_with, set_client_name, is_mask, subscribe};
+ghost use Rattle.px_ctl_info.specs.Clients.{SERVER_VERSION, version_in, let_in, auth, list_with, set_client_name, is_mask, subscribe};
 
 use px_names::{Client, Names};
 use px_plan::{Change, Connection, Plan, Refusal, check};
@@ -14,6 +14,27 @@ use std::alloc::Global;
 
 /// The version that the server speaks.
 pub const SERVER_VERSION: u16 = 13;
+
+// Whether the server speaks a version that a client names.
+fn is_spoken(version: u32) -> bool
+    ensures { result ≡ nat_le SERVER_VERSION (version_in version) }
+{
+    version % 0x1_0000 >= u32::from(SERVER_VERSION)
+}
+
+// A connection is let in.
+fn let_in<M: Drop, G: Drop>(
+    alloc: Global,
+    me: &Connection,
+    tag: u32,
+) -> Result<Plan<M, G>, Refusal>
+    ensures { Plans result (Ok (let_in me.now tag)) }
+{
+    let reply = px_reply::auth(alloc, tag, u32::from(SERVER_VERSION))?;
+    let mut changes = Vec::new(alloc);
+    changes.push(Change::Authed(me.conn, SERVER_VERSION))?;
+    Ok(Plan::replied(alloc, reply, changes))
+}
 
 /// AUTH of a client that speaks a version (the lower half of the number) and shows a cookie. Refused, by the first of these
 /// that holds: `BadState` after a successful one, `Version` below 13, `Access` for another cookie than the server's.
@@ -28,15 +49,9 @@ pub fn auth<M: Drop, G: Drop>(
     ensures { Plans result (auth names.now me.now tag version cookie.now) }
 {
     check(me.version.is_none(), ErrorCode::BadState)?;
-    check(
-        version % 0x1_0000 >= u32::from(SERVER_VERSION),
-        ErrorCode::Version,
-    )?;
+    check(is_spoken(version), ErrorCode::Version)?;
     check(names.cookie_fits(cookie), ErrorCode::Access)?;
-    let reply = px_reply::auth(alloc, tag, u32::from(SERVER_VERSION))?;
-    let mut changes = Vec::new(alloc);
-    changes.push(Change::Authed(me.conn, SERVER_VERSION))?;
-    Ok(Plan::replied(alloc, reply, changes))
+    let_in(alloc, me, tag)
 }
 
 // A client's list once each key of another list is set.

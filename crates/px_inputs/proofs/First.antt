@@ -2,7 +2,7 @@
 use Rattle.std.proofs.Common.{arith, rules, ◌≡◌, ℕ, ◌+◌, ◌<◌, nat_lt, not, Bool, true, false, cond, List, [], ◌∷◌, suc, zero, length, get_or, slice_set, None, Some, refl, ap}
 use Rattle.std.proofs.lemmas.Bool.Decides.{nat_tests}
 use Rattle.std.proofs.lemmas.List.Quantifiers.{position-Some}
-use Rattle.std.specs.List.{position, remove, position_or_len}
+use Rattle.std.specs.List.{find, position, remove, position_or_len}
 use Rattle.px_inputs.specs.Lists.{change_first, drop_first}
 
 changed_at : {A : Type 0} (is : A → Bool) (change : A → A) (xs : List A) (i : ℕ) (d : A) → i < length xs → is (get_or xs i d) ≡ true → ((k : ℕ) → k < i → is (get_or xs k d) ≡ false) → change_first is change xs ≡ slice_set xs i (change (get_or xs i d))
@@ -56,3 +56,23 @@ undropped_by is (x ∷ xs) h =
 -- nothing is found, and nothing goes
 pub undropped : {A : Type 0} (is : A → Bool) (xs : List A) → position is xs ≡ None → xs ≡ drop_first is xs
 undropped is xs none = undropped_by is xs (nothing (nat_lt (position_or_len is xs) (length xs)) (position_or_len is xs) none)
+
+found_at : {A : Type 0} (is : A → Bool) (xs : List A) (i : ℕ) (d : A) → i < length xs → is (get_or xs i d) ≡ true → ((k : ℕ) → k < i → is (get_or xs k d) ≡ false) → find is xs ≡ Some (get_or xs i d)
+found_at is [] i d within so before = absurd (omega arith)
+found_at is (x ∷ xs) zero d within so before = rw so refl
+found_at is (x ∷ xs) (suc i) d within so before = rw (before 0 (omega arith)) (found_at is xs i d (omega arith) so (λ k less. before (suc k) (omega arith)))
+
+-- what stands at the place is what is found
+pub found_there : {A : Type 0} (is : A → Bool) (xs : List A) (i : ℕ) (d : A) → position is xs ≡ Some i → find is xs ≡ Some (get_or xs i d)
+found_there is xs i d found =
+    let p = position-Some is xs i d found in
+    found_at is xs i d (p.0) (p.1) (p.2)
+
+unfound_by : {A : Type 0} (is : A → Bool) (xs : List A) → nat_lt (position_or_len is xs) (length xs) ≡ false → find is xs ≡ None
+unfound_by is [] h = refl
+unfound_by is (x ∷ xs) h =
+    let b = behind (is x) (position_or_len is xs) (length xs) h in
+    rw (b.0) (unfound_by is xs (b.1))
+
+pub unfound : {A : Type 0} (is : A → Bool) (xs : List A) → position is xs ≡ None → find is xs ≡ None
+unfound is xs none = unfound_by is xs (nothing (nat_lt (position_or_len is xs) (length xs)) (position_or_len is xs) none)

@@ -22,8 +22,8 @@ returns-in-Settled-clause-room g c = λ n had.
       capacity = ap (λ v. vec_capacity v) c.post.ensures.waiting ∙ c.give_up.ensures.capacity;
     })
     (record {
-      len = omega (arith, ap (λ v. length v.items) c.post.ensures.delayed, c.give_up-2.ensures.len);
-      capacity = ap (λ v. vec_capacity v) c.post.ensures.delayed ∙ c.give_up-2.ensures.capacity;
+      len = omega (arith, ap (λ v. length v.items) c.post.ensures.delayed, c.give_up-in-Settled.ensures.len);
+      capacity = ap (λ v. vec_capacity v) c.post.ensures.delayed ∙ c.give_up-in-Settled.ensures.capacity;
     })
     (c.post.ensures.room n had.posted) had
 
@@ -34,7 +34,7 @@ returns-in-Moving-clause-room g c = λ n had.
       streams = omega (arith, had.streams, c.leave-in-Moving.ensures.streams);
       lists = omega (arith, had.lists);
       waiting = omega (arith, had.waiting, c.give_up-in-Moving.ensures.len, c.give_up-in-Moving.ensures.capacity);
-      delayed = omega (arith, had.delayed, c.give_up-2-in-Moving.ensures.len, c.give_up-2-in-Moving.ensures.capacity);
+      delayed = omega (arith, had.delayed, c.give_up-in-Moving-2.ensures.len, c.give_up-in-Moving-2.ensures.capacity);
       posted = fewer_places n c.args.tables.now.posted.items had.posted;
     }
 

@@ -1,0 +1,11 @@
+use Rattle.std.proofs.Common.{Some, refl, sym, ap, ◌∙◌}
+use Rattle.std.specs.Prelude.{slice_get}
+use Rattle.px_core.specs.Notice.{input_on}
+use Rattle.px_core.proofs.GroupLaws.{member_there}
+use Rattle.px_core.proofs.notice.detach.Goals as goal
+
+pub give_up-requires-clause-member : goal.give_up-requires-clause-member
+give_up-requires-clause-member g c =
+    member_there c.args.tables.now.sinks c.args.tables.now.inputs.items c.args.tables.now.groups.items c.requires.grouped c.args.sink c.args.input (Some c.in-Some.x)
+    (sym c.in-Some.is ∙ c.input_on.ensures ∙ ap (λ xs. input_on xs c.args.sink c.args.input) c.as_slice.ensures)
+    (slice_get c.args.tables.now.groups.items c.args.sink.0) refl
