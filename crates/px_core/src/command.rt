@@ -177,8 +177,6 @@ fn server<P: Drop>(
     server_info(alloc, named, tag, SERVER_VERSION)
 }
 
-}
-
 // An input ends, whose connection is told so where that goes on.
 fn killed_input<P: Drop>(
     alloc: Global,

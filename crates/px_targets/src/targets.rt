@@ -178,7 +178,7 @@ fn targets_in(alloc: Global, sinks: &[SinkSpec]) -> Mem<Vec<Target>>
 }
 
 // As many as a header can have.
-#[tactic(auto, using(crate::proofs::Sinks::first_of_header, crate::proofs::Sinks::all_first))]
+#[tactic(auto, using(crate::proofs::Sinks::first_of_header))]
 fn first_of(sinks: &[SinkSpec]) -> &[SinkSpec]
     requires { AreSinks [] sinks.now }
     ensures value { result.now ≡ take MOST_SINKS sinks.now }
