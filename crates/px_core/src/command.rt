@@ -160,7 +160,7 @@ fn new_attributes<P: Drop>(
     requires channels { IfSome stream (λ x. 1 ≤ x.spec.channels) }
     ensures { Plans result (new_attributes (state_of tables.now) stream asked tag) }
 {
-    let sink = sink_of(tables.sinks.as_slice(), stream);
+    let sink = sink_of(tables.sinks.as_slice(), &stream);
     attributes(alloc, stream, depth_of(sink), rate_of(sink), asked, tag)
 }
 
@@ -186,7 +186,7 @@ fn killed_input<P: Drop>(
 ) -> Result<Plan<Msg<P>, Group>, Refusal>
     ensures { Plans result (killed_input (state_of tables.now) input tag) }
 {
-    let owner = owner_of(&tables.connections, input);
+    let owner = owner_of(&tables.connections, &input);
     kill_input(alloc, input, owner, &tables.waiting, tag)
 }
 

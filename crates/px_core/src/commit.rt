@@ -124,10 +124,11 @@ fn make<P: Drop>(tables: &mut Tables<P>, x: Input, new: Msg<P>, streams: u32, in
     ensures state { state_of tables.new ≡ changed (state_of tables.old) (Made x new streams inputs) }
     ensures room { (n : ℕ) → HasRoom (n + 1) tables.old → HasRoom n tables.new }
 {
+    let sink = x.sink;
     verbs::set_streams(&mut tables.connections, x.conn, streams);
     tables.inputs.push(x);
     tables.inputs_made = inputs;
-    post(tables, x.sink, new);
+    post(tables, sink, new);
 }
 
 // An input has this property list.

@@ -22,8 +22,8 @@ use px_types::{Mem, SinkId};
 use std::alloc::Global;
 
 /// The connection of an input, where both are there and it goes on. Takes no memory.
-pub(crate) fn owner_of(connections: &[Connection], input: Option<Input>) -> Option<Connection>
-    ensures { result ≡ owner_of connections.now input }
+pub(crate) fn owner_of(connections: &[Connection], input: &Option<Input>) -> Option<Connection>
+    ensures { result ≡ owner_of connections.now input.now }
 {
     match input {
         None => None,
@@ -40,7 +40,8 @@ fn told_of<P: Drop>(
 ) -> Mem<Plan<Msg<P>, Group>>
     ensures { IfOk result (λ plan. plan ≡ told_of (state_of tables.now) input news) }
 {
-    tell(alloc, input, owner_of(&tables.connections, input), news)
+    let owner = owner_of(&tables.connections, &input);
+    tell(alloc, input, owner, news)
 }
 
 // All of an input that is on the sink was played: the drain under the tag is answered.
@@ -52,7 +53,7 @@ fn drained_of<P: Drop>(
 ) -> Mem<Plan<Msg<P>, Group>>
     ensures { IfOk result (λ plan. plan ≡ drained_of (state_of tables.now) input tag) }
 {
-    let owner = owner_of(&tables.connections, input);
+    let owner = owner_of(&tables.connections, &input);
     drained(alloc, input, owner, &tables.waiting, tag)
 }
 
@@ -68,7 +69,7 @@ fn measured_of<P: Drop>(
     requires { AreSinks [] tables.now.sinks }
     ensures { IfOk result (λ plan. plan ≡ measured_of (state_of tables.now) input sink tag progress) }
 {
-    let owner = owner_of(&tables.connections, input);
+    let owner = owner_of(&tables.connections, &input);
     let rate = rate_on(tables.sinks.as_slice(), sink);
     measured(alloc, input, owner, &tables.waiting, rate, tag, progress)
 }

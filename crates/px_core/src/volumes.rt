@@ -61,7 +61,7 @@ pub(crate) fn input_volume<P: Drop>(
     ensures { Plans result (input_volume (state_of tables.now) (input_named tables.now.inputs.items input) volume.now tag) }
 {
     let x = tables.inputs.input_named(input);
-    let group = group_under(&tables.groups, x);
+    let group = group_under(&tables.groups, &x);
     set_input_volume(alloc, x, group, tables.inputs.as_slice(), volume, tag)
 }
 
@@ -76,6 +76,6 @@ pub(crate) fn input_mute<P: Drop>(
     ensures { Plans result (input_mute (state_of tables.now) (input_named tables.now.inputs.items input) on tag) }
 {
     let x = tables.inputs.input_named(input);
-    let group = group_under(&tables.groups, x);
+    let group = group_under(&tables.groups, &x);
     set_input_mute(alloc, x, group, tables.inputs.as_slice(), on, tag)
 }

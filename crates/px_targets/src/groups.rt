@@ -26,8 +26,8 @@ pub fn group_named<'a>(groups: &'a [Group], named: &Named) -> Option<&'a Group>
 }
 
 /// The group of the sink that an input is on, where both are there. Takes no memory.
-pub fn group_under(groups: &[Group], input: Option<Input>) -> Option<&Group>
-    ensures { option_map (λ g. g.now) result ≡ group_under groups.now input }
+pub fn group_under<'a>(groups: &'a [Group], input: &Option<Input>) -> Option<&'a Group>
+    ensures { option_map (λ g. g.now) result ≡ group_under groups.now input.now }
 {
     match input {
         None => None,

@@ -39,9 +39,9 @@ pub fn rate_on(sinks: &[SinkSpec], index: SinkId) -> u32
 }
 
 /// The sink of an input, where both are there. Takes no memory.
-pub fn sink_of(sinks: &[SinkSpec], input: Option<Input>) -> Option<&SinkSpec>
+pub fn sink_of<'a>(sinks: &'a [SinkSpec], input: &Option<Input>) -> Option<&'a SinkSpec>
     requires { AreSinks [] sinks.now }
-    ensures value { option_map (λ s. s.now) result ≡ sink_of sinks.now input }
+    ensures value { option_map (λ s. s.now) result ≡ sink_of sinks.now input.now }
     ensures header { IfSome result (λ s. IsOfHeader s.now) }
 {
     match input {
