@@ -1,9 +1,11 @@
 -- The events about an object are the one that says what became of it.
-use Rattle.std.proofs.Common.{◌≡◌, ℕ, zero, suc, ◌+◌, ◌<◌, ◌≤◌, Bool, true, false, cond, List, [], ◌∷◌, ◌++◌, Option, None, Some, refl, ap, sym, subst, ◌∙◌, arith, append-nil}
+use Rattle.std.proofs.Common.{◌≡◌, ℕ, zero, suc, ◌+◌, ◌<◌, ◌≤◌, Bool, true, false, cond, List, [], ◌∷◌, ◌++◌, Option, None, Some, refl, ap, ◌∙◌, arith}
 use Rattle.std.specs.Prelude.{◌&&◌, nat_eq, bytes_eq, filter, flat_map, option_map, option_to_list}
 use Rattle.std.specs.List.{range_with_len}
+use Rattle.std.proofs.lemmas.List.{append-nil}
 use Rattle.std.proofs.lemmas.List.Elements.{filter-append}
 use Rattle.std.proofs.lemmas.Slice.Eq.{bytes_eq-Decides}
+use Rattle.std.proofs.lemmas.Bool.{eq-eqb}
 use Rattle.std.proofs.lemmas.Bool.Decides.{nat_tests}
 use Rattle.px_reply.specs.Info.{server_reply, with_sink, with_input, with_client}
 use Rattle.px_events.specs.declared.event.Facility.{Facility}
@@ -17,31 +19,31 @@ use Rattle.px_events.specs.Became.{NO_INDEX, became, event, events_at, events_of
 
 -- ---- one object
 
--- its event, where there is one, is about it, and about no other
-own : (f : Facility) (i : ℕ) (o : Option Kind) → nat_eq (facility_code f) (facility_code f) && nat_eq i i ≡ true → about f i (option_to_list (option_map (event f i) o)) ≡ option_to_list (option_map (event f i) o)
-own f i None e = refl
-own f i (Some kind) e = ap (λ b. cond b (event f i kind ∷ []) []) e
-
-other : (f g : Facility) (i j : ℕ) (o : Option Kind) → nat_eq (facility_code g) (facility_code f) && nat_eq j i ≡ false → about f i (option_to_list (option_map (event g j) o)) ≡ []
-other f g i j None e = refl
-other f g i j (Some kind) e = ap (λ b. cond b (event g j kind ∷ []) []) e
-
 same_number : (n : ℕ) → nat_eq n n ≡ true
-same_number zero = refl
-same_number (suc n) = same_number n
+same_number n = eq-eqb n n refl
 
-both : (a b : Bool) → a ≡ true → b ≡ true → a && b ≡ true
+both : (a b : Bool) → a ≡ true → b ≡ true → (a && b) ≡ true
 both true true p q = refl
 both true false p q = q
 both false b p q = p
 
-apart_left : (a b : Bool) → a ≡ false → a && b ≡ false
+apart_left : (a b : Bool) → a ≡ false → (a && b) ≡ false
 apart_left false b e = refl
 apart_left true b e = absurd cc
 
-apart_right : (a b : Bool) → b ≡ false → a && b ≡ false
+apart_right : (a b : Bool) → b ≡ false → (a && b) ≡ false
 apart_right false b e = refl
 apart_right true b e = e
+
+-- its event, where there is one, is about it, and about no other
+own : (f : Facility) (i : ℕ) (o : Option Kind) → about f i (option_to_list (option_map (event f i) o)) ≡ option_to_list (option_map (event f i) o)
+own f i None = refl
+own f i (Some kind) =
+    ap (λ b. cond b (event f i kind ∷ []) []) (both (nat_eq (facility_code f) (facility_code f)) (nat_eq i i) (same_number (facility_code f)) (same_number i))
+
+other : (f g : Facility) (i j : ℕ) (o : Option Kind) → (nat_eq (facility_code g) (facility_code f) && nat_eq j i) ≡ false → about f i (option_to_list (option_map (event g j) o)) ≡ []
+other f g i j None e = refl
+other f g i j (Some kind) e = ap (λ b. cond b (event g j kind ∷ []) []) e
 
 below_apart : (i j : ℕ) → i < j → nat_eq j i ≡ false
 below_apart i j l = grind (arith, nat_tests)
@@ -62,7 +64,7 @@ module _ {A : Type 0} (f : Facility) (told : A → List ℕ) (before after : ℕ
   here = events_at f told before after
 
   its_own : (i : ℕ) → about f i (here i) ≡ here i
-  its_own i = own f i (became told (before i) (after i)) (both (nat_eq (facility_code f) (facility_code f)) (nat_eq i i) (same_number (facility_code f)) (same_number i))
+  its_own i = own f i (became told (before i) (after i))
 
   of_another : (i j : ℕ) → nat_eq j i ≡ false → about f i (here j) ≡ []
   of_another i j e = other f f i j (became told (before j) (after j)) (apart_right (nat_eq (facility_code f) (facility_code f)) (nat_eq j i) e)
@@ -103,10 +105,28 @@ module _ {A : Type 0} (f g : Facility) (apart : nat_eq (facility_code g) (facili
   strange i (j ∷ js) =
       filter-append (is_about f i) (events_at g told before after j) (flat_map (events_at g told before after) js)
       ∙ ap (λ (first : List Event). first ++ about f i (flat_map (events_at g told before after) js))
-        (other f g i j (became told (before j) (after j)) (apart_left (nat_eq (facility_code g) (facility_code f)) (nat_eq j i) apart))
+      (other f g i j (became told (before j) (after j)) (apart_left (nat_eq (facility_code g) (facility_code f)) (nat_eq j i) apart))
       ∙ strange i js
 
 -- ---- all of them
+
+joined_four : (a x b y c z d w : List Event) → a ≡ x → b ≡ y → c ≡ z → d ≡ w → a ++ b ++ c ++ d ≡ x ++ y ++ z ++ w
+joined_four a x b y c z d w p q r s = λ k. p k ++ q k ++ r k ++ s k
+
+parts : (test : Event → Bool) (a b c d : List Event) → filter test (a ++ b ++ c ++ d) ≡ filter test a ++ filter test b ++ filter test c ++ filter test d
+parts test a b c d =
+    filter-append test (a ++ b ++ c) d
+    ∙ ap (λ (front : List Event). front ++ filter test d)
+    (filter-append test (a ++ b) c ∙ ap (λ (front : List Event). front ++ filter test c) (filter-append test a b))
+
+first_alone : (a : List Event) → a ++ [] ++ [] ++ [] ≡ a
+first_alone a = append-nil (a ++ [] ++ []) ∙ append-nil (a ++ []) ∙ append-nil a
+
+second_alone : (a : List Event) → [] ++ a ++ [] ++ [] ≡ a
+second_alone a = append-nil ([] ++ a ++ []) ∙ append-nil ([] ++ a)
+
+third_alone : (a : List Event) → [] ++ [] ++ a ++ [] ≡ a
+third_alone a = append-nil ([] ++ [] ++ a)
 
 module _ (given : Given) (before after : Infos) where
   abbrev of_sinks : List Event
@@ -123,15 +143,12 @@ module _ (given : Given) (before after : Infos) where
 
   -- the events about an object are those of each facility about it, joined
   in_parts : (f : Facility) (i : ℕ) → about f i (events_between given before after) ≡ about f i of_sinks ++ about f i of_inputs ++ about f i of_clients ++ about f i of_server
-  in_parts f i =
-      filter-append (is_about f i) of_sinks (of_inputs ++ of_clients ++ of_server)
-      ∙ ap (λ (rest : List Event). about f i of_sinks ++ rest)
-        (filter-append (is_about f i) of_inputs (of_clients ++ of_server)
-        ∙ ap (λ (rest : List Event). about f i of_inputs ++ rest) (filter-append (is_about f i) of_clients of_server))
+  in_parts f i = parts (is_about f i) of_sinks of_inputs of_clients of_server
 
   only : (f : Facility) (i : ℕ) (a b c d : List Event) → about f i of_sinks ≡ a → about f i of_inputs ≡ b → about f i of_clients ≡ c → about f i of_server ≡ d
       → about f i (events_between given before after) ≡ a ++ b ++ c ++ d
-  only f i a b c d p q r s = in_parts f i ∙ rw (p, q, r, s) refl
+  only f i a b c d p q r s =
+      in_parts f i ∙ joined_four (about f i of_sinks) a (about f i of_inputs) b (about f i of_clients) c (about f i of_server) d p q r s
 
   not_server : (f : Facility) (i : ℕ) → nat_eq (facility_code Server) (facility_code f) ≡ false → about f i of_server ≡ []
   not_server f i apart =
@@ -150,18 +167,18 @@ module _ (given : Given) (before after : Infos) where
   tell_what_became = record {
     sinks = λ i l.
         only Sink i (events_at Sink (with_sink []) before.sinks after.sinks i) [] [] []
-        (each Sink (with_sink []) before.sinks after.sinks i 0 given.sinks (omega arith) l) (no_input Sink i refl) (no_client Sink i refl) (not_server Sink i refl)
-        ∙ append-nil (events_at Sink (with_sink []) before.sinks after.sinks i);
+        (each Sink (with_sink []) before.sinks after.sinks i 0 given.sinks (omega arith) (omega (arith, l))) (no_input Sink i refl) (no_client Sink i refl) (not_server Sink i refl)
+        ∙ first_alone (events_at Sink (with_sink []) before.sinks after.sinks i);
     inputs = λ i l.
         only Input i [] (events_at Input (with_input []) before.inputs after.inputs i) [] []
-        (no_sink Input i refl) (each Input (with_input []) before.inputs after.inputs i 0 given.inputs (omega arith) l) (no_client Input i refl) (not_server Input i refl)
-        ∙ append-nil (events_at Input (with_input []) before.inputs after.inputs i);
+        (no_sink Input i refl) (each Input (with_input []) before.inputs after.inputs i 0 given.inputs (omega arith) (omega (arith, l))) (no_client Input i refl) (not_server Input i refl)
+        ∙ second_alone (events_at Input (with_input []) before.inputs after.inputs i);
     clients = λ i l.
         only Client i [] [] (events_at Client (with_client []) before.clients after.clients i) []
-        (no_sink Client i refl) (no_input Client i refl) (each Client (with_client []) before.clients after.clients i 0 given.clients (omega arith) l) (not_server Client i refl)
-        ∙ append-nil (events_at Client (with_client []) before.clients after.clients i);
+        (no_sink Client i refl) (no_input Client i refl) (each Client (with_client []) before.clients after.clients i 0 given.clients (omega arith) (omega (arith, l))) (not_server Client i refl)
+        ∙ third_alone (events_at Client (with_client []) before.clients after.clients i);
     server = only Server NO_INDEX [] [] [] of_server (no_sink Server NO_INDEX refl) (no_input Server NO_INDEX refl) (no_client Server NO_INDEX refl)
-        (own Server NO_INDEX (became (server_reply 0) before.server after.server) (both true (nat_eq NO_INDEX NO_INDEX) refl (same_number NO_INDEX)));
+        (own Server NO_INDEX (became (server_reply 0) before.server after.server));
   }
 
 -- ---- between a moment and itself
@@ -179,6 +196,9 @@ none_of f told infos (i ∷ is) = ap (λ (first : List Event). first ++ flat_map
 
 pub none_between : (given : Given) (infos : Infos) → events_between given infos infos ≡ []
 none_between given infos =
-    rw (none_of Sink (with_sink []) infos.sinks (range_with_len 0 given.sinks), none_of Input (with_input []) infos.inputs (range_with_len 0 given.inputs),
-        none_of Client (with_client []) infos.clients (range_with_len 0 given.clients))
+    joined_four
+    (events_of Sink (with_sink []) infos.sinks infos.sinks given.sinks) [] (events_of Input (with_input []) infos.inputs infos.inputs given.inputs) []
+    (events_of Client (with_client []) infos.clients infos.clients given.clients) [] (server_events infos infos) []
+    (none_of Sink (with_sink []) infos.sinks (range_with_len 0 given.sinks)) (none_of Input (with_input []) infos.inputs (range_with_len 0 given.inputs))
+    (none_of Client (with_client []) infos.clients (range_with_len 0 given.clients))
     (ap (λ o. option_to_list (option_map (event Server NO_INDEX) o)) (nothing_became (server_reply 0) infos.server))

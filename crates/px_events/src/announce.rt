@@ -18,12 +18,7 @@ pub struct Subscriber {
 }
 
 // One more subscriber is told, where it hears of the event.
-fn tell_one(
-    alloc: Global,
-    sendings: &mut Vec<Sending>,
-    one: &Subscriber,
-    event: Event,
-) -> Mem<()>
+fn tell_one(alloc: Global, sendings: &mut Vec<Sending>, one: &Subscriber, event: Event) -> Mem<()>
     ensures { OnOk result ((more : List Subscriber) → sendings.new.items ++ announced more event ≡ sendings.old.items ++ announced (one.now ∷ more) event) }
 {
     if hears(one.mask, event.facility) {

@@ -36,6 +36,7 @@ const EVENTS: [Event; 2] = [
 const CAME: [u8; 20] = [
     0x4C, 0, 0, 0, 0x42, 0x4C, 0xFF, 0xFF, 0xFF, 0xFF, 0x4C, 0, 0, 0, 5, 0x4C, 0, 0, 0, 1,
 ];
+
 const WENT: [u8; 20] = [
     0x4C, 0, 0, 0, 0x42, 0x4C, 0xFF, 0xFF, 0xFF, 0xFF, 0x4C, 0, 0, 0, 0x25, 0x4C, 0, 0, 0, 1,
 ];
@@ -49,11 +50,13 @@ fn is(sending: &Sending, told: &(u32, [u8; 20])) -> bool {
 
 fn told(alloc: Global) -> Mem<bool> {
     let sendings = announce_all(alloc, &SUBSCRIBERS, &EVENTS)?;
-    Ok(sendings.len() == 4
-        && sendings
-            .iter()
-            .zip(TOLD.iter())
-            .all(|(sending, told)| is(sending, told)))
+    Ok(
+        sendings.len() == 4
+            && sendings
+                .iter()
+                .zip(TOLD.iter())
+                .all(|(sending, told)| is(sending, told)),
+    )
 }
 
 #[test]
