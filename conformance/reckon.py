@@ -5,6 +5,8 @@
   conformance/reckon.py --dice NUMBER TURNS > SESSION.session     a long session of three streams, thrown with dice
   conformance/reckon.py --life NUMBER TURNS > SESSION.session     the same, with prebuffering and all commands of a stream's life
   conformance/reckon.py --formats NUMBER FORMAT > SESSION.session     streams of every format to a sink of this one, with dice
+  conformance/reckon.py --sinks NUMBER TURNS > SESSION.session    streams of two clients on three sinks, with dice
+  conformance/reckon.py --full > SESSION.session                  as many sinks as there can be, with as many streams in all
 
 It keeps each sample that was ever written in a map from index to sample, and mixes each frame anew. It knows volumes and mutes,
 the commands of a stream's life, names and property lists of clients and streams, the infos of sinks, inputs and clients, and only sessions that are played to their end and ask for nothing that is refused but by ACCESS, BADSTATE,
@@ -45,8 +47,8 @@ def usec(value):
 class Stream:
     """A stream on its sink. Indices count frames; `held` has the numbers of each index that was written."""
 
-    def __init__(self, owner, number, spec, feed, lengths, corked):
-        self.owner, self.number, self.spec, self.feed, self.corked = owner, number, spec, feed, corked
+    def __init__(self, owner, number, sink, spec, feed, lengths, corked):
+        self.owner, self.number, self.sink, self.spec, self.feed, self.corked = owner, number, sink, spec, feed, corked
         self.size = wire.frame_size(spec)
         self.maxlength, self.tlength, self.prebuf, self.minreq = lengths
         self.read = self.write = 0
@@ -119,8 +121,9 @@ class Stream:
 
 
 class Sink:
-    def __init__(self, spec):
-        self.spec = spec
+    def __init__(self, number, spec):
+        self.number, self.spec = number, spec
+        self.group = volumes.Group(spec.spec[1])
         self.consumed = self.filled = self.horizon = 0
         self.frames = []  # from frame 0 on
         self.inputs = {}
@@ -213,8 +216,8 @@ class Server:
     """Plays a session; `said` is the output."""
 
     def __init__(self, cookie, sinks):
-        self.cookie, self.sink = cookie, Sink(sinks[0])
-        self.group = volumes.Group(sinks[0].spec[1])
+        self.cookie, self.sinks = cookie, [Sink(*it) for it in enumerate(sinks)]
+        self.fallback = self.sinks[0]  # the default sink
         self.clients, self.inputs = {}, {}
         self.waiting = []  # (input, command, tag, time), in the order in which they were asked
         self.client_count = self.input_count = 0
@@ -242,14 +245,15 @@ class Server:
     def drop(self, number):
         """An input ends; what waited of it."""
         self.inputs[number].leaving = True
-        self.sink.waiting.append(("gone", number, None))
+        self.inputs[number].sink.waiting.append(("gone", number, None))
         waited = [it for it in self.waiting if it[0] == number]
         self.waiting = [it for it in self.waiting if it[0] != number]
         return waited
 
-    def regroup(self):
-        """The sink is told the factors of all inputs that don't end."""
-        self.sink.waiting.append(("factors", None, {n: self.group.factors(n) for n in sorted(self.inputs) if not self.inputs[n].leaving}))
+    def regroup(self, sink):
+        """The sink is told the factors of all inputs on it that don't end."""
+        there = [number for number in sorted(self.inputs) if self.inputs[number].sink is sink and not self.inputs[number].leaving]
+        sink.waiting.append(("factors", None, {number: sink.group.factors(number) for number in there}))
 
     def answer(self, number, command, tag):
         """The first request of a kind and a tag that waits of an input waits no more."""
@@ -275,19 +279,19 @@ class Server:
         elif kind == 4:
             self.end(event[1], 4)
         elif kind == 5:
-            played = self.sink.turn(event[2], event[3])
+            played = self.sinks[event[1]].turn(event[2], event[3])
             if played:
-                self.said += b"\3\0" + len(played).to_bytes(4, "big") + b"".join(played)
+                self.said += bytes([3, event[1]]) + len(played).to_bytes(4, "big") + b"".join(played)
         elif kind == 6:
             for _ in range(event[3]):
-                self.notice(*self.sink.notices.pop(0))
+                self.notice(*self.sinks[event[1]].notices.pop(0))
 
     def notice(self, number, word, frames):
         stream = self.inputs[number]
         if word == "detached":
             del self.inputs[number]
-            self.group.detach(number)
-            self.regroup()
+            stream.sink.group.detach(number)
+            self.regroup(stream.sink)
         elif stream.leaving:
             pass
         elif word == "drained":
@@ -296,7 +300,7 @@ class Server:
         elif word == "latency":
             tag, buffered, plays, then = frames
             time = self.answer(number, "latency", tag)[3]
-            size, rate = stream.size, self.sink.spec.spec[2]
+            size, rate = stream.size, stream.sink.spec.spec[2]
             fields = usec(buffered * 1_000_000 // rate) + usec(0) + wire.flag(plays) + wire.time(time) * 2
             fields += eight(b"r", then.write * size) + eight(b"r", then.read * size)
             self.send(stream.owner, 2, tag, fields + eight(b"R", then.quiet * then.run * size) + eight(b"R", (not then.quiet) * then.run * size))
@@ -329,7 +333,7 @@ class Server:
         if len(payload) % stream.size or head.offset % stream.size:
             return
         frames = samples.frames_of(stream.spec[0], stream.spec[1], payload)
-        self.sink.waiting.append(("write", number, (head.flags & 0xFF, head.offset // stream.size, frames)))
+        stream.sink.waiting.append(("write", number, (head.flags & 0xFF, head.offset // stream.size, frames)))
 
     def packet(self, conn, packet):
         client, read = self.clients[conn], read_packet(packet)
@@ -371,8 +375,8 @@ class Server:
         prebuf = most if asked["prebuf"] == WORD else min(-(-asked["prebuf"] // size) * size, most)
         return [maxlength, tlength, prebuf, minreq], [length // size for length in (maxlength, tlength, prebuf, minreq)]
 
-    def latency(self):
-        return usec(self.sink.spec.depth * 1_000_000 // self.sink.spec.spec[2])
+    def latency(self, sink):
+        return usec(sink.spec.depth * 1_000_000 // sink.spec.spec[2])
 
     def cannot_be(self, spec, positions, volume):
         """What a stream asks for can't be."""
@@ -385,9 +389,13 @@ class Server:
 
     def do_create(self, conn, tag, values):
         asked = dict(zip((name for name, _, _ in COMMANDS["create"][1]), values))
-        sink, (code, channels, rate), positions = self.sink.spec, values[0], list(asked["map"])
-        if self.cannot_be(values[0], positions, asked["volume"]):
+        (code, channels, rate), positions = values[0], list(asked["map"])
+        clear, place = self.named(asked["index"], asked["sink"], fallback=True)
+        if self.cannot_be(values[0], positions, asked["volume"]) or not clear:
             return self.error(conn, tag, 3)
+        if place is None:
+            return self.error(conn, tag, 5)
+        sink = place.spec
         code = sink.spec[0] if asked["fix_format"] else code
         rate = sink.spec[2] if asked["fix_rate"] else rate
         if asked["fix_channels"]:
@@ -395,24 +403,25 @@ class Server:
         feed = samples.plan(positions, list(sink.positions), asked["no_remap"], asked["no_remix"])
         if code in (5, 6) or asked["variable_rate"] or rate != sink.spec[2] or feed is None:
             return self.error(conn, tag, 19)
-        if sum(not stream.leaving for stream in self.inputs.values()) >= 256:
+        going = [stream for stream in self.inputs.values() if not stream.leaving]
+        if sum(stream.sink is place for stream in going) >= 256 or len(going) >= 1024:
             return self.error(conn, tag, 18)
         spec = (code, channels, rate)
         lengths, frames = self.repaired(spec, asked)
         client, number = self.clients[conn], self.input_count
-        stream = Stream(conn, client.made, spec, feed, frames, asked["corked"])
+        stream = Stream(conn, client.made, place, spec, feed, frames, asked["corked"])
         self.inputs[number], client.streams[client.made] = stream, number
         stream.client, stream.positions, stream.properties = client.number, positions, infos.listed(values[-1])
         numbers = [client.made, number, lengths[1], *lengths]
         self.input_count += 1
         client.made += 1
         volume = list(asked["volume"])
-        self.group.attach(number, volume if len(volume) in (1, channels) else [max(volume)], asked["muted"], feed)
-        stream.factors = self.group.factors(number)
-        self.sink.waiting.append(("new", number, stream))
-        self.regroup()
+        place.group.attach(number, volume if len(volume) in (1, channels) else [max(volume)], asked["muted"], feed)
+        stream.factors = place.group.factors(number)
+        place.waiting.append(("new", number, stream))
+        self.regroup(place)
         fields = b"".join(map(wire.number, numbers)) + wire.spec(spec) + wire.channel_map(positions)
-        fields += wire.number(0) + wire.text(sink.name) + wire.flag(False) + self.latency()
+        fields += wire.number(place.number) + wire.text(sink.name) + wire.flag(False) + self.latency(place)
         return self.send(conn, 2, tag, fields)
 
     def do_stream(self, conn, tag, word, values):
@@ -427,55 +436,89 @@ class Server:
         elif word == "attributes":
             asked = dict(zip((name for name, _, _ in COMMANDS[word][1]), values))
             lengths, more = self.repaired(self.inputs[number].spec, asked)
-            reply = b"".join(map(wire.number, lengths)) + self.latency()
+            reply = b"".join(map(wire.number, lengths)) + self.latency(self.inputs[number].sink)
         elif word == "cork":
             more = values[1]
-        self.sink.waiting.append((told, number, more))
+        self.inputs[number].sink.waiting.append((told, number, more))
         return None if reply is None else self.send(conn, 2, tag, reply)
 
-    def set_volume(self, conn, tag, there, channels, volume, set_it):
-        """A volume of what has so many channels: one for all of them, or one each."""
+    def sink_called(self, name):
+        """The sink of a name, or None."""
+        if name == b"@DEFAULT_SINK@":
+            return self.fallback
+        return next((sink for sink in self.sinks if sink.spec.name == name), None)
+
+    def named(self, index, name, fallback=False):
+        """Whether an index and a name together name one sink, and that sink, or None; the default sink may stand for neither."""
+        if index == NONE and name is None:
+            return fallback, self.fallback
+        if index != NONE and name is not None:
+            return False, None
+        return True, self.sinks[index] if index < len(self.sinks) else self.sink_called(name)
+
+    def going(self, number):
+        """The stream of an input that is there and hasn't ended, or None."""
+        stream = self.inputs.get(number)
+        return None if stream is None or stream.leaving else stream
+
+    def set_volume(self, conn, tag, sink, channels, volume, set_it):
+        """A volume, on a sink that is there, of what has so many channels: one for all of them, or one each."""
         if not volume or max(volume) > 0x7FFFFFFF:
             return self.error(conn, tag, 3)
-        if not there:
+        if sink is None:
             return self.error(conn, tag, 5)
         if len(volume) not in (1, channels):
             return self.error(conn, tag, 3)
         set_it(volume)
-        self.regroup()
+        self.regroup(sink)
         return self.send(conn, 2, tag)
 
-    def is_named(self, index, name):
-        """Whether an index and a name together name one sink, and whether it is the one that is there."""
-        clear = (index == NONE) != (name is None)
-        return clear, index == 0 if name is None else name in (self.sink.spec.name, b"@DEFAULT_SINK@")
-
     def do_sink_volume(self, conn, tag, values):
-        clear, there = self.is_named(*values[:2])
+        clear, sink = self.named(*values[:2])
         if not clear:
             return self.error(conn, tag, 3)
-        return self.set_volume(conn, tag, there, self.sink.spec.spec[1], list(values[2]), self.group.set_sink)
+        channels = sink and sink.spec.spec[1]
+        return self.set_volume(conn, tag, sink, channels, list(values[2]), lambda volume: sink.group.set_sink(volume))
 
     def do_volume(self, conn, tag, values):
-        number = values[0]
-        there = number in self.inputs and not self.inputs[number].leaving
-        channels = self.inputs[number].spec[1] if there else 0
-        return self.set_volume(conn, tag, there, channels, list(values[1]), lambda volume: self.group.set_input(number, volume))
+        stream = self.going(values[0])
+        sink, channels = (stream.sink, stream.spec[1]) if stream else (None, 0)
+        return self.set_volume(conn, tag, sink, channels, list(values[1]), lambda volume: sink.group.set_input(values[0], volume))
 
-    def mute(self, conn, tag, there, what, on):
-        if not there:
-            return self.error(conn, tag, 5)
+    def mute(self, conn, tag, sink, what, on):
         what.muted = on
-        self.regroup()
+        self.regroup(sink)
         return self.send(conn, 2, tag)
 
     def do_sink_mute(self, conn, tag, values):
-        clear, there = self.is_named(*values[:2])
-        return self.mute(conn, tag, there, self.group, values[2]) if clear else self.error(conn, tag, 3)
+        clear, sink = self.named(*values[:2])
+        if not clear or sink is None:
+            return self.error(conn, tag, 5 if clear else 3)
+        return self.mute(conn, tag, sink, sink.group, values[2])
 
     def do_mute(self, conn, tag, values):
-        there = values[0] in self.inputs and not self.inputs[values[0]].leaving
-        return self.mute(conn, tag, there, self.group.members.get(values[0]), values[1])
+        stream = self.going(values[0])
+        if stream is None:
+            return self.error(conn, tag, 5)
+        return self.mute(conn, tag, stream.sink, stream.sink.group.members[values[0]], values[1])
+
+    def do_lookup_sink(self, conn, tag, values):
+        sink = self.sink_called(values[0])
+        if sink is None:
+            return self.error(conn, tag, 3 if values[0] is None else 5)
+        return self.send(conn, 2, tag, wire.number(sink.number))
+
+    def do_default_sink(self, conn, tag, values):
+        sink = self.sink_called(values[0])
+        if sink is None:
+            return self.error(conn, tag, 3 if values[0] is None else 5)
+        self.fallback = sink
+        return self.send(conn, 2, tag)
+
+    def do_server_info(self, conn, tag, values):
+        sink = self.fallback.spec
+        fields = b"".join(map(wire.text, (b"pulse_rw", b"1", b"pulse", b"localhost"))) + wire.spec(sink.spec)
+        return self.send(conn, 2, tag, fields + wire.text(sink.name) + wire.text(None) + wire.number(0))
 
     def tell(self, conn, tag, there, info):
         """What is told of what is there."""
@@ -643,26 +686,96 @@ def thrown_formats(number, word):
     return "".join(line_of(line.split()) if line.startswith("data") else line + "\n" for line in [*lines, "end"])
 
 
+SINKS = ("out s16le 1 48000 map 0 guard 10 depth 100", "wide s32be 2 48000 map 1,2 guard 0 depth 60", "low u8 1 8000 map 0 guard 40 depth 40")
+PLACED = (  # a stream's owner, its sink, and how it is asked for
+    (1, 0, "s16le 1 48000 map 0"), (1, 1, "s16le 2 48000 map 2,1 sink wide"), (1, 2, "u8 1 8000 map 0 index 2"),
+    (2, 0, "s16le 1 48000 map 0 index 0"), (2, 1, "s16le 1 48000 map 0 index 1"), (2, 2, "s16le 1 8000 map 0 sink low"),
+)
+
+
+def thrown_sinks(number, turns):
+    """Two clients with a stream each on each of three sinks, which take turns of any length in any order."""
+    dice = random.Random(number)
+    lines = [*(f"sink {sink}" for sink in SINKS), "connect 1", "auth 1 tag 0 version 13", "connect 2", "auth 2 tag 0 version 13"]
+    lines += [f"create {conn} {asked} maxlength 1000 tlength 400 prebuf {dice.choice((0, 40))} minreq 20" for conn, _, asked in PLACED]
+    waiting = [4, 4, 4]
+    for _ in range(turns):
+        for _ in range(dice.randrange(5)):
+            at = dice.randrange(len(PLACED))
+            conn, sink, asked = PLACED[at]
+            waiting[sink] += 1
+            word = dice.choice(("data",) * 8 + ("cork", "flush", "drain", "volume", "sink-volume"))
+            if word == "data":
+                most = 128 if asked.startswith("u8") else 1000
+                each = ["/".join(str(dice.randrange(-most, most)) for _ in range(int(asked.split()[1]))) for _ in range(dice.randrange(1, 60))]
+                lines.append(f"data {conn} stream {at % 3} {' '.join(each)}")
+            elif word == "volume":
+                lines.append(f"volume {conn} input {at} volume {dice.choice((0, 32768, 65536, 80000))}")
+            elif word == "sink-volume":
+                named = (f"index {sink}", f"sink {SINKS[sink].split()[0]}")
+                lines.append(f"sink-volume {conn} {dice.choice(named)} volume {dice.choice((32768, 65536))}")
+            else:
+                lines.append(f"{word} {conn} stream {at % 3}{dice.choice((' on', ' off', ' off')) if word == 'cork' else ''}")
+        sink = dice.randrange(3)
+        take = dice.randrange(waiting[sink] + 1)
+        waiting[sink] -= take
+        frames = dice.randrange(40) if f"turn {SINKS[sink].split()[0]} " in "\n".join(lines) else 0
+        lines.append(f"turn {SINKS[sink].split()[0]} {frames} take {take}")
+    said = [f"# Thrown with the dice of {number}: six streams on three sinks, {turns} turns. Its output is conformance/reckon.py's.", ""]
+    return "\n".join([*said, *lines[:3], "", *collected(lines, dice), "end", ""])
+
+
+def full():
+    """16 sinks with 64 streams each, four for each of 16 clients: as many as there can be in all."""
+    formats = [wire.format_word(code) for code in (3, 4, 7, 8, 9, 10, 11, 12, 0)]
+    lines = ["# 16 sinks with 64 streams each. No sink takes another stream, though each has had 64 and not 256, until one of them all has ended."]
+    lines += [f"sink s{at} {formats[at % 9]} {1 + at % 2} 48000 map {'1,2' if at % 2 else '0'} guard 0 depth {4 + at}" for at in range(16)]
+    create = "create {} tag {} s16le 1 48000 map 0 index {} prebuf 0 tlength 400 minreq 400"
+    for conn in range(1, 17):
+        lines += [f"connect {conn}", f"auth {conn} tag 0 version 13"]
+        lines += [create.format(conn, stream + 1, (conn + stream) % 16) for stream in range(64)]
+    lines += [create.format(1, tag, sink) for tag, sink in ((65, 0), (66, 15), (67, 16))]
+    lines += ["create 1 tag 68 s16le 1 44100 map 0 index 0 prebuf 0", "create 1 tag 69 s16le 0 48000 map 0 index 0 prebuf 0"]
+    lines += ["delete 1 tag 70 stream 0", create.format(2, 65, 9), create.format(3, 65, 9)]
+    lines += [f"data {conn} stream {stream} {8 * (conn + stream)}x2" for conn in range(1, 17) for stream in range(64) if conn > 1 or stream]
+    # a new stream, its factors and its data; the one that has ended is told of too, and the last one has no data
+    lines += [f"turn s{at} 0 take {3 * 64 + {1: 0, 9: 2}.get(at, 0)}" for at in range(16)]
+    lines += [f"turn s{at} 2 take 0" for at in range(16)]
+    lines += [f"collect s{at} take {64}" for at in range(16)]
+    lines += [f"close {conn}" for conn in range(1, 17)]
+    lines += [f"turn s{at} 2 take {63 + {1: 1, 9: 2}.get(at, 1)}" for at in range(16)]
+    return "\n".join([*lines, "end", ""])
+
+
 def collected(lines, dice):
     """The events of these lines, with some of the notices collected behind each turn."""
     cookie, sinks, events = read_session(make("\n".join([*lines, "end", ""])))
     server = Server(cookie, sinks)
-    for line, event in zip(lines[1:], events):
+    for line, event in zip(lines[len(sinks) :], events):
         yield line
         server.event(event)
         if event[0] == 5:
-            count = dice.randrange(len(server.sink.notices) + 1)
-            server.event((6, 0, 0, count))
-            yield f"collect out take {count}"
+            count = dice.randrange(len(server.sinks[event[1]].notices) + 1)
+            server.event((6, event[1], None, count))
+            yield f"collect {sinks[event[1]].name.decode()} take {count}"
+
+
+THROWS = {"--dice": thrown, "--life": thrown_life, "--sinks": thrown_sinks}
+
+
+def thrown_by(words):
+    """The session that the words ask for, or None where they ask for none."""
+    if len(words) == 3 and words[0] in THROWS:
+        return THROWS[words[0]](int(words[1]), int(words[2]))
+    if len(words) == 3 and words[0] == "--formats":
+        return thrown_formats(int(words[1]), words[2])
+    return full() if words == ["--full"] else None
 
 
 def main(words):
-    if len(words) == 3 and words[0] in ("--dice", "--life"):
-        throw = thrown if words[0] == "--dice" else thrown_life
-        sys.stdout.write(throw(int(words[1]), int(words[2])))
-        return 0
-    if len(words) == 3 and words[0] == "--formats":
-        sys.stdout.write(thrown_formats(int(words[1]), words[2]))
+    session = thrown_by(words)
+    if session is not None:
+        sys.stdout.write(session)
         return 0
     if len(words) != 1:
         print(__doc__, file=sys.stderr)

@@ -36,7 +36,6 @@ pub begins_more : (bytes : List ℕ) (header : Header) (events : List Event) (he
 begins_more bytes header events here behind b = record {
   start = more b.start behind;
   head = header_more (start_of bytes) header b.start behind b.head;
-  built = b.built;
   lead = lead_more events b.start here behind b.lead;
   admitted = b.admitted;
 }
@@ -51,7 +50,6 @@ pub begins_next : (bytes : List ℕ) (header : Header) (events : List Event) (he
 begins_next bytes header events here after e b read admits = record {
   start = b.start;
   head = b.head;
-  built = b.built;
   lead = lead_next events e b.start here after b.lead read;
   admitted = admitted-push (new_world header) events e b.admitted admits;
 }
@@ -61,7 +59,6 @@ begins_next bytes header events here after e b read admits = record {
 pub ends_played : (bytes : List ℕ) (header : Header) (events : List Event) (here after : Place) → Begins bytes header events here → event_at here ≡ Ok (step.End, after) → IsPlayed bytes header events
 ends_played bytes header events here after b read = record {
   session = (b.start, b.head, subst (λ (es : List Event). Stand es Ended b.start) (append-nil events) (lead_stand events [] Ended b.start here b.lead (after, read)));
-  built = b.built;
   admitted = b.admitted;
 }
 
@@ -78,7 +75,6 @@ early_or_late cause.Endless = inr (λ e. cc)
 early_or_late cause.Trailing = inr (λ e. cc)
 early_or_late (cause.Kind kind) = inr (λ e. cc)
 early_or_late (cause.TooLong size) = inr (λ e. cc)
-early_or_late cause.NotBuilt = inr (λ e. cc)
 
 nothing_more : (place : Place) → more place [] ≡ place
 nothing_more place = ap (λ (bytes : List ℕ). record { at = place.at; rest = bytes }) (append-nil place.rest)

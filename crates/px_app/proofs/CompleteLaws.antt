@@ -20,7 +20,6 @@ use Rattle.px_world.specs.Admission.{refusal_of}
 use Rattle.px_world.specs.Output.{world_by, AreAdmitted}
 use Rattle.px_world.proofs.Runs.{admitted-split}
 use Rattle.px_app.specs.declared.refusal.Refusal.{Refusal}
-use Rattle.px_app.specs.Built.{IsBuilt}
 use Rattle.px_app.specs.Session.{IsPlayed, Begins, NoneBegins, StopsHere, IsRefused}
 use Rattle.px_app.specs.declared.ending.Ending.{Ending}
 use Rattle.px_app.specs.declared.ending.Ending.TheVariants as ending
@@ -73,10 +72,7 @@ pub headers_are : (g h : Header) (a b : Place) → (let x : Header × Place = (g
 headers_are g h a b same = (ap (λ (z : Header × Place). z.0) same, ap (λ (z : Header × Place). z.1) same)
 
 begins_none : (bytes : List ℕ) (header : Header) (events : List Event) (refusal : Refusal) → IsPlayed bytes header events → NoneBegins bytes refusal → ⊥
-begins_none bytes header events refusal p (inl none) = not_both (header_at (start_of bytes)) (header, p.session.0) none.0 p.session.1 none.1
-begins_none bytes header events refusal p (inr other) =
-    let same = headers_are header other.0 p.session.0 other.1 (same_answer (header_at (start_of bytes)) (header, p.session.0) (other.0, other.1) p.session.1 other.2) in
-    other.3 (subst IsBuilt same.0 p.built)
+begins_none bytes header events refusal p none = not_both (header_at (start_of bytes)) (header, p.session.0) none.0 p.session.1 none.1
 
 begins_same : (bytes : List ℕ) (header : Header) (events : List Event) (h : Header) (before : List Event) (here : Place) (refusal : Refusal) → IsPlayed bytes header events → Begins bytes h before here → StopsHere h before here refusal → ⊥
 begins_same bytes header events h before here refusal p b stops =

@@ -1,5 +1,5 @@
 -- Each list of bytes is a session that is played, or is refused.
-use Rattle.std.proofs.Common.{◌≡◌, ◌⊎◌, inl, inr, ℕ, zero, suc, List, [], ◌∷◌, ◌++◌, length, Option, None, Some, Ok, refl}
+use Rattle.std.proofs.Common.{◌≡◌, ◌⊎◌, inl, inr, ℕ, List, [], ◌∷◌, ◌++◌, Option, None, Some, Ok, refl}
 use Rattle.px_session.specs.declared.header.Header.{Header}
 use Rattle.px_session.specs.declared.event.Event.{Event}
 use Rattle.px_session.specs.Place.{Place, start_of}
@@ -11,8 +11,7 @@ use Rattle.px_world.specs.World.{new_world}
 use Rattle.px_world.specs.Admission.{refusal_of}
 use Rattle.px_world.specs.Output.{world_by, records_by}
 use Rattle.px_app.specs.declared.refusal.Refusal.{Refusal}
-use Rattle.px_app.specs.Refusal.{of_bytes, not_built, of_event}
-use Rattle.px_app.specs.Built.{IsBuilt}
+use Rattle.px_app.specs.Refusal.{of_bytes, of_event}
 use Rattle.px_app.specs.Session.{IsPlayed, Begins, IsRefused}
 use Rattle.px_app.proofs.BeginLaws.{begins_next, ends_played}
 
@@ -21,13 +20,6 @@ IsPlayedSo bytes = (header : Header) × (events : List Event) × IsPlayed bytes 
 
 abbrev IsRefusedSo : List ℕ → Type 0
 IsRefusedSo bytes = (refusal : Refusal) × (records : List ℕ) × IsRefused bytes refusal records
-
--- ---- built, or not
-
-one_or_not : (n : ℕ) → (n ≡ 1) ⊎ (n ≡ 1 → ⊥)
-one_or_not zero = inr (λ e. cc)
-one_or_not (suc zero) = inl refl
-one_or_not (suc (suc n)) = inr (λ e. cc)
 
 -- ---- event by event
 
@@ -41,13 +33,12 @@ module _ (bytes : List ℕ) (header : Header) where
       decided None is on = on is
       decided (Some fault) is on = inr (of_event here.at e fault, records_by (new_world header) before, inr (header, before, here, b, inr (e, s.0, fault, s.1, is, refl), refl))
 
-  from_header : (start : Place) (events : List Event) (ending : Ending) → header_at (start_of bytes) ≡ Ok (header, start) → Stand events ending start → IsBuilt header ⊎ (IsBuilt header → ⊥) → IsPlayedSo bytes ⊎ IsRefusedSo bytes
-  from_header start events ending head s (inl built) = goes [] events ending start (record { start = start; head = head; built = built; lead = refl; admitted = tt }) s
-  from_header start events ending head s (inr unbuilt) = inr (not_built, [], inl (inr (header, start, head, unbuilt, refl), refl))
+  from_header : (start : Place) (events : List Event) (ending : Ending) → header_at (start_of bytes) ≡ Ok (header, start) → Stand events ending start → IsPlayedSo bytes ⊎ IsRefusedSo bytes
+  from_header start events ending head s = goes [] events ending start (record { start = start; head = head; lead = refl; admitted = tt }) s
 
 by_session : (bytes : List ℕ) (s : Session) → IsSession bytes s → IsPlayedSo bytes ⊎ IsRefusedSo bytes
-by_session bytes (NoHeader f) is = inr (of_bytes f, [], inl (inl (f, is, refl), refl))
-by_session bytes (Events header events ending) is = from_header bytes header is.0 events ending is.1 is.2 (one_or_not (length header.sinks))
+by_session bytes (NoHeader f) is = inr (of_bytes f, [], inl ((f, is, refl), refl))
+by_session bytes (Events header events ending) is = from_header bytes header is.0 events ending is.1 is.2
 
 pub either : (bytes : List ℕ) → IsPlayedSo bytes ⊎ IsRefusedSo bytes
 either bytes = let s = some_reading bytes in by_session bytes s.0 s.1

@@ -17,7 +17,6 @@ use Rattle.px_world.specs.Event.{world_after}
 use Rattle.px_world.specs.Output.{world_by, records_by, AreAdmitted}
 use Rattle.px_app.specs.declared.refusal.Refusal.{Refusal}
 use Rattle.px_app.specs.declared.refusal.Why.TheVariants as why
-use Rattle.px_app.specs.Built.{IsBuilt}
 use Rattle.px_app.specs.Refusal.{of_bytes, of_event}
 use Rattle.px_app.specs.Session.{Begins, NoneBegins, StopsHere, StopsIn, IsRefused}
 use Rattle.px_app.proofs.CompleteLaws.{not_both, same_answer, event_is, none_no_some, headers_are}
@@ -58,15 +57,10 @@ leads_once w (x ∷ xs) (y ∷ ys) start a b r s la lb aa ab sa sb =
     (ap (λ (e : Event). e ∷ xs) same.0 ∙ ap (λ (es : List Event). y ∷ es) rest.0, rest.1)
 
 begins_no_none : (bytes : List ℕ) (header : Header) (events : List Event) (here : Place) (refusal : Refusal) → Begins bytes header events here → NoneBegins bytes refusal → ⊥
-begins_no_none bytes header events here refusal b (inl none) = not_both (header_at (start_of bytes)) (header, b.start) none.0 b.head none.1
-begins_no_none bytes header events here refusal b (inr other) =
-    other.3 (subst IsBuilt (headers_are header other.0 b.start other.1 (same_answer (header_at (start_of bytes)) (header, b.start) (other.0, other.1) b.head other.2)).0 b.built)
+begins_no_none bytes header events here refusal b none = not_both (header_at (start_of bytes)) (header, b.start) none.0 b.head none.1
 
 none_once : (bytes : List ℕ) (r s : Refusal) → NoneBegins bytes r → NoneBegins bytes s → r ≡ s
-none_once bytes r s (inl a) (inl b) = a.2 ∙ ap of_bytes (err_is a.0 b.0 (sym a.1 ∙ b.1)) ∙ sym b.2
-none_once bytes r s (inl a) (inr b) = absurd (not_both (header_at (start_of bytes)) (b.0, b.1) a.0 b.2 a.1)
-none_once bytes r s (inr a) (inl b) = absurd (not_both (header_at (start_of bytes)) (a.0, a.1) b.0 a.2 b.1)
-none_once bytes r s (inr a) (inr b) = a.4 ∙ sym b.4
+none_once bytes r s a b = a.2 ∙ ap of_bytes (err_is a.0 b.0 (sym a.1 ∙ b.1)) ∙ sym b.2
 
 abbrev SameRefusal : Refusal → Refusal → List ℕ → List ℕ → Type 0
 SameRefusal r s records others = (r ≡ s) × (records ≡ others)

@@ -31,11 +31,10 @@ use Rattle.px_app.specs.declared.refusal.Refusal.{Refusal}
 use Rattle.px_app.specs.declared.refusal.Why.TheVariants as why
 use Rattle.px_app.specs.declared.ending.Ending.{Ending}
 use Rattle.px_app.specs.declared.ending.Ending.TheVariants as ending
-use Rattle.px_app.specs.Refusal.{of_bytes, not_built, of_event}
-use Rattle.px_app.specs.Built.{IsBuilt}
+use Rattle.px_app.specs.Refusal.{of_bytes, of_event}
 use Rattle.px_app.specs.Session.{Begins}
 use Rattle.px_app.specs.Ends.{Ends, AreQuiet}
-use Rattle.px_app.specs.Replay.{WasRefused, PlayedFront, InputPlayed, InputCounted}
+use Rattle.px_app.specs.Replay.{PlayedFront, InputPlayed, InputCounted}
 use Rattle.px_app.specs.Step.{unread, Closes, EventCut, EventPlayed, Reached, Stepped}
 use Rattle.px_app.proofs.FrontLaws.{second_cut, whole_front, no_front}
 use Rattle.px_app.proofs.ReadLaws.{header_first}
@@ -82,7 +81,7 @@ new_reader = record { at = 0; ahead = []; begun = false }
 unread_first : (new : Reader) (e : ReadError) (before after : Ends) → Takes (Err e) new_reader new before.left after.left → after.held ≡ before.held → InputPlayed (unread e) before after
 unread_first new (error.Refused at c) before after t kept =
     was_refused t.taken (of_bytes (record { at = at; cause = c })) [] before after t.departed
-    (inl (inl (record { at = at; cause = c }, first_err (start_of t.taken) (record { at = at; cause = c }) t.stepped, refl), refl))
+    (inl ((record { at = at; cause = c }, first_err (start_of t.taken) (record { at = at; cause = c }) t.stepped, refl), refl))
     (ended_early at c after.left t.ended) (kept ∙ sym (adding_nothing before.held))
 unread_first new error.Failed before after t kept = nothing_played t.taken before after t.departed kept
 unread_first new error.NoMemory before after t kept = nothing_played t.taken before after t.departed kept
@@ -96,18 +95,8 @@ TookHeader old new h before after = Takes (Ok (step.Header h)) old new before af
 as_first : (old new : Reader) (h : Header) (before after : Option (List ℕ)) → IsNew old → TookHeader old new h before after → TookHeader new_reader new h before after
 as_first old new h before after is t = subst (λ (r : Reader). TookHeader r new h before after) is t
 
-pub new_unbuilt : (old new : Reader) (h : Header) (before after : Ends) → IsNew old → TookHeader old new h before.left after.left → (IsBuilt h → ⊥) → after.held ≡ before.held → WasRefused not_built before after
-new_unbuilt old new h before after is took unbuilt kept =
-    let t = as_first old new h before.left after.left is took in
-    was_refused t.taken not_built [] before after t.departed
-    (inl (inr (h, place_with new new.ahead, header_first (start_of t.taken) h (place_with new new.ahead) t.stepped.0, unbuilt, refl), refl))
-    (λ early. absurd (unearly (same_cause cause.NotBuilt cause.Truncated early))) (kept ∙ sym (adding_nothing before.held))
-  where
-    unearly : cause.NotBuilt ≡ cause.Truncated → ⊥
-    unearly e = cc
-
-pub new_reached : (old new : Reader) (h : Header) (world : Running) (before after : Ends) → IsNew old → TookHeader old new h before.left after.left → IsBuilt h → StandsFor world (new_world h) → after.held ≡ before.held → Reached (record { reader = new; world = world }) before after
-new_reached old new h world before after is took built stands kept =
+pub new_reached : (old new : Reader) (h : Header) (world : Running) (before after : Ends) → IsNew old → TookHeader old new h before.left after.left → StandsFor world (new_world h) → after.held ≡ before.held → Reached (record { reader = new; world = world }) before after
+new_reached old new h world before after is took stands kept =
     let t = as_first old new h before.left after.left is took in
     record {
       bytes = t.taken;
@@ -117,7 +106,6 @@ new_reached old new h world before after is took built stands kept =
       begins = record {
         start = place_with new new.ahead;
         head = header_first (start_of t.taken) h (place_with new new.ahead) t.stepped.0;
-        built = built;
         lead = refl;
         admitted = tt;
       };

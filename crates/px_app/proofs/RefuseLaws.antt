@@ -15,7 +15,7 @@ use Rattle.px_app.specs.Refusal.{of_bytes}
 use Rattle.px_app.specs.Session.{NoneBegins, StopsHere, IsRefused}
 use Rattle.px_app.specs.Ends.{Ends}
 use Rattle.px_app.specs.Replay.{WasRefused}
-use Rattle.px_app.proofs.BeginLaws.{header_more, event_more, begins_more, broken_more}
+use Rattle.px_app.proofs.BeginLaws.{event_more, begins_more, broken_more}
 
 abbrev pub IsEarly : Refusal → Type 0
 IsEarly refusal = refusal.why ≡ why.Session cause.Truncated
@@ -24,8 +24,7 @@ early_is : (refusal : Refusal) (broken : Broken) → refusal ≡ of_bytes broken
 early_is refusal broken is early = ap (λ (r : Refusal). r.why) is ∙ ap why.Session early
 
 none_more : (bytes : List ℕ) (refusal : Refusal) (behind : List ℕ) → NoneBegins bytes refusal → (IsEarly refusal → behind ≡ []) → NoneBegins (bytes ++ behind) refusal
-none_more bytes refusal behind (inl none) ends = inl (none.0, broken_more any header_at header_steady (start_of bytes) none.0 behind none.1 (λ early. ends (early_is refusal none.0 none.2 early)), none.2)
-none_more bytes refusal behind (inr other) ends = inr (other.0, more other.1 behind, header_more (start_of bytes) other.0 other.1 behind other.2, other.3, other.4)
+none_more bytes refusal behind none ends = (none.0, broken_more any header_at header_steady (start_of bytes) none.0 behind none.1 (λ early. ends (early_is refusal none.0 none.2 early)), none.2)
 
 stops_more : (header : Header) (before : List Event) (here : Place) (refusal : Refusal) (behind : List ℕ) → StopsHere header before here refusal → (IsEarly refusal → behind ≡ []) → StopsHere header before (more here behind) refusal
 stops_more header before here refusal behind (inl none) ends = inl (none.0, broken_more Closed event_at event_steady here none.0 behind none.1 (λ early. ends (early_is refusal none.0 none.2 early)), none.2)

@@ -1,6 +1,5 @@
 pub mod Ends
 pub mod Refusal
-pub mod Built
 pub mod Session
 pub mod Replay
 pub mod Ending

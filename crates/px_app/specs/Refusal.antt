@@ -1,7 +1,7 @@
 -- Why a recorded session is refused, and how the log says it.
 use Rattle.std.specs.Prelude.{ℕ, List, ◌++◌, codes, decimal}
 use Rattle.px_session.specs.declared.fault.Cause.{Cause}
-use Rattle.px_session.specs.declared.fault.Cause.TheVariants.{Magic, Header, Truncated, Endless, Trailing, Kind, TooLong, NotBuilt}
+use Rattle.px_session.specs.declared.fault.Cause.TheVariants.{Magic, Header, Truncated, Endless, Trailing, Kind, TooLong}
 use Rattle.px_session.specs.declared.event.Event.{Event}
 use Rattle.px_session.specs.declared.event.Event.TheVariants.{Connect, Bytes, Close, Cut, Turn, Collect}
 use Rattle.px_session.specs.Place.{Refusal as Broken}
@@ -16,10 +16,6 @@ use Rattle.px_app.specs.declared.refusal.Why.TheVariants as why
 -- the bytes break a rule of sessions
 abbrev pub of_bytes : Broken → Refusal
 of_bytes broken = record { at = broken.at; why = why.Session broken.cause }
-
--- the header is lawful, and names what isn't built
-abbrev pub not_built : Refusal
-not_built = record { at = 0; why = why.Session NotBuilt }
 
 -- the number that an event names, of a connection or of a sink
 abbrev pub number_of : Event → ℕ
@@ -44,7 +40,6 @@ cause_text Endless = codes "endless"
 cause_text Trailing = codes "trailing"
 cause_text (Kind kind) = codes "kind " ++ decimal kind
 cause_text (TooLong size) = codes "too long " ++ decimal size
-cause_text NotBuilt = codes "not built"
 
 -- a fault at the connection or the sink of this number
 abbrev pub fault_text : WorldFault → ℕ → List ℕ

@@ -42,7 +42,7 @@ pub record WasRefused (refusal : Refusal) (before after : Ends) : Type 0 where
   pub whole : WhereTold before.left (λ all. IsRefused all refusal records)
   pub gained : after.held ≡ after_adding before.held records
 
--- what bytes give: nothing before a header that is built, then the records of the events that were read, and with the end byte where the source has ended
+-- what bytes give: nothing before a header, then the records of the events that were read, and with the end byte where the source has ended
 abbrev pub Gives : List ℕ → Option (List ℕ) → List ℕ → Type 0
 Gives bytes left given =
     (given ≡ [])

@@ -13,28 +13,23 @@ use Rattle.px_world.specs.World.{World, new_world}
 use Rattle.px_world.specs.Admission.{refusal_of}
 use Rattle.px_world.specs.Output.{world_by, records_by, AreAdmitted}
 use Rattle.px_app.specs.declared.refusal.Refusal.{Refusal}
-use Rattle.px_app.specs.Refusal.{of_bytes, not_built, of_event}
-use Rattle.px_app.specs.Built.{IsBuilt}
+use Rattle.px_app.specs.Refusal.{of_bytes, of_event}
 
--- the bytes are a session to its end byte, its header is built, and the world admits its events
+-- the bytes are a session to its end byte, and the world admits its events
 pub record IsPlayed (bytes : List ℕ) (header : Header) (events : List Event) : Type 0 where
   pub session : IsSession bytes (Events header events Ended)
-  pub built : IsBuilt header
   pub admitted : AreAdmitted (new_world header) events
 
--- a header that is built stands first in the bytes, and then these events, which the world admits; the place behind them
+-- a header stands first in the bytes, and then these events, which the world admits; the place behind them
 pub record Begins (bytes : List ℕ) (header : Header) (events : List Event) (here : Place) : Type 0 where
   pub start : Place
   pub head : header_at (start_of bytes) ≡ Ok (header, start)
-  pub built : IsBuilt header
   pub lead : Lead events start here
   pub admitted : AreAdmitted (new_world header) events
 
--- no header stands first, or it is one that isn't built
+-- no header stands first
 abbrev pub NoneBegins : List ℕ → Refusal → Type 0
-NoneBegins bytes refusal =
-    ((broken : Broken) × (header_at (start_of bytes) ≡ Err broken) × (refusal ≡ of_bytes broken))
-    ⊎ ((header : Header) × (after : Place) × (header_at (start_of bytes) ≡ Ok (header, after)) × (¬ IsBuilt header) × (refusal ≡ not_built))
+NoneBegins bytes refusal = (broken : Broken) × (header_at (start_of bytes) ≡ Err broken) × (refusal ≡ of_bytes broken)
 
 -- no event stands here, or it is one that the world doesn't admit; then its kind byte is here
 abbrev pub StopsIn : World → Place → Refusal → Type 0

@@ -111,7 +111,7 @@ EventPlayed (Err ended) at w e world before now = EventEnds ended at w e before 
 
 -- ---- a replay
 
--- The bytes that were read so far begin with a header that is built and with events that were played: the reader stands behind them, the world is the one that they left, and the output gained their records.
+-- The bytes that were read so far begin with a header and with events that were played: the reader stands behind them, the world is the one that they left, and the output gained their records.
 pub record Reached (playing : Playing) (first now : Ends) : Type 0 where
   pub bytes : List ℕ
   pub header : Header

@@ -1,9 +1,8 @@
 //! A replay under way: the reader of the session, and the world that its events are played in.
 
-ghost use Rattle.std.specs.Prelude.{◌≡◌, ◌<◌, ◌≤◌, ◌^◌, ℕ, List, Option, true, IfOk, OnOk, IsTrue, ◌↔◌};
+ghost use Rattle.std.specs.Prelude.{◌≡◌, ◌<◌, ◌≤◌, ◌^◌, ℕ, List, Option, true, IfOk, OnOk};
 ghost use Rattle.px_world.specs.World.{World as SpecWorld};
 ghost use Rattle.px_world.specs.Running.{StandsFor};
-ghost use Rattle.px_app.specs.Built.{IsBuilt};
 ghost use Rattle.px_app.specs.Ends.{Ends, ends_of};
 ghost use Rattle.px_app.specs.Replay.{InputPlayed, InputCounted};
 ghost use Rattle.px_app.specs.Step.{turn_sink, barred, WriteCounts, EndCounts, Closes, EventPlayed, Reached, Begun, Stepped, Counts};
@@ -13,7 +12,7 @@ use crate::reading::{next_event, next_header, unread};
 use crate::records::write_outcome;
 use crate::refusal::{Refusal, Why, number_of};
 use px_ends::{Sink, Source};
-use px_session::{Cause, Event, Header, Reader, write_end};
+use px_session::{Event, Reader, write_end};
 use px_world::{World, WorldFault};
 use std::alloc::Global;
 
@@ -22,13 +21,6 @@ use std::alloc::Global;
 pub(crate) struct Playing {
     reader: Reader,
     world: World,
-}
-
-// Whether the header is one of those that are built.
-fn is_built(header: &Header) -> bool
-    ensures { IsTrue result ↔ IsBuilt header.now }
-{
-    header.sinks.as_slice().len() == 1
 }
 
 // The sink of a turn.
@@ -95,18 +87,10 @@ impl Playing {
             return Err(Ending::Memory);
         };
         match next_header(&mut reader, input) {
-            Ok(header) => {
-                if !is_built(&header) {
-                    return Err(Ending::Refused(Refusal {
-                        at: 0,
-                        why: Why::Session(Cause::NotBuilt),
-                    }));
-                }
-                match World::new(alloc, &header) {
-                    Ok(world) => Ok(Playing { reader, world }),
-                    Err(_) => Err(Ending::Memory),
-                }
-            }
+            Ok(header) => match World::new(alloc, &header) {
+                Ok(world) => Ok(Playing { reader, world }),
+                Err(_) => Err(Ending::Memory),
+            },
             Err(e) => Err(unread(e)),
         }
     }

@@ -10,7 +10,7 @@ use std::alloc::{AllocError, Global};
 /// Why a recorded session is refused. Own: PulseAudio records no sessions.
 #[derive(Clone, Copy, Debug, PartialEq, Eq)]
 pub enum Why {
-    /// Its bytes break a rule of sessions, or its header names what isn't built.
+    /// Its bytes break a rule of sessions.
     Session(Cause),
     /// An event names a state that the world hasn't.
     World {
@@ -52,7 +52,6 @@ fn cause_text(alloc: Global, cause: Cause) -> Result<String, AllocError>
         Cause::Trailing => format!(in alloc; "trailing"),
         Cause::Kind(kind) => format!(in alloc; "kind {kind}"),
         Cause::TooLong(size) => format!(in alloc; "too long {size}"),
-        Cause::NotBuilt => format!(in alloc; "not built"),
     }
 }
 

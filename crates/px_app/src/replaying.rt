@@ -31,8 +31,8 @@ pub enum View {
 /// writes to `output` a record for each effect and for the frames of each turn, in order, and then the end byte. A status other
 /// than `Ok` has its line in `log`; where that line can't be written, the status is `WriteFault`.
 ///
-/// `Refused` is the first rule of sessions that the bytes break, a header that isn't built, or the first event that names a
-/// state which the world hasn't; the log has the offset and the cause, and the output the records of the events before.
+/// `Refused` is the first rule of sessions that the bytes break, or the first event that names a state which the world
+/// hasn't; the log has the offset and the cause, and the output the records of the events before.
 /// After `Memory`, `ReadFault` and `WriteFault` the output gained a front of what the bytes that were read give.
 pub fn replay<S: Source, K: Sink, L: Sink>(
     alloc: Global,

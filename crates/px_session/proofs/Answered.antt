@@ -122,7 +122,6 @@ refused old taken left at cause.Endless e ends = refused_late old taken left at 
 refused old taken left at cause.Trailing e ends = refused_late old taken left at cause.Trailing (λ same. cc) e
 refused old taken left at (cause.Kind k) e ends = refused_late old taken left at (cause.Kind k) (λ same. cc) e
 refused old taken left at (cause.TooLong n) e ends = refused_late old taken left at (cause.TooLong n) (λ same. cc) e
-refused old taken left at cause.NotBuilt e ends = refused_late old taken left at cause.NotBuilt (λ same. cc) e
 
 stepped_on : (old new : Reader) (taken left : List ℕ) (r : Result Step ReadError) → Stepped r new new.ahead (step_at old.begun (place_with old (old.ahead ++ taken))) → EndsWith r (Some left) → Stepped r new (new.ahead ++ left) (step_at old.begun (place_with old (old.ahead ++ (taken ++ left))))
 stepped_on old new taken left (Ok s) stepped ends = given old new taken left s stepped ends

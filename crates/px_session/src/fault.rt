@@ -29,9 +29,6 @@ pub enum Cause {
     /// A Bytes event has this length, which is above 65,536. At its kind byte.
     #[error("too long {0}")]
     TooLong(u64),
-    /// The session is lawful, and the server can't play it yet. Given by the top call, never by a reader.
-    #[error("not built")]
-    NotBuilt,
 }
 
 /// Why a reader gives nothing more.

@@ -1,8 +1,7 @@
-use Rattle.std.proofs.Common.{[], refl, sym, ◌∙◌}
-use Rattle.std.proofs.lemmas.Bool.{false≢true}
+use Rattle.std.proofs.Common.{[], refl, sym}
 use Rattle.px_ends.proofs.ToldBytes.{taking_nothing}
 use Rattle.px_app.specs.Ends.{ends_of}
-use Rattle.px_app.proofs.PlayLaws.{nothing_played, new_unread, new_unbuilt, new_reached}
+use Rattle.px_app.proofs.PlayLaws.{nothing_played, new_unread, new_reached}
 use Rattle.px_app.proofs.EventPlayedLaws.{unread_counts}
 use Rattle.px_app.proofs.playing.Playing.new.Goals as goal
 
@@ -11,13 +10,6 @@ returns-in_default-clause-begun g c = λ held written.
     let left = g.S.Source.left c.args.input.now in
     let here = ends_of left (g.S.Source.faults c.args.input.now) held written in
     nothing_played [] here here (sym (taking_nothing left)) refl
-
-pub returns-then-not-is_built-clause-begun : goal.returns-then-not-is_built-clause-begun
-returns-then-not-is_built-clause-begun g c = λ held written.
-    new_unbuilt c.in-Ok.reader c.next_header.new.reader c.in-Ok-next_header.header
-    (ends_of (g.S.Source.left c.args.input.now) (g.S.Source.faults c.args.input.now) held written) (ends_of (g.S.Source.left c.next_header.new.input) (g.S.Source.faults c.next_header.new.input) held written)
-    c.in-Ok.ensures c.in-Ok-next_header.ensures.takes
-    (λ built. false≢true (sym c.if-not-is_built.true ∙ c.is_built.ensures.1 built)) refl
 
 pub returns-in-Err-new-clause-begun : goal.returns-in-Err-new-clause-begun
 returns-in-Err-new-clause-begun g c = λ held written.
@@ -40,5 +32,4 @@ pub returns-in-Ok-new-clause-begun : goal.returns-in-Ok-new-clause-begun
 returns-in-Ok-new-clause-begun g c = λ held written.
     new_reached c.in-Ok.reader c.next_header.new.reader c.in-Ok-next_header.header c.in-Ok-new.world
     (ends_of (g.S.Source.left c.args.input.now) (g.S.Source.faults c.args.input.now) held written) (ends_of (g.S.Source.left c.next_header.new.input) (g.S.Source.faults c.next_header.new.input) held written)
-    c.in-Ok.ensures c.in-Ok-next_header.ensures.takes
-    (c.is_built.ensures.0 c.if-not-is_built.false) c.in-Ok-new.ensures refl
+    c.in-Ok.ensures c.in-Ok-next_header.ensures.takes c.in-Ok-new.ensures refl
