@@ -1,11 +1,15 @@
 # What the scripts of bench/ share: sourced, with $top (the repository) and $work (a folder to write in) set.
 
+# Both programs are built for the processor level x86-64-v2, which has registers of 16 bytes. The C library picks its copies by the
+# processor instead, with wider ones. It is kept at that level, so that a loop which a compiler makes a copy is compared with a loop.
+level=glibc.cpu.hwcaps=-AVX,-AVX2,-AVX512F,-AVX512VL,-AVX_Fast_Unaligned_Load,-ERMS,-FSRM
+
 # The least time of five runs of a program with these words, in nanoseconds. It reads $input, and $work/says is what it prints.
 least() {
     best=
     for _ in 1 2 3 4 5; do
         from=$(date +%s%N)
-        "$@" <"${input:-/dev/null}" >"$work/says"
+        GLIBC_TUNABLES=$level "$@" <"${input:-/dev/null}" >"$work/says"
         took=$(($(date +%s%N) - from))
         if [ -z "$best" ] || [ "$took" -lt "$best" ]; then best=$took; fi
     done

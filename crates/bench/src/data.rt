@@ -30,9 +30,9 @@ const CREATE: &[u8] =
 const ON_IT: &[u8] =
     b"NL\xFF\xFF\xFF\xFF0L\xFF\xFF\xFF\xFFL\x00\x00\x00\x00L\xFF\xFF\xFF\xFFL\x00\x00\x00\x00v\x01\x00\x01\x00\x00000000000PN";
 
-// A parcel that is a sample spec and nothing else.
+/// A parcel that is a sample spec and nothing else.
 #[derive(Drop)]
-struct Stub {
+pub(crate) struct Stub {
     spec: Spec,
 }
 
@@ -67,8 +67,8 @@ fn new_core(alloc: Global) -> Mem<Core<Stub>> {
     }
 }
 
-// The client asks by a control packet.
-fn ask(core: &mut Core<Stub>, packet: Vec<u8>) -> Mem<()> {
+/// The client asks by a control packet.
+pub(crate) fn ask(core: &mut Core<Stub>, packet: Vec<u8>) -> Mem<()> {
     if packet.is_empty() || packet.len() > 400 {
         return Err(NoMemory);
     }
@@ -95,8 +95,8 @@ fn create(alloc: Global, core: &mut Core<Stub>, sink: u8) -> Mem<()> {
     ask(core, packet)
 }
 
-// A core with the client and its streams.
-fn with_streams(alloc: Global, streams: u32) -> Mem<Core<Stub>> {
+/// A core with the client and its streams.
+pub(crate) fn with_streams(alloc: Global, streams: u32) -> Mem<Core<Stub>> {
     let mut core = new_core(alloc)?;
     enter(alloc, &mut core)?;
     for stream in 0..streams {
@@ -147,8 +147,8 @@ fn take_all(core: &mut Core<Stub>, sink: SinkId) -> u64 {
     taken
 }
 
-// All sinks take their messages: how many.
-fn deliver(core: &mut Core<Stub>) -> u64 {
+/// All sinks take their messages: how many.
+pub(crate) fn deliver(core: &mut Core<Stub>) -> u64 {
     let mut taken = 0_u64;
     for sink in 0..SINKS {
         taken = taken.wrapping_add(take_all(core, SinkId(sink)));

@@ -1,12 +1,14 @@
-//! What the scripts of bench/ time. Words: what to do (`sound`, `frame`, `wire`, `session` or `core`), how often, and for `frame` the
-//! bytes of a piece, for `core` how many frames, for `sound` the code of a format; `wire` reads a packet from standard input. It prints a line on what it did, so that
-//! no work is left out and a plain program can be compared. Without words each is done once.
+//! What the scripts of bench/ time. Words: what to do (`sound`, `frame`, `wire`, `session`, `core` or `volumes`), how often, and for `frame`
+//! the bytes of a piece, for `sound` the code of a format; for `core` and `volumes` how many inputs there are, and then how often. `wire`
+//! reads a packet from standard input. It prints a line on what it did, so that no work is left out and a plain program can be compared.
+//! Without words each is done once.
 #![tactic(auto)]
 
 mod data;
 mod frame;
 mod session;
 mod sound;
+mod volumes;
 mod wire;
 
 use data::core_line;
@@ -17,6 +19,7 @@ use sound::sound_line;
 use std::alloc::Global;
 use std::io::Read;
 use std::{env, io};
+use volumes::volumes_line;
 use wire::wire_line;
 
 // What is to be done.
@@ -27,14 +30,16 @@ enum Work {
     Wire,
     Session,
     Core,
+    Volumes,
 }
 
-const ALL: [Work; 5] = [
+const ALL: [Work; 6] = [
     Work::Sound,
     Work::Frame,
     Work::Wire,
     Work::Session,
     Work::Core,
+    Work::Volumes,
 ];
 
 fn work_of(word: &str) -> Option<Work> {
@@ -44,6 +49,7 @@ fn work_of(word: &str) -> Option<Work> {
         "wire" => Some(Work::Wire),
         "session" => Some(Work::Session),
         "core" => Some(Work::Core),
+        "volumes" => Some(Work::Volumes),
         _ => None,
     }
 }
@@ -56,6 +62,7 @@ fn line(alloc: Global, work: Work, first: u32, second: Option<u32>, packet: &[u8
         Work::Wire => wire_line(alloc, first, packet),
         Work::Session => session_line(alloc, first),
         Work::Core => core_line(alloc, first, second.unwrap_or(1)),
+        Work::Volumes => volumes_line(alloc, first, second.unwrap_or(1)),
     }
 }
 
