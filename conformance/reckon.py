@@ -642,7 +642,7 @@ def thrown(number, turns):
 
 
 def thrown_life(number, turns):
-    """Three streams that are held short, corked, flushed, drained, asked and told new attributes, in turns of any length."""
+    """Three streams that wait for prebuf frames, are corked, flushed, drained, asked and told new attributes, in turns of any length."""
     dice = random.Random(number)
     lines = ["sink out s16le 1 48000 map 0 guard 10 depth 100", "connect 1", "auth 1 tag 0 version 13"]
     create = "create 1 tag {} s16le 1 48000 map 0 maxlength {} tlength 400 prebuf {} minreq {}{}"

@@ -4,8 +4,10 @@
 
 mod block;
 mod blocks;
+mod shelf;
 mod source;
 
 pub use block::{BLOCK_SIZE, Block, Mem, NoMemory};
 pub use blocks::Blocks;
+pub use shelf::Shelf;
 pub use source::{BlockSource, Fresh};

@@ -16,7 +16,7 @@ pub record Done (f : Stands → Stands) (g : Stands → List (Notice Stream)) (o
   pub front : inputs_of (take i now) ≡ map f (inputs_of (take i old))
   pub rest : drop i now ≡ drop i old
   pub told : after ≡ before ++ flat_map g (inputs_of (take i old))
-  pub room : (r : ℕ) → AllByRecursion (HasRoom r) old → AllByRecursion (HasRoom r) now
+  pub room : (r b : ℕ) → AllByRecursion (HasRoom r b) old → AllByRecursion (HasRoom r b) now
 
 -- the input that is next
 same_next : (old now : List Input) (i : ℕ) (d : Input) → drop i now ≡ drop i old → slice_index_or old i d ≡ slice_index_or now i d
@@ -28,10 +28,11 @@ same_next old now i d e =
 one_more : (old : List Input) (i : ℕ) (d x : Input) → i < length old → slice_index_or old i d ≡ x → take (i + 1) old ≡ take i old ++ x ∷ []
 one_more old i d x l e = take_more old i d l ∙ ap (λ (y : Input). take i old ++ y ∷ []) e
 
-all_set : (r : ℕ) (now : List Input) (i : ℕ) (d y : Input) → i < length now → (Input.stream (slice_index_or now i d)).room ≤ y.stream.room → AllByRecursion (HasRoom r) now → AllByRecursion (HasRoom r) (slice_set now i y)
-all_set r [] i d y n l h = h
-all_set r (z ∷ now) zero d y n l h = (omega (arith, l, h.0), h.1)
-all_set r (z ∷ now) (suc i) d y n l h = (h.0, all_set r now i d y (omega (arith, n)) l h.1)
+all_set : (r b : ℕ) (now : List Input) (i : ℕ) (d y : Input) → i < length now → (Input.stream (slice_index_or now i d)).room ≤ y.stream.room → (Input.stream (slice_index_or now i d)).block_room ≤ y.stream.block_room
+    → AllByRecursion (HasRoom r b) now → AllByRecursion (HasRoom r b) (slice_set now i y)
+all_set r b [] i d y n l m h = h
+all_set r b (z ∷ now) zero d y n l m h = ((omega (arith, l, h.0.0), omega (arith, m, h.0.1)), h.1)
+all_set r b (z ∷ now) (suc i) d y n l m h = (h.0, all_set r b now i d y (omega (arith, n)) l m h.1)
 
 no_more : (ns : List (Notice Stream)) → ns ++ [] ≡ ns
 no_more [] = refl
@@ -39,9 +40,9 @@ no_more (m ∷ ns) = ap (λ (ks : List (Notice Stream)). m ∷ ks) (no_more ns)
 
 more : (f : Stands → Stands) (g : Stands → List (Notice Stream)) (old now : List Input) (before after later : List (Notice Stream)) (i : ℕ) (d x y : Input)
     → Done f g old now before after i → i < length now → i < length old → slice_index_or now i d ≡ x → slice_index_or old i d ≡ x
-    → input_of y ≡ f (input_of x) → (Input.stream (slice_index_or now i d)).room ≤ y.stream.room → later ≡ after ++ g (input_of x)
+    → input_of y ≡ f (input_of x) → (Input.stream (slice_index_or now i d)).room ≤ y.stream.room → (Input.stream (slice_index_or now i d)).block_room ≤ y.stream.block_room → later ≡ after ++ g (input_of x)
     → Done f g old (slice_set now i y) before later (i + 1)
-more f g old now before after later i d x y done l m here there e room told =
+more f g old now before after later i d x y done l m here there e room blocks told =
     let olds : inputs_of (take (i + 1) old) ≡ inputs_of (take i old) ++ input_of x ∷ [] = ap inputs_of (one_more old i d x m there) ∙ map-append input_of (take i old) (x ∷ []) in
     record {
       front = ap inputs_of (take_more_set now i y l)
@@ -57,7 +58,7 @@ more f g old now before after later i d x y done l m here there e room told =
           (sym (ap (flat_map g) olds
           ∙ flat_map-append g (inputs_of (take i old)) (input_of x ∷ [])
           ∙ ap (λ (ns : List (Notice Stream)). flat_map g (inputs_of (take i old)) ++ ns) (no_more (g (input_of x)))));
-      room = λ r h. all_set r now i d y l room (done.room r h);
+      room = λ r b h. all_set r b now i d y l room blocks (done.room r b h);
     }
   where
     after_one : (xs : List Input) → drop (i + 1) xs ≡ drop 1 (drop i xs)
@@ -65,10 +66,10 @@ more f g old now before after later i d x y done l m here there e room told =
 
 pub done_more : (f : Stands → Stands) (g : Stands → List (Notice Stream)) (old now : List Input) (before after later : List (Notice Stream)) (i : ℕ) (d y : Input)
     → Done f g old now before after i → i < length now → length now ≡ length old
-    → input_of y ≡ f (input_of (slice_index_or now i d)) → (Input.stream (slice_index_or now i d)).room ≤ y.stream.room → later ≡ after ++ g (input_of (slice_index_or now i d))
+    → input_of y ≡ f (input_of (slice_index_or now i d)) → (Input.stream (slice_index_or now i d)).room ≤ y.stream.room → (Input.stream (slice_index_or now i d)).block_room ≤ y.stream.block_room → later ≡ after ++ g (input_of (slice_index_or now i d))
     → Done f g old (slice_set now i y) before later (i + 1)
-done_more f g old now before after later i d y done l n e room told =
-    more f g old now before after later i d (slice_index_or now i d) y done l (omega (arith, l, n)) refl (same_next old now i d done.rest) e room told
+done_more f g old now before after later i d y done l n e room blocks told =
+    more f g old now before after later i d (slice_index_or now i d) y done l (omega (arith, l, n)) refl (same_next old now i d done.rest) e room blocks told
 
 fits : (g : Stands → List (Notice Stream)) (old : List Input) (before after : List (Notice Stream)) (i : ℕ) (d x : Input) (capacity : ℕ)
     → after ≡ before ++ flat_map g (inputs_of (take i old)) → i < length old → slice_index_or old i d ≡ x
@@ -102,16 +103,16 @@ all_of_it items new n e l =
     ∙ take-append-le n new [] (omega (arith, e, l))
     ∙ take_all n new (omega (arith, e, l))
 
-pub in_place : (items new : List Input) (n room left capacity : ℕ) → length items ≡ n → length new ≡ length items
-    → IsRising (inputs_of new) → AllByRecursion (HasRoom left) new → left ≤ room → n + room ≤ capacity
-    → IsRising (inputs_of (take n (new ++ drop (length new) items))) × AllByRecursion (HasRoom left) (take n (new ++ drop (length new) items)) × (n + left ≤ capacity)
-in_place items new n room left capacity e l rising rooms less fits =
-    subst (λ (xs : List Input). IsRising (inputs_of xs) × AllByRecursion (HasRoom left) xs × (n + left ≤ capacity)) (sym (all_of_it items new n e l))
+pub in_place : (items new : List Input) (n room left blocks capacity : ℕ) → length items ≡ n → length new ≡ length items
+    → IsRising (inputs_of new) → AllByRecursion (HasRoom left blocks) new → left ≤ room → n + room ≤ capacity
+    → IsRising (inputs_of (take n (new ++ drop (length new) items))) × AllByRecursion (HasRoom left blocks) (take n (new ++ drop (length new) items)) × (n + left ≤ capacity)
+in_place items new n room left blocks capacity e l rising rooms less fits =
+    subst (λ (xs : List Input). IsRising (inputs_of xs) × AllByRecursion (HasRoom left blocks) xs × (n + left ≤ capacity)) (sym (all_of_it items new n e l))
     (rising, rooms, omega (arith, less, fits))
 
-pub kept_in_place : (f : Stream → Stream) (items new : List Input) (n room capacity : ℕ) → length items ≡ n → length new ≡ length items
-    → inputs_of new ≡ map (with_stream f) (inputs_of items) → ((r : ℕ) → AllByRecursion (HasRoom r) items → AllByRecursion (HasRoom r) new)
-    → IsRising (inputs_of items) × AllByRecursion (HasRoom room) items × (n + room ≤ capacity)
-    → IsRising (inputs_of (take n (new ++ drop (length new) items))) × AllByRecursion (HasRoom room) (take n (new ++ drop (length new) items)) × (n + room ≤ capacity)
-kept_in_place f items new n room capacity e l changed rooms keeps =
-    in_place items new n room room capacity e l (subst IsRising (sym changed) (rising_each f (inputs_of items) keeps.0)) (rooms room keeps.1) (omega arith) keeps.2
+pub kept_in_place : (f : Stream → Stream) (items new : List Input) (n room blocks capacity : ℕ) → length items ≡ n → length new ≡ length items
+    → inputs_of new ≡ map (with_stream f) (inputs_of items) → ((r b : ℕ) → AllByRecursion (HasRoom r b) items → AllByRecursion (HasRoom r b) new)
+    → IsRising (inputs_of items) × AllByRecursion (HasRoom room blocks) items × (n + room ≤ capacity)
+    → IsRising (inputs_of (take n (new ++ drop (length new) items))) × AllByRecursion (HasRoom room blocks) (take n (new ++ drop (length new) items)) × (n + room ≤ capacity)
+kept_in_place f items new n room blocks capacity e l changed rooms keeps =
+    in_place items new n room room blocks capacity e l (subst IsRising (sym changed) (rising_each f (inputs_of items) keeps.0)) (rooms room blocks keeps.1) (omega arith) keeps.2

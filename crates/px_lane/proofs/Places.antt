@@ -151,30 +151,35 @@ module _ (i : ℕ) where
 
 -- ---- their room
 
-pub all_less : (r s : ℕ) (items : List Input) → s ≤ r → AllByRecursion (HasRoom r) items → AllByRecursion (HasRoom s) items
-all_less r s [] l h = tt
-all_less r s (x ∷ items) l h = (omega (arith, l, h.0), all_less r s items l h.1)
+pub all_less : (r s a b : ℕ) (items : List Input) → s ≤ r → b ≤ a → AllByRecursion (HasRoom r a) items → AllByRecursion (HasRoom s b) items
+all_less r s a b [] l m h = tt
+all_less r s a b (x ∷ items) l m h = ((omega (arith, l, h.0.0), omega (arith, m, h.0.1)), all_less r s a b items l m h.1)
 
-pub all_at : (r k : ℕ) (items : List Input) (d : Input) → k < length items → AllByRecursion (HasRoom r) items → r ≤ (Input.stream (slice_index_or items k d)).room
-all_at r k [] d few h = absurd (omega (arith, few))
-all_at r zero (x ∷ items) d few h = h.0
-all_at r (suc k) (x ∷ items) d few h = all_at r k items d (omega (arith, few)) h.1
+-- for nothing there is always room
+pub all_none : (items : List Input) → AllByRecursion (HasRoom 0 0) items
+all_none [] = tt
+all_none (x ∷ items) = ((omega arith, omega arith), all_none items)
 
-pub all_with : (r k : ℕ) (items : List Input) (y : Input) → r ≤ y.stream.room → AllByRecursion (HasRoom r) items → AllByRecursion (HasRoom r) (slice_set items k y)
-all_with r k [] y l h = tt
-all_with r zero (x ∷ items) y l h = (l, h.1)
-all_with r (suc k) (x ∷ items) y l h = (h.0, all_with r k items y l h.1)
+pub all_at : (r b k : ℕ) (items : List Input) (d : Input) → k < length items → AllByRecursion (HasRoom r b) items → HasRoom r b (slice_index_or items k d)
+all_at r b k [] d few h = absurd (omega (arith, few))
+all_at r b zero (x ∷ items) d few h = h.0
+all_at r b (suc k) (x ∷ items) d few h = all_at r b k items d (omega (arith, few)) h.1
 
-pub all_insert : (r k : ℕ) (items : List Input) (y : Input) → r ≤ y.stream.room → AllByRecursion (HasRoom r) items → AllByRecursion (HasRoom r) (insert items k y)
-all_insert r zero items y l h = (l, h)
-all_insert r (suc k) [] y l h = (l, tt)
-all_insert r (suc k) (x ∷ items) y l h = (h.0, all_insert r k items y l h.1)
+pub all_with : (r b k : ℕ) (items : List Input) (y : Input) → HasRoom r b y → AllByRecursion (HasRoom r b) items → AllByRecursion (HasRoom r b) (slice_set items k y)
+all_with r b k [] y l h = tt
+all_with r b zero (x ∷ items) y l h = (l, h.1)
+all_with r b (suc k) (x ∷ items) y l h = (h.0, all_with r b k items y l h.1)
 
-pub all_remove : (r k : ℕ) (items : List Input) → AllByRecursion (HasRoom r) items → AllByRecursion (HasRoom r) (remove items k)
-all_remove r zero [] h = tt
-all_remove r (suc k) [] h = tt
-all_remove r zero (x ∷ items) h = h.1
-all_remove r (suc k) (x ∷ items) h = (h.0, all_remove r k items h.1)
+pub all_insert : (r b k : ℕ) (items : List Input) (y : Input) → HasRoom r b y → AllByRecursion (HasRoom r b) items → AllByRecursion (HasRoom r b) (insert items k y)
+all_insert r b zero items y l h = (l, h)
+all_insert r b (suc k) [] y l h = (l, tt)
+all_insert r b (suc k) (x ∷ items) y l h = (h.0, all_insert r b k items y l h.1)
+
+pub all_remove : (r b k : ℕ) (items : List Input) → AllByRecursion (HasRoom r b) items → AllByRecursion (HasRoom r b) (remove items k)
+all_remove r b zero [] h = tt
+all_remove r b (suc k) [] h = tt
+all_remove r b zero (x ∷ items) h = h.1
+all_remove r b (suc k) (x ∷ items) h = (h.0, all_remove r b k items h.1)
 
 pub room_small : (m : StreamMessage) → room_for m ≤ 1
 room_small (StreamMessage.attach feed factors) = omega arith

@@ -13,7 +13,8 @@ use Rattle.px_model.specs.Turn.{refusal_of, notices_from, inputs_with, message_n
 use Rattle.px_stream.specs.declared.message.StreamMsg.TheVariants.{Write}
 use Rattle.px_lane.specs.declared.ready.Ready.TheVariants.{Change as Changes}
 use Rattle.px_lane.specs.declared.ready.Ready.{Ready}
-use Rattle.px_lane.specs.Taking.{IsReadyFor, ready_notices, overflows_at, overflow_if}
+use Rattle.px_lane.specs.declared.ready.Ready.TheVariants.{Insert, Join, Remove, Change, Each, Answer}
+use Rattle.px_lane.specs.Taking.{IsReadyFor, HasRoomLeft, ready_notices, overflows_at, overflow_if}
 
 refusal : (i : ℕ) (o : Outcome) → overflow_if i (is_told o) ≡ refusal_of i o
 refusal i stored = refl
@@ -30,6 +31,7 @@ module _ (input : InputId) (seek : ℕ) (offset : ℤ) (frames : ℕ) (bytes : L
     inputs = λ mixed xs. refl;
     notices = λ mixed buffered xs. write_notices mixed (stream_at input.0 xs);
     suits = λ xs h. h;
+    blocks = refl;
   }
 
 pub write_ready : (input : InputId) (seek : ℕ) (offset place : ℤ) (frames : ℕ) (bytes : List ℕ) → place ≡ offset
@@ -37,6 +39,15 @@ pub write_ready : (input : InputId) (seek : ℕ) (offset place : ℤ) (frames : 
 write_ready input seek offset place frames bytes e =
     subst (λ (p : ℤ). IsReadyFor (Changes input (Write seek place frames bytes)) (Message.write (record { input = input.0; seek = seek; offset = p; frames = frames; bytes = bytes })))
     e (write_same input seek place frames bytes)
+
+-- room for less
+pub left_less : (r s a b : ℕ) (ready : Ready) → s ≤ r → b ≤ a → HasRoomLeft r a ready → HasRoomLeft s b ready
+left_less r s a b (Insert input stream) l m h = (omega (arith, l, h.0), omega (arith, m, h.1))
+left_less r s a b (Join input parcel feed factors) l m h = (omega (arith, l, h.0), omega (arith, m, h.1))
+left_less r s a b (Remove input) l m h = tt
+left_less r s a b (Change input change) l m h = tt
+left_less r s a b (Each list) l m h = tt
+left_less r s a b (Answer input tag) l m h = tt
 
 -- what is left of a list that begins with what a message takes
 pub left_over : {X : Type 0} (all here rest taken : List X) → all ≡ here ++ rest → taken ≡ drop (length here) all → taken ≡ rest

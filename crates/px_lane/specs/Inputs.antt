@@ -9,6 +9,6 @@ input_of x = record { index = x.index.0; stream = x.stream.stream }
 abbrev pub inputs_of : List Input → List Stands
 inputs_of inputs = map input_of inputs
 
--- the streams of the inputs have room for so many messages
-abbrev pub HasRoom : ℕ → Input → Type 0
-HasRoom room x = room ≤ x.stream.room
+-- the stream of an input has room for so many messages with so many blocks in all
+abbrev pub HasRoom : ℕ → ℕ → Input → Type 0
+HasRoom room blocks x = (room ≤ x.stream.room) × (blocks ≤ x.stream.block_room)

@@ -6,10 +6,11 @@ use Rattle.px_msg.specs.View.{sample_spec}
 use Rattle.px_model.specs.Frame.{frames_of}
 use Rattle.px_model.specs.Sink.{Sink, Input}
 
--- a sink, and how many more messages its inputs take without memory
+-- a sink, and how many more messages, with how many blocks in all, its inputs take without memory
 pub record RoomySink : Type 0 where
   pub sink : Sink
   pub room : ℕ
+  pub block_room : ℕ
 
 -- a spec at which streams are mixed: whole numbers in even steps, and 1 to 32 channels
 pub record IsMixed (spec : Spec) : Type 0 where

@@ -4,13 +4,16 @@ use Rattle.px_model.specs.Stream.{Stream}
 use Rattle.px_model.specs.Message.{Message}
 use Rattle.px_model.specs.Sink.{Input}
 
--- messages with all the memory that they take, the room of each stream that comes by one, and how many their list holds without memory
+-- messages with all the memory that they take, the room of each stream that comes by one: for how many messages with how many blocks in all,
+-- and how many their list holds without memory
 pub record ReadyMessages : Type 0 where
   pub messages : List (Message Stream)
   pub room : ℕ
+  pub block_room : ℕ
   pub capacity : ℕ
 
--- the inputs of a sink, and how many more messages they take without memory
+-- the inputs of a sink, and how many more messages, with how many blocks in all, they take without memory
 pub record RoomyInputs : Type 0 where
   pub inputs : List Input
   pub room : ℕ
+  pub block_room : ℕ

@@ -12,9 +12,10 @@ use Rattle.px_msg.specs.View.{gains}
 use Rattle.px_msg.specs.declared.message.Msg.{Msg}
 use Rattle.px_msg.specs.declared.message.Msg.TheVariants.{Attach}
 use Rattle.px_stream.specs.Kept.{KeptStream}
-use Rattle.px_stream.specs.Messages.{message_of, Suits}
+use Rattle.px_stream.specs.Messages.{message_of, blocks_with, Suits}
 use Rattle.px_stream.specs.declared.message.Applied.{Applied}
 use Rattle.px_stream.specs.declared.message.Applied.TheVariants.{Quiet, Overflow}
+use Rattle.px_lane.specs.Needed.{blocks_of}
 use Rattle.px_lane.specs.declared.ready.Ready.{Ready}
 use Rattle.px_lane.specs.declared.ready.Ready.TheVariants.{Insert, Join, Remove, Change, Each, Answer}
 
@@ -55,13 +56,14 @@ streams_of _ = []
 
 -- ---- room
 
-abbrev pub IsRoomy : ℕ → KeptStream → Type 0
-IsRoomy room s = room ≤ s.room
+-- for so many messages with so many blocks in all
+abbrev pub IsRoomy : ℕ → ℕ → KeptStream → Type 0
+IsRoomy room blocks s = (room ≤ s.room) × (blocks ≤ s.block_room)
 
 -- a parcel that comes has it
-abbrev pub BringsRoom : ℕ → Msg KeptStream → Type 0
-BringsRoom room (Attach input parcel feed factors) = IsRoomy room parcel
-BringsRoom room _ = ⊤
+abbrev pub BringsRoom : ℕ → ℕ → Msg KeptStream → Type 0
+BringsRoom room blocks (Attach input parcel feed factors) = IsRoomy room blocks parcel
+BringsRoom room blocks _ = ⊤
 
 -- ---- messages with all that they need
 
@@ -79,10 +81,15 @@ is_overflow Overflow = true
 abbrev pub overflow_if : ℕ → Bool → List (Notice Stream)
 overflow_if i told = if told then Notice.overflow i ∷ [] else []
 
-abbrev pub HasRoomLeft : ℕ → Ready → Type 0
-HasRoomLeft room (Insert input stream) = IsRoomy room stream
-HasRoomLeft room (Join input parcel feed factors) = IsRoomy room parcel
-HasRoomLeft room _ = ⊤
+abbrev pub HasRoomLeft : ℕ → ℕ → Ready → Type 0
+HasRoomLeft room blocks (Insert input stream) = IsRoomy room blocks stream
+HasRoomLeft room blocks (Join input parcel feed factors) = IsRoomy room blocks parcel
+HasRoomLeft room blocks _ = ⊤
+
+-- the blocks that it brings
+abbrev pub ready_blocks : Ready → ℕ
+ready_blocks (Change input change) = blocks_with (message_of change)
+ready_blocks _ = 0
 
 abbrev pub ready_inputs : ℕ → Ready → List Input → List Input
 ready_inputs mixed (Insert input stream) inputs = with_input input.0 stream.stream inputs
@@ -109,3 +116,4 @@ pub record IsReadyFor (ready : Ready) (m : Message Stream) : Type 0 where
   pub inputs : (mixed : ℕ) (inputs : List Input) → ready_inputs mixed ready inputs ≡ inputs_with mixed m inputs
   pub notices : (mixed buffered : ℕ) (inputs : List Input) → ready_notices mixed buffered ready inputs ≡ message_notices mixed buffered m inputs
   pub suits : (inputs : List Input) → CanTake m inputs → ReadySuits ready inputs
+  pub blocks : ready_blocks ready ≡ blocks_of m

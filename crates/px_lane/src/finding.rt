@@ -7,7 +7,7 @@ ghost use Rattle.px_model.specs.Notice.{Notice as Told};
 ghost use Rattle.px_model.specs.Turn.{with_each_factors, message_notices, latency_of, is_playing};
 ghost use Rattle.px_msg.specs.View.{gains};
 ghost use Rattle.px_model.specs.Applied.{applied};
-ghost use Rattle.px_stream.specs.Messages.{message_of, room_for};
+ghost use Rattle.px_stream.specs.Messages.{message_of, room_for, blocks_with};
 ghost use Rattle.px_lane.specs.Taking.{FactorsFit, SuitsAt, is_overflow, overflows_at};
 ghost use Rattle.px_lane.specs.Inputs.{inputs_of, HasRoom};
 ghost use Rattle.px_lane.specs.Lists.{plain_notice};
@@ -62,11 +62,11 @@ pub(crate) fn change_at<B: BlockSource>(
     blocks: &mut B,
 ) -> bool
     requires rising { IsRising (inputs_of inputs.old) }
-    requires room { AllByRecursion (HasRoom (room_for (message_of change))) inputs.old }
+    requires room { AllByRecursion (HasRoom (room_for (message_of change)) (blocks_with (message_of change))) inputs.old }
     requires suits { SuitsAt (stream_at index.0 (inputs_of inputs.old)) (message_of change) }
     ensures inputs { inputs_of inputs.new ≡ with_change index.0 (applied mixed (message_of change)) (inputs_of inputs.old) }
     ensures overflows { result ≡ overflows_at mixed (message_of change) (stream_at index.0 (inputs_of inputs.old)) }
-    ensures room { (room : ℕ) → AllByRecursion (HasRoom (room + room_for (message_of change))) inputs.old → AllByRecursion (HasRoom room) inputs.new }
+    ensures room { (room kept : ℕ) → AllByRecursion (HasRoom (room + room_for (message_of change)) (kept + blocks_with (message_of change))) inputs.old → AllByRecursion (HasRoom room kept) inputs.new }
 {
     match find(inputs, index) {
         Err(_) => false,
@@ -88,7 +88,7 @@ pub(crate) fn set_each<B: BlockSource>(inputs: &mut [Input], each: &[InputFactor
     requires rising { IsRising (inputs_of inputs.old) }
     requires fit { FactorsFit (map gains each.now) (inputs_of inputs.old) }
     ensures inputs { inputs_of inputs.new ≡ with_each_factors (map gains each.now) (inputs_of inputs.old) }
-    ensures room { (room : ℕ) → AllByRecursion (HasRoom room) inputs.old → AllByRecursion (HasRoom room) inputs.new }
+    ensures room { (room kept : ℕ) → AllByRecursion (HasRoom room kept) inputs.old → AllByRecursion (HasRoom room kept) inputs.new }
 {
     for f in each {
         let factors = StreamMsg::Factors { factors: f.factors };
@@ -101,7 +101,7 @@ pub(crate) fn open_at(items: &mut Vec<Input>, input: Input)
     requires rising { IsRising (inputs_of items.old.items) }
     requires free { vec_len items.old < vec_capacity items.old }
     ensures inputs { inputs_of items.new.items ≡ with_input input.index.0 input.stream.stream (inputs_of items.old.items) }
-    ensures room { (room : ℕ) → room ≤ input.stream.room → AllByRecursion (HasRoom room) items.old.items → AllByRecursion (HasRoom room) items.new.items }
+    ensures room { (room kept : ℕ) → HasRoom room kept input → AllByRecursion (HasRoom room kept) items.old.items → AllByRecursion (HasRoom room kept) items.new.items }
     ensures len { vec_len items.new ≤ vec_len items.old + 1 }
     ensures capacity { vec_capacity items.new ≡ vec_capacity items.old }
 {
@@ -116,7 +116,7 @@ pub(crate) fn close_at(items: &mut Vec<Input>, index: InputId) -> Option<Stream>
     requires { IsRising (inputs_of items.old.items) }
     ensures stream { MatchOption result (stream_at index.0 (inputs_of items.old.items) ≡ None) (λ s. stream_at index.0 (inputs_of items.old.items) ≡ Some s.stream) }
     ensures inputs { inputs_of items.new.items ≡ without_input index.0 (inputs_of items.old.items) }
-    ensures room { (room : ℕ) → AllByRecursion (HasRoom room) items.old.items → AllByRecursion (HasRoom room) items.new.items }
+    ensures room { (room kept : ℕ) → AllByRecursion (HasRoom room kept) items.old.items → AllByRecursion (HasRoom room kept) items.new.items }
     ensures len { vec_len items.new ≤ vec_len items.old }
     ensures capacity { vec_capacity items.new ≡ vec_capacity items.old }
 {

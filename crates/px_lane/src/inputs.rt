@@ -1,5 +1,5 @@
 // The inputs of a sink.
-ghost use Rattle.std.specs.Prelude.{ℕ, ◌≡◌, ◌≤◌, ◌+◌, ◌++◌, [], length, map, flat_map, MatchOption, None, Some, OnOk};
+ghost use Rattle.std.specs.Prelude.{ℕ, ◌≡◌, ◌≤◌, ◌+◌, ◌-◌, ◌++◌, [], length, map, flat_map, MatchOption, None, Some, OnOk};
 ghost use Rattle.std.specs.List.{AllByRecursion};
 ghost use Rattle.px_model.specs.Going.{after};
 ghost use Rattle.px_model.specs.Sink.{stream_at, with_input, without_input, with_change, with_stream};
@@ -7,10 +7,10 @@ ghost use Rattle.px_model.specs.Message.{Message};
 ghost use Rattle.px_msg.specs.View.{gains};
 ghost use Rattle.px_model.specs.Applied.{applied};
 ghost use Rattle.px_model.specs.Turn.{going_notices, asked_stream, asked_notices, with_each_factors, message_notices};
-ghost use Rattle.px_stream.specs.Messages.{message_of};
+ghost use Rattle.px_stream.specs.Messages.{message_of, blocks_with};
 ghost use Rattle.px_lane.specs.Inputs.{input_of, inputs_of, HasRoom};
 ghost use Rattle.px_lane.specs.Asked.{drained, drained_notices};
-ghost use Rattle.px_lane.specs.Taking.{FactorsFit, SuitsAt, overflows_at};
+ghost use Rattle.px_lane.specs.Taking.{FactorsFit, SuitsAt, IsRoomy, overflows_at};
 
 use crate::NoticeList;
 use crate::finding::{answer_at, change_at, close_at, open_at, set_each};
@@ -28,6 +28,7 @@ use std::marker::Model;
 pub(crate) struct Inputs {
     items: Vec<Input>,
     room: u32,
+    block_room: u32,
 }
 
 impl Model for Inputs {
@@ -39,9 +40,9 @@ impl Model for Inputs {
 
     ghost Value = { RoomyInputs };
 
-    ghost view = { λ l. record { inputs = inputs_of l.items.items; room = l.room } };
+    ghost view = { λ l. record { inputs = inputs_of l.items.items; room = l.room; block_room = l.block_room } };
 
-    ghost invariant = { λ l. IsRising (inputs_of l.items.items) × AllByRecursion (HasRoom l.room) l.items.items × (vec_len l.items + l.room ≤ vec_capacity l.items) };
+    ghost invariant = { λ l. IsRising (inputs_of l.items.items) × AllByRecursion (HasRoom l.room l.block_room) l.items.items × (vec_len l.items + l.room ≤ vec_capacity l.items) };
 }
 
 impl Inputs {
@@ -52,6 +53,7 @@ impl Inputs {
         Inputs {
             items: Vec::new(alloc),
             room: 0,
+            block_room: 0,
         }
     }
 
@@ -65,20 +67,22 @@ impl Inputs {
     /// Makes room for so many messages, with so many blocks in all. Without memory the inputs stay what they are.
     pub(crate) fn reserve(&mut self, messages: u32, blocks: u32) -> Mem<()>
         ensures inputs { self.new.inputs ≡ self.old.inputs }
-        ensures ok { OnOk result (self.new.room ≡ messages) }
+        ensures ok { OnOk result ((self.new.room ≡ messages) × (self.new.block_room ≡ blocks)) }
     {
         reserve_inputs(self.items.as_mut_slice(), messages, blocks)?;
         self.items.reserve(messages as usize)?;
         self.room = messages;
+        self.block_room = blocks;
         Ok(())
     }
 
     /// A stream comes in at its place. It has room for as many messages as the others are to have left.
     pub(crate) fn insert(&mut self, input: InputId, stream: Stream)
         requires room { 1 ≤ self.old.room }
-        requires stream_room { self.old.room ≤ stream.room + 1 }
+        requires stream_room { IsRoomy (self.old.room - 1) self.old.block_room stream }
         ensures inputs { self.new.inputs ≡ with_input input.0 stream.stream self.old.inputs }
         ensures room { self.new.room + 1 ≡ self.old.room }
+        ensures block_room { self.new.block_room ≡ self.old.block_room }
     {
         self.room -= 1;
         open_at(
@@ -95,12 +99,13 @@ impl Inputs {
         ensures stream { MatchOption result (stream_at input.0 self.old.inputs ≡ None) (λ s. stream_at input.0 self.old.inputs ≡ Some s.stream) }
         ensures inputs { self.new.inputs ≡ without_input input.0 self.old.inputs }
         ensures room { self.new.room ≡ self.old.room }
+        ensures block_room { self.new.block_room ≡ self.old.block_room }
     {
         close_at(&mut self.items, input)
     }
 
     /// Applies a message to a stream, if it is there, where so many frames of the sink are mixed ahead, and answers whether frames were
-    /// written that aren't held. Takes room for one message.
+    /// written that aren't held. Takes room for one message with its blocks.
     pub(crate) fn change<B: BlockSource>(
         &mut self,
         input: InputId,
@@ -109,12 +114,16 @@ impl Inputs {
         blocks: &mut B,
     ) -> bool
         requires room { 1 ≤ self.old.room }
+        requires block_room { blocks_with (message_of change) ≤ self.old.block_room }
         requires suits { SuitsAt (stream_at input.0 self.old.inputs) (message_of change) }
         ensures inputs { self.new.inputs ≡ with_change input.0 (applied mixed (message_of change)) self.old.inputs }
         ensures overflows { result ≡ overflows_at mixed (message_of change) (stream_at input.0 self.old.inputs) }
         ensures room { self.new.room + 1 ≡ self.old.room }
+        ensures block_room { self.new.block_room + blocks_with (message_of change) ≡ self.old.block_room }
     {
         self.room -= 1;
+        let brought = blocks_with(&change) as u32;
+        self.block_room -= brought;
         change_at(self.items.as_mut_slice(), input, change, mixed, blocks)
     }
 
@@ -123,6 +132,7 @@ impl Inputs {
         requires { FactorsFit (map gains each.now) self.old.inputs }
         ensures inputs { self.new.inputs ≡ with_each_factors (map gains each.now) self.old.inputs }
         ensures room { self.new.room ≡ self.old.room }
+        ensures block_room { self.new.block_room ≡ self.old.block_room }
     {
         set_each(self.items.as_mut_slice(), each, blocks);
     }
@@ -149,6 +159,7 @@ impl Inputs {
         requires { length out.old.notices + length (flat_map (going_notices frames) self.old.inputs) ≤ out.old.capacity }
         ensures inputs { self.new.inputs ≡ map (with_stream (λ s. after s frames)) self.old.inputs }
         ensures room { self.new.room ≡ self.old.room }
+        ensures block_room { self.new.block_room ≡ self.old.block_room }
         ensures notices { out.new.notices ≡ out.old.notices ++ flat_map (going_notices frames) self.old.inputs }
         ensures capacity { out.new.capacity ≡ out.old.capacity }
     {
@@ -161,6 +172,7 @@ impl Inputs {
         requires { length out.old.notices + length (flat_map (asked_notices mixed) self.old.inputs) ≤ out.old.capacity }
         ensures inputs { self.new.inputs ≡ map (with_stream (asked_stream mixed)) self.old.inputs }
         ensures room { self.new.room ≡ self.old.room }
+        ensures block_room { self.new.block_room ≡ self.old.block_room }
         ensures notices { out.new.notices ≡ out.old.notices ++ flat_map (asked_notices mixed) self.old.inputs }
         ensures capacity { out.new.capacity ≡ out.old.capacity }
     {
@@ -168,10 +180,20 @@ impl Inputs {
     }
 }
 
+// How many blocks a message brings.
+fn blocks_with(change: &StreamMsg) -> usize
+    ensures { result ≡ blocks_with (message_of change.now) }
+{
+    match change {
+        StreamMsg::Write { bytes, .. } => bytes.count(),
+        _ => 0,
+    }
+}
+
 fn go_each<B: BlockSource>(inputs: &mut [Input], frames: u64, out: &mut NoticeList, blocks: &mut B)
     requires { length out.old.notices + length (flat_map (going_notices frames) (inputs_of inputs.old)) ≤ out.old.capacity }
     ensures inputs { inputs_of inputs.new ≡ map (with_stream (λ s. after s frames)) (inputs_of inputs.old) }
-    ensures room { (room : ℕ) → AllByRecursion (HasRoom room) inputs.old → AllByRecursion (HasRoom room) inputs.new }
+    ensures room { (room kept : ℕ) → AllByRecursion (HasRoom room kept) inputs.old → AllByRecursion (HasRoom room kept) inputs.new }
     ensures notices { out.new.notices ≡ out.old.notices ++ flat_map (going_notices frames) (inputs_of inputs.old) }
     ensures capacity { out.new.capacity ≡ out.old.capacity }
 {
@@ -184,6 +206,7 @@ fn go_one<B: BlockSource>(input: &mut Input, frames: u64, out: &mut NoticeList, 
     requires { length out.old.notices + length (going_notices frames (input_of input.old)) ≤ out.old.capacity }
     ensures input { input_of input.new ≡ with_stream (λ s. after s frames) (input_of input.old) }
     ensures room { input.old.stream.room ≤ input.new.stream.room }
+    ensures block_room { input.old.stream.block_room ≤ input.new.stream.block_room }
     ensures notices { out.new.notices ≡ out.old.notices ++ going_notices frames (input_of input.old) }
     ensures capacity { out.new.capacity ≡ out.old.capacity }
 {
@@ -199,7 +222,7 @@ fn go_one<B: BlockSource>(input: &mut Input, frames: u64, out: &mut NoticeList, 
 fn ask_each(inputs: &mut [Input], mixed: u64, out: &mut NoticeList)
     requires { length out.old.notices + length (flat_map (asked_notices mixed) (inputs_of inputs.old)) ≤ out.old.capacity }
     ensures inputs { inputs_of inputs.new ≡ map (with_stream (asked_stream mixed)) (inputs_of inputs.old) }
-    ensures room { (room : ℕ) → AllByRecursion (HasRoom room) inputs.old → AllByRecursion (HasRoom room) inputs.new }
+    ensures room { (room kept : ℕ) → AllByRecursion (HasRoom room kept) inputs.old → AllByRecursion (HasRoom room kept) inputs.new }
     ensures notices { out.new.notices ≡ out.old.notices ++ flat_map (asked_notices mixed) (inputs_of inputs.old) }
     ensures capacity { out.new.capacity ≡ out.old.capacity }
 {
@@ -212,6 +235,7 @@ fn ask_one(input: &mut Input, mixed: u64, out: &mut NoticeList)
     requires { length out.old.notices + length (asked_notices mixed (input_of input.old)) ≤ out.old.capacity }
     ensures input { input_of input.new ≡ with_stream (asked_stream mixed) (input_of input.old) }
     ensures room { input.old.stream.room ≤ input.new.stream.room }
+    ensures block_room { input.old.stream.block_room ≤ input.new.stream.block_room }
     ensures notices { out.new.notices ≡ out.old.notices ++ asked_notices mixed (input_of input.old) }
     ensures capacity { out.new.capacity ≡ out.old.capacity }
 {
@@ -229,6 +253,7 @@ fn answer_drains(input: &mut Input, out: &mut NoticeList)
     requires { length out.old.notices + length (drained_notices (input_of input.old)) ≤ out.old.capacity }
     ensures input { input_of input.new ≡ with_stream drained (input_of input.old) }
     ensures room { input.old.stream.room ≤ input.new.stream.room }
+    ensures block_room { input.old.stream.block_room ≤ input.new.stream.block_room }
     ensures notices { out.new.notices ≡ out.old.notices ++ drained_notices (input_of input.old) }
     ensures capacity { out.new.capacity ≡ out.old.capacity }
 {

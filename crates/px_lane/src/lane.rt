@@ -1,6 +1,7 @@
 // The mixer of one sink over a device.
 ghost use Rattle.std.specs.Prelude.{◌≡◌, ◌≤◌, ◌+◌, ◌-◌, ◌^◌, ◌++◌, [], length, IfOk, OnOk, OnErr, MatchResult, IsFalse};
 ghost use Rattle.std.specs.Borrow.{Lends, sem};
+ghost use Rattle.std.specs.List.{sum_by};
 ghost use Rattle.px_msg.specs.View.{sample_spec};
 ghost use Rattle.px_model.specs.Stream.{Stream as Plain};
 ghost use Rattle.px_model.specs.Orderly.{IsOrderly};
@@ -8,7 +9,7 @@ ghost use Rattle.px_model.specs.Sink.{empty_sink, specs_of};
 ghost use Rattle.px_lane.specs.Mixing.{IsMixed};
 ghost use Rattle.px_model.specs.Turn.{AreFor, settled, turned, turn_notices};
 ghost use Rattle.px_stream.specs.Samples.{samples};
-ghost use Rattle.px_lane.specs.Needed.{needed};
+ghost use Rattle.px_lane.specs.Needed.{needed, blocks_of};
 ghost use Rattle.px_lane.specs.Lane.{IsLane, IsAttached, HasCounted};
 ghost use Rattle.px_lane.specs.Turned.{Turns, Refuses};
 ghost use Rattle.px_lane.specs.contracts.lane.Lane.{the_row};
@@ -164,7 +165,9 @@ fn run<D: Device, B: BlockSource>(
     requires countable { mixer.old.sink.filled ≤ 2 ^ 60 }
     requires messages { AreFor mixer.old.sink messages.old.messages }
     requires room { length messages.old.messages ≤ mixer.old.room }
+    requires block_room { sum_by blocks_of messages.old.messages ≤ mixer.old.block_room }
     requires comes { mixer.old.room ≤ messages.old.room }
+    requires blocks_come { mixer.old.block_room ≤ messages.old.block_room }
     requires capacity { length out.old.notices + needed mixer.old.sink.inputs messages.old.messages ≤ out.old.capacity }
     ensures turns { Turns D.now (record { sink = mixer.old.sink; device = device.old; faults = faults.old }) (record { sink = mixer.new.sink; device = device.new; faults = faults.new }) messages.old.messages out.old.notices out.new.notices result }
     ensures lane { IsLane mixer.new.sink }
@@ -203,7 +206,9 @@ fn play<D: Device, B: BlockSource>(
     requires countable { mixer.old.sink.filled ≤ 2 ^ 60 }
     requires messages { AreFor mixer.old.sink messages.old.messages }
     requires room { length messages.old.messages ≤ mixer.old.room }
+    requires block_room { sum_by blocks_of messages.old.messages ≤ mixer.old.block_room }
     requires comes { mixer.old.room ≤ messages.old.room }
+    requires blocks_come { mixer.old.block_room ≤ messages.old.block_room }
     requires capacity { length out.old.notices + needed mixer.old.sink.inputs messages.old.messages ≤ out.old.capacity }
     ensures value { mixer.new.sink ≡ turned samples mixer.old.sink (consumed - mixer.old.sink.consumed) messages.old.messages }
     ensures result { result ≡ Turned.Played consumed (consumed - mixer.old.sink.consumed) }

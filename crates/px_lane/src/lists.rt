@@ -1,10 +1,10 @@
 // What a turn takes and what it gives: lists of messages and of notices.
 ghost use Rattle.std.specs.Prelude.{◌≡◌, ◌≤◌, ◌<◌, ◌+◌, ◌++◌, [], ◌∷◌, length, map, flat_map, MatchOption, IfOk, OnOk, OnErr};
-ghost use Rattle.std.specs.List.{AllByRecursion};
+ghost use Rattle.std.specs.List.{AllByRecursion, sum_by};
 ghost use Rattle.px_model.specs.Turn.{BringsStream};
 ghost use Rattle.px_stream.specs.Kept.{KeptStream};
 ghost use Rattle.px_lane.specs.Inputs.{inputs_of};
-ghost use Rattle.px_lane.specs.Needed.{needed, Opens};
+ghost use Rattle.px_lane.specs.Needed.{needed, blocks_of, Opens};
 ghost use Rattle.px_lane.specs.Taking.{streams_of, IsRoomy, BringsRoom};
 ghost use Rattle.px_lane.specs.Lists.{plain_message, plain_notice, messages_of};
 
@@ -152,6 +152,7 @@ impl MsgList {
         ensures messages { IfOk result (λ prepared. prepared.messages ≡ self.old.messages) }
         ensures parcels { AllByRecursion BringsStream self.old.messages }
         ensures room { IfOk result (λ prepared. (inputs.new.room ≡ length self.old.messages) × (prepared.room ≡ length self.old.messages)) }
+        ensures block_room { IfOk result (λ prepared. (inputs.new.block_room ≡ sum_by blocks_of self.old.messages) × (prepared.block_room ≡ sum_by blocks_of self.old.messages)) }
         ensures capacity { OnOk result (length out.old.notices + needed inputs.old.inputs self.old.messages ≤ out.new.capacity) }
         ensures more { out.old.capacity ≤ out.new.capacity }
         ensures list { IfOk result (λ prepared. prepared.capacity ≡ self.old.capacity) }
@@ -161,9 +162,9 @@ impl MsgList {
         let Ok(count) = u32::try_from(self.items.len()) else {
             return Err(NoMemory);
         };
-        let streams = taken(alloc, self.items.make_contiguous(), count, inputs, out)?;
+        let (streams, blocks) = taken(alloc, self.items.make_contiguous(), count, inputs, out)?;
         let items = replace(&mut self.items, VecDeque::new(alloc));
-        Ok(Prepared::new(items, streams, count))
+        Ok(Prepared::new(items, streams, count, blocks))
     }
 
     /// Takes the list of messages back that a turn has taken, for its room. Takes no memory.
@@ -189,22 +190,24 @@ fn brings_stream(message: &Msg<Stream>)
     }
 }
 
-// What a turn with these messages takes: the stream of each new input.
+// What a turn with these messages takes: the stream of each new input, and how many blocks the messages bring.
 fn taken(
     alloc: Global,
     messages: &mut [Msg<Stream>],
     count: u32,
     inputs: &mut Inputs,
     out: &mut NoticeList,
-) -> Mem<VecDeque<Stream>>
+) -> Mem<(VecDeque<Stream>, u32)>
     requires { AllByRecursion Opens (messages_of messages.old) }
     ensures same { messages_of messages.new ≡ messages_of messages.old }
     ensures inputs { inputs.new.inputs ≡ inputs.old.inputs }
     ensures notices { out.new.notices ≡ out.old.notices }
-    ensures streams { IfOk result (λ streams. map KeptStream.stream streams.items ≡ flat_map streams_of (messages_of messages.old)) }
-    ensures streams_room { IfOk result (λ streams. AllByRecursion (IsRoomy count) streams.items) }
-    ensures parcels_room { OnOk result (AllByRecursion (BringsRoom count) messages.new) }
+    ensures streams { IfOk result (λ made. map KeptStream.stream made.0.items ≡ flat_map streams_of (messages_of messages.old)) }
+    ensures blocks { IfOk result (λ made. made.1 ≡ sum_by blocks_of (messages_of messages.old)) }
+    ensures streams_room { IfOk result (λ made. AllByRecursion (IsRoomy count made.1) made.0.items) }
+    ensures parcels_room { IfOk result (λ made. AllByRecursion (BringsRoom count made.1) messages.new) }
     ensures room { OnOk result (inputs.new.room ≡ count) }
+    ensures block_room { IfOk result (λ made. inputs.new.block_room ≡ made.1) }
     ensures more { out.old.capacity ≤ out.new.capacity }
     ensures capacity { OnOk result (length out.old.notices + needed inputs.old.inputs (messages_of messages.old) ≤ out.new.capacity) }
 {
@@ -216,7 +219,7 @@ fn taken(
     inputs.reserve(count, blocks)?;
     let streams = opened(alloc, messages, count, blocks)?;
     reserve_parcels(messages, count, blocks)?;
-    Ok(streams)
+    Ok((streams, blocks))
 }
 
 // How many notices a turn gives at the most. A number that passes all that memory can hold is want of memory.

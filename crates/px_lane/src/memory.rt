@@ -85,7 +85,7 @@ pub(crate) fn opened(
 ) -> Mem<VecDeque<Stream>>
     requires { AllByRecursion Opens (messages_of messages.now) }
     ensures streams { IfOk result (λ streams. map KeptStream.stream streams.items ≡ flat_map streams_of (messages_of messages.now)) }
-    ensures room { IfOk result (λ streams. AllByRecursion (IsRoomy room) streams.items) }
+    ensures room { IfOk result (λ streams. AllByRecursion (IsRoomy room blocks) streams.items) }
 {
     let mut streams = VecDeque::new(alloc);
     for message in messages {
@@ -100,7 +100,7 @@ pub(crate) fn opened(
 fn stream_of(alloc: Global, fresh: &NewStream, room: u32, blocks: u32) -> Mem<Stream>
     requires { (sink : SampleSpec) × IsNewStream sink (opened fresh.now) }
     ensures stream { IfOk result (λ s. s.stream ≡ new_stream (sample_spec fresh.now.spec) fresh.now.feed fresh.now.factors fresh.now.attr fresh.now.corked) }
-    ensures room { IfOk result (λ s. room ≤ s.room) }
+    ensures room { IfOk result (λ s. IsRoomy room blocks s) }
 {
     let mut stream = Stream::new(alloc, fresh);
     stream.reserve(room, blocks)?;
@@ -110,7 +110,7 @@ fn stream_of(alloc: Global, fresh: &NewStream, room: u32, blocks: u32) -> Mem<St
 /// Makes room for so many messages with so many blocks in all in each parcel that comes.
 pub(crate) fn reserve_parcels(messages: &mut [Msg<Stream>], room: u32, blocks: u32) -> Mem<()>
     ensures same { messages_of messages.new ≡ messages_of messages.old }
-    ensures room { OnOk result (AllByRecursion (BringsRoom room) messages.new) }
+    ensures room { OnOk result (AllByRecursion (BringsRoom room blocks) messages.new) }
 {
     for message in messages.iter_mut() {
         reserve_parcel(message, room, blocks)?;
@@ -120,7 +120,7 @@ pub(crate) fn reserve_parcels(messages: &mut [Msg<Stream>], room: u32, blocks: u
 
 fn reserve_parcel(message: &mut Msg<Stream>, room: u32, blocks: u32) -> Mem<()>
     ensures same { plain_message message.new ≡ plain_message message.old }
-    ensures room { OnOk result (BringsRoom room message.new) }
+    ensures room { OnOk result (BringsRoom room blocks message.new) }
 {
     match message {
         Msg::Attach { parcel, .. } => parcel.reserve(room, blocks),
@@ -131,8 +131,8 @@ fn reserve_parcel(message: &mut Msg<Stream>, room: u32, blocks: u32) -> Mem<()>
 /// Makes room for so many messages with so many blocks in all in each stream that is there.
 pub(crate) fn reserve_inputs(inputs: &mut [Input], room: u32, blocks: u32) -> Mem<()>
     ensures same { inputs_of inputs.new ≡ inputs_of inputs.old }
-    ensures kept { (old : ℕ) → AllByRecursion (HasRoom old) inputs.old → AllByRecursion (HasRoom old) inputs.new }
-    ensures room { OnOk result (AllByRecursion (HasRoom room) inputs.new) }
+    ensures kept { (old kept : ℕ) → AllByRecursion (HasRoom old kept) inputs.old → AllByRecursion (HasRoom old kept) inputs.new }
+    ensures room { OnOk result (AllByRecursion (HasRoom room blocks) inputs.new) }
 {
     for input in inputs.iter_mut() {
         input.stream.reserve(room, blocks)?;

@@ -1,6 +1,6 @@
 // What a sink mixes.
 ghost use Rattle.std.specs.Prelude.{◌≡◌, ◌≤◌, ◌+◌, ◌-◌, ◌*◌, ◌^◌, ◌<◌, ◌++◌, length, map, take, drop, flat_map, [], IfOk, OnOk, OnErr};
-ghost use Rattle.std.specs.List.{AllByRecursion, concat, range_with_len};
+ghost use Rattle.std.specs.List.{AllByRecursion, concat, range_with_len, sum_by};
 ghost use Rattle.px_sample.specs.Format.{frame_size_of};
 ghost use Rattle.px_msg.specs.View.{sample_spec};
 ghost use Rattle.px_model.specs.Sink.{Input as Stands, IsStreamOf, streams_of, empty_sink};
@@ -10,7 +10,7 @@ ghost use Rattle.px_lane.specs.Mixing.{RoomySink, IsMixed, given_up};
 ghost use Rattle.px_stream.specs.Samples.{samples};
 ghost use Rattle.px_lane.specs.Taking.{CanTakeAll};
 ghost use Rattle.px_lane.specs.Lane.{IsLane};
-ghost use Rattle.px_lane.specs.Needed.{needed, Opens};
+ghost use Rattle.px_lane.specs.Needed.{needed, blocks_of, Opens};
 ghost use Rattle.px_lane.specs.Whole.{AreFramesOf};
 ghost use Rattle.px_model.specs.Frame.{frame_size};
 
@@ -50,6 +50,7 @@ impl Model for SinkMixer {
     ghost view = { λ m. record {
       sink = sink_of m.spec (record { guard = m.guard; depth = m.depth; consumed = m.consumed; filled = m.filled; horizon = m.horizon }) m.stopped m.bytes.items m.inputs.inputs;
       room = m.inputs.room;
+      block_room = m.inputs.block_room;
     } };
 
     ghost invariant = { λ m. IsMixed m.spec
@@ -156,6 +157,7 @@ impl SinkMixer {
         ensures messages { IfOk result (λ prepared. prepared.messages ≡ messages.old.messages) }
         ensures parcels { AllByRecursion BringsStream messages.old.messages }
         ensures room { IfOk result (λ prepared. (self.new.room ≡ length messages.old.messages) × (prepared.room ≡ length messages.old.messages)) }
+        ensures block_room { IfOk result (λ prepared. (self.new.block_room ≡ sum_by blocks_of messages.old.messages) × (prepared.block_room ≡ sum_by blocks_of messages.old.messages)) }
         ensures capacity { OnOk result (length out.old.notices + needed self.old.sink.inputs messages.old.messages ≤ out.new.capacity) }
         ensures more { out.old.capacity ≤ out.new.capacity }
         ensures list { IfOk result (λ prepared. prepared.capacity ≡ messages.old.capacity) }
@@ -176,6 +178,7 @@ impl SinkMixer {
         requires room { length out.old.notices + length (flat_map (going_notices (next_horizon self.old.sink frames - self.old.sink.horizon)) self.old.sink.inputs) ≤ out.old.capacity }
         ensures value { self.new.sink ≡ settled self.old.sink frames }
         ensures room { self.new.room ≡ self.old.room }
+        ensures block_room { self.new.block_room ≡ self.old.block_room }
         ensures notices { out.new.notices ≡ out.old.notices ++ flat_map (going_notices (next_horizon self.old.sink frames - self.old.sink.horizon)) self.old.sink.inputs }
         ensures capacity { out.new.capacity ≡ out.old.capacity }
     {
@@ -196,7 +199,9 @@ impl SinkMixer {
         blocks: &mut B,
     )
         requires room { length messages.old.messages ≤ self.old.room }
+        requires block_room { sum_by blocks_of messages.old.messages ≤ self.old.block_room }
         requires comes { self.old.room ≤ messages.old.room }
+        requires blocks_come { self.old.block_room ≤ messages.old.block_room }
         requires suits { CanTakeAll (self.old.sink.filled - self.old.sink.horizon) messages.old.messages self.old.sink.inputs }
         requires capacity { length out.old.notices + length (told_notices self.old.sink messages.old.messages) ≤ out.old.capacity }
         ensures value { self.new.sink ≡ told self.old.sink messages.old.messages }
@@ -215,6 +220,7 @@ impl SinkMixer {
         ensures value { self.new.sink ≡ given_up self.old.sink }
         ensures whole { AreFramesOf (frame_size self.new.sink.spec) self.new.sink.buffer }
         ensures room { self.new.room ≡ self.old.room }
+        ensures block_room { self.new.block_room ≡ self.old.block_room }
     {
         self.filled = self.horizon;
         self.stopped = true;
@@ -228,6 +234,7 @@ impl SinkMixer {
         ensures value { self.new.sink ≡ remixed samples self.old.sink }
         ensures whole { AreFramesOf (frame_size self.new.sink.spec) self.new.sink.buffer }
         ensures room { self.new.room ≡ self.old.room }
+        ensures block_room { self.new.block_room ≡ self.old.block_room }
     {
         let kept = self.horizon - self.consumed;
         let frames = self.depth as u64 - kept;
@@ -247,6 +254,7 @@ impl SinkMixer {
         requires { length out.old.notices + length (flat_map (asked_notices (self.old.sink.filled - self.old.sink.horizon)) self.old.sink.inputs) ≤ out.old.capacity }
         ensures value { self.new.sink ≡ asked self.old.sink }
         ensures room { self.new.room ≡ self.old.room }
+        ensures block_room { self.new.block_room ≡ self.old.block_room }
         ensures notices { out.new.notices ≡ out.old.notices ++ flat_map (asked_notices (self.old.sink.filled - self.old.sink.horizon)) self.old.sink.inputs }
         ensures capacity { out.new.capacity ≡ out.old.capacity }
     {
@@ -277,7 +285,9 @@ impl SinkMixer {
         requires countable { self.old.sink.filled ≤ 2 ^ 60 }
         requires messages { AreFor self.old.sink messages.old.messages }
         requires room { length messages.old.messages ≤ self.old.room }
+        requires block_room { sum_by blocks_of messages.old.messages ≤ self.old.block_room }
         requires comes { self.old.room ≤ messages.old.room }
+        requires blocks_come { self.old.block_room ≤ messages.old.block_room }
         requires capacity { length out.old.notices + length (turn_notices samples self.old.sink frames messages.old.messages) ≤ out.old.capacity }
         ensures value { self.new.sink ≡ turned samples self.old.sink frames messages.old.messages }
         ensures lane { IsLane self.new.sink }
@@ -303,7 +313,9 @@ impl SinkMixer {
         requires lane { IsLane self.old.sink }
         requires messages { AreFor self.old.sink messages.old.messages }
         requires room { length messages.old.messages ≤ self.old.room }
+        requires block_room { sum_by blocks_of messages.old.messages ≤ self.old.block_room }
         requires comes { self.old.room ≤ messages.old.room }
+        requires blocks_come { self.old.block_room ≤ messages.old.block_room }
         requires capacity { length out.old.notices + length (stopped_notices self.old.sink messages.old.messages) ≤ out.old.capacity }
         ensures value { self.new.sink ≡ stopped_turn self.old.sink messages.old.messages }
         ensures lane { IsLane self.new.sink }

@@ -1,6 +1,6 @@
 // The messages of a turn, with all the memory that they take.
 ghost use Rattle.std.specs.Prelude.{ℕ, ◌≡◌, ◌≤◌, ◌+◌, ◌-◌, ◌++◌, ◌∷◌, [], List, length, map, take, drop, flat_map, MatchOption, IfOk, OnOk, OnErr};
-ghost use Rattle.std.specs.List.{AllByRecursion};
+ghost use Rattle.std.specs.List.{AllByRecursion, sum_by};
 ghost use Rattle.std.specs.VecDeque.{deque_capacity};
 ghost use Rattle.px_model.specs.Stream.{Stream as Plain};
 ghost use Rattle.px_model.specs.Message.{Message};
@@ -8,6 +8,7 @@ ghost use Rattle.px_model.specs.Sink.{Input as Stands};
 ghost use Rattle.px_model.specs.Turn.{inputs_with, message_notices, inputs_with_all, all_message_notices};
 ghost use Rattle.px_lane.specs.Lists.{plain_message, messages_of};
 ghost use Rattle.px_stream.specs.Kept.{KeptStream};
+ghost use Rattle.px_lane.specs.Needed.{blocks_of};
 ghost use Rattle.px_lane.specs.Taking.{CanTake, CanTakeAll, streams_of, IsRoomy, BringsRoom, HasRoomLeft, IsReadyFor};
 
 use crate::NoticeList;
@@ -26,6 +27,7 @@ pub(crate) struct Prepared {
     // of each new input, in order
     streams: VecDeque<Stream>,
     room: u32,
+    block_room: u32,
 }
 
 impl Model for Prepared {
@@ -39,31 +41,33 @@ impl Model for Prepared {
 
     ghost Value = { ReadyMessages };
 
-    ghost view = { λ p. record { messages = messages_of p.items.items; room = p.room; capacity = deque_capacity p.items } };
+    ghost view = { λ p. record { messages = messages_of p.items.items; room = p.room; block_room = p.block_room; capacity = deque_capacity p.items } };
 
     ghost invariant = { λ p.
         (map KeptStream.stream p.streams.items ≡ flat_map streams_of (messages_of p.items.items))
-        × AllByRecursion (IsRoomy p.room) p.streams.items
-        × AllByRecursion (BringsRoom p.room) p.items.items };
+        × AllByRecursion (IsRoomy p.room p.block_room) p.streams.items
+        × AllByRecursion (BringsRoom p.room p.block_room) p.items.items };
 }
 
 impl Prepared {
-    /// These messages, with the stream of each new input, in order. Each stream that comes has room for so many messages. Takes no
-    /// memory.
+    /// These messages, with the stream of each new input, in order. Each stream that comes has room for so many messages with so many
+    /// blocks in all. Takes no memory.
     pub(crate) fn new(
         items: VecDeque<Msg<Stream>>,
         streams: VecDeque<Stream>,
         room: u32,
+        block_room: u32,
     ) -> Prepared
         requires streams { map KeptStream.stream streams.items ≡ flat_map streams_of (messages_of items.items) }
-        requires streams_room { AllByRecursion (IsRoomy room) streams.items }
-        requires parcels_room { AllByRecursion (BringsRoom room) items.items }
-        ensures { result ≡ record { messages = messages_of items.items; room = room; capacity = deque_capacity items } }
+        requires streams_room { AllByRecursion (IsRoomy room block_room) streams.items }
+        requires parcels_room { AllByRecursion (BringsRoom room block_room) items.items }
+        ensures { result ≡ record { messages = messages_of items.items; room = room; block_room = block_room; capacity = deque_capacity items } }
     {
         Prepared {
             items,
             streams,
             room,
+            block_room,
         }
     }
 
@@ -78,8 +82,9 @@ impl Prepared {
     /// Takes the first message. Takes no memory.
     pub(crate) fn next(&mut self) -> Option<Ready>
         ensures value { MatchOption result ((self.old.messages ≡ []) × (self.new.messages ≡ [])) (λ ready.
-            (m : Message Plain) × (self.old.messages ≡ m ∷ self.new.messages) × IsReadyFor ready m × HasRoomLeft self.old.room ready) }
+            (m : Message Plain) × (self.old.messages ≡ m ∷ self.new.messages) × IsReadyFor ready m × HasRoomLeft self.old.room self.old.block_room ready) }
         ensures room { self.new.room ≡ self.old.room }
+        ensures block_room { self.new.block_room ≡ self.old.block_room }
         ensures capacity { self.new.capacity ≡ self.old.capacity }
     {
         match self.items.pop_front() {
@@ -94,7 +99,7 @@ fn ready(message: Msg<Stream>, streams: &mut VecDeque<Stream>) -> Ready
     requires streams { take (length (streams_of (plain_message message))) (map KeptStream.stream streams.old.items) ≡ streams_of (plain_message message) }
     ensures ready { IsReadyFor result (plain_message message) }
     ensures streams { map KeptStream.stream streams.new.items ≡ drop (length (streams_of (plain_message message))) (map KeptStream.stream streams.old.items) }
-    ensures room { (room : ℕ) → AllByRecursion (IsRoomy room) streams.old.items → BringsRoom room message → HasRoomLeft room result × AllByRecursion (IsRoomy room) streams.new.items }
+    ensures room { (room kept : ℕ) → AllByRecursion (IsRoomy room kept) streams.old.items → BringsRoom room kept message → HasRoomLeft room kept result × AllByRecursion (IsRoomy room kept) streams.new.items }
 {
     match message {
         Msg::New(fresh) => Ready::Insert {
@@ -169,7 +174,9 @@ impl Inputs {
         blocks: &mut B,
     )
         requires room { length messages.old.messages ≤ self.old.room }
+        requires block_room { sum_by blocks_of messages.old.messages ≤ self.old.block_room }
         requires comes { self.old.room ≤ messages.old.room }
+        requires blocks_come { self.old.block_room ≤ messages.old.block_room }
         requires suits { CanTakeAll mixed messages.old.messages self.old.inputs }
         requires capacity { length out.old.notices + length (all_message_notices mixed buffered messages.old.messages self.old.inputs) ≤ out.old.capacity }
         ensures inputs { self.new.inputs ≡ inputs_with_all mixed messages.old.messages self.old.inputs }

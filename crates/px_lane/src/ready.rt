@@ -1,6 +1,6 @@
 // A message with all the memory that it takes.
 ghost use Rattle.std.specs.Prelude.{◌≡◌, ◌≤◌, ◌+◌, ◌-◌, ◌++◌, length};
-ghost use Rattle.px_lane.specs.Taking.{HasRoomLeft, ready_inputs, ready_notices, ReadySuits};
+ghost use Rattle.px_lane.specs.Taking.{HasRoomLeft, ready_blocks, ready_inputs, ready_notices, ReadySuits};
 
 use crate::NoticeList;
 use crate::inputs::Inputs;
@@ -44,7 +44,7 @@ pub(crate) enum Ready {
 
 impl Inputs {
     /// Takes a message, where so many frames are mixed past the horizon and so many are in the sink's buffer, and tells what it has to
-    /// tell. Takes room for one message, and no memory.
+    /// tell. Takes room for one message with its blocks, and no memory.
     pub(crate) fn take<B: BlockSource>(
         &mut self,
         message: Ready,
@@ -54,12 +54,14 @@ impl Inputs {
         blocks: &mut B,
     )
         requires room { 1 ≤ self.old.room }
-        requires comes { HasRoomLeft (self.old.room - 1) message }
+        requires block_room { ready_blocks message ≤ self.old.block_room }
+        requires comes { HasRoomLeft (self.old.room - 1) self.old.block_room message }
         requires suits { ReadySuits message self.old.inputs }
         requires capacity { length out.old.notices + length (ready_notices mixed buffered message self.old.inputs) ≤ out.old.capacity }
         ensures inputs { self.new.inputs ≡ ready_inputs mixed message self.old.inputs }
         ensures room { self.old.room ≤ self.new.room + 1 }
         ensures less { self.new.room ≤ self.old.room }
+        ensures block_room { self.new.block_room + ready_blocks message ≡ self.old.block_room }
         ensures notices { out.new.notices ≡ out.old.notices ++ ready_notices mixed buffered message self.old.inputs }
         ensures capacity { out.new.capacity ≡ out.old.capacity }
     {

@@ -8,6 +8,8 @@ pub record KeptQueue : Type 0 where
   pub frame : ℕ
   -- how many more writes it takes without memory
   pub room : ℕ
+  -- how many blocks these may bring in all
+  pub block_room : ℕ
   -- how many blocks it keeps
   pub blocks : ℕ
 

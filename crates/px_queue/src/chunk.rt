@@ -100,6 +100,13 @@ impl Chunk {
         copy_bytes(self.bytes.as_slice(), start, out);
     }
 
+    /// How many blocks its bytes lie in.
+    pub(crate) fn blocks(&self) -> usize
+        ensures { result ≡ self.now.blocks }
+    {
+        self.bytes.count()
+    }
+
     /// Gives its blocks back to their source.
     pub(crate) fn give_back<B: BlockSource>(self, source: &mut B)
         ensures { B.given source.new ≡ after_giving (B.given source.old) self.blocks }

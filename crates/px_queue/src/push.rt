@@ -27,7 +27,7 @@ pub enum Pushed {
 impl FrameQueue {
     /// Writes so many frames at the index that a seek goes to, where at most `limit` frames may wait past the index `ahead`: the mode of
     /// the seek as on the wire, 0 to 3, and its offset in frames. They replace what is held there; what lies before the read index
-    /// is dropped. Frames that aren't held give their blocks back to the source. Takes room for one write, and no memory.
+    /// is dropped. Frames that aren't held give their blocks back to the source. Takes room for one write with its blocks, and no memory.
     /// (PulseAudio: `pa_memblockq_seek` and `pa_memblockq_push`; own: the limit counts from the ahead index.)
     pub fn push<B: BlockSource>(
         &mut self,
@@ -40,6 +40,7 @@ impl FrameQueue {
         blocks: &mut B,
     ) -> Pushed
         requires room { 1 ≤ self.old.room }
+        requires block_room { blocks_for (length bytes) ≤ self.old.block_room }
         requires seek { seek ≤ 3 }
         requires whole { length bytes ≡ frames * self.old.frame }
         ensures outcome { outcome_for result ≡ outcome_of self.old.queue limit (target_of self.old.queue (seek_of seek) offset) frames ahead }
@@ -47,6 +48,7 @@ impl FrameQueue {
         ensures queue { self.new.queue ≡ queue_with (outcome_for result) self.old.queue (target_of self.old.queue (seek_of seek) offset) (frames_of self.old.frame frames bytes) }
         ensures frame { self.new.frame ≡ self.old.frame }
         ensures room { self.old.room ≤ self.new.room + 1 }
+        ensures block_room { self.old.block_room ≤ self.new.block_room + blocks_for (length bytes) }
         ensures given { after_giving (B.given blocks.new) self.new.blocks ≡ after_giving (B.given blocks.old) (self.old.blocks + blocks_for (length bytes)) }
     {
         let (at, end) = match self.place(seek, offset, frames) {
@@ -102,6 +104,7 @@ impl FrameQueue {
         ensures queue { (p : ℤ) (frames : List Frame) → end ≡ onward p (length frames) → self.new.queue ≡ queue_with overflow self.old.queue p frames }
         ensures frame { self.new.frame ≡ self.old.frame }
         ensures room { self.new.room ≡ self.old.room }
+        ensures block_room { self.new.block_room ≡ self.old.block_room }
         ensures blocks { self.new.blocks ≡ self.old.blocks }
     {
         self.write = end;
@@ -110,14 +113,18 @@ impl FrameQueue {
     // Holds frames over what is held, and goes on writing behind them.
     fn store(&mut self, chunk: Chunk)
         requires room { 1 ≤ self.old.room }
+        requires block_room { chunk.blocks ≤ self.old.block_room }
         requires size { chunk.size ≡ self.old.frame }
         ensures queue { self.new.queue ≡ queue_with stored self.old.queue chunk.at chunk.frames }
         ensures frame { self.new.frame ≡ self.old.frame }
         ensures room { self.old.room ≤ self.new.room + 1 }
+        ensures block_room { self.new.block_room + chunk.blocks ≡ self.old.block_room }
         ensures blocks { self.new.blocks ≡ self.old.blocks + chunk.blocks }
     {
         let end = chunk.end();
         let reach = chunk.reach(self.read);
+        let brought = chunk.blocks() as u32;
+        self.block_room -= brought;
         self.writes.push_reserved(chunk);
         self.held = self.held.max(reach);
         self.write = end;

@@ -20,6 +20,7 @@ use std::marker::Model;
 pub struct FrameQueue {
     pub(crate) frame: u32,
     pub(crate) writes: Vec<Chunk>,
+    pub(crate) block_room: u32,
     pub(crate) read: Index,
     pub(crate) write: Index,
     pub(crate) held: u64,
@@ -39,6 +40,7 @@ impl Model for FrameQueue {
       queue = queue_of q.writes.items q.read q.write q.hold q.prebuf;
       frame = q.frame;
       room = vec_capacity q.writes - vec_len q.writes;
+      block_room = q.block_room;
       blocks = blocks_in q.writes.items;
     } };
 
@@ -58,6 +60,7 @@ impl FrameQueue {
         FrameQueue {
             frame: frame_size,
             writes: Vec::new(alloc),
+            block_room: 0,
             read: Index::zero(),
             write: Index::zero(),
             held: 0,
@@ -66,16 +69,18 @@ impl FrameQueue {
         }
     }
 
-    /// Takes room for so many more writes, with so many blocks in all: a write brings the room of its blocks, so they need none here.
-    /// Without memory nothing changes.
-    pub fn reserve(&mut self, writes: u32, _blocks: u32) -> Mem<()>
-        ensures ok { OnOk result (writes ≤ self.new.room) }
+    /// Takes room for so many more writes, with so many blocks in all. Without memory nothing changes. (A write brings the memory of its
+    /// blocks, so the room in blocks is a number here.)
+    pub fn reserve(&mut self, writes: u32, blocks: u32) -> Mem<()>
+        ensures ok { OnOk result ((writes ≤ self.new.room) × (blocks ≤ self.new.block_room)) }
         ensures queue { self.new.queue ≡ self.old.queue }
         ensures frame { self.new.frame ≡ self.old.frame }
         ensures blocks { self.new.blocks ≡ self.old.blocks }
         ensures room { self.old.room ≤ self.new.room }
+        ensures block_room { self.old.block_room ≤ self.new.block_room }
     {
         self.writes.reserve(writes as usize)?;
+        self.block_room = self.block_room.max(blocks);
         Ok(())
     }
 
@@ -165,6 +170,7 @@ impl FrameQueue {
         ensures queue { self.new.queue ≡ queue_after self.old.queue frames }
         ensures frame { self.new.frame ≡ self.old.frame }
         ensures room { self.old.room ≤ self.new.room }
+        ensures block_room { self.old.block_room ≤ self.new.block_room }
         ensures given { after_giving (B.given blocks.new) self.new.blocks ≡ after_giving (B.given blocks.old) self.old.blocks }
     {
         let given = self.given(frames);
@@ -178,6 +184,7 @@ impl FrameQueue {
         ensures queue { self.new.queue ≡ queue_after self.old.queue frames }
         ensures frame { self.new.frame ≡ self.old.frame }
         ensures room { self.new.room ≡ self.old.room }
+        ensures block_room { self.new.block_room ≡ self.old.block_room }
         ensures blocks { self.new.blocks ≡ self.old.blocks }
     {
         if frames == 0 || self.is_short() {
@@ -195,6 +202,7 @@ impl FrameQueue {
         ensures queue { self.new.queue ≡ self.old.queue }
         ensures frame { self.new.frame ≡ self.old.frame }
         ensures room { self.old.room ≤ self.new.room }
+        ensures block_room { self.old.block_room ≤ self.new.block_room }
         ensures given { after_giving (B.given blocks.new) self.new.blocks ≡ after_giving (B.given blocks.old) self.old.blocks }
     {
         forget_past(&mut self.writes, self.read, blocks);
@@ -206,6 +214,7 @@ impl FrameQueue {
         ensures queue { self.new.queue ≡ emptied self.old.queue }
         ensures frame { self.new.frame ≡ self.old.frame }
         ensures room { self.old.room ≤ self.new.room }
+        ensures block_room { self.old.block_room ≤ self.new.block_room }
         ensures none { self.new.blocks ≡ 0 }
         ensures given { B.given blocks.new ≡ after_giving (B.given blocks.old) self.old.blocks }
     {
@@ -222,6 +231,7 @@ impl FrameQueue {
         ensures queue { self.new.queue ≡ with_hold self.old.queue on }
         ensures frame { self.new.frame ≡ self.old.frame }
         ensures room { self.new.room ≡ self.old.room }
+        ensures block_room { self.new.block_room ≡ self.old.block_room }
         ensures blocks { self.new.blocks ≡ self.old.blocks }
     {
         self.hold = on;
@@ -232,6 +242,7 @@ impl FrameQueue {
         ensures queue { self.new.queue ≡ with_prebuf self.old.queue frames }
         ensures frame { self.new.frame ≡ self.old.frame }
         ensures room { self.new.room ≡ self.old.room }
+        ensures block_room { self.new.block_room ≡ self.old.block_room }
         ensures blocks { self.new.blocks ≡ self.old.blocks }
     {
         self.hold = self.hold && frames > 0;

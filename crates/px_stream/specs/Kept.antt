@@ -10,6 +10,8 @@ pub record KeptStream : Type 0 where
   pub stream : Stream
   -- how many more messages it takes without memory
   pub room : ℕ
+  -- how many blocks these may bring in all
+  pub block_room : ℕ
   -- how many blocks it keeps
   pub blocks : ℕ
 

@@ -37,6 +37,7 @@ impl Stream {
         ensures underflow { result.underflow ≡ has_run_out self.old.stream frames }
         ensures stream { self.new.stream ≡ after self.old.stream frames }
         ensures room { self.old.room ≤ self.new.room }
+        ensures block_room { self.old.block_room ≤ self.new.block_room }
         ensures given { after_giving (B.given blocks.new) self.new.blocks ≡ after_giving (B.given blocks.old) self.old.blocks }
     {
         let settled = Settled {
@@ -51,6 +52,7 @@ impl Stream {
     fn go<B: BlockSource>(&mut self, frames: u64, blocks: &mut B)
         ensures stream { self.new.stream ≡ after self.old.stream frames }
         ensures room { self.old.room ≤ self.new.room }
+        ensures block_room { self.old.block_room ≤ self.new.block_room }
         ensures given { after_giving (B.given blocks.new) self.new.blocks ≡ after_giving (B.given blocks.old) self.old.blocks }
     {
         if frames == 0 || self.corked {
@@ -124,6 +126,7 @@ impl Stream {
         ensures asked { nat_lt 0 result ≡ nat_le self.old.stream.minreq (missing_of self.old.stream mixed) }
         ensures stream { self.new.stream ≡ record self.old.stream { requested = self.old.stream.requested + request_of self.old.stream mixed } }
         ensures room { self.new.room ≡ self.old.room }
+        ensures block_room { self.new.block_room ≡ self.old.block_room }
         ensures blocks { self.new.blocks ≡ self.old.blocks }
     {
         let frames = self.asks(mixed);
@@ -152,6 +155,7 @@ impl Stream {
             (λ tag. (has_ended self.old.stream ≡ true) × (self.old.stream.draining ≡ tag ∷ self.new.stream.draining)
             × (self.new.stream ≡ record self.old.stream { draining = self.new.stream.draining })) }
         ensures room { self.old.room ≤ self.new.room }
+        ensures block_room { self.old.block_room ≤ self.new.block_room }
         ensures blocks { self.new.blocks ≡ self.old.blocks }
     {
         if self.draining.is_empty() || !self.has_ended() {

@@ -49,6 +49,7 @@ impl Model for Stream {
     ghost view = { λ s. record {
       stream = stream_of s.queue.queue s.corked s.maxlength s.tlength s.minreq s.requested s.draining.items s.run (sample_spec s.spec) s.feed s.factors;
       room = min s.queue.room (vec_capacity s.draining - vec_len s.draining);
+      block_room = s.queue.block_room;
       blocks = s.queue.blocks;
     } };
 
@@ -84,10 +85,11 @@ impl Stream {
 
     /// Takes room for so many messages more, with so many blocks in all. Without memory the stream stays what it is.
     pub fn reserve(&mut self, messages: u32, blocks: u32) -> Mem<()>
-        ensures ok { OnOk result (messages ≤ self.new.room) }
+        ensures ok { OnOk result ((messages ≤ self.new.room) × (blocks ≤ self.new.block_room)) }
         ensures stream { self.new.stream ≡ self.old.stream }
         ensures blocks { self.new.blocks ≡ self.old.blocks }
         ensures room { self.old.room ≤ self.new.room }
+        ensures block_room { self.old.block_room ≤ self.new.block_room }
     {
         self.queue.reserve(messages, blocks)?;
         self.draining.reserve(messages as usize)?;
@@ -95,7 +97,7 @@ impl Stream {
     }
 
     /// Applies a message, where so many frames of its sink are mixed past its read index. It fits the stream. Blocks that fall out of
-    /// use go back to their source. A write and a drain take room for one message. Takes no memory.
+    /// use go back to their source. A write takes room for one message with its blocks, and a drain for one. Takes no memory.
     pub fn apply<B: BlockSource>(
         &mut self,
         message: StreamMsg,
@@ -103,10 +105,12 @@ impl Stream {
         blocks: &mut B,
     ) -> Applied
         requires room { room_for (message_of message) ≤ self.old.room }
+        requires block_room { blocks_with (message_of message) ≤ self.old.block_room }
         requires suits { Suits self.old.stream (message_of message) }
         ensures stream { self.new.stream ≡ applied mixed (message_of message) self.old.stream }
         ensures answer { result ≡ answer_for (overflows mixed (message_of message) self.old.stream) }
         ensures room { self.old.room ≤ self.new.room + room_for (message_of message) }
+        ensures block_room { self.old.block_room ≤ self.new.block_room + blocks_with (message_of message) }
         ensures given { after_giving (B.given blocks.new) self.new.blocks ≡ after_giving (B.given blocks.old) (self.old.blocks + blocks_with (message_of message)) }
     {
         match message {
@@ -140,11 +144,13 @@ impl Stream {
         blocks: &mut B,
     ) -> Applied
         requires room { 1 ≤ self.old.room }
+        requires block_room { blocks_for (length bytes) ≤ self.old.block_room }
         requires seek { seek ≤ 3 }
         requires whole { length bytes ≡ frames * frame_size self.old.stream.spec }
         ensures stream { self.new.stream ≡ written_by seek offset frames bytes mixed self.old.stream }
         ensures answer { result ≡ answer_for (is_told (write_outcome self.old.stream seek offset frames bytes mixed)) }
         ensures room { self.old.room ≤ self.new.room + 1 }
+        ensures block_room { self.old.block_room ≤ self.new.block_room + blocks_for (length bytes) }
         ensures given { after_giving (B.given blocks.new) self.new.blocks ≡ after_giving (B.given blocks.old) (self.old.blocks + blocks_for (length bytes)) }
     {
         let ahead = self.ahead_index(mixed);
@@ -170,6 +176,7 @@ impl Stream {
         requires factors { length factors ≡ length feed }
         ensures stream { self.new.stream ≡ attached self.old.stream feed factors }
         ensures room { self.new.room ≡ self.old.room }
+        ensures block_room { self.new.block_room ≡ self.old.block_room }
         ensures blocks { self.new.blocks ≡ self.old.blocks }
     {
         self.feed = feed;
@@ -179,6 +186,7 @@ impl Stream {
     fn cork(&mut self, on: bool)
         ensures stream { self.new.stream ≡ corked_to self.old.stream on }
         ensures room { self.new.room ≡ self.old.room }
+        ensures block_room { self.new.block_room ≡ self.old.block_room }
         ensures blocks { self.new.blocks ≡ self.old.blocks }
     {
         self.corked = on;
@@ -187,6 +195,7 @@ impl Stream {
     fn flush<B: BlockSource>(&mut self, blocks: &mut B)
         ensures stream { self.new.stream ≡ flushed self.old.stream }
         ensures room { self.old.room ≤ self.new.room }
+        ensures block_room { self.old.block_room ≤ self.new.block_room }
         ensures given { after_giving (B.given blocks.new) self.new.blocks ≡ after_giving (B.given blocks.old) self.old.blocks }
     {
         self.queue.flush(blocks);
@@ -195,6 +204,7 @@ impl Stream {
     fn trigger(&mut self)
         ensures stream { self.new.stream ≡ triggered self.old.stream }
         ensures room { self.new.room ≡ self.old.room }
+        ensures block_room { self.new.block_room ≡ self.old.block_room }
         ensures blocks { self.new.blocks ≡ self.old.blocks }
     {
         self.queue.set_hold(false);
@@ -203,6 +213,7 @@ impl Stream {
     fn wait_again(&mut self)
         ensures stream { self.new.stream ≡ prebuffered self.old.stream }
         ensures room { self.new.room ≡ self.old.room }
+        ensures block_room { self.new.block_room ≡ self.old.block_room }
         ensures blocks { self.new.blocks ≡ self.old.blocks }
     {
         self.queue.set_hold(self.prebuf > 0);
@@ -212,6 +223,7 @@ impl Stream {
         requires { 1 ≤ self.old.room }
         ensures stream { self.new.stream ≡ drained_by self.old.stream tag }
         ensures room { self.old.room ≤ self.new.room + 1 }
+        ensures block_room { self.new.block_room ≡ self.old.block_room }
         ensures blocks { self.new.blocks ≡ self.old.blocks }
     {
         self.draining.push_reserved(tag);
@@ -222,6 +234,7 @@ impl Stream {
         requires { IsRepaired attr.now }
         ensures stream { self.new.stream ≡ with_attr self.old.stream attr.now }
         ensures room { self.new.room ≡ self.old.room }
+        ensures block_room { self.new.block_room ≡ self.old.block_room }
         ensures blocks { self.new.blocks ≡ self.old.blocks }
     {
         self.queue.set_prebuf(attr.prebuf);
@@ -235,6 +248,7 @@ impl Stream {
         requires { length factors ≡ length self.old.stream.feed }
         ensures stream { self.new.stream ≡ with_factors self.old.stream factors }
         ensures room { self.new.room ≡ self.old.room }
+        ensures block_room { self.new.block_room ≡ self.old.block_room }
         ensures blocks { self.new.blocks ≡ self.old.blocks }
     {
         self.factors = factors;

@@ -1,6 +1,6 @@
-ghost use Rattle.std.specs.Prelude.{None};
+ghost use Rattle.std.specs.Prelude.{◌≡◌, [], None, length};
 
-use px_block::{Block, BlockSource, Blocks, Fresh, Mem, NoMemory};
+use px_block::{Block, BlockSource, Blocks, Fresh, Mem, NoMemory, Shelf};
 use std::alloc::Global;
 
 // A block is filled, cleared and filled anew.
@@ -102,4 +102,33 @@ fn bytes_go_on_in_the_next_block(rt: HostRuntime) {
     };
     let again = put_again(&mut Blocks::new(rt.alloc()), &mut source);
     assert!(rt; again && matches!(run(rt.alloc()), Ok(true)));
+}
+
+// A block with two references is there until the second is released, and is handed out then.
+fn is_shared(shelf: &mut Shelf, block: Block) -> bool
+    requires { length block ≡ 4 }
+{
+    let Ok(key) = shelf.put(block) else {
+        return false;
+    };
+    shelf.retain(key);
+    let kept = shelf.release(key).is_none() && shelf.bytes(key, 1, 2) == b"bc".as_slice();
+    kept && matches!(shelf.release(key), Some(block) if block.bytes() == b"abcd".as_slice())
+}
+
+fn put_all(block: &mut Block)
+    requires { block.old ≡ [] }
+    ensures { length block.new ≡ 4 }
+{
+    block.put(b"abcd");
+}
+
+#[test]
+fn a_shared_block_goes_with_its_last_reference(rt: HostRuntime) -> Mem<()> {
+    let mut shelf = Shelf::new(rt.alloc());
+    shelf.reserve(1)?;
+    let mut block = Block::new(rt.alloc())?;
+    put_all(&mut block);
+    assert!(rt; is_shared(&mut shelf, block));
+    Ok(())
 }

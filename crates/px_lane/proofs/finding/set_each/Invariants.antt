@@ -12,4 +12,4 @@ invariant-loop-f g l =
     (with_each_factors (map gains (drop l.f-index l.each)) (inputs_of l.inputs) ≡ with_each_factors (map gains l.each) (inputs_of l.fn.inputs))
     × IsRising (inputs_of l.inputs)
     × ((channels : ℕ) → AreFed channels (inputs_of l.fn.inputs) → AreFed channels (inputs_of l.inputs))
-    × ((room : ℕ) → AllByRecursion (HasRoom room) l.fn.inputs → AllByRecursion (HasRoom room) l.inputs)
+    × ((room kept : ℕ) → AllByRecursion (HasRoom room kept) l.fn.inputs → AllByRecursion (HasRoom room kept) l.inputs)

@@ -9,6 +9,7 @@ invariant-loop-tag l = record {
   index : l.input.index ≡ l.fn.input.index;
   told : l.out.notices ++ drained_notices (input_of l.input) ≡ l.fn.out.notices ++ drained_notices (input_of l.fn.input);
   room : l.fn.input.stream.room ≤ l.input.stream.room;
+  block_room : l.fn.input.stream.block_room ≤ l.input.stream.block_room;
   capacity : l.out.capacity ≡ l.fn.out.capacity;
 }
 

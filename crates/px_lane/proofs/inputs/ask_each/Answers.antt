@@ -17,6 +17,6 @@ loop-input-preserved c =
     let e = c.ask_one.ensures in (
       done_more (with_stream (asked_stream c.args.mixed)) (asked_notices c.args.mixed) c.args.inputs.now l.inputs c.args.out.now.notices l.out.notices c.ask_one.new.out.notices l.input-index c.input-item.result c.ask_one.new.input
           l.invariant.0 (omega (arith, l.auto.inputs, c.loop-input-test.true)) l.auto.inputs
-          e.input e.room e.notices,
+          e.input e.room e.block_room e.notices,
       e.capacity ∙ l.invariant.1,
     )

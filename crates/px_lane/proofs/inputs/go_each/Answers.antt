@@ -18,6 +18,6 @@ loop-input-preserved g c =
     let e = c.go_one.ensures in (
       done_more (with_stream (λ s. after s c.args.frames)) (going_notices c.args.frames) c.args.inputs.now l.inputs c.args.out.now.notices l.out.notices c.go_one.new.out.notices l.input-index c.input-item.result c.go_one.new.input
           l.invariant.0 (omega (arith, l.auto.inputs, c.loop-input-test.true)) l.auto.inputs
-          e.input e.room e.notices,
+          e.input e.room e.block_room e.notices,
       e.capacity ∙ l.invariant.1,
     )

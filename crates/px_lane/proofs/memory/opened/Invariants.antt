@@ -9,4 +9,4 @@ use Rattle.px_lane.proofs.memory.opened.Given as goal
 abbrev pub invariant-loop-message : goal.invariant-loop-message
 invariant-loop-message l =
     (map KeptStream.stream l.streams.items ≡ flat_map streams_of (messages_of (take l.message-index l.messages)))
-    × AllByRecursion (IsRoomy l.room) l.streams.items
+    × AllByRecursion (IsRoomy l.room l.blocks) l.streams.items

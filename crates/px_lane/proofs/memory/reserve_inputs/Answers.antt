@@ -14,10 +14,11 @@ returns-in_err-reserve-clause-same c =
     same_set input_of l.inputs l.input-index c.input-item.result _ (ap (λ (s : Stream). let v : Stands = record { index = x.index.0; stream = s } in v) c.reserve.ensures.stream) ∙ l.invariant.0
 
 pub returns-in_err-reserve-clause-kept : goal.returns-in_err-reserve-clause-kept
-returns-in_err-reserve-clause-kept c = λ old h.
+returns-in_err-reserve-clause-kept c = λ old kept h.
     let l = c.loop-input in
     let few : l.input-index < length l.inputs = omega (arith, c.loop-input-test.true, l.auto.inputs) in
-    all_with old l.input-index l.inputs _ (omega (arith, c.reserve.ensures.room, all_at old l.input-index l.inputs c.input-item.result few (l.invariant.1 old h))) (l.invariant.1 old h)
+    let there = all_at old kept l.input-index l.inputs c.input-item.result few (l.invariant.1 old kept h) in
+    all_with old kept l.input-index l.inputs _ (omega (arith, c.reserve.ensures.room, there.0), omega (arith, c.reserve.ensures.block_room, there.1)) (l.invariant.1 old kept h)
 
 pub loop-input-preserved : goal.loop-input-preserved
 loop-input-preserved c =
@@ -25,6 +26,8 @@ loop-input-preserved c =
     let x = slice_index_or l.inputs l.input-index c.input-item.result in
     let few : l.input-index < length l.inputs = omega (arith, c.loop-input-test.true, l.auto.inputs) in (
       same_set input_of l.inputs l.input-index c.input-item.result _ (ap (λ (s : Stream). let v : Stands = record { index = x.index.0; stream = s } in v) c.reserve.ensures.stream) ∙ l.invariant.0,
-      λ old h. all_with old l.input-index l.inputs _ (omega (arith, c.reserve.ensures.room, all_at old l.input-index l.inputs c.input-item.result few (l.invariant.1 old h))) (l.invariant.1 old h),
-      all_more (HasRoom c.args.room) l.inputs l.input-index _ few l.invariant.2 c.in_ok-reserve.ensures.ok,
+      λ old kept h.
+          let there = all_at old kept l.input-index l.inputs c.input-item.result few (l.invariant.1 old kept h) in
+          all_with old kept l.input-index l.inputs _ (omega (arith, c.reserve.ensures.room, there.0), omega (arith, c.reserve.ensures.block_room, there.1)) (l.invariant.1 old kept h),
+      all_more (HasRoom c.args.room c.args.blocks) l.inputs l.input-index _ few l.invariant.2 c.in_ok-reserve.ensures.ok,
     )

@@ -11,9 +11,9 @@ pub invariant_of-self : goal.invariant_of-self
 invariant_of-self g c =
     let d = c.self.inside in
     let lent : c.as_mut_slice.result.now ≡ d.items.items = c.as_mut_slice.ensures.value in
-    kept_in_place (λ s. after s c.args.frames) d.items.items c.go_each.new.inputs d.items.len d.room d.items.cap
+    kept_in_place (λ s. after s c.args.frames) d.items.items c.go_each.new.inputs d.items.len d.room d.block_room d.items.cap
     (ap (λ (xs : List Input). length xs) (sym lent) ∙ c.as_mut_slice.ensures.len)
     (c.go_each.auto.inputs ∙ ap (λ (xs : List Input). length xs) lent)
     (c.go_each.ensures.inputs ∙ ap (λ (xs : List Input). map (with_stream (λ s. after s c.args.frames)) (inputs_of xs)) lent)
-    (λ r h. c.go_each.ensures.room r (subst (λ (xs : List Input). AllByRecursion (HasRoom r) xs) (sym lent) h))
+    (λ r b h. c.go_each.ensures.room r b (subst (λ (xs : List Input). AllByRecursion (HasRoom r b) xs) (sym lent) h))
     c.self.invariant

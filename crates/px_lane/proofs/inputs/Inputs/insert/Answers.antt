@@ -10,6 +10,10 @@ pub invariant_of-self : goal.invariant_of-self
 invariant_of-self c =
     let d = c.self.inside in (
       subst IsRising (sym c.open_at.ensures.inputs) (rising_with c.args.input.0 c.args.stream.stream (inputs_of d.items.items) c.self.invariant.0),
-      c.open_at.ensures.room (d.room - 1) (omega (arith, c.requires.stream_room, ap (λ (v : RoomyInputs). v.room) c.self.view_is)) (all_less d.room (d.room - 1) d.items.items (omega arith) c.self.invariant.1),
+      c.open_at.ensures.room (d.room - 1) d.block_room (
+        omega (arith, c.requires.stream_room.0, ap (λ (v : RoomyInputs). v.room) c.self.view_is),
+        omega (arith, c.requires.stream_room.1, ap (λ (v : RoomyInputs). v.block_room) c.self.view_is),
+      )
+          (all_less d.room (d.room - 1) d.block_room d.block_room d.items.items (omega arith) (omega arith) c.self.invariant.1),
       omega (arith, c.open_at.ensures.len, c.open_at.ensures.capacity, c.self.invariant.2, c.requires.room, ap (λ (v : RoomyInputs). v.room) c.self.view_is),
     )

@@ -1,7 +1,28 @@
-use Rattle.std.proofs.Common.{arith}
-use Rattle.px_model.specs.Turn.{all_message_notices}
-use Rattle.px_lane.proofs.Readied.{take_fits}
+use Rattle.std.proofs.Common.{◌≡◌, ◌+◌, ◌-◌, ◌++◌, List, length, ap, sym, ◌∙◌, subst, arith, append_assoc}
+use Rattle.std.specs.List.{sum_by}
+use Rattle.std.proofs.lemmas.List.Sums.{sum_by-cons}
+use Rattle.px_model.specs.Stream.{Stream}
+use Rattle.px_model.specs.Message.{Message}
+use Rattle.px_model.specs.Notice.{Notice}
+use Rattle.px_model.specs.Sink.{Input as Stands}
+use Rattle.px_model.specs.Turn.{inputs_with, inputs_with_all, message_notices, all_message_notices}
+use Rattle.px_lane.specs.Needed.{blocks_of}
+use Rattle.px_lane.specs.Taking.{CanTakeAll}
+use Rattle.px_lane.proofs.Readied.{take_fits, left_less}
 use Rattle.px_lane.proofs.inputs.Inputs.take_all.Goals as goal
+
+pub take-requires-clause-block_room : goal.take-requires-clause-block_room
+take-requires-clause-block_room g c =
+    let l = c.loop-message in
+    let n = c.in-Some.ensures.value in
+    let whole : sum_by blocks_of l.messages.messages ≡ blocks_of n.0 + sum_by blocks_of c.next.new.self.messages =
+    ap (λ (ms : List (Message Stream)). sum_by blocks_of ms) n.1 ∙ sum_by-cons blocks_of n.0 c.next.new.self.messages in
+    omega (arith, whole, n.2.blocks, l.invariant.7)
+
+pub take-requires-clause-comes : goal.take-requires-clause-comes
+take-requires-clause-comes g c =
+    let l = c.loop-message in
+    left_less l.messages.room (l.self.room - 1) l.messages.block_room l.self.block_room c.in-Some.message (omega (arith, l.invariant.4)) l.invariant.8 c.in-Some.ensures.value.3
 
 pub take-requires-clause-capacity : goal.take-requires-clause-capacity
 take-requires-clause-capacity g c =
@@ -10,3 +31,30 @@ take-requires-clause-capacity g c =
     take_fits c.args.mixed c.args.buffered c.in-Some.message n.0 l.messages.messages c.next.new.self.messages l.self.inputs
     l.out.notices c.args.out.now.notices (all_message_notices c.args.mixed c.args.buffered c.args.messages.now.messages c.args.self.now.inputs) l.out.capacity
     n.1 n.2 l.invariant.1 (omega (arith, l.invariant.5, c.requires.capacity))
+
+pub loop-message-preserved : goal.loop-message-preserved
+loop-message-preserved g c =
+    let l = c.loop-message in
+    let n = c.in-Some.ensures.value in
+    let mixed = c.args.mixed in
+    let buffered = c.args.buffered in
+    let m = n.0 in
+    let rest : List (Message Stream) = c.next.new.self.messages in
+    let whole : sum_by blocks_of l.messages.messages ≡ blocks_of m + sum_by blocks_of rest =
+    ap (λ (ms : List (Message Stream)). sum_by blocks_of ms) n.1 ∙ sum_by-cons blocks_of m rest in
+    let inputs : c.take.new.self.inputs ≡ inputs_with mixed m l.self.inputs = c.take.ensures.inputs ∙ n.2.inputs mixed l.self.inputs in (
+      ap (λ (xs : List Stands). inputs_with_all mixed rest xs) inputs ∙ ap (λ (ms : List (Message Stream)). inputs_with_all mixed ms l.self.inputs) (sym n.1) ∙ l.invariant.0,
+      ap (λ (ns : List (Notice Stream)). ns ++ all_message_notices mixed buffered rest c.take.new.self.inputs)
+          (c.take.ensures.notices ∙ ap (λ (ns : List (Notice Stream)). l.out.notices ++ ns) (n.2.notices mixed buffered l.self.inputs))
+          ∙ append_assoc l.out.notices (message_notices mixed buffered m l.self.inputs) (all_message_notices mixed buffered rest c.take.new.self.inputs)
+          ∙ ap (λ (xs : List Stands). l.out.notices ++ (message_notices mixed buffered m l.self.inputs ++ all_message_notices mixed buffered rest xs)) inputs
+          ∙ ap (λ (ms : List (Message Stream)). l.out.notices ++ all_message_notices mixed buffered ms l.self.inputs) (sym n.1)
+          ∙ l.invariant.1,
+      subst (λ (xs : List Stands). CanTakeAll mixed rest xs) (sym inputs) (subst (λ (ms : List (Message Stream)). CanTakeAll mixed ms l.self.inputs) n.1 l.invariant.2).1,
+      omega (arith, ap (λ (ms : List (Message Stream)). length ms) n.1, l.invariant.3, c.take.ensures.room),
+      omega (arith, c.take.ensures.less, c.next.ensures.room, l.invariant.4),
+      c.take.ensures.capacity ∙ l.invariant.5,
+      c.next.ensures.capacity ∙ l.invariant.6,
+      omega (arith, whole, n.2.blocks, c.take.ensures.block_room, l.invariant.7),
+      omega (arith, c.take.ensures.block_room, c.next.ensures.block_room, l.invariant.8),
+    )

@@ -1,5 +1,7 @@
 use Rattle.std.proofs.Common.{◌≡◌, ◌≤◌, ◌++◌, length}
+use Rattle.std.specs.List.{sum_by}
 use Rattle.px_model.specs.Turn.{inputs_with_all, all_message_notices}
+use Rattle.px_lane.specs.Needed.{blocks_of}
 use Rattle.px_lane.specs.Taking.{CanTakeAll}
 use Rattle.px_lane.proofs.inputs.Inputs.take_all.Given as goal
 
@@ -12,6 +14,8 @@ invariant-loop-message g l =
     × (l.self.room ≤ l.messages.room)
     × (l.out.capacity ≡ l.fn.out.capacity)
     × (l.messages.capacity ≡ l.fn.messages.capacity)
+    × (sum_by blocks_of l.messages.messages ≤ l.self.block_room)
+    × (l.self.block_room ≤ l.messages.block_room)
 
 abbrev pub decreases-loop-message : goal.decreases-loop-message
 decreases-loop-message g l = length l.messages.messages

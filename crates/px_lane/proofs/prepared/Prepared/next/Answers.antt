@@ -1,4 +1,4 @@
-use Rattle.std.proofs.Common.{◌≡◌, ◌∷◌, ℕ, List, map, ap, sym, ◌∙◌, subst}
+use Rattle.std.proofs.Common.{◌≡◌, ◌∷◌, List, map, ap, sym, ◌∙◌, subst}
 use Rattle.std.specs.Prelude.{flat_map}
 use Rattle.std.specs.List.{AllByRecursion}
 use Rattle.px_msg.specs.declared.message.Msg.{Msg}
@@ -15,10 +15,10 @@ invariant_of-self c =
     let m = c.in-Some.message in
     let rest : List (Msg KeptStream) = c.pop_front.new.self.items in
     let items : d.items.items ≡ m ∷ rest = c.in-Some.ensures.items in
-    let brought = subst (λ (ms : List (Msg KeptStream)). AllByRecursion (BringsRoom d.room) ms) items c.self.invariant.2 in (
+    let brought = subst (λ (ms : List (Msg KeptStream)). AllByRecursion (BringsRoom d.room d.block_room) ms) items c.self.invariant.2 in (
       left_over (map KeptStream.stream d.streams.items) (streams_of (plain_message m)) (flat_map streams_of (messages_of rest)) (map KeptStream.stream c.ready.new.streams.items)
           (c.self.invariant.0 ∙ ap (λ (ms : List (Msg KeptStream)). flat_map streams_of (messages_of ms)) items) c.ready.ensures.streams,
-      (c.ready.ensures.room d.room c.self.invariant.1 brought.0).1,
+      (c.ready.ensures.room d.room d.block_room c.self.invariant.1 brought.0).1,
       brought.1,
     )
 
@@ -28,7 +28,6 @@ returns-in-Some-clause-value c =
     let m = c.in-Some.message in
     let rest : List (Msg KeptStream) = c.pop_front.new.self.items in
     let items : d.items.items ≡ m ∷ rest = c.in-Some.ensures.items in
-    let brought = subst (λ (ms : List (Msg KeptStream)). AllByRecursion (BringsRoom d.room) ms) items c.self.invariant.2 in
-    let room : d.room ≡ c.args.self.now.room = ap (λ (v : ReadyMessages). v.room) c.self.view_is in
-    let left = subst (λ (n : ℕ). HasRoomLeft n c.ready.result) room (c.ready.ensures.room d.room c.self.invariant.1 brought.0).0 in
+    let brought = subst (λ (ms : List (Msg KeptStream)). AllByRecursion (BringsRoom d.room d.block_room) ms) items c.self.invariant.2 in
+    let left = subst (λ (v : ReadyMessages). HasRoomLeft v.room v.block_room c.ready.result) c.self.view_is (c.ready.ensures.room d.room d.block_room c.self.invariant.1 brought.0).0 in
     (plain_message m, sym (ap (λ (v : ReadyMessages). v.messages) c.self.view_is) ∙ ap messages_of items, c.ready.ensures.ready, left)

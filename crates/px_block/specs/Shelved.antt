@@ -1,0 +1,40 @@
+-- Blocks that stand under keys, each with the number of its references.
+use Rattle.std.specs.Prelude.{◌≡◌, ◌≢◌, ℕ, ◌+◌, ◌-◌, ◌==◌, List, [], Option, Some, None, slice_index_or, if◌then◌else◌}
+
+pub record Shelved : Type 0 where
+  pub bytes : List ℕ
+  pub references : ℕ
+
+-- what stands under the keys from 0 on, and how many more blocks there is room for
+pub record Shelves : Type 0 where
+  pub slots : List (Option Shelved)
+  pub room : ℕ
+
+-- what stands under a key
+abbrev pub under : Shelves → ℕ → Option Shelved
+under s key = slice_index_or s.slots key None
+
+-- the references to what stands there, none where nothing does
+abbrev pub references_to : Option Shelved → ℕ
+references_to None = 0
+references_to (Some b) = b.references
+
+-- its bytes
+abbrev pub bytes_of : Option Shelved → List ℕ
+bytes_of None = []
+bytes_of (Some b) = b.bytes
+
+-- one reference more
+abbrev pub retained : Option Shelved → Option Shelved
+retained None = None
+retained (Some b) = Some (record b { references = b.references + 1 })
+
+-- one reference less; with the last one the block goes
+abbrev pub released : Option Shelved → Option Shelved
+released None = None
+released (Some b) = if b.references == 1 then None else Some (record b { references = b.references - 1 })
+
+-- this stands under that key, and under each other key what stood there
+pub record SetsOnly (old new : Shelves) (key : ℕ) (o : Option Shelved) : Type 0 where
+  pub there : under new key ≡ o
+  pub others : (k : ℕ) → k ≢ key → under new k ≡ under old k

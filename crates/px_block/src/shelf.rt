@@ -1,0 +1,160 @@
+// Blocks that are shared by count.
+
+ghost use Rattle.std.specs.Prelude.{◌≡◌, ◌+◌, ◌-◌, ◌^◌, ◌<◌, ◌≤◌, ◌==◌, [], length, take, drop, Some, None, IfOk, IfErr, IsOk, OnOk, OnErr, OnSome, MatchOption};
+ghost use Rattle.px_block.specs.Shelved.{under, references_to, bytes_of, retained, released, SetsOnly};
+
+use crate::block::{Block, Mem};
+use slab::Slab;
+use std::alloc::Global;
+use std::marker::Model;
+
+// A block with the number of its references, at least one.
+#[derive(Debug, Drop)]
+struct Counted {
+    block: Block,
+    references: usize,
+}
+
+impl Model for Counted {
+    ghost use Rattle.std.specs.Prelude.{◌≤◌};
+    ghost use Rattle.px_block.specs.Shelved.{Shelved};
+
+    ghost Value = { Shelved };
+
+    ghost view = { λ c. record { bytes = c.block; references = c.references } };
+
+    ghost invariant = { λ c. 1 ≤ c.references };
+}
+
+impl Counted {
+    fn new(block: Block) -> Counted
+        ensures { result ≡ record { bytes = block; references = 1 } }
+    {
+        Counted {
+            block,
+            references: 1,
+        }
+    }
+
+    fn bytes(&self) -> &[u8]
+        ensures { result.now ≡ self.now.bytes }
+    {
+        self.block.bytes()
+    }
+
+    fn is_last(&self) -> bool
+        ensures { result ≡ (self.now.references == 1) }
+    {
+        self.references == 1
+    }
+
+    fn retain(&mut self)
+        requires { self.old.references < 2 ^ 64 - 1 }
+        ensures { self.new ≡ record self.old { references = self.old.references + 1 } }
+    {
+        self.references += 1;
+    }
+
+    fn release(&mut self)
+        requires { 1 < self.old.references }
+        ensures { self.new ≡ record self.old { references = self.old.references - 1 } }
+    {
+        self.references -= 1;
+    }
+
+    fn into_block(self) -> Block
+        ensures { result ≡ self.bytes }
+    {
+        self.block
+    }
+}
+
+/// Blocks that are shared by count (`pa_memblock_ref` and `pa_memblock_unref`): each stands under a key that the shelf picks, until the
+/// last reference to it is released. Put, it has one; `retain` adds one, and `release` takes one away.
+#[derive(Debug, Drop)]
+pub struct Shelf {
+    blocks: Slab<Counted>,
+}
+
+impl Model for Shelf {
+    ghost use Rattle.std.specs.Prelude.{◌-◌};
+    ghost use Rattle.slab.specs.Slab.{slab_len};
+    ghost use Rattle.px_block.specs.Shelved.{Shelves};
+
+    ghost Value = { Shelves };
+
+    ghost view = { λ s. record { slots = s.blocks.slots; room = s.blocks.capacity - slab_len s.blocks } };
+}
+
+impl Shelf {
+    /// A shelf with no blocks. Takes no memory.
+    pub fn new(alloc: Global) -> Shelf
+        ensures { result ≡ record { slots = []; room = 0 } }
+    {
+        Shelf {
+            blocks: Slab::new(alloc),
+        }
+    }
+
+    /// Takes room for so many more blocks. Without memory nothing changes.
+    pub fn reserve(&mut self, more: usize) -> Mem<()>
+        ensures ok { OnOk result (more ≤ self.new.room) }
+        ensures slots { self.new.slots ≡ self.old.slots }
+        ensures room { self.old.room ≤ self.new.room }
+    {
+        self.blocks.reserve(more)?;
+        Ok(())
+    }
+
+    /// Puts a block under a free key, with one reference, and answers the key. Without memory it hands the block back and nothing changes;
+    /// where there is room it takes no memory, and can't fail.
+    pub fn put(&mut self, block: Block) -> Result<usize, Block>
+        ensures free { IfOk result (λ key. under self.old key ≡ None) }
+        ensures ok { IfOk result (λ key. SetsOnly self.old self.new key (Some (record { bytes = block; references = 1 }))) }
+        ensures err { IfErr result (λ back. back ≡ block) }
+        ensures same { OnErr result (self.new.slots ≡ self.old.slots) }
+        ensures reserved { 1 ≤ self.old.room → IsOk result }
+        ensures room { self.old.room ≤ self.new.room + 1 }
+    {
+        match self.blocks.insert(Counted::new(block)) {
+            Ok(key) => Ok(key),
+            Err(refused) => Err(refused.value.into_block()),
+        }
+    }
+
+    /// One reference more to the block under a key, which is there and has fewer than 2^64 - 1. Takes no memory.
+    pub fn retain(&mut self, key: usize)
+        requires there { 1 ≤ references_to (under self.old key) }
+        requires countable { references_to (under self.old key) < 2 ^ 64 - 1 }
+        ensures slots { SetsOnly self.old self.new key (retained (under self.old key)) }
+        ensures room { self.new.room ≡ self.old.room }
+    {
+        self.blocks[key].retain();
+    }
+
+    /// One reference less to the block under a key, which is there. With the last one the block is handed out, and the key is free; else
+    /// the answer is `None`. Takes no memory.
+    pub fn release(&mut self, key: usize) -> Option<Block>
+        requires { 1 ≤ references_to (under self.old key) }
+        ensures slots { SetsOnly self.old self.new key (released (under self.old key)) }
+        ensures block { MatchOption result (1 < references_to (under self.old key)) (λ block. under self.old key ≡ Some (record { bytes = block; references = 1 })) }
+        ensures room { self.old.room ≤ self.new.room }
+        ensures freed { OnSome result (self.old.room + 1 ≤ self.new.room) }
+    {
+        if self.blocks[key].is_last() {
+            return Some(self.blocks.remove(key).into_block());
+        }
+        self.blocks[key].release();
+        None
+    }
+
+    /// So many bytes of the block under a key, which is there, from place `from` on; the block has them. Takes no memory.
+    pub fn bytes(&self, key: usize, from: usize, len: usize) -> &[u8]
+        requires there { 1 ≤ references_to (under self.now key) }
+        requires inside { from + len ≤ length (bytes_of (under self.now key)) }
+        ensures { result.now ≡ take len (drop from (bytes_of (under self.now key))) }
+    {
+        let bytes = self.blocks[key].bytes();
+        &bytes[from..from + len]
+    }
+}
