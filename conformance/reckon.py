@@ -524,28 +524,29 @@ class Server:
         """What is told of what is there."""
         return self.send(conn, 2, tag, info()) if there else self.error(conn, tag, 5)
 
-    def going(self):
+    def inputs_there(self):
         """The inputs that haven't ended, in rising index."""
         return [number for number in sorted(self.inputs) if not self.inputs[number].leaving]
 
-    def sink_info(self):
-        return infos.sink_info(0, self.sink.spec, self.group)
+    def sink_info(self, sink):
+        return infos.sink_info(sink.number, sink.spec, sink.group)
 
     def input_info(self, number):
-        return infos.input_info(number, 0, self.inputs[number], self.group.members[number])
+        stream = self.inputs[number]
+        return infos.input_info(number, stream.sink.number, stream, stream.sink.group.members[number])
 
     def do_sink_info(self, conn, tag, values):
-        clear, there = self.is_named(*values)
-        return self.tell(conn, tag, there, self.sink_info) if clear else self.error(conn, tag, 3)
+        clear, sink = self.named(*values)
+        return self.tell(conn, tag, sink, lambda: self.sink_info(sink)) if clear else self.error(conn, tag, 3)
 
     def do_sink_infos(self, conn, tag, values):
-        self.send(conn, 2, tag, self.sink_info())
+        self.send(conn, 2, tag, b"".join(map(self.sink_info, self.sinks)))
 
     def do_input_info(self, conn, tag, values):
-        self.tell(conn, tag, values[0] in self.going(), lambda: self.input_info(values[0]))
+        self.tell(conn, tag, self.going(values[0]), lambda: self.input_info(values[0]))
 
     def do_input_infos(self, conn, tag, values):
-        self.send(conn, 2, tag, b"".join(map(self.input_info, self.going())))
+        self.send(conn, 2, tag, b"".join(map(self.input_info, self.inputs_there())))
 
     def known_clients(self):
         """In rising index; one that was ended is none."""
