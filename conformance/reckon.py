@@ -6,11 +6,14 @@
   conformance/reckon.py --life NUMBER TURNS > SESSION.session     the same, with prebuffering and all commands of a stream's life
   conformance/reckon.py --formats NUMBER FORMAT > SESSION.session     streams of every format to a sink of this one, with dice
   conformance/reckon.py --sinks NUMBER TURNS > SESSION.session    streams of two clients on three sinks, with dice
+  conformance/reckon.py --moves NUMBER TURNS > SESSION.session    streams of two clients that move between three sinks, with dice
   conformance/reckon.py --full > SESSION.session                  as many sinks as there can be, with as many streams in all
+  conformance/reckon.py --crowded > SESSION.session               a sink with as many streams as there can be, and others that would move to it
 
 It keeps each sample that was ever written in a map from index to sample, and mixes each frame anew. It knows volumes and mutes,
-the commands of a stream's life, names and property lists of clients and streams, the infos of sinks, inputs and clients, and only sessions that are played to their end and ask for nothing that is refused but by ACCESS, BADSTATE,
-VERSION, INVALID, NOENTITY and TOOLARGE, and a stream that is made by NOTSUPPORTED too."""
+the commands of a stream's life and its moves, names and property lists of clients and streams, the infos of sinks, inputs and
+clients, and only sessions that are played to their end and ask for nothing that is refused but by ACCESS, BADSTATE, VERSION,
+INVALID, NOENTITY, TOOLARGE and BUSY, and a stream that is made or moved by NOTSUPPORTED too."""
 
 import copy
 import os
@@ -59,6 +62,7 @@ class Stream:
         self.factors = None  # one for each channel of the sink
         self.quiet, self.run = True, 0
         self.leaving = False
+        self.moving, self.delayed = None, []  # the sink that it is on its way to, and what it is told meanwhile
         self.client, self.positions, self.properties = 0, [], {}  # what is told of it beside
 
     def is_short(self):
@@ -156,6 +160,8 @@ class Sink:
     def take(self, kind, number, more):
         if kind == "new":
             self.inputs[number] = more
+        elif kind == "attach":
+            self.inputs[number], more[0].feed, more[0].factors = more
         elif kind == "gone":
             del self.inputs[number]
             self.notices.append((number, "detached", 0))
@@ -244,16 +250,40 @@ class Server:
 
     def drop(self, number):
         """An input ends; what waited of it."""
-        self.inputs[number].leaving = True
-        self.inputs[number].sink.waiting.append(("gone", number, None))
+        stream = self.inputs[number]
+        stream.leaving, stream.delayed = True, []
+        if stream.moving is None:
+            stream.sink.waiting.append(("gone", number, None))
         waited = [it for it in self.waiting if it[0] == number]
         self.waiting = [it for it in self.waiting if it[0] != number]
         return waited
 
     def regroup(self, sink):
-        """The sink is told the factors of all inputs on it that don't end."""
-        there = [number for number in sorted(self.inputs) if self.inputs[number].sink is sink and not self.inputs[number].leaving]
+        """The sink is told the factors of all inputs on it that neither end nor move away."""
+        there = [number for number, stream in sorted(self.inputs.items()) if stream.sink is sink and not (stream.leaving or stream.moving)]
         sink.waiting.append(("factors", None, {number: sink.group.factors(number) for number in there}))
+
+    def post(self, kind, number, more):
+        """An input is told something: its sink, or the next one once it is there."""
+        stream = self.inputs[number]
+        (stream.delayed if stream.moving else stream.sink.waiting).append((kind, number, more))
+
+    def arrive(self, number, stream):
+        """Its old sink has given up an input that moves."""
+        old, new = stream.sink, stream.moving
+        member = old.group.members[number]
+        old.group.detach(number)
+        feed = samples.plan(stream.positions, list(new.spec.positions), stream.no_remap, stream.no_remix)
+        new.group.join(number, member, feed)
+        stream.sink, stream.moving = new, None
+        new.waiting.append(("attach", number, (stream, feed, new.group.factors(number))))
+        self.regroup(old)
+        self.regroup(new)
+        new.waiting += stream.delayed
+        stream.delayed = []
+        told = wire.number(stream.number) + wire.number(new.number) + wire.text(new.spec.name) + wire.flag(False)
+        told += b"".join(wire.number(stream.size * frames) for frames in stream.told)
+        self.send(stream.owner, 78, NONE, told + self.latency(new))
 
     def answer(self, number, command, tag):
         """The first request of a kind and a tag that waits of an input waits no more."""
@@ -288,7 +318,9 @@ class Server:
 
     def notice(self, number, word, frames):
         stream = self.inputs[number]
-        if word == "detached":
+        if word == "detached" and stream.moving and not stream.leaving:
+            self.arrive(number, stream)
+        elif word == "detached":
             del self.inputs[number]
             stream.sink.group.detach(number)
             self.regroup(stream.sink)
@@ -333,7 +365,7 @@ class Server:
         if len(payload) % stream.size or head.offset % stream.size:
             return
         frames = samples.frames_of(stream.spec[0], stream.spec[1], payload)
-        stream.sink.waiting.append(("write", number, (head.flags & 0xFF, head.offset // stream.size, frames)))
+        self.post("write", number, (head.flags & 0xFF, head.offset // stream.size, frames))
 
     def packet(self, conn, packet):
         client, read = self.clients[conn], read_packet(packet)
@@ -404,14 +436,15 @@ class Server:
         if code in (5, 6) or asked["variable_rate"] or rate != sink.spec[2] or feed is None:
             return self.error(conn, tag, 19)
         going = [stream for stream in self.inputs.values() if not stream.leaving]
-        if sum(stream.sink is place for stream in going) >= 256 or len(going) >= 1024:
+        if self.bound_for(place) >= 256 or len(going) >= 1024:
             return self.error(conn, tag, 18)
         spec = (code, channels, rate)
         lengths, frames = self.repaired(spec, asked)
         client, number = self.clients[conn], self.input_count
         stream = Stream(conn, client.made, place, spec, feed, frames, asked["corked"])
         self.inputs[number], client.streams[client.made] = stream, number
-        stream.client, stream.positions, stream.properties = client.number, positions, infos.listed(values[-1])
+        stream.client, stream.positions, stream.properties, stream.told = client.number, positions, infos.listed(values[-1]), frames
+        stream.no_move, stream.no_remap, stream.no_remix = (asked[flag] for flag in ("no_move", "no_remap", "no_remix"))
         numbers = [client.made, number, lengths[1], *lengths]
         self.input_count += 1
         client.made += 1
@@ -436,10 +469,11 @@ class Server:
         elif word == "attributes":
             asked = dict(zip((name for name, _, _ in COMMANDS[word][1]), values))
             lengths, more = self.repaired(self.inputs[number].spec, asked)
+            self.inputs[number].told = more
             reply = b"".join(map(wire.number, lengths)) + self.latency(self.inputs[number].sink)
         elif word == "cork":
             more = values[1]
-        self.inputs[number].sink.waiting.append((told, number, more))
+        self.post(told, number, more)
         return None if reply is None else self.send(conn, 2, tag, reply)
 
     def sink_called(self, name):
@@ -461,7 +495,29 @@ class Server:
         stream = self.inputs.get(number)
         return None if stream is None or stream.leaving else stream
 
-    def set_volume(self, conn, tag, sink, channels, volume, set_it):
+    def bound_for(self, sink):
+        """How many inputs are on a sink or on their way to it, and stay there."""
+        return sum((stream.moving or stream.sink) is sink for stream in self.inputs.values() if not stream.leaving)
+
+    def do_move(self, conn, tag, values):
+        stream, (clear, sink) = self.going(values[0]), self.named(*values[1:])
+        if not clear or stream is None or sink is None:
+            return self.error(conn, tag, 5 if clear else 3)
+        if stream.moving:
+            return self.error(conn, tag, 26)
+        if sink is not stream.sink:
+            fed = samples.plan(stream.positions, list(sink.spec.positions), stream.no_remap, stream.no_remix)
+            if stream.no_move:
+                return self.error(conn, tag, 3)
+            if stream.spec[2] != sink.spec.spec[2] or fed is None:
+                return self.error(conn, tag, 19)
+            if self.bound_for(sink) >= 256:
+                return self.error(conn, tag, 18)
+            stream.sink.waiting.append(("gone", values[0], None))
+            stream.moving = sink
+        return self.send(conn, 2, tag)
+
+    def set_volume(self, conn, tag, sink, channels, volume, moving, set_it):
         """A volume, on a sink that is there, of what has so many channels: one for all of them, or one each."""
         if not volume or max(volume) > 0x7FFFFFFF:
             return self.error(conn, tag, 3)
@@ -469,6 +525,8 @@ class Server:
             return self.error(conn, tag, 5)
         if len(volume) not in (1, channels):
             return self.error(conn, tag, 3)
+        if moving:
+            return self.error(conn, tag, 26)
         set_it(volume)
         self.regroup(sink)
         return self.send(conn, 2, tag)
@@ -478,12 +536,12 @@ class Server:
         if not clear:
             return self.error(conn, tag, 3)
         channels = sink and sink.spec.spec[1]
-        return self.set_volume(conn, tag, sink, channels, list(values[2]), lambda volume: sink.group.set_sink(volume))
+        return self.set_volume(conn, tag, sink, channels, list(values[2]), None, lambda volume: sink.group.set_sink(volume))
 
     def do_volume(self, conn, tag, values):
         stream = self.going(values[0])
-        sink, channels = (stream.sink, stream.spec[1]) if stream else (None, 0)
-        return self.set_volume(conn, tag, sink, channels, list(values[1]), lambda volume: sink.group.set_input(values[0], volume))
+        sink, channels, moving = (stream.sink, stream.spec[1], stream.moving) if stream else (None, 0, None)
+        return self.set_volume(conn, tag, sink, channels, list(values[1]), moving, lambda volume: sink.group.set_input(values[0], volume))
 
     def mute(self, conn, tag, sink, what, on):
         what.muted = on
@@ -498,8 +556,8 @@ class Server:
 
     def do_mute(self, conn, tag, values):
         stream = self.going(values[0])
-        if stream is None:
-            return self.error(conn, tag, 5)
+        if stream is None or stream.moving:
+            return self.error(conn, tag, 26 if stream else 5)
         return self.mute(conn, tag, stream.sink, stream.sink.group.members[values[0]], values[1])
 
     def do_lookup_sink(self, conn, tag, values):
@@ -726,6 +784,54 @@ def thrown_sinks(number, turns):
     return "\n".join([*said, *lines[:3], "", *collected(lines, dice), "end", ""])
 
 
+def thrown_moves(number, turns):
+    """Six streams of two clients that move between three sinks, while they play, wait, are corked and asked, and change their volumes."""
+    dice = random.Random(number)
+    sinks = [sink.replace(" 8000 ", " 48000 ") for sink in SINKS]
+    names = [sink.split()[0] for sink in sinks]
+    lines = [*(f"sink {sink}" for sink in sinks), "connect 1", "auth 1 tag 0 version 13", "connect 2", "auth 2 tag 0 version 13"]
+    asked = [(conn, text.replace(" 8000 ", " 48000 ")) for conn, _, text in PLACED]
+    lines += [f"create {conn} {text} maxlength 1000 tlength 400 prebuf {dice.choice((0, 40))} minreq 20" for conn, text in asked]
+    words = ("data",) * 8 + ("move",) * 2 + ("cork", "flush", "drain", "latency", "volume", "sink-volume", "mute", "input-info")
+    for _ in range(turns):
+        for _ in range(dice.randrange(5)):
+            at, word, sink = dice.randrange(len(asked)), dice.choice(words), dice.choice(names)
+            conn, text = asked[at]
+            if word == "data":
+                most = 128 if text.startswith("u8") else 1000
+                each = ["/".join(str(dice.randrange(-most, most)) for _ in range(int(text.split()[1]))) for _ in range(dice.randrange(1, 60))]
+                lines.append(f"data {conn} stream {at % 3} {' '.join(each)}")
+                continue
+            more = {
+                "cork": f" {dice.choice(('on', 'off', 'off'))}", "latency": f" time {dice.randrange(9)}:{dice.randrange(9)}",
+                "volume": f" volume {dice.choice((0, 32768, 65536, 80000))}", "sink-volume": f" volume {dice.choice((32768, 65536))}",
+                "mute": f" {dice.choice(('on', 'off'))}", "move": f" sink {sink}",
+            }
+            what = f"sink {sink}" if word == "sink-volume" else f"input {at}" if word in ("move", "volume", "mute", "input-info") else f"stream {at % 3}"
+            lines.append(f"{word} {conn} {what}{more.get(word, '')}")
+        lines.append(f"turn {dice.choice(names)} {dice.randrange(40)} take 0")
+    said = [f"# Thrown with the dice of {number}: six streams that move between three sinks, {turns} turns. Its output is conformance/reckon.py's.", ""]
+    return "\n".join([*said, *lines[:3], "", *taken(lines, dice), "end", ""])
+
+
+def taken(lines, dice):
+    """The events of these lines; each turn takes some of the messages that wait, its sink's first turn plays no frame, and some notices are collected behind it."""
+    cookie, sinks, events = read_session(make("\n".join([*lines, "end", ""])))
+    server = Server(cookie, sinks)
+    for line, event in zip(lines[len(sinks) :], events):
+        if event[0] != 5:
+            yield line
+            server.event(event)
+            continue
+        sink = server.sinks[event[1]]
+        name, frames, take = sink.spec.name.decode(), event[2] if sink.filled else 0, dice.randrange(len(sink.waiting) + 1)
+        server.event((5, event[1], frames, take))
+        yield f"turn {name} {frames} take {take}"
+        count = dice.randrange(len(sink.notices) + 1)
+        server.event((6, event[1], None, count))
+        yield f"collect {name} take {count}"
+
+
 def full():
     """16 sinks with 64 streams each, four for each of 16 clients: as many as there can be in all."""
     formats = [wire.format_word(code) for code in (3, 4, 7, 8, 9, 10, 11, 12, 0)]
@@ -748,6 +854,20 @@ def full():
     return "\n".join([*lines, "end", ""])
 
 
+def crowded():
+    """A sink with 256 streams, and three on another sink that would move to it."""
+    lines = ["# A sink of 256 streams takes no other; where one of them ends, one that moves to it takes the place at once, before it is there."]
+    lines += ["sink out s16le 1 48000 map 0 guard 0 depth 4", "sink full s16le 1 48000 map 0 guard 0 depth 4"]
+    create = "create {} tag {} s16le 1 48000 map 0 index {} prebuf 0 tlength 400 minreq 400"
+    for conn in range(1, 5):
+        lines += [f"connect {conn}", f"auth {conn} tag 0 version 13"] + [create.format(conn, stream + 1, 1) for stream in range(64)]
+    lines += ["connect 5", "auth 5 tag 0 version 13"] + [create.format(5, tag, 0) for tag in (1, 2, 3)]
+    lines += ["move 5 tag 4 input 256 sink full", "delete 1 tag 65 stream 0", "move 5 tag 5 input 256 sink full", "move 5 tag 6 input 257 sink full"]
+    lines += [create.format(1, 66, 1), "delete 5 tag 7 stream 0", "move 5 tag 8 input 257 sink full", "data 5 stream 1 7x4"]
+    lines += ["turn out 0 take 8", "collect out take 2", "turn out 0 take 2", f"turn full 0 take {2 * 256 + 1 + 3}", "turn full 4 take 0"]
+    return "\n".join([*lines, "end", ""])
+
+
 def collected(lines, dice):
     """The events of these lines, with some of the notices collected behind each turn."""
     cookie, sinks, events = read_session(make("\n".join([*lines, "end", ""])))
@@ -761,7 +881,7 @@ def collected(lines, dice):
             yield f"collect {sinks[event[1]].name.decode()} take {count}"
 
 
-THROWS = {"--dice": thrown, "--life": thrown_life, "--sinks": thrown_sinks}
+THROWS = {"--dice": thrown, "--life": thrown_life, "--sinks": thrown_sinks, "--moves": thrown_moves}
 
 
 def thrown_by(words):
@@ -770,7 +890,7 @@ def thrown_by(words):
         return THROWS[words[0]](int(words[1]), int(words[2]))
     if len(words) == 3 and words[0] == "--formats":
         return thrown_formats(int(words[1]), words[2])
-    return full() if words == ["--full"] else None
+    return {"--full": full, "--crowded": crowded}.get(words[0], lambda: None)() if len(words) == 1 else None
 
 
 def main(words):

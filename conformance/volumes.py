@@ -64,6 +64,12 @@ class Group:
         self.members[number] = Member(volume, muted, feed)
         self.settle()
 
+    def join(self, number, member, feed):
+        """An input of another group: its ratios stay, and its volume is what they make of the reference volume here."""
+        self.members[number], member.feed = member, feed
+        member.volume = [multiply(*pair) for pair in zip(member.to_reference, member.fed(self.reference))]
+        self.settle()
+
     def detach(self, number):
         del self.members[number]
         self.follow()

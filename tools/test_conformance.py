@@ -36,9 +36,9 @@ class Running(unittest.TestCase):
         self.assertEqual(self.run_rows("", "--cut", "5", *rows), (0, "3 passed, 0 failed\n", ""))
 
     def test_what_was_worked_by_hand_is_reckoned(self):
-        """The rows of the life of streams, of formats, of plans, of sinks, of volumes and of infos, and a recorded client."""
+        """The rows of the life of streams, of formats, of moves, of plans, of sinks, of volumes and of infos, and a recorded client."""
         rows = [f"infos/{name}" for name in ("changed", "clients", "inputs", "pactl_list", "properties", "sink_infos", "streams", "volumes")]
-        for topic in ("formats", "plans", "sinks", "streams", "subscriptions", "volumes"):
+        for topic in ("formats", "moves", "plans", "sinks", "streams", "subscriptions", "volumes"):
             names = sorted(os.listdir(os.path.join(TOP, "conformance", topic)))
             rows += [f"{topic}/{name[: -len('.output')]}" for name in names if name.endswith(".output")]
         self.assertEqual(self.run_rows("", *rows, "recorded/paplay"), (0, f"{len(rows) + 1} passed, 0 failed\n", ""))
