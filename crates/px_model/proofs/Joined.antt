@@ -21,7 +21,7 @@ use Rattle.px_model.proofs.Streams.{stream_on, stream_by, given_open, given_cork
 use Rattle.px_model.proofs.Rounds.{turn_keeps, stop_keeps}
 use Rattle.px_model.proofs.Lookups.{read_of, KeepsRead, gone, entry_reads, entry_count}
 
-entry_keeps : (samples : Samples) (sink : Sink) → IsSink sink → (e : Entry) → CanBe sink e → AreFor sink (messages_of e) → IsSink (sink_after samples sink e)
+pub entry_keeps : (samples : Samples) (sink : Sink) → IsSink sink → (e : Entry) → CanBe sink e → AreFor sink (messages_of e) → IsSink (sink_after samples sink e)
 entry_keeps samples sink keeps (turn n messages) c a = turn_keeps samples sink keeps n c.0 messages a
 entry_keeps samples sink keeps (stop messages) c a = stop_keeps sink keeps messages a
 
@@ -54,7 +54,7 @@ short_or_all true n k e h = ltb-false n k e
 short_or_all false n k e h = absurd (false≢true h)
 
 -- a read index after n frames were given of k, where the queue ran on or not
-abbrev Ends : ℤ → ℕ → Bool → ℤ → Type 0
+abbrev pub Ends : ℤ → ℕ → Bool → ℤ → Type 0
 Ends from n ran i = ((i ≡ onward from n) ⊎ IsTrue ran) × (onward from n ≤ℤ i)
 
 abbrev queue_ran : Queue → ℕ → Bool
@@ -83,7 +83,7 @@ queue_ends q keeps (suc k) =
     (λ h. ends_still q.read (queue_given q (suc k)) (queue_ran q (suc k)) (given_short q (suc k) h))
     (λ h. ends_on q keeps (suc k) h)
 
-abbrev Meets : Stream → ℕ → Stream → Type 0
+abbrev pub Meets : Stream → ℕ → Stream → Type 0
 Meets s k t = Ends s.queue.read (given_of s k) (stretch_of s k).ran_on t.queue.read
 
 meets_open : (s : Stream) → IsStream s → (k : ℕ) → s.corked ≡ false → Meets s k (stream_on s k)
@@ -92,7 +92,7 @@ meets_open s keeps k c =
     subst (λ n. Ends s.queue.read n (stretch_of s k).ran_on (queue_after s.queue k).read) (sym (given_open s k c))
     (subst (λ b. Ends s.queue.read (queue_given s.queue k) (not b && not (is_short s.queue) && s.queue.prebuf == 0 && nat_lt (left_of s.queue) k) (queue_after s.queue k).read) (sym c) ends)
 
-meets : (s : Stream) → IsStream s → (k : ℕ) → Meets s k (after s k)
+pub meets : (s : Stream) → IsStream s → (k : ℕ) → Meets s k (after s k)
 meets s keeps zero = ends_still s.queue.read (given_of s 0) (stretch_of s 0).ran_on (given_none s)
 meets s keeps (suc k) =
     stream_by (Meets s (suc k)) s (suc k) (omega arith)
@@ -102,21 +102,21 @@ meets s keeps (suc k) =
 -- ---- over a history
 
 -- a track, if it has a stretch, begins at an index
-abbrev Begins : ℤ → List Stretch → Type 0
+abbrev pub Begins : ℤ → List Stretch → Type 0
 Begins read [] = ⊤
 Begins read (x ∷ track) = Stretch.from x ≡ read
 
-begins_at : (samples : Samples) (sink : Sink) (history : List Entry) (i : ℕ) (s : Stream) → stream_at i sink.inputs ≡ Some s → Begins s.queue.read (track_of samples sink history i)
+pub begins_at : (samples : Samples) (sink : Sink) (history : List Entry) (i : ℕ) (s : Stream) → stream_at i sink.inputs ≡ Some s → Begins s.queue.read (track_of samples sink history i)
 begins_at samples sink [] i s e = tt
 begins_at samples sink (x ∷ history) i s e =
     subst (λ o. Begins s.queue.read (stretches_from o (forward_by sink x) ++ track_of samples (sink_after samples sink x) history i)) (sym e) refl
 
-none_stays : (p : Option Stream) → KeepsRead None p → p ≡ None
+pub none_stays : (p : Option Stream) → KeepsRead None p → p ≡ None
 none_stays None h = refl
 none_stays (Some t) h = absurd h
 
 -- an input that isn't there, and that no message opens, settles nothing
-nothing_settled : (samples : Samples) (sink : Sink) (history : List Entry) (i : ℕ) → stream_at i sink.inputs ≡ None → history_opens i history ≡ 0 → track_of samples sink history i ≡ []
+pub nothing_settled : (samples : Samples) (sink : Sink) (history : List Entry) (i : ℕ) → stream_at i sink.inputs ≡ None → history_opens i history ≡ 0 → track_of samples sink history i ≡ []
 nothing_settled samples sink [] i e h = refl
 nothing_settled samples sink (x ∷ history) i e h =
     let absent : stream_at i (sink_after samples sink x).inputs ≡ None =
@@ -126,7 +126,7 @@ nothing_settled samples sink (x ∷ history) i e h =
     ∙ nothing_settled samples (sink_after samples sink x) history i absent (omega (arith, h))
 
 -- one stretch in front
-join_one : (x : Stretch) (read : ℤ) (track : List Stretch) → (read ≡ onward x.from x.count) ⊎ IsTrue x.ran_on → onward x.from x.count ≤ℤ read → Begins read track → IsJoined track → IsJoined (x ∷ track)
+pub join_one : (x : Stretch) (read : ℤ) (track : List Stretch) → (read ≡ onward x.from x.count) ⊎ IsTrue x.ran_on → onward x.from x.count ≤ℤ read → Begins read track → IsJoined track → IsJoined (x ∷ track)
 join_one x read [] e h b j = tt
 join_one x read (y ∷ track) e h b j = (
   record {
@@ -136,7 +136,7 @@ join_one x read (y ∷ track) e h b j = (
   j,
 )
 
-stream_kept : (sink : SampleSpec) (i : ℕ) (xs : List Input) (s : Stream) → AllByRecursion (λ x. IsStreamOf sink (Input.stream x)) xs → stream_at i xs ≡ Some s → IsStream s
+pub stream_kept : (sink : SampleSpec) (i : ℕ) (xs : List Input) (s : Stream) → AllByRecursion (λ x. IsStreamOf sink (Input.stream x)) xs → stream_at i xs ≡ Some s → IsStream s
 stream_kept sink i [] s k e = absurd (none-some s e)
 stream_kept sink i (x ∷ xs) s k e =
     ⊎_elim

@@ -18,3 +18,4 @@ pub mod Replays
 pub mod Parcels
 pub mod Whole
 pub mod Counts
+pub mod Stays

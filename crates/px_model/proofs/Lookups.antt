@@ -27,11 +27,11 @@ KeepsRead None (Some t) = ⊥
 KeepsRead (Some s) None = ⊤
 KeepsRead (Some s) (Some t) = read_of t ≡ read_of s
 
-keeps_same : (o : Option Stream) → KeepsRead o o
+pub keeps_same : (o : Option Stream) → KeepsRead o o
 keeps_same None = tt
 keeps_same (Some s) = refl
 
-keeps_then : (o p q : Option Stream) → KeepsRead o p → KeepsRead p q → KeepsRead o q
+pub keeps_then : (o p q : Option Stream) → KeepsRead o p → KeepsRead p q → KeepsRead o q
 keeps_then None None None h k = tt
 keeps_then None None (Some u) h k = k
 keeps_then None (Some t) q h k = absurd h
@@ -56,7 +56,7 @@ keeps_here : (b : Bool) (s t : Stream) (o p : Option Stream) → read_of t ≡ r
 keeps_here true s t o p e h = e
 keeps_here false s t o p e h = h
 
-at_map : (i : ℕ) (f : Input → Input) → ((x : Input) → Input.index (f x) ≡ Input.index x) → ((x : Input) → read_of (Input.stream (f x)) ≡ read_of (Input.stream x)) → (xs : List Input) → KeepsRead (stream_at i xs) (stream_at i (map f xs))
+pub at_map : (i : ℕ) (f : Input → Input) → ((x : Input) → Input.index (f x) ≡ Input.index x) → ((x : Input) → read_of (Input.stream (f x)) ≡ read_of (Input.stream x)) → (xs : List Input) → KeepsRead (stream_at i xs) (stream_at i (map f xs))
 at_map i f e r [] = tt
 at_map i f e r (x ∷ xs) =
     subst (λ n. KeepsRead (cond (x.index == i) (Some x.stream) (stream_at i xs)) (cond (n == i) (Some (Input.stream (f x))) (stream_at i (map f xs)))) (sym (e x))

@@ -17,14 +17,14 @@ use Rattle.px_model.proofs.Lookups.{KeepsRead, message_reads, messages_read, at_
 
 -- ---- lists of notices
 
-abbrev All : ℕ → ℤ → List (Notice Stream) → Type 0
+abbrev pub All : ℕ → ℤ → List (Notice Stream) → Type 0
 All i read notices = AllByRecursion (HandsOverAt i read) notices
 
-joined : (i : ℕ) (read : ℤ) (xs ys : List (Notice Stream)) → All i read xs → All i read ys → All i read (xs ++ ys)
+pub joined : (i : ℕ) (read : ℤ) (xs ys : List (Notice Stream)) → All i read xs → All i read ys → All i read (xs ++ ys)
 joined i read [] ys h k = k
 joined i read (x ∷ xs) ys h k = (h.0, joined i read xs ys h.1 k)
 
-each_of : (i : ℕ) (read : ℤ) (f : Input → List (Notice Stream)) → ((x : Input) → All i read (f x)) → (xs : List Input) → All i read (flat_map f xs)
+pub each_of : (i : ℕ) (read : ℤ) (f : Input → List (Notice Stream)) → ((x : Input) → All i read (f x)) → (xs : List Input) → All i read (flat_map f xs)
 each_of i read f h [] = tt
 each_of i read f h (x ∷ xs) = joined i read (f x) (flat_map f xs) (h x) (each_of i read f h xs)
 
@@ -36,13 +36,13 @@ drained_tags : (i : ℕ) (read : ℤ) (j : ℕ) (tags : List ℕ) → All i read
 drained_tags i read j [] = tt
 drained_tags i read j (tag ∷ tags) = (tt, drained_tags i read j tags)
 
-going_hands : (i : ℕ) (read : ℤ) (k : ℕ) (x : Input) → All i read (going_notices k x)
+pub going_hands : (i : ℕ) (read : ℤ) (k : ℕ) (x : Input) → All i read (going_notices k x)
 going_hands i read k x =
     joined i read (cond (has_started x.stream k) (Notice.started x.index ∷ []) []) (cond (has_run_out x.stream k) (Notice.underflow x.index ∷ []) [])
     (chosen i read (has_started x.stream k) (Notice.started x.index ∷ []) [] (tt, tt) tt)
     (chosen i read (has_run_out x.stream k) (Notice.underflow x.index ∷ []) [] (tt, tt) tt)
 
-asked_hands : (i : ℕ) (read : ℤ) (mixed : ℕ) (x : Input) → All i read (asked_notices mixed x)
+pub asked_hands : (i : ℕ) (read : ℤ) (mixed : ℕ) (x : Input) → All i read (asked_notices mixed x)
 asked_hands i read mixed x =
     joined i read (cond (has_ended x.stream) (map (λ tag. Notice.drained x.index tag) x.stream.draining) [])
     (cond (nat_le x.stream.minreq (missing_of x.stream mixed)) (Notice.request x.index (missing_of x.stream mixed) ∷ []) [])
@@ -70,7 +70,7 @@ detached_at : (i j : ℕ) (read : ℤ) (o : Option Stream) → (j ≡ i → Stan
 detached_at i j read None h = tt
 detached_at i j read (Some s) h = (h, tt)
 
-message_hands : (i mixed buffered : ℕ) (read : ℤ) (m : Message Stream) (xs : List Input) → StandsAt read (stream_at i xs) → All i read (message_notices mixed buffered m xs)
+pub message_hands : (i mixed buffered : ℕ) (read : ℤ) (m : Message Stream) (xs : List Input) → StandsAt read (stream_at i xs) → All i read (message_notices mixed buffered m xs)
 message_hands i mixed buffered read (Message.new n) xs h = tt
 message_hands i mixed buffered read (Message.attach j parcel feed factors) xs h = tt
 message_hands i mixed buffered read (Message.detach j) xs h = detached_at i j read (stream_at j xs) (λ e. subst (λ k. StandsAt read (stream_at k xs)) (sym e) h)

@@ -16,3 +16,4 @@ pub mod Turn
 pub mod Deciding
 pub mod Track
 pub mod Rows
+pub mod Stay

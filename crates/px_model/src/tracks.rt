@@ -1,4 +1,4 @@
-//! The law of continuity within one sink: no stream index is settled twice.
+//! The laws of continuity, within one sink and from sink to sink: no stream index is settled twice.
 ghost use Rattle.std.specs.Prelude.{◌≡◌, ◌+◌, ◌≤◌, List, ℕ, Some};
 ghost use Rattle.std.specs.List.{AllByRecursion};
 ghost use Rattle.px_model.specs.Stream.{Stream};
@@ -9,6 +9,7 @@ ghost use Rattle.px_model.specs.Mix.{Samples};
 ghost use Rattle.px_model.specs.Sink.{Sink, Input, IsSink, stream_at};
 ghost use Rattle.px_model.specs.Turn.{inputs_with};
 ghost use Rattle.px_model.specs.Deciding.{Entry, IsHistory, IsOrderlyHistory, sink_after, notices_of, messages_of};
+ghost use Rattle.px_model.specs.Stay.{Stay, AreStays, track_over};
 ghost use Rattle.px_model.specs.Track.{StandsAt, HandsOverAt, AllHandOver, all_opens, forward_by, track_of, IsJoined, Rise, indices_of_all, presence_of, history_opens};
 
 /// For every sink, history and input that is opened at most once, at the start or by a message: the
@@ -23,6 +24,14 @@ pub fn tracks_are_joined()
         → IsHistory samples sink history → IsOrderlyHistory samples sink history
         → (i : ℕ) → presence_of (stream_at i sink.inputs) + history_opens i history ≤ 1
         → Rise (indices_of_all (track_of samples sink history i)) }
+{}
+
+/// An input that moves from sink to sink, and comes back to one too: the parcel that leaves a sink is the one that comes to the next.
+/// The stretches of its track over all of its stays are joined, but where the read index ran on without prebuffering, and the
+/// indices of the track rise, so that none is settled twice, on whichever sink. Source: own.
+pub fn tracks_go_on_from_sink_to_sink()
+    ensures joined { (samples : Samples) (i : ℕ) (stays : List Stay) → AreStays samples i stays → IsJoined (track_over samples i stays) }
+    ensures rising { (samples : Samples) (i : ℕ) (stays : List Stay) → AreStays samples i stays → Rise (indices_of_all (track_over samples i stays)) }
 {}
 
 /// The parcel that a message hands over is the whole stream of its input at the horizon, as the messages before it left it, also
