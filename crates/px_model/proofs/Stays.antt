@@ -310,7 +310,6 @@ begins_through read p [] [] h b = tt
 begins_through read p [] (y ∷ ys) h b = b ∙ h
 begins_through read p (x ∷ xs) ys h b = h
 
-
 record GoOn (samples : Samples) (i : ℕ) (a : Stay) (stays : List Stay) : Type 0 where
   joined_all : IsJoined (track_over samples i (a ∷ stays))
   begins_all : (p : Stream) → ComesIn i p a.history → Begins p.queue.read (track_over samples i (a ∷ stays))
@@ -330,9 +329,9 @@ go_on samples i a (b ∷ stays) h =
     let next : Begins (GoesOn.parcel on).queue.read (track_over samples i (b ∷ stays)) = GoOn.begins_all rest (GoesOn.parcel on) (GoesOn.comes on) in
     record {
       joined_all = joins (GoesOn.parcel on) (track_of samples a.sink a.history i) (track_over samples i (b ∷ stays))
-      (ends_at samples i (GoesOn.parcel on) a.sink a.history (IsStay.kept h.0) (IsStay.can h.0) (IsStay.orderly h.0) (IsStay.once h.0) (GoesOn.leaves on)) next (GoOn.joined_all rest);
+          (ends_at samples i (GoesOn.parcel on) a.sink a.history (IsStay.kept h.0) (IsStay.can h.0) (IsStay.orderly h.0) (IsStay.once h.0) (GoesOn.leaves on)) next (GoOn.joined_all rest);
       begins_all = λ p c. begins_through p.queue.read (GoesOn.parcel on) (track_of samples a.sink a.history i) (track_over samples i (b ∷ stays))
-      (begins_then samples i p (GoesOn.parcel on) a.sink a.history (IsStay.once h.0) c (GoesOn.leaves on)) next;
+          (begins_then samples i p (GoesOn.parcel on) a.sink a.history (IsStay.once h.0) c (GoesOn.leaves on)) next;
     }
 
 pub stays_joined : (samples : Samples) (i : ℕ) (stays : List Stay) → AreStays samples i stays → IsJoined (track_over samples i stays)

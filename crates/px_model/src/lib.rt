@@ -22,7 +22,8 @@ pub use keeping::{queue_keeps, stream_keeps};
 pub use orderly::orderly_messages_go_on;
 pub use rows::worked_rows;
 pub use tracks::{
-    parcels_are_whole, parcels_stand_at_the_horizon, tracks_are_joined, tracks_go_on_from_sink_to_sink,
+    parcels_are_whole, parcels_stand_at_the_horizon, tracks_are_joined,
+    tracks_go_on_from_sink_to_sink,
 };
 pub use turns::{sink_keeps, turn_mixes_from_its_horizon};
 pub use writing::overflow_is_counted;
