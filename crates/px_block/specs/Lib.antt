@@ -1,3 +1,4 @@
 pub mod Packed
+pub mod Kept
 pub mod Given
 pub mod Shelved

@@ -1,6 +1,6 @@
 // One block, and the answer for want of memory.
 
-ghost use Rattle.std.specs.Prelude.{◌≡◌, ◌-◌, ◌≤◌, ◌++◌, [], length, take, min, IfOk};
+ghost use Rattle.std.specs.Prelude.{◌≡◌, ◌+◌, ◌≤◌, ◌++◌, [], length, take, min, IfOk, OnOk};
 
 use std::alloc::{AllocError, AllocFailed, Global};
 use std::marker::Model;
@@ -28,27 +28,28 @@ impl<T: Drop> From<AllocFailed<T>> for NoMemory {
 pub const BLOCK_SIZE: usize = 65_536;
 
 /// A block of bytes (`pa_memblock`): what was put into it since it was taken, at most `BLOCK_SIZE` bytes.
-/// Its room is taken when it is made.
+/// Its room is taken when it is made; `fit` gives back what it doesn't use, and `open` takes it again.
 #[derive(Debug, Drop)]
 pub struct Block {
     bytes: Vec<u8>,
 }
 
 impl Model for Block {
-    ghost use Rattle.std.specs.Prelude.{◌≤◌, ℕ, List, vec_len, vec_capacity};
+    ghost use Rattle.std.specs.Prelude.{◌≤◌, ◌-◌, min, vec_len, vec_capacity};
     ghost use Rattle.px_block.specs.declared.block.TheConstants.{BLOCK_SIZE};
+    ghost use Rattle.px_block.specs.Kept.{KeptBlock};
 
-    ghost Value = { List ℕ };
+    ghost Value = { KeptBlock };
 
-    ghost view = { λ b. b.bytes.items };
+    ghost view = { λ b. record { bytes = b.bytes.items; room = min (vec_capacity b.bytes) BLOCK_SIZE - vec_len b.bytes } };
 
-    ghost invariant = { λ b. (vec_len b.bytes ≤ BLOCK_SIZE) × (BLOCK_SIZE ≤ vec_capacity b.bytes) };
+    ghost invariant = { λ b. vec_len b.bytes ≤ BLOCK_SIZE };
 }
 
 impl Block {
     /// A block with no bytes. Takes the memory for all that it can have.
     pub fn new(alloc: Global) -> Mem<Block>
-        ensures { IfOk result (λ block. block ≡ []) }
+        ensures { IfOk result (λ block. block ≡ record { bytes = []; room = BLOCK_SIZE }) }
     {
         Ok(Block {
             bytes: Vec::with_capacity(alloc, BLOCK_SIZE)?,
@@ -58,11 +59,12 @@ impl Block {
     /// Appends the first of these bytes, and answers how many went in: all of them, or as many as there was
     /// room for. Takes no memory.
     pub fn put(&mut self, bytes: &[u8]) -> usize
-        ensures count { result ≡ min (length bytes.now) (BLOCK_SIZE - length self.old) }
-        ensures bytes { self.new ≡ self.old ++ take result bytes.now }
-        ensures room { length self.new ≤ BLOCK_SIZE }
+        ensures count { result ≡ min (length bytes.now) self.old.room }
+        ensures bytes { self.new.bytes ≡ self.old.bytes ++ take result bytes.now }
+        ensures room { self.old.room ≤ self.new.room + result }
+        ensures size { length self.new.bytes ≤ BLOCK_SIZE }
     {
-        let room = BLOCK_SIZE - self.bytes.len();
+        let room = self.bytes.capacity().min(BLOCK_SIZE) - self.bytes.len();
         let count = bytes.len().min(room);
         self.bytes.extend_from_slice(&bytes[..count]).unwrap();
         count
@@ -70,15 +72,34 @@ impl Block {
 
     /// The bytes that were put, in order. Takes no memory.
     pub fn bytes(&self) -> &[u8]
-        ensures { result.now ≡ self.now }
+        ensures bytes { result.now ≡ self.now.bytes }
+        ensures size { length self.now.bytes ≤ BLOCK_SIZE }
     {
         self.bytes.as_slice()
     }
 
     /// Takes all bytes out, so that the block can be used again. Its room stays, and it takes no memory.
     pub fn clear(&mut self)
-        ensures { self.new ≡ [] }
+        ensures bytes { self.new.bytes ≡ [] }
+        ensures room { self.new.room ≡ length self.old.bytes + self.old.room }
     {
         self.bytes.clear();
+    }
+
+    /// Gives back the memory that its bytes don't use. It has less room then, and takes no memory.
+    pub fn fit(&mut self)
+        ensures bytes { self.new.bytes ≡ self.old.bytes }
+        ensures room { self.new.room ≤ self.old.room }
+    {
+        self.bytes.shrink_to_fit();
+    }
+
+    /// Takes the room for all that it can have. Without memory nothing changes.
+    pub fn open(&mut self) -> Mem<()>
+        ensures bytes { self.new.bytes ≡ self.old.bytes }
+        ensures ok { OnOk result (length self.new.bytes + self.new.room ≡ BLOCK_SIZE) }
+    {
+        self.bytes.reserve_exact(BLOCK_SIZE - self.bytes.len())?;
+        Ok(())
     }
 }

@@ -1,7 +1,8 @@
 // A run of bytes that lies in blocks.
 
-ghost use Rattle.std.specs.Prelude.{◌≡◌, ℕ, ◌+◌, ◌*◌, ◌-◌, ◌%◌, ◌^◌, ◌<◌, ◌++◌, [], length, take, drop, min, vec_len, vec_capacity, IfOk, OnOk, OnErr, MatchOption};
+ghost use Rattle.std.specs.Prelude.{◌≡◌, ℕ, ◌+◌, ◌*◌, ◌-◌, ◌%◌, ◌^◌, ◌<◌, ◌++◌, [], ◌∷◌, length, take, drop, min, vec_len, vec_capacity, IfOk, IfSome, OnOk, OnErr, OnSome, MatchOption};
 ghost use Rattle.std.specs.List.{concat};
+ghost use Rattle.px_block.specs.Kept.{contents};
 ghost use Rattle.px_block.specs.Packed.{IsPacked, AreFull};
 ghost use Rattle.px_block.specs.Given.{after_giving, blocks_for};
 
@@ -20,13 +21,14 @@ pub struct Blocks {
 impl Model for Blocks {
     ghost use Rattle.std.specs.Prelude.{ℕ, List};
     ghost use Rattle.std.specs.List.{concat};
+    ghost use Rattle.px_block.specs.Kept.{contents};
     ghost use Rattle.px_block.specs.Packed.{IsPacked};
 
     ghost Value = { List ℕ };
 
-    ghost view = { λ b. concat b.blocks.items };
+    ghost view = { λ b. concat (contents b.blocks.items) };
 
-    ghost invariant = { λ b. IsPacked b.blocks.items };
+    ghost invariant = { λ b. IsPacked (contents b.blocks.items) };
 }
 
 impl Blocks {
@@ -56,6 +58,13 @@ impl Blocks {
         Ok(count)
     }
 
+    /// Gives back the memory that the last block doesn't use, once no more bytes are expected. Takes no memory.
+    pub fn fit(&mut self)
+        ensures { self.new ≡ self.old }
+    {
+        fit_last(&mut self.blocks);
+    }
+
     /// How many blocks there are. Takes no memory.
     pub fn count(&self) -> usize
         ensures { result ≡ blocks_for (length self.now) }
@@ -73,8 +82,8 @@ impl Blocks {
 
     /// The blocks, in order. Takes no memory.
     pub fn as_slice(&self) -> &[Block]
-        ensures bytes { concat result.now ≡ self.now }
-        ensures packed { IsPacked result.now }
+        ensures bytes { concat (contents result.now) ≡ self.now }
+        ensures packed { IsPacked (contents result.now) }
     {
         self.blocks.as_slice()
     }
@@ -88,8 +97,8 @@ impl Blocks {
 
     /// The blocks themselves, in order. Takes no memory.
     pub fn into_vec(self) -> Vec<Block>
-        ensures bytes { concat result.items ≡ self }
-        ensures packed { IsPacked result.items }
+        ensures bytes { concat (contents result.items) ≡ self }
+        ensures packed { IsPacked (contents result.items) }
     {
         self.blocks
     }
@@ -106,8 +115,8 @@ fn give_all<B: BlockSource>(mut blocks: Vec<Block>, source: &mut B)
 
 // How many bytes these blocks have.
 fn len_of(blocks: &[Block]) -> usize
-    requires { length (concat blocks.now) < 2 ^ 64 }
-    ensures { result ≡ length (concat blocks.now) }
+    requires { length (concat (contents blocks.now)) < 2 ^ 64 }
+    ensures { result ≡ length (concat (contents blocks.now)) }
 {
     let mut len = 0;
     for block in blocks {
@@ -116,23 +125,54 @@ fn len_of(blocks: &[Block]) -> usize
     len
 }
 
-// Takes the last block out where it has room, else a new one from the source, so that only full ones are left
-// and there is room to push it. After an `Err` nothing has changed.
-fn take_open<B: BlockSource>(blocks: &mut Vec<Block>, source: &mut B) -> Mem<Block>
-    requires { IsPacked blocks.old.items }
-    ensures bytes { IfOk result (λ last. concat blocks.new.items ++ last ≡ concat blocks.old.items) }
-    ensures open { IfOk result (λ last. length last < BLOCK_SIZE) }
-    ensures full { OnOk result (AreFull blocks.new.items) }
-    ensures room { OnOk result (vec_len blocks.new < vec_capacity blocks.new) }
-    ensures err { OnErr result (blocks.new.items ≡ blocks.old.items) }
+// Fits the last block to its bytes.
+fn fit_last(blocks: &mut Vec<Block>)
+    ensures { contents blocks.new.items ≡ contents blocks.old.items }
 {
-    if !blocks.is_empty() {
-        let last = blocks.take_last();
-        if last.bytes().len() < BLOCK_SIZE {
-            return Ok(last);
-        }
-        blocks.push_reserved(last);
+    if let Some(last) = blocks.last_mut() {
+        last.fit();
     }
-    blocks.reserve(1)?;
-    source.take()
+}
+
+// Takes the last block out where it isn't full, so that only full ones are left.
+fn take_partial(blocks: &mut Vec<Block>) -> Option<Block>
+    requires { IsPacked (contents blocks.old.items) }
+    ensures items { MatchOption result (blocks.new.items ≡ blocks.old.items) (λ last. blocks.old.items ≡ blocks.new.items ++ last ∷ []) }
+    ensures full { AreFull (contents blocks.new.items) }
+    ensures partial { IfSome result (λ last. length last.bytes < BLOCK_SIZE) }
+    ensures room { OnSome result (vec_len blocks.new < vec_capacity blocks.new) }
+{
+    if blocks.is_empty() {
+        return None;
+    }
+    let last = blocks.take_last();
+    if last.bytes().len() < BLOCK_SIZE {
+        return Some(last);
+    }
+    blocks.push_reserved(last);
+    None
+}
+
+// Takes the last block out where it isn't full, else a new one from the source, so that only full ones are left
+// and there is room to push it. It has room for all that a block can have. After an `Err` no bytes have changed.
+fn take_open<B: BlockSource>(blocks: &mut Vec<Block>, source: &mut B) -> Mem<Block>
+    requires { IsPacked (contents blocks.old.items) }
+    ensures bytes { IfOk result (λ last. concat (contents blocks.new.items) ++ last.bytes ≡ concat (contents blocks.old.items)) }
+    ensures partial { IfOk result (λ last. length last.bytes < BLOCK_SIZE) }
+    ensures open { IfOk result (λ last. length last.bytes + last.room ≡ BLOCK_SIZE) }
+    ensures full { OnOk result (AreFull (contents blocks.new.items)) }
+    ensures room { OnOk result (vec_len blocks.new < vec_capacity blocks.new) }
+    ensures err { OnErr result (contents blocks.new.items ≡ contents blocks.old.items) }
+{
+    let Some(mut last) = take_partial(blocks) else {
+        blocks.reserve(1)?;
+        return source.take();
+    };
+    match last.open() {
+        Ok(()) => Ok(last),
+        Err(NoMemory) => {
+            blocks.push_reserved(last);
+            Err(NoMemory)
+        }
+    }
 }

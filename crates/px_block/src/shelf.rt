@@ -21,14 +21,14 @@ impl Model for Counted {
 
     ghost Value = { Shelved };
 
-    ghost view = { λ c. record { bytes = c.block; references = c.references } };
+    ghost view = { λ c. record { bytes = c.block.bytes; references = c.references } };
 
     ghost invariant = { λ c. 1 ≤ c.references };
 }
 
 impl Counted {
     fn new(block: Block) -> Counted
-        ensures { result ≡ record { bytes = block; references = 1 } }
+        ensures { result ≡ record { bytes = block.bytes; references = 1 } }
     {
         Counted {
             block,
@@ -63,7 +63,7 @@ impl Counted {
     }
 
     fn into_block(self) -> Block
-        ensures { result ≡ self.bytes }
+        ensures { result.bytes ≡ self.bytes }
     {
         self.block
     }
@@ -110,8 +110,8 @@ impl Shelf {
     /// where there is room it takes no memory, and can't fail.
     pub fn put(&mut self, block: Block) -> Result<usize, Block>
         ensures free { IfOk result (λ key. under self.old key ≡ None) }
-        ensures ok { IfOk result (λ key. SetsOnly self.old self.new key (Some (record { bytes = block; references = 1 }))) }
-        ensures err { IfErr result (λ back. back ≡ block) }
+        ensures ok { IfOk result (λ key. SetsOnly self.old self.new key (Some (record { bytes = block.bytes; references = 1 }))) }
+        ensures err { IfErr result (λ back. back.bytes ≡ block.bytes) }
         ensures same { OnErr result (self.new.slots ≡ self.old.slots) }
         ensures reserved { 1 ≤ self.old.room → IsOk result }
         ensures room { self.old.room ≤ self.new.room + 1 }
@@ -137,7 +137,7 @@ impl Shelf {
     pub fn release(&mut self, key: usize) -> Option<Block>
         requires { 1 ≤ references_to (under self.old key) }
         ensures slots { SetsOnly self.old self.new key (released (under self.old key)) }
-        ensures block { MatchOption result (1 < references_to (under self.old key)) (λ block. under self.old key ≡ Some (record { bytes = block; references = 1 })) }
+        ensures block { MatchOption result (1 < references_to (under self.old key)) (λ block. under self.old key ≡ Some (record { bytes = block.bytes; references = 1 })) }
         ensures room { self.old.room ≤ self.new.room }
         ensures freed { OnSome result (self.old.room + 1 ≤ self.new.room) }
     {

@@ -1,6 +1,7 @@
 // Where blocks come from, and where they go when they were used.
 
 ghost use Rattle.std.specs.Prelude.{◌≡◌, ℕ, [], Option, None, IfOk};
+ghost use Rattle.px_block.specs.declared.block.TheConstants.{BLOCK_SIZE};
 ghost use Rattle.px_block.specs.Given.{after_giving};
 
 use crate::block::{Block, Mem};
@@ -11,9 +12,9 @@ pub trait BlockSource {
     /// How many blocks it was given back, where it tells.
     ghost given: { Self → Option ℕ };
 
-    /// A block that shows no bytes, whatever its memory held before.
+    /// A block that shows no bytes, whatever its memory held before, and has room for all that a block can have.
     fn take(&mut self) -> Mem<Block>
-        ensures block { IfOk result (λ block. block ≡ []) }
+        ensures block { IfOk result (λ block. block ≡ record { bytes = []; room = BLOCK_SIZE }) }
         ensures given { given self.new ≡ given self.old };
 
     /// Takes back a block that isn't needed any more. Takes no memory.

@@ -199,11 +199,12 @@ fn write_step<B: BlockSource>(
     Ok(whole(&descriptor, body, start, count))
 }
 
-// What a frame for a stream says.
-fn write_body(descriptor: &Descriptor, bytes: Blocks) -> Body
+// What a frame for a stream says. Its bytes wait in no more memory than they need.
+fn write_body(descriptor: &Descriptor, mut bytes: Blocks) -> Body
     requires { descriptor.now.channel ≢ CONTROL_CHANNEL }
     ensures { result ≡ body_of descriptor.now bytes }
 {
+    bytes.fit();
     Body::Write {
         stream: descriptor.channel,
         offset: descriptor.byte_offset(),

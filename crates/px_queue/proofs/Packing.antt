@@ -4,7 +4,10 @@ use Rattle.std.specs.List.{concat}
 use Rattle.std.proofs.Math.Seq.{take-append-add, take-add, drop-append_seam}
 use Rattle.std.proofs.lemmas.List.{take-append-le, drop-append-le, length-take-le, drop-drop}
 use borrow.Rule.Slice.PartMut.{put_mid, post_of}
+use Rattle.std.specs.Prelude.{slice_index_or}
+use Rattle.px_block.specs.Kept.{KeptBlock, contents}
 use Rattle.px_block.specs.Packed.{IsPacked}
+use Rattle.px_block.proofs.PackedLemmas.{content_at, length_contents}
 
 -- a place of all bytes is one of block k, r bytes into it
 pub within : (blocks : List (List ℕ)) (k r : ℕ) (d : List ℕ) → IsPacked blocks → r < 65536 → k * 65536 + r < length (concat blocks) → r < length (get_or blocks k d)
@@ -22,6 +25,12 @@ block_there (b ∷ []) (suc k) r packed inside = absurd (omega (arith, inside, l
 block_there (b ∷ next ∷ bs) (suc k) r packed inside =
     let there = block_there (next ∷ bs) k r packed.3 (omega (arith, inside, length-append b (concat (next ∷ bs)), packed.2 (omega arith))) in
     omega (arith, there)
+
+pub there_is : (blocks : List KeptBlock) (k r : ℕ) → IsPacked (contents blocks) → k * 65536 + r < length (concat (contents blocks)) → k < length blocks
+there_is blocks k r packed inside = omega (arith, block_there (contents blocks) k r packed inside, length_contents blocks)
+
+pub block_is : (blocks : List KeptBlock) (k r : ℕ) (b : KeptBlock) → IsPacked (contents blocks) → k * 65536 + r < length (concat (contents blocks)) → b ≡ slice_index_or blocks k b → b.bytes ≡ slice_index_or (contents blocks) k b.bytes
+block_is blocks k r b packed inside is = content_at blocks k b (there_is blocks k r packed inside) is
 
 -- from there on stand what is left of that block, and the blocks behind it
 pub from_there : (blocks : List (List ℕ)) (k r : ℕ) (d : List ℕ) → IsPacked blocks → r < 65536 → k * 65536 + r < length (concat blocks)

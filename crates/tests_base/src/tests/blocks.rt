@@ -1,4 +1,4 @@
-ghost use Rattle.std.specs.Prelude.{◌≡◌, [], None, length};
+ghost use Rattle.std.specs.Prelude.{◌≡◌, ◌≤◌, [], None, length};
 
 use px_block::{Block, BlockSource, Blocks, Fresh, Mem, NoMemory, Shelf};
 use std::alloc::Global;
@@ -52,13 +52,21 @@ fn lengths_are(blocks: &[Block], lengths: &[usize]) -> bool {
         })
 }
 
+// What was fitted to its bytes has them, and takes more.
+fn goes_on(blocks: &mut Blocks, source: &mut Fresh) -> Mem<bool> {
+    blocks.fit();
+    let fitted = lengths_are(blocks.as_slice(), &[65_536, 65_536, 40_000]);
+    Ok(fitted && blocks.put(source, &[9; 40_000])? == 25_536)
+}
+
 fn run(alloc: Global) -> Mem<bool> {
     let mut blocks = Blocks::new(alloc);
-    let put = put_run(&mut blocks, &mut Fresh::new(alloc))?;
-    let lengths = [65_536, 65_536, 40_000];
+    let mut source = Fresh::new(alloc);
+    let put = put_run(&mut blocks, &mut source)? && goes_on(&mut blocks, &mut source)?;
+    let lengths = [65_536, 65_536, 65_536];
     Ok(
         put && blocks.count() == 3
-            && blocks.len() == 171_072
+            && blocks.len() == 196_608
             && lengths_are(blocks.as_slice(), &lengths)
             && lengths_are(&blocks.into_vec(), &lengths),
     )
@@ -106,7 +114,7 @@ fn bytes_go_on_in_the_next_block(rt: HostRuntime) {
 
 // A block with two references is there until the second is released, and is handed out then.
 fn is_shared(shelf: &mut Shelf, block: Block) -> bool
-    requires { length block ≡ 4 }
+    requires { length block.bytes ≡ 4 }
 {
     let Ok(key) = shelf.put(block) else {
         return false;
@@ -117,8 +125,9 @@ fn is_shared(shelf: &mut Shelf, block: Block) -> bool
 }
 
 fn put_all(block: &mut Block)
-    requires { block.old ≡ [] }
-    ensures { length block.new ≡ 4 }
+    requires none { block.old.bytes ≡ [] }
+    requires room { 4 ≤ block.old.room }
+    ensures { length block.new.bytes ≡ 4 }
 {
     block.put(b"abcd");
 }

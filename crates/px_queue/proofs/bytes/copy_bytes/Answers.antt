@@ -1,25 +1,26 @@
 use Rattle.std.proofs.Common.{◌≡◌, ℕ, ◌+◌, ◌*◌, ◌-◌, ◌/◌, ◌%◌, ◌<◌, ◌≤◌, suc, List, length, take, drop, get_or, ap, ◌∙◌, arith, rules, length-take, length-drop}
 use Rattle.std.specs.List.{concat}
 use Rattle.std.proofs.lemmas.List.{take_all}
-use Rattle.px_queue.proofs.Packing.{within, block_there, from_there, copied_more}
+use Rattle.px_block.specs.Kept.{contents}
+use Rattle.px_queue.proofs.Packing.{within, there_is, block_is, from_there, copied_more}
 use Rattle.px_queue.proofs.bytes.copy_bytes.Goals as goal
 
 pub bounds-blocks-at : goal.bounds-blocks-at
 bounds-blocks-at c =
     let at = c.args.from + c.loop-filled.filled in
-    block_there c.args.blocks.now (at / 65536) (at % 65536) c.requires.packed (omega (arith, c.requires.inside, c.loop-filled-test.true, c.loop-filled.auto.out))
+    there_is c.args.blocks.now (at / 65536) (at % 65536) c.requires.packed (omega (arith, c.requires.inside, c.loop-filled-test.true, c.loop-filled.auto.out))
 
 pub slice_bounds-copy_front-count : goal.slice_bounds-copy_front-count
 slice_bounds-copy_front-count c =
     let at = c.args.from + c.loop-filled.filled in
-    let there = within c.args.blocks.now (at / 65536) (at % 65536) c.index-blocks-at.result c.requires.packed (omega arith) (omega (arith, c.requires.inside, c.loop-filled-test.true, c.loop-filled.auto.out)) in
-    omega (arith, there, ap (length {A = ℕ}) c.index-blocks-at.is, ap (length {A = ℕ}) c.bytes-bytes.ensures)
+    let there = within (contents c.args.blocks.now) (at / 65536) (at % 65536) c.index-blocks-at.result.bytes c.requires.packed (omega arith) (omega (arith, c.requires.inside, c.loop-filled-test.true, c.loop-filled.auto.out)) in
+    omega (arith, there, ap (length {A = ℕ}) (block_is c.args.blocks.now (at / 65536) (at % 65536) c.index-blocks-at.result c.requires.packed (omega (arith, c.requires.inside, c.loop-filled-test.true, c.loop-filled.auto.out)) c.index-blocks-at.is), ap (length {A = ℕ}) c.bytes-bytes.ensures.bytes)
 
 pub slice_bounds-copy_front-start : goal.slice_bounds-copy_front-start
 slice_bounds-copy_front-start c =
     let at = c.args.from + c.loop-filled.filled in
-    let there = within c.args.blocks.now (at / 65536) (at % 65536) c.index-blocks-at.result c.requires.packed (omega arith) (omega (arith, c.requires.inside, c.loop-filled-test.true, c.loop-filled.auto.out)) in
-    omega (arith, there, ap (length {A = ℕ}) c.index-blocks-at.is, ap (length {A = ℕ}) c.bytes-bytes.ensures)
+    let there = within (contents c.args.blocks.now) (at / 65536) (at % 65536) c.index-blocks-at.result.bytes c.requires.packed (omega arith) (omega (arith, c.requires.inside, c.loop-filled-test.true, c.loop-filled.auto.out)) in
+    omega (arith, there, ap (length {A = ℕ}) (block_is c.args.blocks.now (at / 65536) (at % 65536) c.index-blocks-at.result c.requires.packed (omega (arith, c.requires.inside, c.loop-filled-test.true, c.loop-filled.auto.out)) c.index-blocks-at.is), ap (length {A = ℕ}) c.bytes-bytes.ensures.bytes)
 
 pub loop-filled-smaller : goal.loop-filled-smaller
 loop-filled-smaller c =
@@ -27,8 +28,8 @@ loop-filled-smaller c =
     let at = c.args.from + filled in
     let block = c.bytes-bytes.result.now in
     let r = at % 65536 in
-    let there = within c.args.blocks.now (at / 65536) r c.index-blocks-at.result c.requires.packed (omega arith) (omega (arith, c.requires.inside, c.loop-filled-test.true, c.loop-filled.auto.out)) in
-    let left : r < length block = omega (arith, there, ap (length {A = ℕ}) c.index-blocks-at.is, ap (length {A = ℕ}) c.bytes-bytes.ensures) in
+    let there = within (contents c.args.blocks.now) (at / 65536) r c.index-blocks-at.result.bytes c.requires.packed (omega arith) (omega (arith, c.requires.inside, c.loop-filled-test.true, c.loop-filled.auto.out)) in
+    let left : r < length block = omega (arith, there, ap (length {A = ℕ}) (block_is c.args.blocks.now (at / 65536) (at % 65536) c.index-blocks-at.result c.requires.packed (omega (arith, c.requires.inside, c.loop-filled-test.true, c.loop-filled.auto.out)) c.index-blocks-at.is), ap (length {A = ℕ}) c.bytes-bytes.ensures.bytes) in
     omega (
       arith,
       left,
@@ -47,13 +48,13 @@ loop-filled-preserved c =
     let n = c.copy_front-filled.result in
     let out = c.loop-filled.out in
     let part = c.copy_front-filled.new.out in
-    let all = concat c.args.blocks.now in
+    let all = concat (contents c.args.blocks.now) in
     let at = c.args.from + filled in
     let k = at / 65536 in
     let r = at % 65536 in
     let given = c.bytes-bytes.result.now in
-    let block = get_or c.args.blocks.now k c.index-blocks-at.result in
-    let same : given ≡ block = c.bytes-bytes.ensures ∙ c.index-blocks-at.is in
+    let block = get_or (contents c.args.blocks.now) k c.index-blocks-at.result.bytes in
+    let same : given ≡ block = c.bytes-bytes.ensures.bytes ∙ block_is c.args.blocks.now k r c.index-blocks-at.result c.requires.packed (omega (arith, c.requires.inside, c.loop-filled-test.true, c.loop-filled.auto.out)) c.index-blocks-at.is in
     let inside : k * 65536 + r < length all = omega (arith, c.requires.inside, c.loop-filled-test.true, c.loop-filled.auto.out) in
     let place : c.args.from + filled ≡ k * 65536 + r = omega arith in
     let fit : filled + n ≤ length out =
@@ -72,7 +73,7 @@ loop-filled-preserved c =
     ∙ ap (take n) (take_all (length given - r) (drop r given) (omega (arith, length-drop r given)))
     ∙ ap (λ (b : List ℕ). take n (drop r b)) same in (
       search rules,
-      copied_more all (drop r block) (concat (drop (suc k) c.args.blocks.now)) out part c.args.from filled n (omega (arith, fit)) few short
-          (ap (λ (m : ℕ). drop m all) place ∙ from_there c.args.blocks.now k r c.index-blocks-at.result c.requires.packed (omega arith) inside)
+      copied_more all (drop r block) (concat (drop (suc k) (contents c.args.blocks.now))) out part c.args.from filled n (omega (arith, fit)) few short
+          (ap (λ (m : ℕ). drop m all) place ∙ from_there (contents c.args.blocks.now) k r c.index-blocks-at.result.bytes c.requires.packed (omega arith) inside)
           copied c.loop-filled.invariant.1,
     )
