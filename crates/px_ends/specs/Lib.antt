@@ -1,5 +1,4 @@
 pub mod Told
-pub mod Faults
 pub mod Bytes
 pub mod Links
 pub mod Whole

@@ -1,4 +1,5 @@
 mod blocks;
 mod device;
 mod ends;
+mod recorders;
 mod types;
