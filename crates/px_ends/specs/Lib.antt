@@ -5,3 +5,5 @@ pub mod Whole
 pub mod Memory
 pub mod Device
 pub mod MemoryDevice
+pub mod MemoryClock
+pub mod Host
