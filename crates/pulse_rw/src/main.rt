@@ -2,11 +2,9 @@
 //! with the status's code.
 #![tactic(auto)]
 
-mod standard;
-
-use crate::standard::{Reading, Writing};
 use px_app::{Ending, report, run};
 use px_ends::NoHost;
+use px_host::{Reading, Writing};
 use std::alloc::{AllocError, Global};
 use std::env;
 use std::process::ExitCode;
