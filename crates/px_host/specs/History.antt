@@ -1,7 +1,6 @@
 -- A history that is kept in memory, or not kept.
 use Rattle.std.specs.Prelude.{ℕ, ◌≤◌, List, Option, None, Some, ⊤}
 use Rattle.px_annals.specs.History.{Limit}
-use Rattle.px_annals.specs.Memory.{MemoryRecorder}
 use Rattle.px_host.specs.declared.history.History.{History}
 use Rattle.px_host.specs.declared.history.History.TheVariants.{Kept, Unkept}
 
