@@ -1,4 +1,4 @@
-//! Tests of the mixer layer: buffer attributes as the server repairs them, and a sink's turns over a device in memory. Their values
+//! Tests of the mixer layer: buffer attributes as the server repairs them, and streams as plain numbers and bytes. Their values
 //! were reckoned by hand. The crate has no other items.
 #![tactic(auto)]
 

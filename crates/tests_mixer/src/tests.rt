@@ -1,1 +1,2 @@
 mod attributes;
+mod plain;
