@@ -70,8 +70,10 @@ fn a_client_is_heard_and_a_stale_socket_is_replaced(rt: HostRuntime) -> io::Resu
 }
 
 fn makes<H: Host>(alloc: Global, host: &mut H) -> bool {
-    let device =
-        matches!(host.device(alloc, b"front", &SHAPE), Ok(mut device) if device.sync() == Ok(0));
+    let device = match host.device(alloc, b"front", &SHAPE) {
+        Ok(mut device) => device.sync() == Ok(0),
+        Err(_) => false,
+    };
     let outside = matches!(
         host.device(alloc, b"../front", &SHAPE),
         Err(HostFault::Failed)
