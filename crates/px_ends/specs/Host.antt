@@ -103,11 +103,11 @@ module _ {D R C : Type 0} where
   abbrev pub started_by : ServeOptions → HostState D R C → HostState D R C
   started_by options h = record h { started = noted options h.started }
 
-  -- a start with these options that answers so: the bytes of the header file, or a fault
+  -- a start with these options that answers so: the bytes of the header file, or nothing changes but for a fault
   abbrev pub Starts : HeaderRead → ServeOptions → HostState D R C → HostState D R C → Type 0
   Starts (read.Bytes text) options before after = WhereTold before.header (λ bytes. text ≡ bytes) × (after ≡ started_by options before)
-  Starts read.NoMemory options before after = after ≡ started_by options before
-  Starts read.Failed options before after = FailsOnce (started_by options before) after
+  Starts read.NoMemory options before after = after ≡ before
+  Starts read.Failed options before after = FailsOnce before after
 
   -- ---- links
 
