@@ -2,11 +2,9 @@
 //! with the status's code.
 #![tactic(auto)]
 
-mod standard;
-
-use crate::standard::{Reading, Writing};
 use px_app::{Ending, report, run};
 use px_ends::NoHost;
+use px_host::{Reading, Writing};
 use std::alloc::{AllocError, Global};
 use std::env;
 use std::process::ExitCode;
@@ -27,7 +25,7 @@ fn main(rt: HostRuntime) -> ExitCode {
     let mut output = Writing::new(rt.stdout());
     let mut log = Writing::new(rt.stderr());
     let status = match words(&rt, rt.alloc()) {
-        Ok(words) => run(&rt, &words, &mut input, &mut output, &mut log, &mut NoHost),
+        Ok(words) => run(&rt, &words, &mut input, &mut output, &mut log, &mut NoHost::new()),
         Err(_) => report(rt.alloc(), Ending::Memory, &mut log),
     };
     ExitCode::from(status.code())

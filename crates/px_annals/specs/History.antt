@@ -3,7 +3,7 @@ use Rattle.std.specs.Prelude.{◌≡◌, ℕ, ◌-◌, ◌^◌, min, Bool, true,
 use Rattle.std.specs.List.{sum}
 use Rattle.px_annals.specs.declared.recorder.RecordFault.{RecordFault}
 use Rattle.px_annals.specs.declared.recorder.RecordFault.TheVariants.{NoMemory, Full, Failed}
-use Rattle.px_annals.specs.Faults.{Rose}
+use Rattle.px_types.specs.Faults.{Rose}
 
 -- ---- how much is held
 

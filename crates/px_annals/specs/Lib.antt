@@ -1,4 +1,3 @@
-pub mod Faults
 pub mod History
 pub mod Size
 pub mod Memory

@@ -10,9 +10,6 @@ pub struct Items<T> {
     items: Vec<T>,
 }
 
-/// Bytes.
-pub type Text = Items<u8>;
-
 /// Numbers.
 pub type Numbers = Items<u32>;
 

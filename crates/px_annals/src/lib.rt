@@ -7,17 +7,15 @@ mod entry;
 mod items;
 mod memory;
 mod message;
-mod nomemory;
 mod notice;
 mod recorder;
 mod step;
 mod stream;
 
 pub use entry::{CoreEntry, LaneEntry};
-pub use items::{Items, Numbers, Text};
+pub use items::{Items, Numbers};
 pub use memory::{MemRecorder, NoRecorder};
 pub use message::{PlainFactorList, PlainFactors, PlainMsg, PlainMsgs};
-pub use nomemory::{Mem, NoMemory};
 pub use notice::PlainNotice;
 pub use recorder::{Entry, RecordFault, Recorder};
 pub use step::{PlainBody, PlainStep};

@@ -3,8 +3,9 @@
 ghost use Rattle.std.specs.Prelude.{◌≡◌, [], length, slice_get, IfOk, IsOk};
 ghost use Rattle.std.specs.Option.{option_map};
 
-use crate::nomemory::{Mem, NoMemory};
+use crate::entry::{CoreEntry, LaneEntry};
 use crate::recorder::{Entry, RecordFault, Recorder};
+use px_types::{Mem, NoMemory};
 use std::alloc::Global;
 use std::marker::Model;
 
@@ -59,6 +60,13 @@ impl<E: Entry + Drop> MemRecorder<E> {
         self.entries.len()
     }
 
+    /// How often it was found full.
+    pub fn fulls(&self) -> u64
+        ensures { result ≡ self.now.fulls }
+    {
+        self.fulls
+    }
+
     /// The entry at a place, from 0; `None` exactly where there are no more than that.
     pub fn entry(&self, at: usize) -> Option<&E>
         ensures { option_map (λ entry. entry.now) result ≡ slice_get self.now.held at }
@@ -102,11 +110,11 @@ impl<E: Entry + Drop> Recorder<E> for MemRecorder<E> {
     ghost takes_less = { λ r more less below can. can };
 }
 
-/// A recorder that keeps nothing, tells nothing and never fails.
+/// A recorder of either kind of entry that keeps nothing, tells nothing and never fails.
 #[derive(Clone, Copy, Debug)]
 pub struct NoRecorder;
 
-impl<E: Entry + Drop> Recorder<E> for NoRecorder {
+impl Recorder<LaneEntry> for NoRecorder {
     ghost use Rattle.std.specs.Prelude.{None, ⊤};
 
     ghost told = { λ r. None };
@@ -125,7 +133,31 @@ impl<E: Entry + Drop> Recorder<E> for NoRecorder {
         Ok(())
     }
 
-    fn note(&mut self, _entry: E) {}
+    fn note(&mut self, _entry: LaneEntry) {}
+
+    ghost takes_less = { λ r more less below can. can };
+}
+
+impl Recorder<CoreEntry> for NoRecorder {
+    ghost use Rattle.std.specs.Prelude.{None, ⊤};
+
+    ghost told = { λ r. None };
+
+    ghost limit = { λ r. None };
+
+    ghost takes = { λ r bytes. ⊤ };
+
+    ghost faults = { λ r. 0 };
+
+    ghost fulls = { λ r. 0 };
+
+    fn ready(&mut self, _bytes: usize) -> Result<(), RecordFault>
+        ensures { IsOk result }
+    {
+        Ok(())
+    }
+
+    fn note(&mut self, _entry: CoreEntry) {}
 
     ghost takes_less = { λ r more less below can. can };
 }

@@ -1,7 +1,8 @@
 //! Messages from the core to a sink, as plain numbers and bytes.
 
-use crate::items::{Items, Numbers, Text};
+use crate::items::{Items, Numbers};
 use crate::stream::PlainStream;
+use px_types::Text;
 
 /// The factors of one input, in 16.16, one a channel of its sink.
 #[derive(Debug, Drop)]

@@ -1,7 +1,7 @@
 //! Steps of the core, as plain numbers and bytes.
 
-use crate::items::Text;
 use crate::notice::PlainNotice;
+use px_types::Text;
 
 /// What a frame of a connection has: a control packet, or data for a channel, at an offset in bytes that a seek mode counts from.
 #[derive(Debug, Drop)]

@@ -1,6 +1,7 @@
 //! A stream as plain numbers and bytes.
 
-use crate::items::{Items, Numbers, Text};
+use crate::items::{Items, Numbers};
+use px_types::Text;
 
 /// A frame of a queue.
 #[derive(Debug, Drop)]

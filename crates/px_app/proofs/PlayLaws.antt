@@ -1,7 +1,7 @@
 -- What each step of a replay leaves.
 use Rattle.std.proofs.Common.{◌≡◌, inl, inr, ℕ, Bool, false, List, [], ◌∷◌, ◌++◌, Option, Result, Ok, Err, refl, sym, ap, subst, ◌∙◌}
 use Rattle.px_ends.specs.Told.{before_taking, after_adding, IsAtEnd}
-use Rattle.px_ends.specs.Faults.{Rose}
+use Rattle.px_types.specs.Faults.{Rose}
 use Rattle.px_ends.specs.Whole.{AddsFront}
 use Rattle.px_ends.proofs.ToldBytes.{taking_both, adding_nothing, adding_both}
 use Rattle.px_session.specs.declared.header.Header.{Header}

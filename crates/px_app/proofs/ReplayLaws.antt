@@ -3,7 +3,7 @@ use Rattle.std.proofs.Common.{◌≡◌, ◌≢◌, ◌⊎◌, inl, inr, ℕ, Li
 use Rattle.px_types.specs.declared.status.Status.{Status}
 use Rattle.px_types.specs.declared.status.Status.TheVariants as status
 use Rattle.px_ends.specs.Told.{after_adding, WhereTold}
-use Rattle.px_ends.specs.Faults.{Rose}
+use Rattle.px_types.specs.Faults.{Rose}
 use Rattle.px_ends.specs.Whole.{AddsFront}
 use Rattle.px_app.specs.declared.refusal.Refusal.{Refusal}
 use Rattle.px_app.specs.declared.ending.Ending.{Ending}

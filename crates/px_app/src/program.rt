@@ -3,7 +3,7 @@
 ghost use Rattle.std.specs.Prelude.{◌≡◌, ◌⊎◌, ◌≢◌, ◌↔◌, IsTrue, map, string_bytes};
 ghost use Rattle.px_types.specs.declared.status.Status.{Status as Answered};
 ghost use Rattle.px_ends.specs.Told.{after_adding, WhereTold};
-ghost use Rattle.px_ends.specs.Faults.{Rose};
+ghost use Rattle.px_types.specs.Faults.{Rose};
 ghost use Rattle.px_ends.specs.Whole.{AddsFront};
 ghost use Rattle.px_app.specs.declared.ending.Ending.{Ending as Ended};
 ghost use Rattle.px_app.specs.declared.ending.Ending.TheVariants as ending;

@@ -2,7 +2,7 @@
 -- device's buffer of `pa_sink` in pulsecore/sink.h). Own: one record of all its numbers, with its bytes where it tells them.
 use Rattle.std.specs.Prelude.{◌≡◌, ℕ, ◌+◌, ◌-◌, ◌*◌, ◌/◌, ◌^◌, ◌≤◌, min, Bool, true, IsFalse, List, ◌++◌, length, take, drop, Option, None, Some, ⊤, false}
 use Rattle.px_ends.specs.declared.device.DeviceShape.{DeviceShape}
-use Rattle.px_ends.specs.Faults.{Rose}
+use Rattle.px_types.specs.Faults.{Rose}
 use Rattle.px_ends.specs.Told.{after_adding, WhereTold}
 
 -- what a sync does: it consumes so many frames, or all that wait if those are fewer, or it fails

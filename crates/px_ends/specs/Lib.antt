@@ -1,8 +1,9 @@
 pub mod Told
-pub mod Faults
 pub mod Bytes
 pub mod Links
 pub mod Whole
 pub mod Memory
 pub mod Device
 pub mod MemoryDevice
+pub mod MemoryClock
+pub mod Host

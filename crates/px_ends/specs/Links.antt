@@ -5,7 +5,7 @@ use Rattle.px_ends.specs.declared.link.Recv.TheVariants as recv
 use Rattle.px_ends.specs.declared.link.Sent.{Sent}
 use Rattle.px_ends.specs.declared.link.Sent.TheVariants as sent
 use Rattle.px_ends.specs.Told.{IsAtEnd}
-use Rattle.px_ends.specs.Faults.{Rose}
+use Rattle.px_types.specs.Faults.{Rose}
 use Rattle.px_ends.specs.Bytes.{Departs, Adds}
 
 -- how often a call failed, told the end, or found the link not ready

@@ -10,7 +10,7 @@ use Rattle.px_ends.specs.declared.link.Recv.{Recv}
 use Rattle.px_ends.specs.declared.link.Recv.TheVariants as recv
 use Rattle.px_ends.specs.declared.link.Sent.{Sent}
 use Rattle.px_ends.specs.declared.link.Sent.TheVariants as sent
-use Rattle.px_ends.specs.Faults.{next_count}
+use Rattle.px_types.specs.Faults.{next_count}
 
 abbrev pub is_listed : List ℕ → ℕ → Bool
 is_listed calls n = list_any (λ x. x == n) calls

@@ -1,7 +1,7 @@
 -- A device in memory, which tells all of its bytes and consumes what it was set to.
 use Rattle.std.specs.Prelude.{ℕ, ◌+◌, ◌-◌, ◌*◌, ◌/◌, min, Bool, true, false, ◌||◌, List, [], ◌++◌, length, take, drop, Option, None, Some}
 use Rattle.std.specs.Option.{unwrap_or}
-use Rattle.px_ends.specs.Faults.{next_count}
+use Rattle.px_types.specs.Faults.{next_count}
 use Rattle.px_ends.specs.declared.device.DeviceShape.{DeviceShape}
 use Rattle.px_ends.specs.Device.{DeviceState, Next, consume, fail}
 

@@ -3,7 +3,7 @@ use Rattle.std.specs.Prelude.{◌≡◌, ℕ, ◌<◌, ◌≤◌, List, ◌++◌
 use Rattle.px_ends.specs.declared.whole.Filled.{Filled}
 use Rattle.px_ends.specs.declared.whole.Filled.TheVariants as filled
 use Rattle.px_ends.specs.Told.{before_taking, after_adding, IsAtEnd}
-use Rattle.px_ends.specs.Faults.{Rose}
+use Rattle.px_types.specs.Faults.{Rose}
 
 -- so many bytes departed, which the buffer now has at its front
 pub record Front (n : ℕ) (buffer : List ℕ) (old new : Option (List ℕ)) : Type 0 where

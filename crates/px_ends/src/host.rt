@@ -1,16 +1,115 @@
-// What the program runs on beside its input, output and log.
-ghost use Rattle.std.specs.Prelude.{ℕ};
+// What a server runs on beside its input, output and log.
+ghost use Rattle.std.specs.Prelude.{◌≡◌, IsTrue, IsFalse, IfOk};
+ghost use Rattle.px_ends.specs.Device.{IsShape};
+ghost use Rattle.px_ends.specs.Host.{HostState, FailsOnce, Starts, Accepts, Makes, IsNewDevice, IsNewRecorder, one_device, one_recorder, one_core, HasPart, HasCore, TakesPart, TakesCore};
 
-/// The host of a server, by how many of its calls failed.
-pub trait Host {
-    /// How many of its calls failed. It never falls.
-    ghost faults: { Self → ℕ };
+use crate::{Device, DeviceShape, Link};
+use px_annals::{CoreEntry, LaneEntry, Recorder};
+use px_types::{SinkId, Text};
+use std::alloc::Global;
+use thiserror::Error;
+
+/// What a server is to be: the paths of its header file, of its socket and of the folder for what its sinks play, how many links it
+/// takes, 1 to 65,535, and whether its histories are kept in memory.
+#[derive(Debug, Drop)]
+pub struct ServeOptions {
+    pub header: Text,
+    pub socket: Text,
+    pub out: Text,
+    pub accept: u16,
+    pub memory: bool,
 }
 
-/// No host at all, for runs that need none.
-#[derive(Clone, Copy, Debug, PartialEq, Eq)]
-pub struct NoHost;
+/// What a start answers.
+#[derive(Debug, Drop)]
+pub enum HeaderRead {
+    /// The bytes of the header file.
+    Bytes(Text),
+    /// There was no memory for them.
+    NoMemory,
+    /// The file can't be read, or nobody can be listened for.
+    Failed,
+}
 
-impl Host for NoHost {
-    ghost faults = { λ _. 0 };
+/// What an accept answers.
+#[derive(Debug, Drop)]
+pub enum Accepted<L> {
+    /// A client.
+    Link(L),
+    /// No more come.
+    Over,
+    /// There was no memory for one.
+    NoMemory,
+    /// The accept failed.
+    Failed,
+}
+
+/// Why a host doesn't make something.
+#[derive(Clone, Copy, Debug, PartialEq, Eq, Error)]
+pub enum HostFault {
+    /// There was no memory.
+    #[error("out of memory")]
+    NoMemory,
+    /// The call failed.
+    #[error("host failed")]
+    Failed,
+}
+
+/// What a server runs on: it reads the header, hands out the clients' links, makes a device and a recorder for each sink and a recorder
+/// for the core, and takes these back in the end. No count of it falls. Own.
+pub trait Host {
+    type L: Link + Drop + Send;
+
+    type D: Device + Drop + Send;
+
+    type R: Recorder<LaneEntry> + Drop + Send;
+
+    type C: Recorder<CoreEntry> + Drop + Send;
+
+    /// All that is told of it.
+    ghost now: { Self → HostState Self.D Self.R Self.C };
+
+    /// Reads the header file, and begins to listen for clients.
+    fn start(&mut self, alloc: Global, options: &ServeOptions) -> HeaderRead
+        ensures { Starts result options.now (now self.old) (now self.new) };
+
+    /// Waits for the next client, with what the host itself has for that. At most 65,535 links are handed out.
+    fn accept(&mut self, alloc: Global) -> Accepted<Self::L>
+        ensures { Accepts result (now self.old) (now self.new) };
+
+    /// A device for the sink of a name, which has consumed and played nothing.
+    fn device(
+        &mut self,
+        alloc: Global,
+        name: &[u8],
+        shape: &DeviceShape,
+    ) -> Result<Self::D, HostFault>
+        requires { IsShape shape.now }
+        ensures device { IfOk result (λ device. IsNewDevice shape.now (Self.D.now device)) }
+        ensures host { Makes one_device result (now self.old) (now self.new) };
+
+    /// A recorder for a sink, which holds nothing.
+    fn lane_recorder(&mut self, alloc: Global) -> Result<Self::R, HostFault>
+        ensures recorder { IfOk result (λ recorder. IsNewRecorder (Self.R.told recorder) (Self.R.faults recorder) (Self.R.fulls recorder)) }
+        ensures host { Makes one_recorder result (now self.old) (now self.new) };
+
+    /// A recorder for the core, which holds nothing.
+    fn core_recorder(&mut self, alloc: Global) -> Result<Self::C, HostFault>
+        ensures recorder { IfOk result (λ recorder. IsNewRecorder (Self.C.told recorder) (Self.C.faults recorder) (Self.C.fulls recorder)) }
+        ensures host { Makes one_core result (now self.old) (now self.new) };
+
+    /// Whether one more thread may be started. `false` is a fault.
+    fn may_start(&mut self) -> bool
+        ensures yes { IsTrue result → now self.new ≡ now self.old }
+        ensures no { IsFalse result → FailsOnce (now self.old) (now self.new) };
+
+    /// Takes back what it made for a sink. Takes no memory: the room for it was taken when these were made.
+    fn retire(&mut self, sink: SinkId, device: Self::D, recorder: Self::R)
+        requires { HasPart (now self.old) }
+        ensures { TakesPart (Self.D.now device).faults (Self.R.faults recorder) (Self.R.fulls recorder) (record { sink = sink; device = device; recorder = recorder }) (now self.old) (now self.new) };
+
+    /// Takes back the core's recorder. Takes no memory: the room for it was taken when it was made.
+    fn retire_core(&mut self, recorder: Self::C)
+        requires { HasCore (now self.old) }
+        ensures { TakesCore (Self.C.faults recorder) (Self.C.fulls recorder) recorder (now self.old) (now self.new) };
 }

@@ -139,6 +139,13 @@ impl MemDevice {
         Ok(())
     }
 
+    /// How many of its syncs failed.
+    pub fn faults(&self) -> u64
+        ensures { result ≡ self.now.faults }
+    {
+        self.faults
+    }
+
     /// Makes the next sync fail, and with it all later ones. That sync plays nothing.
     pub fn stop_next(&mut self)
         ensures { self.new ≡ record self.old { stopping = true } }

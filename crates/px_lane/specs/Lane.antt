@@ -2,7 +2,7 @@
 use Rattle.std.specs.Prelude.{◌≡◌, ℕ, ◌≤◌, Bool, true, false, IsTrue, List, Option, Some, None}
 use Rattle.std.specs.List.{concat}
 use Rattle.std.specs.FinMap as map
-use Rattle.px_ends.specs.Faults.{next_count}
+use Rattle.px_types.specs.Faults.{next_count}
 use Rattle.px_ends.specs.Told.{after_adding, WhereTold}
 use Rattle.px_ends.specs.Device.{DeviceState, Fails}
 use Rattle.px_model.specs.Frame.{frame_size}

@@ -5,8 +5,8 @@ ghost use Rattle.px_model.specs.Index.{onward};
 ghost use Rattle.px_queue.specs.Plain.{frame_at, frames_up_to, plain_of};
 
 use crate::FrameQueue;
-use px_annals::{PlainFrame, PlainFrames, PlainQueue, Text};
-use px_types::Mem;
+use px_annals::{PlainFrame, PlainFrames, PlainQueue};
+use px_types::{Mem, Text};
 use std::alloc::Global;
 
 impl FrameQueue {

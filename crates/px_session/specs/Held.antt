@@ -1,7 +1,7 @@
 -- What a reader holds of its source's bytes.
 use Rattle.std.specs.Prelude.{◌≡◌, ℕ, ◌≤◌, List, ◌++◌, length, Option, Result, Ok, Err}
 use Rattle.px_ends.specs.Told.{before_taking, IsAtEnd}
-use Rattle.px_ends.specs.Faults.{Rose}
+use Rattle.px_types.specs.Faults.{Rose}
 use Rattle.px_session.specs.declared.held.More.{More}
 use Rattle.px_session.specs.declared.held.More.TheVariants.{Came, Ended}
 use Rattle.px_session.specs.declared.fault.ReadError.{ReadError}

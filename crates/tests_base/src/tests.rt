@@ -1,4 +1,7 @@
 mod blocks;
+mod clock;
 mod device;
 mod ends;
+mod host;
+mod recorders;
 mod types;

@@ -1,4 +1,4 @@
-//! Tests of mailboxes: one at its capacity. The crate has no other items.
+//! Tests of mailboxes: one at its capacity, and one between two threads. The crate has no other items.
 #![tactic(auto)]
 
 #[cfg(test)]

@@ -1,1 +1,2 @@
 mod mailbox;
+mod threads;

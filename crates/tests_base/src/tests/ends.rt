@@ -1,6 +1,6 @@
 use px_ends::{
-    Calls, Filled, Got, Host, Link, MemLink, MemSink, MemSource, NoHost, Recv, Sent, Sink, Source,
-    Took, fill, write_all,
+    Calls, Filled, Got, Link, MemLink, MemSink, MemSource, Recv, Sent, Sink, Source, Took, fill,
+    write_all,
 };
 use px_types::{Mem, NoMemory, Text};
 use std::alloc::Global;
@@ -113,11 +113,7 @@ fn without_room(alloc: Global) -> bool {
     matches!(none, Err(NoMemory)) && matches!(some, Ok(sink) if sink.bytes().is_empty())
 }
 
-fn serves<H: Host>(_host: &H) -> bool {
-    true
-}
-
 #[test]
 fn want_of_memory_is_an_answer(rt: HostRuntime) {
-    assert!(rt; without_room(rt.alloc()) && serves(&NoHost));
+    assert!(rt; without_room(rt.alloc()));
 }

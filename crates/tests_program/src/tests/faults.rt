@@ -41,7 +41,7 @@ fn ended<R: AllocGlobal>(
     let alloc = rt.alloc();
     let words = words(alloc)?;
     let mut input = dripping(alloc, session(alloc)?, read)?;
-    Ok(run(rt, &words, &mut input, output, log, &mut NoHost))
+    Ok(run(rt, &words, &mut input, output, log, &mut NoHost::new()))
 }
 
 // Whether it ends with this status, this much of the output and this line, where the read of a number fails, 0 for none, and the

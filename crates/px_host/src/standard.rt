@@ -1,4 +1,4 @@
-// The ends of the real program: thin adapters over a reader and a writer of std, which tell nothing of content.
+// Bytes in and out over a reader and a writer of std.
 ghost use Rattle.std.specs.Prelude.{None};
 
 use px_ends::{Got, Sink, Source, Took};

@@ -1,0 +1,82 @@
+// A clock over moments in memory.
+ghost use Rattle.std.specs.Prelude.{◌≡◌, ◌≤◌, slice_get};
+ghost use Rattle.px_ends.specs.MemoryClock.{moment_in, clock_after};
+
+use crate::Clock;
+use std::marker::Model;
+
+/// Moments in microseconds, in order.
+#[derive(Debug, Drop)]
+pub struct Moments {
+    moments: Vec<u64>,
+}
+
+impl Model for Moments {
+    ghost use Rattle.std.specs.Prelude.{List, ℕ};
+
+    ghost Value = { List ℕ };
+
+    ghost view = { λ m. m.moments.items };
+}
+
+impl Moments {
+    /// These moments. Takes no memory.
+    pub fn from_vec(moments: Vec<u64>) -> Moments
+        ensures { result ≡ moments.items }
+    {
+        Moments { moments }
+    }
+
+    /// The moment of a number, from 0; `None` exactly where there are no more than that.
+    pub fn get(&self, number: usize) -> Option<u64>
+        ensures { result ≡ slice_get self.now number }
+    {
+        self.moments.get(number).copied()
+    }
+}
+
+/// A clock that tells these moments one after the other, and then the last one again. A moment that lies before one that was told is
+/// told as that.
+#[derive(Debug, Drop)]
+pub struct MemClock {
+    moments: Moments,
+    calls: usize,
+    told: u64,
+}
+
+impl Model for MemClock {
+    ghost use Rattle.px_ends.specs.MemoryClock.{MemoryClock};
+
+    ghost Value = { MemoryClock };
+
+    ghost view = { λ c. record { moments = c.moments; calls = c.calls; told = c.told } };
+}
+
+impl MemClock {
+    /// A clock of these moments that has told none. Takes no memory.
+    pub fn new(moments: Moments) -> MemClock
+        ensures { result ≡ record { moments = moments; calls = 0; told = 0 } }
+    {
+        MemClock {
+            moments,
+            calls: 0,
+            told: 0,
+        }
+    }
+}
+
+impl Clock for MemClock {
+    ghost told = { λ c. c.told };
+
+    fn now(&mut self) -> u64
+        ensures value { result ≡ self.new.told }
+        ensures later { self.old.told ≤ self.new.told }
+        ensures answer { result ≡ moment_in self.old }
+        ensures after { self.new ≡ clock_after self.old }
+    {
+        let next = self.moments.get(self.calls).unwrap_or(self.told);
+        self.told = self.told.max(next);
+        self.calls = self.calls.saturating_add(1);
+        self.told
+    }
+}

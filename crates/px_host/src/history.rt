@@ -1,0 +1,56 @@
+// A history that is kept in memory, or not kept.
+ghost use Rattle.std.specs.Prelude.{◌≡◌};
+ghost use Rattle.px_host.specs.History.{fulls_of};
+
+use px_annals::{Entry, MemRecorder, RecordFault, Recorder};
+
+/// A recorder that keeps its entries in memory, or none.
+#[derive(Debug, Drop)]
+pub enum History<E: Entry> {
+    /// They are kept.
+    Kept(MemRecorder<E>),
+    /// None is kept.
+    Unkept,
+}
+
+impl<E: Entry + Drop> History<E> {
+    /// How often it was found full.
+    pub fn fulls(&self) -> u64
+        ensures { result ≡ fulls_of self.now }
+    {
+        match self {
+            History::Kept(recorder) => recorder.fulls(),
+            History::Unkept => 0,
+        }
+    }
+}
+
+impl<E: Entry + Drop> Recorder<E> for History<E> {
+    ghost use Rattle.px_host.specs.History.{told_by, limit_of, CanTake, fulls_of};
+
+    ghost told = { told_by };
+
+    ghost limit = { limit_of };
+
+    ghost takes = { λ h bytes. CanTake h };
+
+    ghost faults = { λ h. 0 };
+
+    ghost fulls = { fulls_of };
+
+    fn ready(&mut self, bytes: usize) -> Result<(), RecordFault> {
+        match self {
+            History::Kept(recorder) => recorder.ready(bytes),
+            History::Unkept => Ok(()),
+        }
+    }
+
+    fn note(&mut self, entry: E) {
+        match self {
+            History::Kept(recorder) => recorder.note(entry),
+            History::Unkept => {}
+        }
+    }
+
+    ghost takes_less = { λ h more less below can. can };
+}

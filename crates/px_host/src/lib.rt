@@ -1,0 +1,16 @@
+//! The real outside: adapters of a few lines over std's readers, writers, streams and clock. Each keeps a count of its faults and tells
+//! nothing of content. It exports `Reading`, `Writing`, `Connected`, `SystemClock`, `History` and
+//! `SystemHost`.
+#![tactic(auto)]
+
+mod connected;
+mod history;
+mod standard;
+mod system_clock;
+mod system_host;
+
+pub use connected::Connected;
+pub use history::History;
+pub use standard::{Reading, Writing};
+pub use system_clock::SystemClock;
+pub use system_host::SystemHost;

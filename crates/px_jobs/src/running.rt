@@ -1,0 +1,86 @@
+//! A job in its thread.
+ghost use Rattle.std.specs.Prelude.{◌≡◌, [], IfSome};
+ghost use Rattle.std.specs.Arc.{arc_value};
+ghost use Rattle.crossbeam_queue.specs.Passes.{IsPassOf};
+ghost use Rattle.px_mail.specs.Mailbox.{key_of, taken_by};
+ghost use Rattle.px_jobs.specs.Jobs.{given_to, SpawnGives};
+
+use crate::handed::{Handed, works};
+use crate::job::Job;
+use px_mail::Mailbox;
+use std::alloc::Global;
+use std::snapshot::Snapshot;
+use std::sync::{Arc, Wait};
+use std::thread;
+use std::thread::{Promise, PromisedHandle, Threads};
+
+/// The promise of a job's thread: the job that it hands back keeps the one that it was given.
+#[derive(Drop)]
+pub struct Kept<J>(Snapshot<J>);
+
+impl<J: Job> Promise<J> for Kept<J> {
+    ghost kept_by = { λ promise after. J.keeps promise.0.value after };
+}
+
+/// A job that a thread works at.
+#[derive(Drop)]
+pub struct Running<J: Job> {
+    handle: PromisedHandle<J, Kept<J>>,
+}
+
+impl<J: Job> Running<J> {
+    /// Waits for the end of the work, and hands the job back.
+    pub fn join<R: Threads>(self, rt: &R) -> J
+        ensures { J.keeps (given_to self) result }
+    {
+        let Running { handle } = self;
+        handle.join(rt)
+    }
+}
+
+/// What starting a job answers.
+#[derive(Drop)]
+pub enum Spawned<J: Job> {
+    /// A thread works at it.
+    Started(Running<J>),
+    /// No thread could be started. The job, unworked.
+    Refused(J),
+    /// There was no memory for it. The job, unworked.
+    NoMemory(J),
+}
+
+/// Starts a thread that does the job's work once. The job goes to it only when it is there, so what comes back is the very job.
+pub fn start<R, J>(rt: &R, alloc: Global, job: J) -> Spawned<J>
+where
+    R: Threads + Wait + Copy + Send + Sync + 'static,
+    J: Job + 'static,
+    ensures { SpawnGives result job }
+{
+    let given = Snapshot::of(&job);
+    let Ok((mailbox, mut post, take)) = Mailbox::<Handed<J>>::new(alloc, Snapshot::of(&job)) else {
+        return Spawned::NoMemory(job);
+    };
+    let Ok(mailbox) = Arc::new(alloc, mailbox) else {
+        return Spawned::NoMemory(job);
+    };
+    let Ok(theirs) = Arc::try_clone(&mailbox) else {
+        return Spawned::NoMemory(job);
+    };
+    let theirs_rt = *rt;
+    let promised = Snapshot::of(&job);
+    let started = thread::spawn_with(
+        rt,
+        Kept(given),
+        move || -> J
+            requires { IsPassOf (arc_value theirs).queue take.pass × IfSome (key_of take.pass) (λ key. key.value ≡ promised.value) × (taken_by take.pass ≡ []) }
+            ensures { J.keeps promised.value result }
+        { works(&theirs_rt, &theirs, take, &promised) },
+    );
+    let Ok(handle) = started else {
+        return Spawned::Refused(job);
+    };
+    match mailbox.post(rt, &mut post, Handed { job }) {
+        Ok(()) => Spawned::Started(Running { handle }),
+        Err(_) => unreachable!(),
+    }
+}

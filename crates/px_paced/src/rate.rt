@@ -1,0 +1,20 @@
+// How many frames are due.
+ghost use Rattle.std.specs.Prelude.{◌≡◌, ◌*◌, ◌^◌, ◌≤◌};
+ghost use Rattle.px_paced.specs.Paced.{frames_of};
+
+/// The whole frames of so many microseconds, at so many frames a second.
+pub fn frames_of(rate: u32, microseconds: u64) -> u64
+    requires { rate ≤ 192000 }
+    ensures { result ≡ frames_of rate microseconds }
+{
+    (microseconds as u128 * rate as u128 / 1_000_000) as u64
+}
+
+/// The bytes of so many frames.
+pub fn bytes_of(frames: u64, frame: u32) -> usize
+    requires few { frames ≤ 2 ^ 33 }
+    requires small { frame ≤ 128 }
+    ensures { result ≡ frames * frame }
+{
+    frames as usize * frame as usize
+}

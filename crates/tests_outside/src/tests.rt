@@ -1,0 +1,4 @@
+mod host;
+mod jobs;
+mod paced;
+mod system_host;
