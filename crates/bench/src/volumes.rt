@@ -11,7 +11,7 @@ const SET: &[u8] = b"L\x00\x00\x00\x25L\x00\x00\x00\x03L";
 // An input of a mono stream has a volume, in 256ths of the one that leaves its sound as it is.
 fn set_volume(alloc: Global, core: &mut Core<Stub>, input: u32, volume: u8) -> Mem<()> {
     let mut packet = Vec::from_slice(alloc, SET)?;
-    packet.extend_from_slice(&[0, 0, (input >> 8) as u8, input as u8])?;
+    packet.extend_from_slice(&[0, 0, (input / 256 % 256) as u8, (input % 256) as u8])?;
     packet.extend_from_slice(b"v\x01")?;
     packet.extend_from_slice(&[0, 0, volume, 0])?;
     ask(core, packet)
@@ -23,7 +23,12 @@ pub fn volumes_line(alloc: Global, inputs: u32, commands: u32) -> Mem<String> {
     let mut core = with_streams(alloc, inputs)?;
     let mut messages = deliver(&mut core);
     for command in 0..commands {
-        set_volume(alloc, &mut core, command % inputs.max(1), command as u8)?;
+        set_volume(
+            alloc,
+            &mut core,
+            command % inputs.max(1),
+            (command % 256) as u8,
+        )?;
         messages = messages.wrapping_add(deliver(&mut core));
     }
     Ok(format!(in alloc; "{inputs} inputs, {commands} volumes, {messages} messages")?)

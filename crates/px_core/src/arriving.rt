@@ -46,7 +46,16 @@ fn arrival_at<P: Parcel + Drop>(
     };
     let owner = owner_of(&tables.connections, &Some(*x));
     let waited = delayed::count(&tables.delayed, x.index);
-    arrive(alloc, x, from, group, &sink, owner, tables.inputs.as_slice(), waited)
+    arrive(
+        alloc,
+        x,
+        from,
+        group,
+        &sink,
+        owner,
+        tables.inputs.as_slice(),
+        waited,
+    )
 }
 
 // The changes of an arrival with this parcel are made. Where there is no memory for them the parcel is handed back, and nothing has
@@ -63,15 +72,36 @@ fn settle<P: Drop>(
     ensures back { IfErr result (λ back. back ≡ parcel) }
     ensures err { OnErr result (state_of tables.new ≡ state_of tables.old) }
 {
-    let Arrival { feed, factors, told, later } = made;
-    let plan = Plan { reply: None, errors: Vec::new(alloc), told, changes: later };
+    let Arrival {
+        feed,
+        factors,
+        told,
+        later,
+    } = made;
+    let plan = Plan {
+        reply: None,
+        errors: Vec::new(alloc),
+        told,
+        changes: later,
+    };
     let Ok(effects) = plan_effects(alloc, None, &plan) else {
         return Err(parcel);
     };
     let Ok(_) = reserve(tables, plan.changes.len() + 1) else {
         return Err(parcel);
     };
-    apply(tables, Change::Arrives(input, Msg::Attach { input, parcel, feed, factors }));
+    apply(
+        tables,
+        Change::Arrives(
+            input,
+            Msg::Attach {
+                input,
+                parcel,
+                feed,
+                factors,
+            },
+        ),
+    );
     commit(tables, plan.changes);
     Ok(effects)
 }

@@ -29,7 +29,8 @@ use px_ctl_info::{
     set_stream_name, subscribe, update_client, update_stream,
 };
 use px_ctl_play::{
-    attributes, cork, create, delete, drain, flush, kill_input, latency, move_input, prebuf, trigger,
+    attributes, cork, create, delete, drain, flush, kill_input, latency, move_input, prebuf,
+    trigger,
 };
 use px_flat::Group;
 use px_msg::Msg;
@@ -125,7 +126,6 @@ fn server<P: Drop>(
     let named = default_sink(alloc, &tables.names, tables.sinks.as_slice())?;
     server_info(alloc, named, tag, SERVER_VERSION)
 }
-
 
 // An input is to be on the sink that is named.
 fn moved<P: Drop>(

@@ -172,7 +172,13 @@ fn take_left<P: Parcel + Drop>(
     ensures err { OnErr result (state_of tables.new ≡ state_of tables.old) }
 {
     let group = group_on(&tables.groups, sink);
-    let planned = left(alloc, Some(x), group, parcel.spec(), tables.inputs.as_slice());
+    let planned = left(
+        alloc,
+        Some(x),
+        group,
+        parcel.spec(),
+        tables.inputs.as_slice(),
+    );
     let Ok(plan) = planned else {
         return Err(parcel);
     };

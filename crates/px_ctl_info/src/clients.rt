@@ -23,11 +23,7 @@ fn is_spoken(version: u32) -> bool
 }
 
 // A connection is let in.
-fn let_in<M: Drop, G: Drop>(
-    alloc: Global,
-    me: &Connection,
-    tag: u32,
-) -> Result<Plan<M, G>, Refusal>
+fn let_in<M: Drop, G: Drop>(alloc: Global, me: &Connection, tag: u32) -> Result<Plan<M, G>, Refusal>
     ensures { Plans result (Ok (let_in me.now tag)) }
 {
     let reply = px_reply::auth(alloc, tag, u32::from(SERVER_VERSION))?;

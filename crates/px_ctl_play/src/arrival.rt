@@ -85,12 +85,7 @@ fn arrived_message(alloc: Global, x: &Input, sink: &Target) -> px_tag::Mem<Packe
 }
 
 // To the connection of the input, where that goes on.
-fn told(
-    alloc: Global,
-    x: &Input,
-    sink: &Target,
-    owner: Option<Connection>,
-) -> Mem<Vec<Sending>>
+fn told(alloc: Global, x: &Input, sink: &Target, owner: Option<Connection>) -> Mem<Vec<Sending>>
     requires { IsTarget sink.now }
     ensures { IfOk result (λ sent. sent.items ≡ sent_to owner (arrived_message x.now sink.now)) }
 {
