@@ -190,3 +190,16 @@ is_inside at size count bytes i some = by (int_lt i at) refl
 
 pub has_inside : (at : ℤ) (size count : ℕ) (bytes : List ℕ) (i : ℤ) → int_lt i at ≡ false → above i at < count → IsSome (frame_in (written_of at size count bytes) i)
 has_inside at size count bytes i e few = subst (λ (o : Option Frame). IsSome o) (sym (frame_inside at size count bytes i e few)) refl
+
+pub has_onward : (at : ℤ) (size count : ℕ) (bytes : List ℕ) (i : ℤ) (j : ℕ) → int_lt i at ≡ false → above i at + j < count → IsSome (frame_in (written_of at size count bytes) (onward i j))
+has_onward at size count bytes i j e few = has_inside at size count bytes (onward i j) (grind (arith, ints, e)) (grind (arith, ints, e, few))
+
+pub none_before : (at : ℤ) (size count : ℕ) (bytes : List ℕ) (i : ℤ) (j : ℕ) → j < above at i → frame_in (written_of at size count bytes) (onward i j) ≡ None
+none_before at size count bytes i j few = frame_before (written_of at size count bytes) (onward i j) (grind (arith, ints, few))
+
+pub none_behind : (at : ℤ) (size count : ℕ) (bytes : List ℕ) (i : ℤ) (j : ℕ) → int_lt i at ≡ false → frame_in (written_of at size count bytes) i ≡ None → frame_in (written_of at size count bytes) (onward i j) ≡ None
+none_behind at size count bytes i j e none =
+    ⊎_elim
+    (λ (few : above i at < count). absurd (false≢true (subst (λ (o : Option Frame). IsSome o) none (has_inside at size count bytes i e few))))
+    (λ (past : count ≤ above i at). frame_behind at size count bytes (onward i j) (grind (arith, ints, e)) (grind (arith, ints, e, past)))
+    (cases_lt (above i at) count)

@@ -1,5 +1,5 @@
 -- Frames are held over what is held, and the newest write that has an index is found.
-use Rattle.std.proofs.Common.{◌≡◌, ℕ, zero, suc, ◌+◌, ◌<◌, ◌≤◌, max, List, [], ◌∷◌, ◌++◌, length, take, get_or, Bool, false, true, refl, ap, sym, ◌∙◌, subst, arith, cond, rules, Option, Some, None, inl, inr, ⊎_elim}
+use Rattle.std.proofs.Common.{◌≡◌, ℕ, zero, suc, ◌+◌, ◌-◌, ◌<◌, ◌≤◌, max, List, [], ◌∷◌, ◌++◌, length, take, get_or, Bool, false, true, refl, ap, sym, ◌∙◌, subst, arith, cond, rules, Option, Some, None, inl, inr, ⊎_elim}
 use Rattle.std.specs.Prelude.{ℤ, ◌-ℤ◌, ◌==◌, ◌||◌, remove, not, ◌&&◌, int_lt, ◌≤ℤ◌, ◌<ℤ◌, slice_get, IsSome}
 use Rattle.std.proofs.lemmas.Int.{ints, by_lt_z}
 use Rattle.std.proofs.lemmas.Bool.{cases_lt, false≢true}
@@ -8,10 +8,11 @@ use Rattle.std.proofs.lemmas.Option.{slice_get_past}
 use Rattle.std.proofs.Math.Seq.{take-suc}
 use Rattle.px_model.specs.Index.{onward, above, LAST, IsIndex, is_index}
 use Rattle.px_model.specs.Frame.{Frame}
-use Rattle.px_model.specs.Held.{frame_of}
+use Rattle.px_model.specs.Held.{frame_of, place}
 use Rattle.px_model.specs.Queue.{Queue, IsQueue, end_of as queue_end}
 use Rattle.px_model.specs.Write.{queue_with, passes_end, outcome_of, stored, overflow, outside}
 use Rattle.px_model.proofs.Places.{got_some}
+use Rattle.px_model.proofs.Bridge.{frame_from}
 use Rattle.px_queue.specs.Written.{Written, end_of, frame_in, over, held_of, queue_of, reach_of, blocks_in, AreOf}
 use Rattle.px_queue.proofs.Log.{held_more, held_trimmed, length_over, length_over_none, found_in, not_found_in, frame_there}
 
@@ -95,6 +96,41 @@ newer read ws j n w i e fits is from some =
     ap (λ (x : List Written). frame_of read (held_of read x) i) (take_more ws j n w e fits is)
     ∙ ap (λ (h : List (Option Frame)). frame_of read h i) (held_more read (take j ws) w)
     ∙ over_has read (held_of read (take j ws)) w i (frame_in w i) from refl some
+
+-- of no writes nothing is held
+nothing_of : (read i : ℤ) → frame_of read [] i ≡ None
+nothing_of read i = by (int_lt i read)
+  where
+    none : Option Frame
+    none = None
+
+    by : (b : Bool) → cond b none none ≡ None
+    by true = refl
+    by false = refl
+
+-- a place at which no write has a frame
+pub run_none : (read : ℤ) (ws : List Written) (k n : ℕ) (index : ℤ) → index ≡ onward read k → n ≡ 0
+    → frame_of read (held_of read ws) (onward index 0) ≡ frame_of read (held_of read (take n ws)) (onward index 0) → place (held_of read ws) k ≡ None
+run_none read ws k n index at none same =
+    sym (frame_from read (held_of read ws) (onward index 0) k (omega (arith, ints, at)))
+    ∙ same
+    ∙ ap (λ (m : ℕ). frame_of read (held_of read (take m ws)) (onward index 0)) none
+    ∙ nothing_of read (onward index 0)
+
+-- a place of a run that one write has
+pub run_some : (read : ℤ) (ws : List Written) (k n j : ℕ) (index : ℤ) (w : Written) → index ≡ onward read k → 0 < n → n ≤ length ws → w ≡ get_or ws (n - 1) w
+    → frame_of read (held_of read ws) (onward index j) ≡ frame_of read (held_of read (take n ws)) (onward index j) → IsSome (frame_in w (onward index j))
+    → place (held_of read ws) (k + j) ≡ frame_in w (onward index j)
+run_some read ws k n j index w at some fits is same has =
+    sym (frame_from read (held_of read ws) (onward index j) (k + j) (omega (arith, ints, at)))
+    ∙ same
+    ∙ newer read ws (n - 1) n w (onward index j) (omega (arith, some)) fits is (omega (arith, ints, at)) has
+
+-- the same write, whatever stands for one that isn't there
+pub same_write : (ws : List Written) (j : ℕ) (w d : Written) → j < length ws → w ≡ get_or ws j w → w ≡ get_or ws j d
+same_write [] j w d few is = absurd (omega (arith, few))
+same_write (x ∷ ws) zero w d few is = is
+same_write (x ∷ ws) (suc j) w d few is = same_write ws j w d (omega (arith, few)) is
 
 -- each has frames of one size
 pub size_at : (size : ℕ) (ws : List Written) (j : ℕ) (w : Written) → AreOf size ws → j < length ws → w ≡ get_or ws j w → w.size ≡ size

@@ -1,5 +1,5 @@
 // Frames that were written at once.
-ghost use Rattle.std.specs.Prelude.{◌≡◌, ◌+◌, ◌*◌, ◌^◌, ◌<◌, length, IsTrue, IsFalse, IsSome, None, Some};
+ghost use Rattle.std.specs.Prelude.{◌≡◌, ℕ, ◌+◌, ◌*◌, ◌^◌, ◌<◌, ◌≤◌, length, take, drop, IsTrue, IsFalse, IsSome, None, Some};
 ghost use Rattle.px_block.specs.Given.{after_giving, blocks_for};
 ghost use Rattle.px_model.specs.Index.{onward, IsIndex};
 ghost use Rattle.px_model.specs.Frame.{frames_of};
@@ -38,6 +38,7 @@ fn start(k: u64, count: u32, size: u32) -> usize
     requires { k < count }
     ensures place { result ≡ k * size }
     ensures countable { result + size < 2 ^ 64 }
+    ensures all { count * size < 2 ^ 64 }
 {
     k as usize * size as usize
 }
@@ -88,6 +89,41 @@ impl Chunk {
             return false;
         }
         index.above(self.at) < self.count as u64
+    }
+
+    /// How many of its frames stand from this index on, at which it has one.
+    pub(crate) fn left(&self, index: Index) -> u32
+        requires { IsSome (frame_in self.now index) }
+        ensures some { 1 ≤ result }
+        ensures has { (j : ℕ) → j < result → IsSome (frame_in self.now (onward index j)) }
+    {
+        self.count - index.above(self.at) as u32
+    }
+
+    /// At how many of the next indices it has no frame, at most so many. At this one it has none.
+    pub(crate) fn clear(&self, index: Index, most: u32) -> u32
+        requires none { frame_in self.now index ≡ None }
+        requires some { 1 ≤ most }
+        ensures some { 1 ≤ result }
+        ensures few { result ≤ most }
+        ensures none { (j : ℕ) → j < result → frame_in self.now (onward index j) ≡ None }
+    {
+        if index.is_below(self.at) {
+            self.at.above(index).min(most as u64) as u32
+        } else {
+            most
+        }
+    }
+
+    /// Copies its frames from this index on, as many as the slice is long; it has them.
+    pub(crate) fn copy_run(&self, index: Index, count: u32, out: &mut [u8])
+        requires some { 1 ≤ count }
+        requires has { (j : ℕ) → j < count → IsSome (frame_in self.now (onward index j)) }
+        requires size { length out.old ≡ count * self.now.size }
+        ensures { (j : ℕ) → j < count → frame_in self.now (onward index j) ≡ Some (take self.now.size (drop (j * self.now.size) out.new)) }
+    {
+        let start = start(index.above(self.at), self.count, self.size);
+        copy_bytes(self.bytes.as_slice(), start, out);
     }
 
     /// Copies its frame at this index, which it has.

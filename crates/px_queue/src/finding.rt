@@ -1,8 +1,9 @@
 // The newest write with an index, and the writes that are past.
-ghost use Rattle.std.specs.Prelude.{◌≡◌, ℕ, ◌-◌, ◌≤◌, ◌≤ℤ◌, vec_len, vec_capacity, [], MatchOption, IfSome, IsSome, None};
+ghost use Rattle.std.specs.Prelude.{◌≡◌, ℕ, ◌-◌, ◌<◌, ◌≤◌, ◌≤ℤ◌, length, take, slice_index_or, vec_len, vec_capacity, [], MatchOption, IfSome, IsSome, None};
 ghost use Rattle.px_block.specs.Given.{after_giving};
 ghost use Rattle.px_model.specs.Held.{frame_of};
-ghost use Rattle.px_queue.specs.Written.{held_of, frame_in, blocks_in, AreOf};
+ghost use Rattle.px_model.specs.Index.{onward};
+ghost use Rattle.px_queue.specs.Written.{Written, held_of, frame_in, blocks_in, AreOf};
 
 use crate::chunk::Chunk;
 use crate::index::Index;
@@ -24,6 +25,30 @@ pub(crate) fn newest<'a>(writes: &'a [Chunk], read: Index, index: Index) -> Opti
         count -= 1;
     }
     None
+}
+
+/// The writes up to the newest that has a frame at this index, none where none has; and at how many of the next indices, at most so
+/// many, none behind them has a frame, and that one has.
+pub(crate) fn newest_run(writes: &[Chunk], read: Index, index: Index, most: u32) -> (usize, u32)
+    requires from { read ≤ℤ index }
+    requires some { 1 ≤ most }
+    ensures few { result.0 ≤ length writes.now }
+    ensures some { 1 ≤ result.1 }
+    ensures most { result.1 ≤ most }
+    ensures frames { (j : ℕ) → j < result.1 → frame_of read (held_of read writes.now) (onward index j) ≡ frame_of read (held_of read (take result.0 writes.now)) (onward index j) }
+    ensures has { (d : Written) → 0 < result.0 → (j : ℕ) → j < result.1 → IsSome (frame_in (slice_index_or writes.now (result.0 - 1) d) (onward index j)) }
+{
+    let mut count = writes.len();
+    let mut run = most;
+    while count > 0 {
+        let write = &writes[count - 1];
+        if write.has(index) {
+            return (count, run.min(write.left(index)));
+        }
+        run = write.clear(index, run);
+        count -= 1;
+    }
+    (0, run)
 }
 
 /// Lets the oldest writes go while they end at or before the read index.

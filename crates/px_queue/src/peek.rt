@@ -4,7 +4,7 @@ ghost use Rattle.px_model.specs.Held.{place};
 ghost use Rattle.px_queue.specs.Peeked.{Peeks, Copies};
 
 use crate::FrameQueue;
-use crate::finding::newest;
+use crate::finding::{newest, newest_run};
 
 /// What stands at a place ahead of the read index.
 #[derive(Clone, Copy, Debug, PartialEq, Eq)]
@@ -52,12 +52,36 @@ impl FrameQueue {
         let mut count: u32 = 0;
         while count < most {
             let at = count as usize * size;
-            if !self.copy_frame(k as u64 + count as u64, &mut out[at..at + size]) {
+            let run = self.copy_run(k as u64 + count as u64, most - count, &mut out[at..]);
+            if run == 0 {
                 return count;
             }
-            count += 1;
+            count += run;
         }
         count
+    }
+
+    // Copies the frames held from a place on that one write has, at most so many, and answers how many they are: none only where none is
+    // held at that place.
+    fn copy_run(&self, k: u64, most: u32, out: &mut [u8]) -> u32
+        requires room { most * self.now.frame ≤ length out.old }
+        requires some { 1 ≤ most }
+        ensures few { result ≤ most }
+        ensures frames { (j : ℕ) → j < result → place self.now.queue.held (k + j) ≡ Some (take self.now.frame (drop (j * self.now.frame) out.new)) }
+        ensures rest { drop (result * self.now.frame) out.new ≡ drop (result * self.now.frame) out.old }
+        ensures none { result ≡ 0 → place self.now.queue.held k ≡ None }
+    {
+        if k >= self.held {
+            return 0;
+        }
+        let index = self.read.onward(k);
+        let (place, run) = newest_run(self.writes.as_slice(), self.read, index, most);
+        if place == 0 {
+            return 0;
+        }
+        let end = run as usize * self.frame as usize;
+        self.writes[place - 1].copy_run(index, run, &mut out[..end]);
+        run
     }
 
     // How many places from place k on have no frame, one after another, at most so many.
