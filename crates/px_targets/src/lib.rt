@@ -6,4 +6,6 @@ mod groups;
 mod targets;
 
 pub use groups::{group_named, group_on, group_under, set_group};
-pub use targets::{default_sink, depth_of, named_by, rate_of, rate_on, sink_of, target_at, targets_of};
+pub use targets::{
+    default_sink, depth_of, named_by, rate_of, rate_on, sink_of, target_at, targets_of,
+};
