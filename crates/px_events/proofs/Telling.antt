@@ -1,6 +1,6 @@
 -- The events about an object are the one that says what became of it.
 use Rattle.std.proofs.Common.{◌≡◌, ℕ, zero, suc, ◌+◌, ◌<◌, ◌≤◌, Bool, true, false, cond, List, [], ◌∷◌, ◌++◌, Option, None, Some, refl, ap, ◌∙◌, arith}
-use Rattle.std.specs.Prelude.{◌&&◌, nat_eq, bytes_eq, filter, flat_map, option_map, option_to_list}
+use Rattle.std.specs.Prelude.{◌&&◌, nat_eq, filter, flat_map, option_map, option_to_list}
 use Rattle.std.specs.List.{range_with_len}
 use Rattle.std.proofs.lemmas.List.{append-nil}
 use Rattle.std.proofs.lemmas.List.Elements.{filter-append}
@@ -11,7 +11,7 @@ use Rattle.px_reply.specs.Info.{server_reply, with_sink, with_input, with_client
 use Rattle.px_events.specs.declared.event.Facility.{Facility}
 use Rattle.px_events.specs.declared.event.Facility.TheVariants.{Sink, Input, Client, Server}
 use Rattle.px_events.specs.declared.event.Kind.{Kind}
-use Rattle.px_events.specs.declared.event.Kind.TheVariants.{New, Change, Remove}
+use Rattle.px_events.specs.declared.event.Kind.TheVariants.{Change}
 use Rattle.px_events.specs.declared.event.Event.{Event}
 use Rattle.px_events.specs.Event.{facility_code}
 use Rattle.px_events.specs.Infos.{Infos, Given}

@@ -1,5 +1,5 @@
 -- The events between two moments: what became of each object, by what is told of it then and now.
-use Rattle.std.specs.Prelude.{◌≡◌, ℕ, ◌<◌, Bool, true, false, cond, ◌&&◌, nat_eq, bytes_eq, List, [], ◌++◌, filter, flat_map, Option, None, Some, option_map, option_to_list}
+use Rattle.std.specs.Prelude.{◌≡◌, ℕ, ◌<◌, Bool, cond, ◌&&◌, nat_eq, bytes_eq, List, [], ◌++◌, filter, flat_map, Option, None, Some, option_map, option_to_list}
 use Rattle.std.specs.List.{range_with_len}
 use Rattle.px_reply.specs.Info.{server_reply, with_sink, with_input, with_client}
 use Rattle.px_events.specs.declared.event.Facility.{Facility}

@@ -1,4 +1,4 @@
-use Rattle.std.proofs.Common.{[], length, sym}
+use Rattle.std.proofs.Common.{[], sym}
 use Rattle.px_targets.proofs.Sinks.{all_first, each_of_header}
 use Rattle.px_targets.proofs.targets.first_of.Goals as goal
 
