@@ -25,7 +25,14 @@ fn main(rt: HostRuntime) -> ExitCode {
     let mut output = Writing::new(rt.stdout());
     let mut log = Writing::new(rt.stderr());
     let status = match words(&rt, rt.alloc()) {
-        Ok(words) => run(&rt, &words, &mut input, &mut output, &mut log, &mut NoHost::new()),
+        Ok(words) => run(
+            &rt,
+            &words,
+            &mut input,
+            &mut output,
+            &mut log,
+            &mut NoHost::new(),
+        ),
         Err(_) => report(rt.alloc(), Ending::Memory, &mut log),
     };
     ExitCode::from(status.code())
