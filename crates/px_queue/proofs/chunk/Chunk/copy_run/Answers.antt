@@ -3,6 +3,7 @@ use Rattle.std.specs.Prelude.{ℤ, int_lt, IsSome}
 use Rattle.std.specs.List.{concat}
 use Rattle.std.proofs.lemmas.Int.{ints}
 use Rattle.std.proofs.Math.Nat.{add-mul, mul-le-mul_right}
+use Rattle.px_block.specs.Kept.{contents}
 use Rattle.px_model.specs.Index.{above, onward}
 use Rattle.px_queue.specs.Written.{Written, frame_in}
 use Rattle.px_queue.proofs.Log.{is_inside, frame_inside}
@@ -47,7 +48,7 @@ returns c =
     let inside = λ (j : ℕ) (few : j < c.args.count). is_inside d.at d.size d.count d.bytes (onward c.args.index j) (subst (λ (w : Written). IsSome (frame_in w (onward c.args.index j))) (sym c.self.view_is) (c.requires.has j few)) in
     let first = inside 0 (omega (arith, c.requires.some)) in
     let size : length c.args.out.now ≡ c.args.count * d.size = c.requires.size ∙ sym (ap (λ (w : Written). c.args.count * w.size) c.self.view_is) in
-    let all = concat c.as_slice.result.now in
+    let all = concat (contents c.as_slice.result.now) in
     let copied : c.copy_bytes.new.out ≡ take (c.args.count * d.size) (drop (above c.args.index d.at * d.size) d.bytes) =
     c.copy_bytes.ensures
     ∙ ap (λ (n : ℕ). take n (drop c.start-start.result all)) size
