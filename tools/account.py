@@ -8,6 +8,7 @@ from replies import LISTS, MESSAGES, REPLIES
 from words import NONE, Wrong, number_word, quoted
 
 CONTROLS = ("cork", "flush", "trigger", "prebuf", "drain", "latency", "attributes")
+OTHER = "it isn't the output of this session"
 ENDINGS = {1: "a protocol fault", 2: "a limit", 3: "a kill", 4: "want of memory"}
 
 
@@ -70,7 +71,8 @@ class Run:
             self.sinks[which].collect()
             self.hear_notices(event[3])
         elif kind == 1:
-            self.bytes[which] = bytearray()
+            self.bytes[which], self.names[which] = bytearray(), {}
+            self.late = {key for key in self.late if key[0] != which}
         elif kind == 2:
             held = self.bytes.setdefault(which, bytearray())
             held += event[2]
@@ -87,7 +89,7 @@ class Run:
             if played is None:
                 return False
             if played[1:3] != (sink.number, frames):
-                raise Wrong("it isn't the output of this session: its turns are others")
+                raise Wrong(OTHER)
             sink.sound += played[3]
             self.segment, self.place = self.segment + 1, 0
         sink.turn(frames, taken)
@@ -140,12 +142,15 @@ class Run:
         if number not in MESSAGES or tag != NONE:
             return None
         word, fields = MESSAGES[number]
-        said = fields_of(items, fields)
+        try:
+            said = fields_of(items, fields)
+        except wire.Unread:
+            return None
         stream = self.owned.get((record[1], said.get("stream")))
         if stream is None:
             return None
         if word == "moved":
-            self.arrive(stream, self.sinks[said["index"]], said)
+            self.arrive(stream, self.sink_at(said["index"]))
         elif word == "killed":
             self.end(stream, "killed")
         elif word in ("started", "underflow", "overflow"):
@@ -206,7 +211,7 @@ class Run:
 
     def do_create(self, conn, asked, fields):
         given = dict(asked[None])
-        stream = Stream(conn, fields["stream"], self.sinks[fields["index"]], fields, asked["corked"])
+        stream = Stream(conn, fields["stream"], self.sink_at(fields["index"]), fields, asked["corked"])
         names = self.names.get(conn, {}).get(b"application.name"), given.get(b"media.name")
         stream.names = [quoted(name.rstrip(b"\0")) for name in names if name]
         self.streams.append(stream)
@@ -242,6 +247,11 @@ class Run:
 
     # what becomes of sinks and streams
 
+    def sink_at(self, index):
+        if index >= len(self.sinks):
+            raise Wrong(OTHER)
+        return self.sinks[index]
+
     def called(self, asked):
         """The sink of an index or a name."""
         named = [sink for sink in self.sinks if asked["index"] == sink.number or asked["sink"] == sink.spec.name]
@@ -265,7 +275,7 @@ class Run:
         else:
             stream.sink.post(kind, stream, *more)
 
-    def arrive(self, stream, sink, said):
+    def arrive(self, stream, sink):
         """Its old sink gave it up, and the new one is told all that waited."""
         old, stream.sink, stream.moving = stream.sink, sink, None
         sink.post("attach", stream)

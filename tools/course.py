@@ -23,11 +23,21 @@ def within(stretches, first, last):
 
 
 class Write:
-    """A write: when it was sent; once its sink took it, from when to when it stands, and which parts of that are lost."""
+    """A write: when it was sent; once its sink took it, from when to when it stands, until when that is too late, and whether it is lost."""
 
     def __init__(self, sent, frames):
         self.sent, self.frames = sent, frames
         self.stands, self.late, self.lost = None, None, False
+
+    def blocks(self):
+        """What becomes of its frames, from when to when."""
+        if self.stands is None:
+            return []
+        first, last = self.stands
+        if self.lost:
+            return [("lost", first, last)]
+        late = first if self.late is None else self.late
+        return [it for it in (("late", first, late), ("written", late, last)) if it[1] < it[2]]
 
 
 class Stream:
@@ -35,7 +45,7 @@ class Stream:
 
     def __init__(self, conn, number, sink, fields, corked):
         self.conn, self.number, self.sink = conn, number, sink
-        self.names, self.spec = [], fields["spec"]
+        self.home, self.names, self.spec = sink, [], fields["spec"]
         self.size = max(wire.frame_size(self.spec), 1)
         self.set_lengths(fields)
         self.hold = self.prebuf > 0
@@ -45,7 +55,8 @@ class Stream:
         self.delayed = []  # what it is told on its way to another sink
         self.began = sink.now()
         self.corks = [[self.began, None]] if corked else []
-        self.marks, self.writes, self.played, self.levels = [], [], [], [(self.began, 0)]
+        self.marks, self.writes, self.played = [], [], []
+        self.levels = []  # for each time that it was on a sink, what it held when
 
     def set_lengths(self, fields):
         """The attributes that the server gave it, in frames."""
@@ -144,16 +155,17 @@ class Sink:
         self.filled = self.consumed + self.spec.depth
         self.turns.append((self.consumed, self.horizon))
         for stream in self.streams:
-            stream.levels.append((self.now(), stream.left()))
+            stream.levels[-1].append((self.now(), stream.left()))
 
     def take(self, kind, stream, more):
         if kind in ("new", "attach"):
             self.streams.append(stream)
+            stream.levels.append([(self.now(), stream.left())])
         elif stream not in self.streams:
             pass
         elif kind == "gone":
             self.streams.remove(stream)
-            stream.levels.append((self.now(), 0))
+            stream.levels[-1].append((self.now(), 0))
             self.leaving += stream.moving is None
         elif kind == "write":
             stream.take(*more)

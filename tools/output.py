@@ -1,17 +1,19 @@
 #!/usr/bin/env python3
-"""What `pulse_rw replay` writes, as readable text or as sound.
+"""What `pulse_rw replay` writes, as readable text, as sound or as a picture.
 
   tools/output.py show FILE [whole] [--session FILE.prs]
   tools/output.py wav FILE --session FILE.prs --sink NAME > out.wav
+  tools/output.py picture FILE --session FILE.prs > run.svg
 
 show prints a line for each packet sent, each connection ended and each turn that played, whose sound it tells as levels and counts,
 or whole. It wants the session that was replayed where sound was played, since the session has the sinks' formats.
-wav writes what one sink played, as a WAV file. FILE is standard input where it is `-`."""
+wav writes what one sink played, as a WAV file. picture draws the run, a lane for each sink and each stream. FILE is standard input where it is `-`."""
 
 import sys
 
 import wire
 from command import ended
+from picture import picture
 from recording import read_session
 from records import Asked, Records
 from replies import sent_words
@@ -120,8 +122,8 @@ def main(words):
     words = list(words)
     whole = words[:1] == ["show"] and words[2:3] == ["whole"] and bool(words.pop(2))
     given = options_of(words[2:])
-    needed = {"show": set(), "wav": {"--session", "--sink"}}.get(words[0] if words else "")
-    if len(words) < 2 or given is None or needed is None or not needed <= set(given):
+    needed = {"show": set(), "wav": {"--session", "--sink"}, "picture": {"--session"}}.get(words[0] if words else "")
+    if len(words) < 2 or given is None or needed is None or not needed <= set(given) or words[0] == "picture" and needed != set(given):
         print(__doc__, file=sys.stderr)
         return 2
     try:
@@ -134,6 +136,9 @@ def main(words):
         if words[0] == "wav":
             made, fault = wav(data, session, given["--sink"])
             sys.stdout.buffer.write(made)
+        elif words[0] == "picture":
+            text, fault = picture(data, session)
+            sys.stdout.buffer.write(text.encode())
         else:
             text, fault = show(data, session)
             sys.stdout.write(text if whole else short(text))
