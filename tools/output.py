@@ -1,19 +1,21 @@
 #!/usr/bin/env python3
-"""What `pulse_rw replay` writes, as readable text or as sound.
+"""What `pulse_rw replay` writes, as readable text, as sound or as a picture.
 
   tools/output.py show FILE [whole] [--session FILE.prs]
   tools/output.py wav FILE --session FILE.prs --sink NAME > out.wav
+  tools/output.py picture FILE --session FILE.prs > run.svg
 
 show prints a line for each packet sent, each connection ended and each turn that played, whose sound it tells as levels and counts,
 or whole. It wants the session that was replayed where sound was played, since the session has the sinks' formats.
-wav writes what one sink played, as a WAV file. FILE is standard input where it is `-`."""
+wav writes what one sink played, as a WAV file. picture draws the run, a lane for each sink and each stream. FILE is standard input where it is `-`."""
 
 import sys
 
 import wire
 from command import ended
-from packets import read_packet
-from recording import Place, read_session
+from picture import picture
+from recording import read_session
+from records import Asked, Records
 from replies import sent_words
 from short import short
 from words import Wrong, hex_words, line_of, quoted
@@ -23,86 +25,6 @@ FAULTS = {
     1: "zero length", 2: "too long", 3: "packet flags", 4: "shared memory", 5: "seek mode", 6: "wrong tag",
     7: "too short", 8: "bad value", 9: "bytes left over",
 }
-
-
-class Asked:
-    """The commands of each connection by their tags, from the session that was replayed."""
-
-    def __init__(self, events):
-        self.commands = {}
-        held = {}
-        for event in events:
-            if event[0] == 1:
-                held[event[1]] = bytearray()
-            elif event[0] == 2:
-                data = held.setdefault(event[1], bytearray())
-                data += event[2]
-                del data[: self.frames(event[1], data)]
-
-    def frames(self, conn, data):
-        """Notes the whole frames at the front, and answers how many bytes they have."""
-        at = 0
-        while len(data) - at >= 20:
-            descriptor = wire.Descriptor(data[at : at + 20])
-            end = at + 20 + descriptor.length
-            if descriptor.fault() or end > len(data):
-                break
-            read = read_packet(bytes(data[at + 20 : end])) if descriptor.channel == wire.CONTROL else None
-            if read:
-                commands = self.commands.setdefault((conn, read[1]), [])
-                commands += [] if read[0] in commands else [read[0]]
-            at = end
-        return at
-
-    def of(self, conn):
-        return lambda tag: self.commands.get((conn, tag), [])
-
-
-class Records:
-    """An output's records, one behind the other."""
-
-    def __init__(self, data, sinks):
-        self.place = Place(data)
-        self.sinks = sinks
-        self.ended = False
-
-    def __iter__(self):
-        try:
-            while self.place.at < len(self.place.data):
-                start = self.place.at
-                record = self.record(start)
-                if record is None:
-                    self.end()
-                    return
-                yield record
-        except Wrong as wrong:
-            if "truncated" not in str(wrong):
-                raise
-            raise Wrong(f"the output ends within the record that begins at {start}") from None
-
-    def end(self):
-        self.ended = True
-        if self.place.at < len(self.place.data):
-            raise Wrong(f"bytes follow the end byte, from {self.place.at} on")
-
-    def record(self, start):
-        """(kind, connection or sink, fields ..) of the record that begins here, or None at the end byte."""
-        place, kind = self.place, self.place.number(1)
-        if kind == 0:
-            return None
-        if kind == 1:
-            conn = place.number()
-            return 1, conn, place.take(place.number())
-        if kind == 2:
-            return 2, place.number(), place.number(1), place.number(1), place.number(8)
-        if kind != 3:
-            raise Wrong(f"no record begins with {kind}, at {start}")
-        sink, frames = place.number(1), place.number()
-        if self.sinks is None:
-            raise Wrong(f"sound was played at {start}: say the session that was replayed, with --session")
-        if sink >= len(self.sinks):
-            raise Wrong(f"the session has no sink {sink}, at {start}")
-        return 3, sink, frames, place.take(frames * wire.frame_size(self.sinks[sink].spec))
 
 
 def told(record, sinks, asked):
@@ -200,8 +122,8 @@ def main(words):
     words = list(words)
     whole = words[:1] == ["show"] and words[2:3] == ["whole"] and bool(words.pop(2))
     given = options_of(words[2:])
-    needed = {"show": set(), "wav": {"--session", "--sink"}}.get(words[0] if words else "")
-    if len(words) < 2 or given is None or needed is None or not needed <= set(given):
+    needed = {"show": set(), "wav": {"--session", "--sink"}, "picture": {"--session"}}.get(words[0] if words else "")
+    if len(words) < 2 or given is None or needed is None or not needed <= set(given) or words[0] == "picture" and needed != set(given):
         print(__doc__, file=sys.stderr)
         return 2
     try:
@@ -214,6 +136,9 @@ def main(words):
         if words[0] == "wav":
             made, fault = wav(data, session, given["--sink"])
             sys.stdout.buffer.write(made)
+        elif words[0] == "picture":
+            text, fault = picture(data, session)
+            sys.stdout.buffer.write(text.encode())
         else:
             text, fault = show(data, session)
             sys.stdout.write(text if whole else short(text))
