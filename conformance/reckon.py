@@ -7,6 +7,7 @@
   conformance/reckon.py --formats NUMBER FORMAT > SESSION.session     streams of every format to a sink of this one, with dice
   conformance/reckon.py --sinks NUMBER TURNS > SESSION.session    streams of two clients on three sinks, with dice
   conformance/reckon.py --moves NUMBER TURNS > SESSION.session    streams of two clients that move between three sinks, with dice
+  conformance/reckon.py --volumes NUMBER CALLS > SESSION.session  volumes and mutes of a sink and its streams, with dice
   conformance/reckon.py --full > SESSION.session                  as many sinks as there can be, with as many streams in all
   conformance/reckon.py --crowded > SESSION.session               a sink with as many streams as there can be, and others that would move to it
 
@@ -814,6 +815,36 @@ def thrown_moves(number, turns):
     return "\n".join([*said, *lines[:3], "", *taken(lines, dice), "end", ""])
 
 
+def thrown_volumes(number, count):
+    """Calls of every kind on the volumes of a sink and its streams, which come and go, with all infos behind every tenth."""
+    dice = random.Random(number)
+    lines = [f"# Thrown with the dice of {number}: {count} calls on the volumes of a sink and its streams. Its output is conformance/reckon.py's.", ""]
+    lines += ["sink out s16le 2 48000 map 1,2 guard 10 depth 100", "", "connect 1", "auth 1 tag 0 version 13"]
+    maps, there, made = {1: ("0",), 2: ("1,2", "2,1")}, {}, 0
+    volumes = lambda channels: ",".join(str(dice.choice((0, 1, 100, 32768, 65535, 65536, 65537, 80000, 0x7FFFFFFF, dice.randrange(1 << 17)))) for _ in range(channels))
+    for call in range(count):
+        kind = dice.choice(("create", "delete", "sink-volume", "sink-mute") + ("volume",) * 4 + ("mute",))
+        if kind == "create" or not there:
+            channels = dice.choice((1, 2))
+            lines.append(f"create 1 s16le {channels} 48000 map {dice.choice(maps[channels])} volume {volumes(dice.choice((1, channels)))}{dice.choice(('', '', ' muted'))}")
+            there[made], made = channels, made + 1
+        elif kind == "delete" and len(there) > 2:
+            lines.append(f"delete 1 stream {(gone := dice.choice(sorted(there)))}")
+            del there[gone]
+        elif kind == "sink-volume":
+            lines.append(f"sink-volume 1 sink out volume {volumes(dice.choice((1, 2)))}")
+        elif kind == "sink-mute":
+            lines.append(f"sink-mute 1 sink out {dice.choice(('on', 'off'))}")
+        else:
+            at = dice.choice(sorted(there))
+            more = f"volume {volumes(dice.choice((1, there[at])))}" if kind == "volume" else dice.choice(("on", "off"))
+            lines.append(f"{'volume' if kind == 'volume' else 'mute'} 1 input {at} {more}")
+        if call % 10 == 9:
+            lines += ["sink-infos 1", "input-infos 1", f"turn out 0 take 0"]
+    head = lines.index("") + 2
+    return "\n".join([*lines[: head + 1], *taken(lines[head - 1 : head] + lines[head + 1 :], dice), "end", ""])
+
+
 def taken(lines, dice):
     """The events of these lines; each turn takes some of the messages that wait, its sink's first turn plays no frame, and some notices are collected behind it."""
     cookie, sinks, events = read_session(make("\n".join([*lines, "end", ""])))
@@ -881,7 +912,7 @@ def collected(lines, dice):
             yield f"collect {sinks[event[1]].name.decode()} take {count}"
 
 
-THROWS = {"--dice": thrown, "--life": thrown_life, "--sinks": thrown_sinks, "--moves": thrown_moves}
+THROWS = {"--dice": thrown, "--life": thrown_life, "--sinks": thrown_sinks, "--moves": thrown_moves, "--volumes": thrown_volumes}
 
 
 def thrown_by(words):

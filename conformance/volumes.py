@@ -53,6 +53,8 @@ class Group:
         real = self.real()
         for member in self.members.values():
             member.to_real = [ratio_after(*it) for it in zip(member.to_real, member.volume, member.fed(real))]
+            for ratio, volume, loudest in zip(member.to_real, member.volume, member.fed(real)):
+                assert loudest > NORM or abs(multiply(ratio, loudest) - volume) <= 1, "a ratio isn't true to its volume"
 
     def settle(self):
         self.reference = [max(pair) for pair in zip(self.reference, self.real())]
