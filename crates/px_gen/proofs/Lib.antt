@@ -1,0 +1,4 @@
+pub mod Sizes
+pub mod Loops
+pub mod Fitting
+pub mod Written
