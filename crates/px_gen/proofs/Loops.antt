@@ -3,6 +3,10 @@ use Rattle.std.proofs.Common.{◌≡◌, ℕ, zero, suc, ◌+◌, ◌-◌, ◌<�
 use Rattle.std.proofs.lemmas.List.{append-nil}
 use Rattle.std.proofs.lemmas.Grind.{flat_map-append}
 use Rattle.std.specs.List.{flat_map}
+use Rattle.std.specs.Prelude.{Option}
+use Rattle.px_ends.specs.Told.{after_adding}
+use Rattle.px_ends.specs.Whole.{AddsFront}
+use Rattle.px_session.proofs.Added.{front_then, both_added}
 use Rattle.px_session.specs.declared.event.Event.{Event}
 use Rattle.px_session.specs.Spelling.{event}
 use Rattle.px_gen.specs.Numbers.{next_state, next_number, state_after, sample, samples}
@@ -41,9 +45,13 @@ behind_more n x = ap (λ (m : ℕ). state_behind m x) (one_more n) ∙ behind_su
 
 -- the steps before a place, and those from it on
 steps_split : (i m x : ℕ) → steps (i + m) x ≡ steps i x ++ steps m (state_behind i x)
-steps_split zero m x = refl
+steps_split zero m x =
+    let none : 0 + m ≡ m = omega arith in
+    ap (λ (n : ℕ). steps n x) none
 steps_split (suc i) m x =
-    ap (λ (rest : List Event). step_events x ++ rest) (steps_split i m (step_state x))
+    let one : suc i + m ≡ suc (i + m) = omega arith in
+    ap (λ (n : ℕ). steps n x) one
+    ∙ ap (λ (rest : List Event). step_events x ++ rest) (steps_split i m (step_state x))
     ∙ sym (append_assoc (step_events x) (steps i (step_state x)) (steps m (state_behind i (step_state x))))
 
 -- the bytes of the steps before a place, of the step at it, and of those behind it
@@ -62,3 +70,24 @@ pub steps_more : (i x : ℕ) → flat_map event (steps (i + 1) x) ≡ flat_map e
 steps_more i x =
     ap (λ (es : List Event). flat_map event es) (steps_split i 1 x ∙ ap (λ (es : List Event). steps i x ++ es) (append-nil (step_events (state_behind i x))))
     ∙ flat_map-append event (steps i x) (step_events (state_behind i x))
+
+-- the steps before a place were written, and nothing behind them
+pub steps_stop : (i count x : ℕ) (old now : Option (List ℕ)) → i < count → now ≡ after_adding old (flat_map event (steps i x)) → AddsFront (flat_map event (steps count x)) old now
+steps_stop i count x old now inside written = record {
+  front = flat_map event (steps i x);
+  rest = flat_map event (step_events (state_behind i x)) ++ flat_map event (steps (count - suc i) (step_state (state_behind i x)));
+  joined = steps_around i count x inside;
+  held = written;
+}
+
+-- the steps before a place were written, and a front of the step at it
+pub step_stops : (i count x y : ℕ) (old mid now : Option (List ℕ)) → i < count → mid ≡ after_adding old (flat_map event (steps i x)) → y ≡ state_behind i x → AddsFront (flat_map event (step_events y)) mid now → AddsFront (flat_map event (steps count x)) old now
+step_stops i count x y old mid now inside written at stopped =
+    front_then (flat_map event (steps i x)) (flat_map event (step_events y)) (flat_map event (steps (count - suc i) (step_state (state_behind i x)))) (flat_map event (steps count x)) old mid now written stopped
+    (steps_around i count x inside ∙ ap (λ (z : ℕ). flat_map event (steps i x) ++ (flat_map event (step_events z) ++ flat_map event (steps (count - suc i) (step_state (state_behind i x))))) (sym at))
+
+-- the step at a place was written too
+pub step_goes : (i x y : ℕ) (old mid now : Option (List ℕ)) → mid ≡ after_adding old (flat_map event (steps i x)) → y ≡ state_behind i x → now ≡ after_adding mid (flat_map event (step_events y)) → now ≡ after_adding old (flat_map event (steps (i + 1) x))
+step_goes i x y old mid now written at more =
+    both_added (flat_map event (steps i x)) (flat_map event (step_events y)) old mid now written more
+    ∙ ap (after_adding old) (ap (λ (z : ℕ). flat_map event (steps i x) ++ flat_map event (step_events z)) at ∙ sym (steps_more i x))

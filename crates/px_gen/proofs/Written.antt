@@ -28,7 +28,7 @@ goes_on (Err stop) first second old mid now written more =
     front_then first second [] (first ++ second) old mid now written more (ap (λ (t : List ℕ). first ++ t) (sym (append-nil second)))
 
 pub joined : (number count : ℕ) → spelling.header header ++ (flat_map event opening ++ (flat_map event (steps count number) ++ end_byte ∷ [])) ≡ generated number count
-unfolding generated
+unfolding generated spelling.header event spelling.sink
 joined number count =
     ap (λ (t : List ℕ). spelling.header header ++ t)
     (sym (append_assoc (flat_map event opening) (flat_map event (steps count number)) (end_byte ∷ []))

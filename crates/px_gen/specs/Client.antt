@@ -3,7 +3,7 @@
 use Rattle.std.specs.Prelude.{ℕ, ◌-◌, ◌*◌, Bool, true, false, List, [], ◌∷◌, ◌++◌, length, replicate, None, pos, ◌==◌, if◌then◌else◌}
 use Rattle.std.specs.List.{flat_map}
 use Rattle.px_tag.specs.declared.raw.RawSpec.{RawSpec}
-use Rattle.px_tag.specs.Item.{flag}
+use Rattle.px_tag.specs.Item.{number, text, flag, spec, channel_map, channel_volumes}
 use Rattle.px_cmd.specs.declared.command.CreateFields.{CreateFields}
 use Rattle.px_cmd.specs.declared.command.Command.{Command}
 use Rattle.px_cmd.specs.declared.command.Command.TheVariants.{Auth, Create, InputVolume, Cork}
@@ -68,7 +68,13 @@ packet tag command = packet_of (number_of command) tag (fields_of command)
 unfoldable pub auth_packet : List ℕ
 auth_packet = packet 0 (Auth 13 cookie)
 
--- the flags behind the volume
+-- the parts of its fields: the sample spec, the channel map and the sink; what stands up to the volume; the flags behind that
+abbrev pub shape : ℕ → List ℕ
+shape conn = spec (spec_of conn) ++ channel_map (map_of conn) ++ number (sink_of conn) ++ text None
+
+abbrev pub buffering : List ℕ
+buffering = number 0xFFFFFFFF ++ flag false ++ number 0xFFFFFFFF ++ number 1 ++ number 0xFFFFFFFF ++ number 0xFFFFFFFF ++ channel_volumes (65536 ∷ [])
+
 abbrev pub nine_flags : List ℕ
 nine_flags = flat_map flag (replicate 9 false)
 

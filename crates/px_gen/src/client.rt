@@ -1,7 +1,7 @@
 // What the clients of a generated session say.
 
 ghost use Rattle.std.specs.Prelude.{◌≡◌, ◌<◌, ◌≤◌, ◌++◌, length, IfOk, OnOk};
-ghost use Rattle.px_gen.specs.Client.{nine_flags, sink_of, map_of, auth_packet, create_packet, volume_packet, cork_packet, control_frame, data_frame};
+ghost use Rattle.px_gen.specs.Client.{shape, buffering, nine_flags, sink_of, map_of, auth_packet, create_packet, volume_packet, cork_packet, control_frame, data_frame};
 
 use px_frame::{write_data, write_packet};
 use px_tag::{Mem, Packet, PropList, RawMap, RawSpec, RawVolume, TagWriter};
@@ -54,15 +54,11 @@ fn no_flags(writer: &mut TagWriter) -> Mem<()>
     writer.flag(false)
 }
 
-// CREATE_PLAYBACK_STREAM, with tag 1.
-#[tactic(auto, unfolding(crate::specs::Client::create_packet))]
-fn create_packet(alloc: Global, conn: u32) -> Mem<Packet>
-    ensures { IfOk result (λ packet. packet ≡ create_packet conn) }
+// The sample spec, the channel map and the sink of a connection's stream.
+fn put_shape(writer: &mut TagWriter, conn: u32) -> Mem<()>
+    ensures { OnOk result (writer.new ≡ writer.old ++ shape conn) }
 {
     let positions = map_of(conn);
-    let mut writer = TagWriter::new(alloc);
-    writer.number(3)?;
-    writer.number(1)?;
     writer.spec(&RawSpec {
         format: 3,
         channels: positions.len() as u8,
@@ -70,14 +66,32 @@ fn create_packet(alloc: Global, conn: u32) -> Mem<Packet>
     })?;
     writer.map(&RawMap::new(positions))?;
     writer.number(u32::from(sink_of(conn)))?;
-    writer.text(None)?;
+    writer.text(None)
+}
+
+// The attributes, and what stands among them and behind them up to the volume.
+fn put_buffering(writer: &mut TagWriter) -> Mem<()>
+    ensures { OnOk result (writer.new ≡ writer.old ++ buffering) }
+{
     writer.number(u32::MAX)?;
     writer.flag(false)?;
     writer.number(u32::MAX)?;
     writer.number(1)?;
     writer.number(u32::MAX)?;
     writer.number(u32::MAX)?;
-    writer.cvolume(&RawVolume::new(&[65_536]))?;
+    writer.cvolume(&RawVolume::new(&[65_536]))
+}
+
+// CREATE_PLAYBACK_STREAM, with tag 1.
+#[tactic(auto, using(crate::proofs::Sizes::create_joined))]
+fn create_packet(alloc: Global, conn: u32) -> Mem<Packet>
+    ensures { IfOk result (λ packet. packet ≡ create_packet conn) }
+{
+    let mut writer = TagWriter::new(alloc);
+    writer.number(3)?;
+    writer.number(1)?;
+    put_shape(&mut writer, conn)?;
+    put_buffering(&mut writer)?;
     no_flags(&mut writer)?;
     writer.proplist(&PropList::new(alloc))?;
     Ok(writer.finish())
@@ -123,7 +137,7 @@ fn framed(alloc: Global, packet: &Packet) -> px_types::Mem<Text>
 }
 
 /// The client asks to be let in.
-#[tactic(auto, using(crate::proofs::Sizes::auth_size))]
+#[tactic(auto, using(crate::proofs::Sizes::auth_some, crate::proofs::Sizes::auth_few))]
 pub(crate) fn auth(alloc: Global) -> px_types::Mem<Text>
     ensures { IfOk result (λ frame. frame ≡ control_frame auth_packet) }
 {
@@ -145,7 +159,7 @@ pub(crate) fn create(alloc: Global, conn: u32) -> px_types::Mem<Text>
 }
 
 /// The client of a connection, from 1 on, sets the volume of its input.
-#[tactic(auto, using(crate::proofs::Sizes::volume_size))]
+#[tactic(auto, using(crate::proofs::Sizes::volume_some, crate::proofs::Sizes::volume_few))]
 pub(crate) fn volume(alloc: Global, conn: u32, volume: u32) -> px_types::Mem<Text>
     requires { 1 ≤ conn }
     ensures { IfOk result (λ frame. frame ≡ control_frame (volume_packet conn volume)) }
@@ -157,7 +171,7 @@ pub(crate) fn volume(alloc: Global, conn: u32, volume: u32) -> px_types::Mem<Tex
 }
 
 /// The client corks its stream, or uncorks it.
-#[tactic(auto, using(crate::proofs::Sizes::cork_size))]
+#[tactic(auto, using(crate::proofs::Sizes::cork_some, crate::proofs::Sizes::cork_few))]
 pub(crate) fn cork(alloc: Global, on: bool) -> px_types::Mem<Text>
     ensures { IfOk result (λ frame. frame ≡ control_frame (cork_packet on)) }
 {

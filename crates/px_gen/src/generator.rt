@@ -17,6 +17,7 @@ use px_types::Status;
 use std::alloc::Global;
 
 // Writes the events of so many steps.
+#[tactic(auto, using(crate::proofs::Loops::steps_stop, crate::proofs::Loops::step_stops, crate::proofs::Loops::step_goes, crate::proofs::Loops::behind_more, crate::proofs::Fitting::step_fits))]
 fn write_steps<K: Sink>(
     alloc: Global,
     numbers: &mut Numbers,

@@ -24,8 +24,9 @@ pub(crate) fn write_events<K: Sink>(out: &mut K, events: &[Event]) -> Result<(),
     ensures count { Counts result (K.faults out.old) (K.faults out.new) }
 {
     for e in events {
-        if write_event(out, e).is_err() {
-            return Err(Stop::Failed);
+        match write_event(out, e) {
+            Ok(()) => {}
+            Err(_) => return Err(Stop::Failed),
         }
     }
     Ok(())
