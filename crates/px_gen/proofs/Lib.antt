@@ -2,3 +2,4 @@ pub mod Sizes
 pub mod Loops
 pub mod Fitting
 pub mod Written
+pub mod Counted

@@ -74,7 +74,7 @@ fn write_behind<K: Sink>(
 }
 
 // Writes a session.
-#[tactic(auto, using(crate::proofs::Written::stops_first, crate::proofs::Written::goes_on, crate::proofs::Written::joined, crate::proofs::Fitting::header_fits, crate::proofs::Fitting::opening_fits))]
+#[tactic(auto, using(crate::proofs::Written::session_stops, crate::proofs::Written::session_goes, crate::proofs::Fitting::header_fits, crate::proofs::Fitting::opening_fits))]
 fn write_session<K: Sink>(alloc: Global, number: u64, count: u32, out: &mut K) -> Result<(), Stop>
     ensures bytes { Writes result (generated number count) (K.held out.old) (K.held out.new) }
     ensures count { Counts result (K.faults out.old) (K.faults out.new) }
@@ -85,10 +85,10 @@ fn write_session<K: Sink>(alloc: Global, number: u64, count: u32, out: &mut K) -
     let Ok(events) = opening(alloc) else {
         return Err(Stop::NoMemory);
     };
-    if write_header(out, &header).is_err() {
-        return Err(Stop::Failed);
+    match write_header(out, &header) {
+        Ok(()) => write_behind(alloc, events.as_slice(), number, count, out),
+        Err(_) => Err(Stop::Failed),
     }
-    write_behind(alloc, &events, number, count, out)
 }
 
 /// Writes the session that a number and a count give: a header of two sinks, four clients that play on them, `count` steps, each of one
