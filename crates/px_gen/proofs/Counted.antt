@@ -1,5 +1,5 @@
 -- The bytes of a session without steps, and the events of a session.
-use Rattle.std.proofs.Common.{◌≡◌, ℕ, zero, suc, ◌+◌, ◌*◌, List, ◌++◌, length, refl, ◌∙◌, arith}
+use Rattle.std.proofs.Common.{◌≡◌, ℕ, zero, suc, ◌+◌, ◌*◌, ◌++◌, length, refl, arith}
 use Rattle.std.proofs.lemmas.List.{length-append}
 use Rattle.px_tag.specs.Item.{number, arbitrary, text, flag, spec, channel_map, channel_volumes, proplist}
 use Rattle.px_frame.specs.Descriptor.{descriptor_bytes}

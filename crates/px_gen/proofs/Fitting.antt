@@ -1,5 +1,5 @@
 -- What is written fits the fields of a session.
-use Rattle.std.proofs.Common.{◌≡◌, ℕ, zero, suc, ◌+◌, ◌*◌, ◌%◌, ◌<◌, ◌≤◌, Bool, true, false, List, [], ◌∷◌, ◌++◌, length, refl, ap, arith, lit<}
+use Rattle.std.proofs.Common.{◌≡◌, ℕ, ◌%◌, ◌≤◌, Bool, true, false, List, length, refl, arith, lit<}
 use Rattle.std.specs.List.{AllByRecursion}
 use Rattle.px_tag.specs.Item.{number, arbitrary, text, flag, spec, channel_map, channel_volumes, proplist}
 use Rattle.px_frame.specs.Descriptor.{descriptor_bytes}

@@ -1,9 +1,8 @@
 -- How many bytes packets and frames have.
-use Rattle.std.proofs.Common.{◌≡◌, ℕ, zero, suc, ◌+◌, ◌*◌, ◌<◌, ◌≤◌, Bool, true, false, List, [], ◌∷◌, ◌++◌, length, refl, ap, arith, lit<}
-use Rattle.std.specs.Prelude.{pos}
+use Rattle.std.proofs.Common.{◌≡◌, ℕ, zero, suc, ◌*◌, ◌<◌, ◌≤◌, Bool, true, false, [], ◌++◌, length, refl, arith, lit<}
 use Rattle.px_tag.specs.Item.{number, arbitrary, text, flag, spec, channel_map, channel_volumes, proplist}
-use Rattle.px_gen.specs.Numbers.{next_state, next_number, samples}
-use Rattle.px_gen.specs.Client.{auth_packet, create_packet, volume_packet, cork_packet, is_mono, map_of, shape, buffering, nine_flags}
+use Rattle.px_gen.specs.Numbers.{next_state, samples}
+use Rattle.px_gen.specs.Client.{auth_packet, create_packet, volume_packet, cork_packet, is_mono, shape, buffering, nine_flags}
 
 auth_size : length auth_packet ≡ 276
 unfolding auth_packet number arbitrary

@@ -1,6 +1,6 @@
 -- What the clients of a generated session say: each has a stream, the first three in stereo on the sink `a`, the fourth in mono on the
 -- sink `b`.
-use Rattle.std.specs.Prelude.{ℕ, ◌-◌, ◌*◌, Bool, true, false, List, [], ◌∷◌, ◌++◌, length, replicate, None, pos, ◌==◌, if◌then◌else◌}
+use Rattle.std.specs.Prelude.{ℕ, ◌-◌, Bool, false, List, [], ◌∷◌, ◌++◌, length, replicate, None, pos, ◌==◌, if◌then◌else◌}
 use Rattle.std.specs.List.{flat_map}
 use Rattle.px_tag.specs.declared.raw.RawSpec.{RawSpec}
 use Rattle.px_tag.specs.Item.{number, text, flag, spec, channel_map, channel_volumes}

@@ -10,7 +10,7 @@ use Rattle.px_session.specs.declared.header.Header.{Header}
 use Rattle.px_session.specs.declared.event.Event.{Event}
 use Rattle.px_session.specs.declared.event.Event.TheVariants.{Connect, Bytes, Turn}
 use Rattle.px_session.specs.Spelling.{session}
-use Rattle.px_gen.specs.Numbers.{next_state, number_in, next_number, state_after, samples}
+use Rattle.px_gen.specs.Numbers.{next_state, next_number, state_after, samples}
 use Rattle.px_gen.specs.Client.{cookie, sink_of, map_of, auth_packet, create_packet, volume_packet, cork_packet, control_frame, data_frame}
 
 -- ---- before the steps

@@ -1,6 +1,6 @@
 -- The numbers that a session is made of: a linear congruential generator of 64 bits, with the multiplier of Knuth's MMIX, of whose
 -- states the highest 31 bits are given. Own.
-use Rattle.std.specs.Prelude.{ℕ, zero, suc, ◌+◌, ◌*◌, ◌/◌, ◌%◌, ◌^◌, List, [], ◌∷◌, ◌++◌}
+use Rattle.std.specs.Prelude.{ℕ, zero, suc, ◌+◌, ◌*◌, ◌/◌, ◌%◌, ◌^◌, List, [], ◌++◌}
 use Rattle.std.specs.Int.{w16, to_le_bytes}
 
 -- the state behind a state
