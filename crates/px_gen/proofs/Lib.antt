@@ -1,0 +1,5 @@
+pub mod Sizes
+pub mod Loops
+pub mod Fitting
+pub mod Written
+pub mod Counted

@@ -1,0 +1,4 @@
+pub mod Numbers
+pub mod Client
+pub mod Generator
+pub mod Writing

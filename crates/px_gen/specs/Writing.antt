@@ -1,0 +1,31 @@
+-- What a call that writes a part of a session leaves.
+use Rattle.std.specs.Prelude.{◌≡◌, ℕ, List, Option, Result, Ok, Err}
+use Rattle.px_types.specs.declared.status.Status.{Status}
+use Rattle.px_types.specs.declared.status.Status.TheVariants as status
+use Rattle.px_types.specs.Faults.{Rose}
+use Rattle.px_ends.specs.Told.{after_adding}
+use Rattle.px_ends.specs.Whole.{AddsFront}
+use Rattle.px_gen.specs.declared.writing.Stop.{Stop}
+use Rattle.px_gen.specs.declared.writing.Stop.TheVariants as stop
+
+-- all bytes were added to what is held, or a front of them
+abbrev pub Writes : {A : Type 0} → Result A Stop → List ℕ → Option (List ℕ) → Option (List ℕ) → Type 0
+Writes (Ok done) bytes before now = now ≡ after_adding before bytes
+Writes (Err e) bytes before now = AddsFront bytes before now
+
+-- the count of failed writes rose where the call stopped for that, and nowhere else
+abbrev pub Counts : {A : Type 0} → Result A Stop → ℕ → ℕ → Type 0
+Counts (Ok done) before now = now ≡ before
+Counts (Err stop.NoMemory) before now = now ≡ before
+Counts (Err stop.Failed) before now = Rose before now
+
+-- the same of a status; there is no other
+abbrev pub Leaves : Status → List ℕ → Option (List ℕ) → Option (List ℕ) → Type 0
+Leaves status.Ok bytes before now = now ≡ after_adding before bytes
+Leaves status.Memory bytes before now = AddsFront bytes before now
+Leaves status.WriteFault bytes before now = AddsFront bytes before now
+Leaves other bytes before now = ⊥
+
+abbrev pub Faults : Status → ℕ → ℕ → Type 0
+Faults status.WriteFault before now = Rose before now
+Faults other before now = now ≡ before

@@ -1,0 +1,33 @@
+// Events, written one behind the other.
+
+ghost use Rattle.std.specs.List.{flat_map, AllByRecursion};
+ghost use Rattle.px_session.specs.Spelling.{event};
+ghost use Rattle.px_session.specs.Writing.{FitsEvent};
+ghost use Rattle.px_gen.specs.Writing.{Writes, Counts};
+
+use px_ends::Sink;
+use px_session::{Event, write_event};
+
+/// Why no more of a session is written.
+#[derive(Clone, Copy, Debug, PartialEq, Eq)]
+pub(crate) enum Stop {
+    /// Want of memory.
+    NoMemory,
+    /// A write of the sink failed.
+    Failed,
+}
+
+/// Writes the spellings of events in order.
+pub(crate) fn write_events<K: Sink>(out: &mut K, events: &[Event]) -> Result<(), Stop>
+    requires { AllByRecursion FitsEvent events.now }
+    ensures bytes { Writes result (flat_map event events.now) (K.held out.old) (K.held out.new) }
+    ensures count { Counts result (K.faults out.old) (K.faults out.new) }
+{
+    for e in events {
+        match write_event(out, e) {
+            Ok(()) => {}
+            Err(_) => return Err(Stop::Failed),
+        }
+    }
+    Ok(())
+}
