@@ -12,7 +12,7 @@ use Rattle.px_model.specs.Message.{Message}
 use Rattle.px_model.specs.Stream.{Stream}
 use Rattle.px_model.specs.Mix.{Samples}
 use Rattle.px_model.specs.Sink.{Sink, IsSink}
-use Rattle.px_model.specs.Turn.{settled, halted, next_horizon, told, told as told_sink, turned, played_by, fresh_mix, going_notices, asked_notices, told_notices, turn_notices, stopped_notices}
+use Rattle.px_model.specs.Turn.{settled, halted, next_horizon, with_messages, turned, played_by, fresh_mix, going_notices, asked_notices, notices_of_messages, turn_notices, stopped_notices}
 use Rattle.px_model.specs.Notice.{Notice}
 use Rattle.std.specs.Prelude.{flat_map}
 use Rattle.px_lane.specs.Needed.{needed}
@@ -146,7 +146,7 @@ put_there samples d sink n messages lane after there few at =
         buffer = subst (λ (c : ℕ). WhereTold (put_from ((next_horizon sink n - c) * d.frame) (concat (drop (next_horizon sink n - (sink.consumed + n)) (turned samples sink n messages).buffer)) d.buffer) (λ bytes. bytes ≡ concat (turned samples sink n messages).buffer)) (sym at.consumed)
             (subst (λ (w : ℕ). WhereTold (put_from ((next_horizon sink n - (sink.consumed + n)) * w) (concat (drop (next_horizon sink n - (sink.consumed + n)) (turned samples sink n messages).buffer)) d.buffer) (λ bytes. bytes ≡ concat (turned samples sink n messages).buffer)) (sym at.frame)
             (kept_told (frame_size sink.spec) (next_horizon sink n - (sink.consumed + n)) (drop n sink.buffer) (turned samples sink n messages).buffer (past_whole (frame_size sink.spec) n sink.buffer lane.whole)
-            (same_kept (next_horizon sink n - (sink.consumed + n)) (drop n sink.buffer) (fresh_mix samples (told (settled sink n) messages) (sink.consumed + n + sink.depth - next_horizon sink n))
+            (same_kept (next_horizon sink n - (sink.consumed + n)) (drop n sink.buffer) (fresh_mix samples (with_messages (settled sink n) messages) (sink.consumed + n + sink.depth - next_horizon sink n))
             (omega (arith, length-drop n sink.buffer, lane.kept.buffer_full, first, there)))
             d.buffer at.buffer));
       },
@@ -154,26 +154,26 @@ put_there samples d sink n messages lane after there few at =
 
 -- ---- room for the notices of a turn
 
-pub turn_room : (sink : Sink) (n told capacity : ℕ) (messages : List (Message Stream)) → IsSink sink → told + needed sink.inputs messages ≤ capacity
-    → told + length (turn_notices samples sink n messages) ≤ capacity
-turn_room sink n told capacity messages keeps room =
+pub turn_room : (sink : Sink) (n count capacity : ℕ) (messages : List (Message Stream)) → IsSink sink → count + needed sink.inputs messages ≤ capacity
+    → count + length (turn_notices samples sink n messages) ≤ capacity
+turn_room sink n count capacity messages keeps room =
     omega (
       arith,
       room,
-      length-append {A = Notice Stream} (flat_map (going_notices (next_horizon sink n - sink.horizon)) sink.inputs ++ told_notices (settled sink n) messages)
-          (flat_map (asked_notices (sink.consumed + n + sink.depth - next_horizon sink n)) (Sink.inputs (told_sink (settled sink n) messages))),
-      length-append {A = Notice Stream} (flat_map (going_notices (next_horizon sink n - sink.horizon)) sink.inputs) (told_notices (settled sink n) messages),
+      length-append {A = Notice Stream} (flat_map (going_notices (next_horizon sink n - sink.horizon)) sink.inputs ++ notices_of_messages (settled sink n) messages)
+          (flat_map (asked_notices (sink.consumed + n + sink.depth - next_horizon sink n)) (Sink.inputs (with_messages (settled sink n) messages))),
+      length-append {A = Notice Stream} (flat_map (going_notices (next_horizon sink n - sink.horizon)) sink.inputs) (notices_of_messages (settled sink n) messages),
       turn_fits (next_horizon sink n - sink.horizon) (sink.filled - next_horizon sink n) (sink.filled - (sink.consumed + n)) (sink.consumed + n + sink.depth - next_horizon sink n) messages sink.inputs keeps.rising,
     )
 
-pub stop_room : (sink : Sink) (told capacity : ℕ) (messages : List (Message Stream)) → IsSink sink → told + needed sink.inputs messages ≤ capacity
-    → told + length (stopped_notices sink messages) ≤ capacity
-stop_room sink told capacity messages keeps room =
+pub stop_room : (sink : Sink) (count capacity : ℕ) (messages : List (Message Stream)) → IsSink sink → count + needed sink.inputs messages ≤ capacity
+    → count + length (stopped_notices sink messages) ≤ capacity
+stop_room sink count capacity messages keeps room =
     omega (
       arith,
       room,
-      length-append {A = Notice Stream} (flat_map (going_notices (next_horizon sink 0 - sink.horizon)) sink.inputs ++ told_notices (halted sink) messages)
-          (flat_map (asked_notices 0) (Sink.inputs (told_sink (halted sink) messages))),
-      length-append {A = Notice Stream} (flat_map (going_notices (next_horizon sink 0 - sink.horizon)) sink.inputs) (told_notices (halted sink) messages),
+      length-append {A = Notice Stream} (flat_map (going_notices (next_horizon sink 0 - sink.horizon)) sink.inputs ++ notices_of_messages (halted sink) messages)
+          (flat_map (asked_notices 0) (Sink.inputs (with_messages (halted sink) messages))),
+      length-append {A = Notice Stream} (flat_map (going_notices (next_horizon sink 0 - sink.horizon)) sink.inputs) (notices_of_messages (halted sink) messages),
       turn_fits (next_horizon sink 0 - sink.horizon) (next_horizon sink 0 - next_horizon sink 0) (next_horizon sink 0 - (sink.consumed + 0)) 0 messages sink.inputs keeps.rising,
     )

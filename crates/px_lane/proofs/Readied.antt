@@ -8,7 +8,7 @@ use Rattle.px_model.specs.Message.{Message, StreamMessage}
 use Rattle.px_model.specs.Notice.{Notice}
 use Rattle.px_model.specs.Sink.{Input as Stands, stream_at}
 use Rattle.px_model.specs.Write.{Outcome, stored, overflow, outside}
-use Rattle.px_model.specs.Applied.{write_outcome, is_told}
+use Rattle.px_model.specs.Applied.{write_outcome, is_refused}
 use Rattle.px_model.specs.Turn.{refusal_of, notices_from, inputs_with, message_notices, all_message_notices}
 use Rattle.px_stream.specs.declared.message.StreamMsg.TheVariants.{Write}
 use Rattle.px_lane.specs.declared.ready.Ready.TheVariants.{Change as Changes}
@@ -16,7 +16,7 @@ use Rattle.px_lane.specs.declared.ready.Ready.{Ready}
 use Rattle.px_lane.specs.declared.ready.Ready.TheVariants.{Insert, Join, Remove, Change, Each, Answer}
 use Rattle.px_lane.specs.Taking.{IsReadyFor, HasRoomLeft, ready_notices, overflows_at, overflow_if}
 
-refusal : (i : ℕ) (o : Outcome) → overflow_if i (is_told o) ≡ refusal_of i o
+refusal : (i : ℕ) (o : Outcome) → overflow_if i (is_refused o) ≡ refusal_of i o
 refusal i stored = refl
 refusal i overflow = refl
 refusal i outside = refl

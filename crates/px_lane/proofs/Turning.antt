@@ -13,7 +13,7 @@ use Rattle.px_model.specs.Message.{Message}
 use Rattle.px_model.specs.Orderly.{Inputs, IsOrderly, NamesInput, inputs_left, inputs_left_by}
 use Rattle.px_model.specs.Mix.{Samples}
 use Rattle.px_model.specs.Sink.{Sink, Input, IsSink, IsStreamOf, IsRising, AllAbove, empty_sink, specs_of, stream_at, with_stream}
-use Rattle.px_model.specs.Turn.{AreFor, asked_stream, settled, told, turned, halted, next_horizon, stopped_turn, request_of}
+use Rattle.px_model.specs.Turn.{AreFor, asked_stream, settled, with_messages, turned, halted, next_horizon, stopped_turn, request_of}
 use Rattle.px_lane.specs.Mixing.{given_up}
 use Rattle.px_model.proofs.Rounds.{empty_keeps, turn_keeps, stop_keeps}
 use Rattle.px_model.proofs.Shown.{specs_show, turn_leaves, stop_leaves}
@@ -104,9 +104,9 @@ all_asked_suit sink mixed [] h = tt
 all_asked_suit sink mixed (x ∷ xs) h = (asked_suits sink mixed x.stream h.0, all_asked_suit sink mixed xs h.1)
 
 pub told_suit : (samples : Samples) (sink : Sink) (n : ℕ) (messages : List (Message Stream)) → IsSink sink → n ≤ sink.filled - sink.consumed → AreFor sink messages
-    → AllByRecursion (λ x. IsStreamOf sink.spec (Input.stream x)) (told (settled sink n) messages).inputs
+    → AllByRecursion (λ x. IsStreamOf sink.spec (Input.stream x)) (with_messages (settled sink n) messages).inputs
 told_suit samples sink n messages keeps there are =
-    all_asked_suit sink.spec (sink.consumed + n + sink.depth - (settled sink n).horizon) (told (settled sink n) messages).inputs
+    all_asked_suit sink.spec (sink.consumed + n + sink.depth - (settled sink n).horizon) (with_messages (settled sink n) messages).inputs
     (IsSink.streams (turn_keeps samples sink keeps n there messages are))
 
 length_asked : (mixed : ℕ) (xs : List Input) → length (map (with_stream (asked_stream mixed)) xs) ≡ length xs
@@ -119,12 +119,12 @@ left_few samples sink n messages lane are =
     (messages_few sink.spec (specs_of sink.inputs) messages are.orderly lane.few)
 
 pub told_few : (samples : Samples) (sink : Sink) (n : ℕ) (messages : List (Message Stream)) → IsLane sink → n ≤ sink.filled - sink.consumed → AreFor sink messages
-    → length (told (settled sink n) messages).inputs ≤ 256
+    → length (with_messages (settled sink n) messages).inputs ≤ 256
 told_few samples sink n messages lane there are =
     let all = turned samples sink n messages in
     let size : finite.len (specs_of (turned samples sink n messages).inputs) ≡ length (turned samples sink n messages).inputs =
     length_specs (turned samples sink n messages).inputs (IsSink.rising (turn_keeps samples sink lane.kept n there messages are)) in
-    let same = length_asked (sink.consumed + n + sink.depth - (settled sink n).horizon) (told (settled sink n) messages).inputs in
+    let same = length_asked (sink.consumed + n + sink.depth - (settled sink n).horizon) (with_messages (settled sink n) messages).inputs in
     omega (arith, size, same, left_few samples sink n messages lane are)
 
 -- ---- a lane after its turn

@@ -77,9 +77,9 @@ abbrev pub is_overflow : Applied → Bool
 is_overflow Quiet = false
 is_overflow Overflow = true
 
--- what is told of input i: frames that aren't held
+-- the notice of input i where frames aren't held
 abbrev pub overflow_if : ℕ → Bool → List (Notice Stream)
-overflow_if i told = if told then Notice.overflow i ∷ [] else []
+overflow_if i refused = if refused then Notice.overflow i ∷ [] else []
 
 abbrev pub HasRoomLeft : ℕ → ℕ → Ready → Type 0
 HasRoomLeft room blocks (Insert input stream) = IsRoomy room blocks stream

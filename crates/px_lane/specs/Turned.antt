@@ -37,10 +37,10 @@ pub record Stops {D : Type 0} (now : D → DeviceState) (before after : Mixer D)
 
 -- what a turn does and tells, by its answer
 abbrev pub Turns : {D : Type 0} → (D → DeviceState) → Mixer D → Mixer D → List (Message Stream) → List (Notice Stream) → List (Notice Stream) → Turned → Type 0
-Turns now before after messages told told' (Played consumed frames) =
-    Plays now before after messages consumed frames × (told' ≡ told ++ turn_notices samples before.sink frames messages)
-Turns now before after messages told told' (Stopped faults) =
-    Stops now before after messages faults × (told' ≡ told ++ stopped_notices before.sink messages)
+Turns now before after messages notices notices' (Played consumed frames) =
+    Plays now before after messages consumed frames × (notices' ≡ notices ++ turn_notices samples before.sink frames messages)
+Turns now before after messages notices notices' (Stopped faults) =
+    Stops now before after messages faults × (notices' ≡ notices ++ stopped_notices before.sink messages)
 
 -- why there was no turn, where so many frames are filled: want of memory, or a count above the last index
 abbrev pub Refuses : ℕ → LaneFault → Type 0

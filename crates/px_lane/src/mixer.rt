@@ -5,7 +5,7 @@ ghost use Rattle.px_sample.specs.Format.{frame_size_of};
 ghost use Rattle.px_msg.specs.View.{sample_spec};
 ghost use Rattle.px_model.specs.Sink.{Input as Stands, IsStreamOf, streams_of, empty_sink};
 ghost use Rattle.px_model.specs.Mix.{mix_of};
-ghost use Rattle.px_model.specs.Turn.{next_horizon, settled, told, told_notices, remixed, asked, going_notices, asked_notices, AreFor, BringsStream, turned, turn_notices, stopped_turn, stopped_notices};
+ghost use Rattle.px_model.specs.Turn.{next_horizon, settled, with_messages, notices_of_messages, remixed, asked, going_notices, asked_notices, AreFor, BringsStream, turned, turn_notices, stopped_turn, stopped_notices};
 ghost use Rattle.px_lane.specs.Mixing.{RoomySink, IsMixed, given_up};
 ghost use Rattle.px_stream.specs.Samples.{samples};
 ghost use Rattle.px_lane.specs.Taking.{CanTakeAll};
@@ -203,9 +203,9 @@ impl SinkMixer {
         requires comes { self.old.room ≤ messages.old.room }
         requires blocks_come { self.old.block_room ≤ messages.old.block_room }
         requires suits { CanTakeAll (self.old.sink.filled - self.old.sink.horizon) messages.old.messages self.old.sink.inputs }
-        requires capacity { length out.old.notices + length (told_notices self.old.sink messages.old.messages) ≤ out.old.capacity }
-        ensures value { self.new.sink ≡ told self.old.sink messages.old.messages }
-        ensures notices { out.new.notices ≡ out.old.notices ++ told_notices self.old.sink messages.old.messages }
+        requires capacity { length out.old.notices + length (notices_of_messages self.old.sink messages.old.messages) ≤ out.old.capacity }
+        ensures value { self.new.sink ≡ with_messages self.old.sink messages.old.messages }
+        ensures notices { out.new.notices ≡ out.old.notices ++ notices_of_messages self.old.sink messages.old.messages }
         ensures capacity { out.new.capacity ≡ out.old.capacity }
         ensures messages { messages.new.messages ≡ [] }
         ensures list { messages.new.capacity ≡ messages.old.capacity }

@@ -9,7 +9,7 @@ use Rattle.px_model.specs.Stream.{Stream}
 use Rattle.px_model.specs.Message.{Message}
 use Rattle.px_model.specs.Mix.{Samples, mix_of}
 use Rattle.px_model.specs.Sink.{Sink, empty_sink, streams_of}
-use Rattle.px_model.specs.Turn.{next_horizon, settled, told, turned, stopped_turn, frame_mixed, played_by}
+use Rattle.px_model.specs.Turn.{next_horizon, settled, with_messages, turned, stopped_turn, frame_mixed, played_by}
 use Rattle.px_model.specs.Deciding.{Entry, turn, stop, sink_after, replay, played_of, replay_played, CanBe, IsHistory, deciding, decided, ArePast, IsLastReaching}
 use Rattle.px_model.proofs.Places.{get-take, got_elem, get_left, get_right}
 use Rattle.px_model.proofs.Rounds.{get_kept, get_fresh, length-mixed}
@@ -36,7 +36,7 @@ turn_buffer : (samples : Samples) (sink : Sink) (before : ℕ → Option Frame) 
 turn_buffer samples sink before b n messages h = record {
   first = omega arith;
   bounded = omega arith;
-  full = length-mixed samples sink (next_horizon sink n - (sink.consumed + n)) (sink.consumed + n + sink.depth - next_horizon sink n) (drop n sink.buffer) (told (settled sink n) messages).inputs
+  full = length-mixed samples sink (next_horizon sink n - (sink.consumed + n)) (sink.consumed + n + sink.depth - next_horizon sink n) (drop n sink.buffer) (with_messages (settled sink n) messages).inputs
       ∙ omega (arith, length-drop n sink.buffer, b.full, b.first, b.bounded);
   each = λ k l. ⊎_elim
       (λ (low : k < next_horizon sink n - (sink.consumed + n)).

@@ -10,7 +10,7 @@ use Rattle.px_model.specs.Notice.{Notice}
 use Rattle.px_model.specs.Mix.{Samples}
 use Rattle.px_model.specs.Sink.{Sink, Input, stream_at, with_stream}
 use Rattle.px_model.specs.Applied.{write_outcome}
-use Rattle.px_model.specs.Turn.{going_notices, has_started, has_run_out, message_notices, all_message_notices, notices_from, refusal_of, latency_of, asked_notices, has_ended, missing_of, inputs_with, inputs_with_all, settled, halted, told, next_horizon}
+use Rattle.px_model.specs.Turn.{going_notices, has_started, has_run_out, message_notices, all_message_notices, notices_from, refusal_of, latency_of, asked_notices, has_ended, missing_of, inputs_with, inputs_with_all, settled, halted, with_messages, next_horizon}
 use Rattle.px_model.specs.Deciding.{Entry, turn, stop, sink_after, notices_of, messages_of}
 use Rattle.px_model.specs.Track.{StandsAt, HandsOverAt, all_opens, forward_by}
 use Rattle.px_model.proofs.Lookups.{KeepsRead, message_reads, messages_read, at_each, entry_reads, gone}
@@ -109,20 +109,20 @@ entry_hands samples sink (turn n messages) i s o h =
     let read : ℤ = (after s (next_horizon sink n - sink.horizon)).queue.read in
     joined i read
     (flat_map (going_notices (next_horizon sink n - sink.horizon)) sink.inputs ++ all_message_notices (sink.filled - next_horizon sink n) (sink.filled - (sink.consumed + n)) messages (settled sink n).inputs)
-    (flat_map (asked_notices (sink.consumed + n + sink.depth - next_horizon sink n)) (told (settled sink n) messages).inputs)
+    (flat_map (asked_notices (sink.consumed + n + sink.depth - next_horizon sink n)) (with_messages (settled sink n) messages).inputs)
     (joined i read (flat_map (going_notices (next_horizon sink n - sink.horizon)) sink.inputs) (all_message_notices (sink.filled - next_horizon sink n) (sink.filled - (sink.consumed + n)) messages (settled sink n).inputs)
     (each_of i read (going_notices (next_horizon sink n - sink.horizon)) (going_hands i read (next_horizon sink n - sink.horizon)) sink.inputs)
     (messages_hand i (sink.filled - next_horizon sink n) (sink.filled - (sink.consumed + n)) read messages (settled sink n).inputs o (forward_stands i (next_horizon sink n - sink.horizon) s sink.inputs h)))
-    (each_of i read (asked_notices (sink.consumed + n + sink.depth - next_horizon sink n)) (asked_hands i read (sink.consumed + n + sink.depth - next_horizon sink n)) (told (settled sink n) messages).inputs)
+    (each_of i read (asked_notices (sink.consumed + n + sink.depth - next_horizon sink n)) (asked_hands i read (sink.consumed + n + sink.depth - next_horizon sink n)) (with_messages (settled sink n) messages).inputs)
 entry_hands samples sink (stop messages) i s o h =
     let read : ℤ = (after s (next_horizon sink 0 - sink.horizon)).queue.read in
     joined i read
     (flat_map (going_notices (next_horizon sink 0 - sink.horizon)) sink.inputs ++ all_message_notices (next_horizon sink 0 - next_horizon sink 0) (next_horizon sink 0 - (sink.consumed + 0)) messages (halted sink).inputs)
-    (flat_map (asked_notices 0) (told (halted sink) messages).inputs)
+    (flat_map (asked_notices 0) (with_messages (halted sink) messages).inputs)
     (joined i read (flat_map (going_notices (next_horizon sink 0 - sink.horizon)) sink.inputs) (all_message_notices (next_horizon sink 0 - next_horizon sink 0) (next_horizon sink 0 - (sink.consumed + 0)) messages (halted sink).inputs)
     (each_of i read (going_notices (next_horizon sink 0 - sink.horizon)) (going_hands i read (next_horizon sink 0 - sink.horizon)) sink.inputs)
     (messages_hand i (next_horizon sink 0 - next_horizon sink 0) (next_horizon sink 0 - (sink.consumed + 0)) read messages (halted sink).inputs o (forward_stands i (next_horizon sink 0 - sink.horizon) s sink.inputs h)))
-    (each_of i read (asked_notices 0) (asked_hands i read 0) (told (halted sink) messages).inputs)
+    (each_of i read (asked_notices 0) (asked_hands i read 0) (with_messages (halted sink) messages).inputs)
 
 kept_stands : (s : Stream) (o : Option Stream) → KeepsRead (Some s) o → StandsAt s.queue.read o
 kept_stands s None h = tt

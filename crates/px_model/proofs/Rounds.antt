@@ -16,7 +16,7 @@ use Rattle.px_model.specs.Orderly.{IsOrderly, Fits, Inputs, inputs_left, IsPlaya
 use Rattle.px_model.specs.Mix.{Samples, mix_of, share_of}
 use Rattle.px_model.specs.Sink.{Sink, Input, IsSink, IsStreamOf, empty_sink, streams_of, specs_of, with_stream, with_change, frame_in}
 use Rattle.px_model.specs.Applied.{written_by}
-use Rattle.px_model.specs.Turn.{AreFor, BringsStream, inputs_with, inputs_with_all, with_each_factors, next_horizon, settled, told, fresh_mix, asked_stream, turned, halted, stopped_turn, frame_mixed}
+use Rattle.px_model.specs.Turn.{AreFor, BringsStream, inputs_with, inputs_with_all, with_each_factors, next_horizon, settled, with_messages, fresh_mix, asked_stream, turned, halted, stopped_turn, frame_mixed}
 use Rattle.px_model.proofs.Streams.{after_keeps, stream_by}
 use Rattle.px_model.proofs.Kept.{written_keeps, new_keeps, attached_keeps, corked_keeps, triggered_keeps, prebuffered_keeps, flushed_keeps, drained_keeps, attr_keeps, factors_keep, asked_keeps}
 use Rattle.px_model.proofs.Inputs.{AreInputs, each_keeps, change_keeps, without_keeps, with_keeps}
@@ -91,9 +91,9 @@ settled_inputs sink keeps n =
     (record { rising = keeps.rising; streams = keeps.streams })
 
 -- the messages of a turn leave a sink's inputs as they are to be; they are orderly from those before it went forward
-told_inputs : (sink : Sink) → IsSink sink → (n mixed : ℕ) → (messages : List (Message Stream)) → AreFor sink messages → AreInputs (IsStreamOf sink.spec) (map (with_stream (asked_stream mixed)) (told (settled sink n) messages).inputs)
+told_inputs : (sink : Sink) → IsSink sink → (n mixed : ℕ) → (messages : List (Message Stream)) → AreFor sink messages → AreInputs (IsStreamOf sink.spec) (map (with_stream (asked_stream mixed)) (with_messages (settled sink n) messages).inputs)
 told_inputs sink keeps n mixed messages a =
-    each_keeps (IsStreamOf sink.spec) (asked_stream mixed) (λ s h. suits sink.spec s (asked_stream mixed s) h (asked_keeps mixed s h.kept) refl refl refl) (told (settled sink n) messages).inputs
+    each_keeps (IsStreamOf sink.spec) (asked_stream mixed) (λ s h. suits sink.spec s (asked_stream mixed s) h (asked_keeps mixed s h.kept) refl refl refl) (with_messages (settled sink n) messages).inputs
     (messages_keep sink.spec (specs_of sink.inputs) ((settled sink n).filled - (settled sink n).horizon) messages a.orderly a.parcels (settled sink n).inputs (settled_inputs sink keeps n))
 
 pub length-mixed : (samples : Samples) (sink : Sink) (n m : ℕ) (buffer : List Frame) (inputs : List Input) → length (take n buffer ++ map (mix_of samples sink.spec (streams_of inputs)) (range_with_len 0 m)) ≡ min n (length buffer) + m
@@ -108,15 +108,15 @@ turn_keeps samples sink keeps n h messages a =
       horizon_first = omega (arith, keeps.filled_bounded);
       horizon_near = omega arith;
       filled_bounded = omega arith;
-      buffer_full = length-mixed samples sink (next_horizon sink n - (sink.consumed + n)) (sink.consumed + n + sink.depth - next_horizon sink n) (drop n sink.buffer) (told (settled sink n) messages).inputs
+      buffer_full = length-mixed samples sink (next_horizon sink n - (sink.consumed + n)) (sink.consumed + n + sink.depth - next_horizon sink n) (drop n sink.buffer) (with_messages (settled sink n) messages).inputs
           ∙ omega (arith, length-drop n sink.buffer, keeps.buffer_full, keeps.filled_bounded, keeps.consumed_first, keeps.horizon_first);
       rising = inputs.rising;
       streams = inputs.streams;
     }
 
-halted_inputs : (sink : Sink) → IsSink sink → (mixed : ℕ) → (messages : List (Message Stream)) → AreFor sink messages → AreInputs (IsStreamOf sink.spec) (map (with_stream (asked_stream mixed)) (told (halted sink) messages).inputs)
+halted_inputs : (sink : Sink) → IsSink sink → (mixed : ℕ) → (messages : List (Message Stream)) → AreFor sink messages → AreInputs (IsStreamOf sink.spec) (map (with_stream (asked_stream mixed)) (with_messages (halted sink) messages).inputs)
 halted_inputs sink keeps mixed messages a =
-    each_keeps (IsStreamOf sink.spec) (asked_stream mixed) (λ s h. suits sink.spec s (asked_stream mixed s) h (asked_keeps mixed s h.kept) refl refl refl) (told (halted sink) messages).inputs
+    each_keeps (IsStreamOf sink.spec) (asked_stream mixed) (λ s h. suits sink.spec s (asked_stream mixed s) h (asked_keeps mixed s h.kept) refl refl refl) (with_messages (halted sink) messages).inputs
     (messages_keep sink.spec (specs_of sink.inputs) ((halted sink).filled - (halted sink).horizon) messages a.orderly a.parcels (halted sink).inputs (settled_inputs sink keeps 0))
 
 pub stop_keeps : (sink : Sink) → IsSink sink → (messages : List (Message Stream)) → AreFor sink messages → IsSink (stopped_turn sink messages)
@@ -165,7 +165,7 @@ mix_asked samples sink m k inputs =
 -- below the new horizon it is as before
 pub get_kept : (samples : Samples) (sink : Sink) (n : ℕ) (messages : List (Message Stream)) (k : ℕ) → sink.consumed ≤ sink.filled → length sink.buffer ≡ sink.filled - sink.consumed → k < next_horizon sink n - (sink.consumed + n) → slice_get (turned samples sink n messages).buffer k ≡ slice_get sink.buffer (n + k)
 get_kept samples sink n messages k first full h =
-    get_left (take (next_horizon sink n - (sink.consumed + n)) (drop n sink.buffer)) (fresh_mix samples (told (settled sink n) messages) (sink.consumed + n + sink.depth - next_horizon sink n)) k
+    get_left (take (next_horizon sink n - (sink.consumed + n)) (drop n sink.buffer)) (fresh_mix samples (with_messages (settled sink n) messages) (sink.consumed + n + sink.depth - next_horizon sink n)) k
     (omega (arith, length-take (next_horizon sink n - (sink.consumed + n)) (drop n sink.buffer), length-drop n sink.buffer, full))
     ∙ get-take (next_horizon sink n - (sink.consumed + n)) (drop n sink.buffer) k h
     ∙ get-drop n sink.buffer k (n + k) refl
@@ -175,10 +175,10 @@ pub get_fresh : (samples : Samples) (sink : Sink) (n : ℕ) (messages : List (Me
     → k ≡ next_horizon sink n - (sink.consumed + n) + j → j < sink.consumed + n + sink.depth - next_horizon sink n
     → slice_get (turned samples sink n messages).buffer k ≡ Some (mix_of samples sink.spec (streams_of (turned samples sink n messages).inputs) j)
 get_fresh samples sink n messages k j h first full e l =
-    get_right (take (next_horizon sink n - (sink.consumed + n)) (drop n sink.buffer)) (fresh_mix samples (told (settled sink n) messages) (sink.consumed + n + sink.depth - next_horizon sink n)) j k
+    get_right (take (next_horizon sink n - (sink.consumed + n)) (drop n sink.buffer)) (fresh_mix samples (with_messages (settled sink n) messages) (sink.consumed + n + sink.depth - next_horizon sink n)) j k
     (omega (arith, length-take (next_horizon sink n - (sink.consumed + n)) (drop n sink.buffer), length-drop n sink.buffer, full))
-    ∙ get-range (mix_of samples sink.spec (streams_of (told (settled sink n) messages).inputs)) 0 (sink.consumed + n + sink.depth - next_horizon sink n) j j l (omega arith)
-    ∙ ap (λ x. Some x) (sym (mix_asked samples sink.spec (sink.consumed + n + sink.depth - next_horizon sink n) j (told (settled sink n) messages).inputs))
+    ∙ get-range (mix_of samples sink.spec (streams_of (with_messages (settled sink n) messages).inputs)) 0 (sink.consumed + n + sink.depth - next_horizon sink n) j j l (omega arith)
+    ∙ ap (λ x. Some x) (sym (mix_asked samples sink.spec (sink.consumed + n + sink.depth - next_horizon sink n) j (with_messages (settled sink n) messages).inputs))
 
 -- ---- the same by frame
 

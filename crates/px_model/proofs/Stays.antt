@@ -12,7 +12,7 @@ use Rattle.px_model.specs.Message.{Message}
 use Rattle.px_model.specs.Notice.{Notice}
 use Rattle.px_model.specs.Mix.{Samples}
 use Rattle.px_model.specs.Sink.{Sink, Input, IsSink, stream_at, with_input, with_stream}
-use Rattle.px_model.specs.Turn.{going_notices, asked_notices, message_notices, all_message_notices, inputs_with, inputs_with_all, settled, halted, told, next_horizon, asked_stream}
+use Rattle.px_model.specs.Turn.{going_notices, asked_notices, message_notices, all_message_notices, inputs_with, inputs_with_all, settled, halted, with_messages, next_horizon, asked_stream}
 use Rattle.px_model.specs.Deciding.{Entry, turn, stop, sink_after, notices_of, messages_of, IsHistory, IsOrderlyHistory}
 use Rattle.px_model.specs.Track.{Stretch, Follows, stretch_of, stretches_from, track_of, forward_by, IsJoined, StandsAt, HandsOverAt, presence_of, opens, all_opens, history_opens, indices_of_all, Rise}
 use Rattle.px_model.specs.Stay.{HasOne, Comes, Leaves, Stay, IsStay, ComesIn, LeavesIn, GoesOn, AreStays, track_over}
@@ -48,19 +48,19 @@ hands_by : (samples : Samples) (sink : Sink) (e : Entry) (i : ℕ) (read : ℤ) 
 hands_by samples sink (turn n messages) i read h =
     joined i read
     (flat_map (going_notices (next_horizon sink n - sink.horizon)) sink.inputs ++ all_message_notices (sink.filled - next_horizon sink n) (sink.filled - (sink.consumed + n)) messages (settled sink n).inputs)
-    (flat_map (asked_notices (sink.consumed + n + sink.depth - next_horizon sink n)) (told (settled sink n) messages).inputs)
+    (flat_map (asked_notices (sink.consumed + n + sink.depth - next_horizon sink n)) (with_messages (settled sink n) messages).inputs)
     (joined i read (flat_map (going_notices (next_horizon sink n - sink.horizon)) sink.inputs) (all_message_notices (sink.filled - next_horizon sink n) (sink.filled - (sink.consumed + n)) messages (settled sink n).inputs)
     (each_of i read (going_notices (next_horizon sink n - sink.horizon)) (going_hands i read (next_horizon sink n - sink.horizon)) sink.inputs)
     h)
-    (each_of i read (asked_notices (sink.consumed + n + sink.depth - next_horizon sink n)) (asked_hands i read (sink.consumed + n + sink.depth - next_horizon sink n)) (told (settled sink n) messages).inputs)
+    (each_of i read (asked_notices (sink.consumed + n + sink.depth - next_horizon sink n)) (asked_hands i read (sink.consumed + n + sink.depth - next_horizon sink n)) (with_messages (settled sink n) messages).inputs)
 hands_by samples sink (stop messages) i read h =
     joined i read
     (flat_map (going_notices (next_horizon sink 0 - sink.horizon)) sink.inputs ++ all_message_notices (next_horizon sink 0 - next_horizon sink 0) (next_horizon sink 0 - (sink.consumed + 0)) messages (halted sink).inputs)
-    (flat_map (asked_notices 0) (told (halted sink) messages).inputs)
+    (flat_map (asked_notices 0) (with_messages (halted sink) messages).inputs)
     (joined i read (flat_map (going_notices (next_horizon sink 0 - sink.horizon)) sink.inputs) (all_message_notices (next_horizon sink 0 - next_horizon sink 0) (next_horizon sink 0 - (sink.consumed + 0)) messages (halted sink).inputs)
     (each_of i read (going_notices (next_horizon sink 0 - sink.horizon)) (going_hands i read (next_horizon sink 0 - sink.horizon)) sink.inputs)
     h)
-    (each_of i read (asked_notices 0) (asked_hands i read 0) (told (halted sink) messages).inputs)
+    (each_of i read (asked_notices 0) (asked_hands i read 0) (with_messages (halted sink) messages).inputs)
 
 asked_at : (i asked : ℕ) (xs : List Input) → KeepsRead (stream_at i xs) (stream_at i (map (with_stream (asked_stream asked)) xs))
 asked_at i asked xs = at_map i (with_stream (asked_stream asked)) (λ x. refl) (λ x. refl) xs

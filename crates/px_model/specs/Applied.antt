@@ -29,16 +29,16 @@ applied mixed (StreamMessage.attr attr) s = with_attr s attr
 applied mixed (StreamMessage.factors factors) s = with_factors s factors
 applied mixed (StreamMessage.query tag) s = s
 
--- frames that aren't held are told, whether they would pass the limit or leave the range of indices
-abbrev pub is_told : Outcome → Bool
-is_told stored = false
-is_told overflow = true
-is_told outside = true
+-- frames that aren't held, whether they would pass the limit or leave the range of indices
+abbrev pub is_refused : Outcome → Bool
+is_refused stored = false
+is_refused overflow = true
+is_refused outside = true
 
 -- whether a message gives an Overflow
 abbrev pub overflows : ℕ → StreamMessage → Stream → Bool
 overflows mixed (StreamMessage.attach feed factors) s = false
-overflows mixed (StreamMessage.write seek offset frames bytes) s = is_told (write_outcome s seek offset frames bytes mixed)
+overflows mixed (StreamMessage.write seek offset frames bytes) s = is_refused (write_outcome s seek offset frames bytes mixed)
 overflows mixed (StreamMessage.cork on) s = false
 overflows mixed StreamMessage.flush s = false
 overflows mixed StreamMessage.trigger s = false

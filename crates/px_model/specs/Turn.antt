@@ -71,7 +71,7 @@ inputs_with mixed (Message.attr i attr) inputs = with_change i (applied mixed (S
 inputs_with mixed (Message.factors each) inputs = with_each_factors each inputs
 inputs_with mixed (Message.query i tag) inputs = inputs
 
--- a write that isn't stored is told
+-- a write that isn't stored gives a notice
 abbrev pub refusal_of : ℕ → Outcome → List (Notice Stream)
 refusal_of i stored = []
 refusal_of i overflow = Notice.overflow i ∷ []
@@ -117,12 +117,12 @@ all_message_notices mixed buffered [] inputs = []
 all_message_notices mixed buffered (m ∷ messages) inputs =
     message_notices mixed buffered m inputs ++ all_message_notices mixed buffered messages (inputs_with mixed m inputs)
 
--- the sink after the second step
-abbrev pub told : Sink → List (Message Stream) → Sink
-told sink messages = record sink { inputs = inputs_with_all (sink.filled - sink.horizon) messages sink.inputs }
+-- the sink after the second step, with what the messages change
+abbrev pub with_messages : Sink → List (Message Stream) → Sink
+with_messages sink messages = record sink { inputs = inputs_with_all (sink.filled - sink.horizon) messages sink.inputs }
 
-abbrev pub told_notices : Sink → List (Message Stream) → List (Notice Stream)
-told_notices sink messages = all_message_notices (sink.filled - sink.horizon) (sink.filled - sink.consumed) messages sink.inputs
+abbrev pub notices_of_messages : Sink → List (Message Stream) → List (Notice Stream)
+notices_of_messages sink messages = all_message_notices (sink.filled - sink.horizon) (sink.filled - sink.consumed) messages sink.inputs
 
 -- frame f, at or past the horizon, as the sink's streams make it
 abbrev pub frame_mixed : Samples → ℕ → Sink → Frame
@@ -172,7 +172,7 @@ asked sink = record sink { inputs = map (with_stream (asked_stream (sink.filled 
 
 -- the sink after the sync consumed n frames and the messages were taken
 abbrev pub turned : Samples → Sink → ℕ → List (Message Stream) → Sink
-turned samples sink n messages = asked (remixed samples (told (settled sink n) messages))
+turned samples sink n messages = asked (remixed samples (with_messages (settled sink n) messages))
 
 -- the frames that it played
 abbrev pub played_by : Sink → ℕ → List Frame
@@ -182,8 +182,8 @@ played_by sink n = take n sink.buffer
 abbrev pub turn_notices : Samples → Sink → ℕ → List (Message Stream) → List (Notice Stream)
 turn_notices samples sink n messages =
     flat_map (going_notices (next_horizon sink n - sink.horizon)) sink.inputs
-    ++ told_notices (settled sink n) messages
-    ++ flat_map (asked_notices (sink.consumed + n + sink.depth - next_horizon sink n)) (told (settled sink n) messages).inputs
+    ++ notices_of_messages (settled sink n) messages
+    ++ flat_map (asked_notices (sink.consumed + n + sink.depth - next_horizon sink n)) (with_messages (settled sink n) messages).inputs
 
 -- ---- the turn whose sync failed: it plays nothing, and the sink is stopped from then on
 
@@ -196,13 +196,13 @@ halted sink = record (settled sink 0) {
 }
 
 abbrev pub stopped_turn : Sink → List (Message Stream) → Sink
-stopped_turn sink messages = asked (told (halted sink) messages)
+stopped_turn sink messages = asked (with_messages (halted sink) messages)
 
 abbrev pub stopped_notices : Sink → List (Message Stream) → List (Notice Stream)
 stopped_notices sink messages =
     flat_map (going_notices (next_horizon sink 0 - sink.horizon)) sink.inputs
-    ++ told_notices (halted sink) messages
-    ++ flat_map (asked_notices 0) (told (halted sink) messages).inputs
+    ++ notices_of_messages (halted sink) messages
+    ++ flat_map (asked_notices 0) (with_messages (halted sink) messages).inputs
 
 -- a parcel that comes is a stream with all that a stream keeps
 abbrev pub BringsStream : Message Stream → Type 0

@@ -2,7 +2,7 @@
 ghost use Rattle.std.specs.Prelude.{◌≡◌, ◌≤◌, ◌+◌, ◌-◌, ◌*◌, ℕ, length, All, ◌<◌, OnOk};
 ghost use Rattle.px_block.specs.Given.{after_giving, blocks_for};
 ghost use Rattle.px_msg.specs.View.{sample_spec, opened};
-ghost use Rattle.px_model.specs.Applied.{applied, overflows, written_by, write_outcome, is_told};
+ghost use Rattle.px_model.specs.Applied.{applied, overflows, written_by, write_outcome, is_refused};
 ghost use Rattle.px_model.specs.Control.{new_stream, drained_by, flushed, triggered, prebuffered, with_attr, attached, with_factors, corked_to};
 ghost use Rattle.px_model.specs.Frame.{SampleSpec, frame_size};
 ghost use Rattle.px_model.specs.Orderly.{IsNewStream, IsRepaired};
@@ -148,7 +148,7 @@ impl Stream {
         requires seek { seek ≤ 3 }
         requires whole { length bytes ≡ frames * frame_size self.old.stream.spec }
         ensures stream { self.new.stream ≡ written_by seek offset frames bytes mixed self.old.stream }
-        ensures answer { result ≡ answer_for (is_told (write_outcome self.old.stream seek offset frames bytes mixed)) }
+        ensures answer { result ≡ answer_for (is_refused (write_outcome self.old.stream seek offset frames bytes mixed)) }
         ensures room { self.old.room ≤ self.new.room + 1 }
         ensures block_room { self.old.block_room ≤ self.new.block_room + blocks_for (length bytes) }
         ensures given { after_giving (B.given blocks.new) self.new.blocks ≡ after_giving (B.given blocks.old) (self.old.blocks + blocks_for (length bytes)) }

@@ -14,7 +14,7 @@ use Rattle.px_model.specs.Notice.{Notice}
 use Rattle.px_model.specs.Mix.{Samples}
 use Rattle.px_model.specs.Orderly.{Inputs, IsOrderly, Fits, inputs_left}
 use Rattle.px_model.specs.Sink.{Sink, Input, IsSink, IsStreamOf, specs_of, stream_at, with_change}
-use Rattle.px_model.specs.Turn.{AreFor, BringsStream, inputs_with, with_each_factors, refusal_of, notices_from, message_notices, all_message_notices, told, told_notices, going_notices, has_started, has_run_out, asked_notices, has_ended, missing_of, next_horizon, settled, halted, turn_notices, stopped_notices}
+use Rattle.px_model.specs.Turn.{AreFor, BringsStream, inputs_with, with_each_factors, refusal_of, notices_from, message_notices, all_message_notices, with_messages, notices_of_messages, going_notices, has_started, has_run_out, asked_notices, has_ended, missing_of, next_horizon, settled, halted, turn_notices, stopped_notices}
 use Rattle.px_model.proofs.Streams.{after_keeps}
 use Rattle.px_model.proofs.Kept.{written_keeps, new_keeps, attached_keeps, corked_keeps, triggered_keeps, prebuffered_keeps, flushed_keeps, drained_keeps, attr_keeps, factors_keep}
 use Rattle.px_model.proofs.Inputs.{AreInputs, each_keeps, change_keeps, without_keeps, with_keeps}
@@ -135,16 +135,16 @@ settled_streams sink keeps n =
 
 pub turn_gives : (samples : Samples) (sink : Sink) → IsSink sink → (n : ℕ) (messages : List (Message Stream)) → AreFor sink messages → AllGive (turn_notices samples sink n messages)
 turn_gives samples sink keeps n messages a =
-    join_gives (flat_map (going_notices (next_horizon sink n - sink.horizon)) sink.inputs ++ told_notices (settled sink n) messages) (flat_map (asked_notices (sink.consumed + n + sink.depth - next_horizon sink n)) (told (settled sink n) messages).inputs)
-    (join_gives (flat_map (going_notices (next_horizon sink n - sink.horizon)) sink.inputs) (told_notices (settled sink n) messages)
+    join_gives (flat_map (going_notices (next_horizon sink n - sink.horizon)) sink.inputs ++ notices_of_messages (settled sink n) messages) (flat_map (asked_notices (sink.consumed + n + sink.depth - next_horizon sink n)) (with_messages (settled sink n) messages).inputs)
+    (join_gives (flat_map (going_notices (next_horizon sink n - sink.horizon)) sink.inputs) (notices_of_messages (settled sink n) messages)
     (each_gives (going_notices (next_horizon sink n - sink.horizon)) (going_give (next_horizon sink n - sink.horizon)) sink.inputs)
     (messages_give sink.spec (specs_of sink.inputs) ((settled sink n).filled - (settled sink n).horizon) ((settled sink n).filled - (settled sink n).consumed) messages a.orderly a.parcels (settled sink n).inputs (settled_streams sink keeps n)))
-    (each_gives (asked_notices (sink.consumed + n + sink.depth - next_horizon sink n)) (asked_give (sink.consumed + n + sink.depth - next_horizon sink n)) (told (settled sink n) messages).inputs)
+    (each_gives (asked_notices (sink.consumed + n + sink.depth - next_horizon sink n)) (asked_give (sink.consumed + n + sink.depth - next_horizon sink n)) (with_messages (settled sink n) messages).inputs)
 
 pub stop_gives : (sink : Sink) → IsSink sink → (messages : List (Message Stream)) → AreFor sink messages → AllGive (stopped_notices sink messages)
 stop_gives sink keeps messages a =
-    join_gives (flat_map (going_notices (next_horizon sink 0 - sink.horizon)) sink.inputs ++ told_notices (halted sink) messages) (flat_map (asked_notices 0) (told (halted sink) messages).inputs)
-    (join_gives (flat_map (going_notices (next_horizon sink 0 - sink.horizon)) sink.inputs) (told_notices (halted sink) messages)
+    join_gives (flat_map (going_notices (next_horizon sink 0 - sink.horizon)) sink.inputs ++ notices_of_messages (halted sink) messages) (flat_map (asked_notices 0) (with_messages (halted sink) messages).inputs)
+    (join_gives (flat_map (going_notices (next_horizon sink 0 - sink.horizon)) sink.inputs) (notices_of_messages (halted sink) messages)
     (each_gives (going_notices (next_horizon sink 0 - sink.horizon)) (going_give (next_horizon sink 0 - sink.horizon)) sink.inputs)
     (messages_give sink.spec (specs_of sink.inputs) ((halted sink).filled - (halted sink).horizon) ((halted sink).filled - (halted sink).consumed) messages a.orderly a.parcels (halted sink).inputs (settled_streams sink keeps 0)))
-    (each_gives (asked_notices 0) (asked_give 0) (told (halted sink) messages).inputs)
+    (each_gives (asked_notices 0) (asked_give 0) (with_messages (halted sink) messages).inputs)

@@ -2,7 +2,7 @@ use Rattle.std.proofs.Common.{◌≡◌, ◌+◌, ◌-◌, ◌^◌, ◌≤◌, l
 use Rattle.std.specs.List.{AllByRecursion}
 use Rattle.px_model.specs.Frame.{frame_size}
 use Rattle.px_model.specs.Sink.{Sink, Input, IsStreamOf}
-use Rattle.px_model.specs.Turn.{next_horizon, settled, told, remixed, asked}
+use Rattle.px_model.specs.Turn.{next_horizon, settled, with_messages, remixed, asked}
 use Rattle.px_stream.specs.Samples.{samples}
 use Rattle.px_lane.specs.Taking.{CanTakeAll}
 use Rattle.px_lane.specs.Whole.{AreFramesOf}
@@ -21,7 +21,7 @@ pub remix-requires-clause-streams : goal.remix-requires-clause-streams
 remix-requires-clause-streams g c =
     let sink = c.args.self.now.sink in
     let messages = c.args.messages.now.messages in
-    let after : c.take_all.new.self.sink ≡ told (settled sink c.args.frames) messages = c.take_all.ensures.value ∙ ap (λ (s : Sink). told s messages) c.settle.ensures.value in
+    let after : c.take_all.new.self.sink ≡ with_messages (settled sink c.args.frames) messages = c.take_all.ensures.value ∙ ap (λ (s : Sink). with_messages s messages) c.settle.ensures.value in
     subst (λ (s : Sink). AllByRecursion (λ x. IsStreamOf s.spec (Input.stream x)) s.inputs) (sym after)
     (told_suit samples sink c.args.frames messages c.requires.lane.kept c.requires.there c.requires.messages)
 
@@ -29,7 +29,7 @@ pub remix-requires-clause-few : goal.remix-requires-clause-few
 remix-requires-clause-few g c =
     let sink = c.args.self.now.sink in
     let messages = c.args.messages.now.messages in
-    let after : c.take_all.new.self.sink ≡ told (settled sink c.args.frames) messages = c.take_all.ensures.value ∙ ap (λ (s : Sink). told s messages) c.settle.ensures.value in
+    let after : c.take_all.new.self.sink ≡ with_messages (settled sink c.args.frames) messages = c.take_all.ensures.value ∙ ap (λ (s : Sink). with_messages s messages) c.settle.ensures.value in
     subst (λ (s : Sink). length s.inputs ≤ 256) (sym after)
     (told_few samples sink c.args.frames messages c.requires.lane c.requires.there c.requires.messages)
 
@@ -38,7 +38,7 @@ remix-requires-clause-countable g c =
     let sink = c.args.self.now.sink in
     let messages = c.args.messages.now.messages in
     let keeps = c.requires.lane.kept in
-    let after : c.take_all.new.self.sink ≡ told (settled sink c.args.frames) messages = c.take_all.ensures.value ∙ ap (λ (s : Sink). told s messages) c.settle.ensures.value in
+    let after : c.take_all.new.self.sink ≡ with_messages (settled sink c.args.frames) messages = c.take_all.ensures.value ∙ ap (λ (s : Sink). with_messages s messages) c.settle.ensures.value in
     subst (λ (s : Sink). s.consumed + s.depth ≤ 2 ^ 61) (sym after)
     (omega (arith, c.requires.there, c.requires.countable, c.requires.lane.low_depth, keeps.consumed_first, keeps.horizon_first))
 
@@ -46,8 +46,8 @@ pub returns-clause-lane : goal.returns-clause-lane
 returns-clause-lane g c =
     let sink = c.args.self.now.sink in
     let messages = c.args.messages.now.messages in
-    let mixed : c.remix.new.self.sink ≡ remixed samples (told (settled sink c.args.frames) messages) =
-    c.remix.ensures.value ∙ ap (remixed samples) (c.take_all.ensures.value ∙ ap (λ (s : Sink). told s messages) c.settle.ensures.value) in
+    let mixed : c.remix.new.self.sink ≡ remixed samples (with_messages (settled sink c.args.frames) messages) =
+    c.remix.ensures.value ∙ ap (remixed samples) (c.take_all.ensures.value ∙ ap (λ (s : Sink). with_messages s messages) c.settle.ensures.value) in
     subst IsLane (sym (c.ask.ensures.value ∙ ap asked mixed))
     (turned_lane samples sink c.args.frames messages c.requires.lane c.requires.there c.requires.messages
     (subst (λ (s : Sink). AreFramesOf (frame_size s.spec) s.buffer) mixed c.remix.ensures.whole))

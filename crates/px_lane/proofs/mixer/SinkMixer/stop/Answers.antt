@@ -1,7 +1,7 @@
 use Rattle.std.proofs.Common.{◌≡◌, ◌-◌, ap, sym, ◌∙◌, subst}
 use Rattle.px_model.specs.Frame.{frame_size}
 use Rattle.px_model.specs.Sink.{Sink}
-use Rattle.px_model.specs.Turn.{next_horizon, told, asked, halted}
+use Rattle.px_model.specs.Turn.{next_horizon, with_messages, asked, halted}
 use Rattle.px_lane.specs.Taking.{CanTakeAll}
 use Rattle.px_lane.specs.Mixing.{given_up}
 use Rattle.px_lane.specs.Whole.{AreFramesOf}
@@ -21,6 +21,6 @@ returns-clause-lane g c =
     let sink = c.args.self.now.sink in
     let messages = c.args.messages.now.messages in
     let up : c.give_up.new.self.sink ≡ halted sink = c.give_up.ensures.value ∙ ap given_up c.settle.ensures.value ∙ halted_is sink in
-    subst IsLane (sym (c.ask.ensures.value ∙ ap asked (c.take_all.ensures.value ∙ ap (λ (s : Sink). told s messages) up)))
+    subst IsLane (sym (c.ask.ensures.value ∙ ap asked (c.take_all.ensures.value ∙ ap (λ (s : Sink). with_messages s messages) up)))
     (stopped_lane sink messages c.requires.lane c.requires.messages
     (subst (λ (s : Sink). AreFramesOf (frame_size s.spec) s.buffer) up c.give_up.ensures.whole))

@@ -7,7 +7,7 @@ use Rattle.px_model.specs.Queue.{Queue}
 use Rattle.px_model.specs.Stream.{Stream, IsStream}
 use Rattle.px_model.specs.Going.{ahead_of}
 use Rattle.px_model.specs.Write.{Outcome, stored, overflow, outside, target_of, seek_of}
-use Rattle.px_model.specs.Applied.{written_by, write_outcome, is_told}
+use Rattle.px_model.specs.Applied.{written_by, write_outcome, is_refused}
 use Rattle.px_model.proofs.Kept.{written_keeps}
 use Rattle.px_stream.specs.Kept.{KeptStream, stream_of}
 use Rattle.px_stream.specs.Messages.{answer_for}
@@ -36,7 +36,7 @@ returns-in-Stored-clause-answer g c =
     let near = to_z-of_z w64 c.ahead_index-ahead.result (subst (λ (z : ℤ). SFits w64 z) (sym is) (ahead_fits s c.self.invariant.0.kept c.args.mixed)) ∙ is in
     let bound = to_z_pos w64 d.maxlength (omega (arith, c.self.invariant.0.kept.maxlength_bounded)) in
     let how = outcome_is s c.args.seek c.args.offset c.args.frames c.args.bytes c.args.mixed stored (to_z w64 (of_z w64 c.args.offset)) (to_z w64 (of_z w64 c.ahead_index-ahead.result)) (to_z w64 d.maxlength) far near bound c.in-Stored.ensures.outcome in
-    ap (λ (o : Outcome). answer_for (is_told o)) (how ∙ ap (λ (v : KeptStream). write_outcome v.stream c.args.seek c.args.offset c.args.frames c.args.bytes c.args.mixed) c.self.view_is)
+    ap (λ (o : Outcome). answer_for (is_refused o)) (how ∙ ap (λ (v : KeptStream). write_outcome v.stream c.args.seek c.args.offset c.args.frames c.args.bytes c.args.mixed) c.self.view_is)
 
 pub invariant_of-self : goal.invariant_of-self
 invariant_of-self g c =
@@ -78,7 +78,7 @@ returns-in-Overflow-clause-answer g c =
     let near = to_z-of_z w64 c.ahead_index-ahead.result (subst (λ (z : ℤ). SFits w64 z) (sym is) (ahead_fits s c.self.invariant.0.kept c.args.mixed)) ∙ is in
     let bound = to_z_pos w64 d.maxlength (omega (arith, c.self.invariant.0.kept.maxlength_bounded)) in
     let how = outcome_is s c.args.seek c.args.offset c.args.frames c.args.bytes c.args.mixed overflow (to_z w64 (of_z w64 c.args.offset)) (to_z w64 (of_z w64 c.ahead_index-ahead.result)) (to_z w64 d.maxlength) far near bound c.in-Overflow.ensures.outcome in
-    ap (λ (o : Outcome). answer_for (is_told o)) (how ∙ ap (λ (v : KeptStream). write_outcome v.stream c.args.seek c.args.offset c.args.frames c.args.bytes c.args.mixed) c.self.view_is)
+    ap (λ (o : Outcome). answer_for (is_refused o)) (how ∙ ap (λ (v : KeptStream). write_outcome v.stream c.args.seek c.args.offset c.args.frames c.args.bytes c.args.mixed) c.self.view_is)
 
 pub invariant_of-self-in-Overflow : goal.invariant_of-self-in-Overflow
 invariant_of-self-in-Overflow g c =
@@ -120,4 +120,4 @@ returns-in-Outside-clause-answer g c =
     let near = to_z-of_z w64 c.ahead_index-ahead.result (subst (λ (z : ℤ). SFits w64 z) (sym is) (ahead_fits s c.self.invariant.0.kept c.args.mixed)) ∙ is in
     let bound = to_z_pos w64 d.maxlength (omega (arith, c.self.invariant.0.kept.maxlength_bounded)) in
     let how = outcome_is s c.args.seek c.args.offset c.args.frames c.args.bytes c.args.mixed outside (to_z w64 (of_z w64 c.args.offset)) (to_z w64 (of_z w64 c.ahead_index-ahead.result)) (to_z w64 d.maxlength) far near bound c.in-Outside.ensures.outcome in
-    ap (λ (o : Outcome). answer_for (is_told o)) (how ∙ ap (λ (v : KeptStream). write_outcome v.stream c.args.seek c.args.offset c.args.frames c.args.bytes c.args.mixed) c.self.view_is)
+    ap (λ (o : Outcome). answer_for (is_refused o)) (how ∙ ap (λ (v : KeptStream). write_outcome v.stream c.args.seek c.args.offset c.args.frames c.args.bytes c.args.mixed) c.self.view_is)
