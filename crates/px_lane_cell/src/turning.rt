@@ -16,7 +16,6 @@ use px_annals::{Entry, LaneEntry, Recorder};
 use px_block::BlockSource;
 use px_ends::Device;
 use px_lane::{Lane, LaneFault, MsgList, NoticeList, Turned};
-use px_types::NoMemory;
 use std::alloc::Global;
 
 // The frames that a turn's sync consumed, none where the sink has stopped.
