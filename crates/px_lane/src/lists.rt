@@ -1,5 +1,6 @@
 // What a turn takes and what it gives: lists of messages and of notices.
-ghost use Rattle.std.specs.Prelude.{◌≡◌, ◌≤◌, ◌<◌, ◌+◌, ◌++◌, [], ◌∷◌, length, map, flat_map, MatchOption, IfOk, OnOk, OnErr};
+ghost use Rattle.std.specs.Prelude.{◌≡◌, ◌≤◌, ◌<◌, ◌+◌, ◌++◌, [], ◌∷◌, length, map, flat_map, MatchOption, IfOk, OnOk, OnErr, OnSome, slice_get};
+ghost use Rattle.std.specs.Option.{option_map};
 ghost use Rattle.std.specs.List.{AllByRecursion, sum_by};
 ghost use Rattle.px_model.specs.Turn.{BringsStream};
 ghost use Rattle.px_stream.specs.Kept.{KeptStream};
@@ -71,12 +72,22 @@ impl NoticeList {
         self.items.push_back_reserved(notice);
     }
 
-    /// Takes the first notice. Its room stays.
+    /// Takes the first notice. Its room stays, so that it could be put back.
     pub fn pop_front(&mut self) -> Option<Notice<Stream>>
+        ensures room { OnSome result (length self.new.notices < self.new.capacity) }
         ensures value { MatchOption result ((self.old.notices ≡ []) × (self.new.notices ≡ [])) (λ first. self.old.notices ≡ plain_notice first ∷ self.new.notices) }
         ensures capacity { self.new.capacity ≡ self.old.capacity }
     {
         self.items.pop_front()
+    }
+
+    /// Puts a notice in front of the others, where there is room for it. Takes no memory.
+    pub fn push_front(&mut self, notice: Notice<Stream>)
+        requires { length self.old.notices < self.old.capacity }
+        ensures value { self.new.notices ≡ plain_notice notice ∷ self.old.notices }
+        ensures capacity { self.new.capacity ≡ self.old.capacity }
+    {
+        self.items.push_front_reserved(notice);
     }
 }
 
@@ -135,6 +146,13 @@ impl MsgList {
     {
         brings_stream(&message);
         self.items.push_back_reserved(message);
+    }
+
+    /// The message at a place, from 0; `None` exactly where there are no more than that.
+    pub fn get(&self, at: usize) -> Option<&Msg<Stream>>
+        ensures { option_map (λ message. plain_message message.now) result ≡ slice_get self.now.messages at }
+    {
+        self.items.get(at)
     }
 
     /// Takes all the memory of a turn with these messages: the stream of each new input, room for all messages in each stream that is

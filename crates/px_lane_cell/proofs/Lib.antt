@@ -1,0 +1,6 @@
+mod Fronts
+mod Meant
+mod Replayed
+mod Sent
+mod Moves
+mod Whole

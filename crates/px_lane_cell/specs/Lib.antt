@@ -1,0 +1,5 @@
+pub mod Meaning
+pub mod History
+pub mod Moved
+pub mod Cell
+pub mod Turning

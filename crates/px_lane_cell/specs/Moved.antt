@@ -1,0 +1,43 @@
+-- What goes through the mailboxes at a sink.
+use Rattle.std.specs.Prelude.{◌≡◌, ◌⊎◌, List, [], ◌++◌, length, Option}
+use Rattle.crossbeam_queue.specs.Fifo.{Held}
+use Rattle.px_mail.specs.Mailbox.{IsLawful, IsHeldOf}
+use Rattle.px_msg.specs.declared.message.Msg.{Msg}
+use Rattle.px_msg.specs.declared.notice.Notice.{Notice as Kept}
+use Rattle.px_msg.specs.Letters.{AreLawful}
+use Rattle.px_msg.specs.View.{sample_spec}
+use Rattle.px_sample.specs.declared.spec.Spec.{Spec}
+use Rattle.px_model.specs.Frame.{SampleSpec}
+use Rattle.px_model.specs.Stream.{Stream}
+use Rattle.px_model.specs.Message.{Message}
+use Rattle.px_model.specs.Notice.{Notice}
+use Rattle.px_stream.specs.Kept.{KeptStream}
+use Rattle.px_lane.specs.Lists.{messages_of, notices_of}
+
+-- the sample spec of a parcel
+abbrev pub parcel_spec : KeptStream → SampleSpec
+parcel_spec s = s.stream.spec
+
+-- messages that were taken from an inbox with this key are lawful there
+abbrev pub AreTaken : Option Spec → List (Msg KeptStream) → Type 0
+AreTaken key messages = IsLawful (λ (k : Spec) (letters : List (Msg KeptStream)). AreLawful parcel_spec (sample_spec k) letters) key messages
+
+-- some were taken, and stand behind those that were there
+pub record Takes (taken taken' : List (Msg KeptStream)) (kept kept' : List (Message Stream)) : Type 0 where
+  pub got : List (Msg KeptStream)
+  pub moved : taken' ≡ taken ++ got
+  pub stands : kept' ≡ kept ++ messages_of got
+
+-- there are 256, or the inbox held nothing at one moment
+abbrev pub AreAll : Option Spec → List (Msg KeptStream) → List (Message Stream) → Type 0
+AreAll key taken kept = (length kept ≡ 256) ⊎ Held 0 (λ held. AreTaken key (taken ++ held))
+
+-- the first ones were posted, and the others are left
+pub record Posts (posted posted' : List (Kept KeptStream)) (notices left : List (Notice Stream)) : Type 0 where
+  pub gone : List (Kept KeptStream)
+  pub moved : posted' ≡ posted ++ gone
+  pub stays : notices ≡ notices_of gone ++ left
+
+-- none is left, or the outbox held 256 at one moment
+abbrev pub AreGone : List (Kept KeptStream) → List (Notice Stream) → Type 0
+AreGone posted left = (left ≡ []) ⊎ Held 256 (IsHeldOf posted)

@@ -1,0 +1,154 @@
+// The cell of a sink's mixer.
+ghost use Rattle.std.specs.Prelude.{◌≡◌, [], IfSome, IfOk, OnErr};
+ghost use Rattle.std.specs.Option.{option_map};
+ghost use Rattle.px_annals.specs.History.{sizes_by, ReadyCounts};
+ghost use Rattle.px_annals.specs.Size.{size_of_lane_entry};
+ghost use Rattle.px_ends.specs.Told.{WhereTold};
+ghost use Rattle.px_lane.specs.Lane.{IsAttached};
+ghost use Rattle.px_lane_cell.specs.History.{unturned};
+ghost use Rattle.px_lane_cell.specs.Cell.{AreEnds, IsKeyOf, IsCell, taken_in, posted_in};
+ghost use Rattle.px_lane_cell.specs.Turning.{Makes, Keeps, recorder_said, SaysWhy, IsWorn};
+
+use crate::ends::LaneEnds;
+use crate::fault::CellFault;
+use crate::moving::{MOST_MESSAGES, post_notices, take_messages};
+use crate::turning::turn_noted;
+use px_annals::{LaneEntry, Recorder};
+use px_block::BlockSource;
+use px_ends::Device;
+use px_lane::{Lane, MsgList, NoticeList, Turned};
+use px_types::Mem;
+use std::alloc::Global;
+use std::marker::Model;
+use std::sync::Wait;
+
+/// A sink's mixer with its history and its mailboxes, in the hands of the one worker that makes its turns (PulseAudio: a sink with its
+/// `thread_mq`).
+#[derive(Drop)]
+pub struct LaneCell<D: Device, R: Recorder<LaneEntry>> {
+    lane: Lane<D>,
+    recorder: R,
+    ends: LaneEnds,
+    messages: MsgList,
+    notices: NoticeList,
+    taken: u32,
+}
+
+impl<D: Device, R: Recorder<LaneEntry>> Model for LaneCell<D, R> {
+    ghost use Rattle.px_lane_cell.specs.Cell.{Cell, IsCell};
+
+    ghost Value = { Cell D R };
+
+    ghost view = { λ c. record { lane = c.lane; recorder = c.recorder; ends = c.ends; messages = c.messages; notices = c.notices; taken = c.taken } };
+
+    ghost invariant = { λ c. IsCell D.now R.told (record { lane = c.lane; recorder = c.recorder; ends = c.ends; messages = c.messages; notices = c.notices; taken = c.taken }) };
+}
+
+/// What a cell was made of, with the messages and the notices that it kept.
+#[derive(Drop)]
+pub struct LaneCellParts<D, R> {
+    pub lane: Lane<D>,
+    pub recorder: R,
+    pub ends: LaneEnds,
+    pub messages: MsgList,
+    pub notices: NoticeList,
+}
+
+impl<D: Device + Drop, R: Recorder<LaneEntry> + Drop> LaneCell<D, R> {
+    /// A cell with a mixer that has made no turn and a recorder that holds nothing. Takes the room for the messages of a turn.
+    pub fn new(alloc: Global, lane: Lane<D>, recorder: R, ends: LaneEnds) -> Mem<LaneCell<D, R>>
+        requires unturned { lane.sink ≡ unturned lane.sink }
+        requires attached { IsAttached (D.now lane.device) lane.sink }
+        requires unplayed { WhereTold (D.now lane.device).played (λ bytes. bytes ≡ []) }
+        requires unnoted { IfSome (R.told recorder) (λ entries. entries ≡ []) }
+        requires ends { AreEnds ends }
+        requires key { IsKeyOf ends lane.sink }
+        requires untaken { taken_in ends ≡ [] }
+        requires unposted { posted_in ends ≡ [] }
+        ensures lane { IfOk result (λ cell. cell.lane ≡ lane) }
+        ensures recorder { IfOk result (λ cell. cell.recorder ≡ recorder) }
+        ensures ends { IfOk result (λ cell. cell.ends ≡ ends) }
+        ensures taken { IfOk result (λ cell. cell.taken ≡ 0) }
+        ensures kept { IfOk result (λ cell. (cell.messages.messages ≡ []) × (cell.notices.notices ≡ [])) }
+    {
+        let mut messages = MsgList::new(alloc);
+        messages.reserve(MOST_MESSAGES)?;
+        Ok(LaneCell {
+            lane,
+            recorder,
+            ends,
+            messages,
+            notices: NoticeList::new(alloc),
+            taken: 0,
+        })
+    }
+
+    /// Takes messages until there are 256, those kept before among them, or the inbox is found empty, and makes one turn with all of
+    /// them, whose entry is noted. Then posts the notices, those kept before first, until none is left or the outbox is full; the rest are
+    /// kept. The recorder is asked before the turn. Where it isn't ready, where there is no memory, and where the mixer is worn, the
+    /// messages are kept for the next call, and all else is what it was. Waits for nothing but the mailboxes.
+    pub fn turn<W: Wait, B: BlockSource>(
+        &mut self,
+        rt: &W,
+        alloc: Global,
+        blocks: &mut B,
+    ) -> Result<Turned, CellFault>
+        ensures ok { IfOk result (Makes D.now R.told self.old self.new) }
+        ensures err { OnErr result (Keeps R.told self.old self.new) }
+        ensures boxes { self.new.ends.boxes ≡ self.old.ends.boxes }
+        ensures start { unturned self.new.lane.sink ≡ unturned self.old.lane.sink }
+        ensures worn { IsWorn result self.old.lane.sink.filled }
+        ensures why { SaysWhy result (R.limit self.old.recorder) (option_map (sizes_by size_of_lane_entry) (R.told self.old.recorder)) }
+        ensures limit { R.limit self.new.recorder ≡ R.limit self.old.recorder }
+        ensures counts { ReadyCounts (recorder_said result) (R.faults self.old.recorder) (R.faults self.new.recorder) (R.fulls self.old.recorder) (R.fulls self.new.recorder) }
+    {
+        let LaneCell {
+            lane,
+            recorder,
+            ends,
+            messages,
+            notices,
+            taken,
+        } = self;
+        take_messages(rt, &ends.boxes.inbox, &mut ends.passes.take, messages);
+        let count = messages.len() as u32;
+        let turned = turn_noted(alloc, lane, recorder, messages, notices, blocks)?;
+        *taken = count;
+        post_notices(rt, &ends.boxes.outbox, &mut ends.passes.post, notices);
+        Ok(turned)
+    }
+
+    /// How many messages the last turn took that was made, 0 before the first.
+    pub fn taken(&self) -> u32
+        ensures count { result ≡ self.now.taken }
+        ensures kept { IsCell D.now R.told self.now }
+    {
+        self.taken
+    }
+
+    /// The mixer, the recorder, the mailboxes with their passes, and the messages and notices that are kept. Takes no memory.
+    pub fn into_parts(self) -> LaneCellParts<D, R>
+        ensures lane { result.lane ≡ self.lane }
+        ensures recorder { result.recorder ≡ self.recorder }
+        ensures ends { result.ends ≡ self.ends }
+        ensures messages { result.messages ≡ self.messages }
+        ensures notices { result.notices ≡ self.notices }
+        ensures kept { IsCell D.now R.told self }
+    {
+        let LaneCell {
+            lane,
+            recorder,
+            ends,
+            messages,
+            notices,
+            ..
+        } = self;
+        LaneCellParts {
+            lane,
+            recorder,
+            ends,
+            messages,
+            notices,
+        }
+    }
+}

@@ -1,0 +1,74 @@
+// A turn with its entry.
+ghost use Rattle.std.specs.Prelude.{◌≡◌, [], length, IsFalse, IfOk, OnErr};
+ghost use Rattle.std.specs.Option.{option_map};
+ghost use Rattle.px_annals.specs.History.{noted, sizes_by, ReadyCounts};
+ghost use Rattle.px_annals.specs.Size.{size_of_lane_entry};
+ghost use Rattle.px_annals.specs.declared.entry.LaneEntry.{LaneEntry};
+ghost use Rattle.px_model.specs.Orderly.{IsOrderly};
+ghost use Rattle.px_model.specs.Sink.{specs_of};
+ghost use Rattle.px_model.specs.Stream.{Stream as Plain};
+ghost use Rattle.px_lane.specs.Lane.{IsAttached};
+ghost use Rattle.px_lane_cell.specs.Turning.{consumed_in, IsNoted, recorder_said, SaysWhy, IsWorn};
+
+use crate::fault::CellFault;
+use crate::plain::plain_messages;
+use px_annals::{Entry, LaneEntry, Recorder};
+use px_block::BlockSource;
+use px_ends::Device;
+use px_lane::{Lane, LaneFault, MsgList, NoticeList, Turned};
+use std::alloc::Global;
+
+// The frames that a turn's sync consumed, none where the sink has stopped.
+fn consumed_in(turned: Turned) -> Option<u32>
+    ensures { result ≡ consumed_in turned }
+{
+    match turned {
+        Turned::Played {
+            consumed: _,
+            frames,
+        } => Some(frames),
+        Turned::Stopped { faults: _ } => None,
+    }
+}
+
+/// A turn with all of these messages, and its entry noted.
+pub(crate) fn turn_noted<D: Device + Drop, R: Recorder<LaneEntry>, B: BlockSource>(
+    alloc: Global,
+    lane: &mut Lane<D>,
+    recorder: &mut R,
+    messages: &mut MsgList,
+    notices: &mut NoticeList,
+    blocks: &mut B,
+) -> Result<Turned, CellFault>
+    requires messages { IsOrderly Plain.spec lane.old.sink.spec (specs_of lane.old.sink.inputs) messages.old.messages }
+    requires attached { IsFalse lane.old.sink.stopped → IsAttached (D.now lane.old.device) lane.old.sink }
+    ensures ok { IfOk result (λ turned. (entry : LaneEntry) × (R.told recorder.new ≡ noted entry (R.told recorder.old))
+        × (length entry.messages ≡ length messages.old.messages) × (messages.new.messages ≡ [])
+        × IsNoted D.now lane.old lane.new messages.old.messages notices.old.notices notices.new.notices turned entry) }
+    ensures err { OnErr result ((lane.new ≡ lane.old) × (R.told recorder.new ≡ R.told recorder.old) × (messages.new.messages ≡ messages.old.messages) × (notices.new.notices ≡ notices.old.notices)) }
+    ensures room { messages.new.capacity ≡ messages.old.capacity }
+    ensures worn { IsWorn result lane.old.sink.filled }
+    ensures why { SaysWhy result (R.limit recorder.old) (option_map (sizes_by size_of_lane_entry) (R.told recorder.old)) }
+    ensures limit { R.limit recorder.new ≡ R.limit recorder.old }
+    ensures counts { ReadyCounts (recorder_said result) (R.faults recorder.old) (R.faults recorder.new) (R.fulls recorder.old) (R.fulls recorder.new) }
+{
+    let Ok(plain) = plain_messages(alloc, messages) else {
+        return Err(CellFault::NoMemory);
+    };
+    let mut entry = LaneEntry {
+        consumed: None,
+        messages: plain,
+    };
+    if let Err(fault) = recorder.ready(entry.size()) {
+        return Err(CellFault::Recorder(fault));
+    }
+    match lane.turn(alloc, messages, notices, blocks) {
+        Ok(turned) => {
+            entry.consumed = consumed_in(turned);
+            recorder.note(entry);
+            Ok(turned)
+        }
+        Err(LaneFault::NoMemory) => Err(CellFault::NoMemory),
+        Err(LaneFault::Worn { filled }) => Err(CellFault::Worn { filled }),
+    }
+}
