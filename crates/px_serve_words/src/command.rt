@@ -1,0 +1,67 @@
+// The command `serve`, as clap is told of it: long options only.
+ghost use Rattle.std.specs.Prelude.{◌≡◌, false, IfOk};
+ghost use Rattle.clap.specs.Words.{app_of, rule_of};
+ghost use Rattle.px_serve_words.specs.Command.{serve_command, option_rule, path_rule, accept_rule, tape_rule};
+
+use clap::builder::ValueParser;
+use clap::{Arg, ArgAction, Command};
+use std::alloc::{AllocError, Global};
+
+// An option with one value.
+fn option<'a>(alloc: Global, name: &'a str) -> Arg<'a>
+    ensures rule { rule_of result ≡ option_rule name.entry.now }
+    ensures own { result.global ≡ false }
+{
+    Arg::new(alloc, name).long(name).action(ArgAction::Set)
+}
+
+// An option that must be there, whose value is a path.
+fn path<'a>(alloc: Global, name: &'a str) -> Arg<'a>
+    ensures rule { rule_of result ≡ path_rule name.entry.now }
+    ensures own { result.global ≡ false }
+{
+    option(alloc, name)
+        .required(true)
+        .value_parser(ValueParser::NonEmptyString)
+}
+
+// The option that says how many links are taken.
+fn accept<'a>(alloc: Global) -> Arg<'a>
+    ensures rule { rule_of result ≡ accept_rule }
+    ensures own { result.global ≡ false }
+{
+    option(alloc, "accept")
+        .required(true)
+        .value_parser(ValueParser::signed(1, 65535))
+}
+
+// The option that asks for a tape.
+fn tape<'a>(alloc: Global) -> Arg<'a>
+    ensures rule { rule_of result ≡ tape_rule }
+    ensures own { result.global ≡ false }
+{
+    Arg::new(alloc, "tape")
+        .long("tape")
+        .action(ArgAction::SetTrue)
+}
+
+// The command, before it is built.
+pub fn command<'a>(alloc: Global) -> Result<Command<'a>, AllocError>
+    ensures { IfOk result (λ command. app_of command ≡ serve_command) }
+{
+    let header = path(alloc, "header");
+    let socket = path(alloc, "socket");
+    let out = path(alloc, "out");
+    let accept = accept(alloc);
+    let history = option(alloc, "history");
+    let tape = tape(alloc);
+    let empty = Command::new(alloc, "serve").disable_help_flag(true);
+    let command = empty
+        .arg(header)?
+        .arg(socket)?
+        .arg(out)?
+        .arg(accept)?
+        .arg(history)?
+        .arg(tape)?;
+    Ok(command)
+}
