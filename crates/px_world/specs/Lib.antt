@@ -1,6 +1,7 @@
 pub mod World
 pub mod Admission
 pub mod Event
+pub mod Frames
 pub mod Output
 pub mod History
 pub mod Running

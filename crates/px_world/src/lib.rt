@@ -1,11 +1,12 @@
 //! The world that a recorded session runs in: the core, a mixer over a device in memory for each sink, and what is under way
-//! between them. An event of the session is one step of it. It exports `World`, `Outcome` and `WorldFault`,
-//! and the laws of its definitions.
+//! between them. An event of the session is one step of it. It exports `World`, `Outcome`, `Frames` and
+//! `WorldFault`, and the laws of its definitions.
 #![tactic(auto)]
 
 mod connections;
 mod doors;
 mod fault;
+mod frames;
 mod law;
 mod outcome;
 mod parcel;
@@ -16,6 +17,7 @@ mod stepping;
 mod world;
 
 pub use fault::WorldFault;
+pub use frames::Frames;
 pub use law::{
     played_frames_are_decided_by_a_turn, runs_go_on, sinks_replay_their_histories, worked_session,
 };

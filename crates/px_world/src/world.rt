@@ -1,6 +1,6 @@
 //! The world of a recorded session.
 
-ghost use Rattle.std.specs.Prelude.{◌≡◌, ◌≢◌, ◌<◌, List, All, length, map, IfOk, OnOk, Err, Some};
+ghost use Rattle.std.specs.Prelude.{◌≡◌, ◌≢◌, ◌<◌, List, All, length, map, option_map, IfOk, OnOk, Err, Some};
 ghost use Rattle.std.specs.List.{AllByRecursion, slice_get};
 ghost use Rattle.px_session.specs.HeaderRules.{IsHeader, IsSink};
 ghost use Rattle.px_session.specs.declared.header.SinkSpec.{SinkSpec as Spec};
@@ -8,6 +8,7 @@ ghost use Rattle.px_world.specs.World.{World as SpecWorld, new_mixer, new_world}
 ghost use Rattle.px_world.specs.Admission.{refusal_of};
 ghost use Rattle.px_world.specs.Event.{world_after, change_at};
 ghost use Rattle.px_world.specs.Outcome.{IsOutcome};
+ghost use Rattle.px_world.specs.Frames.{frames_of};
 ghost use Rattle.px_world.specs.Running.{StandsFor};
 ghost use Rattle.px_world.specs.Playing.{mixer_of, IsPlaying};
 ghost use Rattle.px_model.specs.Stream.{Stream as Plain};
@@ -21,7 +22,7 @@ use crate::doors::Door;
 use crate::playing::Playing;
 use crate::run::run;
 use crate::stepping::WorldCore;
-use crate::{Outcome, WorldFault};
+use crate::{Frames, Outcome, WorldFault};
 use px_core::Core;
 use px_session::{Event, Header, SinkSpec};
 use px_types::{Mem, SinkId};
@@ -116,6 +117,13 @@ impl World {
         }
     }
 
+    /// How far the sink with an index is, if it is there. Takes no memory.
+    pub fn frames(&self, sink: usize) -> Option<Frames>
+        ensures { result ≡ option_map frames_of (slice_get self.now.mixers sink) }
+    {
+        frames_at(&self.mixers, sink)
+    }
+
     // Marks the mixer of a sink whose device is to fail.
     fn mark(&mut self, sink: SinkId)
         requires { sink.0 < length self.old.mixers }
@@ -133,6 +141,17 @@ impl World {
     {
         self.mark(sink);
     }
+}
+
+// How far the sink of the mixer at a place is, if there is one.
+fn frames_at(mixers: &[Playing], place: usize) -> Option<Frames>
+    ensures { result ≡ option_map frames_of (slice_get (map mixer_of mixers.now) place) }
+{
+    let playing = mixers.get(place)?;
+    Some(Frames {
+        consumed: playing.lane.consumed(),
+        filled: playing.lane.filled(),
+    })
 }
 
 // Makes the device of the mixer at a place fail at its next turn.

@@ -1,0 +1,11 @@
+-- Bytes that wait to be written.
+use Rattle.std.specs.Prelude.{ℕ, List}
+
+pub record Waiting : Type 0 where
+  pub bytes : List ℕ
+  -- how many writes to it have failed, for want of memory
+  pub faults : ℕ
+
+-- how many bytes are a piece
+abbrev pub PIECE : ℕ
+PIECE = 65536
