@@ -72,13 +72,14 @@ most_links = 65535
 
 -- ---- what it makes
 
--- a device of this shape that has consumed and played nothing
+-- a device of this shape that has consumed and played nothing, with nothing put
 pub record IsNewDevice (shape : DeviceShape) (d : DeviceState) : Type 0 where
   pub frame : d.frame ≡ shape.frame
   pub guard : d.guard ≡ shape.guard
   pub depth : d.depth ≡ shape.depth
   pub consumed : d.consumed ≡ 0
   pub filled : d.filled ≡ 0
+  pub buffer : WhereTold d.buffer (λ bytes. bytes ≡ [])
   pub played : WhereTold d.played (λ bytes. bytes ≡ [])
   pub faults : d.faults ≡ 0
   pub going : d.failed ≡ false
