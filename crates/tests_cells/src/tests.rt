@@ -1,0 +1,3 @@
+mod full;
+mod lane;
+mod threads;

@@ -1,0 +1,151 @@
+ghost use Rattle.std.specs.Prelude.{◌≡◌, [], IfOk};
+ghost use Rattle.std.specs.Arc.{arc_value};
+ghost use Rattle.crossbeam_queue.specs.Passes.{IsPassOf};
+ghost use Rattle.px_mail.specs.Mailbox.{key_of, posted_by};
+ghost use Rattle.tests_cells.specs.Gains.{IsGain, IsNew, Sends};
+
+use px_annals::{LaneEntry, MemRecorder, PlainMsg};
+use px_chmap::Map;
+use px_ends::{DeviceShape, MemDevice};
+use px_lane::Lane;
+use px_lane_cell::{Boxes, LaneCell, LaneEnds, LanePasses};
+use px_mail::{Full, Mailbox, PostPass};
+use px_msg::{FactorList, InputFactors, Msg, Notice};
+use px_sample::{Format, Spec};
+use px_session::SinkSpec;
+use px_stream::Stream;
+use px_types::{InputId, Mem, NoMemory, Text};
+use px_vol::Factors;
+use std::alloc::Global;
+use std::sync::{Arc, Wait};
+use std::thread;
+
+pub type Inbox = Arc<Mailbox<Msg<Stream>>>;
+
+pub type Cell = LaneCell<MemDevice, MemRecorder<LaneEntry>>;
+
+// 16 bits, mono.
+const SPEC: Spec = Spec {
+    format: Format::S16Le,
+    channels: 1,
+    rate: 48_000,
+};
+
+const SHAPE: DeviceShape = DeviceShape {
+    frame: 2,
+    rate: 48_000,
+    guard: 10,
+    depth: 100,
+};
+
+// A mixer of a sink of that spec, over a device in memory.
+fn mixer(alloc: Global) -> Mem<Lane<MemDevice>>
+    ensures { IfOk result IsNew }
+{
+    let Some(map) = Map::new(&[0]) else {
+        return Err(NoMemory);
+    };
+    let sink = SinkSpec {
+        name: Text::copied(alloc, b"a")?,
+        spec: SPEC,
+        map,
+        guard: 10,
+        depth: 100,
+    };
+    Lane::new(alloc, &sink, MemDevice::new(alloc, &SHAPE)?)
+}
+
+/// A cell with a recorder of so many entries, its inbox, and what is at the other end of it.
+pub fn opened(alloc: Global, entries: usize) -> Mem<(Cell, Inbox, PostPass<Msg<Stream>>)>
+    ensures pass { IfOk result (λ made. IsPassOf (arc_value made.1).queue made.2.pass) }
+    ensures sends { IfOk result (λ made. Sends (key_of made.2.pass) (posted_by made.2.pass)) }
+{
+    let (inbox, theirs, take) = Mailbox::<Msg<Stream>>::new(alloc, SPEC)?;
+    let (outbox, post, _notices) = Mailbox::<Notice<Stream>>::new(alloc, ())?;
+    let inbox = Arc::new(alloc, inbox)?;
+    let outbox = Arc::new(alloc, outbox)?;
+    let Ok(ours) = Arc::try_clone(&inbox) else {
+        return Err(NoMemory);
+    };
+    let ends = LaneEnds {
+        boxes: Boxes {
+            inbox: ours,
+            outbox,
+        },
+        passes: LanePasses { take, post },
+    };
+    let lane = mixer(alloc)?;
+    let recorder = MemRecorder::new(alloc, entries, 268_435_456)?;
+    let cell = LaneCell::new(alloc, lane, recorder, ends)?;
+    Ok((cell, inbox, theirs))
+}
+
+/// Factors for the input of a number.
+pub fn factors_for(alloc: Global, number: u32) -> Mem<Msg<Stream>>
+    ensures { IfOk result IsGain }
+{
+    let Some(factors) = Factors::new(&[65_536]) else {
+        return Err(NoMemory);
+    };
+    let mut list = Vec::new(alloc);
+    list.push(InputFactors {
+        input: InputId(number),
+        factors,
+    })?;
+    Ok(Msg::Factors(FactorList::from_vec(list)))
+}
+
+// Whether a message has the factors for the input of a number.
+fn is_for(message: &PlainMsg, number: u32) -> bool {
+    match message {
+        PlainMsg::Factors(list) => matches!(list.as_slice(), [one] if one.input == number),
+        _ => false,
+    }
+}
+
+// How many of the messages from this number on an entry has, in order; `None` where it has another.
+fn counted(entry: &LaneEntry, first: u32) -> Option<u32> {
+    let mut number = first;
+    for message in entry.messages.as_slice() {
+        if !is_for(message, number) {
+            return None;
+        }
+        number = number.checked_add(1)?;
+    }
+    Some(number)
+}
+
+/// How many messages the entries have, where they are numbered from 0 in order.
+pub fn recorded(recorder: &MemRecorder<LaneEntry>) -> Option<u32> {
+    let mut number = 0;
+    for at in 0..recorder.len() {
+        number = counted(recorder.entry(at)?, number)?;
+    }
+    Some(number)
+}
+
+/// Posts one message, again for as long as the inbox is full.
+#[tactic(auto, using(crate::proofs::Gains::lawful_next, crate::proofs::Gains::sends_next))]
+pub fn sent<R: Wait>(
+    rt: &R,
+    inbox: &Mailbox<Msg<Stream>>,
+    post: &mut PostPass<Msg<Stream>>,
+    message: Msg<Stream>,
+)
+    requires pass { IsPassOf inbox.now.queue post.old.pass }
+    requires sends { Sends (key_of post.old.pass) (posted_by post.old.pass) }
+    requires gain { IsGain message }
+    ensures pass { IsPassOf inbox.now.queue post.new.pass }
+    ensures sends { Sends (key_of post.new.pass) (posted_by post.new.pass) }
+{
+    let mut message = message;
+    for _ in rt.forever() {
+        match inbox.post(rt, post, message) {
+            Ok(()) => return,
+            Err(Full(back)) => {
+                message = back;
+                thread::yield_now();
+            }
+        }
+    }
+}
