@@ -2,3 +2,4 @@ mod host;
 mod jobs;
 mod paced;
 mod system_host;
+mod words;
