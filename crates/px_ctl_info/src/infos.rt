@@ -83,8 +83,8 @@ fn add_sink(alloc: Global, infos: &mut Vec<SinkInfo>, sink: &Target, groups: &[G
     Ok(())
 }
 
-// What is told of each of them.
-fn sinks_told(alloc: Global, sinks: &[Target], groups: &[Group]) -> Mem<Vec<SinkInfo>>
+/// What is told of each of these sinks that has a group, in their order.
+pub fn sinks_told(alloc: Global, sinks: &[Target], groups: &[Group]) -> Mem<Vec<SinkInfo>>
     requires { All IsTarget sinks.now }
     ensures value { IfOk result (λ infos. infos.items ≡ sinks_told groups.now sinks.now) }
     ensures told { IfOk result (λ infos. All IsSinkInfo infos.items) }
@@ -222,8 +222,8 @@ fn add_input(
     Ok(())
 }
 
-// What is told of each of them.
-fn inputs_told(
+/// What is told of each of these inputs that goes on and is a member of its sink's group, in their order.
+pub fn inputs_told(
     alloc: Global,
     inputs: &[Input],
     groups: &[Group],

@@ -62,10 +62,11 @@ pub fn set_default_sink<M: Drop, G: Drop>(
     Ok(Plan::replied(alloc, reply, changes))
 }
 
-// What the server is, where this is its default sink.
-fn server_of(alloc: Global, sink: &Target) -> Mem<ServerInfo>
+/// What the server is, where this is its default sink.
+pub fn server_of(alloc: Global, sink: &Target) -> Mem<ServerInfo>
     requires { IsTarget sink.now }
-    ensures { IfOk result (λ info. info ≡ server_of sink.now) }
+    ensures value { IfOk result (λ info. info ≡ server_of sink.now) }
+    ensures told { IfOk result (λ info. IsTrue (is_text info.name) × (info.spec.channels ≤ 32)) }
 {
     Ok(ServerInfo {
         spec: raw_of(&sink.spec),

@@ -54,8 +54,8 @@ fn add(alloc: Global, infos: &mut Vec<ClientInfo>, client: &Client) -> Mem<()>
     Ok(())
 }
 
-// What is told of each of them.
-fn infos_of(alloc: Global, clients: &[Client]) -> Mem<Vec<ClientInfo>>
+/// What is told of each of these clients, in their order.
+pub fn clients_told(alloc: Global, clients: &[Client]) -> Mem<Vec<ClientInfo>>
     ensures value { IfOk result (λ infos. infos.items ≡ map info_of clients.now) }
     ensures text { IfOk result (λ infos. All (λ info. IsText info.name) infos.items) }
 {
@@ -90,7 +90,7 @@ pub fn client_infos<M: Drop, G: Drop>(
 ) -> Result<Plan<M, G>, Refusal>
     ensures { Plans result (client_infos clients.now tag) }
 {
-    let infos = infos_of(alloc, clients)?;
+    let infos = clients_told(alloc, clients)?;
     let reply = px_reply::client_infos(alloc, tag, infos.as_slice())?;
     Ok(Plan::replied(alloc, reply, Vec::new(alloc)))
 }

@@ -7,6 +7,7 @@ use Rattle.std.proofs.lemmas.List.Elements.{filter-append}
 use Rattle.std.proofs.lemmas.Slice.Eq.{bytes_eq-Decides}
 use Rattle.std.proofs.lemmas.Bool.{eq-eqb}
 use Rattle.std.proofs.lemmas.Bool.Decides.{nat_tests}
+use Rattle.px_reply.specs.Front.{reply_to}
 use Rattle.px_reply.specs.Info.{server_reply, with_sink, with_input, with_client}
 use Rattle.px_events.specs.declared.event.Facility.{Facility}
 use Rattle.px_events.specs.declared.event.Facility.TheVariants.{Sink, Input, Client, Server}
@@ -130,13 +131,13 @@ third_alone a = append-nil ([] ++ [] ++ a)
 
 module _ (given : Given) (before after : Infos) where
   abbrev of_sinks : List Event
-  of_sinks = events_of Sink (with_sink []) before.sinks after.sinks given.sinks
+  of_sinks = events_of Sink (with_sink (reply_to 0)) before.sinks after.sinks given.sinks
 
   abbrev of_inputs : List Event
-  of_inputs = events_of Input (with_input []) before.inputs after.inputs given.inputs
+  of_inputs = events_of Input (with_input (reply_to 0)) before.inputs after.inputs given.inputs
 
   abbrev of_clients : List Event
-  of_clients = events_of Client (with_client []) before.clients after.clients given.clients
+  of_clients = events_of Client (with_client (reply_to 0)) before.clients after.clients given.clients
 
   abbrev of_server : List Event
   of_server = server_events before after
@@ -155,28 +156,28 @@ module _ (given : Given) (before after : Infos) where
       other f Server i NO_INDEX (became (server_reply 0) before.server after.server) (apart_left (nat_eq (facility_code Server) (facility_code f)) (nat_eq NO_INDEX i) apart)
 
   no_sink : (f : Facility) (i : ℕ) → nat_eq (facility_code Sink) (facility_code f) ≡ false → about f i of_sinks ≡ []
-  no_sink f i apart = strange f Sink apart (with_sink []) before.sinks after.sinks i (range_with_len 0 given.sinks)
+  no_sink f i apart = strange f Sink apart (with_sink (reply_to 0)) before.sinks after.sinks i (range_with_len 0 given.sinks)
 
   no_input : (f : Facility) (i : ℕ) → nat_eq (facility_code Input) (facility_code f) ≡ false → about f i of_inputs ≡ []
-  no_input f i apart = strange f Input apart (with_input []) before.inputs after.inputs i (range_with_len 0 given.inputs)
+  no_input f i apart = strange f Input apart (with_input (reply_to 0)) before.inputs after.inputs i (range_with_len 0 given.inputs)
 
   no_client : (f : Facility) (i : ℕ) → nat_eq (facility_code Client) (facility_code f) ≡ false → about f i of_clients ≡ []
-  no_client f i apart = strange f Client apart (with_client []) before.clients after.clients i (range_with_len 0 given.clients)
+  no_client f i apart = strange f Client apart (with_client (reply_to 0)) before.clients after.clients i (range_with_len 0 given.clients)
 
   pub tell_what_became : TellWhatBecame given before after
   tell_what_became = record {
     sinks = λ i l.
-        only Sink i (events_at Sink (with_sink []) before.sinks after.sinks i) [] [] []
-        (each Sink (with_sink []) before.sinks after.sinks i 0 given.sinks (omega arith) (omega (arith, l))) (no_input Sink i refl) (no_client Sink i refl) (not_server Sink i refl)
-        ∙ first_alone (events_at Sink (with_sink []) before.sinks after.sinks i);
+        only Sink i (events_at Sink (with_sink (reply_to 0)) before.sinks after.sinks i) [] [] []
+        (each Sink (with_sink (reply_to 0)) before.sinks after.sinks i 0 given.sinks (omega arith) (omega (arith, l))) (no_input Sink i refl) (no_client Sink i refl) (not_server Sink i refl)
+        ∙ first_alone (events_at Sink (with_sink (reply_to 0)) before.sinks after.sinks i);
     inputs = λ i l.
-        only Input i [] (events_at Input (with_input []) before.inputs after.inputs i) [] []
-        (no_sink Input i refl) (each Input (with_input []) before.inputs after.inputs i 0 given.inputs (omega arith) (omega (arith, l))) (no_client Input i refl) (not_server Input i refl)
-        ∙ second_alone (events_at Input (with_input []) before.inputs after.inputs i);
+        only Input i [] (events_at Input (with_input (reply_to 0)) before.inputs after.inputs i) [] []
+        (no_sink Input i refl) (each Input (with_input (reply_to 0)) before.inputs after.inputs i 0 given.inputs (omega arith) (omega (arith, l))) (no_client Input i refl) (not_server Input i refl)
+        ∙ second_alone (events_at Input (with_input (reply_to 0)) before.inputs after.inputs i);
     clients = λ i l.
-        only Client i [] [] (events_at Client (with_client []) before.clients after.clients i) []
-        (no_sink Client i refl) (no_input Client i refl) (each Client (with_client []) before.clients after.clients i 0 given.clients (omega arith) (omega (arith, l))) (not_server Client i refl)
-        ∙ third_alone (events_at Client (with_client []) before.clients after.clients i);
+        only Client i [] [] (events_at Client (with_client (reply_to 0)) before.clients after.clients i) []
+        (no_sink Client i refl) (no_input Client i refl) (each Client (with_client (reply_to 0)) before.clients after.clients i 0 given.clients (omega arith) (omega (arith, l))) (not_server Client i refl)
+        ∙ third_alone (events_at Client (with_client (reply_to 0)) before.clients after.clients i);
     server = only Server NO_INDEX [] [] [] of_server (no_sink Server NO_INDEX refl) (no_input Server NO_INDEX refl) (no_client Server NO_INDEX refl)
         (own Server NO_INDEX (became (server_reply 0) before.server after.server));
   }
@@ -197,8 +198,8 @@ none_of f told infos (i ∷ is) = ap (λ (first : List Event). first ++ flat_map
 pub none_between : (given : Given) (infos : Infos) → events_between given infos infos ≡ []
 none_between given infos =
     joined_four
-    (events_of Sink (with_sink []) infos.sinks infos.sinks given.sinks) [] (events_of Input (with_input []) infos.inputs infos.inputs given.inputs) []
-    (events_of Client (with_client []) infos.clients infos.clients given.clients) [] (server_events infos infos) []
-    (none_of Sink (with_sink []) infos.sinks (range_with_len 0 given.sinks)) (none_of Input (with_input []) infos.inputs (range_with_len 0 given.inputs))
-    (none_of Client (with_client []) infos.clients (range_with_len 0 given.clients))
+    (events_of Sink (with_sink (reply_to 0)) infos.sinks infos.sinks given.sinks) [] (events_of Input (with_input (reply_to 0)) infos.inputs infos.inputs given.inputs) []
+    (events_of Client (with_client (reply_to 0)) infos.clients infos.clients given.clients) [] (server_events infos infos) []
+    (none_of Sink (with_sink (reply_to 0)) infos.sinks (range_with_len 0 given.sinks)) (none_of Input (with_input (reply_to 0)) infos.inputs (range_with_len 0 given.inputs))
+    (none_of Client (with_client (reply_to 0)) infos.clients (range_with_len 0 given.clients))
     (ap (λ o. option_to_list (option_map (event Server NO_INDEX) o)) (nothing_became (server_reply 0) infos.server))

@@ -1,6 +1,7 @@
 -- The events between two moments: what became of each object, by what is told of it then and now.
 use Rattle.std.specs.Prelude.{◌≡◌, ℕ, ◌<◌, Bool, cond, ◌&&◌, nat_eq, bytes_eq, List, [], ◌++◌, filter, flat_map, Option, None, Some, option_map, option_to_list}
 use Rattle.std.specs.List.{range_with_len}
+use Rattle.px_reply.specs.Front.{reply_to}
 use Rattle.px_reply.specs.Info.{server_reply, with_sink, with_input, with_client}
 use Rattle.px_events.specs.declared.event.Facility.{Facility}
 use Rattle.px_events.specs.declared.event.Facility.TheVariants.{Sink, Input, Client, Server}
@@ -38,9 +39,9 @@ server_events before after = option_to_list (option_map (event Server NO_INDEX) 
 -- sinks, inputs, clients, and then the server
 abbrev pub events_between : Given → Infos → Infos → List Event
 events_between given before after =
-    events_of Sink (with_sink []) before.sinks after.sinks given.sinks
-    ++ events_of Input (with_input []) before.inputs after.inputs given.inputs
-    ++ events_of Client (with_client []) before.clients after.clients given.clients
+    events_of Sink (with_sink (reply_to 0)) before.sinks after.sinks given.sinks
+    ++ events_of Input (with_input (reply_to 0)) before.inputs after.inputs given.inputs
+    ++ events_of Client (with_client (reply_to 0)) before.clients after.clients given.clients
     ++ server_events before after
 
 -- ---- the law
@@ -53,7 +54,7 @@ about facility index events = filter (is_about facility index) events
 
 -- the events about an object are the one that says what became of it, or none
 pub record TellWhatBecame (given : Given) (before after : Infos) : Type 0 where
-  pub sinks : (i : ℕ) → i < given.sinks → about Sink i (events_between given before after) ≡ events_at Sink (with_sink []) before.sinks after.sinks i
-  pub inputs : (i : ℕ) → i < given.inputs → about Input i (events_between given before after) ≡ events_at Input (with_input []) before.inputs after.inputs i
-  pub clients : (i : ℕ) → i < given.clients → about Client i (events_between given before after) ≡ events_at Client (with_client []) before.clients after.clients i
+  pub sinks : (i : ℕ) → i < given.sinks → about Sink i (events_between given before after) ≡ events_at Sink (with_sink (reply_to 0)) before.sinks after.sinks i
+  pub inputs : (i : ℕ) → i < given.inputs → about Input i (events_between given before after) ≡ events_at Input (with_input (reply_to 0)) before.inputs after.inputs i
+  pub clients : (i : ℕ) → i < given.clients → about Client i (events_between given before after) ≡ events_at Client (with_client (reply_to 0)) before.clients after.clients i
   pub server : about Server NO_INDEX (events_between given before after) ≡ server_events before after

@@ -3,9 +3,12 @@
 #![tactic(auto)]
 
 mod announce;
+mod between;
 mod event;
 mod laws;
+mod told;
 
 pub use announce::{Subscriber, announce_all};
+pub use between::{Counts, Moment, events_between};
 pub use event::{Event, Facility, Kind, NO_INDEX, hears};
 pub use laws::events_tell_what_became;

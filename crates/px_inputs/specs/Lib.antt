@@ -1,3 +1,4 @@
 pub mod Lists
 pub mod Inputs
 pub mod InputTable
+pub mod Connections

@@ -12,7 +12,7 @@ use px_plan::{Input, Standing, Way};
 use px_types::{InputId, SinkId};
 
 /// The input with an index. Takes no memory.
-pub(crate) fn input_of(inputs: &[Input], index: InputId) -> Option<&Input>
+pub fn input_of(inputs: &[Input], index: InputId) -> Option<&Input>
     ensures { option_map (λ x. x.now) result ≡ input_of inputs.now index }
 {
     inputs.iter().find(|x| x.index.0 == index.0)
@@ -26,7 +26,7 @@ fn place_at(inputs: &[Input], index: InputId) -> Option<usize>
 }
 
 /// An input has ended.
-pub(crate) fn leave(inputs: &mut Vec<Input>, index: InputId)
+pub fn leave(inputs: &mut Vec<Input>, index: InputId)
     ensures items { inputs.new.items ≡ change_first (has_index index) leaving inputs.old.items }
     ensures capacity { vec_capacity inputs.new ≡ vec_capacity inputs.old }
     ensures len { vec_len inputs.new ≡ vec_len inputs.old }
@@ -37,7 +37,7 @@ pub(crate) fn leave(inputs: &mut Vec<Input>, index: InputId)
 }
 
 /// An input has these buffer attributes.
-pub(crate) fn set_attr(inputs: &mut Vec<Input>, index: InputId, attr: Attr)
+pub fn set_attr(inputs: &mut Vec<Input>, index: InputId, attr: Attr)
     ensures items { inputs.new.items ≡ change_first (has_index index) (with_attr attr) inputs.old.items }
     ensures capacity { vec_capacity inputs.new ≡ vec_capacity inputs.old }
     ensures len { vec_len inputs.new ≡ vec_len inputs.old }
@@ -58,7 +58,7 @@ pub(crate) fn set_way(inputs: &mut Vec<Input>, index: InputId, way: Way)
 }
 
 /// An input is to be on a sink.
-pub(crate) fn depart(inputs: &mut Vec<Input>, index: InputId, to: SinkId)
+pub fn depart(inputs: &mut Vec<Input>, index: InputId, to: SinkId)
     ensures items { inputs.new.items ≡ change_first (has_index index) (moving_to to) inputs.old.items }
     ensures capacity { vec_capacity inputs.new ≡ vec_capacity inputs.old }
     ensures len { vec_len inputs.new ≡ vec_len inputs.old }
@@ -69,7 +69,7 @@ pub(crate) fn depart(inputs: &mut Vec<Input>, index: InputId, to: SinkId)
 }
 
 /// An input is on a sink, and its stream is on its way there.
-pub(crate) fn arrive(inputs: &mut Vec<Input>, index: InputId, to: SinkId)
+pub fn arrive(inputs: &mut Vec<Input>, index: InputId, to: SinkId)
     ensures items { inputs.new.items ≡ change_first (has_index index) (arrived_at to) inputs.old.items }
     ensures capacity { vec_capacity inputs.new ≡ vec_capacity inputs.old }
     ensures len { vec_len inputs.new ≡ vec_len inputs.old }
@@ -83,7 +83,7 @@ pub(crate) fn arrive(inputs: &mut Vec<Input>, index: InputId, to: SinkId)
 }
 
 /// An input is given up.
-pub(crate) fn remove(inputs: &mut Vec<Input>, index: InputId)
+pub fn remove(inputs: &mut Vec<Input>, index: InputId)
     ensures items { inputs.new.items ≡ drop_first (has_index index) inputs.old.items }
     ensures capacity { vec_capacity inputs.new ≡ vec_capacity inputs.old }
     ensures len { vec_len inputs.new ≤ vec_len inputs.old }

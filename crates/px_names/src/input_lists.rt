@@ -1,8 +1,9 @@
 //! The property lists of sink inputs.
 
-ghost use Rattle.std.specs.Prelude.{◌≡◌, ◌+◌, ◌≤◌, [], length, vec_len, vec_capacity, IfOk, OnOk};
+ghost use Rattle.std.specs.Prelude.{◌≡◌, ◌+◌, ◌≤◌, ◌++◌, ◌∷◌, List, [], length, vec_len, vec_capacity, IfOk, OnOk};
 ghost use Rattle.std.specs.List.{find, position};
 ghost use Rattle.std.specs.Option.{option_map};
+ghost use Rattle.px_names.specs.declared.input_lists.InputList.{InputList};
 ghost use Rattle.px_names.specs.InputLists.{is_of, list_of, with_list_of, without_list_of};
 
 use px_tag::PropList;
@@ -66,6 +67,17 @@ fn drop_of(lists: &mut Vec<InputList>, input: InputId)
     }
 }
 
+// One more list.
+fn add_copy(lists: &mut Vec<InputList>, one: &InputList) -> px_tag::Mem<()>
+    ensures { OnOk result ((more : List InputList) → lists.new.items ++ more ≡ lists.old.items ++ one.now ∷ more) }
+{
+    lists.push(InputList {
+        input: one.input,
+        list: one.list.copy()?,
+    })?;
+    Ok(())
+}
+
 impl InputLists {
     /// No lists. Takes no memory.
     pub fn new(alloc: Global) -> InputLists
@@ -101,6 +113,20 @@ impl InputLists {
             None => Ok(PropList::new(self.alloc)),
             Some(l) => l.list.copy(),
         }
+    }
+
+    /// The same lists once more.
+    pub fn copy(&self) -> px_tag::Mem<InputLists>
+        ensures { IfOk result (λ made. made.items ≡ self.now.items) }
+    {
+        let mut lists = Vec::new(self.alloc);
+        for one in &self.lists {
+            add_copy(&mut lists, one)?;
+        }
+        Ok(InputLists {
+            lists,
+            alloc: self.alloc,
+        })
     }
 
     /// The list of an input is this one, in the place of the one that it has, else behind the others. Takes no memory.

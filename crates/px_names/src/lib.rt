@@ -8,7 +8,7 @@ mod input_lists;
 mod names;
 mod sinks;
 
-pub use client::Client;
+pub use client::{Client, forget, set_list, set_mask};
 pub use input_lists::{InputList, InputLists};
 pub use names::{NO_INDEX, Names};
 pub use sinks::SinkNames;
