@@ -127,7 +127,7 @@ impl FrameQueue {
     }
 }
 
-// How many frames of so many bytes there are in these. One is told without a division.
+// How many frames of so many bytes there are in these. One is found without a division.
 fn frames_in(bytes: usize, size: usize) -> usize
     requires { 1 ≤ size }
     ensures { result ≡ bytes / size }

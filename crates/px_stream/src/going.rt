@@ -12,7 +12,7 @@ use crate::stream::less;
 use px_block::BlockSource;
 use px_model::Run;
 
-/// What is to be told of a stream that went forward.
+/// The notices that are due of a stream that went forward.
 #[derive(Clone, Copy, Debug, PartialEq, Eq)]
 pub struct Settled {
     /// It was silent, and gave a frame.

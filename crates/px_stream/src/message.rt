@@ -50,7 +50,7 @@ pub enum StreamMsg {
 /// What a message led to.
 #[derive(Clone, Copy, Debug, PartialEq, Eq)]
 pub enum Applied {
-    /// Nothing is to be told.
+    /// No notice is due.
     Quiet,
     /// Frames were written that aren't held.
     Overflow,

@@ -110,7 +110,7 @@ impl Stream {
     }
 }
 
-// How many places a run has, where there are so many in all. One is told without a division.
+// How many places a run has, where there are so many in all. One is found without a division.
 fn run_of(places: usize, runs: usize) -> usize
     requires { 1 ≤ runs }
     ensures { result ≡ places / runs }
