@@ -20,12 +20,14 @@ use Rattle.px_world.specs.Admission.{refusal_of}
 use Rattle.px_world.specs.Output.{world_by, AreAdmitted}
 use Rattle.px_world.proofs.Runs.{admitted-split}
 use Rattle.px_app.specs.declared.refusal.Refusal.{Refusal}
-use Rattle.px_app.specs.Session.{IsPlayed, Begins, NoneBegins, StopsHere, IsRefused}
+use Rattle.px_app.specs.Session.{IsPlayed, Begins, NoneBegins, StopsHere, Before, IsRefused, HasHeader}
+use Rattle.px_app.specs.declared.view.Lens.{Lens}
+use Rattle.px_app.specs.View.{Shown, lens_of}
 use Rattle.px_app.specs.declared.ending.Ending.{Ending}
 use Rattle.px_app.specs.declared.ending.Ending.TheVariants as ending
 use Rattle.px_app.specs.Ends.{Ends}
 use Rattle.px_app.specs.Ending.{status_of, IsReplayStatus}
-use Rattle.px_app.specs.Replay.{PlayedWhole, WasRefused, Completes}
+use Rattle.px_app.specs.Replay.{PlayedWhole, GivenBefore, WasRefused, WasUnnamed, IsUnnamed, Completes}
 
 -- ---- one answer
 
@@ -80,9 +82,30 @@ begins_same bytes header events h before here refusal p b stops =
     let split = lead_one before events Ended b.start here b.lead (subst (Stand events Ended) same.1 p.session.2) in
     goes_past h before events b.start here refusal (subst (λ (g : Header). AreAdmitted (new_world g) events) same.0 p.admitted) split stops
 
-pub not_refused : (bytes : List ℕ) (header : Header) (events : List Event) (refusal : Refusal) (records : List ℕ) → IsPlayed bytes header events → IsRefused bytes refusal records → ⊥
-not_refused bytes header events refusal records p (inl none) = begins_none bytes header events refusal p none.0
-not_refused bytes header events refusal records p (inr s) = begins_same bytes header events s.0 s.1 s.2 refusal p s.3 s.4
+pub not_refused : (bytes : List ℕ) (header : Header) (events : List Event) (refusal : Refusal) (before : Before) → IsPlayed bytes header events → IsRefused bytes refusal before → ⊥
+not_refused bytes header events refusal before p (inl none) = begins_none bytes header events refusal p none.0
+not_refused bytes header events refusal before p (inr s) = begins_same bytes header events s.0 s.1 s.2 refusal p s.3 s.4
+
+-- ---- one header
+
+one_header : (bytes : List ℕ) (g h : Header) → HasHeader bytes g → HasHeader bytes h → g ≡ h
+one_header bytes g h a b = (headers_are g h a.0 b.0 (same_answer (header_at (start_of bytes)) (g, a.0) (h, b.0) a.1 b.1)).0
+
+none-some-lens : (l : Lens) → (let o : Option Lens = None in o) ≡ Some l → ⊥
+none-some-lens l e = cc
+
+-- its sink is there or isn't
+named_so : (shown : Shown) (bytes : List ℕ) (header : Header) (l : Lens) → HasHeader bytes header → lens_of shown header.sinks ≡ Some l → IsUnnamed shown bytes → ⊥
+named_so shown bytes header l has looks u = none-some-lens l (sym u.2 ∙ ap (λ (h : Header). lens_of shown h.sinks) (one_header bytes u.0 header u.1 has) ∙ looks)
+
+played_named : (shown : Shown) (bytes : List ℕ) (header : Header) (events : List Event) (l : Lens) → IsPlayed bytes header events → lens_of shown header.sinks ≡ Some l → IsUnnamed shown bytes → ⊥
+played_named shown bytes header events l p looks u = named_so shown bytes header l (p.session.0, p.session.1) looks u
+
+refused_named : (shown : Shown) (bytes : List ℕ) (refusal : Refusal) (before : Before) (given : List ℕ) → IsRefused bytes refusal before → GivenBefore shown before given → IsUnnamed shown bytes → ⊥
+refused_named shown bytes refusal before given (inl none) gives u = not_both (header_at (start_of bytes)) (u.0, u.1.0) none.0.0 u.1.1 none.0.1
+refused_named shown bytes refusal before given (inr s) gives u =
+    let g = subst (λ (b : Before). GivenBefore shown b given) s.5 gives in
+    named_so shown bytes s.0 g.0 (s.3.start, s.3.head) g.1 u
 
 -- ---- where the source tells
 
@@ -94,46 +117,64 @@ played_told : (bytes : List ℕ) (header : Header) (events : List Event) (before
 played_told bytes header events before None same end p = subst (λ (b : Option (List ℕ)). WhereTold b (λ all. IsPlayed all header events)) (sym same) tt
 played_told bytes header events before (Some left) same end p = subst (λ (b : Option (List ℕ)). WhereTold b (λ all. IsPlayed all header events)) (sym same) (subst (λ (all : List ℕ). IsPlayed all header events) (at_end_is bytes left end) p)
 
-abbrev OkFor : Status → List ℕ → Type 0
-OkFor answered bytes = answered ≡ status.Ok → (header : Header) × (events : List Event) × IsPlayed bytes header events
+abbrev OkFor : Shown → Status → List ℕ → Type 0
+OkFor shown answered bytes = answered ≡ status.Ok → (header : Header) × (events : List Event) × (l : Lens) × IsPlayed bytes header events × (lens_of shown header.sinks ≡ Some l)
 
-abbrev RefusedFor : Status → List ℕ → Type 0
-RefusedFor answered bytes = answered ≡ status.Refused → (refusal : Refusal) × (records : List ℕ) × IsRefused bytes refusal records
+abbrev RefusedFor : Shown → Status → List ℕ → Type 0
+RefusedFor shown answered bytes = answered ≡ status.Refused → (refusal : Refusal) × (before : Before) × (given : List ℕ) × IsRefused bytes refusal before × GivenBefore shown before given
 
-completes : (ended : Ending) (bytes : List ℕ) → OkFor (status_of ended) bytes → RefusedFor (status_of ended) bytes → (status_of ended ≡ status.ReadFault → ⊥) → (status_of ended ≡ status.WriteFault → ⊥) → ended ≢ ending.Usage → Completes (status_of ended) bytes
-completes ending.Done bytes ok refused read write other = record {
-  played = λ header events p. inl refl;
-  not_played = λ none. (let s = ok refl in absurd (none s.0 s.1 s.2));
+abbrev UnnamedFor : Shown → Status → List ℕ → Type 0
+UnnamedFor shown answered bytes = answered ≡ status.NoSuchSink → IsUnnamed shown bytes
+
+completes : (shown : Shown) (ended : Ending) (bytes : List ℕ) → OkFor shown (status_of ended) bytes → RefusedFor shown (status_of ended) bytes → UnnamedFor shown (status_of ended) bytes
+    → (status_of ended ≡ status.ReadFault → ⊥) → (status_of ended ≡ status.WriteFault → ⊥) → ended ≢ ending.Usage → Completes shown (status_of ended) bytes
+completes shown ending.Done bytes ok refused unnamed read write other = (let s = ok refl in record {
+  unnamed = λ u. absurd (played_named shown bytes s.0 s.1 s.2 s.3 s.4 u);
+  played = λ named header events p. inl refl;
+  not_played = λ named none. absurd (none s.0 s.1 s.3);
+})
+completes shown (ending.Refused refusal) bytes ok refused unnamed read write other = (let s = refused refl in record {
+  unnamed = λ u. absurd (refused_named shown bytes s.0 s.1 s.2 s.3 s.4 u);
+  played = λ named header events p. absurd (not_refused bytes header events s.0 s.1 p s.3);
+  not_played = λ named none. inl refl;
+})
+completes shown ending.NoSuchSink bytes ok refused unnamed read write other = record {
+  unnamed = λ u. inl refl;
+  played = λ named header events p. absurd (named (unnamed refl));
+  not_played = λ named none. absurd (named (unnamed refl));
 }
-completes (ending.Refused refusal) bytes ok refused read write other = record {
-  played = λ header events p. (let s = refused refl in absurd (not_refused bytes header events s.0 s.1 p s.2));
-  not_played = λ none. inl refl;
-}
-completes ending.Memory bytes ok refused read write other = record { played = λ header events p. inr refl; not_played = λ none. inr refl }
-completes ending.ReadFault bytes ok refused read write other = absurd (read refl)
-completes ending.WriteFault bytes ok refused read write other = absurd (write refl)
-completes ending.Usage bytes ok refused read write other = absurd (other refl)
+completes shown ending.Memory bytes ok refused unnamed read write other = record { unnamed = λ u. inr refl; played = λ named header events p. inr refl; not_played = λ named none. inr refl }
+completes shown ending.ReadFault bytes ok refused unnamed read write other = absurd (read refl)
+completes shown ending.WriteFault bytes ok refused unnamed read write other = absurd (write refl)
+completes shown ending.Usage bytes ok refused unnamed read write other = absurd (other refl)
 
-ok_told : (answered : Status) (bytes : List ℕ) (before after : Ends) → before.left ≡ Some bytes → (answered ≡ status.Ok → PlayedWhole before after) → OkFor answered bytes
-ok_told answered bytes before after told ok is =
+ok_told : (shown : Shown) (answered : Status) (bytes : List ℕ) (before after : Ends) → before.left ≡ Some bytes → (answered ≡ status.Ok → PlayedWhole shown before after) → OkFor shown answered bytes
+ok_told shown answered bytes before after told ok is =
     let w = ok is in
-    (w.header, w.events, subst (λ (b : Option (List ℕ)). WhereTold b (λ all. IsPlayed all w.header w.events)) told (played_told w.bytes w.header w.events before.left after.left w.departed w.at_end w.played))
+    (w.header, w.events, w.lens, subst (λ (b : Option (List ℕ)). WhereTold b (λ all. IsPlayed all w.header w.events)) told (played_told w.bytes w.header w.events before.left after.left w.departed w.at_end w.played), w.looks)
 
-refused_told : (answered : Status) (bytes : List ℕ) (before after : Ends) → before.left ≡ Some bytes → (answered ≡ status.Refused → (refusal : Refusal) × WasRefused refusal before after) → RefusedFor answered bytes
-refused_told answered bytes before after told refused is =
+refused_told : (shown : Shown) (answered : Status) (bytes : List ℕ) (before after : Ends) → before.left ≡ Some bytes → (answered ≡ status.Refused → (refusal : Refusal) × WasRefused shown refusal before after) → RefusedFor shown answered bytes
+refused_told shown answered bytes before after told refused is =
     let s = refused is in
-    (s.0, s.1.records, subst (λ (b : Option (List ℕ)). WhereTold b (λ all. IsRefused all s.0 s.1.records)) told s.1.whole)
+    (s.0, s.1.behind, s.1.given, subst (λ (b : Option (List ℕ)). WhereTold b (λ all. IsRefused all s.0 s.1.behind)) told s.1.whole, s.1.gives)
+
+unnamed_told : (shown : Shown) (answered : Status) (bytes : List ℕ) (before after : Ends) → before.left ≡ Some bytes → (answered ≡ status.NoSuchSink → WasUnnamed shown before after) → UnnamedFor shown answered bytes
+unnamed_told shown answered bytes before after told unnamed is =
+    let u = unnamed is in
+    (u.header, subst (λ (b : Option (List ℕ)). WhereTold b (λ all. HasHeader all u.header)) told u.whole, u.unnamed)
 
 told_by : (left : Option (List ℕ)) (fact : List ℕ → Type 0) → ((bytes : List ℕ) → left ≡ Some bytes → fact bytes) → WhereTold left fact
 told_by None fact by = tt
 told_by (Some bytes) fact by = by bytes refl
 
-pub complete : (answered : Status) (before after : Ends) → (answered ≡ status.Ok → PlayedWhole before after) → (answered ≡ status.Refused → (refusal : Refusal) × WasRefused refusal before after)
-    → (answered ≡ status.ReadFault → ⊥) → (answered ≡ status.WriteFault → ⊥) → IsReplayStatus answered → WhereTold before.left (Completes answered)
-complete answered before after ok refused read write among =
-    told_by before.left (Completes answered) (λ bytes told.
+pub complete : (shown : Shown) (answered : Status) (before after : Ends) → (answered ≡ status.Ok → PlayedWhole shown before after) → (answered ≡ status.Refused → (refusal : Refusal) × WasRefused shown refusal before after)
+    → (answered ≡ status.NoSuchSink → WasUnnamed shown before after)
+    → (answered ≡ status.ReadFault → ⊥) → (answered ≡ status.WriteFault → ⊥) → IsReplayStatus answered → WhereTold before.left (Completes shown answered)
+complete shown answered before after ok refused unnamed read write among =
+    told_by before.left (Completes shown answered) (λ bytes told.
     (let e = among.0 in
     let is = among.2 in
-    let ok_there = subst (λ (s : Status). OkFor s bytes) is (ok_told answered bytes before after told ok) in
-    let refused_there = subst (λ (s : Status). RefusedFor s bytes) is (refused_told answered bytes before after told refused) in
-    subst (λ (s : Status). Completes s bytes) (sym is) (completes e bytes ok_there refused_there (λ f. read (is ∙ f)) (λ f. write (is ∙ f)) among.1)))
+    let ok_there = subst (λ (s : Status). OkFor shown s bytes) is (ok_told shown answered bytes before after told ok) in
+    let refused_there = subst (λ (s : Status). RefusedFor shown s bytes) is (refused_told shown answered bytes before after told refused) in
+    let unnamed_there = subst (λ (s : Status). UnnamedFor shown s bytes) is (unnamed_told shown answered bytes before after told unnamed) in
+    subst (λ (s : Status). Completes shown s bytes) (sym is) (completes shown e bytes ok_there refused_there unnamed_there (λ f. read (is ∙ f)) (λ f. write (is ∙ f)) among.1)))

@@ -1,5 +1,5 @@
--- What is refused is so at one place, for one cause and behind the same records.
-use Rattle.std.proofs.Common.{◌≡◌, ◌≢◌, inl, inr, ℕ, List, [], ◌∷◌, ◌++◌, None, Ok, refl, sym, ap, subst, ◌∙◌}
+-- What is refused is so at one place, for one cause and behind the same events.
+use Rattle.std.proofs.Common.{◌≡◌, ◌≢◌, inl, inr, ℕ, List, [], ◌∷◌, ◌++◌, None, Some, Ok, refl, sym, ap, subst, ◌∙◌}
 use Rattle.std.proofs.lemmas.Option.{same_Some}
 use Rattle.px_session.specs.declared.header.Header.{Header}
 use Rattle.px_session.specs.declared.event.Event.{Event}
@@ -14,11 +14,11 @@ use Rattle.px_session.proofs.Steady.{err_is}
 use Rattle.px_world.specs.World.{World, new_world}
 use Rattle.px_world.specs.Admission.{refusal_of}
 use Rattle.px_world.specs.Event.{world_after}
-use Rattle.px_world.specs.Output.{world_by, records_by, AreAdmitted}
+use Rattle.px_world.specs.Output.{world_by, AreAdmitted}
 use Rattle.px_app.specs.declared.refusal.Refusal.{Refusal}
 use Rattle.px_app.specs.declared.refusal.Why.TheVariants as why
 use Rattle.px_app.specs.Refusal.{of_bytes, of_event}
-use Rattle.px_app.specs.Session.{Begins, NoneBegins, StopsHere, StopsIn, IsRefused}
+use Rattle.px_app.specs.Session.{Begins, NoneBegins, StopsHere, StopsIn, Before, IsRefused}
 use Rattle.px_app.proofs.CompleteLaws.{not_both, same_answer, event_is, none_no_some, headers_are}
 use Rattle.px_app.proofs.RefuseLaws.{refused_more}
 
@@ -62,11 +62,14 @@ begins_no_none bytes header events here refusal b none = not_both (header_at (st
 none_once : (bytes : List ℕ) (r s : Refusal) → NoneBegins bytes r → NoneBegins bytes s → r ≡ s
 none_once bytes r s a b = a.2 ∙ ap of_bytes (err_is a.0 b.0 (sym a.1 ∙ b.1)) ∙ sym b.2
 
-abbrev SameRefusal : Refusal → Refusal → List ℕ → List ℕ → Type 0
-SameRefusal r s records others = (r ≡ s) × (records ≡ others)
+abbrev SameRefusal : Refusal → Refusal → Before → Before → Type 0
+SameRefusal r s before others = (r ≡ s) × (before ≡ others)
+
+behind_are : (g h : Header) (xs ys : List Event) → g ≡ h → xs ≡ ys → (let b : Before = Some (g, xs) in b) ≡ Some (h, ys)
+behind_are g h xs ys same events = cc
 
 begun_once : (bytes : List ℕ) (g h : Header) (xs ys : List Event) (a b : Place) (r s : Refusal) → Begins bytes g xs a → StopsHere g xs a r → Begins bytes h ys b → StopsHere h ys b s
-    → SameRefusal r s (records_by (new_world g) xs) (records_by (new_world h) ys)
+    → SameRefusal r s (Some (g, xs)) (Some (h, ys))
 begun_once bytes g h xs ys a b r s p sa q sb =
     let same = headers_are g h p.start q.start (same_answer (header_at (start_of bytes)) (g, p.start) (h, q.start) p.head q.head) in
     let stops : StopsIn (world_by (new_world g) ys) b s = subst (λ (k : Header). StopsIn (world_by (new_world k) ys) b s) (sym same.0) sb in
@@ -75,16 +78,16 @@ begun_once bytes g h xs ys a b r s p sa q sb =
     (subst (λ (k : Header). AreAdmitted (new_world k) ys) (sym same.0) q.admitted) sa stops in (
       stops_once (world_by (new_world g) xs) a r s sa
           (subst (λ (es : List Event). StopsIn (world_by (new_world g) es) a s) (sym rest.0) (subst (λ (z : Place). StopsIn (world_by (new_world g) ys) z s) (sym rest.1) stops)),
-      ap (records_by (new_world g)) rest.0 ∙ ap (λ (k : Header). records_by (new_world k) ys) same.0,
+      behind_are g h xs ys same.0 rest.0,
     )
 
-pub one_refusal : (bytes : List ℕ) (r s : Refusal) (records others : List ℕ) → IsRefused bytes r records → IsRefused bytes s others → SameRefusal r s records others
-one_refusal bytes r s records others (inl a) (inl b) = (none_once bytes r s a.0 b.0, a.1 ∙ sym b.1)
-one_refusal bytes r s records others (inl a) (inr b) = absurd (begins_no_none bytes b.0 b.1 b.2 r b.3 a.0)
-one_refusal bytes r s records others (inr a) (inl b) = absurd (begins_no_none bytes a.0 a.1 a.2 s a.3 b.0)
-one_refusal bytes r s records others (inr a) (inr b) =
+pub one_refusal : (bytes : List ℕ) (r s : Refusal) (before others : Before) → IsRefused bytes r before → IsRefused bytes s others → SameRefusal r s before others
+one_refusal bytes r s before others (inl a) (inl b) = (none_once bytes r s a.0 b.0, a.1 ∙ sym b.1)
+one_refusal bytes r s before others (inl a) (inr b) = absurd (begins_no_none bytes b.0 b.1 b.2 r b.3 a.0)
+one_refusal bytes r s before others (inr a) (inl b) = absurd (begins_no_none bytes a.0 a.1 a.2 s a.3 b.0)
+one_refusal bytes r s before others (inr a) (inr b) =
     let same = begun_once bytes a.0 b.0 a.1 b.1 a.2 b.2 r s a.3 a.4 b.3 b.4 in
     (same.0, a.5 ∙ same.1 ∙ sym b.5)
 
-pub final_refusal : (bytes behind : List ℕ) (refusal : Refusal) (records : List ℕ) → IsRefused bytes refusal records → refusal.why ≢ why.Session cause.Truncated → IsRefused (bytes ++ behind) refusal records
-final_refusal bytes behind refusal records is late = refused_more bytes refusal records behind is (λ early. absurd (late early))
+pub final_refusal : (bytes behind : List ℕ) (refusal : Refusal) (before : Before) → IsRefused bytes refusal before → refusal.why ≢ why.Session cause.Truncated → IsRefused (bytes ++ behind) refusal before
+final_refusal bytes behind refusal before is late = refused_more bytes refusal before behind is (λ early. absurd (late early))

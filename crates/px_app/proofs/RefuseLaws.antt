@@ -12,10 +12,11 @@ use Rattle.px_session.proofs.SteadySession.{Closed, header_steady, event_steady}
 use Rattle.px_app.specs.declared.refusal.Refusal.{Refusal}
 use Rattle.px_app.specs.declared.refusal.Why.TheVariants as why
 use Rattle.px_app.specs.Refusal.{of_bytes}
-use Rattle.px_app.specs.Session.{NoneBegins, StopsHere, IsRefused}
+use Rattle.px_app.specs.Session.{NoneBegins, StopsHere, Before, IsRefused, HasHeader}
 use Rattle.px_app.specs.Ends.{Ends}
-use Rattle.px_app.specs.Replay.{WasRefused}
-use Rattle.px_app.proofs.BeginLaws.{event_more, begins_more, broken_more}
+use Rattle.px_app.specs.View.{Shown, lens_of}
+use Rattle.px_app.specs.Replay.{GivenBefore, WasRefused, WasUnnamed}
+use Rattle.px_app.proofs.BeginLaws.{header_more, event_more, begins_more, broken_more}
 
 abbrev pub IsEarly : Refusal → Type 0
 IsEarly refusal = refusal.why ≡ why.Session cause.Truncated
@@ -30,23 +31,45 @@ stops_more : (header : Header) (before : List Event) (here : Place) (refusal : R
 stops_more header before here refusal behind (inl none) ends = inl (none.0, broken_more Closed event_at event_steady here none.0 behind none.1 (λ early. ends (early_is refusal none.0 none.2 early)), none.2)
 stops_more header before here refusal behind (inr barred) ends = inr (barred.0, more barred.1 behind, barred.2, event_more here barred.0 barred.1 behind barred.3, barred.4, barred.5)
 
-pub refused_more : (bytes : List ℕ) (refusal : Refusal) (records behind : List ℕ) → IsRefused bytes refusal records → (IsEarly refusal → behind ≡ []) → IsRefused (bytes ++ behind) refusal records
-refused_more bytes refusal records behind (inl none) ends = inl (none_more bytes refusal behind none.0 ends, none.1)
-refused_more bytes refusal records behind (inr s) ends = inr (s.0, s.1, more s.2 behind, begins_more bytes s.0 s.1 s.2 behind s.3, stops_more s.0 s.1 s.2 refusal behind s.4 ends, s.5)
+pub refused_more : (bytes : List ℕ) (refusal : Refusal) (before : Before) (behind : List ℕ) → IsRefused bytes refusal before → (IsEarly refusal → behind ≡ []) → IsRefused (bytes ++ behind) refusal before
+refused_more bytes refusal before behind (inl none) ends = inl (none_more bytes refusal behind none.0 ends, none.1)
+refused_more bytes refusal before behind (inr s) ends = inr (s.0, s.1, more s.2 behind, begins_more bytes s.0 s.1 s.2 behind s.3, stops_more s.0 s.1 s.2 refusal behind s.4 ends, s.5)
 
 -- all that the source had is refused, where it tells
-refused_told : (bytes : List ℕ) (refusal : Refusal) (records : List ℕ) (before after : Option (List ℕ)) → before ≡ before_taking bytes after → IsRefused bytes refusal records → (IsEarly refusal → IsAtEnd after) → WhereTold before (λ all. IsRefused all refusal records)
-refused_told bytes refusal records before None same is ends = subst (λ (b : Option (List ℕ)). WhereTold b (λ all. IsRefused all refusal records)) (sym same) tt
-refused_told bytes refusal records before (Some left) same is ends = subst (λ (b : Option (List ℕ)). WhereTold b (λ all. IsRefused all refusal records)) (sym same) (refused_more bytes refusal records left is ends)
+refused_told : (bytes : List ℕ) (refusal : Refusal) (events : Before) (before after : Option (List ℕ)) → before ≡ before_taking bytes after → IsRefused bytes refusal events → (IsEarly refusal → IsAtEnd after) → WhereTold before (λ all. IsRefused all refusal events)
+refused_told bytes refusal events before None same is ends = subst (λ (b : Option (List ℕ)). WhereTold b (λ all. IsRefused all refusal events)) (sym same) tt
+refused_told bytes refusal events before (Some left) same is ends = subst (λ (b : Option (List ℕ)). WhereTold b (λ all. IsRefused all refusal events)) (sym same) (refused_more bytes refusal events left is ends)
 
-pub was_refused : (bytes : List ℕ) (refusal : Refusal) (records : List ℕ) (before after : Ends) → before.left ≡ before_taking bytes after.left → IsRefused bytes refusal records → (IsEarly refusal → IsAtEnd after.left) → after.held ≡ after_adding before.held records
-    → WasRefused refusal before after
-was_refused bytes refusal records before after departed is ends gained = record {
+pub was_refused : (shown : Shown) (bytes : List ℕ) (refusal : Refusal) (events : Before) (given : List ℕ) (before after : Ends) → before.left ≡ before_taking bytes after.left → IsRefused bytes refusal events → GivenBefore shown events given → (IsEarly refusal → IsAtEnd after.left) → after.held ≡ after_adding before.held given
+    → WasRefused shown refusal before after
+was_refused shown bytes refusal events given before after departed is gives ends gained = record {
   bytes = bytes;
-  records = records;
+  behind = events;
+  given = given;
   refused = is;
+  gives = gives;
   departed = departed;
   at_end = ends;
-  whole = refused_told bytes refusal records before.left after.left departed is ends;
+  whole = refused_told bytes refusal events before.left after.left departed is ends;
   gained = gained;
+}
+
+-- ---- a header without the sink
+
+has_more : (bytes : List ℕ) (header : Header) (behind : List ℕ) → HasHeader bytes header → HasHeader (bytes ++ behind) header
+has_more bytes header behind has = (more has.0 behind, header_more (start_of bytes) header has.0 behind has.1)
+
+has_told : (bytes : List ℕ) (header : Header) (before after : Option (List ℕ)) → before ≡ before_taking bytes after → HasHeader bytes header → WhereTold before (λ all. HasHeader all header)
+has_told bytes header before None same has = subst (λ (b : Option (List ℕ)). WhereTold b (λ all. HasHeader all header)) (sym same) tt
+has_told bytes header before (Some left) same has = subst (λ (b : Option (List ℕ)). WhereTold b (λ all. HasHeader all header)) (sym same) (has_more bytes header left has)
+
+pub was_unnamed : (shown : Shown) (bytes : List ℕ) (header : Header) (before after : Ends) → before.left ≡ before_taking bytes after.left → HasHeader bytes header → lens_of shown header.sinks ≡ None → after.held ≡ before.held → WasUnnamed shown before after
+was_unnamed shown bytes header before after departed has unnamed kept = record {
+  bytes = bytes;
+  header = header;
+  head = has;
+  unnamed = unnamed;
+  departed = departed;
+  whole = has_told bytes header before.left after.left departed has;
+  gained = kept;
 }

@@ -23,6 +23,7 @@ done_is ending.Usage e = absurd cc
 done_is ending.Memory e = absurd cc
 done_is ending.ReadFault e = absurd cc
 done_is ending.WriteFault e = absurd cc
+done_is ending.NoSuchSink e = absurd cc
 
 pub refused_is : (said : Ending) → status_of said ≡ status.Refused → (refusal : Refusal) × (said ≡ ending.Refused refusal)
 refused_is (ending.Refused refusal) e = (refusal, cc)
@@ -31,6 +32,7 @@ refused_is ending.Usage e = absurd cc
 refused_is ending.Memory e = absurd cc
 refused_is ending.ReadFault e = absurd cc
 refused_is ending.WriteFault e = absurd cc
+refused_is ending.NoSuchSink e = absurd cc
 
 pub read_fault_is : (said : Ending) → status_of said ≡ status.ReadFault → said ≡ ending.ReadFault
 read_fault_is ending.ReadFault e = cc
@@ -39,6 +41,7 @@ read_fault_is (ending.Refused refusal) e = absurd cc
 read_fault_is ending.Usage e = absurd cc
 read_fault_is ending.Memory e = absurd cc
 read_fault_is ending.WriteFault e = absurd cc
+read_fault_is ending.NoSuchSink e = absurd cc
 
 pub write_fault_is : (said : Ending) → status_of said ≡ status.WriteFault → said ≡ ending.WriteFault
 write_fault_is ending.WriteFault e = cc
@@ -47,12 +50,37 @@ write_fault_is (ending.Refused refusal) e = absurd cc
 write_fault_is ending.Usage e = absurd cc
 write_fault_is ending.Memory e = absurd cc
 write_fault_is ending.ReadFault e = absurd cc
+write_fault_is ending.NoSuchSink e = absurd cc
+
+pub no_such_sink_is : (said : Ending) → status_of said ≡ status.NoSuchSink → said ≡ ending.NoSuchSink
+no_such_sink_is ending.NoSuchSink e = cc
+no_such_sink_is ending.Done e = absurd cc
+no_such_sink_is (ending.Refused refusal) e = absurd cc
+no_such_sink_is ending.Usage e = absurd cc
+no_such_sink_is ending.Memory e = absurd cc
+no_such_sink_is ending.ReadFault e = absurd cc
+no_such_sink_is ending.WriteFault e = absurd cc
+
+pub usage_is : (said : Ending) → status_of said ≡ status.Usage → said ≡ ending.Usage
+usage_is ending.Usage e = cc
+usage_is ending.Done e = absurd cc
+usage_is (ending.Refused refusal) e = absurd cc
+usage_is ending.NoSuchSink e = absurd cc
+usage_is ending.Memory e = absurd cc
+usage_is ending.ReadFault e = absurd cc
+usage_is ending.WriteFault e = absurd cc
 
 done_no_memory : ending.Done ≡ ending.Memory → ⊥
 done_no_memory e = cc
 
 refused_no_memory : (refusal : Refusal) → ending.Refused refusal ≡ ending.Memory → ⊥
 refused_no_memory refusal e = cc
+
+unnamed_no_memory : ending.NoSuchSink ≡ ending.Memory → ⊥
+unnamed_no_memory e = cc
+
+usage_no_memory : ending.Usage ≡ ending.Memory → ⊥
+usage_no_memory e = cc
 
 read_no_memory : ending.ReadFault ≡ ending.Memory → ⊥
 read_no_memory e = cc
@@ -65,6 +93,12 @@ ok_no_write e = cc
 
 refused_no_write : status.Refused ≡ status.WriteFault → ⊥
 refused_no_write e = cc
+
+unnamed_no_write : status.NoSuchSink ≡ status.WriteFault → ⊥
+unnamed_no_write e = cc
+
+usage_no_write : status.Usage ≡ status.WriteFault → ⊥
+usage_no_write e = cc
 
 read_no_write : status.ReadFault ≡ status.WriteFault → ⊥
 read_no_write e = cc
@@ -100,6 +134,18 @@ module _ (ended : Ending) (answered : Status) (before after : Log) (r : Reported
       let s = logged_unless (λ e. refused_no_write (sym is ∙ e)) in
       let d = refused_is said (sym s.answer ∙ is) in
       (d.0, sym (said_is (λ e. refused_no_memory d.0 (sym d.1 ∙ e))) ∙ d.1, s.line ∙ ap (λ (x : Ending). after_adding before.held (line_of x)) d.1)
+
+  pub ended_no_such_sink : answered ≡ status.NoSuchSink → ended ≡ ending.NoSuchSink
+  ended_no_such_sink is =
+      let s = logged_unless (λ e. unnamed_no_write (sym is ∙ e)) in
+      let d = no_such_sink_is said (sym s.answer ∙ is) in
+      sym (said_is (λ e. unnamed_no_memory (sym d ∙ e))) ∙ d
+
+  pub ended_usage : answered ≡ status.Usage → ended ≡ ending.Usage
+  ended_usage is =
+      let s = logged_unless (λ e. usage_no_write (sym is ∙ e)) in
+      let d = usage_is said (sym s.answer ∙ is) in
+      sym (said_is (λ e. usage_no_memory (sym d ∙ e))) ∙ d
 
   pub ended_read_fault : answered ≡ status.ReadFault → (ended ≡ ending.ReadFault) × (after.faults ≡ before.faults)
   ended_read_fault is =

@@ -1,16 +1,10 @@
 -- What the status says where the words aren't those of the usage text.
-use Rattle.std.proofs.Common.{◌≡◌, ◌≢◌, ◌⊎◌, inl, inr, refl, sym, ◌∙◌}
+use Rattle.std.proofs.Common.{◌≡◌, ◌⊎◌, inl, inr, sym, ◌∙◌}
 use Rattle.px_types.specs.declared.status.Status.{Status}
 use Rattle.px_types.specs.declared.status.Status.TheVariants as status
-use Rattle.px_ends.specs.Told.{after_adding}
-use Rattle.px_types.specs.Faults.{Rose}
-use Rattle.px_ends.specs.Whole.{AddsFront}
-use Rattle.px_app.specs.declared.ending.Ending.{Ending}
 use Rattle.px_app.specs.declared.ending.Ending.TheVariants as ending
-use Rattle.px_app.specs.Ends.{Ends, Log}
-use Rattle.px_app.specs.Ending.{status_of, line_of, IsRunStatus}
-use Rattle.px_app.specs.Report.{Says, Reported}
-use Rattle.px_app.specs.Replay.{InputCounted}
+use Rattle.px_app.specs.Ends.{Log}
+use Rattle.px_app.specs.Report.{Reported}
 use Rattle.px_app.proofs.ReportLaws as report
 
 abbrev IsUsageOrFault : Status → Type 0
@@ -24,6 +18,10 @@ no_refused : (answered : Status) → IsUsageOrFault answered → answered ≡ st
 no_refused answered (inl usage) is = (let e : status.Usage ≡ status.Refused = sym usage ∙ is in cc)
 no_refused answered (inr fault) is = (let e : status.WriteFault ≡ status.Refused = sym fault ∙ is in cc)
 
+no_unnamed : (answered : Status) → IsUsageOrFault answered → answered ≡ status.NoSuchSink → ⊥
+no_unnamed answered (inl usage) is = (let e : status.Usage ≡ status.NoSuchSink = sym usage ∙ is in cc)
+no_unnamed answered (inr fault) is = (let e : status.WriteFault ≡ status.NoSuchSink = sym fault ∙ is in cc)
+
 no_memory : (answered : Status) → IsUsageOrFault answered → answered ≡ status.Memory → ⊥
 no_memory answered (inl usage) is = (let e : status.Usage ≡ status.Memory = sym usage ∙ is in cc)
 no_memory answered (inr fault) is = (let e : status.WriteFault ≡ status.Memory = sym fault ∙ is in cc)
@@ -31,9 +29,6 @@ no_memory answered (inr fault) is = (let e : status.WriteFault ≡ status.Memory
 no_read_fault : (answered : Status) → IsUsageOrFault answered → answered ≡ status.ReadFault → ⊥
 no_read_fault answered (inl usage) is = (let e : status.Usage ≡ status.ReadFault = sym usage ∙ is in cc)
 no_read_fault answered (inr fault) is = (let e : status.WriteFault ≡ status.ReadFault = sym fault ∙ is in cc)
-
-usage_no_write : ending.Usage ≡ ending.WriteFault → ⊥
-usage_no_write e = cc
 
 module _ (answered : Status) (before after : Log) (r : Reported ending.Usage answered before after) where
   pub usage_or_fault : IsUsageOrFault answered
@@ -51,27 +46,11 @@ module _ (answered : Status) (before after : Log) (r : Reported ending.Usage ans
   pub usage_not_refused : answered ≡ status.Refused → ⊥
   usage_not_refused = no_refused answered usage_or_fault
 
+  pub usage_not_unnamed : answered ≡ status.NoSuchSink → ⊥
+  usage_not_unnamed = no_unnamed answered usage_or_fault
+
   pub usage_not_memory : answered ≡ status.Memory → ⊥
   usage_not_memory = no_memory answered usage_or_fault
 
   pub usage_not_read_fault : answered ≡ status.ReadFault → ⊥
   usage_not_read_fault = no_read_fault answered usage_or_fault
-
-  pub usage_quiet : answered ≢ status.WriteFault → after.faults ≡ before.faults
-  usage_quiet other = (report.logged_unless ending.Usage answered before after r other).quiet
-
-  pub usage_line : answered ≢ status.WriteFault → (e : Ending) × (answered ≡ status_of e) × (after.held ≡ after_adding before.held (line_of e))
-  usage_line other = report.logged ending.Usage answered before after r other
-
-  pub usage_status : IsRunStatus answered
-  usage_status = elim usage_or_fault [
-    | inl usage ↦ (ending.Usage, usage)
-    | inr fault ↦ (ending.WriteFault, fault)
-  ]
-
-  pub usage_cut : (ends : Ends) → answered ≡ status.WriteFault
-      → (ended : Ending) × (said : Ending) × Says ended said × InputCounted ended ends ends × AddsFront (line_of said) before.held after.held × Rose before.faults after.faults
-  usage_cut ends is = elim (report.ended_write_fault ending.Usage answered before after r is) [
-    | inl whole ↦ absurd (usage_no_write whole.0)
-    | inr cut ↦ (ending.Usage, cut.0, cut.1, (refl, refl), cut.2, cut.3)
-  ]

@@ -1,18 +1,86 @@
--- A list of one word is that word.
-use Rattle.std.proofs.Common.{◌≡◌, ℕ, ◌<◌, ◌≤◌, Bool, bytes_eq, List, [], ◌∷◌, length, get_or, map, string_bytes, String, Global, Decides, sym, ap, ◌∙◌, arith}
-use Rattle.std.proofs.lemmas.Slice.Eq.{bytes_eq-Decides}
+-- The words of the command line, one by one, and the numbers that they say.
+use Rattle.std.proofs.Common.{◌≡◌, ℕ, suc, ◌+◌, ◌*◌, ◌-◌, ◌^◌, ◌<◌, ◌≤◌, Bool, true, false, List, [], ◌∷◌, length, get_or, drop, map, string_bytes, String, Global, Option, None, Some, refl, sym, ap, ◌∙◌, arith}
+use Rattle.std.specs.Prelude.{cond, nat_lt, nat_le}
+use Rattle.std.proofs.Math.Seq.{drop-cons}
+use Rattle.std.proofs.lemmas.Option.{same_Some}
+use Rattle.std.proofs.lemmas.Bool.{le-ltb, lt-ltb, lt-leb, le-leb, ltb-true, ltb-false, and_left, and_right, and_from}
+use Rattle.px_app.specs.Words.{is_digit, digits_behind, number_in, in_64_bits, of_one, of_three, meaning_in}
 
-head_of : List (List ℕ) → List ℕ
-head_of [] = []
-head_of (x ∷ xs) = x
+pub one_word : (words : List (String Global)) (word : String Global) → 1 ≤ length words → length words < 2 → word ≡ get_or words 0 word → meaning_in (map string_bytes words) ≡ of_one (string_bytes word)
+one_word [] word some few is = absurd (omega arith)
+one_word (w ∷ []) word some few is = ap (λ (v : String Global). of_one (string_bytes v)) (sym is)
+one_word (w ∷ v ∷ more) word some few is = absurd (omega arith)
 
-decided : (w : String Global) (text : List ℕ) (r : Bool) → r ≡ bytes_eq (string_bytes w) text → Decides r (map string_bytes (w ∷ []) ≡ text ∷ [])
-unfolding head_of
-decided w text r is =
-    let d = bytes_eq-Decides (string_bytes w) text in
-    (λ yes. ap (λ (t : List ℕ). t ∷ []) (d.0 (sym is ∙ yes)), λ same. is ∙ d.1 (ap head_of same))
+pub three_words : (words : List (String Global)) (a b c : String Global) → 3 ≤ length words → length words < 4 → a ≡ get_or words 0 a → b ≡ get_or words 1 b → c ≡ get_or words 2 c → meaning_in (map string_bytes words) ≡ of_three (string_bytes a) (string_bytes b) (string_bytes c)
+three_words [] a b c some few p q r = absurd (omega arith)
+three_words (x ∷ []) a b c some few p q r = absurd (omega arith)
+three_words (x ∷ y ∷ []) a b c some few p q r = absurd (omega arith)
+three_words (x ∷ y ∷ z ∷ []) a b c some few p q r =
+    ap (λ (v : String Global). of_three (string_bytes v) (string_bytes y) (string_bytes z)) (sym p)
+    ∙ ap (λ (v : String Global). of_three (string_bytes a) (string_bytes v) (string_bytes z)) (sym q)
+    ∙ ap (λ (v : String Global). of_three (string_bytes a) (string_bytes b) (string_bytes v)) (sym r)
+three_words (x ∷ y ∷ z ∷ w ∷ more) a b c some few p q r = absurd (omega arith)
 
-pub one_word : (words : List (String Global)) (word : String Global) (text : List ℕ) (r : Bool) → 1 ≤ length words → length words < 2 → word ≡ get_or words 0 word → r ≡ bytes_eq (string_bytes word) text → Decides r (map string_bytes words ≡ text ∷ [])
-one_word [] word text r some few first is = absurd (omega arith)
-one_word (w ∷ []) word text r some few first is = decided w text r (is ∙ ap (λ (v : String Global). bytes_eq (string_bytes v) text) first)
-one_word (w ∷ v ∷ more) word text r some few first is = absurd (omega arith)
+pub other_words : (words : List (String Global)) → (length words ≡ 1 → ⊥) → (length words ≡ 3 → ⊥) → meaning_in (map string_bytes words) ≡ None
+other_words [] one three = refl
+other_words (x ∷ []) one three = absurd (one refl)
+other_words (x ∷ y ∷ []) one three = refl
+other_words (x ∷ y ∷ z ∷ []) one three = absurd (three refl)
+other_words (x ∷ y ∷ z ∷ w ∷ more) one three = refl
+
+-- ---- numbers
+
+pub number_starts : (word : List ℕ) → 0 < length word → number_in word ≡ digits_behind 0 word
+number_starts [] some = absurd (omega arith)
+number_starts (c ∷ rest) some = refl
+
+-- a digit, or none, at the front
+digits_at : (n c : ℕ) (rest : List ℕ) (b : Bool) → is_digit c ≡ b → digits_behind n (c ∷ rest) ≡ cond b (digits_behind (n * 10 + (c - 0x30)) rest) None
+digits_at n c rest b is = ap (λ (d : Bool). cond d (digits_behind (n * 10 + (c - 0x30)) rest) None) is
+
+module _ (word : List ℕ) (i n d : ℕ) (inside : i < length word) where
+  front : digits_behind n (drop i word) ≡ digits_behind n (get_or word i d ∷ drop (suc i) word)
+  front = ap (digits_behind n) (drop-cons word i d inside)
+
+  digit_none : is_digit (get_or word i d) ≡ false → digits_behind n (drop i word) ≡ None
+  digit_none other = front ∙ digits_at n (get_or word i d) (drop (suc i) word) false other
+
+  pub digit_below : get_or word i d < 0x30 → digits_behind n (drop i word) ≡ None
+  digit_below low = digit_none (and_left (nat_le 0x30 (get_or word i d)) (nat_le (get_or word i d) 0x39) (lt-leb 0x30 (get_or word i d) low))
+
+  pub digit_above : 0x39 < get_or word i d → digits_behind n (drop i word) ≡ None
+  digit_above high = digit_none (and_right (nat_le 0x30 (get_or word i d)) (nat_le (get_or word i d) 0x39) (lt-leb (get_or word i d) 0x39 high))
+
+  pub digit_more : 0x30 ≤ get_or word i d → get_or word i d ≤ 0x39 → digits_behind n (drop i word) ≡ digits_behind (n * 10 + (get_or word i d - 0x30)) (drop (suc i) word)
+  digit_more low high = front ∙ digits_at n (get_or word i d) (drop (suc i) word) true (and_from (nat_le 0x30 (get_or word i d)) (nat_le (get_or word i d) 0x39) (le-leb 0x30 (get_or word i d) low) (le-leb (get_or word i d) 0x39 high))
+
+none-some-number : (v : ℕ) → (let o : Option ℕ = None in o) ≡ Some v → ⊥
+none-some-number v e = cc
+
+-- more digits make no smaller number
+pub at_least : (n v : ℕ) (digits : List ℕ) → digits_behind n digits ≡ Some v → n ≤ v
+at_least n v [] is = (let e = same_Some n v is in omega (arith, e))
+at_least n v (c ∷ rest) is = by_digit (is_digit c) refl (λ e. at_least (n * 10 + (c - 0x30)) v rest e)
+  where
+    by_digit : (b : Bool) → is_digit c ≡ b → (digits_behind (n * 10 + (c - 0x30)) rest ≡ Some v → n * 10 + (c - 0x30) ≤ v) → n ≤ v
+    by_digit true digit more = (let h = more (sym (digits_at n c rest true digit) ∙ is) in omega (arith, h))
+    by_digit false other more = absurd (none-some-number v (sym (digits_at n c rest false other) ∙ is))
+
+pub not_below : (a b : ℕ) → (a < b → ⊥) → b ≤ a
+not_below a b never = by (nat_lt a b) refl
+  where
+    by : (t : Bool) → nat_lt a b ≡ t → b ≤ a
+    by true is = absurd (never (ltb-true a b is))
+    by false is = ltb-false a b is
+
+pub past_64_bits : (n : ℕ) (digits : List ℕ) → 2 ^ 64 ≤ n → in_64_bits (digits_behind n digits) ≡ None
+past_64_bits n digits past = by (digits_behind n digits) refl
+  where
+    by : (o : Option ℕ) → digits_behind n digits ≡ o → in_64_bits o ≡ None
+    by None is = refl
+    by (Some v) is = (let h = at_least n v digits is in
+        let e : nat_lt v (2 ^ 64) ≡ false = le-ltb v (2 ^ 64) (omega (arith, h, past)) in
+        ap (λ (b : Bool). cond b (Some v) None) e)
+
+pub within_64_bits : (n : ℕ) → n < 2 ^ 64 → in_64_bits (Some n) ≡ Some n
+within_64_bits n fits = ap (λ (b : Bool). cond b (Some n) None) (lt-ltb n (2 ^ 64) fits)

@@ -13,6 +13,7 @@ status_of ending.Usage = status.Usage
 status_of ending.Memory = status.Memory
 status_of ending.ReadFault = status.ReadFault
 status_of ending.WriteFault = status.WriteFault
+status_of ending.NoSuchSink = status.NoSuchSink
 
 -- the statuses of a run are those of the endings
 abbrev pub IsRunStatus : Status → Type 0
@@ -30,6 +31,7 @@ line_of ending.Usage = codes "pulse_rw: usage: replay [--raw SINK], summary, gen
 line_of ending.Memory = codes "pulse_rw: out of memory\n"
 line_of ending.ReadFault = codes "pulse_rw: read failed\n"
 line_of ending.WriteFault = codes "pulse_rw: write failed\n"
+line_of ending.NoSuchSink = codes "pulse_rw: no such sink\n"
 
 abbrev pub IsRefusal : Ending → Type 0
 IsRefusal (ending.Refused refusal) = ⊤

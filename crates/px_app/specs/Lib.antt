@@ -1,6 +1,8 @@
 pub mod Ends
 pub mod Refusal
 pub mod Session
+pub mod Summary
+pub mod View
 pub mod Replay
 pub mod Ending
 pub mod Report

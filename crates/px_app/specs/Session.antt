@@ -1,5 +1,5 @@
--- What the bytes of a session are for a replay: they are played whole, or refused, with the records of the events before.
-use Rattle.std.specs.Prelude.{◌≡◌, ℕ, List, [], Ok, Err, Some, ◌⊎◌}
+-- What the bytes of a session are for a replay: they are played whole, or refused, behind the events before.
+use Rattle.std.specs.Prelude.{◌≡◌, ℕ, List, Ok, Err, Option, None, Some, ◌⊎◌}
 use Rattle.px_session.specs.declared.header.Header.{Header}
 use Rattle.px_session.specs.declared.event.Event.{Event}
 use Rattle.px_session.specs.declared.event.Step.TheVariants as step
@@ -11,7 +11,7 @@ use Rattle.px_session.specs.SessionLaw.{Lead}
 use Rattle.px_world.specs.declared.fault.WorldFault.{WorldFault}
 use Rattle.px_world.specs.World.{World, new_world}
 use Rattle.px_world.specs.Admission.{refusal_of}
-use Rattle.px_world.specs.Output.{world_by, records_by, AreAdmitted}
+use Rattle.px_world.specs.Output.{world_by, AreAdmitted}
 use Rattle.px_app.specs.declared.refusal.Refusal.{Refusal}
 use Rattle.px_app.specs.Refusal.{of_bytes, of_event}
 
@@ -41,8 +41,16 @@ StopsIn w here refusal =
 abbrev pub StopsHere : Header → List Event → Place → Refusal → Type 0
 StopsHere header before here refusal = StopsIn (world_by (new_world header) before) here refusal
 
--- the bytes are refused so, behind these records
-abbrev pub IsRefused : List ℕ → Refusal → List ℕ → Type 0
-IsRefused bytes refusal records =
-    (NoneBegins bytes refusal × (records ≡ []))
-    ⊎ ((header : Header) × (before : List Event) × (here : Place) × Begins bytes header before here × StopsHere header before here refusal × (records ≡ records_by (new_world header) before))
+-- what stands before a refusal: nothing, or a header and events that were played
+abbrev pub Before : Type 0
+Before = Option (Header × List Event)
+
+-- the bytes are refused so, behind these events
+abbrev pub IsRefused : List ℕ → Refusal → Before → Type 0
+IsRefused bytes refusal before =
+    (NoneBegins bytes refusal × (before ≡ None))
+    ⊎ ((header : Header) × (events : List Event) × (here : Place) × Begins bytes header events here × StopsHere header events here refusal × (before ≡ Some (header, events)))
+
+-- a header stands first in the bytes
+abbrev pub HasHeader : List ℕ → Header → Type 0
+HasHeader bytes header = (start : Place) × (header_at (start_of bytes) ≡ Ok (header, start))

@@ -1,5 +1,6 @@
 -- How far a replay has come, and what reading and playing an event leaves.
-use Rattle.std.specs.Prelude.{◌≡◌, ℕ, cond, nat_eq, true, List, [], ◌∷◌, Option, None, Some, Result, Ok, Err, ⊤}
+use Rattle.std.specs.Prelude.{◌≡◌, ◌⊎◌, ℕ, ◌≤◌, ◌*◌, ◌^◌, cond, nat_eq, Bool, true, false, List, [], ◌++◌, Option, None, Some, Result, Ok, Err, ⊤}
+use Rattle.std.specs.List.{flat_map}
 use Rattle.px_ends.specs.Told.{before_taking, after_adding}
 use Rattle.px_types.specs.Faults.{Rose}
 use Rattle.px_ends.specs.Whole.{AddsFront}
@@ -11,23 +12,28 @@ use Rattle.px_session.specs.declared.event.Step.TheVariants as step
 use Rattle.px_session.specs.declared.fault.ReadError.{ReadError}
 use Rattle.px_session.specs.declared.fault.ReadError.TheVariants as error
 use Rattle.px_session.specs.Reader.{place_with}
-use Rattle.px_session.specs.Spelling.{end_byte}
 use Rattle.px_session.specs.Output.{played_record}
+use Rattle.px_core.specs.declared.effect.Effect.{Effect}
 use Rattle.px_world.specs.declared.fault.WorldFault.{WorldFault}
 use Rattle.px_world.specs.declared.fault.WorldFault.TheVariants.{NoMemory}
 use Rattle.px_world.specs.World.{World, new_world}
 use Rattle.px_world.specs.Running.{Running, StandsFor}
 use Rattle.px_world.specs.Admission.{refusal_of}
 use Rattle.px_world.specs.Event.{world_after}
-use Rattle.px_world.specs.Output.{world_by, records_of, records_by}
+use Rattle.px_world.specs.Output.{world_by, effect_record}
 use Rattle.px_app.specs.declared.refusal.Why.TheVariants as why
 use Rattle.px_app.specs.declared.ending.Ending.{Ending}
 use Rattle.px_app.specs.declared.ending.Ending.TheVariants as ending
 use Rattle.px_app.specs.declared.playing.Playing.{Playing}
+use Rattle.px_app.specs.declared.view.Lens.{Lens}
+use Rattle.px_app.specs.declared.view.Lens.TheVariants as lens
+use Rattle.px_app.specs.declared.tally.Tally.{Tally}
+use Rattle.px_app.specs.Summary.{tally_by}
+use Rattle.px_app.specs.View.{Shown, lens_of, part_of, parts_by}
 use Rattle.px_app.specs.Refusal.{of_bytes, of_event}
 use Rattle.px_app.specs.Session.{Begins}
-use Rattle.px_app.specs.Ends.{Ends, AreQuiet}
-use Rattle.px_app.specs.Replay.{InputPlayed, InputCounted}
+use Rattle.px_app.specs.Ends.{Ends}
+use Rattle.px_app.specs.Replay.{InputPlayed}
 
 -- ---- reading
 
@@ -47,28 +53,23 @@ unread (error.Refused at cause) = ending.Refused (of_bytes (record { at = at; ca
 unread error.Failed = ending.ReadFault
 unread error.NoMemory = ending.Memory
 
+-- how the reads were counted where a replay ends; no write has failed by then
+abbrev pub EndReads : Ending → ℕ → ℕ → Type 0
+EndReads ending.ReadFault before now = Rose before now
+EndReads ending.WriteFault before now = ⊥
+EndReads other before now = now ≡ before
+
+abbrev pub StepReads : {A : Type 0} → Result A Ending → ℕ → ℕ → Type 0
+StepReads (Ok done) before now = now ≡ before
+StepReads (Err ended) before now = EndReads ended before now
+
 -- ---- writing
 
--- the count of writes that failed rose where the run ends for that; nothing was read
-abbrev pub EndCounts : Ending → ℕ → ℕ → Type 0
-EndCounts ending.WriteFault before now = Rose before now
-EndCounts ending.ReadFault before now = ⊥
-EndCounts other before now = now ≡ before
-
-abbrev pub WriteCounts : Result Unit Ending → ℕ → ℕ → Type 0
-WriteCounts (Ok done) before now = now ≡ before
-WriteCounts (Err ended) before now = EndCounts ended before now
-
--- a write ends a run only where it failed
-abbrev pub IsUnwritten : Ending → Type 0
-IsUnwritten ending.WriteFault = ⊤
-IsUnwritten other = ⊥
-
--- the end byte was written, or none of it
-abbrev pub Closes : Ending → Option (List ℕ) → Option (List ℕ) → Type 0
-Closes ending.Done before now = now ≡ after_adding before (end_byte ∷ [])
-Closes ending.WriteFault before now = AddsFront (end_byte ∷ []) before now
-Closes other before now = ⊥
+-- the last part of the output was added, or a front of it
+abbrev pub Closes : Ending → List ℕ → Option (List ℕ) → Option (List ℕ) → Type 0
+Closes ending.Done part before now = now ≡ after_adding before part
+Closes ending.Memory part before now = AddsFront part before now
+Closes other part before now = ⊥
 
 -- the sink of a turn
 abbrev pub turn_sink : Event → Option ℕ
@@ -80,18 +81,29 @@ abbrev pub played_part : Option ℕ → ℕ → List ℕ → List ℕ
 played_part None frames bytes = []
 played_part (Some sink) frames bytes = cond (nat_eq frames 0) [] (played_record sink frames bytes)
 
+-- the bytes that a turn of the sink with an index consumed
+abbrev pub raw_part : Option ℕ → ℕ → List ℕ → List ℕ
+raw_part None k bytes = []
+raw_part (Some sink) k bytes = cond (nat_eq sink k) bytes []
+
+-- what is shown of an event that did this
+abbrev pub shown_part : Lens → Option ℕ → List Effect → ℕ → List ℕ → List ℕ
+shown_part lens.Records sink effects frames played = flat_map effect_record effects ++ played_part sink frames played
+shown_part (lens.Raw k) sink effects frames played = raw_part sink k played
+shown_part lens.Summary sink effects frames played = []
+
 -- ---- an event
 
--- the world admits it, and has done it, and its records were added
-pub record EventDone (w : World) (e : Event) (world : Running) (before now : Option (List ℕ)) : Type 0 where
+-- the world admits it, and has done it, and what is shown of it was added
+pub record EventDone (l : Lens) (w : World) (e : Event) (world : Running) (before now : Option (List ℕ)) : Type 0 where
   pub admitted : refusal_of w e ≡ None
   pub stands : StandsFor world (world_after w e)
-  pub gained : now ≡ after_adding before (records_of w e)
+  pub gained : now ≡ after_adding before (part_of l w e)
 
--- the world admits it, and a front of its records was added
-pub record EventCut (w : World) (e : Event) (before now : Option (List ℕ)) : Type 0 where
+-- the world admits it, and a front of what is shown of it was added
+pub record EventCut (l : Lens) (w : World) (e : Event) (before now : Option (List ℕ)) : Type 0 where
   pub admitted : refusal_of w e ≡ None
-  pub gained : AddsFront (records_of w e) before now
+  pub gained : AddsFront (part_of l w e) before now
 
 -- how a fault of the world at an event ends the run
 abbrev pub barred : ℕ → ℕ → WorldFault → Ending
@@ -99,40 +111,53 @@ barred at number NoMemory = ending.Memory
 barred at number fault = ending.Refused (record { at = at; why = why.World fault number })
 
 -- why the event, whose kind byte is at an offset, ends the run
-abbrev pub EventEnds : Ending → ℕ → World → Event → Option (List ℕ) → Option (List ℕ) → Type 0
-EventEnds (ending.Refused refusal) at w e before now = (fault : WorldFault) × (refusal_of w e ≡ Some fault) × (refusal ≡ of_event at e fault) × (now ≡ before)
-EventEnds ending.Memory at w e before now = now ≡ before
-EventEnds ending.WriteFault at w e before now = EventCut w e before now
-EventEnds other at w e before now = ⊥
+abbrev pub EventEnds : Ending → ℕ → Lens → World → Event → Option (List ℕ) → Option (List ℕ) → Type 0
+EventEnds (ending.Refused refusal) at l w e before now = (fault : WorldFault) × (refusal_of w e ≡ Some fault) × (refusal ≡ of_event at e fault) × (now ≡ before)
+EventEnds ending.Memory at l w e before now = (now ≡ before) ⊎ EventCut l w e before now
+EventEnds other at l w e before now = ⊥
 
-abbrev pub EventPlayed : Result Unit Ending → ℕ → World → Event → Running → Option (List ℕ) → Option (List ℕ) → Type 0
-EventPlayed (Ok done) at w e world before now = EventDone w e world before now
-EventPlayed (Err ended) at w e world before now = EventEnds ended at w e before now
+abbrev pub EventPlayed : Result Unit Ending → ℕ → Lens → World → Event → Running → Option (List ℕ) → Option (List ℕ) → Type 0
+EventPlayed (Ok done) at l w e world before now = EventDone l w e world before now
+EventPlayed (Err ended) at l w e world before now = EventEnds ended at l w e before now
+
+-- an event ends a replay only where it is refused, or there is no memory
+abbrev pub IsEventEnd : Ending → Type 0
+IsEventEnd (ending.Refused refusal) = ⊤
+IsEventEnd ending.Memory = ⊤
+IsEventEnd other = ⊥
 
 -- ---- a replay
 
--- The bytes that were read so far begin with a header and with events that were played: the reader stands behind them, the world is the one that they left, and the output gained their records.
-pub record Reached (playing : Playing) (first now : Ends) : Type 0 where
+-- how it ends where its last piece is written, or isn't: the first cause decides
+abbrev pub ending_with : Ending → Bool → Ending
+ending_with ending.ReadFault written = ending.ReadFault
+ending_with other true = other
+ending_with other false = ending.WriteFault
+
+-- The counts leave room for one more of each for each byte of a session.
+pub record AreFew (t : Tally) (at : ℕ) : Type 0 where
+  pub events : t.events ≤ at
+  pub sent : t.sent ≤ t.events * 2 ^ 64
+  pub closed : t.closed ≤ t.events * 2 ^ 64
+
+-- The bytes that were read so far begin with a header and with events that were played: the reader stands behind them, the world is the one that they left, they are counted, and the output gained what is shown of them, once what waits is written.
+pub record Reached (shown : Shown) (playing : Playing) (first now : Ends) : Type 0 where
   pub bytes : List ℕ
-  pub header : Header
   pub events : List Event
   pub departed : first.left ≡ before_taking bytes now.left
-  pub begins : Begins bytes header events (place_with playing.reader playing.reader.ahead)
+  pub begins : Begins bytes playing.header events (place_with playing.reader playing.reader.ahead)
   pub begun : playing.reader.begun ≡ true
-  pub stands : StandsFor playing.world (world_by (new_world header) events)
-  pub gained : now.held ≡ after_adding first.held (records_by (new_world header) events)
+  pub looks : lens_of shown playing.header.sinks ≡ Some playing.lens
+  pub stands : StandsFor playing.world (world_by (new_world playing.header) events)
+  pub counted : playing.tally ≡ tally_by (new_world playing.header) events
+  pub gained : now.held ≡ after_adding first.held (parts_by playing.lens (new_world playing.header) events)
 
 -- a replay has begun, or has ended
-abbrev pub Begun : Result Playing Ending → Ends → Ends → Type 0
-Begun (Ok playing) first now = Reached playing first now
-Begun (Err ended) first now = InputPlayed ended first now
+abbrev pub Begun : Shown → Result Playing Ending → Ends → Ends → Type 0
+Begun shown (Ok playing) first now = Reached shown playing first now
+Begun shown (Err ended) first now = InputPlayed shown ended first now
 
 -- a step of a replay: it has come further, or has ended
-abbrev pub Stepped : Result Unit Ending → Playing → Ends → Ends → Type 0
-Stepped (Ok done) playing first now = Reached playing first now
-Stepped (Err ended) playing first now = InputPlayed ended first now
-
--- no call failed, or the one that ended it
-abbrev pub Counts : {A : Type 0} → Result A Ending → Ends → Ends → Type 0
-Counts (Ok done) before now = AreQuiet before now
-Counts (Err ended) before now = InputCounted ended before now
+abbrev pub Stepped : Shown → Result Unit Ending → Playing → Ends → Ends → Type 0
+Stepped shown (Ok done) playing first now = Reached shown playing first now
+Stepped shown (Err ended) playing first now = InputPlayed shown ended first now

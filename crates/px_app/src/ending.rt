@@ -21,6 +21,8 @@ pub enum Ending {
     ReadFault,
     /// A write of the output or the log failed.
     WriteFault,
+    /// No sink of the session's header has the name that was asked for.
+    NoSuchSink,
 }
 
 impl Ending {
@@ -35,6 +37,7 @@ impl Ending {
             Ending::Memory => Status::Memory,
             Ending::ReadFault => Status::ReadFault,
             Ending::WriteFault => Status::WriteFault,
+            Ending::NoSuchSink => Status::NoSuchSink,
         }
     }
 }

@@ -1,4 +1,4 @@
-//! The program's top call, `run`, and what it does by the words of the command line: `replay` plays a recorded session.
+//! The program's top call, `run`, and what it does by the words of the command line: `replay` plays a recorded session, `gen` makes one.
 //! It exports these two, `View`, `Ending`, the `Refusal`s of a session, `report`, which writes to a log how a run ended, and the
 //! laws on inputs and refusals.
 #![tactic(auto)]
@@ -6,16 +6,22 @@
 mod ending;
 mod law;
 mod log;
+mod making;
 mod playing;
 mod program;
 mod reading;
 mod records;
 mod refusal;
 mod replaying;
+mod summary;
+mod tally;
+mod view;
+mod words;
 
 pub use crate::log::report;
 pub use ending::Ending;
 pub use law::{inputs_are_played_or_refused, refusals_are_final};
 pub use program::run;
 pub use refusal::{Refusal, Why};
-pub use replaying::{View, replay};
+pub use replaying::replay;
+pub use view::View;

@@ -25,6 +25,7 @@ fn fixed_line(ended: Ending) -> &'static [u8]
         Ending::Memory => b"pulse_rw: out of memory\n",
         Ending::ReadFault => b"pulse_rw: read failed\n",
         Ending::WriteFault => b"pulse_rw: write failed\n",
+        Ending::NoSuchSink => b"pulse_rw: no such sink\n",
     }
 }
 

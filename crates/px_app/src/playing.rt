@@ -1,18 +1,26 @@
 //! A replay under way: the reader of the session, and the world that its events are played in.
 
-ghost use Rattle.std.specs.Prelude.{◌≡◌, ◌<◌, ◌≤◌, ◌^◌, ℕ, List, Option, true, IfOk, OnOk};
+ghost use Rattle.std.specs.Prelude.{◌≡◌, ◌<◌, ◌≤◌, ◌^◌, ℕ, List, [], Option, true, ◌+◌, ◌-◌, IfOk, OnOk, IfErr};
+ghost use Rattle.px_ends.specs.Told.{after_adding};
 ghost use Rattle.px_world.specs.World.{World as SpecWorld};
 ghost use Rattle.px_world.specs.Running.{StandsFor};
-ghost use Rattle.px_app.specs.Ends.{Ends, ends_of};
+ghost use Rattle.px_world.specs.Event.{effects_after};
+ghost use Rattle.px_app.specs.Ends.{Ends, ends_of, Grew};
+ghost use Rattle.px_app.specs.Summary.{tallied};
+ghost use Rattle.px_app.specs.View.{Shown, shown_of, ending_of};
 ghost use Rattle.px_app.specs.Replay.{InputPlayed, InputCounted};
-ghost use Rattle.px_app.specs.Step.{turn_sink, barred, WriteCounts, EndCounts, Closes, EventPlayed, Reached, Begun, Stepped, Counts};
+ghost use Rattle.px_app.specs.Step.{turn_sink, barred, Closes, EventPlayed, EndReads, StepReads, IsEventEnd, ending_with, AreFew, Reached, Begun, Stepped};
 
 use crate::ending::Ending;
 use crate::reading::{next_event, next_header, unread};
 use crate::records::write_outcome;
 use crate::refusal::{Refusal, Why, number_of};
-use px_ends::{Sink, Source};
-use px_session::{Event, Reader, write_end};
+use crate::summary::summary;
+use crate::tally::Tally;
+use crate::view::{Lens, View, lens_of};
+use px_ends::{Sink, Source, write_all};
+use px_pieces::Pieces;
+use px_session::{Event, Header, Reader, write_end};
 use px_world::{World, WorldFault};
 use std::alloc::Global;
 
@@ -20,7 +28,12 @@ use std::alloc::Global;
 #[derive(Drop)]
 pub(crate) struct Playing {
     reader: Reader,
+    header: Header,
+    lens: Lens,
     world: World,
+    tally: Tally,
+    // What is shown and not written yet.
+    pieces: Pieces,
 }
 
 // The sink of a turn.
@@ -46,106 +59,179 @@ fn barred(at: u64, number: u32, fault: WorldFault) -> Ending
     }
 }
 
-// Plays an event whose kind byte is at this offset, and writes its records.
-fn play_event<K: Sink>(
+// Writes what is shown of a session behind its last event.
+fn close<K: Sink>(
     alloc: Global,
-    at: u64,
-    world: &mut World,
-    e: Event,
+    lens: Lens,
+    tally: Tally,
+    header: &Header,
+    world: &World,
     output: &mut K,
-) -> Result<(), Ending>
-    ensures played { (w : SpecWorld) → StandsFor world.old w → EventPlayed result at w e world.new (K.held output.old) (K.held output.new) }
-    ensures counts { WriteCounts result (K.faults output.old) (K.faults output.new) }
+) -> Ending
+    ensures { Closes result (ending_of lens tally header.now.sinks world.now.mixers) (K.held output.old) (K.held output.new) }
 {
-    let number = number_of(&e);
-    let sink = turn_sink(&e);
-    match world.event(alloc, e) {
-        Ok(outcome) => write_outcome(output, sink, &outcome),
-        Err(fault) => Err(barred(at, number, fault)),
+    let written = match lens {
+        Lens::Records => write_end(output).is_ok(),
+        Lens::Raw(_) => true,
+        Lens::Summary => match summary(alloc, tally, header.sinks.as_slice(), world) {
+            Ok(text) => write_all(output, text.as_slice()).is_ok(),
+            Err(_) => false,
+        },
+    };
+    if written {
+        Ending::Done
+    } else {
+        Ending::Memory
     }
 }
 
-// Writes the end byte.
-fn close<K: Sink>(output: &mut K) -> Ending
-    ensures closes { Closes result (K.held output.old) (K.held output.new) }
-    ensures counts { EndCounts result (K.faults output.old) (K.faults output.new) }
+// How a replay ends whose last piece was written, or wasn't. The first cause that was met decides.
+fn ending_with(ended: Ending, is_written: bool) -> Ending
+    ensures { result ≡ ending_with ended is_written }
 {
-    match write_end(output) {
-        Ok(()) => Ending::Done,
-        Err(_) => Ending::WriteFault,
+    match ended {
+        Ending::ReadFault => ended,
+        _ if is_written => ended,
+        _ => Ending::WriteFault,
     }
 }
 
 impl Playing {
     // Reads the header, and makes its world.
-    fn new<S: Source>(alloc: Global, input: &mut S) -> Result<Playing, Ending>
-        ensures begun { (held : Option (List ℕ)) (written : ℕ) → Begun result (ends_of (S.left input.old) (S.faults input.old) held written) (ends_of (S.left input.new) (S.faults input.new) held written) }
+    fn new<S: Source>(alloc: Global, view: View<'_>, input: &mut S) -> Result<Playing, Ending>
+        ensures begun { (held : Option (List ℕ)) (written : ℕ) → Begun (shown_of view.entry) result
+            (ends_of (S.left input.old) (S.faults input.old) held written) (ends_of (S.left input.new) (S.faults input.new) held written) }
         ensures ready { IfOk result (λ playing. playing.reader.begun ≡ true) }
-        ensures counts { (held : Option (List ℕ)) (written : ℕ) → Counts result (ends_of (S.left input.old) (S.faults input.old) held written) (ends_of (S.left input.new) (S.faults input.new) held written) }
+        ensures few { IfOk result (λ playing. AreFew playing.tally playing.reader.at) }
+        ensures empty { IfOk result (λ playing. playing.pieces.bytes ≡ []) }
+        ensures counts { StepReads result (S.faults input.old) (S.faults input.new) }
     {
         let Ok(mut reader) = Reader::new(alloc) else {
             return Err(Ending::Memory);
         };
-        match next_header(&mut reader, input) {
-            Ok(header) => match World::new(alloc, &header) {
-                Ok(world) => Ok(Playing { reader, world }),
-                Err(_) => Err(Ending::Memory),
-            },
-            Err(e) => Err(unread(e)),
+        let header = match next_header(&mut reader, input) {
+            Ok(header) => header,
+            Err(e) => return Err(unread(e)),
+        };
+        let Some(lens) = lens_of(view, header.sinks.as_slice()) else {
+            return Err(Ending::NoSuchSink);
+        };
+        let Ok(world) = World::new(alloc, &header) else {
+            return Err(Ending::Memory);
+        };
+        Ok(Playing {
+            reader,
+            header,
+            lens,
+            world,
+            tally: Tally::new(),
+            pieces: Pieces::new(alloc),
+        })
+    }
+
+    // Plays an event whose kind byte is at this offset, and gathers what is shown of it.
+    fn play_event(&mut self, alloc: Global, at: u64, e: Event) -> Result<(), Ending>
+        requires { AreFew self.old.tally (2 ^ 40 - 1) }
+        ensures played { (w : SpecWorld) → StandsFor self.old.world w → (held : Option (List ℕ))
+            → EventPlayed result at self.old.lens w e self.new.world (after_adding held self.old.pieces.bytes) (after_adding held self.new.pieces.bytes) }
+        ensures tally { (w : SpecWorld) → StandsFor self.old.world w → OnOk result (self.new.tally ≡ tallied self.old.tally (effects_after w e)) }
+        ensures few { OnOk result (AreFew self.new.tally (self.old.tally.events + 1)) }
+        ensures reader { self.new.reader ≡ self.old.reader }
+        ensures header { self.new.header ≡ self.old.header }
+        ensures lens { self.new.lens ≡ self.old.lens }
+        ensures ends { IfErr result IsEventEnd }
+    {
+        let number = number_of(&e);
+        let sink = turn_sink(&e);
+        let outcome = match self.world.event(alloc, e) {
+            Ok(outcome) => outcome,
+            Err(fault) => return Err(barred(at, number, fault)),
+        };
+        self.tally.add(outcome.effects.as_slice());
+        match write_outcome(&mut self.pieces, self.lens, sink, &outcome) {
+            Ok(()) => Ok(()),
+            Err(_) => Err(Ending::Memory),
         }
     }
 
-    // Reads and plays the next event, or ends with the end byte.
-    fn step<S: Source, K: Sink>(
-        &mut self,
-        alloc: Global,
-        input: &mut S,
-        output: &mut K,
-    ) -> Result<(), Ending>
-        requires { self.old.reader.begun ≡ true }
-        ensures stepped { (first : Ends) → Reached self.old first (ends_of (S.left input.old) (S.faults input.old) (K.held output.old) (K.faults output.old))
-            → Stepped result self.new first (ends_of (S.left input.new) (S.faults input.new) (K.held output.new) (K.faults output.new)) }
+    // Reads and plays the next event, or ends behind the last one.
+    fn step<S: Source>(&mut self, alloc: Global, input: &mut S) -> Result<(), Ending>
+        requires begun { self.old.reader.begun ≡ true }
+        requires few { AreFew self.old.tally self.old.reader.at }
+        ensures stepped { (shown : Shown) (first : Ends) (held : Option (List ℕ)) (written : ℕ)
+            → Reached shown self.old first (ends_of (S.left input.old) (S.faults input.old) (after_adding held self.old.pieces.bytes) written)
+            → Stepped shown result self.new first (ends_of (S.left input.new) (S.faults input.new) (after_adding held self.new.pieces.bytes) written) }
         ensures forward { OnOk result ((self.old.reader.at < self.new.reader.at) × (self.new.reader.at ≤ 2 ^ 40)) }
         ensures begun { OnOk result (self.new.reader.begun ≡ true) }
-        ensures counts { Counts result
-            (ends_of (S.left input.old) (S.faults input.old) (K.held output.old) (K.faults output.old))
-            (ends_of (S.left input.new) (S.faults input.new) (K.held output.new) (K.faults output.new)) }
+        ensures few { OnOk result (AreFew self.new.tally self.new.reader.at) }
+        ensures counts { StepReads result (S.faults input.old) (S.faults input.new) }
     {
         let at = self.reader.at();
         match next_event(&mut self.reader, input) {
-            Ok(Some(e)) => play_event(alloc, at, &mut self.world, e, output),
-            Ok(None) => Err(close(output)),
+            Ok(Some(e)) => self.play_event(alloc, at, e),
+            Ok(None) => Err(close(
+                alloc,
+                self.lens,
+                self.tally,
+                &self.header,
+                &self.world,
+                &mut self.pieces,
+            )),
             Err(e) => Err(unread(e)),
         }
     }
 
-    // Reads and plays to the end.
+    // Writes what waits, where the replay ends so.
+    fn finish<K: Sink>(&mut self, ended: Ending, output: &mut K) -> Ending
+        ensures played { (shown : Shown) (first : Ends) (left : Option (List ℕ)) (read written : ℕ)
+            → InputPlayed shown ended first (ends_of left read (after_adding (K.held output.old) self.old.pieces.bytes) written)
+            → Grew first.held (K.held output.old)
+            → InputPlayed shown result first (ends_of left read (K.held output.new) written) }
+        ensures counted { (left now_left : Option (List ℕ)) (read now_read : ℕ) → EndReads ended read now_read
+            → InputCounted result (ends_of left read (K.held output.old) (K.faults output.old)) (ends_of now_left now_read (K.held output.new) (K.faults output.new)) }
+    {
+        let is_written = self.pieces.flush(output).is_ok();
+        ending_with(ended, is_written)
+    }
+
+    // Reads and plays to the end, and writes what is shown in pieces.
     fn run<S: Source, K: Sink>(&mut self, alloc: Global, input: &mut S, output: &mut K) -> Ending
-        requires { self.old.reader.begun ≡ true }
-        ensures played { (first : Ends) → Reached self.old first (ends_of (S.left input.old) (S.faults input.old) (K.held output.old) (K.faults output.old))
-            → InputPlayed result first (ends_of (S.left input.new) (S.faults input.new) (K.held output.new) (K.faults output.new)) }
+        requires begun { self.old.reader.begun ≡ true }
+        requires few { AreFew self.old.tally self.old.reader.at }
+        ensures played { (shown : Shown) (first : Ends) (written : ℕ)
+            → Reached shown self.old first (ends_of (S.left input.old) (S.faults input.old) (after_adding (K.held output.old) self.old.pieces.bytes) written)
+            → Grew first.held (K.held output.old)
+            → InputPlayed shown result first (ends_of (S.left input.new) (S.faults input.new) (K.held output.new) written) }
         ensures counted { InputCounted result
             (ends_of (S.left input.old) (S.faults input.old) (K.held output.old) (K.faults output.old))
             (ends_of (S.left input.new) (S.faults input.new) (K.held output.new) (K.faults output.new)) }
     {
         loop {
-            if let Err(ended) = self.step(alloc, input, output) {
-                return ended;
+            if let Err(ended) = self.step(alloc, input) {
+                return self.finish(ended, output);
+            }
+            if self.pieces.is_piece() && self.pieces.flush(output).is_err() {
+                return Ending::WriteFault;
             }
         }
     }
 }
 
-/// Plays an input: reads its session, and writes the records of its events and the end byte.
-pub(crate) fn play<S: Source, K: Sink>(alloc: Global, input: &mut S, output: &mut K) -> Ending
-    ensures played { InputPlayed result
+/// Plays an input: reads its session, and writes what is shown of its events and behind them.
+pub(crate) fn play<S: Source, K: Sink>(
+    alloc: Global,
+    view: View<'_>,
+    input: &mut S,
+    output: &mut K,
+) -> Ending
+    ensures played { InputPlayed (shown_of view.entry) result
         (ends_of (S.left input.old) (S.faults input.old) (K.held output.old) (K.faults output.old))
         (ends_of (S.left input.new) (S.faults input.new) (K.held output.new) (K.faults output.new)) }
     ensures counted { InputCounted result
         (ends_of (S.left input.old) (S.faults input.old) (K.held output.old) (K.faults output.old))
         (ends_of (S.left input.new) (S.faults input.new) (K.held output.new) (K.faults output.new)) }
 {
-    match Playing::new(alloc, input) {
+    match Playing::new(alloc, view, input) {
         Ok(mut playing) => playing.run(alloc, input, output),
         Err(ended) => ended,
     }

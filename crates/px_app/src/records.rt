@@ -1,54 +1,36 @@
-//! The records of what an event did.
+//! What is shown of an event.
 
-ghost use Rattle.std.specs.Prelude.{◌≡◌, ◌++◌, OnOk, OnErr, IfErr};
+ghost use Rattle.std.specs.Prelude.{◌≡◌, ◌++◌, OnOk, OnErr};
 ghost use Rattle.std.specs.List.{flat_map};
 ghost use Rattle.px_ends.specs.Told.{after_adding};
 ghost use Rattle.px_ends.specs.Whole.{AddsFront};
-ghost use Rattle.px_session.specs.Output.{record_of};
-ghost use Rattle.px_session.specs.Writing.{FitsRecord};
 ghost use Rattle.px_core.specs.Effect.{IsSendable, AreSendable};
 ghost use Rattle.px_world.specs.Output.{effect_record};
-ghost use Rattle.px_app.specs.Step.{WriteCounts, IsUnwritten, played_part};
+ghost use Rattle.px_app.specs.Step.{played_part, raw_part, shown_part};
 
-use crate::ending::Ending;
+use crate::view::Lens;
 use px_core::Effect;
-use px_ends::Sink;
-use px_session::{OutRecord, write_effect};
+use px_ends::{Sink, write_all};
+use px_session::{OutRecord, WriteError, write_effect};
 use px_world::Outcome;
 
-// Writes a record whose length fits its field.
-fn write_one<K: Sink>(output: &mut K, what: &OutRecord<'_>) -> Result<(), Ending>
-    requires { FitsRecord what.now }
-    ensures ok { OnOk result (K.held output.new ≡ after_adding (K.held output.old) (record_of what.now)) }
-    ensures err { OnErr result (AddsFront (record_of what.now) (K.held output.old) (K.held output.new)) }
-    ensures counts { WriteCounts result (K.faults output.old) (K.faults output.new) }
-    ensures unwritten { IfErr result IsUnwritten }
-{
-    match write_effect(output, what) {
-        Ok(()) => Ok(()),
-        Err(_) => Err(Ending::WriteFault),
-    }
-}
-
 // A frame that a client was sent is short enough for its record.
-fn write_effect_record<K: Sink>(output: &mut K, effect: &Effect) -> Result<(), Ending>
+fn write_effect_record<K: Sink>(output: &mut K, effect: &Effect) -> Result<(), WriteError>
     requires { IsSendable effect.now }
     ensures ok { OnOk result (K.held output.new ≡ after_adding (K.held output.old) (effect_record effect.now)) }
     ensures err { OnErr result (AddsFront (effect_record effect.now) (K.held output.old) (K.held output.new)) }
-    ensures counts { WriteCounts result (K.faults output.old) (K.faults output.new) }
-    ensures unwritten { IfErr result IsUnwritten }
 {
     match effect {
         Effect::Sent { conn, packet } => {
             let bytes = packet.bytes();
-            write_one(output, &OutRecord::Sent { conn: *conn, bytes })
+            write_effect(output, &OutRecord::Sent { conn: *conn, bytes })
         }
         Effect::Closed {
             conn,
             reason,
             fault,
             at,
-        } => write_one(
+        } => write_effect(
             output,
             &OutRecord::Closed {
                 conn: *conn,
@@ -60,12 +42,10 @@ fn write_effect_record<K: Sink>(output: &mut K, effect: &Effect) -> Result<(), E
     }
 }
 
-fn write_effects<K: Sink>(output: &mut K, effects: &[Effect]) -> Result<(), Ending>
+fn write_effects<K: Sink>(output: &mut K, effects: &[Effect]) -> Result<(), WriteError>
     requires { AreSendable effects.now }
     ensures ok { OnOk result (K.held output.new ≡ after_adding (K.held output.old) (flat_map effect_record effects.now)) }
     ensures err { OnErr result (AddsFront (flat_map effect_record effects.now) (K.held output.old) (K.held output.new)) }
-    ensures counts { WriteCounts result (K.faults output.old) (K.faults output.new) }
-    ensures unwritten { IfErr result IsUnwritten }
 {
     for effect in effects {
         write_effect_record(output, effect)?;
@@ -79,14 +59,12 @@ fn write_played<K: Sink>(
     sink: Option<u8>,
     frames: u32,
     bytes: &[u8],
-) -> Result<(), Ending>
+) -> Result<(), WriteError>
     ensures ok { OnOk result (K.held output.new ≡ after_adding (K.held output.old) (played_part sink frames bytes.now)) }
     ensures err { OnErr result (AddsFront (played_part sink frames bytes.now) (K.held output.old) (K.held output.new)) }
-    ensures counts { WriteCounts result (K.faults output.old) (K.faults output.new) }
-    ensures unwritten { IfErr result IsUnwritten }
 {
     match sink {
-        Some(sink) if frames > 0 => write_one(
+        Some(sink) if frames > 0 => write_effect(
             output,
             &OutRecord::Played {
                 sink,
@@ -98,19 +76,55 @@ fn write_played<K: Sink>(
     }
 }
 
-/// Writes the records of what an event did; of a turn, the sink is given. Takes no memory.
-pub(crate) fn write_outcome<K: Sink>(
+// Writes the records of what an event did.
+fn write_records<K: Sink>(
     output: &mut K,
     sink: Option<u8>,
     outcome: &Outcome,
-) -> Result<(), Ending>
+) -> Result<(), WriteError>
     ensures ok { OnOk result (K.held output.new ≡ after_adding (K.held output.old)
         (flat_map effect_record outcome.now.effects ++ played_part sink outcome.now.frames outcome.now.played)) }
     ensures err { OnErr result (AddsFront
         (flat_map effect_record outcome.now.effects ++ played_part sink outcome.now.frames outcome.now.played) (K.held output.old) (K.held output.new)) }
-    ensures counts { WriteCounts result (K.faults output.old) (K.faults output.new) }
-    ensures unwritten { IfErr result IsUnwritten }
 {
     write_effects(output, outcome.effects.as_slice())?;
     write_played(output, sink, outcome.frames, outcome.played.as_slice())
+}
+
+// Writes the bytes that a turn of the sink with an index consumed.
+fn write_raw<K: Sink>(
+    output: &mut K,
+    sink: Option<u8>,
+    of: usize,
+    bytes: &[u8],
+) -> Result<(), WriteError>
+    ensures ok { OnOk result (K.held output.new ≡ after_adding (K.held output.old) (raw_part sink of bytes.now)) }
+    ensures err { OnErr result (AddsFront (raw_part sink of bytes.now) (K.held output.old) (K.held output.new)) }
+{
+    match sink {
+        Some(sink) if sink as usize == of => {
+            write_all(output, bytes)?;
+            Ok(())
+        }
+        _ => Ok(()),
+    }
+}
+
+/// Writes what is shown of an event that did this; of a turn, the sink is given. Takes no memory.
+pub(crate) fn write_outcome<K: Sink>(
+    output: &mut K,
+    lens: Lens,
+    sink: Option<u8>,
+    outcome: &Outcome,
+) -> Result<(), WriteError>
+    ensures ok { OnOk result (K.held output.new ≡ after_adding (K.held output.old)
+        (shown_part lens sink outcome.now.effects outcome.now.frames outcome.now.played)) }
+    ensures err { OnErr result (AddsFront
+        (shown_part lens sink outcome.now.effects outcome.now.frames outcome.now.played) (K.held output.old) (K.held output.new)) }
+{
+    match lens {
+        Lens::Records => write_records(output, sink, outcome),
+        Lens::Raw(of) => write_raw(output, sink, of, outcome.played.as_slice()),
+        Lens::Summary => Ok(()),
+    }
 }

@@ -9,22 +9,34 @@ ghost use Rattle.px_app.specs.declared.ending.Ending.{Ending as Ended};
 ghost use Rattle.px_app.specs.declared.ending.Ending.TheVariants as ending;
 ghost use Rattle.px_app.specs.declared.refusal.Refusal.{Refusal as Refused};
 ghost use Rattle.px_app.specs.Refusal.{refusal_line};
-ghost use Rattle.px_app.specs.Ends.{ends_of, log_end};
+ghost use Rattle.px_app.specs.Ends.{ends_of, log_end, KeptOrRose};
 ghost use Rattle.px_app.specs.Ending.{status_of, line_of, IsReplayStatus};
 ghost use Rattle.px_app.specs.Report.{Says};
-ghost use Rattle.px_app.specs.Replay.{PlayedWhole, WasRefused, PlayedFront, InputCounted, Replayed, Completes};
+ghost use Rattle.px_app.specs.View.{shown_of};
+ghost use Rattle.px_app.specs.Replay.{PlayedWhole, WasRefused, WasUnnamed, PlayedFront, InputCounted, Replayed, Completes};
 
 use crate::log::report;
 use crate::playing::play;
+use crate::view::View;
 use px_ends::{Sink, Source};
 use px_types::Status;
 use std::alloc::Global;
 
-/// What a replay shows of a session.
-#[derive(Clone, Copy, Debug, PartialEq, Eq)]
-pub enum View {
-    /// Each effect and each turn's frames, as records.
-    Records,
+/// Replays a recorded session, and reports how that ended.
+pub(crate) fn replay_by<S: Source, K: Sink, L: Sink>(
+    alloc: Global,
+    view: View<'_>,
+    input: &mut S,
+    output: &mut K,
+    log: &mut L,
+) -> Status
+    ensures { Replayed (shown_of view.entry) result
+        (ends_of (S.left input.old) (S.faults input.old) (K.held output.old) (K.faults output.old))
+        (ends_of (S.left input.new) (S.faults input.new) (K.held output.new) (K.faults output.new))
+        (log_end (L.held log.old) (L.faults log.old)) (log_end (L.held log.new) (L.faults log.new)) }
+{
+    let ended = play(alloc, view, input, output);
+    report(alloc, ended, log)
 }
 
 /// Replays a recorded session: reads it from `input`, plays its events one by one in a world of the session's header, and
@@ -36,32 +48,35 @@ pub enum View {
 /// After `Memory`, `ReadFault` and `WriteFault` the output gained a front of what the bytes that were read give.
 pub fn replay<S: Source, K: Sink, L: Sink>(
     alloc: Global,
-    view: View,
+    view: View<'_>,
     input: &mut S,
     output: &mut K,
     log: &mut L,
 ) -> Status
     // What was read and written, which calls failed, and what was reported; the clauses behind it follow from it.
-    ensures exact { Replayed result
+    ensures exact { Replayed (shown_of view.entry) result
         (ends_of (S.left input.old) (S.faults input.old) (K.held output.old) (K.faults output.old))
         (ends_of (S.left input.new) (S.faults input.new) (K.held output.new) (K.faults output.new))
         (log_end (L.held log.old) (L.faults log.old)) (log_end (L.held log.new) (L.faults log.new)) }
-    ensures ok { result ≡ Answered.Ok → PlayedWhole
+    ensures ok { result ≡ Answered.Ok → PlayedWhole (shown_of view.entry)
         (ends_of (S.left input.old) (S.faults input.old) (K.held output.old) (K.faults output.old))
         (ends_of (S.left input.new) (S.faults input.new) (K.held output.new) (K.faults output.new)) }
-    ensures refused { result ≡ Answered.Refused → (refusal : Refused) × WasRefused refusal
+    ensures refused { result ≡ Answered.Refused → (refusal : Refused) × WasRefused (shown_of view.entry) refusal
         (ends_of (S.left input.old) (S.faults input.old) (K.held output.old) (K.faults output.old))
         (ends_of (S.left input.new) (S.faults input.new) (K.held output.new) (K.faults output.new))
         × (L.held log.new ≡ after_adding (L.held log.old) (refusal_line refusal)) }
+    ensures no_such_sink { result ≡ Answered.NoSuchSink → WasUnnamed (shown_of view.entry)
+        (ends_of (S.left input.old) (S.faults input.old) (K.held output.old) (K.faults output.old))
+        (ends_of (S.left input.new) (S.faults input.new) (K.held output.new) (K.faults output.new)) }
     // With every other status the output gained a front of what the bytes that were read give.
-    ensures front { PlayedFront
+    ensures front { PlayedFront (shown_of view.entry)
         (ends_of (S.left input.old) (S.faults input.old) (K.held output.old) (K.faults output.old))
         (ends_of (S.left input.new) (S.faults input.new) (K.held output.new) (K.faults output.new)) }
     // With every status but those of a failed read or write no call failed, and the log's line is the status's.
     ensures quiet { result ≢ Answered.ReadFault → result ≢ Answered.WriteFault
         → (S.faults input.new ≡ S.faults input.old) × (K.faults output.new ≡ K.faults output.old) × (L.faults log.new ≡ L.faults log.old) }
     ensures read_fault { result ≡ Answered.ReadFault
-        → Rose (S.faults input.old) (S.faults input.new) × (K.faults output.new ≡ K.faults output.old) × (L.faults log.new ≡ L.faults log.old) }
+        → Rose (S.faults input.old) (S.faults input.new) × KeptOrRose (K.faults output.old) (K.faults output.new) × (L.faults log.new ≡ L.faults log.old) }
     ensures line { result ≢ Answered.WriteFault → (ended : Ended) × (result ≡ status_of ended)
         × (L.held log.new ≡ after_adding (L.held log.old) (line_of ended)) }
     // A write of the output failed and the log has the line of it, or one of the log did, behind a front of the line of how it ended.
@@ -76,12 +91,7 @@ pub fn replay<S: Source, K: Sink, L: Sink>(
     ensures others { IsReplayStatus result }
     // Where no read and no write fails, a session that is played ends so, unless memory ran out, and each other input is refused.
     ensures complete { ¬ Rose (S.faults input.old) (S.faults input.new) → ¬ Rose (K.faults output.old) (K.faults output.new)
-        → ¬ Rose (L.faults log.old) (L.faults log.new) → WhereTold (S.left input.old) (Completes result) }
+        → ¬ Rose (L.faults log.old) (L.faults log.new) → WhereTold (S.left input.old) (Completes (shown_of view.entry) result) }
 {
-    match view {
-        View::Records => {
-            let ended = play(alloc, input, output);
-            report(alloc, ended, log)
-        }
-    }
+    replay_by(alloc, view, input, output, log)
 }

@@ -83,6 +83,12 @@ fn reads_fail<R: AllocGlobal>(rt: &R) -> bool {
         })
 }
 
+// A read fails, and then the write of what waits: the first cause is told, and what was written stands.
+fn both_fail<R: AllocGlobal>(rt: &R) -> bool {
+    let line = b"pulse_rw: read failed\n";
+    matches!(ends(rt, 591, [7, 99], Status::ReadFault, 7, line), Ok(true))
+}
+
 // A write fails after each number of bytes: they stand.
 fn writes_fail<R: AllocGlobal>(rt: &R) -> bool {
     let line = b"pulse_rw: write failed\n";
@@ -104,5 +110,7 @@ fn log_fails<R: AllocGlobal>(rt: &R) -> bool {
 
 #[test]
 fn runs_end_where_a_call_fails(rt: HostRuntime) {
-    assert!(rt; is_played(&rt) && reads_fail(&rt) && writes_fail(&rt) && log_fails(&rt));
+    assert!(rt;
+        is_played(&rt) && reads_fail(&rt) && both_fail(&rt) && writes_fail(&rt) && log_fails(&rt)
+    );
 }

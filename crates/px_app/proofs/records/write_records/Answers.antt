@@ -7,7 +7,7 @@ use Rattle.px_ends.specs.Whole.{AddsFront}
 use Rattle.px_world.specs.Output.{effect_record}
 use Rattle.px_app.specs.Step.{played_part}
 use Rattle.px_app.proofs.FrontLaws.{first_cut, second_cut}
-use Rattle.px_app.proofs.records.write_outcome.Goals as goal
+use Rattle.px_app.proofs.records.write_records.Goals as goal
 
 pub returns-in_err-write_effects-clause-err : goal.returns-in_err-write_effects-clause-err
 returns-in_err-write_effects-clause-err g c =

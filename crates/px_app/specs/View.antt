@@ -1,0 +1,58 @@
+-- What a replay shows of a session: the records of all that the server did, the bytes that one sink played, or a summary.
+use Rattle.std.specs.Prelude.{ℕ, bytes_eq, List, [], ◌∷◌, ◌++◌, Option, Some, option_map}
+use Rattle.std.specs.List.{concat, position}
+use Rattle.px_session.specs.declared.header.SinkSpec.{SinkSpec}
+use Rattle.px_session.specs.declared.header.Header.{Header}
+use Rattle.px_session.specs.declared.event.Event.{Event}
+use Rattle.px_session.specs.Spelling.{end_byte}
+use Rattle.px_world.specs.World.{World, Mixer, new_world}
+use Rattle.px_world.specs.Output.{world_by, records_of, records_by}
+use Rattle.px_world.specs.History.{played_on, played_by_run}
+use Rattle.px_app.specs.declared.view.View.{View}
+use Rattle.px_app.specs.declared.view.View.TheVariants as view
+use Rattle.px_app.specs.declared.view.Lens.{Lens}
+use Rattle.px_app.specs.declared.view.Lens.TheVariants as lens
+use Rattle.px_app.specs.declared.tally.Tally.{Tally}
+use Rattle.px_app.specs.Summary.{tally_by, tally_lines, sink_lines}
+
+-- what is asked for: a sink by its name
+pub data Shown : Type 0 where
+  Records : Shown
+  Raw : List ℕ → Shown
+  Summary : Shown
+
+abbrev pub shown_of : View → Shown
+shown_of view.Records = Records
+shown_of (view.Raw name) = Raw name.now
+shown_of view.Summary = Summary
+
+-- what it is of a session with these sinks: a sink by its index; nothing where no sink has the name
+abbrev pub lens_of : Shown → List SinkSpec → Option Lens
+lens_of Records sinks = Some lens.Records
+lens_of (Raw name) sinks = option_map lens.Raw (position (λ s. bytes_eq s.name name) sinks)
+lens_of Summary sinks = Some lens.Summary
+
+-- what is shown of an event, in the world before it
+abbrev pub part_of : Lens → World → Event → List ℕ
+part_of lens.Records w e = records_of w e
+part_of (lens.Raw k) w e = concat (played_on w e k)
+part_of lens.Summary w e = []
+
+-- and of the events of a run: the records, or all frames that the sink plays
+abbrev pub parts_by : Lens → World → List Event → List ℕ
+parts_by lens.Records w events = records_by w events
+parts_by (lens.Raw k) w events = concat (played_by_run w events k)
+parts_by lens.Summary w events = []
+
+-- what stands behind the last event: the end byte of records, or the summary
+abbrev pub ending_of : Lens → Tally → List SinkSpec → List Mixer → List ℕ
+ending_of lens.Records tally sinks mixers = end_byte ∷ []
+ending_of (lens.Raw k) tally sinks mixers = []
+ending_of lens.Summary tally sinks mixers = tally_lines tally ++ sink_lines 0 sinks mixers
+
+abbrev pub last_part : Lens → Header → List Event → List ℕ
+last_part l header events = ending_of l (tally_by (new_world header) events) header.sinks (world_by (new_world header) events).mixers
+
+-- all that is shown of a session that is played
+abbrev pub output_by : Lens → Header → List Event → List ℕ
+output_by l header events = parts_by l (new_world header) events ++ last_part l header events

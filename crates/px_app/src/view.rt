@@ -1,0 +1,51 @@
+//! What a replay shows of a session.
+
+ghost use Rattle.std.specs.Prelude.{◌≡◌, bytes_eq};
+ghost use Rattle.std.specs.List.{position};
+ghost use Rattle.px_app.specs.View.{shown_of, lens_of};
+
+use px_session::SinkSpec;
+
+/// What a replay shows of a session. Own: PulseAudio records no sessions.
+#[derive(Clone, Copy, Debug)]
+pub enum View<'a> {
+    /// Each effect and each turn's frames, as records, and then the end byte.
+    Records,
+    /// The bytes that the sink with this name has played, and nothing else.
+    Raw(&'a str),
+    /// Lines of text behind the last event: how many events there were, how many frames of packets were sent and how many
+    /// connections closed, and how far each sink came.
+    Summary,
+}
+
+/// What that is of a session whose sinks are known.
+#[derive(Clone, Copy, Debug)]
+pub(crate) enum Lens {
+    /// All records.
+    Records,
+    /// The bytes of the sink with this index.
+    Raw(usize),
+    /// The summary.
+    Summary,
+}
+
+// The index of the sink with a name.
+fn place_of(sinks: &[SinkSpec], name: &[u8]) -> Option<usize>
+    ensures { result ≡ position (λ s. bytes_eq s.name name.now) sinks.now }
+{
+    sinks.iter().position(|s| s.name.as_slice() == name)
+}
+
+/// What a view is of a session with these sinks, or `None` where no sink has the view's name. Takes no memory.
+pub(crate) fn lens_of(view: View<'_>, sinks: &[SinkSpec]) -> Option<Lens>
+    ensures { result ≡ lens_of (shown_of view.entry) sinks.now }
+{
+    match view {
+        View::Records => Some(Lens::Records),
+        View::Raw(name) => match place_of(sinks, name.as_bytes()) {
+            Some(place) => Some(Lens::Raw(place)),
+            None => None,
+        },
+        View::Summary => Some(Lens::Summary),
+    }
+}
