@@ -70,24 +70,3 @@ pub steps_more : (i x : ℕ) → flat_map event (steps (i + 1) x) ≡ flat_map e
 steps_more i x =
     ap (λ (es : List Event). flat_map event es) (steps_split i 1 x ∙ ap (λ (es : List Event). steps i x ++ es) (append-nil (step_events (state_behind i x))))
     ∙ flat_map-append event (steps i x) (step_events (state_behind i x))
-
--- the steps before a place were written, and nothing behind them
-pub steps_stop : (i count x : ℕ) (old now : Option (List ℕ)) → i < count → now ≡ after_adding old (flat_map event (steps i x)) → AddsFront (flat_map event (steps count x)) old now
-steps_stop i count x old now inside written = record {
-  front = flat_map event (steps i x);
-  rest = flat_map event (step_events (state_behind i x)) ++ flat_map event (steps (count - suc i) (step_state (state_behind i x)));
-  joined = steps_around i count x inside;
-  held = written;
-}
-
--- the steps before a place were written, and a front of the step at it
-pub step_stops : (i count x y : ℕ) (old mid now : Option (List ℕ)) → i < count → mid ≡ after_adding old (flat_map event (steps i x)) → y ≡ state_behind i x → AddsFront (flat_map event (step_events y)) mid now → AddsFront (flat_map event (steps count x)) old now
-step_stops i count x y old mid now inside written at stopped =
-    front_then (flat_map event (steps i x)) (flat_map event (step_events y)) (flat_map event (steps (count - suc i) (step_state (state_behind i x)))) (flat_map event (steps count x)) old mid now written stopped
-    (steps_around i count x inside ∙ ap (λ (z : ℕ). flat_map event (steps i x) ++ (flat_map event (step_events z) ++ flat_map event (steps (count - suc i) (step_state (state_behind i x))))) (sym at))
-
--- the step at a place was written too
-pub step_goes : (i x y : ℕ) (old mid now : Option (List ℕ)) → mid ≡ after_adding old (flat_map event (steps i x)) → y ≡ state_behind i x → now ≡ after_adding mid (flat_map event (step_events y)) → now ≡ after_adding old (flat_map event (steps (i + 1) x))
-step_goes i x y old mid now written at more =
-    both_added (flat_map event (steps i x)) (flat_map event (step_events y)) old mid now written more
-    ∙ ap (after_adding old) (ap (λ (z : ℕ). flat_map event (steps i x) ++ flat_map event (step_events z)) at ∙ sym (steps_more i x))

@@ -29,24 +29,9 @@ goes_on (Ok done) first second old mid now written more = both_added first secon
 goes_on (Err stop) first second old mid now written more =
     front_then first second [] (first ++ second) old mid now written more (ap (λ (t : List ℕ). first ++ t) (sym (append-nil second)))
 
-joined : (number count : ℕ) → spelling.header header ++ (flat_map event opening ++ (flat_map event (steps count number) ++ end_byte ∷ [])) ≡ generated number count
+pub joined : (number count : ℕ) → spelling.header header ++ (flat_map event opening ++ (flat_map event (steps count number) ++ end_byte ∷ [])) ≡ generated number count
 unfolding generated spelling.header event spelling.sink
 joined number count =
     ap (λ (t : List ℕ). spelling.header header ++ t)
     (sym (append_assoc (flat_map event opening) (flat_map event (steps count number)) (end_byte ∷ []))
     ∙ ap (λ (t : List ℕ). t ++ end_byte ∷ []) (sym (flat_map-append event opening (steps count number))))
-
--- a front of the header was written
-pub session_stops : (h : Header) (number count : ℕ) (old now : Option (List ℕ)) → h ≡ header → AddsFront (spelling.header h) old now → AddsFront (generated number count) old now
-session_stops h number count old now is stopped =
-    subst (λ (bytes : List ℕ). AddsFront bytes old now) (joined number count)
-    (stops_first (spelling.header header) (flat_map event opening ++ (flat_map event (steps count number) ++ end_byte ∷ [])) old now
-    (subst (λ (h : Header). AddsFront (spelling.header h) old now) is stopped))
-
--- the header was written, and behind it what follows, or a front of that
-pub session_goes : (result : Result Unit Stop) (h : Header) (events : List Event) (number count : ℕ) (old mid now : Option (List ℕ)) → h ≡ header → events ≡ opening → mid ≡ after_adding old (spelling.header h) → Writes result (flat_map event events ++ (flat_map event (steps count number) ++ end_byte ∷ [])) mid now → Writes result (generated number count) old now
-session_goes result h events number count old mid now is are written more =
-    subst (λ (bytes : List ℕ). Writes result bytes old now) (joined number count)
-    (goes_on result (spelling.header header) (flat_map event opening ++ (flat_map event (steps count number) ++ end_byte ∷ [])) old mid now
-    (written ∙ ap (λ (h : Header). after_adding old (spelling.header h)) is)
-    (subst (λ (es : List Event). Writes result (flat_map event es ++ (flat_map event (steps count number) ++ end_byte ∷ [])) mid now) are more))

@@ -1,5 +1,5 @@
 -- What a call that writes a part of a session leaves.
-use Rattle.std.specs.Prelude.{◌≡◌, ℕ, List, Option, Result, Ok, Err}
+use Rattle.std.specs.Prelude.{◌≡◌, ℕ, List, ◌++◌, Option, Result, Ok, Err}
 use Rattle.px_types.specs.declared.status.Status.{Status}
 use Rattle.px_types.specs.declared.status.Status.TheVariants as status
 use Rattle.px_types.specs.Faults.{Rose}
@@ -18,6 +18,18 @@ abbrev pub Counts : {A : Type 0} → Result A Stop → ℕ → ℕ → Type 0
 Counts (Ok done) before now = now ≡ before
 Counts (Err stop.NoMemory) before now = now ≡ before
 Counts (Err stop.Failed) before now = Rose before now
+
+-- of what was given in all, a front was added to what the first ends held, and the rest waits
+pub record Gathered (given : List ℕ) (first now : Option (List ℕ)) (waiting : List ℕ) : Type 0 where
+  pub front : List ℕ
+  pub joined : given ≡ front ++ waiting
+  pub held : now ≡ after_adding first front
+
+-- all that is to be given was, or a part of it; or a write failed, and a front of it was added
+abbrev pub GatheredBy : {A : Type 0} → Result A Stop → List ℕ → Option (List ℕ) → Option (List ℕ) → List ℕ → Type 0
+GatheredBy (Ok done) given first now waiting = Gathered given first now waiting
+GatheredBy (Err stop.NoMemory) given first now waiting = (part : List ℕ) × (rest : List ℕ) × (given ≡ part ++ rest) × Gathered part first now waiting
+GatheredBy (Err stop.Failed) given first now waiting = AddsFront given first now
 
 -- the same of a status; there is no other
 abbrev pub Leaves : Status → List ℕ → Option (List ℕ) → Option (List ℕ) → Type 0

@@ -1,82 +1,96 @@
 // A session of a number and a count.
 
-ghost use Rattle.std.specs.Prelude.{[], ◌∷◌, ◌++◌};
+ghost use Rattle.std.specs.Prelude.{◌≡◌, ℕ, List, [], ◌++◌, Option, OnOk};
 ghost use Rattle.std.specs.List.{flat_map, AllByRecursion};
-ghost use Rattle.px_session.specs.Spelling.{event, end_byte};
-ghost use Rattle.px_session.specs.Writing.{FitsEvent};
-ghost use Rattle.px_gen.specs.Generator.{steps, generated};
-ghost use Rattle.px_gen.specs.Writing.{Writes, Counts, Leaves, Faults};
+ghost use Rattle.px_session.specs.Spelling.{event};
+ghost use Rattle.px_session.specs.Spelling as spelling;
+ghost use Rattle.px_session.specs.Writing.{FitsHeader, FitsEvent};
+ghost use Rattle.px_gen.specs.Generator.{step_events, step_state, steps, generated};
+ghost use Rattle.px_gen.specs.Writing.{Writes, Counts, Gathered, GatheredBy, Leaves, Faults};
 
 use crate::numbers::Numbers;
 use crate::opening::{header, opening};
 use crate::step::step;
 use crate::writing::{Stop, write_events};
 use px_ends::Sink;
-use px_session::{Event, write_end, write_header};
+use px_pieces::Pieces;
+use px_session::{Event, Header, write_end, write_header};
 use px_types::Status;
 use std::alloc::Global;
 
-// Writes the events of so many steps.
-#[tactic(auto, using(crate::proofs::Loops::steps_stop, crate::proofs::Loops::step_stops, crate::proofs::Loops::step_goes, crate::proofs::Loops::behind_more, crate::proofs::Fitting::step_fits))]
+// Gathers the events of the next step, and writes what waits where that is a piece.
+#[tactic(auto, using(crate::proofs::Gathering::stays, crate::proofs::Fitting::step_fits))]
+fn write_step<K: Sink>(
+    alloc: Global,
+    numbers: &mut Numbers,
+    pieces: &mut Pieces,
+    out: &mut K,
+) -> Result<(), Stop>
+    ensures bytes { (first : Option (List ℕ)) (given : List ℕ) → Gathered given first (K.held out.old) pieces.old.bytes
+        → GatheredBy result (given ++ flat_map event (step_events numbers.old.state)) first (K.held out.new) pieces.new.bytes }
+    ensures count { Counts result (K.faults out.old) (K.faults out.new) }
+    ensures state { OnOk result (numbers.new.state ≡ step_state numbers.old.state) }
+{
+    let Ok(events) = step(alloc, numbers) else {
+        return Err(Stop::NoMemory);
+    };
+    if let Err(_) = write_events(pieces, &events) {
+        return Err(Stop::NoMemory);
+    }
+    if pieces.is_piece() {
+        return match pieces.flush(out) {
+            Ok(()) => Ok(()),
+            Err(_) => Err(Stop::Failed),
+        };
+    }
+    Ok(())
+}
+
+// Gathers and writes the events of so many steps.
+#[tactic(auto, using(crate::proofs::Loops::behind_more))]
 fn write_steps<K: Sink>(
     alloc: Global,
     numbers: &mut Numbers,
     count: u32,
+    pieces: &mut Pieces,
     out: &mut K,
 ) -> Result<(), Stop>
-    ensures bytes { Writes result (flat_map event (steps count numbers.old.state)) (K.held out.old) (K.held out.new) }
+    ensures bytes { (first : Option (List ℕ)) (given : List ℕ) → Gathered given first (K.held out.old) pieces.old.bytes
+        → GatheredBy result (given ++ flat_map event (steps count numbers.old.state)) first (K.held out.new) pieces.new.bytes }
     ensures count { Counts result (K.faults out.old) (K.faults out.new) }
 {
     for _ in 0..count {
-        let Ok(events) = step(alloc, numbers) else {
-            return Err(Stop::NoMemory);
-        };
-        if let Err(stop) = write_events(out, &events) {
+        if let Err(stop) = write_step(alloc, numbers, pieces, out) {
             return Err(stop);
         }
     }
     Ok(())
 }
 
-// Writes the events of so many steps, and the end byte.
+// Writes a header and the events behind it.
 #[tactic(auto, using(crate::proofs::Written::stops_first, crate::proofs::Written::goes_on))]
-fn write_body<K: Sink>(alloc: Global, number: u64, count: u32, out: &mut K) -> Result<(), Stop>
-    ensures bytes { Writes result (flat_map event (steps count number) ++ end_byte ∷ []) (K.held out.old) (K.held out.new) }
-    ensures count { Counts result (K.faults out.old) (K.faults out.new) }
+fn write_front<K: Sink>(out: &mut K, header: &Header, events: &[Event]) -> Result<(), Stop>
+    requires header { FitsHeader header.now }
+    requires events { AllByRecursion FitsEvent events.now }
+    ensures bytes { Writes result (spelling.header header.now ++ flat_map event events.now) (K.held out.old) (K.held out.new) }
 {
-    let mut numbers = Numbers::new(number);
-    if let Err(stop) = write_steps(alloc, &mut numbers, count, out) {
-        return Err(stop);
-    }
-    match write_end(out) {
-        Ok(()) => Ok(()),
+    match write_header(out, header) {
+        Ok(()) => write_events(out, events),
         Err(_) => Err(Stop::Failed),
     }
 }
 
-// Writes events that stand before the steps, and what stands behind them.
-#[tactic(auto, using(crate::proofs::Written::stops_first, crate::proofs::Written::goes_on))]
-fn write_behind<K: Sink>(
+// Gathers and writes a session.
+#[tactic(auto, using(crate::proofs::Fitting::header_fits, crate::proofs::Fitting::opening_fits))]
+fn write_session<K: Sink>(
     alloc: Global,
-    events: &[Event],
     number: u64,
     count: u32,
+    pieces: &mut Pieces,
     out: &mut K,
 ) -> Result<(), Stop>
-    requires { AllByRecursion FitsEvent events.now }
-    ensures bytes { Writes result (flat_map event events.now ++ (flat_map event (steps count number) ++ end_byte ∷ [])) (K.held out.old) (K.held out.new) }
-    ensures count { Counts result (K.faults out.old) (K.faults out.new) }
-{
-    if let Err(stop) = write_events(out, events) {
-        return Err(stop);
-    }
-    write_body(alloc, number, count, out)
-}
-
-// Writes a session.
-#[tactic(auto, using(crate::proofs::Written::session_stops, crate::proofs::Written::session_goes, crate::proofs::Fitting::header_fits, crate::proofs::Fitting::opening_fits))]
-fn write_session<K: Sink>(alloc: Global, number: u64, count: u32, out: &mut K) -> Result<(), Stop>
-    ensures bytes { Writes result (generated number count) (K.held out.old) (K.held out.new) }
+    requires { pieces.old.bytes ≡ [] }
+    ensures bytes { GatheredBy result (generated number count) (K.held out.old) (K.held out.new) pieces.new.bytes }
     ensures count { Counts result (K.faults out.old) (K.faults out.new) }
 {
     let Ok(header) = header(alloc) else {
@@ -85,9 +99,35 @@ fn write_session<K: Sink>(alloc: Global, number: u64, count: u32, out: &mut K) -
     let Ok(events) = opening(alloc) else {
         return Err(Stop::NoMemory);
     };
-    match write_header(out, &header) {
-        Ok(()) => write_behind(alloc, events.as_slice(), number, count, out),
-        Err(_) => Err(Stop::Failed),
+    if let Err(_) = write_front(pieces, &header, events.as_slice()) {
+        return Err(Stop::NoMemory);
+    }
+    let mut numbers = Numbers::new(number);
+    if let Err(stop) = write_steps(alloc, &mut numbers, count, pieces, out) {
+        return Err(stop);
+    }
+    match write_end(pieces) {
+        Ok(()) => Ok(()),
+        Err(_) => Err(Stop::NoMemory),
+    }
+}
+
+// Writes what waits still, behind what was done so.
+#[tactic(auto, using(crate::proofs::Gathering::ends_all, crate::proofs::Gathering::ends_short, crate::proofs::Gathering::is_cut, crate::proofs::Gathering::short_cut))]
+fn finish<K: Sink>(done: Result<(), Stop>, pieces: &mut Pieces, out: &mut K) -> Result<(), Stop>
+    ensures bytes { (first : Option (List ℕ)) (given : List ℕ) → GatheredBy done given first (K.held out.old) pieces.old.bytes → Writes result given first (K.held out.new) }
+    ensures count { (before : ℕ) → Counts done before (K.faults out.old) → Counts result before (K.faults out.new) }
+{
+    match done {
+        Ok(()) => match pieces.flush(out) {
+            Ok(()) => Ok(()),
+            Err(_) => Err(Stop::Failed),
+        },
+        Err(Stop::NoMemory) => match pieces.flush(out) {
+            Ok(()) => Err(Stop::NoMemory),
+            Err(_) => Err(Stop::Failed),
+        },
+        Err(Stop::Failed) => Err(Stop::Failed),
     }
 }
 
@@ -100,7 +140,9 @@ pub fn generate<K: Sink>(alloc: Global, number: u64, count: u32, output: &mut K)
     ensures bytes { Leaves result (generated number count) (K.held output.old) (K.held output.new) }
     ensures faults { Faults result (K.faults output.old) (K.faults output.new) }
 {
-    match write_session(alloc, number, count, output) {
+    let mut pieces = Pieces::new(alloc);
+    let done = write_session(alloc, number, count, &mut pieces, output);
+    match finish(done, &mut pieces, output) {
         Ok(()) => Status::Ok,
         Err(Stop::NoMemory) => Status::Memory,
         Err(Stop::Failed) => Status::WriteFault,

@@ -1,0 +1,31 @@
+use Rattle.std.proofs.Common.{[], refl, sym, subst, ◌∙◌, List}
+use Rattle.std.specs.List.{AllByRecursion}
+use Rattle.px_session.specs.declared.event.Event.{Event}
+use Rattle.px_session.specs.Writing.{FitsEvent}
+use Rattle.px_gen.specs.Generator.{generated}
+use Rattle.px_gen.proofs.Fitting.{opening_fits}
+use Rattle.px_gen.proofs.Gathering.{head, nothing, head_gathered, head_stopped, steps_end, end_gathered, end_stopped}
+use Rattle.px_gen.proofs.generator.write_session.Goals as goal
+
+pub returns-in_default-opening-clause-bytes : goal.returns-in_default-opening-clause-bytes
+returns-in_default-opening-clause-bytes g c = ([], generated c.args.number c.args.count, refl, nothing (g.K.Sink.held c.args.out.now) c.args.pieces.now.bytes c.requires)
+
+pub returns-in_default-clause-bytes : goal.returns-in_default-clause-bytes
+returns-in_default-clause-bytes g c = ([], generated c.args.number c.args.count, refl, nothing (g.K.Sink.held c.args.out.now) c.args.pieces.now.bytes c.requires)
+
+pub write_front-requires-clause-events : goal.write_front-requires-clause-events
+write_front-requires-clause-events g c = subst (λ (es : List Event). AllByRecursion FitsEvent es) (sym (c.as_slice.ensures.value ∙ c.in-Ok-opening.ensures)) opening_fits
+
+pub returns-in-Err-clause-bytes : goal.returns-in-Err-clause-bytes
+returns-in-Err-clause-bytes g c =
+    head_stopped c.args.number c.args.count c.in-Ok.header c.as_slice.result.now c.in-Ok.ensures (c.as_slice.ensures.value ∙ c.in-Ok-opening.ensures) (g.K.Sink.held c.args.out.now) c.args.pieces.now.bytes c.requires
+    c.write_front.new.out.bytes c.in-Err.ensures.bytes
+
+pub returns-in-Err-write_steps-clause-bytes : goal.returns-in-Err-write_steps-clause-bytes
+returns-in-Err-write_steps-clause-bytes g c = ?
+
+pub returns-in-Ok-write_end-clause-bytes : goal.returns-in-Ok-write_end-clause-bytes
+returns-in-Ok-write_end-clause-bytes g c = ?
+
+pub returns-clause-bytes : goal.returns-clause-bytes
+returns-clause-bytes g c = ?
