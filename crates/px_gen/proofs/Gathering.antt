@@ -1,5 +1,5 @@
 -- What is gathered before it is written.
-use Rattle.std.proofs.Common.{◌≡◌, ℕ, suc, ◌+◌, ◌-◌, ◌<◌, List, [], ◌∷◌, ◌++◌, Option, Some, Result, Ok, Err, refl, sym, ap, subst, ◌∙◌, append_assoc}
+use Rattle.std.proofs.Common.{◌≡◌, ℕ, suc, ◌+◌, ◌-◌, ◌<◌, List, [], ◌∷◌, ◌++◌, Option, Some, Result, Err, refl, sym, ap, subst, ◌∙◌, append_assoc}
 use Rattle.std.proofs.lemmas.List.{append-nil}
 use Rattle.std.proofs.lemmas.Option.{same_Some}
 use Rattle.std.specs.List.{flat_map}
@@ -24,6 +24,10 @@ gathers given bytes old new first now g more = record {
   joined = ap (λ (t : List ℕ). t ++ bytes) g.joined ∙ append_assoc g.front old bytes ∙ ap (λ (t : List ℕ). g.front ++ t) (sym (same_Some new (old ++ bytes) more));
   held = g.held;
 }
+
+-- nothing was added
+pub adds_none : (bytes : List ℕ) (held : Option (List ℕ)) → AddsFront bytes held held
+adds_none bytes held = record { front = []; rest = bytes; joined = refl; held = sym (adding_nothing held) }
 
 -- nothing more came
 pub stays : (given bytes waiting : List ℕ) (first now : Option (List ℕ)) → Gathered given first now waiting → GatheredBy (let r : Result Unit Stop = Err stop.NoMemory in r) (given ++ bytes) first now waiting
@@ -134,3 +138,8 @@ module _ (number count : ℕ) (h : Header) (events : List Event) (is : h ≡ hea
 
   pub end_stopped : (now : Option (List ℕ)) (mid new : List ℕ) → Gathered (head ++ body) first now mid → AddsFront (end_byte ∷ []) (Some mid) (Some new) → GatheredBy (let r : Result Unit Stop = Err stop.NoMemory in r) (generated number count) first now new
   end_stopped now mid new g cut = subst (λ (b : List ℕ). GatheredBy (let r : Result Unit Stop = Err stop.NoMemory in r) b first now new) (whole number count) (some_gathered (head ++ body) (end_byte ∷ []) mid new first now g cut)
+
+-- the state that the steps begin with
+pub steps_from : {A : Type 0} (r : Result A Stop) (count number state : ℕ) (given : List ℕ) (first now : Option (List ℕ)) (waiting : List ℕ) → state ≡ number
+    → GatheredBy r (given ++ flat_map event (steps count state)) first now waiting → GatheredBy r (given ++ flat_map event (steps count number)) first now waiting
+steps_from r count number state given first now waiting same gathered = subst (λ (x : ℕ). GatheredBy r (given ++ flat_map event (steps count x)) first now waiting) same gathered

@@ -3,10 +3,6 @@ use Rattle.std.proofs.Common.{◌≡◌, ℕ, zero, suc, ◌+◌, ◌-◌, ◌<�
 use Rattle.std.proofs.lemmas.List.{append-nil}
 use Rattle.std.proofs.lemmas.Grind.{flat_map-append}
 use Rattle.std.specs.List.{flat_map}
-use Rattle.std.specs.Prelude.{Option}
-use Rattle.px_ends.specs.Told.{after_adding}
-use Rattle.px_ends.specs.Whole.{AddsFront}
-use Rattle.px_session.proofs.Added.{front_then, both_added}
 use Rattle.px_session.specs.declared.event.Event.{Event}
 use Rattle.px_session.specs.Spelling.{event}
 use Rattle.px_gen.specs.Numbers.{next_state, next_number, state_after, sample, samples}

@@ -1,12 +1,10 @@
 -- Parts that are written one behind the other.
-use Rattle.std.proofs.Common.{◌≡◌, ℕ, List, [], ◌∷◌, ◌++◌, Option, Result, Ok, Err, sym, ap, subst, ◌∙◌, append_assoc}
+use Rattle.std.proofs.Common.{◌≡◌, ℕ, List, [], ◌∷◌, ◌++◌, Option, Result, Ok, Err, sym, ap, ◌∙◌, append_assoc}
 use Rattle.std.proofs.lemmas.List.{append-nil}
 use Rattle.std.proofs.lemmas.Grind.{flat_map-append}
 use Rattle.std.specs.List.{flat_map}
 use Rattle.px_ends.specs.Told.{after_adding}
 use Rattle.px_ends.specs.Whole.{AddsFront}
-use Rattle.px_session.specs.declared.event.Event.{Event}
-use Rattle.px_session.specs.declared.header.Header.{Header}
 use Rattle.px_session.specs.Spelling.{event, end_byte}
 use Rattle.px_session.specs.Spelling as spelling
 use Rattle.px_session.proofs.Added.{front_then, both_added}

@@ -1,6 +1,6 @@
 // A session of a number and a count.
 
-ghost use Rattle.std.specs.Prelude.{◌≡◌, ℕ, List, [], ◌++◌, Option, OnOk};
+ghost use Rattle.std.specs.Prelude.{◌≡◌, ℕ, List, [], ◌++◌, Option, Some, OnOk};
 ghost use Rattle.std.specs.List.{flat_map, AllByRecursion};
 ghost use Rattle.px_session.specs.Spelling.{event};
 ghost use Rattle.px_session.specs.Spelling as spelling;
@@ -18,8 +18,33 @@ use px_session::{Event, Header, write_end, write_header};
 use px_types::Status;
 use std::alloc::Global;
 
+// Gathers the events of the next step.
+#[tactic(auto, using(crate::proofs::Gathering::adds_none, crate::proofs::Fitting::step_fits))]
+fn gather_step(alloc: Global, numbers: &mut Numbers, pieces: &mut Pieces) -> Result<(), Stop>
+    ensures bytes { Writes result (flat_map event (step_events numbers.old.state)) (Some pieces.old.bytes) (Some pieces.new.bytes) }
+    ensures state { OnOk result (numbers.new.state ≡ step_state numbers.old.state) }
+{
+    let Ok(events) = step(alloc, numbers) else {
+        return Err(Stop::NoMemory);
+    };
+    write_events(pieces, &events)
+}
+
+// Writes what waits where that is a piece.
+fn write_piece<K: Sink>(pieces: &mut Pieces, out: &mut K) -> Result<(), Stop>
+    ensures bytes { (first : Option (List ℕ)) (given : List ℕ) → Gathered given first (K.held out.old) pieces.old.bytes → GatheredBy result given first (K.held out.new) pieces.new.bytes }
+    ensures count { Counts result (K.faults out.old) (K.faults out.new) }
+{
+    if !pieces.is_piece() {
+        return Ok(());
+    }
+    match pieces.flush(out) {
+        Ok(()) => Ok(()),
+        Err(_) => Err(Stop::Failed),
+    }
+}
+
 // Gathers the events of the next step, and writes what waits where that is a piece.
-#[tactic(auto, using(crate::proofs::Gathering::stays, crate::proofs::Fitting::step_fits))]
 fn write_step<K: Sink>(
     alloc: Global,
     numbers: &mut Numbers,
@@ -31,19 +56,10 @@ fn write_step<K: Sink>(
     ensures count { Counts result (K.faults out.old) (K.faults out.new) }
     ensures state { OnOk result (numbers.new.state ≡ step_state numbers.old.state) }
 {
-    let Ok(events) = step(alloc, numbers) else {
-        return Err(Stop::NoMemory);
-    };
-    if let Err(_) = write_events(pieces, &events) {
+    if let Err(_) = gather_step(alloc, numbers, pieces) {
         return Err(Stop::NoMemory);
     }
-    if pieces.is_piece() {
-        return match pieces.flush(out) {
-            Ok(()) => Ok(()),
-            Err(_) => Err(Stop::Failed),
-        };
-    }
-    Ok(())
+    write_piece(pieces, out)
 }
 
 // Gathers and writes the events of so many steps.
