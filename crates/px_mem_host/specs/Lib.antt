@@ -1,0 +1,2 @@
+pub mod MemoryHost
+pub mod SharedLink

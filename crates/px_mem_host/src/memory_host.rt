@@ -1,0 +1,350 @@
+// The host in memory.
+ghost use Rattle.std.specs.Prelude.{◌≡◌, ◌≤◌, Some, [], length, not, IfOk, IsFalse, IsTrue};
+ghost use Rattle.px_types.specs.Faults.{Rose};
+ghost use Rattle.px_ends.specs.Host.{Starts, Accepts, Makes, IsNewDevice, IsNewRecorder, one_device, one_recorder, one_core, FailsOnce, HasPart, HasCore, TakesPart, TakesCore};
+ghost use Rattle.px_ends.specs.Device.{IsShape};
+ghost use Rattle.px_ends.specs.MemoryDevice.{new_memory_device, state_of};
+ghost use Rattle.px_mem_host.specs.MemoryHost.{new_state, is_failing, called, StartFails, HandsOut, FailsAs, MakesAs};
+
+use crate::{LinkPlan, LinkPlans, Retired, SharedLink, Taken};
+use px_annals::{CoreEntry, LaneEntry, MemRecorder};
+use px_ends::{Accepted, Calls, DeviceShape, HeaderRead, Host, HostFault, MemDevice, ServeOptions};
+use px_types::{Mem, NoMemory, SinkId, Text};
+use std::alloc::Global;
+use std::collections::VecDeque;
+use std::marker::Model;
+use std::sync::Wait;
+
+/// A host that has its header and its links, and keeps what it takes back. It makes devices that consume by themselves, and histories in
+/// memory. Its calls that are listed fail. Own.
+#[derive(Drop)]
+pub struct MemHost<R: Wait> {
+    rt: R,
+    header: Text,
+    links: VecDeque<LinkPlan>,
+    each: u32,
+    total: u32,
+    entries: usize,
+    bytes: usize,
+    failing: Calls,
+    calls: u64,
+    faults: u64,
+    overs: u64,
+    given: u16,
+    device_faults: u64,
+    fulls: u64,
+    devices: usize,
+    recorders: usize,
+    cores: usize,
+    started: Vec<ServeOptions>,
+    parts: Vec<Retired>,
+    core_recorders: Vec<MemRecorder<CoreEntry>>,
+}
+
+impl<R: Wait> Model for MemHost<R> {
+    ghost use Rattle.std.specs.Prelude.{◌+◌, ◌≤◌, Some, length, vec_capacity};
+    ghost use Rattle.px_mem_host.specs.MemoryHost.{MemoryHost};
+
+    ghost Value = { MemoryHost };
+
+    ghost view = { λ h. record {
+      links = h.links.items;
+      each = h.each;
+      total = h.total;
+      limit = record { entries = h.entries; bytes = h.bytes };
+      failing = h.failing;
+      calls = h.calls;
+      told = record {
+        faults = h.faults;
+        overs = h.overs;
+        links = h.given;
+        device_faults = h.device_faults;
+        recorder_faults = 0;
+        fulls = h.fulls;
+        lent = Some (record { devices = h.devices; recorders = h.recorders; cores = h.cores });
+        header = Some h.header;
+        started = Some h.started.items;
+        parts = Some h.parts.items;
+        core_recorders = Some h.core_recorders.items;
+      };
+    } };
+
+    ghost invariant = { λ h. (h.given + length h.links.items ≤ 65535)
+        × (length h.parts.items + h.devices ≤ vec_capacity h.parts)
+        × (length h.core_recorders.items + h.cores ≤ vec_capacity h.core_recorders) };
+}
+
+// A copy of options.
+fn copied(alloc: Global, options: &ServeOptions) -> Mem<ServeOptions>
+    ensures { IfOk result (λ copy. copy ≡ options.now) }
+{
+    Ok(ServeOptions {
+        header: Text::copied(alloc, options.header.as_slice())?,
+        socket: Text::copied(alloc, options.socket.as_slice())?,
+        out: Text::copied(alloc, options.out.as_slice())?,
+        accept: options.accept,
+        memory: options.memory,
+    })
+}
+
+// A device that consumes by itself.
+fn running(alloc: Global, shape: &DeviceShape, each: u32, total: u32) -> Mem<MemDevice>
+    requires { IsShape shape.now }
+    ensures { IfOk result (λ device. device ≡ record (new_memory_device shape.now) { each = each; left = total }) }
+{
+    let mut device = MemDevice::new(alloc, shape)?;
+    device.run_on(each, total)?;
+    Ok(device)
+}
+
+impl<R: Wait + Drop> MemHost<R> {
+    /// A host with the bytes of a header and with the links that it hands out, at most 65,535. Each device that it makes consumes `each`
+    /// frames at a sync, or what is buffered if that is less, until it consumed `total` frames. Each recorder that it makes holds so many
+    /// entries or so many bytes. Its calls of these numbers fail. Takes the room for all that its links are sent.
+    pub fn new(
+        rt: R,
+        alloc: Global,
+        header: Text,
+        links: LinkPlans,
+        each: u32,
+        total: u32,
+        entries: usize,
+        bytes: usize,
+        failing: Calls,
+    ) -> Mem<MemHost<R>>
+        requires { length links ≤ 65535 }
+        ensures { IfOk result (λ h. h ≡ record {
+          links = links;
+          each = each;
+          total = total;
+          limit = record { entries = entries; bytes = bytes };
+          failing = failing;
+          calls = 0;
+          told = new_state header;
+        }) }
+    {
+        links.clear(&rt, alloc)?;
+        Ok(MemHost {
+            rt,
+            header,
+            links: VecDeque::from_vec(links.into_vec()),
+            each,
+            total,
+            entries,
+            bytes,
+            failing,
+            calls: 0,
+            faults: 0,
+            overs: 0,
+            given: 0,
+            device_faults: 0,
+            fulls: 0,
+            devices: 0,
+            recorders: 0,
+            cores: 0,
+            started: Vec::new(alloc),
+            parts: Vec::new(alloc),
+            core_recorders: Vec::new(alloc),
+        })
+    }
+
+    /// What became of it.
+    pub fn into_taken(self) -> Taken
+        ensures started { self.told.started ≡ Some result.started.items }
+        ensures parts { self.told.parts ≡ Some result.parts.items }
+        ensures core_recorders { self.told.core_recorders ≡ Some result.core_recorders.items }
+    {
+        Taken {
+            started: self.started,
+            parts: self.parts,
+            core_recorders: self.core_recorders,
+        }
+    }
+
+    // One call more: whether it is to fail, which is a fault.
+    fn fails(&mut self) -> bool
+        ensures listed { result ≡ is_failing self.old }
+        ensures yes { IsTrue result → FailsOnce self.old.told self.new.told }
+        ensures no { IsFalse result → self.new.told ≡ self.old.told }
+        ensures after { self.new ≡ called self.old.links self.new.told self.old }
+    {
+        self.calls = self.calls.saturating_add(1);
+        if self.failing.has(self.calls) {
+            self.faults = self.faults.saturating_add(1);
+            return true;
+        }
+        false
+    }
+}
+
+impl<R: Wait + Copy + Drop + Send> Host for MemHost<R> {
+    type L = SharedLink<R>;
+
+    type D = MemDevice;
+
+    type R = MemRecorder<LaneEntry>;
+
+    type C = MemRecorder<CoreEntry>;
+
+    ghost now = { λ h. h.told };
+
+    fn start(&mut self, alloc: Global, options: &ServeOptions) -> HeaderRead
+        ensures host { Starts result options.now self.old.told self.new.told }
+        ensures fails { StartFails result (is_failing self.old) }
+        ensures after { self.new ≡ called self.old.links self.new.told self.old }
+    {
+        if self.fails() {
+            return HeaderRead::Failed;
+        }
+        let (Ok(header), Ok(options)) = (
+            Text::copied(alloc, self.header.as_slice()),
+            copied(alloc, options),
+        ) else {
+            return HeaderRead::NoMemory;
+        };
+        if self.started.push(options).is_err() {
+            return HeaderRead::NoMemory;
+        }
+        HeaderRead::Bytes(header)
+    }
+
+    fn accept(&mut self, _alloc: Global) -> Accepted<SharedLink<R>>
+        ensures host { Accepts result self.old.told self.new.told }
+        ensures gives { HandsOut result (is_failing self.old) self.old.links self.new.links }
+        ensures after { self.new ≡ called self.new.links self.new.told self.old }
+    {
+        if self.fails() {
+            return Accepted::Failed;
+        }
+        match self.links.pop_front() {
+            Some(plan) => {
+                self.given += 1;
+                Accepted::Link(SharedLink::new(self.rt, plan))
+            }
+            None => {
+                self.overs = self.overs.saturating_add(1);
+                Accepted::Over
+            }
+        }
+    }
+
+    fn device(
+        &mut self,
+        alloc: Global,
+        _name: &[u8],
+        shape: &DeviceShape,
+    ) -> Result<MemDevice, HostFault>
+        requires { IsShape shape.now }
+        ensures device { IfOk result (λ device. IsNewDevice shape.now (state_of device)) }
+        ensures host { Makes one_device result self.old.told self.new.told }
+        ensures made { MakesAs result (record (new_memory_device shape.now) { each = self.old.each; left = self.old.total }) (is_failing self.old) }
+        ensures after { self.new ≡ called self.old.links self.new.told self.old }
+    {
+        if self.fails() {
+            return Err(HostFault::Failed);
+        }
+        let Some(devices) = self.devices.checked_add(1) else {
+            return Err(HostFault::NoMemory);
+        };
+        if self.parts.reserve(devices).is_err() {
+            return Err(HostFault::NoMemory);
+        }
+        match running(alloc, shape, self.each, self.total) {
+            Ok(device) => {
+                self.devices = devices;
+                Ok(device)
+            }
+            Err(_) => Err(HostFault::NoMemory),
+        }
+    }
+
+    fn lane_recorder(&mut self, alloc: Global) -> Result<MemRecorder<LaneEntry>, HostFault>
+        ensures recorder { IfOk result (λ recorder. IsNewRecorder (Some recorder.held) 0 recorder.fulls) }
+        ensures host { Makes one_recorder result self.old.told self.new.told }
+        ensures fails { FailsAs result (is_failing self.old) }
+        ensures limit { IfOk result (λ recorder. recorder.limit ≡ self.old.limit) }
+        ensures after { self.new ≡ called self.old.links self.new.told self.old }
+    {
+        if self.fails() {
+            return Err(HostFault::Failed);
+        }
+        let Some(recorders) = self.recorders.checked_add(1) else {
+            return Err(HostFault::NoMemory);
+        };
+        match MemRecorder::new(alloc, self.entries, self.bytes) {
+            Ok(recorder) => {
+                self.recorders = recorders;
+                Ok(recorder)
+            }
+            Err(_) => Err(HostFault::NoMemory),
+        }
+    }
+
+    fn core_recorder(&mut self, alloc: Global) -> Result<MemRecorder<CoreEntry>, HostFault>
+        ensures recorder { IfOk result (λ recorder. IsNewRecorder (Some recorder.held) 0 recorder.fulls) }
+        ensures host { Makes one_core result self.old.told self.new.told }
+        ensures fails { FailsAs result (is_failing self.old) }
+        ensures limit { IfOk result (λ recorder. recorder.limit ≡ self.old.limit) }
+        ensures after { self.new ≡ called self.old.links self.new.told self.old }
+    {
+        if self.fails() {
+            return Err(HostFault::Failed);
+        }
+        let Some(cores) = self.cores.checked_add(1) else {
+            return Err(HostFault::NoMemory);
+        };
+        if self.core_recorders.reserve(cores).is_err() {
+            return Err(HostFault::NoMemory);
+        }
+        match MemRecorder::new(alloc, self.entries, self.bytes) {
+            Ok(recorder) => {
+                self.cores = cores;
+                Ok(recorder)
+            }
+            Err(_) => Err(HostFault::NoMemory),
+        }
+    }
+
+    fn may_start(&mut self) -> bool
+        ensures yes { IsTrue result → self.new.told ≡ self.old.told }
+        ensures no { IsFalse result → FailsOnce self.old.told self.new.told }
+        ensures fails { result ≡ not (is_failing self.old) }
+        ensures after { self.new ≡ called self.old.links self.new.told self.old }
+    {
+        !self.fails()
+    }
+
+    fn retire(&mut self, sink: SinkId, device: MemDevice, recorder: MemRecorder<LaneEntry>)
+        requires { HasPart self.old.told }
+        ensures host { TakesPart device.faults 0 recorder.fulls (record { sink = sink; device = device; recorder = recorder }) self.old.told self.new.told }
+        ensures after { self.new ≡ record self.old { told = self.new.told } }
+    {
+        if device.faults() > 0 {
+            self.device_faults = self.device_faults.saturating_add(1);
+        }
+        if recorder.fulls() > 0 {
+            self.fulls = self.fulls.saturating_add(1);
+        }
+        self.devices -= 1;
+        self.recorders -= 1;
+        self.parts
+            .push(Retired {
+                sink,
+                device,
+                recorder,
+            })
+            .unwrap();
+    }
+
+    fn retire_core(&mut self, recorder: MemRecorder<CoreEntry>)
+        requires { HasCore self.old.told }
+        ensures host { TakesCore 0 recorder.fulls recorder self.old.told self.new.told }
+        ensures after { self.new ≡ record self.old { told = self.new.told } }
+    {
+        if recorder.fulls() > 0 {
+            self.fulls = self.fulls.saturating_add(1);
+        }
+        self.cores -= 1;
+        self.core_recorders.push(recorder).unwrap();
+    }
+}

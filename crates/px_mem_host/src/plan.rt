@@ -1,0 +1,69 @@
+// What a link of a host in memory is to do.
+ghost use Rattle.std.specs.Prelude.{◌≡◌};
+
+use px_ends::Calls;
+use px_types::{Mem, NoMemory, Text};
+use std::alloc::Global;
+use std::marker::Model;
+use std::sync::{Arc, Mutex, Wait};
+
+/// A link that is to be handed out: the bytes that it gives, how many it takes, which of its calls find it not ready and which fail, and how
+/// many bytes are to be sent before it tells the end.
+#[derive(Drop)]
+pub struct LinkPlan {
+    pub bytes: Text,
+    pub room: usize,
+    pub late: Calls,
+    pub fail: Calls,
+    pub end_after: usize,
+    /// What was sent, for whoever keeps it too. It is emptied when its host is made.
+    pub sent: Arc<Mutex<Text>>,
+}
+
+impl LinkPlan {
+    // Empties the list of what was sent, with room for all that the link takes. Without memory it stays.
+    fn clear<R: Wait>(&self, rt: &R, alloc: Global) -> Mem<()> {
+        let room = Vec::with_capacity(alloc, self.room)?;
+        *self.sent.lock(rt) = Text::from_vec(room);
+        Ok(())
+    }
+}
+
+/// Links in the order in which they are handed out.
+#[derive(Drop)]
+pub struct LinkPlans {
+    plans: Vec<LinkPlan>,
+}
+
+impl Model for LinkPlans {
+    ghost use Rattle.std.specs.Prelude.{List};
+    ghost use Rattle.px_mem_host.specs.declared.plan.LinkPlan.{LinkPlan};
+
+    ghost Value = { List LinkPlan };
+
+    ghost view = { λ p. p.plans.items };
+}
+
+impl LinkPlans {
+    /// These links. Takes no memory.
+    pub fn from_vec(plans: Vec<LinkPlan>) -> LinkPlans
+        ensures { result ≡ plans.items }
+    {
+        LinkPlans { plans }
+    }
+
+    /// Empties the list of what each link is sent, with room for all that it takes.
+    pub(crate) fn clear<R: Wait>(&self, rt: &R, alloc: Global) -> Mem<()> {
+        for plan in self.plans.iter() {
+            plan.clear(rt, alloc)?;
+        }
+        Ok(())
+    }
+
+    /// The links as a vector. Takes no memory.
+    pub fn into_vec(self) -> Vec<LinkPlan>
+        ensures { result.items ≡ self }
+    {
+        self.plans
+    }
+}
