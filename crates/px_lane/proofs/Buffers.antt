@@ -11,6 +11,10 @@ use Rattle.px_lane.specs.Whole.{AreFramesOf}
 one_more : (size n : ℕ) → suc n * size ≡ size + n * size
 one_more size n = omega (arith, add-mul 1 n size)
 
+pub length_frames : (size n : ℕ) (bytes : List ℕ) → length (frames_of size n bytes) ≡ n
+length_frames size zero bytes = refl
+length_frames size (suc n) bytes = ap suc (length_frames size n (drop size bytes))
+
 -- the frames are those of as many bytes
 pub frames_taken : (size n : ℕ) (bytes : List ℕ) → frames_of size n (take (n * size) bytes) ≡ frames_of size n bytes
 frames_taken size zero bytes = refl

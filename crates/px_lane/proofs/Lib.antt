@@ -16,3 +16,6 @@ pub mod Orders
 pub mod Turning
 pub mod Attached
 pub mod Drains
+pub mod Sounding
+pub mod Staying
+pub mod Remixing

@@ -116,7 +116,7 @@ packed_run sink streams a (suc n) =
 
 -- ---- runs that stand one behind another
 
-range_parts : {X : Type 0} (f : ℕ → X) (a m n : ℕ) → map f (range_with_len a (m + n)) ≡ map f (range_with_len a m) ++ map f (range_with_len (a + m) n)
+pub range_parts : {X : Type 0} (f : ℕ → X) (a m n : ℕ) → map f (range_with_len a (m + n)) ≡ map f (range_with_len a m) ++ map f (range_with_len (a + m) n)
 range_parts f a zero n =
     let here : a ≡ a + 0 = omega arith in
     let none : 0 + n ≡ n = omega arith in

@@ -10,3 +10,4 @@ pub mod Taking
 pub mod Needed
 pub mod Lane
 pub mod Turned
+pub mod Unaltered

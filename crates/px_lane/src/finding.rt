@@ -1,6 +1,7 @@
 // Inputs of rising index with the one of an index changed, put in or left out.
 ghost use Rattle.std.specs.Prelude.{ℕ, ◌≡◌, ◌≤◌, ◌<◌, ◌+◌, ◌++◌, length, map, slice_index_or, vec_len, vec_capacity, IfOk, IfErr, MatchOption, None, Some};
 ghost use Rattle.std.specs.List.{AllByRecursion};
+ghost use Rattle.px_model.specs.Frame.{SampleSpec};
 ghost use Rattle.px_model.specs.Message.{Message};
 ghost use Rattle.px_model.specs.Sink.{IsRising, stream_at, with_change, with_input, without_input};
 ghost use Rattle.px_model.specs.Notice.{Notice as Told};
@@ -11,6 +12,7 @@ ghost use Rattle.px_stream.specs.Messages.{message_of, room_for, blocks_with};
 ghost use Rattle.px_lane.specs.Taking.{FactorsFit, SuitsAt, is_overflow, overflows_at};
 ghost use Rattle.px_lane.specs.Inputs.{inputs_of, HasRoom};
 ghost use Rattle.px_lane.specs.Lists.{plain_notice};
+ghost use Rattle.px_lane.specs.Unaltered.{MixesSame};
 ghost use Rattle.px_lane.specs.Places.{AreBelow, IsAt, IsGap};
 ghost use Rattle.px_lane.specs.declared.input.Input.{Input as DeclaredInput};
 
@@ -74,6 +76,18 @@ pub(crate) fn change_at<B: BlockSource>(
             let input = &mut inputs[place];
             is_overflow(input.stream.apply(change, mixed, blocks))
         }
+    }
+}
+
+/// How many frames past the horizon are mixed as before once a message is applied to the stream of this index.
+pub(crate) fn unaltered_at(inputs: &[Input], index: InputId, change: &StreamMsg) -> u64
+    requires rising { IsRising (inputs_of inputs.now) }
+    requires suits { SuitsAt (stream_at index.0 (inputs_of inputs.now)) (message_of change.now) }
+    ensures { (sink : SampleSpec) (mixed : ℕ) → MixesSame sink result (inputs_of inputs.now) (with_change index.0 (applied mixed (message_of change.now)) (inputs_of inputs.now)) }
+{
+    match find(inputs, index) {
+        Err(_) => u64::MAX,
+        Ok(place) => inputs[place].stream.unaltered(change),
     }
 }
 

@@ -1,6 +1,7 @@
 // The inputs of a sink.
 ghost use Rattle.std.specs.Prelude.{ℕ, ◌≡◌, ◌≤◌, ◌+◌, ◌-◌, ◌++◌, [], length, map, flat_map, MatchOption, None, Some, OnOk};
 ghost use Rattle.std.specs.List.{AllByRecursion};
+ghost use Rattle.px_model.specs.Frame.{SampleSpec};
 ghost use Rattle.px_model.specs.Going.{after};
 ghost use Rattle.px_model.specs.Sink.{stream_at, with_input, without_input, with_change, with_stream};
 ghost use Rattle.px_model.specs.Message.{Message};
@@ -10,10 +11,11 @@ ghost use Rattle.px_model.specs.Turn.{going_notices, asked_stream, asked_notices
 ghost use Rattle.px_stream.specs.Messages.{message_of, blocks_with};
 ghost use Rattle.px_lane.specs.Inputs.{input_of, inputs_of, HasRoom};
 ghost use Rattle.px_lane.specs.Asked.{drained, drained_notices};
+ghost use Rattle.px_lane.specs.Unaltered.{MixesSame};
 ghost use Rattle.px_lane.specs.Taking.{FactorsFit, SuitsAt, IsRoomy, overflows_at};
 
 use crate::NoticeList;
-use crate::finding::{answer_at, change_at, close_at, open_at, set_each};
+use crate::finding::{answer_at, change_at, close_at, open_at, set_each, unaltered_at};
 use crate::input::Input;
 use crate::memory::reserve_inputs;
 use px_block::BlockSource;
@@ -125,6 +127,14 @@ impl Inputs {
         let brought = blocks_with(&change) as u32;
         self.block_room -= brought;
         change_at(self.items.as_mut_slice(), input, change, mixed, blocks)
+    }
+
+    /// How many frames past the horizon are mixed as before once a message is applied to a stream, wherever the sink has mixed to.
+    pub(crate) fn unaltered(&self, input: InputId, change: &StreamMsg) -> u64
+        requires { SuitsAt (stream_at input.0 self.now.inputs) (message_of change.now) }
+        ensures { (sink : SampleSpec) (mixed : ℕ) → MixesSame sink result self.now.inputs (with_change input.0 (applied mixed (message_of change.now)) self.now.inputs) }
+    {
+        unaltered_at(self.items.as_slice(), input, change)
     }
 
     /// Replaces the factors of each of these inputs that is there.

@@ -37,6 +37,8 @@ pub(crate) struct SinkMixer {
     horizon: u64,
     stopped: bool,
     bytes: Vec<u8>,
+    // how many frames past the horizon are the mix of the streams as they stand
+    unaltered: u64,
     inputs: Inputs,
 }
 
@@ -44,6 +46,7 @@ impl Model for SinkMixer {
     ghost use Rattle.std.specs.Prelude.{◌≡◌, ◌*◌, ◌≤◌, length};
     ghost use Rattle.px_sample.specs.Format.{frame_size_of};
     ghost use Rattle.px_lane.specs.Mixing.{RoomySink, IsMixed, Counts, AreInOrder, sink_of};
+    ghost use Rattle.px_lane.specs.Unaltered.{IsUnaltered};
 
     ghost Value = { RoomySink };
 
@@ -55,7 +58,8 @@ impl Model for SinkMixer {
 
     ghost invariant = { λ m. IsMixed m.spec
         × AreInOrder (record { guard = m.guard; depth = m.depth; consumed = m.consumed; filled = m.filled; horizon = m.horizon })
-        × (length m.bytes.items ≡ m.depth * frame_size_of m.spec) };
+        × (length m.bytes.items ≡ m.depth * frame_size_of m.spec)
+        × IsUnaltered m.unaltered (sink_of m.spec (record { guard = m.guard; depth = m.depth; consumed = m.consumed; filled = m.filled; horizon = m.horizon }) m.stopped m.bytes.items m.inputs.inputs) };
 }
 
 // So many bytes of zero.
@@ -75,20 +79,27 @@ fn move_to_front(bytes: &mut Vec<u8>, count: usize)
     bytes.copy_within(count.., 0);
 }
 
-// Mixes so many frames in place of the last bytes, those from place `from` on.
-fn mix_behind(sink: &Spec, inputs: &Inputs, frames: usize, bytes: &mut Vec<u8>, from: usize)
+// Mixes so many frames, the first of them so many ahead, in place of the last bytes, those from place `from` on.
+fn mix_behind(
+    sink: &Spec,
+    inputs: &Inputs,
+    ahead: u32,
+    frames: usize,
+    bytes: &mut Vec<u8>,
+    from: usize,
+)
     requires mixed { IsMixed sink.now }
     requires streams { AllByRecursion (λ x. IsStreamOf (sample_spec sink.now) (Stands.stream x)) inputs.now.inputs }
     requires few { length inputs.now.inputs ≤ 256 }
-    requires near { frames < 2 ^ 32 }
+    requires near { ahead + frames < 2 ^ 32 }
     requires size { length bytes.old.items ≡ from + frames * frame_size_of sink.now }
     ensures size { length bytes.new.items ≡ length bytes.old.items }
-    ensures bytes { bytes.new.items ≡ take from bytes.old.items ++ concat (map (mix_of samples (sample_spec sink.now) (streams_of inputs.now.inputs)) (range_with_len 0 frames)) }
+    ensures bytes { bytes.new.items ≡ take from bytes.old.items ++ concat (map (mix_of samples (sample_spec sink.now) (streams_of inputs.now.inputs)) (range_with_len ahead frames)) }
 {
     mix_frames(
         sink,
         inputs.as_slice(),
-        0,
+        ahead,
         frames,
         &mut bytes.as_mut_slice()[from..],
     );
@@ -111,6 +122,7 @@ impl SinkMixer {
             horizon: 0,
             stopped: false,
             bytes: zeros(alloc, sink.depth as usize * size)?,
+            unaltered: 0,
             inputs: Inputs::new(alloc),
         })
     }
@@ -175,6 +187,7 @@ impl SinkMixer {
         blocks: &mut B,
     )
         requires there { frames ≤ self.old.sink.filled - self.old.sink.consumed }
+        requires streams { AllByRecursion (λ x. IsStreamOf self.old.sink.spec (Stands.stream x)) self.old.sink.inputs }
         requires room { length out.old.notices + length (flat_map (going_notices (next_horizon self.old.sink frames - self.old.sink.horizon)) self.old.sink.inputs) ≤ out.old.capacity }
         ensures value { self.new.sink ≡ settled self.old.sink frames }
         ensures room { self.new.room ≡ self.old.room }
@@ -185,8 +198,10 @@ impl SinkMixer {
         let size = self.spec.frame_size();
         let consumed = self.consumed + frames;
         let horizon = self.filled.min(consumed + self.guard as u64);
-        self.inputs.go(horizon - self.horizon, out, blocks);
+        let gone = horizon - self.horizon;
+        self.inputs.go(gone, out, blocks);
         move_to_front(&mut self.bytes, frames as usize * size);
+        self.unaltered = self.unaltered.saturating_sub(gone);
         self.consumed = consumed;
         self.horizon = horizon;
     }
@@ -212,7 +227,8 @@ impl SinkMixer {
     {
         let mixed = self.filled - self.horizon;
         let buffered = (self.filled - self.consumed) as u32;
-        self.inputs.take_all(messages, mixed, buffered, out, blocks);
+        let same = self.inputs.take_all(messages, mixed, buffered, out, blocks);
+        self.unaltered = self.unaltered.min(same);
     }
 
     /// Gives up all frames from the horizon on, for good.
@@ -223,10 +239,11 @@ impl SinkMixer {
         ensures block_room { self.new.block_room ≡ self.old.block_room }
     {
         self.filled = self.horizon;
+        self.unaltered = 0;
         self.stopped = true;
     }
 
-    /// Mixes all frames from the horizon on afresh, up to the depth.
+    /// Has all frames from the horizon on mixed afresh, up to the depth: those that are altered, and those that are new.
     pub(crate) fn remix(&mut self)
         requires streams { AllByRecursion (λ x. IsStreamOf self.old.sink.spec (Stands.stream x)) self.old.sink.inputs }
         requires few { length self.old.sink.inputs ≤ 256 }
@@ -236,16 +253,19 @@ impl SinkMixer {
         ensures room { self.new.room ≡ self.old.room }
         ensures block_room { self.new.block_room ≡ self.old.block_room }
     {
-        let kept = self.horizon - self.consumed;
+        let below = self.horizon - self.consumed;
+        let kept = below + self.unaltered;
         let frames = self.depth as u64 - kept;
         let from = kept as usize * self.spec.frame_size();
         mix_behind(
             &self.spec,
             &self.inputs,
+            self.unaltered as u32,
             frames as usize,
             &mut self.bytes,
             from,
         );
+        self.unaltered = self.depth as u64 - below;
         self.filled = self.consumed + self.depth as u64;
     }
 

@@ -2,6 +2,7 @@
 ghost use Rattle.std.specs.Prelude.{ℕ, ◌≡◌, ◌≤◌, ◌+◌, ◌-◌, ◌++◌, ◌∷◌, [], List, length, map, take, drop, flat_map, MatchOption, IfOk, OnOk, OnErr};
 ghost use Rattle.std.specs.List.{AllByRecursion, sum_by};
 ghost use Rattle.std.specs.VecDeque.{deque_capacity};
+ghost use Rattle.px_model.specs.Frame.{SampleSpec};
 ghost use Rattle.px_model.specs.Stream.{Stream as Plain};
 ghost use Rattle.px_model.specs.Message.{Message};
 ghost use Rattle.px_model.specs.Sink.{Input as Stands};
@@ -9,6 +10,7 @@ ghost use Rattle.px_model.specs.Turn.{inputs_with, message_notices, inputs_with_
 ghost use Rattle.px_lane.specs.Lists.{plain_message, messages_of};
 ghost use Rattle.px_stream.specs.Kept.{KeptStream};
 ghost use Rattle.px_lane.specs.Needed.{blocks_of};
+ghost use Rattle.px_lane.specs.Unaltered.{MixesSame};
 ghost use Rattle.px_lane.specs.Taking.{CanTake, CanTakeAll, streams_of, IsRoomy, BringsRoom, HasRoomLeft, IsReadyFor};
 
 use crate::NoticeList;
@@ -164,7 +166,7 @@ fn ready(message: Msg<Stream>, streams: &mut VecDeque<Stream>) -> Ready
 
 impl Inputs {
     /// Takes all messages in order, where so many frames are mixed past the horizon and so many are in the sink's buffer, and tells what
-    /// they have to tell. Takes no memory.
+    /// they have to tell. Answers how many frames past the horizon are mixed as before. Takes no memory.
     pub(crate) fn take_all<B: BlockSource>(
         &mut self,
         messages: &mut Prepared,
@@ -172,7 +174,7 @@ impl Inputs {
         buffered: u32,
         out: &mut NoticeList,
         blocks: &mut B,
-    )
+    ) -> u64
         requires room { length messages.old.messages ≤ self.old.room }
         requires block_room { sum_by blocks_of messages.old.messages ≤ self.old.block_room }
         requires comes { self.old.room ≤ messages.old.room }
@@ -184,9 +186,13 @@ impl Inputs {
         ensures capacity { out.new.capacity ≡ out.old.capacity }
         ensures messages { messages.new.messages ≡ [] }
         ensures list { messages.new.capacity ≡ messages.old.capacity }
+        ensures unaltered { (sink : SampleSpec) → MixesSame sink result self.old.inputs self.new.inputs }
     {
+        let mut unaltered = u64::MAX;
         while let Some(message) = messages.next() {
-            self.take(message, mixed, buffered, out, blocks);
+            let same = self.take(message, mixed, buffered, out, blocks);
+            unaltered = unaltered.min(same);
         }
+        unaltered
     }
 }

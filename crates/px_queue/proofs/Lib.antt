@@ -4,3 +4,4 @@ pub mod Going
 pub mod Packing
 pub mod Copying
 pub mod Listed
+pub mod Hearing

@@ -3,3 +3,4 @@ pub mod Kept
 pub mod Pushed
 pub mod Peeked
 pub mod Plain
+pub mod Heard

@@ -1,10 +1,11 @@
 // Frames are written.
-ghost use Rattle.std.specs.Prelude.{◌≡◌, ℤ, List, ◌+◌, ◌*◌, ◌≤◌, ◌-ℤ◌, int_lt, length, ◌==◌, ◌&&◌, ◌||◌, IfOk, IfErr};
+ghost use Rattle.std.specs.Prelude.{◌≡◌, ℕ, ℤ, List, ◌<◌, ◌+◌, ◌*◌, ◌≤◌, ◌-ℤ◌, int_lt, length, ◌==◌, ◌&&◌, ◌||◌, IfOk, IfErr};
 ghost use Rattle.px_block.specs.Given.{after_giving, blocks_for};
 ghost use Rattle.px_model.specs.Frame.{Frame, frames_of};
 ghost use Rattle.px_model.specs.Index.{onward};
 ghost use Rattle.px_model.specs.Queue.{end_of};
-ghost use Rattle.px_model.specs.Write.{stored, overflow, seek_of, origin_of, target_of, outcome_of, queue_with};
+ghost use Rattle.px_model.specs.Write.{Outcome, stored, overflow, seek_of, origin_of, target_of, outcome_of, queue_with};
+ghost use Rattle.px_queue.specs.Heard.{heard_of};
 ghost use Rattle.px_queue.specs.Pushed.{outcome_for, Carries, IsPlaced, IsMissed};
 
 use crate::FrameQueue;
@@ -68,6 +69,23 @@ impl FrameQueue {
         }
         self.store(Chunk::new(at, self.frame, frames, bytes));
         Pushed::Stored
+    }
+
+    /// How many of the next frames are heard as before once frames are written with this seek, however that ends: those before the
+    /// index that it goes to, and none where the queue waits for frames or that is no index.
+    #[tactic(auto, using(crate::proofs::Hearing::heard_before))]
+    pub fn unaltered(&self, seek: u8, offset: i64) -> u64
+        requires { seek ≤ 3 }
+        ensures { (outcome : Outcome) (frames : List Frame) (k : ℕ) → k < result
+            → heard_of (queue_with outcome self.now.queue (target_of self.now.queue (seek_of seek) offset) frames) k ≡ heard_of self.now.queue k }
+    {
+        if self.hold {
+            return 0;
+        }
+        match self.origin(seek).shifted(offset) {
+            Ok(at) => at.above(self.read),
+            Err(_) => 0,
+        }
     }
 
     // The indices at which so many frames begin and end; the first of the two numbers that is no index.

@@ -3,3 +3,4 @@ pub mod Runs
 pub mod Keeping
 pub mod Writing
 pub mod Reading
+pub mod Sounding

@@ -3,3 +3,4 @@ pub mod Kept
 pub mod Messages
 pub mod Values
 pub mod Plain
+pub mod Heard

@@ -4,6 +4,7 @@
 #![tactic(auto)]
 
 mod going;
+mod hearing;
 mod message;
 mod plain;
 mod run;

@@ -11,21 +11,21 @@ use Rattle.px_lane.specs.Taking.{CanTakeAll}
 use Rattle.px_lane.proofs.Readied.{take_fits, left_less}
 use Rattle.px_lane.proofs.inputs.Inputs.take_all.Goals as goal
 
-pub take-requires-clause-block_room : goal.take-requires-clause-block_room
-take-requires-clause-block_room g c =
+pub take-same-requires-clause-block_room : goal.take-same-requires-clause-block_room
+take-same-requires-clause-block_room g c =
     let l = c.loop-message in
     let n = c.in-Some.ensures.value in
     let whole : sum_by blocks_of l.messages.messages ≡ blocks_of n.0 + sum_by blocks_of c.next.new.self.messages =
     ap (λ (ms : List (Message Stream)). sum_by blocks_of ms) n.1 ∙ sum_by-cons blocks_of n.0 c.next.new.self.messages in
     omega (arith, whole, n.2.blocks, l.invariant.7)
 
-pub take-requires-clause-comes : goal.take-requires-clause-comes
-take-requires-clause-comes g c =
+pub take-same-requires-clause-comes : goal.take-same-requires-clause-comes
+take-same-requires-clause-comes g c =
     let l = c.loop-message in
     left_less l.messages.room (l.self.room - 1) l.messages.block_room l.self.block_room c.in-Some.message (omega (arith, l.invariant.4)) l.invariant.8 c.in-Some.ensures.value.3
 
-pub take-requires-clause-capacity : goal.take-requires-clause-capacity
-take-requires-clause-capacity g c =
+pub take-same-requires-clause-capacity : goal.take-same-requires-clause-capacity
+take-same-requires-clause-capacity g c =
     let l = c.loop-message in
     let n = c.in-Some.ensures.value in
     take_fits c.args.mixed c.args.buffered c.in-Some.message n.0 l.messages.messages c.next.new.self.messages l.self.inputs
@@ -42,19 +42,20 @@ loop-message-preserved g c =
     let rest : List (Message Stream) = c.next.new.self.messages in
     let whole : sum_by blocks_of l.messages.messages ≡ blocks_of m + sum_by blocks_of rest =
     ap (λ (ms : List (Message Stream)). sum_by blocks_of ms) n.1 ∙ sum_by-cons blocks_of m rest in
-    let inputs : c.take.new.self.inputs ≡ inputs_with mixed m l.self.inputs = c.take.ensures.inputs ∙ n.2.inputs mixed l.self.inputs in (
+    let inputs : c.take-same.new.self.inputs ≡ inputs_with mixed m l.self.inputs = c.take-same.ensures.inputs ∙ n.2.inputs mixed l.self.inputs in (
       ap (λ (xs : List Stands). inputs_with_all mixed rest xs) inputs ∙ ap (λ (ms : List (Message Stream)). inputs_with_all mixed ms l.self.inputs) (sym n.1) ∙ l.invariant.0,
-      ap (λ (ns : List (Notice Stream)). ns ++ all_message_notices mixed buffered rest c.take.new.self.inputs)
-          (c.take.ensures.notices ∙ ap (λ (ns : List (Notice Stream)). l.out.notices ++ ns) (n.2.notices mixed buffered l.self.inputs))
-          ∙ append_assoc l.out.notices (message_notices mixed buffered m l.self.inputs) (all_message_notices mixed buffered rest c.take.new.self.inputs)
+      ap (λ (ns : List (Notice Stream)). ns ++ all_message_notices mixed buffered rest c.take-same.new.self.inputs)
+          (c.take-same.ensures.notices ∙ ap (λ (ns : List (Notice Stream)). l.out.notices ++ ns) (n.2.notices mixed buffered l.self.inputs))
+          ∙ append_assoc l.out.notices (message_notices mixed buffered m l.self.inputs) (all_message_notices mixed buffered rest c.take-same.new.self.inputs)
           ∙ ap (λ (xs : List Stands). l.out.notices ++ (message_notices mixed buffered m l.self.inputs ++ all_message_notices mixed buffered rest xs)) inputs
           ∙ ap (λ (ms : List (Message Stream)). l.out.notices ++ all_message_notices mixed buffered ms l.self.inputs) (sym n.1)
           ∙ l.invariant.1,
       subst (λ (xs : List Stands). CanTakeAll mixed rest xs) (sym inputs) (subst (λ (ms : List (Message Stream)). CanTakeAll mixed ms l.self.inputs) n.1 l.invariant.2).1,
-      omega (arith, ap (λ (ms : List (Message Stream)). length ms) n.1, l.invariant.3, c.take.ensures.room),
-      omega (arith, c.take.ensures.less, c.next.ensures.room, l.invariant.4),
-      c.take.ensures.capacity ∙ l.invariant.5,
+      omega (arith, ap (λ (ms : List (Message Stream)). length ms) n.1, l.invariant.3, c.take-same.ensures.room),
+      omega (arith, c.take-same.ensures.less, c.next.ensures.room, l.invariant.4),
+      c.take-same.ensures.capacity ∙ l.invariant.5,
       c.next.ensures.capacity ∙ l.invariant.6,
-      omega (arith, whole, n.2.blocks, c.take.ensures.block_room, l.invariant.7),
-      omega (arith, c.take.ensures.block_room, c.next.ensures.block_room, l.invariant.8),
+      omega (arith, whole, n.2.blocks, c.take-same.ensures.block_room, l.invariant.7),
+      omega (arith, c.take-same.ensures.block_room, c.next.ensures.block_room, l.invariant.8),
+      λ sink k less. c.take-same.ensures.unaltered sink k (omega (arith, less, c.min-unaltered.ensures)) ∙ l.invariant.9 sink k (omega (arith, less, c.min-unaltered.ensures)),
     )

@@ -1,8 +1,10 @@
 use Rattle.std.proofs.Common.{◌≡◌, ◌≤◌, ◌++◌, length}
 use Rattle.std.specs.List.{sum_by}
+use Rattle.px_model.specs.Frame.{SampleSpec}
 use Rattle.px_model.specs.Turn.{inputs_with_all, all_message_notices}
 use Rattle.px_lane.specs.Needed.{blocks_of}
 use Rattle.px_lane.specs.Taking.{CanTakeAll}
+use Rattle.px_lane.specs.Unaltered.{MixesSame}
 use Rattle.px_lane.proofs.inputs.Inputs.take_all.Given as goal
 
 abbrev pub invariant-loop-message : goal.invariant-loop-message
@@ -16,6 +18,7 @@ invariant-loop-message g l =
     × (l.messages.capacity ≡ l.fn.messages.capacity)
     × (sum_by blocks_of l.messages.messages ≤ l.self.block_room)
     × (l.self.block_room ≤ l.messages.block_room)
+    × ((sink : SampleSpec) → MixesSame sink l.unaltered l.fn.self.inputs l.self.inputs)
 
 abbrev pub decreases-loop-message : goal.decreases-loop-message
 decreases-loop-message g l = length l.messages.messages

@@ -1,0 +1,62 @@
+-- A sink of which the frames past those that stay are mixed.
+use Rattle.std.proofs.Common.{◌≡◌, ℕ, ◌+◌, ◌-◌, ◌*◌, ◌≤◌, List, ◌++◌, Bool, map, length, take, ap, sym, ◌∙◌, arith, append_assoc}
+use Rattle.std.proofs.Math.Nat.{mul-le-mul_right}
+use Rattle.std.specs.List.{concat, range_with_len}
+use Rattle.std.proofs.lemmas.List.FromFn.{length-map-range_with_len}
+use Rattle.px_sample.specs.declared.spec.Spec.{Spec}
+use Rattle.px_sample.specs.Format.{frame_size_of, IsLinear}
+use Rattle.px_msg.specs.View.{sample_spec}
+use Rattle.px_model.specs.Frame.{Frame, frames_of}
+use Rattle.px_model.specs.Sink.{Sink, Input, streams_of}
+use Rattle.px_model.specs.Mix.{mix_of}
+use Rattle.px_model.specs.Turn.{remixed}
+use Rattle.px_lane.specs.Mixing.{Counts, AreInOrder, sink_of}
+use Rattle.px_lane.specs.Unaltered.{IsUnaltered}
+use Rattle.px_stream.specs.Samples.{samples}
+use Rattle.px_lane.proofs.Buffers.{frames_renewed, length_frames}
+use Rattle.px_lane.proofs.Runs.{range_parts}
+use Rattle.px_lane.proofs.Shares.{mixes_sized}
+use Rattle.px_lane.proofs.Staying.{kept_are, remixed_stays}
+
+module _ (spec : Spec) (linear : IsLinear spec.format) (counts : Counts) (order : AreInOrder counts) (stopped : Bool) (old : List ℕ) (inputs : List Input) (n : ℕ)
+    (full : length old ≡ counts.depth * frame_size_of spec) (stays : IsUnaltered n (sink_of spec counts stopped old inputs)) where
+  abbrev before : Sink
+  before = sink_of spec counts stopped old inputs
+
+  abbrev below : ℕ
+  below = counts.horizon - counts.consumed
+
+  abbrev more : ℕ
+  more = counts.depth - (below + n)
+
+  abbrev mix : ℕ → Frame
+  mix = mix_of samples (sample_spec spec) (streams_of inputs)
+
+  long : length before.buffer ≡ counts.filled - counts.consumed
+  long = length_frames (frame_size_of spec) (counts.filled - counts.consumed) old
+
+  joined : (zero_on : 0 + n ≡ n) (all : n + more ≡ counts.consumed + counts.depth - counts.horizon) → map mix (range_with_len 0 n) ++ map mix (range_with_len n more) ≡ map mix (range_with_len 0 (counts.consumed + counts.depth - counts.horizon))
+  joined zero_on all =
+      ap (λ (a : ℕ). map mix (range_with_len 0 n) ++ map mix (range_with_len a more)) (sym zero_on)
+      ∙ sym (range_parts mix 0 n more)
+      ∙ ap (λ (m : ℕ). map mix (range_with_len 0 m)) all
+
+  pub remixed_is : (new : List ℕ) → new ≡ take ((below + n) * frame_size_of spec) old ++ concat (map mix (range_with_len n more))
+      → sink_of spec (record counts { filled = counts.consumed + counts.depth }) stopped new inputs ≡ remixed samples before
+  remixed_is new made =
+      let size = frame_size_of spec in
+      let count : length (map mix (range_with_len n more)) ≡ more = length-map-range_with_len mix n more in
+      let all : (below + n) + more ≡ counts.consumed + counts.depth - counts.consumed = omega (arith, order.consumed_first, order.horizon_first, order.filled_bounded, stays.within) in
+      let few : below + n ≤ counts.depth = omega (arith, order.consumed_first, order.horizon_first, order.filled_bounded, stays.within) in
+      let was : (below + n) + (counts.filled - counts.horizon - n) ≡ counts.filled - counts.consumed = omega (arith, order.consumed_first, order.horizon_first, stays.within) in
+      ap (λ (b : List Frame). let s : Sink = record (remixed samples before) { buffer = b } in s)
+      (ap (λ (m : ℕ). frames_of (frame_size_of spec) m new) (sym (ap (λ (m : ℕ). (below + n) + m) count ∙ all))
+      ∙ frames_renewed (frame_size_of spec) (below + n) (counts.filled - counts.horizon - n) old new (map mix (range_with_len n more)) made
+      (omega (arith, full, mul-le-mul_right (frame_size_of spec) few)) (mixes_sized spec linear (streams_of inputs) n more)
+      ∙ ap (λ (m : ℕ). take (below + n) (frames_of (frame_size_of spec) m old) ++ map mix (range_with_len n more)) was
+      ∙ ap (λ (fs : List Frame). fs ++ map mix (range_with_len n more)) (kept_are before n order.consumed_first long stays)
+      ∙ append_assoc (take below before.buffer) (map mix (range_with_len 0 n)) (map mix (range_with_len n more))
+      ∙ ap (λ (fs : List Frame). take below before.buffer ++ fs) (joined (omega arith) (omega (arith, order.consumed_first, order.horizon_first, order.filled_bounded, stays.within))))
+
+  pub all_stays : IsUnaltered (counts.depth - below) (remixed samples before)
+  all_stays = remixed_stays before order.consumed_first order.horizon_first order.filled_bounded long

@@ -1,0 +1,15 @@
+-- What of a sink's mix stays from one turn to the next.
+use Rattle.std.specs.Prelude.{◌≡◌, ℕ, ◌+◌, ◌-◌, ◌<◌, ◌≤◌, List, Some, slice_get}
+use Rattle.px_model.specs.Frame.{SampleSpec}
+use Rattle.px_model.specs.Mix.{mix_of}
+use Rattle.px_model.specs.Sink.{Sink, Input, streams_of}
+use Rattle.px_stream.specs.Samples.{samples}
+
+-- the mix of the first n frames past the horizon is the same
+abbrev pub MixesSame : SampleSpec → ℕ → List Input → List Input → Type 0
+MixesSame sink n before after = (k : ℕ) → k < n → mix_of samples sink (streams_of after) k ≡ mix_of samples sink (streams_of before) k
+
+-- the first n frames of a sink's buffer past the horizon are the mix of its streams as they stand
+pub record IsUnaltered (n : ℕ) (sink : Sink) : Type 0 where
+  pub within : n ≤ sink.filled - sink.horizon
+  pub mixed : (k : ℕ) → k < n → slice_get sink.buffer ((sink.horizon - sink.consumed) + k) ≡ Some (mix_of samples sink.spec (streams_of sink.inputs) k)
