@@ -65,7 +65,16 @@ use Rattle.px_ctl_play.specs.Move.{feed_to}
 use Rattle.px_core.specs.Delayed.{delayed_of}
 use Rattle.px_core.specs.Notice.{input_on, owner_of, left_of, arrival_between, arrival_at, arrived_with, given_up_by, given_up, notice_answer}
 use Rattle.px_targets.specs.Sinks.{rate_on, target_at}
-use Rattle.px_core.specs.Step.{Step, connect, frame, broken, close, cut, sweep, notice, out, body_answer, frame_of, sender_of, answer_of, stepped, effects_of}
+use Rattle.px_core.specs.Step.{Step, connect, frame, broken, close, cut, sweep, notice, out, body_answer, frame_of, sender_of, answer_of, answered, answer_effects, stepped, effects_of}
+use Rattle.px_events.specs.declared.announce.Subscriber.{Subscriber}
+use Rattle.px_events.specs.declared.event.Event.{Event}
+use Rattle.px_events.specs.Event.{message_of, hears}
+use Rattle.px_events.specs.Announce.{told_to, announced, announced_all}
+use Rattle.px_events.specs.Became.{events_between}
+use Rattle.px_events.specs.Told.{infos_in}
+use Rattle.px_shown.specs.Shown.{telling_of, subscribers_of, given_in, told_between}
+use Rattle.px_core.specs.Events.{scene_of, step_events}
+use Rattle.px_core.proofs.SceneLaws.{none_events}
 use Rattle.px_core.proofs.ListLaws.{heads, no_cons}
 use Rattle.px_core.proofs.RowLaws.{Each}
 use Rattle.px_core.proofs.Silent.{data_silent}
@@ -313,6 +322,41 @@ ended_effects : (P : Type 0) (asker : Option ConnId) (to : ConnId) (reason : Opt
 ended_effects P asker to None fault at = refl
 ended_effects P asker to (Some reason) fault at = refl
 
+-- ---- what follows of events is no error, and ends nobody
+
+-- the byte that tells a message's command
+event_byte : (e : Event) → 1 ≤ get_or (message_of e) 4 0
+unfolding number
+event_byte e = omega arith
+
+told_no_error : (e : Event) (s : Subscriber) → AllByRecursion (λ (x : Sending). 1 ≤ get_or x.packet 4 0) (told_to e s)
+told_no_error e s = cond_both (hears s.mask e.facility) (record { conn = s.conn; packet = message_of e } ∷ []) [] (AllByRecursion (λ (x : Sending). 1 ≤ get_or x.packet 4 0)) (λ t. (event_byte e, tt)) (λ t. tt)
+
+event_no_error : (subscribers : List Subscriber) (e : Event) → AllByRecursion (λ (x : Sending). 1 ≤ get_or x.packet 4 0) (announced subscribers e)
+event_no_error [] e = tt
+event_no_error (s ∷ subscribers) e = all_joined (λ (x : Sending). 1 ≤ get_or x.packet 4 0) (told_to e s) (announced subscribers e) (told_no_error e s) (event_no_error subscribers e)
+
+events_no_error : (subscribers : List Subscriber) (events : List Event) → AllByRecursion (λ (x : Sending). 1 ≤ get_or x.packet 4 0) (announced_all subscribers events)
+events_no_error subscribers [] = tt
+events_no_error subscribers (e ∷ events) = all_joined (λ (x : Sending). 1 ≤ get_or x.packet 4 0) (announced subscribers e) (announced_all subscribers events) (event_no_error subscribers e) (events_no_error subscribers events)
+
+-- what is all of two lists is the first, or the second
+pub data Alone (x : Effect) (xs ys : List Effect) : Type 0 where
+  first : xs ≡ x ∷ [] → Alone x xs ys
+  second : ys ≡ x ∷ [] → Alone x xs ys
+
+none_left : (xs ys : List Effect) → xs ++ ys ≡ [] → xs ≡ []
+none_left [] ys e = refl
+none_left (z ∷ xs) ys e = absurd (no_cons z (xs ++ ys) (sym e))
+
+tail_of : List Effect → List Effect
+tail_of [] = []
+tail_of (x ∷ xs) = xs
+
+alone_in : (x : Effect) (xs ys : List Effect) → xs ++ ys ≡ x ∷ [] → Alone x xs ys
+alone_in x [] ys e = second e
+alone_in x (z ∷ xs) ys e = first (λ k. heads z x (xs ++ ys) [] e k ∷ none_left xs ys (ap tail_of e) k)
+
 -- ---- an answer that is an error changes nothing
 
 module _ (conn : ConnId) (tag code : ℕ) where
@@ -334,6 +378,24 @@ module _ (conn : ConnId) (tag code : ℕ) where
   kind_changeless {P} state asker plan (ending to reason fault at is) e =
       absurd (ended_apart to reason fault at (sym (ap (plan_effects asker) is ∙ ended_effects P asker to reason fault at) ∙ e))
 
+  -- events are no errors
+  sendings_apart : (sendings : List Sending) → AllByRecursion (λ (x : Sending). 1 ≤ get_or x.packet 4 0) sendings → Refuses (sent_all sendings) → ⊥
+  sendings_apart [] all e = not_silent e
+  sendings_apart (s ∷ sendings) all e = by (λ f. sendings_apart sendings all.1 f) (fits s.packet) e
+    where
+      by : (Refuses (sent_all sendings) → ⊥) → (b : Bool) → Refuses (cond b (sent s.conn s.packet ∷ []) [] ++ sent_all sendings) → ⊥
+      by later true f = sent_apart s.conn conn s.packet (refusal tag code) all.0 (refusal_byte tag code) (heads (sent s.conn s.packet) (sent conn (refusal tag code)) (sent_all sendings) [] f)
+      by later false f = later f
+
+  front_refuses : {P : Type 0} (effects : List Effect) (before after : State P) → Refuses (effects ++ step_events before after) → Refuses effects
+  front_refuses effects before after e = by (alone_in (sent conn (refusal tag code)) effects (step_events before after) e)
+    where
+      by : Alone (sent conn (refusal tag code)) effects (step_events before after) → Refuses effects
+      by (first f) = f
+      by (second f) =
+          absurd (sendings_apart (told_between before.sinks after.clients_made (scene_of before) (scene_of after))
+          (events_no_error (subscribers_of (scene_of after)) (events_between (given_in before.sinks after.clients_made (scene_of after)) (infos_in (telling_of before.sinks (scene_of before))) (infos_in (telling_of before.sinks (scene_of after))))) f)
+
   -- a client that connects is sent nothing
   connect_refuses : {P : Type 0} (o : Option Connection) (n : ConnId) (state : State P) → Refuses (connect_effects o n state) → ⊥
   connect_refuses (Some c) n state e = not_silent e
@@ -344,13 +406,17 @@ module _ (conn : ConnId) (tag code : ℕ) where
       either false f = not_silent f
 
   pub refusal_changes_nothing : {P : Type 0} (spec_of : P → SampleSpec) (state : State P) (s : Step P) → Refuses (effects_of spec_of state s) → stepped spec_of state s ≡ state
-  refusal_changes_nothing spec_of state (connect n) e = absurd (connect_refuses (connection_of state.connections n) n state e)
-  refusal_changes_nothing spec_of state (frame n f) e = kind_changeless state (Some n) (answer_of spec_of state (frame n f)) (frame_kind state n (going_on state.connections n) f) e
+  refusal_changes_nothing spec_of state (connect n) e =
+      let c = connection_of state.connections n in
+      absurd (connect_refuses c n state (front_refuses (connect_effects c n state) state (connected c n state) e))
+  refusal_changes_nothing spec_of state (frame n f) e = kind_changeless state (Some n) (answer_of spec_of state (frame n f)) (frame_kind state n (going_on state.connections n) f)
+      (front_refuses (plan_effects (Some n) (answer_of spec_of state (frame n f))) state (answered state (answer_of spec_of state (frame n f))) e)
   refusal_changes_nothing spec_of state (broken n fault at) e = kind_changeless state (Some n) (answer_of spec_of state (broken n fault at)) (ended_kind (Some n) (going_on state.connections n) (Some Breach) (rule_of fault) at) e
   refusal_changes_nothing spec_of state (close n) e = kind_changeless state (Some n) (answer_of spec_of state (close n)) (ended_kind (Some n) (going_on state.connections n) None 0 0) e
   refusal_changes_nothing spec_of state (cut n) e = kind_changeless state (Some n) (answer_of spec_of state (cut n)) (ended_kind (Some n) (going_on state.connections n) (Some ForMemory) 0 0) e
-  refusal_changes_nothing spec_of state sweep e = kind_changeless state None (sweep_of state) (sweep_kind state) e
-  refusal_changes_nothing spec_of state (notice sink n) e = kind_changeless state None (answer_of spec_of state (notice sink n)) (notice_kind spec_of state sink n) e
+  refusal_changes_nothing spec_of state sweep e = kind_changeless state None (sweep_of state) (sweep_kind state) (front_refuses (plan_effects None (sweep_of state)) state (answered state (sweep_of state)) e)
+  refusal_changes_nothing spec_of state (notice sink n) e = kind_changeless state None (answer_of spec_of state (notice sink n)) (notice_kind spec_of state sink n)
+      (front_refuses (plan_effects None (answer_of spec_of state (notice sink n))) state (answered state (answer_of spec_of state (notice sink n))) e)
   refusal_changes_nothing spec_of state (out sink) e = absurd (not_silent e)
 
 -- ---- a fault of a connection marks it, and changes nothing else
@@ -387,6 +453,14 @@ module _ (conn : ConnId) (fault at : ℕ) where
       ap (λ (p : Plan P). committed state p.changes) is
       ∙ ended_marks state to reason f a (sym (ap (plan_effects asker) is ∙ ended_effects P asker to reason f a) ∙ e)
 
+  -- nor do events end anybody
+  front_breaks : {P : Type 0} (effects : List Effect) (before after : State P) → Breaks (effects ++ step_events before after) → Breaks effects
+  front_breaks effects before after e = by (alone_in (closed_at conn fault at) effects (step_events before after) e)
+    where
+      by : Alone (closed_at conn fault at) effects (step_events before after) → Breaks effects
+      by (first f) = f
+      by (second f) = absurd (no_break (step_events before after) (all_send (told_between before.sinks after.clients_made (scene_of before) (scene_of after))) f)
+
   -- a client that isn't taken has broken no rule
   connect_breaks : {P : Type 0} (o : Option Connection) (n : ConnId) (state : State P) → Breaks (connect_effects o n state) → ⊥
   connect_breaks (Some c) n state e = not_none e
@@ -399,13 +473,17 @@ module _ (conn : ConnId) (fault at : ℕ) where
       either false f = not_none f
 
   pub fault_marks_its_own : {P : Type 0} (spec_of : P → SampleSpec) (state : State P) (s : Step P) → Breaks (effects_of spec_of state s) → stepped spec_of state s ≡ with_connection conn marked state
-  fault_marks_its_own spec_of state (connect n) e = absurd (connect_breaks (connection_of state.connections n) n state e)
-  fault_marks_its_own spec_of state (frame n f) e = kind_marks state (Some n) (answer_of spec_of state (frame n f)) (frame_kind state n (going_on state.connections n) f) e
+  fault_marks_its_own spec_of state (connect n) e =
+      let c = connection_of state.connections n in
+      absurd (connect_breaks c n state (front_breaks (connect_effects c n state) state (connected c n state) e))
+  fault_marks_its_own spec_of state (frame n f) e = kind_marks state (Some n) (answer_of spec_of state (frame n f)) (frame_kind state n (going_on state.connections n) f)
+      (front_breaks (plan_effects (Some n) (answer_of spec_of state (frame n f))) state (answered state (answer_of spec_of state (frame n f))) e)
   fault_marks_its_own spec_of state (broken n f a) e = kind_marks state (Some n) (answer_of spec_of state (broken n f a)) (ended_kind (Some n) (going_on state.connections n) (Some Breach) (rule_of f) a) e
   fault_marks_its_own spec_of state (close n) e = kind_marks state (Some n) (answer_of spec_of state (close n)) (ended_kind (Some n) (going_on state.connections n) None 0 0) e
   fault_marks_its_own spec_of state (cut n) e = kind_marks state (Some n) (answer_of spec_of state (cut n)) (ended_kind (Some n) (going_on state.connections n) (Some ForMemory) 0 0) e
-  fault_marks_its_own spec_of state sweep e = kind_marks state None (sweep_of state) (sweep_kind state) e
-  fault_marks_its_own spec_of state (notice sink n) e = kind_marks state None (answer_of spec_of state (notice sink n)) (notice_kind spec_of state sink n) e
+  fault_marks_its_own spec_of state sweep e = kind_marks state None (sweep_of state) (sweep_kind state) (front_breaks (plan_effects None (sweep_of state)) state (answered state (sweep_of state)) e)
+  fault_marks_its_own spec_of state (notice sink n) e = kind_marks state None (answer_of spec_of state (notice sink n)) (notice_kind spec_of state sink n)
+      (front_breaks (plan_effects None (answer_of spec_of state (notice sink n))) state (answered state (answer_of spec_of state (notice sink n))) e)
   fault_marks_its_own spec_of state (out sink) e = absurd (not_none e)
 
 -- ---- a connection that isn't there, or has ended
@@ -414,7 +492,7 @@ pub ended_is_ignored : {P : Type 0} (spec_of : P → SampleSpec) (state : State 
 ended_is_ignored spec_of state (connect n) conn e gone = absurd (none-some conn e)
 ended_is_ignored {P} spec_of state (frame n f) conn e gone =
     let none : going_on state.connections n ≡ None = ap (going_on state.connections) (same_Some n conn e) ∙ gone in
-    (ap (λ o. committed state (Planned.changes (frame_of state o f))) none, ap (λ o. plan_effects (Some n) (frame_of state o f)) none)
+    (ap (λ o. committed state (Planned.changes (frame_of state o f))) none, ap (λ o. answer_effects (Some n) state (frame_of state o f)) none ∙ none_events state)
 ended_is_ignored {P} spec_of state (broken n fault at) conn e gone =
     let none : going_on state.connections n ≡ None = ap (going_on state.connections) (same_Some n conn e) ∙ gone in
     (ap (λ o. committed state (Planned.changes (ended {P = P} o (Some Breach) (rule_of fault) at))) none, ap (λ o. plan_effects (Some n) (ended {P = P} o (Some Breach) (rule_of fault) at)) none)

@@ -1,0 +1,51 @@
+-- The events of a step, as code adds them to its effects.
+use Rattle.std.proofs.Common.{◌≡◌, ℕ, ◌+◌, true, List, [], ◌∷◌, ◌++◌, refl, ap, sym, ◌∙◌}
+use Rattle.std.proofs.lemmas.List.{append-nil}
+use Rattle.px_types.specs.declared.ids.ConnId.{ConnId}
+use Rattle.px_types.specs.declared.ids.InputId.{InputId}
+use Rattle.px_msg.specs.declared.message.Msg.{Msg}
+use Rattle.px_plan.specs.declared.change.Change.TheVariants.{Arrives}
+use Rattle.px_plan.specs.declared.sending.Sending.{Sending}
+use Rattle.px_shown.specs.Scene.{Scene, scene_after, scene_arrived, scene_joined, are_quiet, are_deaf, nobody_hears}
+use Rattle.px_shown.specs.Shown.{told_between}
+use Rattle.px_core.specs.declared.effect.Effect.{Effect}
+use Rattle.px_core.specs.State.{State}
+use Rattle.px_core.specs.Change.{Change, committed}
+use Rattle.px_core.specs.Connecting.{joined}
+use Rattle.px_core.specs.Plan.{sent_all}
+use Rattle.px_core.specs.Events.{scene_of, step_events}
+use Rattle.px_core.proofs.SceneLaws.{changes_events, quiet_events, deaf_events, deaf_joins}
+
+none_added : (effects more : List Effect) → more ≡ [] → effects ≡ effects ++ more
+none_added effects more e = sym (append-nil effects) ∙ ap (λ (l : List Effect). effects ++ l) (sym e)
+
+pub quiet_added : (P : Type 0) (effects : List Effect) (state : State P) (changes : List (Change P)) → are_quiet changes ≡ true → effects ≡ effects ++ step_events state (committed state changes)
+quiet_added P effects state changes e = none_added effects (step_events state (committed state changes)) (quiet_events state changes e)
+
+pub deaf_added : (P : Type 0) (effects : List Effect) (state : State P) (changes : List (Change P)) → nobody_hears state.names.clients changes ≡ true → effects ≡ effects ++ step_events state (committed state changes)
+deaf_added P effects state changes e = none_added effects (step_events state (committed state changes)) (deaf_events state changes e)
+
+pub changes_added : (P : Type 0) (old new : List Effect) (state : State P) (changes : List (Change P)) (scene : Scene) (told : List Sending) → scene ≡ scene_of state
+    → told ≡ told_between state.sinks state.clients_made scene (scene_after scene changes) → new ≡ old ++ sent_all told → new ≡ old ++ step_events state (committed state changes)
+changes_added P old new state changes scene told s e added =
+    added
+    ∙ ap (λ (l : List Sending). old ++ sent_all l) (e ∙ ap (λ (x : Scene). told_between state.sinks state.clients_made x (scene_after x changes)) s)
+    ∙ ap (λ (l : List Effect). old ++ l) (sym (changes_events state changes))
+
+pub arrival_added : (P : Type 0) (old new : List Effect) (state : State P) (input : InputId) (later : List (Change P)) (scene : Scene) (told : List Sending) → scene ≡ scene_of state
+    → told ≡ told_between state.sinks state.clients_made scene (scene_after (scene_arrived input scene) later) → new ≡ old ++ sent_all told
+    → (m : Msg P) → new ≡ old ++ step_events state (committed state (Arrives input m ∷ later))
+arrival_added P old new state input later scene told s e added m =
+    added
+    ∙ ap (λ (l : List Sending). old ++ sent_all l) (e ∙ ap (λ (x : Scene). told_between state.sinks state.clients_made x (scene_after (scene_arrived input x) later)) s)
+    ∙ ap (λ (l : List Effect). old ++ l) (sym (changes_events state (Arrives input m ∷ later)))
+
+pub deaf_joined : (P : Type 0) (state : State P) (conn : ConnId) (effects : List Effect) → effects ≡ [] → are_deaf state.names.clients ≡ true → effects ≡ step_events state (joined conn state)
+deaf_joined P state conn effects none e = none ∙ sym (deaf_joins state conn e)
+
+pub join_added : (P : Type 0) (old new : List Effect) (state : State P) (conn : ConnId) (scene : Scene) (told : List Sending) → old ≡ [] → scene ≡ scene_of state
+    → told ≡ told_between state.sinks (state.clients_made + 1) scene (scene_joined conn state.clients_made scene) → new ≡ old ++ sent_all told → new ≡ step_events state (joined conn state)
+join_added P old new state conn scene told none s e added =
+    added
+    ∙ ap (λ (l : List Effect). l ++ sent_all told) none
+    ∙ ap (λ (l : List Sending). sent_all l) (e ∙ ap (λ (x : Scene). told_between state.sinks (state.clients_made + 1) x (scene_joined conn state.clients_made x)) s)
