@@ -1,7 +1,8 @@
 -- What steps tell that change nothing, and a client that connects.
-use Rattle.std.proofs.Common.{◌≡◌, Bool, true, false, List, [], ◌∷◌, ◌++◌, Option, Some, None, refl, ap, ◌∙◌}
+use Rattle.std.proofs.Common.{◌≡◌, Bool, true, false, List, [], ◌∷◌, ◌++◌, Option, Some, None, refl, ap, sym, ◌∙◌}
 use Rattle.std.specs.Prelude.{cond}
-use Rattle.std.proofs.lemmas.List.{append-nil}
+use Rattle.std.specs.Option.{is_some, option_map}
+use Rattle.std.proofs.lemmas.Bool.{false≢true}
 use Rattle.px_types.specs.declared.ids.ConnId.{ConnId}
 use Rattle.px_plan.specs.declared.input.Connection.{Connection}
 use Rattle.px_plan.specs.declared.sending.Reason.TheVariants.{Limit}
@@ -27,3 +28,23 @@ admitted_full P conn state e =
 
 pub admitted_joined : (P : Type 0) (conn : ConnId) (state : State P) → is_full state ≡ false → admitted_effects None conn state ≡ step_events state (joined conn state)
 admitted_joined P conn state e = ap (λ b. cond b (closed_for conn Limit ∷ []) [] ++ step_events state (cond b state (joined conn state))) e
+
+-- ---- as code asks for them
+
+pub is_there : {A B : Type 0} (f : A → B) (found : Option A) (o : Option B) → option_map f found ≡ o → is_some found ≡ true → is_some o ≡ true
+is_there f None o e t = absurd (false≢true t)
+is_there f (Some a) o e t = ap (λ x. is_some x) (sym e)
+
+pub isnt_there : {A B : Type 0} (f : A → B) (found : Option A) (o : Option B) → option_map f found ≡ o → is_some found ≡ false → o ≡ None
+isnt_there f None o e t = sym e
+isnt_there f (Some a) o e t = absurd (false≢true (sym t))
+
+pub there_admitted : (P : Type 0) (o : Option Connection) (conn : ConnId) (state : State P) (effects : List Effect) → is_some o ≡ true → effects ≡ [] → effects ≡ admitted_effects o conn state
+there_admitted P None conn state effects t e = absurd (false≢true t)
+there_admitted P (Some c) conn state effects t e = e ∙ sym (admitted_there P c conn state)
+
+pub full_admitted : (P : Type 0) (o : Option Connection) (conn : ConnId) (state : State P) (closed : Effect) (effects : List Effect) → o ≡ None → is_full state ≡ true → closed ≡ closed_for conn Limit → effects ≡ closed ∷ [] → effects ≡ admitted_effects o conn state
+full_admitted P o conn state closed effects none full c e = e ∙ ap (λ (x : Effect). x ∷ []) c ∙ sym (admitted_full P conn state full) ∙ ap (λ (x : Option Connection). admitted_effects x conn state) (sym none)
+
+pub joined_admitted : (P : Type 0) (o : Option Connection) (conn : ConnId) (state : State P) (effects : List Effect) → o ≡ None → is_full state ≡ false → effects ≡ step_events state (joined conn state) → effects ≡ admitted_effects o conn state
+joined_admitted P o conn state effects none full e = e ∙ sym (admitted_joined P conn state full) ∙ ap (λ (x : Option Connection). admitted_effects x conn state) (sym none)

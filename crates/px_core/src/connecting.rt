@@ -150,7 +150,6 @@ pub(crate) fn sweep_away<P: Drop>(alloc: Global, tables: &mut Tables<P>) -> Mem<
 
 /// A client connects. One that is there already changes nothing; where no more are taken the server ends it. Where there is no
 /// memory for it nothing has changed.
-#[tactic(auto, using(crate::proofs::EventLaws::admitted_there, crate::proofs::EventLaws::admitted_full, crate::proofs::EventLaws::admitted_joined))]
 pub(crate) fn connect<P>(alloc: Global, tables: &mut Tables<P>, conn: ConnId) -> Mem<Effects>
     requires { AreSinks [] tables.old.sinks }
     ensures effects { IfOk result (λ effects. effects ≡ admitted_effects (connection_of tables.old.connections.items conn) conn (state_of tables.old)) }

@@ -32,7 +32,6 @@ fn scene_of<P>(alloc: Global, tables: &Tables<P>) -> Mem<Scene>
 }
 
 /// What those are told who subscribe once the changes are made.
-#[tactic(auto, using(crate::proofs::AddedLaws::quiet_added, crate::proofs::AddedLaws::deaf_added, crate::proofs::AddedLaws::changes_added))]
 pub(crate) fn add_events<P>(
     alloc: Global,
     effects: &mut Effects,
@@ -55,7 +54,6 @@ pub(crate) fn add_events<P>(
 }
 
 /// What those are told who subscribe once an input is on the sink that it moves to, and the changes after that are made.
-#[tactic(auto, using(crate::proofs::AddedLaws::arrival_added))]
 pub(crate) fn add_arrival_events<P>(
     alloc: Global,
     effects: &mut Effects,
@@ -66,6 +64,9 @@ pub(crate) fn add_arrival_events<P>(
     requires { AreSinks [] tables.now.sinks }
     ensures { OnOk result ((m : Msg P) → effects.new ≡ effects.old ++ step_events (state_of tables.now) (committed (state_of tables.now) (Arrives input m ∷ later.now))) }
 {
+    if nobody_hears(tables.names.clients(), later) {
+        return Ok(());
+    }
     let scene = scene_of(alloc, tables)?;
     let sinks = tables.sinks.as_slice();
     let told = scene.told_arrived(alloc, sinks, tables.clients_made, input, later)?;
@@ -74,7 +75,6 @@ pub(crate) fn add_arrival_events<P>(
 }
 
 /// What those are told who subscribe, of a client that connects.
-#[tactic(auto, using(crate::proofs::AddedLaws::deaf_joined, crate::proofs::AddedLaws::join_added))]
 pub(crate) fn joined_events<P>(alloc: Global, tables: &Tables<P>, conn: ConnId) -> Mem<Effects>
     requires sinks { AreSinks [] tables.now.sinks }
     requires room { tables.now.clients_made < 4294967295 }
