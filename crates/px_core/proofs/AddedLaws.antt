@@ -19,7 +19,7 @@ use Rattle.px_core.specs.Plan.{Plan, sent_all, plan_effects}
 use Rattle.px_core.specs.Events.{scene_of, step_events}
 use Rattle.px_ctl_play.specs.Arrival.{Arriving, arriving_with}
 use Rattle.px_core.specs.Step.{answered, answer_effects}
-use Rattle.px_core.proofs.SceneLaws.{changes_events, quiet_events, deaf_events, deaf_joins}
+use Rattle.px_core.proofs.SceneLaws.{events_are, changes_events, quiet_events, deaf_events, deaf_joins}
 
 none_added : (effects more : List Effect) → more ≡ [] → effects ≡ effects ++ more
 none_added effects more e = sym (append-nil effects) ∙ ap (λ (l : List Effect). effects ++ l) (sym e)
@@ -54,6 +54,7 @@ join_added P old new state conn sinks scene told none there s e added =
     added
     ∙ ap (λ (l : List Effect). l ++ sent_all told) none
     ∙ ap (λ (l : List Sending). sent_all l) (e ∙ (λ k. told_between (there k) (state.clients_made + 1) (s k) (scene_joined conn state.clients_made (s k))))
+    ∙ sym (events_are state (joined conn state))
 
 -- ---- all effects of a plan
 

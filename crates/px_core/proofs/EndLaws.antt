@@ -43,6 +43,7 @@ use Rattle.px_shown.specs.Shown.{told_between}
 use Rattle.px_core.specs.Events.{scene_of, step_events}
 use Rattle.px_core.specs.Step.{Step, connect, frame, broken, close, cut, sweep, notice, out, body_answer, frame_of, answer_of, answered, stepped, effects_of, stepped_by, effects_by}
 use Rattle.px_core.proofs.AnswerLaws.{IsLawful}
+use Rattle.px_core.proofs.SceneLaws.{events_are}
 use Rattle.px_core.proofs.Going.{going_by_own}
 use Rattle.px_core.proofs.VerbLaws.{change_follows}
 use Rattle.px_core.proofs.ArrivalLaws.{IsArrival, arrival_committed}
@@ -343,7 +344,7 @@ other_once {P} spec_of conn asker state s is h = by (answer_sound spec_of state 
 with_events : {P : Type 0} (conn : ConnId) (effects : List Effect) (before after : State P) → ends_of conn (effects ++ step_events before after) ≡ ends_of conn effects
 with_events conn effects before after =
     ends_joined conn effects (step_events before after)
-    ∙ (omega (arith, sent_ends conn (told_between before.sinks after.clients_made (scene_of before) (scene_of after))))
+    ∙ (omega (arith, ap (ends_of conn) (events_are before after), sent_ends conn (told_between before.sinks after.clients_made (scene_of before) (scene_of after))))
 
 -- a step ends a connection only where it went on, and goes on no more, or where it isn't taken
 pub step_once : {P : Type 0} (conn : ConnId) (spec_of : P → SampleSpec) (state : State P) (s : Step P) → IsKept spec_of state → ends_of conn (effects_of spec_of state s) + goes_on (stepped spec_of state s).connections conn ≤ goes_on state.connections conn + begins_of conn state s

@@ -12,11 +12,15 @@ use Rattle.px_core.specs.Effect.{closed_for}
 use Rattle.px_core.specs.State.{State}
 use Rattle.px_core.specs.Connecting.{is_full, joined}
 use Rattle.px_core.specs.Events.{step_events}
+use Rattle.px_core.specs.Plan.{Plan}
 use Rattle.px_core.specs.Step.{answer_effects, admitted_effects}
 use Rattle.px_core.proofs.SceneLaws.{none_events}
 
 pub idle_effects : (P : Type 0) (asker : Option ConnId) (state : State P) → answer_effects asker state idle ≡ []
 idle_effects P asker state = none_events state
+
+pub ignored : (P : Type 0) (asker : Option ConnId) (state : State P) (plan : Plan P) (effects : List Effect) → effects ≡ [] → plan ≡ idle → effects ≡ answer_effects asker state plan
+ignored P asker state plan effects e p = e ∙ sym (idle_effects P asker state) ∙ ap (λ (x : Plan P). answer_effects asker state x) (sym p)
 
 pub admitted_there : (P : Type 0) (c : Connection) (conn : ConnId) (state : State P) → admitted_effects (Some c) conn state ≡ []
 admitted_there P c conn state = none_events state

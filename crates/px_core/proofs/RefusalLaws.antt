@@ -74,7 +74,7 @@ use Rattle.px_events.specs.Became.{events_between}
 use Rattle.px_events.specs.Told.{infos_in}
 use Rattle.px_shown.specs.Shown.{telling_of, subscribers_of, given_in, told_between}
 use Rattle.px_core.specs.Events.{scene_of, step_events}
-use Rattle.px_core.proofs.SceneLaws.{none_events}
+use Rattle.px_core.proofs.SceneLaws.{events_are, none_events}
 use Rattle.px_core.proofs.ListLaws.{heads, no_cons}
 use Rattle.px_core.proofs.RowLaws.{Each}
 use Rattle.px_core.proofs.Silent.{data_silent}
@@ -394,7 +394,7 @@ module _ (conn : ConnId) (tag code : ℕ) where
       by (first f) = f
       by (second f) =
           absurd (sendings_apart (told_between before.sinks after.clients_made (scene_of before) (scene_of after))
-          (events_no_error (subscribers_of (scene_of after)) (events_between (given_in before.sinks after.clients_made (scene_of after)) (infos_in (telling_of before.sinks (scene_of before))) (infos_in (telling_of before.sinks (scene_of after))))) f)
+          (events_no_error (subscribers_of (scene_of after)) (events_between (given_in before.sinks after.clients_made (scene_of after)) (infos_in (telling_of before.sinks (scene_of before))) (infos_in (telling_of before.sinks (scene_of after))))) (sym (events_are before after) ∙ f))
 
   -- a client that connects is sent nothing
   connect_refuses : {P : Type 0} (o : Option Connection) (n : ConnId) (state : State P) → Refuses (connect_effects o n state) → ⊥
@@ -459,7 +459,9 @@ module _ (conn : ConnId) (fault at : ℕ) where
     where
       by : Alone (closed_at conn fault at) effects (step_events before after) → Breaks effects
       by (first f) = f
-      by (second f) = absurd (no_break (step_events before after) (all_send (told_between before.sinks after.clients_made (scene_of before) (scene_of after))) f)
+      by (second f) = 
+          let told = told_between before.sinks after.clients_made (scene_of before) (scene_of after) in
+          absurd (no_break (sent_all told) (all_send told) (sym (events_are before after) ∙ f))
 
   -- a client that isn't taken has broken no rule
   connect_breaks : {P : Type 0} (o : Option Connection) (n : ConnId) (state : State P) → Breaks (connect_effects o n state) → ⊥

@@ -178,10 +178,14 @@ changes_rest state (c ∷ changes) = changes_rest (changed state c) changes ∙ 
 
 -- ---- events
 
+pub events_are : {P : Type 0} (before after : State P) → step_events before after ≡ sent_all (told_between before.sinks after.clients_made (scene_of before) (scene_of after))
+unfolding step_events
+events_are before after = refl
+
 -- what changes tell is reckoned without making them
 pub changes_events : {P : Type 0} (state : State P) (changes : List (Change P))
     → step_events state (committed state changes) ≡ sent_all (told_between state.sinks state.clients_made (scene_of state) (scene_after (scene_of state) changes))
-changes_events state changes = λ k. sent_all (told_between state.sinks (changes_rest state changes k).1 (scene_of state) (changes_scene state changes k))
+changes_events state changes = events_are state (committed state changes) ∙ (λ k. sent_all (told_between state.sinks (changes_rest state changes k).1 (scene_of state) (changes_scene state changes k)))
 
 -- changes of nothing that is told tell nobody anything
 pub quiet_events : {P : Type 0} (state : State P) (changes : List (Change P)) → are_quiet changes ≡ true → step_events state (committed state changes) ≡ []
@@ -190,7 +194,7 @@ quiet_events state changes e =
 
 -- nor does what changes nothing
 pub none_events : {P : Type 0} (state : State P) → step_events state state ≡ []
-none_events state = ap (λ told. sent_all told) (none_since state.sinks state.clients_made (telling_of state.sinks (scene_of state)) (scene_of state) refl)
+none_events state = events_are state state ∙ ap (λ told. sent_all told) (none_since state.sinks state.clients_made (telling_of state.sinks (scene_of state)) (scene_of state) refl)
 
 -- nor does anything where nobody hears of anything
 pub deaf_events : {P : Type 0} (state : State P) (changes : List (Change P)) → nobody_hears state.names.clients changes ≡ true → step_events state (committed state changes) ≡ []
@@ -199,4 +203,4 @@ deaf_events state changes e =
 
 pub deaf_joins : {P : Type 0} (state : State P) (conn : ConnId) → are_deaf state.names.clients ≡ true → step_events state (joined conn state) ≡ []
 deaf_joins state conn e =
-    ap (λ told. sent_all told) (deaf_joined state.sinks (state.clients_made + 1) (scene_of state) conn state.clients_made e)
+    events_are state (joined conn state) ∙ ap (λ told. sent_all told) (deaf_joined state.sinks (state.clients_made + 1) (scene_of state) conn state.clients_made e)

@@ -10,5 +10,5 @@ use Rattle.px_core.specs.State.{State}
 abbrev pub scene_of : {P : Type 0} → State P → Scene
 scene_of state = scene_at state.names state.connections state.inputs state.lists state.groups state.inputs_made
 
-abbrev pub step_events : {P : Type 0} → State P → State P → List Effect
+unfoldable pub step_events : {P : Type 0} → State P → State P → List Effect
 step_events before after = sent_all (told_between before.sinks after.clients_made (scene_of before) (scene_of after))

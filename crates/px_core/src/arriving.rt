@@ -113,7 +113,6 @@ fn settle<P: Drop>(
 
 /// An input that moves to a sink is there with this parcel. Where there is no memory for it the parcel is handed back, and nothing has
 /// changed.
-#[tactic(auto, using(crate::proofs::EventLaws::idle_effects))]
 pub(crate) fn take_in<P: Parcel + Drop>(
     alloc: Global,
     tables: &mut Tables<P>,

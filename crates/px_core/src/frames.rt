@@ -86,7 +86,6 @@ fn body<P: Drop>(
 
 /// A frame of a connection. One of a connection that isn't there, or has ended, is ignored. Where there is no memory for it, it
 /// is handed back, and nothing has changed.
-#[tactic(auto, using(crate::proofs::EventLaws::idle_effects))]
 pub(crate) fn take<P: Drop>(
     alloc: Global,
     tables: &mut Tables<P>,

@@ -218,7 +218,7 @@ fn give_up<P: Parcel + Drop>(
 }
 
 // And of an input that may not be on it, which is ignored then.
-#[tactic(auto, using(crate::proofs::EntryLaws::found_by_index, crate::proofs::EventLaws::idle_effects))]
+#[tactic(auto, using(crate::proofs::EntryLaws::found_by_index))]
 fn detach<P: Parcel + Drop>(
     alloc: Global,
     tables: &mut Tables<P>,
