@@ -52,7 +52,7 @@ use Rattle.px_core.specs.Change.{Change, marked, with_connection, committed}
 use Rattle.px_core.specs.Effect.{reason_code, framed, fits, sent, sending, closed_at, closed_for, fault_code, fault_place, offset_behind}
 use Rattle.px_core.specs.Plan.{Plan, reply_to_asker, sent_all, closed_by, closed_all, plan_effects, refused, reply_fits, requested, ended_by, broken_off}
 use Rattle.px_core.specs.Command.{row, read_answer, is_barred, command_answer, head_answer}
-use Rattle.px_core.specs.Connecting.{is_full, connect_effects, going_on, ended, ends, swept, sweep_of}
+use Rattle.px_core.specs.Connecting.{is_full, connected, connect_effects, going_on, ended, ends, swept, sweep_of}
 use Rattle.px_types.specs.declared.ids.InputId.{InputId}
 use Rattle.px_flat.specs.declared.member.Member.{Member}
 use Rattle.px_flat.specs.FlatVolume.{member_of}
@@ -65,17 +65,14 @@ use Rattle.px_ctl_play.specs.Move.{feed_to}
 use Rattle.px_core.specs.Delayed.{delayed_of}
 use Rattle.px_core.specs.Notice.{input_on, owner_of, left_of, arrival_between, arrival_at, arrived_with, given_up_by, given_up, notice_answer}
 use Rattle.px_targets.specs.Sinks.{rate_on, target_at}
-use Rattle.px_core.specs.Step.{Step, connect, frame, broken, close, cut, sweep, notice, out, body_answer, frame_of, sender_of, answer_of, answered, answer_effects, stepped, effects_of}
-use Rattle.px_events.specs.declared.announce.Subscriber.{Subscriber}
-use Rattle.px_events.specs.declared.event.Event.{Event}
-use Rattle.px_events.specs.Event.{message_of, hears}
-use Rattle.px_events.specs.Announce.{told_to, announced, announced_all}
+use Rattle.px_core.specs.Step.{Step, connect, frame, broken, close, cut, sweep, notice, out, body_answer, frame_of, sender_of, answer_of, answered as after_plan, answer_effects, stepped, effects_of}
 use Rattle.px_events.specs.Became.{events_between}
 use Rattle.px_events.specs.Told.{infos_in}
 use Rattle.px_shown.specs.Shown.{telling_of, subscribers_of, given_in, told_between}
 use Rattle.px_core.specs.Events.{scene_of, step_events}
 use Rattle.px_core.proofs.SceneLaws.{events_are, none_events}
-use Rattle.px_core.proofs.ListLaws.{heads, no_cons}
+use Rattle.px_core.proofs.EventLaws.{events_no_error}
+use Rattle.px_core.proofs.ListLaws.{all_joined, heads, no_cons}
 use Rattle.px_core.proofs.RowLaws.{Each}
 use Rattle.px_core.proofs.Silent.{data_silent}
 use Rattle.px_core.proofs.TellsLaws.{Tells, a_reply, nothing, plain_byte, latency_byte, row_tells}
@@ -293,10 +290,6 @@ abbrev IsSent : Effect → Type 0
 IsSent (Sent to packet) = Unit {0}
 IsSent (Closed to reason fault at) = ⊥
 
-all_joined : {A : Type 0} (Q : A → Type 0) (xs ys : List A) → AllByRecursion Q xs → AllByRecursion Q ys → AllByRecursion Q (xs ++ ys)
-all_joined Q [] ys h k = k
-all_joined Q (x ∷ xs) ys h k = (h.0, all_joined Q xs ys h.1 k)
-
 sending_sends : (to : ConnId) (packet : List ℕ) → AllByRecursion IsSent (sending to packet)
 sending_sends to packet = cond_both (fits packet) (sent to packet ∷ []) [] (AllByRecursion IsSent) (λ e. (tt, tt)) (λ e. tt)
 
@@ -324,22 +317,6 @@ ended_effects P asker to (Some reason) fault at = refl
 
 -- ---- what follows of events is no error, and ends nobody
 
--- the byte that tells a message's command
-event_byte : (e : Event) → 1 ≤ get_or (message_of e) 4 0
-unfolding number
-event_byte e = omega arith
-
-told_no_error : (e : Event) (s : Subscriber) → AllByRecursion (λ (x : Sending). 1 ≤ get_or x.packet 4 0) (told_to e s)
-told_no_error e s = cond_both (hears s.mask e.facility) (record { conn = s.conn; packet = message_of e } ∷ []) [] (AllByRecursion (λ (x : Sending). 1 ≤ get_or x.packet 4 0)) (λ t. (event_byte e, tt)) (λ t. tt)
-
-event_no_error : (subscribers : List Subscriber) (e : Event) → AllByRecursion (λ (x : Sending). 1 ≤ get_or x.packet 4 0) (announced subscribers e)
-event_no_error [] e = tt
-event_no_error (s ∷ subscribers) e = all_joined (λ (x : Sending). 1 ≤ get_or x.packet 4 0) (told_to e s) (announced subscribers e) (told_no_error e s) (event_no_error subscribers e)
-
-events_no_error : (subscribers : List Subscriber) (events : List Event) → AllByRecursion (λ (x : Sending). 1 ≤ get_or x.packet 4 0) (announced_all subscribers events)
-events_no_error subscribers [] = tt
-events_no_error subscribers (e ∷ events) = all_joined (λ (x : Sending). 1 ≤ get_or x.packet 4 0) (announced subscribers e) (announced_all subscribers events) (event_no_error subscribers e) (events_no_error subscribers events)
-
 -- what is all of two lists is the first, or the second
 pub data Alone (x : Effect) (xs ys : List Effect) : Type 0 where
   first : xs ≡ x ∷ [] → Alone x xs ys
@@ -347,9 +324,9 @@ pub data Alone (x : Effect) (xs ys : List Effect) : Type 0 where
 
 none_left : (xs ys : List Effect) → xs ++ ys ≡ [] → xs ≡ []
 none_left [] ys e = refl
-none_left (z ∷ xs) ys e = absurd (no_cons z (xs ++ ys) (sym e))
+none_left (z ∷ xs) ys e = absurd (no_cons z (xs ++ ys) e)
 
-tail_of : List Effect → List Effect
+abbrev tail_of : List Effect → List Effect
 tail_of [] = []
 tail_of (x ∷ xs) = xs
 
@@ -410,13 +387,13 @@ module _ (conn : ConnId) (tag code : ℕ) where
       let c = connection_of state.connections n in
       absurd (connect_refuses c n state (front_refuses (connect_effects c n state) state (connected c n state) e))
   refusal_changes_nothing spec_of state (frame n f) e = kind_changeless state (Some n) (answer_of spec_of state (frame n f)) (frame_kind state n (going_on state.connections n) f)
-      (front_refuses (plan_effects (Some n) (answer_of spec_of state (frame n f))) state (answered state (answer_of spec_of state (frame n f))) e)
+      (front_refuses (plan_effects (Some n) (answer_of spec_of state (frame n f))) state (after_plan state (answer_of spec_of state (frame n f))) e)
   refusal_changes_nothing spec_of state (broken n fault at) e = kind_changeless state (Some n) (answer_of spec_of state (broken n fault at)) (ended_kind (Some n) (going_on state.connections n) (Some Breach) (rule_of fault) at) e
   refusal_changes_nothing spec_of state (close n) e = kind_changeless state (Some n) (answer_of spec_of state (close n)) (ended_kind (Some n) (going_on state.connections n) None 0 0) e
   refusal_changes_nothing spec_of state (cut n) e = kind_changeless state (Some n) (answer_of spec_of state (cut n)) (ended_kind (Some n) (going_on state.connections n) (Some ForMemory) 0 0) e
-  refusal_changes_nothing spec_of state sweep e = kind_changeless state None (sweep_of state) (sweep_kind state) (front_refuses (plan_effects None (sweep_of state)) state (answered state (sweep_of state)) e)
+  refusal_changes_nothing spec_of state sweep e = kind_changeless state None (sweep_of state) (sweep_kind state) (front_refuses (plan_effects None (sweep_of state)) state (after_plan state (sweep_of state)) e)
   refusal_changes_nothing spec_of state (notice sink n) e = kind_changeless state None (answer_of spec_of state (notice sink n)) (notice_kind spec_of state sink n)
-      (front_refuses (plan_effects None (answer_of spec_of state (notice sink n))) state (answered state (answer_of spec_of state (notice sink n))) e)
+      (front_refuses (plan_effects None (answer_of spec_of state (notice sink n))) state (after_plan state (answer_of spec_of state (notice sink n))) e)
   refusal_changes_nothing spec_of state (out sink) e = absurd (not_silent e)
 
 -- ---- a fault of a connection marks it, and changes nothing else
@@ -479,13 +456,13 @@ module _ (conn : ConnId) (fault at : ℕ) where
       let c = connection_of state.connections n in
       absurd (connect_breaks c n state (front_breaks (connect_effects c n state) state (connected c n state) e))
   fault_marks_its_own spec_of state (frame n f) e = kind_marks state (Some n) (answer_of spec_of state (frame n f)) (frame_kind state n (going_on state.connections n) f)
-      (front_breaks (plan_effects (Some n) (answer_of spec_of state (frame n f))) state (answered state (answer_of spec_of state (frame n f))) e)
+      (front_breaks (plan_effects (Some n) (answer_of spec_of state (frame n f))) state (after_plan state (answer_of spec_of state (frame n f))) e)
   fault_marks_its_own spec_of state (broken n f a) e = kind_marks state (Some n) (answer_of spec_of state (broken n f a)) (ended_kind (Some n) (going_on state.connections n) (Some Breach) (rule_of f) a) e
   fault_marks_its_own spec_of state (close n) e = kind_marks state (Some n) (answer_of spec_of state (close n)) (ended_kind (Some n) (going_on state.connections n) None 0 0) e
   fault_marks_its_own spec_of state (cut n) e = kind_marks state (Some n) (answer_of spec_of state (cut n)) (ended_kind (Some n) (going_on state.connections n) (Some ForMemory) 0 0) e
-  fault_marks_its_own spec_of state sweep e = kind_marks state None (sweep_of state) (sweep_kind state) (front_breaks (plan_effects None (sweep_of state)) state (answered state (sweep_of state)) e)
+  fault_marks_its_own spec_of state sweep e = kind_marks state None (sweep_of state) (sweep_kind state) (front_breaks (plan_effects None (sweep_of state)) state (after_plan state (sweep_of state)) e)
   fault_marks_its_own spec_of state (notice sink n) e = kind_marks state None (answer_of spec_of state (notice sink n)) (notice_kind spec_of state sink n)
-      (front_breaks (plan_effects None (answer_of spec_of state (notice sink n))) state (answered state (answer_of spec_of state (notice sink n))) e)
+      (front_breaks (plan_effects None (answer_of spec_of state (notice sink n))) state (after_plan state (answer_of spec_of state (notice sink n))) e)
   fault_marks_its_own spec_of state (out sink) e = absurd (not_none e)
 
 -- ---- a connection that isn't there, or has ended
