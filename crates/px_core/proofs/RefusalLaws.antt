@@ -27,7 +27,7 @@ use Rattle.px_model.specs.Frame.{SampleSpec}
 use Rattle.px_msg.specs.declared.notice.Notice.{Notice}
 use Rattle.px_msg.specs.declared.notice.Notice.TheVariants.{Request, Overflow, Underflow, Started, Drained, Detached, Latency}
 use Rattle.px_plan.specs.declared.refusal.Refusal.TheVariants.{Code, NoMemory}
-use Rattle.px_plan.specs.declared.change.Change.TheVariants.{Gone, Released, Ended, Forgotten}
+use Rattle.px_plan.specs.declared.change.Change.TheVariants.{Released, Ended, Forgotten}
 use Rattle.px_plan.specs.declared.sending.Reason.{Reason}
 use Rattle.px_plan.specs.declared.sending.Reason.TheVariants.{Protocol as Breach, Limit, Cut as ForMemory}
 use Rattle.px_plan.specs.declared.sending.Sending.{Sending}
@@ -35,7 +35,7 @@ use Rattle.px_plan.specs.declared.input.Connection.{Connection}
 use Rattle.px_plan.specs.declared.input.Input.{Input}
 use Rattle.px_plan.specs.declared.waiting.Waiting.{Waiting}
 use Rattle.px_plan.specs.Waiting.{drain_under, question_under}
-use Rattle.px_plan.specs.Plan.{Planned, idle, changing, telling}
+use Rattle.px_plan.specs.Plan.{Planned, idle, telling}
 use Rattle.px_plan.specs.Row.{Row}
 use Rattle.px_ctl_play.specs.declared.told.News.{News}
 use Rattle.px_ctl_play.specs.declared.told.News.TheVariants as news
@@ -47,7 +47,7 @@ use Rattle.px_flat.specs.FlatVolume.{FlatGroup}
 use Rattle.px_ctl_play.specs.Told.{message_of, told, gives_up, gone, left}
 use Rattle.px_core.specs.declared.effect.Effect.{Effect}
 use Rattle.px_core.specs.declared.effect.Effect.TheVariants.{Sent, Closed}
-use Rattle.px_core.specs.State.{State, goes_on, connection_of, settled_on, stream_of, marked_of, is_from}
+use Rattle.px_core.specs.State.{State, goes_on, connection_of, stream_of, marked_of, is_from}
 use Rattle.px_core.specs.Change.{Change, marked, with_connection, committed}
 use Rattle.px_core.specs.Effect.{reason_code, framed, fits, sent, sending, closed_at, closed_for, fault_code, fault_place, offset_behind}
 use Rattle.px_core.specs.Plan.{Plan, reply_to_asker, sent_all, closed_by, closed_all, plan_effects, refused, reply_fits, requested, ended_by, broken_off}
@@ -436,7 +436,7 @@ module _ (conn : ConnId) (fault at : ℕ) where
     where
       by : Alone (closed_at conn fault at) effects (step_events before after) → Breaks effects
       by (first f) = f
-      by (second f) = 
+      by (second f) =
           let told = told_between before.sinks after.clients_made (scene_of before) (scene_of after) in
           absurd (no_break (sent_all told) (all_send told) (sym (events_are before after) ∙ f))
 

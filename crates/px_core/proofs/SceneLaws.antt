@@ -1,9 +1,8 @@
 -- What infos and subscriptions read of the state after changes is what the changes make of what they read before.
 use Rattle.std.proofs.Common.{◌≡◌, ℕ, ◌+◌, Bool, true, false, List, [], ◌∷◌, Option, Some, None, refl, ap, ◌∙◌}
 use Rattle.std.specs.Prelude.{cond, nat_lt, length}
-use Rattle.std.specs.List.{find, fold}
+use Rattle.std.specs.List.{find}
 use Rattle.px_types.specs.declared.ids.ConnId.{ConnId}
-use Rattle.px_types.specs.declared.ids.InputId.{InputId}
 use Rattle.px_types.specs.declared.ids.SinkId.{SinkId}
 use Rattle.px_msg.specs.declared.message.Msg.{Msg}
 use Rattle.px_plan.specs.declared.input.Input.{Input}
@@ -18,7 +17,7 @@ use Rattle.px_shown.specs.Scene.{Scene, scene_at, are_quiet, are_deaf, nobody_he
 use Rattle.px_core.specs.declared.delayed.Delayed.{Delayed}
 use Rattle.px_core.specs.Delayed.{is_of}
 use Rattle.px_core.specs.State.{State, input_of}
-use Rattle.px_core.specs.Change.{Change, defaulted, ending, ending_of, departs, departs_of, arrives, arrives_of, saying, saying_of, releasing, releasing_of, changed, committed}
+use Rattle.px_core.specs.Change.{Change, ending, ending_of, departs, departs_of, arrives, arrives_of, saying, saying_of, releasing, releasing_of, changed, committed}
 use Rattle.px_core.specs.Plan.{sent_all}
 use Rattle.px_core.specs.Connecting.{joined}
 use Rattle.px_core.specs.Events.{scene_of, step_events}

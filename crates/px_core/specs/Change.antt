@@ -1,5 +1,5 @@
 -- The state after each change. A step is a list of changes, made one after the other.
-use Rattle.std.specs.Prelude.{ℕ, Bool, true, cond, nat_lt, length, List, [], ◌∷◌, ◌++◌, Option, None, Some, set, get_or}
+use Rattle.std.specs.Prelude.{ℕ, cond, nat_lt, length, List, [], ◌∷◌, ◌++◌, Option, None, Some, set, get_or}
 use Rattle.std.specs.List.{fold, find}
 use Rattle.px_types.specs.declared.ids.ConnId.{ConnId}
 use Rattle.px_types.specs.declared.ids.InputId.{InputId}
@@ -10,7 +10,6 @@ use Rattle.px_names.specs.Names.{Naming}
 use Rattle.px_names.specs.InputLists.{with_list_of, without_list_of}
 use Rattle.px_flat.specs.FlatVolume.{FlatGroup}
 use Rattle.px_msg.specs.declared.message.Msg.{Msg}
-use Rattle.px_model.specs.declared.data.Attr.{Attr as Attributes}
 use Rattle.px_msg.specs.declared.message.Msg.TheVariants.{Detach}
 use Rattle.px_plan.specs.declared.input.Connection.{Connection}
 use Rattle.px_plan.specs.declared.input.Input.{Input}

@@ -11,5 +11,5 @@ pub returns-clause-effects : goal.returns-clause-effects
 returns-clause-effects g c =
     let made = c.made.view_is in
     arrival_answered _ (state_of c.args.tables.now) c.args.input c.args.parcel c.args.made c.new.result.items c.made.inside.told.items c.made.inside.later.items c.in-Ok.effects c.add_arrival_events.new.effects c.deref.result.now
-        c.new.ensures.items (ap (λ (a : Arriving _ _). a.told) made) (ap (λ (a : Arriving _ _). a.later) made) (c.deref.ensures.value ∙ ap (λ (a : Arriving _ _). a.later) made)
-        c.in-Ok.ensures c.in-Ok-add_arrival_events.ensures
+    c.new.ensures.items (ap (λ (a : Arriving _ _). a.told) made) (ap (λ (a : Arriving _ _). a.later) made) (c.deref.ensures.value ∙ ap (λ (a : Arriving _ _). a.later) made)
+    c.in-Ok.ensures c.in-Ok-add_arrival_events.ensures

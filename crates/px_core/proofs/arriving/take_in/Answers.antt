@@ -8,4 +8,4 @@ pub returns-in-Ok-None-clause-effects : goal.returns-in-Ok-None-clause-effects
 returns-in-Ok-None-clause-effects g c =
     let state = state_of c.args.tables.now in
     ignored _ None state (arrived_with c.args.x.now.index c.args.parcel (arrival_at state c.args.to c.args.x.now)) c.new.result c.new.ensures
-        (ap (λ o. arrived_with c.args.x.now.index c.args.parcel o) (sym c.in-Ok-None.ensures ∙ c.in-Ok-None.field-0-is))
+    (ap (λ o. arrived_with c.args.x.now.index c.args.parcel o) (sym c.in-Ok-None.ensures ∙ c.in-Ok-None.field-0-is))

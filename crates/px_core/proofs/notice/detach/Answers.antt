@@ -16,5 +16,5 @@ pub returns-in-None-clause-effects : goal.returns-in-None-clause-effects
 returns-in-None-clause-effects g c =
     let state = state_of c.args.tables.now in
     ignored _ None state (given_up g.P.Parcel.spec_of state c.args.sink (input_on c.args.tables.now.inputs.items c.args.sink c.args.input) c.args.parcel) c.new.result c.new.ensures
-        (ap (λ xs. given_up g.P.Parcel.spec_of state c.args.sink (input_on xs c.args.sink c.args.input) c.args.parcel) (sym c.as_slice.ensures)
-        ∙ ap (λ o. given_up g.P.Parcel.spec_of state c.args.sink o c.args.parcel) (sym c.in-None.ensures))
+    (ap (λ xs. given_up g.P.Parcel.spec_of state c.args.sink (input_on xs c.args.sink c.args.input) c.args.parcel) (sym c.as_slice.ensures)
+    ∙ ap (λ o. given_up g.P.Parcel.spec_of state c.args.sink o c.args.parcel) (sym c.in-None.ensures))
