@@ -14,7 +14,7 @@ use Rattle.px_model.specs.Message.{InputFactors as Gains}
 use Rattle.px_model.specs.Frame.{SampleSpec}
 use Rattle.px_model.specs.Orderly.{AreFactors, IsWhole}
 use Rattle.px_flat.specs.declared.member.Member.{Member}
-use Rattle.px_flat.specs.FlatVolume.{FlatGroup, member_of, factors_of, factors_for, detached}
+use Rattle.px_flat.specs.FlatVolume.{FlatGroup, member_of, factors_of, detached}
 use Rattle.px_flat.proofs.Inputs.{rest_of, detached_in, length_factors}
 use Rattle.px_msg.specs.declared.factors.InputFactors.{InputFactors}
 use Rattle.px_msg.specs.View.{sample_spec, gains}
@@ -25,7 +25,7 @@ use Rattle.px_plan.specs.declared.input.Standing.TheVariants.{Settled, Moving, L
 use Rattle.px_plan.specs.declared.input.Way.{Way}
 use Rattle.px_plan.specs.declared.input.Way.TheVariants.{Coming, There, Left}
 use Rattle.px_plan.specs.declared.change.Change.TheVariants.{Gone}
-use Rattle.px_plan.specs.Plan.{idle, changing}
+use Rattle.px_plan.specs.Plan.{idle}
 use Rattle.px_ctl_play.specs.declared.data.Frames.{Frames}
 use Rattle.px_ctl_play.specs.Data.{are_frames, write, written, data_for}
 use Rattle.px_ctl_play.specs.Factors.{gains_of, factor_list, regrouped}

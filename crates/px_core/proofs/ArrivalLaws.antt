@@ -1,9 +1,9 @@
 -- An input is on the sink that it moves to: the plan keeps what the state keeps.
 use Rattle.std.proofs.Common.{◌≡◌, ◌⊎◌, inl, inr, ℕ, zero, suc, ◌<◌, ◌≤◌, List, [], ◌∷◌, ◌++◌, map, length, Option, Some, None, Bool, true, false, refl, ap, sym, subst, ◌∙◌, arith, cond}
-use Rattle.std.specs.Prelude.{◌&&◌, filter, nat_eq, not, replicate, slice_get, All, MatchOption, IfSome, IsSome}
+use Rattle.std.specs.Prelude.{◌&&◌, filter, nat_eq, not, replicate, slice_get, All, MatchOption, IfSome}
 use Rattle.std.specs.List.{AllByRecursion, find}
 use Rattle.std.specs.Option.{option_map}
-use Rattle.std.proofs.lemmas.Bool.{cond_both, cond-true, cond-false, eqb-true, eq-eqb, ne_eqb, false≢true, and_left, and_parts}
+use Rattle.std.proofs.lemmas.Bool.{cond-true, cond-false, eqb-true, eq-eqb, ne_eqb, false≢true, and_left, and_parts}
 use Rattle.std.proofs.lemmas.List.{append-nil}
 use Rattle.std.proofs.lemmas.Option.{none-some, same_Some}
 use Rattle.px_types.specs.declared.ids.InputId.{InputId}
@@ -28,8 +28,7 @@ use Rattle.px_plan.specs.declared.input.Input.{Input}
 use Rattle.px_plan.specs.declared.input.Standing.{Standing}
 use Rattle.px_plan.specs.declared.input.Standing.TheVariants.{Settled, Moving}
 use Rattle.px_plan.specs.declared.input.Way.TheVariants.{Left}
-use Rattle.px_plan.specs.Plan.{Planned}
-use Rattle.px_ctl_play.specs.Arrival.{joined_by, is_settled_with, settled_with, later, arrival_by, arriving_with}
+use Rattle.px_ctl_play.specs.Arrival.{joined_by, is_settled_with, settled_with, later, arrival_by}
 use Rattle.px_ctl_play.specs.Factors.{own_factors, regrouped}
 use Rattle.px_ctl_play.specs.Move.{feed_to}
 use Rattle.px_ctl_play.specs.Told.{same_spec}
@@ -38,9 +37,9 @@ use Rattle.px_core.specs.declared.delayed.Delayed.{Delayed}
 use Rattle.px_core.specs.Delayed.{is_of, delayed_of, Suits, Waits, IsDelayed}
 use Rattle.px_core.specs.State.{State, has_index, input_of, is_settled, settled_on}
 use Rattle.px_core.specs.Change.{Change, change_first, drop_first, arrived_at, posted_to, arrives, arrives_of, arriving, releasing, releasing_of, changed, committed}
-use Rattle.px_core.specs.Grouped.{channels_there, IsGroupOf, AreGrouped, paid}
+use Rattle.px_core.specs.Grouped.{channels_there, IsGroupOf, paid}
 use Rattle.px_core.specs.Keeps.{IsFedAt, GoesTo, GoesThere, IsInput, IsKept, IsRising, AllAbove}
-use Rattle.px_core.specs.Lawful.{IsReleased, AreReleased, Lawful, AreLawfulOwing}
+use Rattle.px_core.specs.Lawful.{IsReleased, AreReleased, AreLawfulOwing}
 use Rattle.px_core.specs.Notice.{is_on, owner_of, arrival_between, arrival_at, arrived_with}
 use Rattle.px_core.specs.Parcels.{carried_by}
 use Rattle.px_core.specs.Plan.{Plan}

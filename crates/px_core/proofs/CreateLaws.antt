@@ -30,7 +30,7 @@ use Rattle.px_plan.specs.declared.target.Target.{Target}
 use Rattle.px_plan.specs.declared.target.Named.{Named}
 use Rattle.px_plan.specs.Target.{target_of as target_in}
 use Rattle.px_ctl_play.specs.Asked.{format_on, channels_on, positions_on, spec_on, attr_on, is_lawful, is_supported, feed_on, has_room, MOST_ON_SINK}
-use Rattle.px_ctl_play.specs.Create.{input_made, new_of, create}
+use Rattle.px_ctl_play.specs.Create.{input_made, new_of}
 use Rattle.px_ctl_play.specs.Factors.{own_factors}
 use Rattle.px_ctl_play.specs.Joining.{volume_on, joined}
 use Rattle.px_flat.specs.declared.member.Member.{Member}

@@ -39,8 +39,11 @@ use Rattle.px_core.specs.Parcels.{given_in}
 use Rattle.px_core.specs.Keeps.{AreDistinct, IsSteady, IsKept, IsStep}
 use Rattle.px_core.specs.Lawful.{Lawful, AreLawfulOwing, owed_after}
 use Rattle.px_core.specs.Ending.{is_end_of, ends_of, goes_on, begins_with, begins_of, begins_by}
-use Rattle.px_core.specs.Step.{Step, connect, frame, broken, close, cut, sweep, notice, out, body_answer, frame_of, answer_of, stepped, effects_of, stepped_by, effects_by}
+use Rattle.px_shown.specs.Shown.{told_between}
+use Rattle.px_core.specs.Events.{scene_of, step_events}
+use Rattle.px_core.specs.Step.{Step, connect, frame, broken, close, cut, sweep, notice, out, body_answer, frame_of, answer_of, answered, stepped, effects_of, stepped_by, effects_by}
 use Rattle.px_core.proofs.AnswerLaws.{IsLawful}
+use Rattle.px_core.proofs.SceneLaws.{events_are}
 use Rattle.px_core.proofs.Going.{going_by_own}
 use Rattle.px_core.proofs.VerbLaws.{change_follows}
 use Rattle.px_core.proofs.ArrivalLaws.{IsArrival, arrival_committed}
@@ -337,15 +340,29 @@ other_once {P} spec_of conn asker state s is h = by (answer_sound spec_of state 
     by (inl lawful) = lawful_once spec_of conn asker state plan h lawful
     by (inr a) = arrival_once spec_of conn asker state plan (given_in s) a
 
+-- events end none
+with_events : {P : Type 0} (conn : ConnId) (effects : List Effect) (before after : State P) → ends_of conn (effects ++ step_events before after) ≡ ends_of conn effects
+with_events conn effects before after =
+    ends_joined conn effects (step_events before after)
+    ∙ (omega (arith, ap (ends_of conn) (events_are before after), sent_ends conn (told_between before.sinks after.clients_made (scene_of before) (scene_of after))))
+
 -- a step ends a connection only where it went on, and goes on no more, or where it isn't taken
 pub step_once : {P : Type 0} (conn : ConnId) (spec_of : P → SampleSpec) (state : State P) (s : Step P) → IsKept spec_of state → ends_of conn (effects_of spec_of state s) + goes_on (stepped spec_of state s).connections conn ≤ goes_on state.connections conn + begins_of conn state s
-step_once conn spec_of state (connect n) h = connect_once conn n state (connection_of state.connections n)
-step_once conn spec_of state (frame n f) h = omega (arith, frame_once spec_of conn n (Some n) state h (going_on state.connections n) refl f)
+step_once conn spec_of state (connect n) h =
+    let c = connection_of state.connections n in
+    omega (arith, connect_once conn n state c, with_events conn (connect_effects c n state) state (connected c n state))
+step_once conn spec_of state (frame n f) h =
+    let plan = answer_of spec_of state (frame n f) in
+    omega (arith, frame_once spec_of conn n (Some n) state h (going_on state.connections n) refl f, with_events conn (plan_effects (Some n) plan) state (answered state plan))
 step_once conn spec_of state (broken n fault at) h = omega (arith, other_once spec_of conn (Some n) state (broken n fault at) tt h)
 step_once conn spec_of state (close n) h = omega (arith, other_once spec_of conn (Some n) state (close n) tt h)
 step_once conn spec_of state (cut n) h = omega (arith, other_once spec_of conn (Some n) state (cut n) tt h)
-step_once conn spec_of state sweep h = omega (arith, other_once spec_of conn None state sweep tt h)
-step_once conn spec_of state (notice sink n) h = omega (arith, other_once spec_of conn None state (notice sink n) tt h)
+step_once conn spec_of state sweep h =
+    let plan = answer_of spec_of state sweep in
+    omega (arith, other_once spec_of conn None state sweep tt h, with_events conn (plan_effects None plan) state (answered state plan))
+step_once conn spec_of state (notice sink n) h =
+    let plan = answer_of spec_of state (notice sink n) in
+    omega (arith, other_once spec_of conn None state (notice sink n) tt h, with_events conn (plan_effects None plan) state (answered state plan))
 step_once conn spec_of state (out sink) h = omega (arith, out_same (next_for state sink) sink state conn)
 
 pub steps_once : {P : Type 0} (conn : ConnId) (spec_of : P → SampleSpec) (state : State P) (steps : List (Step P)) → AllByRecursion IsStep steps → IsKept spec_of state → ends_of conn (effects_by spec_of state steps) + goes_on (stepped_by spec_of state steps).connections conn ≤ goes_on state.connections conn + begins_by spec_of conn state steps

@@ -11,7 +11,6 @@ use Rattle.px_types.specs.declared.ids.SinkId.{SinkId}
 use Rattle.px_session.specs.declared.header.SinkSpec.{SinkSpec}
 use Rattle.px_vol.specs.Volume.{norm}
 use Rattle.px_flat.specs.FlatVolume.{FlatGroup, member_of, new_group}
-use Rattle.px_flat.specs.Inputs.{channels_in}
 use Rattle.px_flat.proofs.Inputs.{rest_of, found_in, unfound_in}
 use Rattle.px_msg.specs.declared.message.Msg.{Msg}
 use Rattle.px_msg.specs.declared.message.Msg.TheVariants.{New, Attach, Detach, Write, Cork, Flush, Trigger, Prebuf, Drain, Attr, Factors, Query}
@@ -19,7 +18,7 @@ use Rattle.px_plan.specs.declared.input.Input.{Input}
 use Rattle.px_plan.specs.declared.input.Standing.{Standing}
 use Rattle.px_plan.specs.declared.input.Standing.TheVariants.{Settled, Moving, Leaving}
 use Rattle.px_plan.specs.declared.input.Way.{Way}
-use Rattle.px_plan.specs.declared.input.Way.TheVariants.{Coming, There, Left}
+use Rattle.px_plan.specs.declared.input.Way.TheVariants.{There, Left}
 use Rattle.px_plan.specs.declared.target.Named.{Named}
 use Rattle.px_plan.specs.declared.target.Named.TheVariants.{Unclear, Unknown, Sink}
 use Rattle.px_plan.specs.declared.target.Target.{Target}
@@ -32,7 +31,7 @@ use Rattle.px_core.specs.Delayed.{is_of}
 use Rattle.px_core.specs.State.{State, has_index, input_of}
 use Rattle.px_core.specs.Change.{Change, change_first, drop_first, leaving, with_attr, moving_to, arrived_at, inputs_told, ending, ending_of, saying, saying_of, departs, departs_of, releasing, releasing_of, changed, committed}
 use Rattle.px_core.specs.Grouped.{channels_there, IsGroupOf, AreGrouped, is_owed, paid}
-use Rattle.px_core.specs.Lawful.{Lawful, AreLawfulOwing, owed_for, owed_after, IsPaid}
+use Rattle.px_core.specs.Lawful.{Lawful, AreLawfulOwing, owed_for, owed_after}
 use Rattle.px_core.specs.Keeps.{IsInput}
 use Rattle.px_core.specs.Notice.{is_on, input_on}
 use Rattle.px_core.specs.Out.{on_way, inputs_past, past}

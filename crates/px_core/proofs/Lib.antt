@@ -33,3 +33,6 @@ pub mod TellsLaws
 pub mod RefusalLaws
 pub mod Undone
 pub mod HearingLaws
+pub mod SceneLaws
+pub mod AddedLaws
+pub mod EventLaws

@@ -25,6 +25,10 @@ tails {A} x y xs ys e = ap (λ (l : List A). rest l) e
 pub no_cons : {A : Type 0} (x : A) (xs : List A) → x ∷ xs ≡ [] → ⊥
 no_cons x xs e = let h : suc (length xs) ≡ 0 = ap length e in absurd (omega (arith, h))
 
+pub all_joined : {A : Type 0} (Q : A → Type 0) (xs ys : List A) → AllByRecursion Q xs → AllByRecursion Q ys → AllByRecursion Q (xs ++ ys)
+all_joined Q [] ys h k = k
+all_joined Q (x ∷ xs) ys h k = (h.0, all_joined Q xs ys h.1 k)
+
 -- ---- what is found
 
 pub found_test : {A : Type 0} (q : A → Bool) (xs : List A) (y : A) → find q xs ≡ Some y → q y ≡ true

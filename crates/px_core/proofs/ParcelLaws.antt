@@ -1,5 +1,5 @@
 -- No parcel waits for a sink but those that notices gave up.
-use Rattle.std.proofs.Common.{◌≡◌, ◌⊎◌, ◌∙◌, sym, subst, ℕ, zero, suc, List, [], ◌∷◌, ◌++◌, Option, Some, None, inl, inr, refl}
+use Rattle.std.proofs.Common.{◌⊎◌, sym, subst, ℕ, zero, suc, List, [], ◌∷◌, ◌++◌, Option, Some, None, inl, inr, refl}
 use Rattle.std.specs.Prelude.{set, get_or, replicate, length, flat_map, nat_eq, IfSome}
 use Rattle.std.specs.List.{AllByRecursion, find}
 use Rattle.std.specs.Option.{option_to_list}

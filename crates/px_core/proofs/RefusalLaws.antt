@@ -27,7 +27,7 @@ use Rattle.px_model.specs.Frame.{SampleSpec}
 use Rattle.px_msg.specs.declared.notice.Notice.{Notice}
 use Rattle.px_msg.specs.declared.notice.Notice.TheVariants.{Request, Overflow, Underflow, Started, Drained, Detached, Latency}
 use Rattle.px_plan.specs.declared.refusal.Refusal.TheVariants.{Code, NoMemory}
-use Rattle.px_plan.specs.declared.change.Change.TheVariants.{Gone, Released, Ended, Forgotten}
+use Rattle.px_plan.specs.declared.change.Change.TheVariants.{Released, Ended, Forgotten}
 use Rattle.px_plan.specs.declared.sending.Reason.{Reason}
 use Rattle.px_plan.specs.declared.sending.Reason.TheVariants.{Protocol as Breach, Limit, Cut as ForMemory}
 use Rattle.px_plan.specs.declared.sending.Sending.{Sending}
@@ -35,7 +35,7 @@ use Rattle.px_plan.specs.declared.input.Connection.{Connection}
 use Rattle.px_plan.specs.declared.input.Input.{Input}
 use Rattle.px_plan.specs.declared.waiting.Waiting.{Waiting}
 use Rattle.px_plan.specs.Waiting.{drain_under, question_under}
-use Rattle.px_plan.specs.Plan.{Planned, idle, changing, telling}
+use Rattle.px_plan.specs.Plan.{Planned, idle, telling}
 use Rattle.px_plan.specs.Row.{Row}
 use Rattle.px_ctl_play.specs.declared.told.News.{News}
 use Rattle.px_ctl_play.specs.declared.told.News.TheVariants as news
@@ -47,12 +47,12 @@ use Rattle.px_flat.specs.FlatVolume.{FlatGroup}
 use Rattle.px_ctl_play.specs.Told.{message_of, told, gives_up, gone, left}
 use Rattle.px_core.specs.declared.effect.Effect.{Effect}
 use Rattle.px_core.specs.declared.effect.Effect.TheVariants.{Sent, Closed}
-use Rattle.px_core.specs.State.{State, goes_on, connection_of, settled_on, stream_of, marked_of, is_from}
+use Rattle.px_core.specs.State.{State, goes_on, connection_of, stream_of, marked_of, is_from}
 use Rattle.px_core.specs.Change.{Change, marked, with_connection, committed}
 use Rattle.px_core.specs.Effect.{reason_code, framed, fits, sent, sending, closed_at, closed_for, fault_code, fault_place, offset_behind}
 use Rattle.px_core.specs.Plan.{Plan, reply_to_asker, sent_all, closed_by, closed_all, plan_effects, refused, reply_fits, requested, ended_by, broken_off}
 use Rattle.px_core.specs.Command.{row, read_answer, is_barred, command_answer, head_answer}
-use Rattle.px_core.specs.Connecting.{is_full, connect_effects, going_on, ended, ends, swept, sweep_of}
+use Rattle.px_core.specs.Connecting.{is_full, connected, connect_effects, going_on, ended, ends, swept, sweep_of}
 use Rattle.px_types.specs.declared.ids.InputId.{InputId}
 use Rattle.px_flat.specs.declared.member.Member.{Member}
 use Rattle.px_flat.specs.FlatVolume.{member_of}
@@ -65,8 +65,14 @@ use Rattle.px_ctl_play.specs.Move.{feed_to}
 use Rattle.px_core.specs.Delayed.{delayed_of}
 use Rattle.px_core.specs.Notice.{input_on, owner_of, left_of, arrival_between, arrival_at, arrived_with, given_up_by, given_up, notice_answer}
 use Rattle.px_targets.specs.Sinks.{rate_on, target_at}
-use Rattle.px_core.specs.Step.{Step, connect, frame, broken, close, cut, sweep, notice, out, body_answer, frame_of, sender_of, answer_of, stepped, effects_of}
-use Rattle.px_core.proofs.ListLaws.{heads, no_cons}
+use Rattle.px_core.specs.Step.{Step, connect, frame, broken, close, cut, sweep, notice, out, body_answer, frame_of, sender_of, answer_of, answered as after_plan, answer_effects, stepped, effects_of}
+use Rattle.px_events.specs.Became.{events_between}
+use Rattle.px_events.specs.Told.{infos_in}
+use Rattle.px_shown.specs.Shown.{telling_of, subscribers_of, given_in, told_between}
+use Rattle.px_core.specs.Events.{scene_of, step_events}
+use Rattle.px_core.proofs.SceneLaws.{events_are, none_events}
+use Rattle.px_core.proofs.EventLaws.{events_no_error}
+use Rattle.px_core.proofs.ListLaws.{all_joined, heads, no_cons}
 use Rattle.px_core.proofs.RowLaws.{Each}
 use Rattle.px_core.proofs.Silent.{data_silent}
 use Rattle.px_core.proofs.TellsLaws.{Tells, a_reply, nothing, plain_byte, latency_byte, row_tells}
@@ -284,10 +290,6 @@ abbrev IsSent : Effect → Type 0
 IsSent (Sent to packet) = Unit {0}
 IsSent (Closed to reason fault at) = ⊥
 
-all_joined : {A : Type 0} (Q : A → Type 0) (xs ys : List A) → AllByRecursion Q xs → AllByRecursion Q ys → AllByRecursion Q (xs ++ ys)
-all_joined Q [] ys h k = k
-all_joined Q (x ∷ xs) ys h k = (h.0, all_joined Q xs ys h.1 k)
-
 sending_sends : (to : ConnId) (packet : List ℕ) → AllByRecursion IsSent (sending to packet)
 sending_sends to packet = cond_both (fits packet) (sent to packet ∷ []) [] (AllByRecursion IsSent) (λ e. (tt, tt)) (λ e. tt)
 
@@ -313,6 +315,25 @@ ended_effects : (P : Type 0) (asker : Option ConnId) (to : ConnId) (reason : Opt
 ended_effects P asker to None fault at = refl
 ended_effects P asker to (Some reason) fault at = refl
 
+-- ---- what follows of events is no error, and ends nobody
+
+-- what is all of two lists is the first, or the second
+pub data Alone (x : Effect) (xs ys : List Effect) : Type 0 where
+  first : xs ≡ x ∷ [] → Alone x xs ys
+  second : ys ≡ x ∷ [] → Alone x xs ys
+
+none_left : (xs ys : List Effect) → xs ++ ys ≡ [] → xs ≡ []
+none_left [] ys e = refl
+none_left (z ∷ xs) ys e = absurd (no_cons z (xs ++ ys) e)
+
+abbrev tail_of : List Effect → List Effect
+tail_of [] = []
+tail_of (x ∷ xs) = xs
+
+alone_in : (x : Effect) (xs ys : List Effect) → xs ++ ys ≡ x ∷ [] → Alone x xs ys
+alone_in x [] ys e = second e
+alone_in x (z ∷ xs) ys e = first (λ k. heads z x (xs ++ ys) [] e k ∷ none_left xs ys (ap tail_of e) k)
+
 -- ---- an answer that is an error changes nothing
 
 module _ (conn : ConnId) (tag code : ℕ) where
@@ -334,6 +355,24 @@ module _ (conn : ConnId) (tag code : ℕ) where
   kind_changeless {P} state asker plan (ending to reason fault at is) e =
       absurd (ended_apart to reason fault at (sym (ap (plan_effects asker) is ∙ ended_effects P asker to reason fault at) ∙ e))
 
+  -- events are no errors
+  sendings_apart : (sendings : List Sending) → AllByRecursion (λ (x : Sending). 1 ≤ get_or x.packet 4 0) sendings → Refuses (sent_all sendings) → ⊥
+  sendings_apart [] all e = not_silent e
+  sendings_apart (s ∷ sendings) all e = by (λ f. sendings_apart sendings all.1 f) (fits s.packet) e
+    where
+      by : (Refuses (sent_all sendings) → ⊥) → (b : Bool) → Refuses (cond b (sent s.conn s.packet ∷ []) [] ++ sent_all sendings) → ⊥
+      by later true f = sent_apart s.conn conn s.packet (refusal tag code) all.0 (refusal_byte tag code) (heads (sent s.conn s.packet) (sent conn (refusal tag code)) (sent_all sendings) [] f)
+      by later false f = later f
+
+  front_refuses : {P : Type 0} (effects : List Effect) (before after : State P) → Refuses (effects ++ step_events before after) → Refuses effects
+  front_refuses effects before after e = by (alone_in (sent conn (refusal tag code)) effects (step_events before after) e)
+    where
+      by : Alone (sent conn (refusal tag code)) effects (step_events before after) → Refuses effects
+      by (first f) = f
+      by (second f) =
+          absurd (sendings_apart (told_between before.sinks after.clients_made (scene_of before) (scene_of after))
+          (events_no_error (subscribers_of (scene_of after)) (events_between (given_in before.sinks after.clients_made (scene_of after)) (infos_in (telling_of before.sinks (scene_of before))) (infos_in (telling_of before.sinks (scene_of after))))) (sym (events_are before after) ∙ f))
+
   -- a client that connects is sent nothing
   connect_refuses : {P : Type 0} (o : Option Connection) (n : ConnId) (state : State P) → Refuses (connect_effects o n state) → ⊥
   connect_refuses (Some c) n state e = not_silent e
@@ -344,13 +383,17 @@ module _ (conn : ConnId) (tag code : ℕ) where
       either false f = not_silent f
 
   pub refusal_changes_nothing : {P : Type 0} (spec_of : P → SampleSpec) (state : State P) (s : Step P) → Refuses (effects_of spec_of state s) → stepped spec_of state s ≡ state
-  refusal_changes_nothing spec_of state (connect n) e = absurd (connect_refuses (connection_of state.connections n) n state e)
-  refusal_changes_nothing spec_of state (frame n f) e = kind_changeless state (Some n) (answer_of spec_of state (frame n f)) (frame_kind state n (going_on state.connections n) f) e
+  refusal_changes_nothing spec_of state (connect n) e =
+      let c = connection_of state.connections n in
+      absurd (connect_refuses c n state (front_refuses (connect_effects c n state) state (connected c n state) e))
+  refusal_changes_nothing spec_of state (frame n f) e = kind_changeless state (Some n) (answer_of spec_of state (frame n f)) (frame_kind state n (going_on state.connections n) f)
+      (front_refuses (plan_effects (Some n) (answer_of spec_of state (frame n f))) state (after_plan state (answer_of spec_of state (frame n f))) e)
   refusal_changes_nothing spec_of state (broken n fault at) e = kind_changeless state (Some n) (answer_of spec_of state (broken n fault at)) (ended_kind (Some n) (going_on state.connections n) (Some Breach) (rule_of fault) at) e
   refusal_changes_nothing spec_of state (close n) e = kind_changeless state (Some n) (answer_of spec_of state (close n)) (ended_kind (Some n) (going_on state.connections n) None 0 0) e
   refusal_changes_nothing spec_of state (cut n) e = kind_changeless state (Some n) (answer_of spec_of state (cut n)) (ended_kind (Some n) (going_on state.connections n) (Some ForMemory) 0 0) e
-  refusal_changes_nothing spec_of state sweep e = kind_changeless state None (sweep_of state) (sweep_kind state) e
-  refusal_changes_nothing spec_of state (notice sink n) e = kind_changeless state None (answer_of spec_of state (notice sink n)) (notice_kind spec_of state sink n) e
+  refusal_changes_nothing spec_of state sweep e = kind_changeless state None (sweep_of state) (sweep_kind state) (front_refuses (plan_effects None (sweep_of state)) state (after_plan state (sweep_of state)) e)
+  refusal_changes_nothing spec_of state (notice sink n) e = kind_changeless state None (answer_of spec_of state (notice sink n)) (notice_kind spec_of state sink n)
+      (front_refuses (plan_effects None (answer_of spec_of state (notice sink n))) state (after_plan state (answer_of spec_of state (notice sink n))) e)
   refusal_changes_nothing spec_of state (out sink) e = absurd (not_silent e)
 
 -- ---- a fault of a connection marks it, and changes nothing else
@@ -387,6 +430,16 @@ module _ (conn : ConnId) (fault at : ℕ) where
       ap (λ (p : Plan P). committed state p.changes) is
       ∙ ended_marks state to reason f a (sym (ap (plan_effects asker) is ∙ ended_effects P asker to reason f a) ∙ e)
 
+  -- nor do events end anybody
+  front_breaks : {P : Type 0} (effects : List Effect) (before after : State P) → Breaks (effects ++ step_events before after) → Breaks effects
+  front_breaks effects before after e = by (alone_in (closed_at conn fault at) effects (step_events before after) e)
+    where
+      by : Alone (closed_at conn fault at) effects (step_events before after) → Breaks effects
+      by (first f) = f
+      by (second f) =
+          let told = told_between before.sinks after.clients_made (scene_of before) (scene_of after) in
+          absurd (no_break (sent_all told) (all_send told) (sym (events_are before after) ∙ f))
+
   -- a client that isn't taken has broken no rule
   connect_breaks : {P : Type 0} (o : Option Connection) (n : ConnId) (state : State P) → Breaks (connect_effects o n state) → ⊥
   connect_breaks (Some c) n state e = not_none e
@@ -399,13 +452,17 @@ module _ (conn : ConnId) (fault at : ℕ) where
       either false f = not_none f
 
   pub fault_marks_its_own : {P : Type 0} (spec_of : P → SampleSpec) (state : State P) (s : Step P) → Breaks (effects_of spec_of state s) → stepped spec_of state s ≡ with_connection conn marked state
-  fault_marks_its_own spec_of state (connect n) e = absurd (connect_breaks (connection_of state.connections n) n state e)
-  fault_marks_its_own spec_of state (frame n f) e = kind_marks state (Some n) (answer_of spec_of state (frame n f)) (frame_kind state n (going_on state.connections n) f) e
+  fault_marks_its_own spec_of state (connect n) e =
+      let c = connection_of state.connections n in
+      absurd (connect_breaks c n state (front_breaks (connect_effects c n state) state (connected c n state) e))
+  fault_marks_its_own spec_of state (frame n f) e = kind_marks state (Some n) (answer_of spec_of state (frame n f)) (frame_kind state n (going_on state.connections n) f)
+      (front_breaks (plan_effects (Some n) (answer_of spec_of state (frame n f))) state (after_plan state (answer_of spec_of state (frame n f))) e)
   fault_marks_its_own spec_of state (broken n f a) e = kind_marks state (Some n) (answer_of spec_of state (broken n f a)) (ended_kind (Some n) (going_on state.connections n) (Some Breach) (rule_of f) a) e
   fault_marks_its_own spec_of state (close n) e = kind_marks state (Some n) (answer_of spec_of state (close n)) (ended_kind (Some n) (going_on state.connections n) None 0 0) e
   fault_marks_its_own spec_of state (cut n) e = kind_marks state (Some n) (answer_of spec_of state (cut n)) (ended_kind (Some n) (going_on state.connections n) (Some ForMemory) 0 0) e
-  fault_marks_its_own spec_of state sweep e = kind_marks state None (sweep_of state) (sweep_kind state) e
-  fault_marks_its_own spec_of state (notice sink n) e = kind_marks state None (answer_of spec_of state (notice sink n)) (notice_kind spec_of state sink n) e
+  fault_marks_its_own spec_of state sweep e = kind_marks state None (sweep_of state) (sweep_kind state) (front_breaks (plan_effects None (sweep_of state)) state (after_plan state (sweep_of state)) e)
+  fault_marks_its_own spec_of state (notice sink n) e = kind_marks state None (answer_of spec_of state (notice sink n)) (notice_kind spec_of state sink n)
+      (front_breaks (plan_effects None (answer_of spec_of state (notice sink n))) state (after_plan state (answer_of spec_of state (notice sink n))) e)
   fault_marks_its_own spec_of state (out sink) e = absurd (not_none e)
 
 -- ---- a connection that isn't there, or has ended
@@ -414,7 +471,7 @@ pub ended_is_ignored : {P : Type 0} (spec_of : P → SampleSpec) (state : State 
 ended_is_ignored spec_of state (connect n) conn e gone = absurd (none-some conn e)
 ended_is_ignored {P} spec_of state (frame n f) conn e gone =
     let none : going_on state.connections n ≡ None = ap (going_on state.connections) (same_Some n conn e) ∙ gone in
-    (ap (λ o. committed state (Planned.changes (frame_of state o f))) none, ap (λ o. plan_effects (Some n) (frame_of state o f)) none)
+    (ap (λ o. committed state (Planned.changes (frame_of state o f))) none, ap (λ o. answer_effects (Some n) state (frame_of state o f)) none ∙ none_events state)
 ended_is_ignored {P} spec_of state (broken n fault at) conn e gone =
     let none : going_on state.connections n ≡ None = ap (going_on state.connections) (same_Some n conn e) ∙ gone in
     (ap (λ o. committed state (Planned.changes (ended {P = P} o (Some Breach) (rule_of fault) at))) none, ap (λ o. plan_effects (Some n) (ended {P = P} o (Some Breach) (rule_of fault) at)) none)

@@ -1,12 +1,10 @@
 -- MOVE_SINK_INPUT plans a lawful change.
-use Rattle.std.proofs.Common.{◌≡◌, ℕ, ◌<◌, List, [], ◌∷◌, length, Option, Some, None, Bool, true, false, Ok, refl, ap, sym, subst, ◌∙◌, cond}
+use Rattle.std.proofs.Common.{◌≡◌, ℕ, List, [], ◌∷◌, length, Option, Some, None, Bool, true, false, Ok, refl, ap, sym, subst, ◌∙◌}
 use Rattle.std.specs.Prelude.{not, nat_eq, slice_get, IfSome, IsSome}
-use Rattle.std.proofs.lemmas.Bool.{cond_both, eqb-true, eqb-false, ltb-true}
+use Rattle.std.proofs.lemmas.Bool.{cond_both, eqb-false, ltb-true}
 use Rattle.std.proofs.lemmas.Option.{same_Some, slice_get_within}
 use Rattle.px_types.specs.declared.error_code.ErrorCode.TheVariants.{Busy, Invalid, NoEntity, NotSupported, TooLarge}
-use Rattle.px_types.specs.declared.ids.SinkId.{SinkId}
 use Rattle.px_session.specs.declared.header.SinkSpec.{SinkSpec}
-use Rattle.px_model.specs.Frame.{SampleSpec}
 use Rattle.px_reply.specs.Front.{reply_to}
 use Rattle.px_plan.specs.declared.change.Change.TheVariants.{Moves}
 use Rattle.px_plan.specs.declared.input.Input.{Input}
@@ -19,7 +17,7 @@ use Rattle.px_plan.specs.Target.{is_clear, target_of as target_in}
 use Rattle.px_ctl_play.specs.Asked.{MOST_ON_SINK}
 use Rattle.px_ctl_play.specs.Move.{feed_to, has_place, sent_off, moved_to, move_input}
 use Rattle.px_core.specs.State.{State, input_of, input_named, bound_for}
-use Rattle.px_core.specs.Keeps.{IsFedAt, GoesTo, IsKept}
+use Rattle.px_core.specs.Keeps.{IsFedAt, GoesTo}
 use Rattle.px_core.specs.Lawful.{MayMove}
 use Rattle.px_core.specs.Plan.{Plan}
 use Rattle.px_core.proofs.AnswerLaws.{IsLawful}

@@ -35,7 +35,7 @@ use Rattle.px_plan.specs.declared.sending.Reason.{Reason}
 use Rattle.px_plan.specs.declared.sending.Reason.TheVariants.{Protocol as Breach, Cut as ForMemory}
 use Rattle.px_plan.specs.declared.input.Connection.{Connection}
 use Rattle.px_plan.specs.declared.input.Input.{Input}
-use Rattle.px_plan.specs.Plan.{Planned, idle, telling}
+use Rattle.px_plan.specs.Plan.{idle, telling}
 use Rattle.px_plan.specs.Row.{Row, check, present}
 use Rattle.px_plan.specs.Target.{is_clear, target_of}
 use Rattle.px_ctl_info.specs.Clients.{SERVER_VERSION, version_in, auth, connection_with, is_mask}
@@ -65,7 +65,7 @@ use Rattle.px_core.proofs.ListLaws.{all_push}
 use Rattle.px_core.proofs.ChangeLaws.{sink_at, held_on}
 use Rattle.px_core.proofs.HandingLaws.{out_keeps, out_spares}
 use Rattle.px_core.proofs.GroupLaws.{changes_grouped, past_grouped, new_grouped}
-use Rattle.px_core.proofs.VerbLaws.{Follows, others_keep, changes_follow}
+use Rattle.px_core.proofs.VerbLaws.{others_keep, changes_follow}
 use Rattle.px_core.proofs.RowLaws.{Each, each_check, each_then}
 use Rattle.px_core.proofs.Going.{going_by_own}
 use Rattle.px_targets.proofs.Sinks.{named_there}

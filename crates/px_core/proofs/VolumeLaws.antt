@@ -1,9 +1,7 @@
 -- The changes of volumes and mutes are lawful.
-use Rattle.std.proofs.Common.{◌≡◌, ◌<◌, ℕ, List, [], ◌∷◌, length, Option, Some, None, Ok, Bool, true, false, refl, ap, sym, ◌∙◌, cond}
+use Rattle.std.proofs.Common.{◌≡◌, ◌<◌, ℕ, List, length, Option, Some, None, Ok, Bool, true, false, refl, ap, sym, ◌∙◌, cond}
 use Rattle.std.specs.Prelude.{not, slice_get}
-use Rattle.std.proofs.lemmas.Bool.{cond_both}
-use Rattle.std.proofs.lemmas.Option.{none-some, same_Some, slice_get_within}
-use Rattle.px_types.specs.declared.ids.InputId.{InputId}
+use Rattle.std.proofs.lemmas.Option.{none-some, slice_get_within}
 use Rattle.px_types.specs.declared.ids.SinkId.{SinkId}
 use Rattle.px_types.specs.declared.error_code.ErrorCode.TheVariants.{Busy, Invalid, NoEntity}
 use Rattle.px_session.specs.declared.header.SinkSpec.{SinkSpec}
@@ -15,7 +13,7 @@ use Rattle.px_flat.proofs.Volumes as kept
 use Rattle.px_plan.specs.declared.input.Input.{Input}
 use Rattle.px_plan.specs.declared.target.Named.{Named}
 use Rattle.px_plan.specs.declared.target.Target.{Target}
-use Rattle.px_plan.specs.Row.{Row, ◌>>=◌, check, present}
+use Rattle.px_plan.specs.Row.{◌>>=◌, check, present}
 use Rattle.px_plan.specs.Target.{is_clear, target_of as target_in}
 use Rattle.px_ctl_vol.specs.Asked.{is_volume, fits}
 use Rattle.px_ctl_vol.specs.Factors.{regrouped}
@@ -24,7 +22,6 @@ use Rattle.px_core.specs.State.{State, goes_on, going, has_index, input_named, i
 use Rattle.px_core.specs.Command.{sink_volume, sink_mute, input_volume, input_mute}
 use Rattle.px_core.specs.Grouped.{IsGroupOf}
 use Rattle.px_core.specs.Keeps.{IsInput, IsKept}
-use Rattle.px_core.specs.Plan.{Plan}
 use Rattle.px_targets.specs.Sinks.{group_of, group_named, group_under}
 use Rattle.px_core.proofs.AnswerLaws.{IsLawful, regroups, rising_filter}
 use Rattle.px_core.proofs.ListLaws.{found_all}

@@ -1,5 +1,5 @@
 -- The state after each change. A step is a list of changes, made one after the other.
-use Rattle.std.specs.Prelude.{ℕ, Bool, true, cond, nat_lt, length, List, [], ◌∷◌, ◌++◌, Option, None, Some, set, get_or}
+use Rattle.std.specs.Prelude.{ℕ, cond, nat_lt, length, List, [], ◌∷◌, ◌++◌, Option, None, Some, set, get_or}
 use Rattle.std.specs.List.{fold, find}
 use Rattle.px_types.specs.declared.ids.ConnId.{ConnId}
 use Rattle.px_types.specs.declared.ids.InputId.{InputId}
@@ -10,8 +10,7 @@ use Rattle.px_names.specs.Names.{Naming}
 use Rattle.px_names.specs.InputLists.{with_list_of, without_list_of}
 use Rattle.px_flat.specs.FlatVolume.{FlatGroup}
 use Rattle.px_msg.specs.declared.message.Msg.{Msg}
-use Rattle.px_model.specs.declared.data.Attr.{Attr as Attributes}
-use Rattle.px_msg.specs.declared.message.Msg.TheVariants.{New, Attach, Detach, Write, Cork, Flush, Trigger, Prebuf, Drain, Attr, Factors, Query}
+use Rattle.px_msg.specs.declared.message.Msg.TheVariants.{Detach}
 use Rattle.px_plan.specs.declared.input.Connection.{Connection}
 use Rattle.px_plan.specs.declared.input.Input.{Input}
 use Rattle.px_plan.specs.declared.input.Standing.{Standing}
@@ -20,6 +19,8 @@ use Rattle.px_plan.specs.declared.change.Change.{Change as AnyChange}
 use Rattle.px_plan.specs.declared.change.Change.TheVariants.{Authed, Named, Masked, Defaulted, Made, Described, Leaves, Moves, Arrives, Released, Said, Regrouped, Asked, Answered, Gone, Ended, Forgotten}
 pub use Rattle.px_inputs.specs.Lists.{change_first, drop_first}
 pub use Rattle.px_inputs.specs.Inputs.{leaving, with_attr, moving_to, arrived_at}
+pub use Rattle.px_inputs.specs.Connections.{authed, marked, with_streams}
+pub use Rattle.px_shown.specs.Scene.{inputs_told}
 use Rattle.px_core.specs.declared.delayed.Delayed.{Delayed}
 use Rattle.px_core.specs.Delayed.{is_of, delayed_of_others}
 use Rattle.px_core.specs.State.{State, has_number, has_index, input_of, is_as, waiting_of_others}
@@ -44,15 +45,6 @@ abbrev pub forgotten : ConnId → Naming → Naming
 forgotten conn names = record names { clients = without_client (is_on conn) names.clients }
 
 -- ---- connections
-
-abbrev pub authed : ℕ → Connection → Connection
-authed version c = record c { version = Some version }
-
-abbrev pub marked : Connection → Connection
-marked c = record c { marked = true }
-
-abbrev pub with_streams : ℕ → Connection → Connection
-with_streams streams c = record c { streams = streams }
 
 abbrev pub with_connection : {P : Type 0} → ConnId → (Connection → Connection) → State P → State P
 with_connection conn change state = record state { connections = change_first (has_number conn) change state.connections }
@@ -85,21 +77,6 @@ ending Leaving x state = state
 abbrev pub ending_of : {P : Type 0} → Option Input → State P → State P
 ending_of None state = state
 ending_of (Some x) state = ending x.standing x state
-
--- new buffer attributes that an input is told of are its own
-abbrev pub inputs_told : {P : Type 0} → InputId → Msg P → List Input → List Input
-inputs_told index (New n) inputs = inputs
-inputs_told index (Attach input parcel feed factors) inputs = inputs
-inputs_told index (Detach input) inputs = inputs
-inputs_told index (Write input seek offset frames bytes) inputs = inputs
-inputs_told index (Cork input on) inputs = inputs
-inputs_told index (Flush input) inputs = inputs
-inputs_told index (Trigger input) inputs = inputs
-inputs_told index (Prebuf input) inputs = inputs
-inputs_told index (Drain input tag) inputs = inputs
-inputs_told index (Attr input attr) inputs = change_first (has_index index) (with_attr attr) inputs
-inputs_told index (Factors each) inputs = inputs
-inputs_told index (Query input tag) inputs = inputs
 
 abbrev pub telling : {P : Type 0} → InputId → Msg P → State P → State P
 telling index m state = record state { inputs = inputs_told index m state.inputs }

@@ -1,5 +1,5 @@
 -- Connections begin and end (PulseAudio: `pa_native_protocol_connect` and `native_connection_unlink` of pulsecore/protocol-native.c; that an ended connection is swept away in a step of its own is own).
-use Rattle.std.specs.Prelude.{ℕ, ◌+◌, Bool, false, cond, ◌||◌, nat_le, List, [], ◌∷◌, ◌++◌, filter, length, flat_map, Option, None, Some}
+use Rattle.std.specs.Prelude.{ℕ, ◌+◌, Bool, cond, ◌||◌, nat_le, List, [], ◌∷◌, ◌++◌, filter, length, flat_map, Option, None, Some}
 use Rattle.px_types.specs.declared.ids.ConnId.{ConnId}
 use Rattle.px_names.specs.Clients.{new_client}
 use Rattle.px_plan.specs.declared.change.Change.TheVariants.{Leaves, Forgotten}
@@ -11,6 +11,7 @@ use Rattle.px_plan.specs.declared.input.Input.{Input}
 use Rattle.px_plan.specs.Plan.{idle, changing}
 use Rattle.px_core.specs.Effect.{closed_for}
 use Rattle.px_core.specs.Change.{Change}
+pub use Rattle.px_shown.specs.Scene.{new_connection}
 use Rattle.px_core.specs.State.{State, connection_of, marked_of, is_from}
 use Rattle.px_core.specs.Plan.{Plan, ended_by}
 
@@ -25,9 +26,6 @@ LAST_CLIENT = 0xFFFFFFFF
 
 abbrev pub is_full : {P : Type 0} → State P → Bool
 is_full state = nat_le MOST_CONNECTIONS (length state.connections) || nat_le LAST_CLIENT state.clients_made
-
-abbrev pub new_connection : ConnId → ℕ → Connection
-new_connection conn client = record { conn = conn; client = client; version = None; streams = 0; marked = false }
 
 -- the state with one more connection, and its client
 abbrev pub joined : {P : Type 0} → ConnId → State P → State P

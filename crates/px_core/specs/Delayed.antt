@@ -1,5 +1,5 @@
 -- The messages of inputs on their way from one sink to another: they wait until the other sink has the stream.
-use Rattle.std.specs.Prelude.{◌≡◌, ℕ, Bool, true, not, nat_eq, List, filter, length, MatchOption, ⊤}
+use Rattle.std.specs.Prelude.{◌≡◌, Bool, true, not, nat_eq, List, filter, MatchOption}
 use Rattle.px_types.specs.declared.ids.InputId.{InputId}
 use Rattle.px_model.specs.Orderly.{IsRepaired, IsWhole}
 use Rattle.px_msg.specs.declared.message.Msg.{Msg}

@@ -9,6 +9,7 @@ pub mod Notice
 pub mod Command
 pub mod Out
 pub mod Lending
+pub mod Events
 pub mod Step
 pub mod Orderly
 pub mod Grouped

@@ -18,6 +18,7 @@ use Rattle.px_plan.specs.declared.input.Connection.{Connection}
 use Rattle.px_core.specs.State.{State, connection_of, stream_of}
 use Rattle.px_core.specs.Change.{committed}
 use Rattle.px_core.specs.Plan.{Plan, plan_effects}
+use Rattle.px_core.specs.Events.{step_events}
 use Rattle.px_core.specs.Command.{packet_answer}
 use Rattle.px_core.specs.Connecting.{connected, connect_effects, going_on, ended, sweep_of}
 use Rattle.px_core.specs.Notice.{notice_answer}
@@ -91,15 +92,23 @@ sender_of sweep = None
 sender_of (notice sink n) = None
 sender_of (out sink) = None
 
--- its effects, in order; a client that connects where no more are taken is ended without a plan
+-- the effects of a plan, and then what those are told who subscribe after it
+abbrev pub answer_effects : {P : Type 0} → Option ConnId → State P → Plan P → List Effect
+answer_effects asker state plan = plan_effects asker plan ++ step_events state (answered state plan)
+
+-- and of a client that connects; where no more are taken it is ended without a plan
+abbrev pub admitted_effects : {P : Type 0} → Option Connection → ConnId → State P → List Effect
+admitted_effects c conn state = connect_effects c conn state ++ step_events state (connected c conn state)
+
+-- its effects, in order; a connection that is only marked, and a message that is handed out, change nothing that is told
 abbrev pub effects_of : {P : Type 0} → (P → SampleSpec) → State P → Step P → List Effect
-effects_of spec_of state (connect conn) = connect_effects (connection_of state.connections conn) conn state
-effects_of spec_of state (frame conn f) = plan_effects (Some conn) (answer_of spec_of state (frame conn f))
+effects_of spec_of state (connect conn) = admitted_effects (connection_of state.connections conn) conn state
+effects_of spec_of state (frame conn f) = answer_effects (Some conn) state (answer_of spec_of state (frame conn f))
 effects_of spec_of state (broken conn fault at) = plan_effects (Some conn) (answer_of spec_of state (broken conn fault at))
 effects_of spec_of state (close conn) = plan_effects (Some conn) (answer_of spec_of state (close conn))
 effects_of spec_of state (cut conn) = plan_effects (Some conn) (answer_of spec_of state (cut conn))
-effects_of spec_of state sweep = plan_effects None (answer_of spec_of state sweep)
-effects_of spec_of state (notice sink n) = plan_effects None (answer_of spec_of state (notice sink n))
+effects_of spec_of state sweep = answer_effects None state (answer_of spec_of state sweep)
+effects_of spec_of state (notice sink n) = answer_effects None state (answer_of spec_of state (notice sink n))
 effects_of spec_of state (out sink) = []
 
 -- all of them, one after the other

@@ -1,18 +1,19 @@
 //! A sink has given up the stream of an input that moves: the input is on the sink that it moves to.
 
-ghost use Rattle.std.specs.Prelude.{◌≡◌, IfOk, IfErr, OnOk, OnErr, None, Some};
+ghost use Rattle.std.specs.Prelude.{◌≡◌, [], IfOk, IfErr, OnOk, OnErr, None, Some};
 ghost use Rattle.px_plan.specs.declared.input.Standing.TheVariants.{Moving};
 ghost use Rattle.px_ctl_play.specs.Arrival.{arriving_with};
+ghost use Rattle.px_session.specs.HeaderRules.{AreSinks};
 ghost use Rattle.px_core.specs.Keeps.{IsKept};
 ghost use Rattle.px_core.specs.Notice.{arrival_at, arrived_with};
-ghost use Rattle.px_core.specs.Plan.{plan_effects};
 ghost use Rattle.px_core.specs.State.{input_of};
-ghost use Rattle.px_core.specs.Step.{answered};
+ghost use Rattle.px_core.specs.Step.{answer_effects, answered};
 ghost use Rattle.px_core.specs.Tables.{state_of};
 
 use crate::commit::{apply, commit, reserve};
 use crate::delayed;
 use crate::effects::{Effects, plan_effects};
+use crate::events::add_arrival_events;
 use crate::notice::owner_of;
 use crate::tables::Tables;
 use px_ctl_play::{Arrival, arrive};
@@ -67,7 +68,8 @@ fn settle<P: Drop>(
     parcel: P,
     made: Arrival<Msg<P>, Group>,
 ) -> Result<Effects, P>
-    ensures effects { IfOk result (λ effects. effects ≡ plan_effects None (arriving_with input parcel made)) }
+    requires { AreSinks [] tables.old.sinks }
+    ensures effects { IfOk result (λ effects. effects ≡ answer_effects None (state_of tables.old) (arriving_with input parcel made)) }
     ensures after { OnOk result (state_of tables.new ≡ answered (state_of tables.old) (arriving_with input parcel made)) }
     ensures back { IfErr result (λ back. back ≡ parcel) }
     ensures err { OnErr result (state_of tables.new ≡ state_of tables.old) }
@@ -84,7 +86,10 @@ fn settle<P: Drop>(
         told,
         changes: later,
     };
-    let Ok(effects) = plan_effects(alloc, None, &plan) else {
+    let Ok(mut effects) = plan_effects(alloc, None, &plan) else {
+        return Err(parcel);
+    };
+    let Ok(_) = add_arrival_events(alloc, &mut effects, tables, input, &plan.changes) else {
         return Err(parcel);
     };
     let Ok(_) = reserve(tables, plan.changes.len() + 1) else {
@@ -118,7 +123,7 @@ pub(crate) fn take_in<P: Parcel + Drop>(
     requires kept { IsKept P.spec_of (state_of tables.old) }
     requires here { input_of tables.old.inputs.items x.now.index ≡ Some x.now }
     requires moves { x.now.standing ≡ Moving to }
-    ensures effects { IfOk result (λ effects. effects ≡ plan_effects None (arrived_with x.now.index parcel (arrival_at (state_of tables.old) to x.now))) }
+    ensures effects { IfOk result (λ effects. effects ≡ answer_effects None (state_of tables.old) (arrived_with x.now.index parcel (arrival_at (state_of tables.old) to x.now))) }
     ensures after { OnOk result (state_of tables.new ≡ answered (state_of tables.old) (arrived_with x.now.index parcel (arrival_at (state_of tables.old) to x.now))) }
     ensures back { IfErr result (λ back. back ≡ parcel) }
     ensures err { OnErr result (state_of tables.new ≡ state_of tables.old) }

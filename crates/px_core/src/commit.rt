@@ -1,20 +1,21 @@
 //! Changes are made, one after the other, in room that was reserved for them.
 
-ghost use Rattle.std.specs.Prelude.{◌≡◌, ◌≤◌, ◌+◌, ℕ, length, vec_capacity, Some, IfOk, OnOk, OnErr};
+ghost use Rattle.std.specs.Prelude.{◌≡◌, ◌≤◌, ◌+◌, [], ℕ, length, vec_capacity, Some, IfOk, OnOk, OnErr};
 ghost use Rattle.std.specs.List.{find};
 ghost use Rattle.px_plan.specs.declared.change.Change.TheVariants.{Made, Described, Leaves, Moves, Arrives, Released, Said, Regrouped, Asked, Answered, Gone};
+ghost use Rattle.px_session.specs.HeaderRules.{AreSinks};
 ghost use Rattle.px_core.specs.Change.{changed, committed, defaulted, inputs_told, posting, delaying, saying, ending, departs, arrives, releasing};
-ghost use Rattle.px_core.specs.Plan.{plan_effects};
 ghost use Rattle.px_core.specs.Delayed.{is_of};
 ghost use Rattle.px_core.specs.State.{input_of};
-ghost use Rattle.px_core.specs.Step.{answered};
+ghost use Rattle.px_core.specs.Step.{answered, answer_effects};
 ghost use Rattle.px_core.specs.Tables.{state_of, HasRoom, HavePlaces};
 
 use crate::change::CoreChange;
 use crate::delayed::Delayed;
 use crate::effects::{Effects, plan_effects};
+use crate::events::add_events;
 use crate::tables::Tables;
-use crate::{awaited, delayed, queues, verbs};
+use crate::{awaited, delayed, queues};
 use px_flat::Group;
 use px_inputs::InputTable;
 use px_msg::Msg;
@@ -232,7 +233,7 @@ fn make<P: Drop>(tables: &mut Tables<P>, x: Input, new: Msg<P>, streams: u32, in
     ensures room { (n : ℕ) → HasRoom (n + 1) tables.old → HasRoom n tables.new }
 {
     let sink = x.sink;
-    verbs::set_streams(&mut tables.connections, x.conn, streams);
+    px_inputs::set_streams(&mut tables.connections, x.conn, streams);
     tables.inputs.push(x);
     tables.inputs_made = inputs;
     post(tables, sink, new);
@@ -301,7 +302,7 @@ pub(crate) fn apply<P: Drop>(tables: &mut Tables<P>, change: CoreChange<P>)
 {
     match change {
         Change::Authed(conn, version) => {
-            verbs::set_version(&mut tables.connections, conn, version);
+            px_inputs::set_version(&mut tables.connections, conn, version);
         }
         Change::Named(conn, list) => tables.names.set_list(conn, list),
         Change::Masked(conn, mask) => tables.names.set_mask(conn, mask),
@@ -322,9 +323,9 @@ pub(crate) fn apply<P: Drop>(tables: &mut Tables<P>, change: CoreChange<P>)
         Change::Asked(w) => ask(tables, w),
         Change::Answered(w) => answer(tables, &w),
         Change::Gone(index) => give_up(tables, index),
-        Change::Ended { conn, .. } => verbs::mark(&mut tables.connections, conn),
+        Change::Ended { conn, .. } => px_inputs::mark(&mut tables.connections, conn),
         Change::Forgotten(conn) => {
-            verbs::forget(&mut tables.connections, conn);
+            px_inputs::forget(&mut tables.connections, conn);
             tables.names.forget(conn);
         }
     }
@@ -349,11 +350,13 @@ pub(crate) fn finish<P: Drop>(
     asker: Option<ConnId>,
     plan: Plan<Msg<P>, Group>,
 ) -> Mem<Effects>
-    ensures effects { IfOk result (λ effects. effects ≡ plan_effects asker plan) }
+    requires { AreSinks [] tables.old.sinks }
+    ensures effects { IfOk result (λ effects. effects ≡ answer_effects asker (state_of tables.old) plan) }
     ensures after { OnOk result (state_of tables.new ≡ answered (state_of tables.old) plan) }
     ensures err { OnErr result (state_of tables.new ≡ state_of tables.old) }
 {
-    let effects = plan_effects(alloc, asker, &plan)?;
+    let mut effects = plan_effects(alloc, asker, &plan)?;
+    add_events(alloc, &mut effects, tables, &plan.changes)?;
     reserve(tables, plan.changes.len())?;
     commit(tables, plan.changes);
     Ok(effects)

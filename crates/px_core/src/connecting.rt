@@ -9,23 +9,24 @@ ghost use Rattle.px_frame.specs.Fault.{code_of};
 ghost use Rattle.px_plan.specs.declared.input.Connection.{Connection};
 ghost use Rattle.px_plan.specs.declared.input.Input.{Input};
 ghost use Rattle.px_plan.specs.Plan.{changing};
+ghost use Rattle.px_session.specs.HeaderRules.{AreSinks};
 ghost use Rattle.px_core.specs.State.{connection_of, marked_of, is_from};
-ghost use Rattle.px_core.specs.Connecting.{is_full, new_connection, joined, connected, connect_effects, going_on, ended, ends, swept, sweep_of};
+ghost use Rattle.px_core.specs.Connecting.{is_full, new_connection, joined, connected, going_on, ended, ends, swept, sweep_of};
 ghost use Rattle.px_core.specs.Effect.{closed_at, IsSendable};
 ghost use Rattle.px_core.specs.Plan.{plan_effects};
-ghost use Rattle.px_core.specs.Step.{answered};
+ghost use Rattle.px_core.specs.Step.{answered, answer_effects, admitted_effects};
 ghost use Rattle.px_core.specs.Tables.{state_of};
 
 use crate::change::CoreChange;
 use crate::commit::finish;
 use crate::effect::{Effect, closed_for};
 use crate::effects::Effects;
+use crate::events::joined_events;
 use crate::found::{connection_of, going_on};
 use crate::tables::Tables;
-use crate::verbs::mark;
 use px_flat::Group;
 use px_frame::FrameFault;
-use px_inputs::goes_on;
+use px_inputs::{goes_on, mark};
 use px_msg::Msg;
 use px_plan::{Change, Connection, Input, Plan, Reason};
 use px_types::{ConnId, Mem};
@@ -138,7 +139,8 @@ fn sweep<P: Drop>(
 
 /// The connections that have ended are swept away. Where there is no memory for it nothing has changed.
 pub(crate) fn sweep_away<P: Drop>(alloc: Global, tables: &mut Tables<P>) -> Mem<Effects>
-    ensures effects { IfOk result (λ effects. effects ≡ plan_effects None (sweep_of (state_of tables.old))) }
+    requires { AreSinks [] tables.old.sinks }
+    ensures effects { IfOk result (λ effects. effects ≡ answer_effects None (state_of tables.old) (sweep_of (state_of tables.old))) }
     ensures after { OnOk result (state_of tables.new ≡ answered (state_of tables.old) (sweep_of (state_of tables.old))) }
     ensures err { OnErr result (state_of tables.new ≡ state_of tables.old) }
 {
@@ -149,7 +151,8 @@ pub(crate) fn sweep_away<P: Drop>(alloc: Global, tables: &mut Tables<P>) -> Mem<
 /// A client connects. One that is there already changes nothing; where no more are taken the server ends it. Where there is no
 /// memory for it nothing has changed.
 pub(crate) fn connect<P>(alloc: Global, tables: &mut Tables<P>, conn: ConnId) -> Mem<Effects>
-    ensures effects { IfOk result (λ effects. effects ≡ connect_effects (connection_of tables.old.connections.items conn) conn (state_of tables.old)) }
+    requires { AreSinks [] tables.old.sinks }
+    ensures effects { IfOk result (λ effects. effects ≡ admitted_effects (connection_of tables.old.connections.items conn) conn (state_of tables.old)) }
     ensures after { OnOk result (state_of tables.new ≡ connected (connection_of tables.old.connections.items conn) conn (state_of tables.old)) }
     ensures err { OnErr result (state_of tables.new ≡ state_of tables.old) }
 {
@@ -160,8 +163,9 @@ pub(crate) fn connect<P>(alloc: Global, tables: &mut Tables<P>, conn: ConnId) ->
         let effects = Effects::of(alloc, closed_for(conn, Reason::Limit))?;
         return Ok(effects);
     }
+    let effects = joined_events(alloc, tables, conn)?;
     join(tables, conn)?;
-    Ok(Effects::new(alloc))
+    Ok(effects)
 }
 
 // A connection is ended for breaking a rule of the protocol, at an offset of its bytes.

@@ -171,8 +171,8 @@ fn send_one(alloc: Global, effects: &mut Effects, one: &Sending) -> Mem<()>
     send(alloc, effects, one.conn, &one.packet)
 }
 
-// Each packet goes to its connection.
-fn send_all(alloc: Global, effects: &mut Effects, sendings: &[Sending]) -> Mem<()>
+/// Each packet goes to its connection.
+pub(crate) fn send_all(alloc: Global, effects: &mut Effects, sendings: &[Sending]) -> Mem<()>
     ensures { OnOk result (effects.new ≡ effects.old ++ sent_all sendings.now) }
 {
     for one in sendings {

@@ -7,8 +7,7 @@ ghost use Rattle.px_session.specs.HeaderRules.{AreSinks};
 ghost use Rattle.px_core.specs.Command.{packet_answer};
 ghost use Rattle.px_core.specs.Grouped.{AreGrouped};
 ghost use Rattle.px_core.specs.Keeps.{IsInput, IsRising};
-ghost use Rattle.px_core.specs.Plan.{plan_effects};
-ghost use Rattle.px_core.specs.Step.{answered, body_answer, frame_answer};
+ghost use Rattle.px_core.specs.Step.{answer_effects, answered, body_answer, frame_answer};
 ghost use Rattle.px_core.specs.Tables.{state_of};
 
 use crate::command::packet_answer;
@@ -34,7 +33,7 @@ fn control<P: Drop>(
     requires sinks { AreSinks [] tables.old.sinks }
     requires inputs { AllByRecursion (IsInput tables.old.sinks tables.old.inputs_made) tables.old.inputs.items }
     requires groups { AreGrouped [] tables.old.sinks tables.old.inputs.items tables.old.groups.items }
-    ensures effects { IfOk result (λ effects. effects ≡ plan_effects (Some conn) (packet_answer (state_of tables.old) c.now at packet.now)) }
+    ensures effects { IfOk result (λ effects. effects ≡ answer_effects (Some conn) (state_of tables.old) (packet_answer (state_of tables.old) c.now at packet.now)) }
     ensures after { OnOk result (state_of tables.new ≡ answered (state_of tables.old) (packet_answer (state_of tables.old) c.now at packet.now)) }
     ensures err { OnErr result (state_of tables.new ≡ state_of tables.old) }
 {
@@ -44,7 +43,7 @@ fn control<P: Drop>(
 
 // The body of a frame of a connection that goes on, which is the one with this number. Where there is no memory for it, it is
 // handed back.
-#[tactic(auto, using(crate::proofs::Silent::data_silent))]
+#[tactic(auto, using(crate::proofs::Silent::data_tells_nothing))]
 fn body<P: Drop>(
     alloc: Global,
     tables: &mut Tables<P>,
@@ -58,7 +57,7 @@ fn body<P: Drop>(
     requires groups { AreGrouped [] tables.old.sinks tables.old.inputs.items tables.old.groups.items }
     requires rising { IsRising tables.old.inputs.items }
     requires body { IsBody body }
-    ensures effects { IfOk result (λ effects. effects ≡ plan_effects (Some conn) (body_answer (state_of tables.old) c.now at body)) }
+    ensures effects { IfOk result (λ effects. effects ≡ answer_effects (Some conn) (state_of tables.old) (body_answer (state_of tables.old) c.now at body)) }
     ensures after { OnOk result (state_of tables.new ≡ answered (state_of tables.old) (body_answer (state_of tables.old) c.now at body)) }
     ensures back { IfErr result (λ back. back ≡ body) }
     ensures err { OnErr result (state_of tables.new ≡ state_of tables.old) }
@@ -98,7 +97,7 @@ pub(crate) fn take<P: Drop>(
     requires groups { AreGrouped [] tables.old.sinks tables.old.inputs.items tables.old.groups.items }
     requires rising { IsRising tables.old.inputs.items }
     requires body { IsBody frame.body }
-    ensures effects { IfOk result (λ effects. effects ≡ plan_effects (Some conn) (frame_answer (state_of tables.old) conn frame)) }
+    ensures effects { IfOk result (λ effects. effects ≡ answer_effects (Some conn) (state_of tables.old) (frame_answer (state_of tables.old) conn frame)) }
     ensures after { OnOk result (state_of tables.new ≡ answered (state_of tables.old) (frame_answer (state_of tables.old) conn frame)) }
     ensures back { IfErr result (λ back. back ≡ frame) }
     ensures err { OnErr result (state_of tables.new ≡ state_of tables.old) }

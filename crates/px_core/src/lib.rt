@@ -13,6 +13,7 @@ mod data;
 mod delayed;
 mod effect;
 mod effects;
+mod events;
 mod found;
 mod frames;
 mod infos;
@@ -25,7 +26,6 @@ mod plan;
 mod queues;
 mod start;
 mod tables;
-mod verbs;
 mod volumes;
 
 pub use effect::Effect;

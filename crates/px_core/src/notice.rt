@@ -6,9 +6,8 @@ ghost use Rattle.px_session.specs.HeaderRules.{AreSinks};
 ghost use Rattle.px_ctl_play.specs.Told.{IsMemberIn};
 ghost use Rattle.px_core.specs.Keeps.{IsKept};
 ghost use Rattle.px_core.specs.Notice.{IsNews, owner_of, told_of, drained_of, measured_of, input_on, left_of, given_up, notice_answer};
-ghost use Rattle.px_core.specs.Plan.{plan_effects};
 ghost use Rattle.px_core.specs.State.{input_of};
-ghost use Rattle.px_core.specs.Step.{answered};
+ghost use Rattle.px_core.specs.Step.{answer_effects, answered};
 ghost use Rattle.px_core.specs.Tables.{state_of};
 
 use crate::arriving::take_in;
@@ -143,7 +142,7 @@ fn take_news<P: Parcel + Drop>(
 ) -> Result<Effects, Notice<P>>
     requires sinks { AreSinks [] tables.old.sinks }
     requires news { IsNews notice }
-    ensures effects { IfOk result (λ effects. effects ≡ plan_effects None (notice_answer P.spec_of (state_of tables.old) sink notice)) }
+    ensures effects { IfOk result (λ effects. effects ≡ answer_effects None (state_of tables.old) (notice_answer P.spec_of (state_of tables.old) sink notice)) }
     ensures after { OnOk result (state_of tables.new ≡ answered (state_of tables.old) (notice_answer P.spec_of (state_of tables.old) sink notice)) }
     ensures back { IfErr result (λ back. back ≡ notice) }
     ensures err { OnErr result (state_of tables.new ≡ state_of tables.old) }
@@ -165,8 +164,9 @@ fn take_left<P: Parcel + Drop>(
     x: Input,
     parcel: P,
 ) -> Result<Effects, P>
-    requires { IsMemberIn (slice_get tables.old.groups.items sink.0) x }
-    ensures effects { IfOk result (λ effects. effects ≡ plan_effects None (left_of P.spec_of (state_of tables.old) sink (Some x) parcel)) }
+    requires sinks { AreSinks [] tables.old.sinks }
+    requires member { IsMemberIn (slice_get tables.old.groups.items sink.0) x }
+    ensures effects { IfOk result (λ effects. effects ≡ answer_effects None (state_of tables.old) (left_of P.spec_of (state_of tables.old) sink (Some x) parcel)) }
     ensures after { OnOk result (state_of tables.new ≡ answered (state_of tables.old) (left_of P.spec_of (state_of tables.old) sink (Some x) parcel)) }
     ensures back { IfErr result (λ back. back ≡ parcel) }
     ensures err { OnErr result (state_of tables.new ≡ state_of tables.old) }
@@ -200,7 +200,7 @@ fn give_up<P: Parcel + Drop>(
     requires kept { IsKept P.spec_of (state_of tables.old) }
     requires here { input_of tables.old.inputs.items x.index ≡ Some x }
     requires member { IsMemberIn (slice_get tables.old.groups.items sink.0) x }
-    ensures effects { IfOk result (λ effects. effects ≡ plan_effects None (given_up P.spec_of (state_of tables.old) sink (Some x) parcel)) }
+    ensures effects { IfOk result (λ effects. effects ≡ answer_effects None (state_of tables.old) (given_up P.spec_of (state_of tables.old) sink (Some x) parcel)) }
     ensures after { OnOk result (state_of tables.new ≡ answered (state_of tables.old) (given_up P.spec_of (state_of tables.old) sink (Some x) parcel)) }
     ensures back { IfErr result (λ back. back ≡ parcel) }
     ensures err { OnErr result (state_of tables.new ≡ state_of tables.old) }
@@ -227,7 +227,7 @@ fn detach<P: Parcel + Drop>(
     parcel: P,
 ) -> Result<Effects, P>
     requires { IsKept P.spec_of (state_of tables.old) }
-    ensures effects { IfOk result (λ effects. effects ≡ plan_effects None (given_up P.spec_of (state_of tables.old) sink (input_on tables.old.inputs.items sink input) parcel)) }
+    ensures effects { IfOk result (λ effects. effects ≡ answer_effects None (state_of tables.old) (given_up P.spec_of (state_of tables.old) sink (input_on tables.old.inputs.items sink input) parcel)) }
     ensures after { OnOk result (state_of tables.new ≡ answered (state_of tables.old) (given_up P.spec_of (state_of tables.old) sink (input_on tables.old.inputs.items sink input) parcel)) }
     ensures back { IfErr result (λ back. back ≡ parcel) }
     ensures err { OnErr result (state_of tables.new ≡ state_of tables.old) }
@@ -246,7 +246,7 @@ pub(crate) fn take<P: Parcel + Drop>(
     notice: Notice<P>,
 ) -> Result<Effects, Notice<P>>
     requires { IsKept P.spec_of (state_of tables.old) }
-    ensures effects { IfOk result (λ effects. effects ≡ plan_effects None (notice_answer P.spec_of (state_of tables.old) sink notice)) }
+    ensures effects { IfOk result (λ effects. effects ≡ answer_effects None (state_of tables.old) (notice_answer P.spec_of (state_of tables.old) sink notice)) }
     ensures after { OnOk result (state_of tables.new ≡ answered (state_of tables.old) (notice_answer P.spec_of (state_of tables.old) sink notice)) }
     ensures back { IfErr result (λ back. back ≡ notice) }
     ensures err { OnErr result (state_of tables.new ≡ state_of tables.old) }
