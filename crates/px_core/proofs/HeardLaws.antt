@@ -1,8 +1,8 @@
 -- Each connection that goes on is sent, in order, the events that its mask has, and after each step's own effects all that became is told.
-use Rattle.std.proofs.Common.{◌≡◌, ℕ, Bool, true, false, List, [], ◌∷◌, ◌++◌, map, Option, None, Some, refl, ap, sym, ◌∙◌, arith}
+use Rattle.std.proofs.Common.{◌≡◌, ℕ, Bool, true, false, List, [], ◌∷◌, ◌++◌, map, Option, None, Some, refl, ap, sym, ◌∙◌}
 use Rattle.std.specs.Prelude.{◌≢◌, cond, nat_eq, filter, flat_map, slice_get}
 use Rattle.std.specs.Option.{option_to_list}
-use Rattle.std.specs.List.{AllByRecursion, find}
+use Rattle.std.specs.List.{AllByRecursion}
 use Rattle.std.proofs.lemmas.List.{append-nil}
 use Rattle.std.proofs.lemmas.List.Elements.{filter-append}
 use Rattle.std.proofs.lemmas.Bool.{eqb-true, ne_eqb}
@@ -40,7 +40,6 @@ use Rattle.px_events.specs.Announce.{told_to, announced, announced_all}
 use Rattle.px_events.specs.Became.{events_between}
 use Rattle.px_events.specs.Told.{infos_in}
 use Rattle.px_shown.specs.Shown.{telling_of, given_in, subscriber_of, subscribers_of}
-use Rattle.px_core.specs.declared.effect.Effect.{Effect}
 use Rattle.px_core.specs.Effect.{sent, sending, fits}
 use Rattle.px_core.specs.State.{State, has_number, has_index, goes_on, connection_of}
 use Rattle.px_core.specs.Plan.{sent_all, ended_by}

@@ -18,7 +18,7 @@ use Rattle.px_core.specs.State.{State, connection_of}
 use Rattle.px_core.specs.Plan.{plan_effects}
 use Rattle.px_core.specs.Connecting.{connect_effects, going_on}
 use Rattle.px_core.specs.Events.{scene_of}
-use Rattle.px_core.specs.Step.{Step, connect, frame, broken, close, cut, sweep, notice, out, sender_of, answer_of}
+use Rattle.px_core.specs.Step.{Step, connect, frame, broken, close, cut, sweep, notice, out, answer_of}
 
 -- ---- what became
 
