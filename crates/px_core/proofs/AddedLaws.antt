@@ -21,7 +21,7 @@ use Rattle.px_ctl_play.specs.Arrival.{Arriving, arriving_with}
 use Rattle.px_core.specs.Step.{answered, answer_effects}
 use Rattle.px_core.proofs.SceneLaws.{events_are, changes_events, quiet_events, deaf_events, deaf_joins}
 
-none_added : (effects more : List Effect) → more ≡ [] → effects ≡ effects ++ more
+pub none_added : (effects more : List Effect) → more ≡ [] → effects ≡ effects ++ more
 none_added effects more e = sym (append-nil effects) ∙ ap (λ (l : List Effect). effects ++ l) (sym e)
 
 pub quiet_added : (P : Type 0) (effects : List Effect) (state : State P) (changes : List (Change P)) → are_quiet changes ≡ true → effects ≡ effects ++ step_events state (committed state changes)

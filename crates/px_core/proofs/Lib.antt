@@ -36,3 +36,4 @@ pub mod HearingLaws
 pub mod SceneLaws
 pub mod AddedLaws
 pub mod EventLaws
+pub mod HeardLaws

@@ -18,3 +18,4 @@ pub mod Parcels
 pub mod Lawful
 pub mod Ending
 pub mod Hearing
+pub mod Heard

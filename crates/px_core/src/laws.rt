@@ -27,6 +27,9 @@ ghost use Rattle.px_core.specs.Keeps.{IsSteady, IsKept, IsPosted, IsStep, Spares
 ghost use Rattle.px_core.specs.Parcels.{given_in, Carries, AllCarry, IsAmong};
 ghost use Rattle.px_core.specs.Grouped.{AreGrouped};
 ghost use Rattle.px_core.specs.Hearing.{told_by};
+ghost use Rattle.px_events.specs.Became.{TellWhatBecame};
+ghost use Rattle.px_core.specs.Events.{step_events};
+ghost use Rattle.px_core.specs.Heard.{infos_of, given_by, events_of, mask_on, heard, sent_events, sent_to, own_effects};
 ghost use Rattle.px_core.specs.Ending.{ends_of, goes_on, begins_of, begins_by};
 
 /// What the state keeps, a new one has, and it keeps under every step; `spec_of` reads a parcel's sample spec. So the messages
@@ -134,4 +137,17 @@ pub fn refusals_change_nothing<P>()
         → effects_of spec_of state s ≡ sent conn (refusal tag code) ∷ [] → stepped spec_of state s ≡ state }
     ensures broken { (spec_of : P → SampleSpec) (state : State P) (s : Step P) (conn : ConnId) (fault at : ℕ)
         → effects_of spec_of state s ≡ closed_at conn fault at ∷ [] → stepped spec_of state s ≡ with_connection conn marked state }
+{}
+
+/// Behind what a step does else, each connection that goes on is sent, in order, the events of its mask, as it is after the step,
+/// and no other is sent any: those between what infos told before the step and what they tell after it. About a sink, an input or a
+/// client that has come, has gone, or of which something else is told there is the one event that says so, and about others none. It
+/// does nothing: its contract is the law. Source: own.
+pub fn subscribers_hear_what_became<P>()
+    ensures effects { (spec_of : P → SampleSpec) (state : State P) (s : Step P)
+        → effects_of spec_of state s ≡ own_effects spec_of state s ++ step_events state (stepped spec_of state s) }
+    ensures sent { (spec_of : P → SampleSpec) (state : State P) (s : Step P) (conn : ConnId) → IsStep s → IsKept spec_of state
+        → sent_to conn (step_events state (stepped spec_of state s))
+        ≡ sent_events conn (heard (mask_on (stepped spec_of state s) conn) (events_of state (stepped spec_of state s))) }
+    ensures each { (before after : State P) → TellWhatBecame (given_by after) (infos_of before) (infos_of after) }
 {}

@@ -33,7 +33,7 @@ pub use effects::{EffectRoom, Effects};
 pub use laws::{
     connections_end_once, parcels_are_those_given_up, refusals_change_nothing,
     sinks_have_what_they_were_told, sinks_hear_step_by_step, sinks_hear_what_is_orderly,
-    states_are_kept,
+    states_are_kept, subscribers_hear_what_became,
 };
 pub use lending::put_back_undoes_handing_out;
 pub use machine::Core;

@@ -1,7 +1,9 @@
 -- What the definitions compute to for the session worked by hand.
 use Rattle.std.proofs.Common.{◌≡◌, refl}
+use Rattle.px_tag.specs.Item.{number, text, spec, channel_map, channel_volumes, flag, usec, proplist}
 use Rattle.px_frame.specs.Descriptor.{descriptor_in}
 use Rattle.px_frame.specs.Meaning.{meaning_of}
+use Rattle.px_core.specs.Events.{step_events}
 use Rattle.px_world.specs.World.{new_world}
 use Rattle.px_session.specs.Output.{sent_record, closed_record, played_record}
 use Rattle.px_world.specs.Output.{AreAdmitted, output_of}
@@ -12,5 +14,5 @@ unfolding meaning_of descriptor_in
 small-admitted = (refl, (refl, (refl, (refl, (refl, (refl, (refl, tt)))))))
 
 pub small-given : output_of small_header small_events ≡ small_output
-unfolding meaning_of descriptor_in sent_record closed_record played_record
+unfolding meaning_of descriptor_in sent_record closed_record played_record step_events number text spec channel_map channel_volumes flag usec proplist
 small-given = refl

@@ -1,0 +1,73 @@
+-- What became of all that is told over a step, and who is sent which of these events.
+use Rattle.std.specs.Prelude.{ℕ, Bool, false, nat_eq, List, [], map, filter, Option, None, Some}
+use Rattle.px_types.specs.declared.ids.ConnId.{ConnId}
+use Rattle.px_model.specs.Frame.{SampleSpec}
+use Rattle.px_names.specs.declared.client.Client.{Client}
+use Rattle.px_names.specs.Clients.{client_on, mask_of}
+use Rattle.px_plan.specs.declared.input.Connection.{Connection}
+use Rattle.px_events.specs.declared.event.Event.{Event}
+use Rattle.px_events.specs.Event.{message_of, hears}
+use Rattle.px_events.specs.Infos.{Infos, Given}
+use Rattle.px_events.specs.Became.{events_between}
+use Rattle.px_events.specs.Told.{infos_in}
+use Rattle.px_shown.specs.Shown.{telling_of, given_in}
+use Rattle.px_core.specs.declared.effect.Effect.{Effect}
+use Rattle.px_core.specs.declared.effect.Effect.TheVariants.{Sent, Closed}
+use Rattle.px_core.specs.Effect.{sent}
+use Rattle.px_core.specs.State.{State, connection_of}
+use Rattle.px_core.specs.Plan.{plan_effects}
+use Rattle.px_core.specs.Connecting.{connect_effects, going_on}
+use Rattle.px_core.specs.Events.{scene_of}
+use Rattle.px_core.specs.Step.{Step, connect, frame, broken, close, cut, sweep, notice, out, answer_of}
+
+-- ---- what became
+
+-- all that is told of a state
+abbrev pub infos_of : {P : Type 0} → State P → Infos
+infos_of state = infos_in (telling_of state.sinks (scene_of state))
+
+-- how many indices were given by then
+abbrev pub given_by : {P : Type 0} → State P → Given
+given_by state = given_in state.sinks state.clients_made (scene_of state)
+
+abbrev pub events_of : {P : Type 0} → State P → State P → List Event
+events_of before after = events_between (given_by after) (infos_of before) (infos_of after)
+
+-- ---- who hears of it
+
+-- the mask of a connection that goes on; one that has ended, or isn't there, hears of nothing
+abbrev pub mask_by : Option Connection → List Client → ℕ
+mask_by None clients = 0
+mask_by (Some c) clients = mask_of (client_on clients c.conn)
+
+abbrev pub mask_on : {P : Type 0} → State P → ConnId → ℕ
+mask_on state conn = mask_by (going_on state.connections conn) state.names.clients
+
+-- the events of the facilities that a mask has, in order
+abbrev pub heard : ℕ → List Event → List Event
+heard mask events = filter (λ e. hears mask (Event.facility e)) events
+
+-- a connection is sent a message for each
+abbrev pub sent_events : ConnId → List Event → List Effect
+sent_events conn events = map (λ e. sent conn (message_of e)) events
+
+-- ---- the effects of which this is said
+
+-- those that go to a connection
+abbrev pub goes_to : ConnId → Effect → Bool
+goes_to conn (Sent to packet) = nat_eq to.0 conn.0
+goes_to conn (Closed ended reason fault at) = false
+
+abbrev pub sent_to : ConnId → List Effect → List Effect
+sent_to conn effects = filter (goes_to conn) effects
+
+-- those of a step but for events
+abbrev pub own_effects : {P : Type 0} → (P → SampleSpec) → State P → Step P → List Effect
+own_effects spec_of state (connect conn) = connect_effects (connection_of state.connections conn) conn state
+own_effects spec_of state (frame conn f) = plan_effects (Some conn) (answer_of spec_of state (frame conn f))
+own_effects spec_of state (broken conn fault at) = plan_effects (Some conn) (answer_of spec_of state (broken conn fault at))
+own_effects spec_of state (close conn) = plan_effects (Some conn) (answer_of spec_of state (close conn))
+own_effects spec_of state (cut conn) = plan_effects (Some conn) (answer_of spec_of state (cut conn))
+own_effects spec_of state sweep = plan_effects None (answer_of spec_of state sweep)
+own_effects spec_of state (notice sink n) = plan_effects None (answer_of spec_of state (notice sink n))
+own_effects spec_of state (out sink) = []
