@@ -1,6 +1,7 @@
 //! The effects of a step, in order.
 
-ghost use Rattle.std.specs.Prelude.{◌≡◌, ◌<◌, ◌≤◌, ◌++◌, ◌∷◌, [], true, length, List, OnOk, OnErr, IfOk};
+ghost use Rattle.std.specs.Prelude.{◌≡◌, ◌<◌, ◌≤◌, ◌++◌, ◌∷◌, [], true, length, vec_capacity, List, OnOk, OnErr, IfOk, IfSome};
+ghost use Rattle.std.specs.Option.{option_to_list};
 ghost use Rattle.px_plan.specs.declared.sending.Sending.{Sending};
 ghost use Rattle.px_core.specs.Change.{Change};
 ghost use Rattle.px_core.specs.Effect.{fits, sending, IsSendable, AreSendable};
@@ -90,6 +91,35 @@ impl Effects {
         ensures sendable { AreSendable result.items }
     {
         self.effects
+    }
+}
+
+/// Room for one effect, taken before the step that may have it.
+#[derive(Debug, Drop)]
+pub struct EffectRoom {
+    effects: Vec<Effect>,
+    ghost none: { effects.items ≡ [] },
+    ghost room: { 0 < vec_capacity effects },
+}
+
+impl EffectRoom {
+    /// Room for an effect.
+    pub fn new(alloc: Global) -> Mem<EffectRoom> {
+        Ok(EffectRoom {
+            effects: Vec::with_capacity(alloc, 1)?,
+        })
+    }
+
+    /// The effect alone, or none. Takes no memory.
+    pub fn hold(self, effect: Option<Effect>) -> Effects
+        requires { IfSome effect IsSendable }
+        ensures { result ≡ option_to_list effect }
+    {
+        let mut effects = self.effects;
+        if let Some(effect) = effect {
+            effects.push(effect).unwrap();
+        }
+        Effects { effects }
     }
 }
 

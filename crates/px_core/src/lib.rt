@@ -29,7 +29,7 @@ mod verbs;
 mod volumes;
 
 pub use effect::Effect;
-pub use effects::Effects;
+pub use effects::{EffectRoom, Effects};
 pub use laws::{
     connections_end_once, parcels_are_those_given_up, refusals_change_nothing,
     sinks_have_what_they_were_told, sinks_hear_step_by_step, sinks_hear_what_is_orderly,

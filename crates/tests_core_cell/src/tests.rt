@@ -1,0 +1,3 @@
+mod cell;
+mod scene;
+mod steps;
