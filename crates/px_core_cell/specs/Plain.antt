@@ -1,5 +1,5 @@
 -- Steps of the core as plain numbers and bytes, and back.
-use Rattle.std.specs.Prelude.{ℕ, suc, List, [], ◌∷◌, replicate, map, flat_map}
+use Rattle.std.specs.Prelude.{ℕ, zero, suc, List, [], ◌∷◌, replicate, map, flat_map}
 use Rattle.px_types.specs.declared.ids.ConnId.{ConnId}
 use Rattle.px_types.specs.declared.ids.SinkId.{SinkId}
 use Rattle.px_annals.specs.declared.entry.CoreEntry.{CoreEntry}
@@ -64,11 +64,11 @@ body_for (bodies.Write stream offset seek bytes) = Write stream offset seek byte
 
 -- the rule with a number
 abbrev pub fault_for : ℕ → FrameFault
-fault_for 0 = ZeroLength
-fault_for 1 = ZeroLength
-fault_for 2 = TooLong
-fault_for 3 = PacketFlags
-fault_for 4 = SharedMemory
+fault_for zero = ZeroLength
+fault_for (suc zero) = ZeroLength
+fault_for (suc (suc zero)) = TooLong
+fault_for (suc (suc (suc zero))) = PacketFlags
+fault_for (suc (suc (suc (suc zero)))) = SharedMemory
 fault_for (suc (suc (suc (suc (suc n))))) = SeekMode
 
 -- a step of a history: one step of the core, or as many as messages were handed out

@@ -1,5 +1,10 @@
 //! The steps of the core that no sink has a part in.
 
+ghost use Rattle.std.specs.Prelude.{◌≡◌, true, IfOk, OnOk, OnErr};
+ghost use Rattle.px_core.specs.Step.{stepped, effects_of};
+ghost use Rattle.px_core_cell.specs.Parcel.{spec_of};
+ghost use Rattle.px_core_cell.specs.Step.{is_own, step_for, IsAsked, IsEntryFor};
+
 use crate::parcel::CellCore;
 use crate::plain::plain_body;
 use crate::step::CoreStep;
@@ -8,8 +13,11 @@ use px_core::{EffectRoom, Effects};
 use px_types::{Mem, NoMemory};
 use std::alloc::Global;
 
-/// The plain form of a step that is neither a sink's notice nor a sink's messages.
-pub(crate) fn plain_step(alloc: Global, step: &CoreStep) -> Mem<PlainStep> {
+/// The plain form of a step that no sink has a part in.
+pub(crate) fn plain_step(alloc: Global, step: &CoreStep) -> Mem<PlainStep>
+    requires { is_own step.now ≡ true }
+    ensures { IfOk result (λ plain. IsEntryFor step.now plain) }
+{
     match step {
         CoreStep::Connect(conn) => Ok(PlainStep::Connect { conn: conn.0 }),
         CoreStep::Frame(conn, frame) => Ok(PlainStep::Frame {
@@ -30,7 +38,13 @@ pub(crate) fn plain_step(alloc: Global, step: &CoreStep) -> Mem<PlainStep> {
 }
 
 /// Such a step of the core. Without memory for it nothing has changed.
-pub(crate) fn act(alloc: Global, core: &mut CellCore, step: CoreStep) -> Mem<Effects> {
+pub(crate) fn act(alloc: Global, core: &mut CellCore, step: CoreStep) -> Mem<Effects>
+    requires own { is_own step ≡ true }
+    requires asked { IsAsked step }
+    ensures after { OnOk result (core.new.state ≡ stepped spec_of core.old.state (step_for step)) }
+    ensures effects { IfOk result (λ effects. effects ≡ effects_of spec_of core.old.state (step_for step)) }
+    ensures err { OnErr result (core.new.state ≡ core.old.state) }
+{
     match step {
         CoreStep::Connect(conn) => core.admit(conn),
         CoreStep::Frame(conn, frame) => match core.frame(conn, frame) {

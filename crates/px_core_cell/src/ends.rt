@@ -4,13 +4,11 @@ ghost use Rattle.std.specs.Prelude.{◌≡◌, None};
 ghost use Rattle.std.specs.Arc.{arc_value};
 ghost use Rattle.crossbeam_queue.specs.Passes.{IsPassOf};
 
-use crate::parcel::{Carried, CellCore, handed_over, taken_back, taken_over};
-use px_core::Effects;
-use px_mail::{Full, Mailbox, PostPass, TakePass};
+use crate::parcel::Carried;
+use px_mail::{Mailbox, PostPass, TakePass};
 use px_msg::{Msg, Notice};
 use px_stream::Stream;
-use px_types::{Mem, NoMemory, SinkId};
-use std::sync::{Arc, Wait};
+use std::sync::Arc;
 
 /// The core's ends of one sink's mailboxes, with the notice that was taken and isn't used yet, if there is one.
 #[derive(Drop)]
@@ -50,62 +48,5 @@ impl CoreEnd {
             take,
             kept: None,
         }
-    }
-}
-
-impl CoreEnd {
-    /// The sink's next notice: the one that is kept, or else one of its outbox, which is kept then.
-    pub(crate) fn next<R: Wait>(&mut self, rt: &R) -> Option<&Notice<Carried>> {
-        if self.kept.is_none() {
-            self.kept = match self.outbox.take(rt, &mut self.take) {
-                None => None,
-                Some(notice) => Some(handed_over(notice)),
-            };
-        }
-        self.kept.as_ref()
-    }
-
-    /// The kept notice goes to the core. Without memory for it, it stays kept and nothing has changed.
-    pub(crate) fn collect(&mut self, core: &mut CellCore, sink: SinkId) -> Mem<Effects> {
-        let Some(notice) = self.kept.take() else {
-            unreachable!()
-        };
-        match core.notice(sink, notice) {
-            Ok(effects) => Ok(effects),
-            Err(back) => {
-                self.kept = Some(back);
-                Err(NoMemory)
-            }
-        }
-    }
-
-    // The first message that waits for the sink is posted, if the inbox isn't full.
-    fn post_one<R: Wait>(&mut self, rt: &R, core: &mut CellCore, sink: SinkId) -> bool {
-        let Some(message) = core.sent(sink) else {
-            return false;
-        };
-        match self.inbox.post(rt, &mut self.post, taken_over(message)) {
-            Ok(()) => true,
-            Err(Full(message)) => {
-                core.unsent(sink, taken_back(message));
-                false
-            }
-        }
-    }
-
-    /// The messages that wait for the sink are posted, in order, until none waits or the inbox is full. Answers how many were.
-    pub(crate) fn post_waiting<R: Wait>(
-        &mut self,
-        rt: &R,
-        core: &mut CellCore,
-        sink: SinkId,
-    ) -> u64 {
-        let waiting = core.outgoing(sink);
-        for posted in 0..waiting {
-            if !self.post_one(rt, core, sink) {
-                return posted as u64;
-            }
-        }
-        waiting as u64
     }
 }

@@ -1,6 +1,6 @@
 //! The core under a lock, with the history of its steps: what a live server's threads share. `parcel` has a stream on its way from one
 //! sink to another as histories see it, `plain` the plain forms of steps, `step` the steps and their faults, `ends` the mailboxes at one
-//! sink, `parts` what lies under the lock, `state` that with what it keeps, `seat` what each thread holds, and `cell` the lock.
+//! sink with `posting` what goes through them, `parts` what lies under the lock, `state` that with what it keeps, `seat` what each thread holds, and `cell` the lock.
 #![tactic(auto)]
 
 mod act;
@@ -10,6 +10,7 @@ mod log;
 mod parcel;
 mod parts;
 mod plain;
+mod posting;
 mod seat;
 mod state;
 mod step;

@@ -1,6 +1,6 @@
 //! A stream on its way from one sink to another, as the core under the lock carries it.
 
-ghost use Rattle.std.specs.Prelude.{◌≡◌};
+ghost use Rattle.std.specs.Prelude.{◌≡◌, IfOk};
 ghost use Rattle.px_core_cell.specs.Parcel.{seen_message, seen_notice};
 
 use px_annals::PlainStream;

@@ -1,11 +1,13 @@
 //! Steps as plain numbers and bytes.
 
-ghost use Rattle.std.specs.Prelude.{◌≡◌, IfOk};
+ghost use Rattle.std.specs.Prelude.{◌≡◌, ◌++◌, ◌∷◌, List, IfOk, OnOk};
+ghost use Rattle.std.specs.List.{concat};
+ghost use Rattle.px_block.specs.Kept.{KeptBlock, contents};
 ghost use Rattle.px_core_cell.specs.Plain.{plain_run, plain_notice, plain_body};
 
 use crate::parcel::Carried;
 use px_annals::{PlainBody, PlainNotice, PlainRun};
-use px_block::{Block, Blocks};
+use px_block::Block;
 use px_frame::Body;
 use px_msg::{Notice, Run};
 use px_types::{Mem, Text};
@@ -22,16 +24,18 @@ fn plain_run(run: Run) -> PlainRun
 }
 
 // The bytes of one block more.
-fn copy_block(bytes: &mut Text, block: &Block) -> Mem<()> {
+fn copy_block(bytes: &mut Text, block: &Block) -> Mem<()>
+    ensures { OnOk result ((more : List KeptBlock) → bytes.new ++ concat (contents more) ≡ bytes.old ++ concat (contents (block.now ∷ more))) }
+{
     bytes.extend(block.bytes())
 }
 
 // A copy of the bytes of blocks.
-fn copied(alloc: Global, blocks: &Blocks) -> Mem<Text>
-    ensures { IfOk result (λ copy. copy ≡ blocks.now) }
+fn copied(alloc: Global, blocks: &[Block]) -> Mem<Text>
+    ensures { IfOk result (λ copy. copy ≡ concat (contents blocks.now)) }
 {
     let mut bytes = Text::from_vec(Vec::new(alloc));
-    for block in blocks.as_slice() {
+    for block in blocks {
         copy_block(&mut bytes, block)?;
     }
     Ok(bytes)
@@ -54,7 +58,7 @@ pub(crate) fn plain_body(alloc: Global, body: &Body) -> Mem<PlainBody>
             stream: *stream,
             offset: *offset,
             seek: *seek,
-            bytes: copied(alloc, bytes)?,
+            bytes: copied(alloc, bytes.as_slice())?,
         }),
     }
 }
