@@ -1,5 +1,5 @@
 -- What the parts of a step under the lock do, put together.
-use Rattle.std.proofs.Common.{◌≡◌, ℕ, zero, suc, ◌+◌, Bool, true, false, List, [], ◌∷◌, ◌++◌, map, length, set, replicate, Option, Some, None, refl, ap, sym, subst, ◌∙◌, arith}
+use Rattle.std.proofs.Common.{◌≡◌, ℕ, zero, suc, ◌+◌, Bool, true, false, List, [], ◌∷◌, ◌++◌, map, length, set, replicate, Option, Some, None, Ok, refl, ap, sym, subst, ◌∙◌, arith}
 use Rattle.std.specs.Prelude.{nat_eq, slice_get}
 use Rattle.std.specs.List.{AllByRecursion}
 use Rattle.std.specs.Option.{option_to_list}
@@ -36,7 +36,7 @@ use Rattle.px_core_cell.specs.History.{sink_at, noticed_in, owes}
 use Rattle.px_core_cell.specs.Parcel.{spec_of}
 use Rattle.px_core_cell.specs.Plain.{plain_run, plain_notice, plain_body, run_for, notice_for, body_for, fault_for, steps_of}
 use Rattle.px_core_cell.proofs.Places.{elsewhere, there}
-use Rattle.px_core_cell.specs.Step.{is_own, step_for, IsEntryFor, steps_done, noticed_done, owed_after, IsEndAfter, DeskDoes, Does, DoesAt, Fetches, PostsMany}
+use Rattle.px_core_cell.specs.Step.{is_own, step_for, IsEntryFor, steps_done, noticed_done, owed_after, IsEndAfter, DeskDoes, Does, DoesAt, Fetches, PostsMany, NoticeGives, OwnGives}
 
 -- ---- plain forms mean what they were made of
 
@@ -197,3 +197,30 @@ module _ {C : Type 0} (told : C → Option (List CoreEntry)) where
       by index x y was is false e0 =
           let other : place ≡ index → ⊥ = eqb-false place index e0 in
           subst (λ (z : SinkEnds). IsEndAfter done before.state index x z) (same_Some x y (sym was ∙ sym (elsewhere ends place index f other) ∙ is)) (stays before.state index done (spared index other) x)
+
+  -- a notice that was fetched and collected
+  pub notice_done : (index : ℕ) (before after : Desk C) (e k f : SinkEnds) (n : Notice PlainStream) (effects : List Effect) → Fetches e k → k.kept ≡ Some n → f ≡ record k { kept = None }
+      → after.state ≡ stepped spec_of before.state (Step.notice (sink_at index) n) → told after.recorder ≡ noted (record { step = plain.Notice index (plain_notice n) }) (told before.recorder) → after.steps ≡ before.steps + 1 → after.owed ≡ true
+      → effects ≡ effects_of spec_of before.state (Step.notice (sink_at index) n) → after.fault ≡ before.fault → NoticeGives told index before after e f (Ok (Some effects))
+  notice_done index before after e k f n effects fetch has is state same steps owed are fault =
+      let back : Step.notice (sink_at index) n ≡ Step.notice (sink_at index) (notice_for (plain_notice n)) = ap (λ (m : Notice PlainStream). Step.notice (sink_at index) m) (sym (notice_back n)) in (
+        n,
+        record {
+          desk = desk_moves (plain.Notice index (plain_notice n)) before after (state ∙ ap (λ (s : Step PlainStream). stepped spec_of before.state s) back) same steps owed;
+          end = collected before.state index e k f n fetch has is;
+        },
+        are ∙ ap (λ (s : Step PlainStream). effects_of spec_of before.state s) back ∙ sym (one_effects before.state (Step.notice (sink_at index) (notice_for (plain_notice n)))),
+        fault,
+      )
+
+  -- a step that no sink has a part in
+  pub own_done : (step : CoreStep) (d : PlainStep) (before after : Desk C) (effects : List Effect) → is_own step ≡ true → IsEntryFor step d → after.state ≡ stepped spec_of before.state (step_for step)
+      → told after.recorder ≡ noted (record { step = d }) (told before.recorder) → after.steps ≡ before.steps + 1 → after.owed ≡ owes before.owed d → effects ≡ effects_of spec_of before.state (step_for step) → after.fault ≡ before.fault
+      → OwnGives told step before after (Ok effects)
+  own_done step d before after effects own is state same steps owed are fault = (
+    d,
+    is,
+    desk_moves d before after (state ∙ ap (λ (l : List (Step PlainStream)). stepped_by spec_of before.state l) (sym (own_steps step d own is))) same steps owed,
+    are ∙ sym (one_effects before.state (step_for step)) ∙ ap (λ (l : List (Step PlainStream)). effects_by spec_of before.state l) (sym (own_steps step d own is)),
+    fault,
+  )
