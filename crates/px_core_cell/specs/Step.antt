@@ -177,6 +177,14 @@ StepGives told step before after (Err Worn) = (before.desk.owed && waits step �
 StepGives told step before after (Err (Recorder why)) = IsFree step before × FreeGives told step before after (Err (Recorder why))
 StepGives told step before after (Err (Owed back)) = (before.desk.owed && waits step ≡ true) × (back ≡ step) × (after ≡ before)
 
+-- a step that is handed back is the very step that was asked for
+abbrev pub HandsBack : {A : Type 0} → CoreStep → Result A StepFault → Type 0
+HandsBack step (Ok answer) = ⊤
+HandsBack step (Err NoMemory) = ⊤
+HandsBack step (Err Worn) = ⊤
+HandsBack step (Err (Recorder why)) = ⊤
+HandsBack step (Err (Owed back)) = back ≡ step
+
 -- ---- what its parts answer
 
 -- a step in which no sink has a part, where its core is stepped; none stands for the two others
@@ -189,9 +197,6 @@ step_for (asked.Cut conn) = Step.cut conn
 step_for asked.Sweep = Step.sweep
 step_for (asked.Notice sink) = Step.out sink
 step_for (asked.Out sink) = Step.out sink
-
-abbrev pub ReadyFails : StepFault → Option RecordFault → Option RecordFault → Type 0
-ReadyFails e before after = (why : RecordFault) × (e ≡ Recorder why) × (after ≡ option_or before (Some why))
 
 -- a step that no sink has a part in
 abbrev pub OwnGives : {C : Type 0} → (C → Option (List CoreEntry)) → CoreStep → Desk C → Desk C → Result (List Effect) StepFault → Type 0

@@ -23,7 +23,7 @@ use std::sync::Wait;
 
 /// The core, the log of its steps, and its ends of each sink's mailboxes.
 #[derive(Drop)]
-pub struct CoreParts<C> {
+pub struct CoreParts<C: Recorder<CoreEntry>> {
     pub core: CellCore,
     pub log: StepLog<C>,
     pub ends: CoreEnds,
