@@ -1,6 +1,6 @@
 -- What the parts of a step under the lock do, put together.
 use Rattle.std.proofs.Common.{◌≡◌, ℕ, zero, suc, ◌+◌, Bool, true, false, List, [], ◌∷◌, ◌++◌, map, length, set, replicate, Option, Some, None, Ok, refl, ap, sym, subst, ◌∙◌, arith}
-use Rattle.std.specs.Prelude.{nat_eq, slice_get}
+use Rattle.std.specs.Prelude.{nat_eq, slice_get, IfSome}
 use Rattle.std.specs.List.{AllByRecursion}
 use Rattle.std.specs.Option.{option_to_list}
 use Rattle.std.proofs.lemmas.Bool.{cond-true, cond-false, eq-eqb, ne_eqb, eqb-true, eqb-false, cond_both, true≢false}
@@ -36,7 +36,7 @@ use Rattle.px_core_cell.specs.History.{sink_at, noticed_in, owes}
 use Rattle.px_core_cell.specs.Parcel.{spec_of}
 use Rattle.px_core_cell.specs.Plain.{plain_run, plain_notice, plain_body, run_for, notice_for, body_for, fault_for, steps_of}
 use Rattle.px_core_cell.proofs.Places.{elsewhere, there}
-use Rattle.px_core_cell.specs.Step.{is_own, step_for, IsEntryFor, steps_done, noticed_done, owed_after, IsEndAfter, DeskDoes, Does, DoesAt, Fetches, PostsMany, NoticeGives, OwnGives}
+use Rattle.px_core_cell.specs.Step.{is_own, waits, step_for, IsEntryFor, steps_done, noticed_done, owed_after, IsEndAfter, DeskDoes, Does, DoesAt, Fetches, PostsMany, NoticeGives, OwnGives}
 
 -- ---- plain forms mean what they were made of
 
@@ -109,6 +109,17 @@ own_as state index (asked.Cut conn) own = refl
 own_as state index asked.Sweep own = refl
 own_as state index (asked.Notice sink) own = absurd (true≢false (sym own))
 own_as state index (asked.Out sink) own = absurd (true≢false (sym own))
+
+-- after such a step a sweep is owed, but after a sweep
+pub own_owes : (owed : Bool) (step : CoreStep) (d : PlainStep) → is_own step ≡ true → IsEntryFor step d → owes owed d ≡ waits step
+own_owes owed (asked.Connect conn) d own is = ap (owes owed) is
+own_owes owed (asked.Frame conn f) d own is = ap (owes owed) is
+own_owes owed (asked.Broken conn fault at) d own is = ap (owes owed) is
+own_owes owed (asked.Close conn) d own is = ap (owes owed) is
+own_owes owed (asked.Cut conn) d own is = ap (owes owed) is
+own_owes owed asked.Sweep d own is = ap (owes owed) is
+own_owes owed (asked.Notice sink) d own is = absurd (true≢false (sym own))
+own_owes owed (asked.Out sink) d own is = absurd (true≢false (sym own))
 
 own_unnoticed : (index : ℕ) (step : CoreStep) (d : PlainStep) → is_own step ≡ true → IsEntryFor step d → noticed_in index d ≡ []
 own_unnoticed index (asked.Connect conn) d own is = ap (noticed_in index) is
@@ -198,18 +209,24 @@ module _ {C : Type 0} (told : C → Option (List CoreEntry)) where
           let other : place ≡ index → ⊥ = eqb-false place index e0 in
           subst (λ (z : SinkEnds). IsEndAfter done before.state index x z) (same_Some x y (sym was ∙ sym (elsewhere ends place index f other) ∙ is)) (stays before.state index done (spared index other) x)
 
-  -- a notice that was fetched and collected
+  -- a notice that is kept is collected
+  abbrev pub Collects : ℕ → Option (Notice PlainStream) → State PlainStream → State PlainStream → List Effect → Type 0
+  Collects index kept before after effects =
+      IfSome kept (λ n. (after ≡ stepped spec_of before (Step.notice (sink_at index) n)) × (effects ≡ effects_of spec_of before (Step.notice (sink_at index) n)))
+
+  -- one that was fetched and collected
   pub notice_done : (index : ℕ) (before after : Desk C) (e k f : SinkEnds) (n : Notice PlainStream) (effects : List Effect) → Fetches e k → k.kept ≡ Some n → f ≡ record k { kept = None }
-      → after.state ≡ stepped spec_of before.state (Step.notice (sink_at index) n) → told after.recorder ≡ noted (record { step = plain.Notice index (plain_notice n) }) (told before.recorder) → after.steps ≡ before.steps + 1 → after.owed ≡ true
-      → effects ≡ effects_of spec_of before.state (Step.notice (sink_at index) n) → after.fault ≡ before.fault → NoticeGives told index before after e f (Ok (Some effects))
-  notice_done index before after e k f n effects fetch has is state same steps owed are fault =
+      → Collects index k.kept before.state after.state effects → told after.recorder ≡ noted (record { step = plain.Notice index (plain_notice n) }) (told before.recorder) → after.steps ≡ before.steps + 1 → after.owed ≡ true
+      → after.fault ≡ before.fault → NoticeGives told index before after e f (Ok (Some effects))
+  notice_done index before after e k f n effects fetch has is collects same steps owed fault =
+      let did = subst (λ (o : Option (Notice PlainStream)). Collects index o before.state after.state effects) has collects in
       let back : Step.notice (sink_at index) n ≡ Step.notice (sink_at index) (notice_for (plain_notice n)) = ap (λ (m : Notice PlainStream). Step.notice (sink_at index) m) (sym (notice_back n)) in (
         n,
         record {
-          desk = desk_moves (plain.Notice index (plain_notice n)) before after (state ∙ ap (λ (s : Step PlainStream). stepped spec_of before.state s) back) same steps owed;
+          desk = desk_moves (plain.Notice index (plain_notice n)) before after (did.0 ∙ ap (λ (s : Step PlainStream). stepped spec_of before.state s) back) same steps owed;
           end = collected before.state index e k f n fetch has is;
         },
-        are ∙ ap (λ (s : Step PlainStream). effects_of spec_of before.state s) back ∙ sym (one_effects before.state (Step.notice (sink_at index) (notice_for (plain_notice n)))),
+        did.1 ∙ ap (λ (s : Step PlainStream). effects_of spec_of before.state s) back ∙ sym (one_effects before.state (Step.notice (sink_at index) (notice_for (plain_notice n)))),
         fault,
       )
 

@@ -1,5 +1,5 @@
 -- What a sink is posted is lawful there, message by message.
-use Rattle.std.proofs.Common.{◌≡◌, ℕ, zero, suc, ◌+◌, List, [], ◌∷◌, ◌++◌, map, length, drop, replicate, Option, Some, None, refl, ap, sym, subst, ◌∙◌, arith}
+use Rattle.std.proofs.Common.{◌≡◌, ℕ, zero, suc, ◌+◌, List, [], ◌∷◌, ◌++◌, map, length, drop, replicate, Option, Some, None, refl, ap, sym, subst, ◌∙◌, arith, inl, inr}
 use Rattle.std.specs.Prelude.{nat_eq, slice_get, IfSome}
 use Rattle.std.specs.List.{AllByRecursion}
 use Rattle.std.specs.Option.{option_to_list}
@@ -26,7 +26,8 @@ use Rattle.px_core.specs.Keeps.{IsKept, IsStep}
 use Rattle.px_core.specs.Orderly.{inputs_there}
 use Rattle.px_core.specs.Hearing.{told_by}
 use Rattle.px_core.specs.Step.{Step, out, stepped, stepped_by}
-use Rattle.px_core.proofs.HearingLaws.{heard_by, told_joined, outs}
+use Rattle.px_core.proofs.HearingLaws.{heard_by, steps_sinks, told_joined, outs}
+use Rattle.px_core.proofs.StepLaws.{steps_keep}
 use Rattle.px_core.proofs.HandingLaws.{all_out}
 use Rattle.px_core_cell.specs.Cell.{SinkEnds}
 use Rattle.px_core_cell.specs.History.{sink_at, IsHeard}
@@ -70,8 +71,11 @@ may_post state sink s key posted e item keyed posted_is there kept h next =
 pub none_posted : (sink : SinkId) (state : State PlainStream) (e : SinkEnds) → PostsMany sink 0 state state e e
 none_posted sink state e = record { state = refl; ends = ap (λ (l : List (Msg PlainStream)). record e { posted = l }) (sym (append-nil e.posted)) }
 
-one_more : (sink : SinkId) (n : ℕ) → replicate (n + 1) (out {P = PlainStream} sink) ≡ replicate n (out sink) ++ out sink ∷ []
-one_more sink n = sym (replicate-append-replicate n 1 (out {P = PlainStream} sink))
+abbrev out_of : SinkId → Step PlainStream
+out_of sink = out sink
+
+one_more : (sink : SinkId) (n : ℕ) → replicate (n + 1) (out_of sink) ≡ replicate n (out_of sink) ++ out_of sink ∷ []
+one_more sink n = sym (replicate-append-replicate n 1 (out_of sink))
 
 -- one message more
 pub more_posted : (sink : SinkId) (n : ℕ) (began before after : State PlainStream) (d e f : SinkEnds) → PostsMany sink n began before d e → PostsOne sink before after e f → PostsMany sink (n + 1) began after d f
@@ -97,7 +101,7 @@ all_posted sink n began after d e kept count posts =
     inl (ap (λ (s : State PlainStream). waiting_for s sink) (posts.state ∙ outs spec_of sink n began) ∙ are.waits
         ∙ ap (λ (k : ℕ). drop k (waiting_for began sink)) count ∙ drop-length (waiting_for began sink))
 
-all_outs : (sink : SinkId) (n : ℕ) → AllByRecursion (IsStep {P = PlainStream}) (replicate n (out sink))
+pub all_outs : (sink : SinkId) (n : ℕ) → AllByRecursion (IsStep {P = PlainStream}) (replicate n (out sink))
 all_outs sink zero = tt
 all_outs sink (suc n) = (tt, all_outs sink n)
 
@@ -106,6 +110,22 @@ pub heard_still : (sink : SinkId) (n : ℕ) (began after : State PlainStream) (d
 heard_still sink n began after d e s there kept h posts =
     subst (λ (x : State PlainStream × SinkEnds). IsHeard x.0 sink.0 s x.1) (λ i. (sym posts.state i, sym posts.ends i))
         (heard_on began sink.0 s d (replicate n (out sink)) there (all_outs sink n) kept h)
+
+-- a sink that is there
+abbrev pub IsThere : SinkId → State PlainStream → SinkEnds → Type 0
+IsThere sink state e = (s : SinkSpec) × (slice_get state.sinks sink.0 ≡ Some s) × IsHeard state sink.0 s e
+
+pub there_still : (sink : SinkId) (n : ℕ) (began after : State PlainStream) (d e : SinkEnds) → IsThere sink began d → IsKept spec_of began → PostsMany sink n began after d e → IsThere sink after e
+there_still sink n began after d e is kept posts = (
+  is.0,
+  ap (λ (l : List SinkSpec). slice_get l sink.0) (ap (λ (s : State PlainStream). s.sinks) posts.state ∙ steps_sinks spec_of began (replicate n (out sink))) ∙ is.1,
+  heard_still sink n began after d e is.0 is.1 kept is.2 posts,
+)
+
+-- and the core keeps what it keeps
+pub kept_still : (sink : SinkId) (n : ℕ) (began after : State PlainStream) (d e : SinkEnds) → IsKept spec_of began → PostsMany sink n began after d e → IsKept spec_of after
+kept_still sink n began after d e kept posts =
+    subst (λ (s : State PlainStream). IsKept spec_of s) (sym posts.state) (steps_keep spec_of began (replicate n (out sink)) (all_outs sink n) kept)
 
 -- the mailbox held 256 of those that were posted, as they are seen
 pub held_seen : (posted : List (Msg KeptStream)) → Held 256 (IsHeldOf posted) → Held 256 (IsHeldOf (map seen_message posted))

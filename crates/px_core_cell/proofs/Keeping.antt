@@ -41,7 +41,7 @@ use Rattle.px_core_cell.proofs.Doing.{own_steps}
 
 -- ---- the entries of a step
 
-those : Option PlainStep → List CoreEntry
+abbrev those : Option PlainStep → List CoreEntry
 those None = []
 those (Some d) = record { step = d } ∷ []
 

@@ -129,8 +129,8 @@ impl<C: Recorder<CoreEntry> + Drop, L: Seats> CoreCell<C, L> {
         )
     }
 
-    /// Takes the lock and does one step, as `CoreState::step` says. The seat counts one more exactly where the answer is `Ok(Some)`. `Owed` hands the very
-    /// step back.
+    /// Takes the lock and does one step, as `CoreState::step` says. The seat counts one more exactly where the answer is `Ok(Some)`. `Owed`
+    /// hands the very step back.
     pub fn step<R: Wait>(
         &self,
         rt: &R,
