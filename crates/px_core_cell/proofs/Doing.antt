@@ -1,9 +1,9 @@
 -- What the parts of a step under the lock do, put together.
-use Rattle.std.proofs.Common.{◌≡◌, ℕ, zero, suc, ◌+◌, Bool, true, false, List, [], ◌∷◌, ◌++◌, map, length, set, replicate, Option, Some, None, Ok, refl, ap, sym, subst, ◌∙◌, arith}
+use Rattle.std.proofs.Common.{◌≡◌, ℕ, zero, suc, ◌+◌, Bool, true, false, List, [], ◌∷◌, ◌++◌, set, replicate, Option, Some, None, Ok, refl, ap, sym, subst, ◌∙◌, arith}
 use Rattle.std.specs.Prelude.{nat_eq, slice_get, IfSome}
 use Rattle.std.specs.List.{AllByRecursion}
 use Rattle.std.specs.Option.{option_to_list}
-use Rattle.std.proofs.lemmas.Bool.{cond-true, cond-false, eq-eqb, ne_eqb, eqb-true, eqb-false, cond_both, true≢false}
+use Rattle.std.proofs.lemmas.Bool.{cond-true, cond-false, eq-eqb, ne_eqb, eqb-true, eqb-false, true≢false}
 use Rattle.std.proofs.lemmas.List.{append-nil, length-set}
 use Rattle.std.proofs.lemmas.Option.{same_Some}
 use Rattle.px_types.specs.declared.ids.SinkId.{SinkId}
@@ -14,7 +14,6 @@ use Rattle.px_annals.specs.declared.step.PlainStep.TheVariants as plain
 use Rattle.px_annals.specs.History.{noted}
 use Rattle.px_model.specs.declared.data.Run.{Run}
 use Rattle.px_model.specs.declared.data.Run.TheVariants.{Quiet, Playing}
-use Rattle.px_frame.specs.declared.frame.Frame.{Frame}
 use Rattle.px_frame.specs.declared.frame.Body.{Body}
 use Rattle.px_frame.specs.declared.frame.Body.TheVariants.{Control, Write}
 use Rattle.px_frame.specs.declared.fault.FrameFault.{FrameFault}
@@ -31,12 +30,12 @@ use Rattle.px_core.specs.Step.{Step, out, stepped, effects_of, stepped_by, effec
 use Rattle.px_core.proofs.HearingLaws.{untold}
 use Rattle.px_core_cell.specs.declared.step.CoreStep.{CoreStep}
 use Rattle.px_core_cell.specs.declared.step.CoreStep.TheVariants as asked
-use Rattle.px_core_cell.specs.Cell.{Desk, Cell, SinkEnds}
+use Rattle.px_core_cell.specs.Cell.{Desk, SinkEnds}
 use Rattle.px_core_cell.specs.History.{sink_at, noticed_in, owes}
 use Rattle.px_core_cell.specs.Parcel.{spec_of}
 use Rattle.px_core_cell.specs.Plain.{plain_run, plain_notice, plain_body, run_for, notice_for, body_for, fault_for, steps_of}
 use Rattle.px_core_cell.proofs.Places.{elsewhere, there}
-use Rattle.px_core_cell.specs.Step.{is_own, waits, step_for, IsEntryFor, steps_done, noticed_done, owed_after, IsEndAfter, DeskDoes, Does, DoesAt, Fetches, PostsMany, NoticeGives, OwnGives}
+use Rattle.px_core_cell.specs.Step.{is_own, waits, step_for, IsEntryFor, steps_done, noticed_done, IsEndAfter, DeskDoes, Does, DoesAt, Fetches, PostsMany, NoticeGives, OwnGives}
 
 -- ---- plain forms mean what they were made of
 
@@ -84,12 +83,12 @@ out_effects state sink (suc n) = out_effects (stepped spec_of state (out sink)) 
 
 -- ---- the ends that a step has no part in
 
-pub record Spared (state : State PlainStream) (index : ℕ) (done : Option PlainStep) : Type 0 where
-  pub told : told_by spec_of (sink_at index) state (steps_done done) ≡ []
-  pub noticed : noticed_done index done ≡ []
+pub record Spared (state : State PlainStream) (index : ℕ) (made : Option PlainStep) : Type 0 where
+  pub told : told_by spec_of (sink_at index) state (steps_done made) ≡ []
+  pub noticed : noticed_done index made ≡ []
 
-pub stays : (state : State PlainStream) (index : ℕ) (done : Option PlainStep) → Spared state index done → (e : SinkEnds) → IsEndAfter done state index e e
-stays state index done spared e = record {
+pub stays : (state : State PlainStream) (index : ℕ) (made : Option PlainStep) → Spared state index made → (e : SinkEnds) → IsEndAfter made state index e e
+stays state index made spared e = record {
   key = refl;
   posted = sym (ap (λ (l : List (Msg PlainStream)). e.posted ++ l) spared.told ∙ append-nil e.posted);
   took = [];
@@ -184,30 +183,30 @@ module _ {C : Type 0} (told : C → Option (List CoreEntry)) where
   desk_moves d before after state is steps owed = record { state = state; told_new = is; steps = steps; owed = owed }
 
   -- no sink has a part in it
-  pub apart : (done : Option PlainStep) (before after : Desk C) (ends : List SinkEnds) → DeskDoes told done before after → ((index : ℕ) → Spared before.state index done) → Does told done (record { desk = before; ends = ends }) (record { desk = after; ends = ends })
-  apart done before after ends desk spared = record {
+  pub apart : (made : Option PlainStep) (before after : Desk C) (ends : List SinkEnds) → DeskDoes told made before after → ((index : ℕ) → Spared before.state index made) → Does told made (record { desk = before; ends = ends }) (record { desk = after; ends = ends })
+  apart made before after ends desk spared = record {
     desk = desk;
     count = refl;
-    ends = λ index e f was is. subst (λ x. IsEndAfter done before.state index e x) (same_Some e f (sym was ∙ is)) (stays before.state index done (spared index) e);
+    ends = λ index e f was is. subst (λ x. IsEndAfter made before.state index e x) (same_Some e f (sym was ∙ is)) (stays before.state index made (spared index) e);
   }
 
   -- one has
-  pub at : (done : Option PlainStep) (place : ℕ) (before after : Desk C) (ends : List SinkEnds) (e f : SinkEnds) → slice_get ends place ≡ Some e → DoesAt told done place before after e f → ((index : ℕ) → (place ≡ index → ⊥) → Spared before.state index done)
-      → Does told done (record { desk = before; ends = ends }) (record { desk = after; ends = set ends place f })
-  at done place before after ends e f here does spared = record {
+  pub at : (made : Option PlainStep) (place : ℕ) (before after : Desk C) (ends : List SinkEnds) (e f : SinkEnds) → slice_get ends place ≡ Some e → DoesAt told made place before after e f → ((index : ℕ) → (place ≡ index → ⊥) → Spared before.state index made)
+      → Does told made (record { desk = before; ends = ends }) (record { desk = after; ends = set ends place f })
+  at made place before after ends e f here does spared = record {
     desk = does.desk;
     count = length-set ends place f;
     ends = λ index x y was is. by index x y was is (nat_eq place index) refl;
   }
     where
-      by : (index : ℕ) (x y : SinkEnds) → slice_get ends index ≡ Some x → slice_get (set ends place f) index ≡ Some y → (b : Bool) → nat_eq place index ≡ b → IsEndAfter done before.state index x y
+      by : (index : ℕ) (x y : SinkEnds) → slice_get ends index ≡ Some x → slice_get (set ends place f) index ≡ Some y → (b : Bool) → nat_eq place index ≡ b → IsEndAfter made before.state index x y
       by index x y was is true e0 =
           let same : place ≡ index = eqb-true place index e0 in
-          subst (λ (k : ℕ). slice_get ends k ≡ Some x → slice_get (set ends place f) k ≡ Some y → IsEndAfter done before.state k x y) same
-          (λ w i. subst (λ (p : SinkEnds × SinkEnds). IsEndAfter done before.state place p.0 p.1) (λ j. (same_Some e x (sym here ∙ w) j, there ends place f y i j)) does.end) was is
+          subst (λ (k : ℕ). slice_get ends k ≡ Some x → slice_get (set ends place f) k ≡ Some y → IsEndAfter made before.state k x y) same
+          (λ w i. subst (λ (p : SinkEnds × SinkEnds). IsEndAfter made before.state place p.0 p.1) (λ j. (same_Some e x (sym here ∙ w) j, there ends place f y i j)) does.end) was is
       by index x y was is false e0 =
           let other : place ≡ index → ⊥ = eqb-false place index e0 in
-          subst (λ (z : SinkEnds). IsEndAfter done before.state index x z) (same_Some x y (sym was ∙ sym (elsewhere ends place index f other) ∙ is)) (stays before.state index done (spared index other) x)
+          subst (λ (z : SinkEnds). IsEndAfter made before.state index x z) (same_Some x y (sym was ∙ sym (elsewhere ends place index f other) ∙ is)) (stays before.state index made (spared index other) x)
 
   -- a notice that is kept is collected
   abbrev pub Collects : ℕ → Option (Notice PlainStream) → State PlainStream → State PlainStream → List Effect → Type 0

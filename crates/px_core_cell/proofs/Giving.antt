@@ -1,15 +1,13 @@
 -- What the steps of one sink answer, as steps of the whole.
-use Rattle.std.proofs.Common.{◌≡◌, ℕ, ◌<◌, ◌≤◌, List, [], map, length, set, Option, Some, None, Result, Ok, Err, refl, ap, sym, subst, ◌∙◌, arith}
+use Rattle.std.proofs.Common.{◌≡◌, ℕ, ◌<◌, ◌≤◌, List, map, length, set, Option, Some, None, Result, Ok, Err, refl, ap, sym, subst, ◌∙◌, arith}
 use Rattle.std.specs.Prelude.{slice_get, slice_index_or, MatchResult}
-use Rattle.std.proofs.lemmas.List.{length-map, map-set}
+use Rattle.std.proofs.lemmas.List.{length-map}
 use Rattle.std.proofs.lemmas.Option.{same_Some, none-some, slice_get-map, slice_get_past, slice_get_read}
 use Rattle.px_types.specs.declared.ids.SinkId.{SinkId}
 use Rattle.px_annals.specs.declared.entry.CoreEntry.{CoreEntry}
 use Rattle.px_annals.specs.declared.recorder.Recorder.{Ghosts}
 use Rattle.px_annals.specs.declared.stream.PlainStream.{PlainStream}
-use Rattle.px_annals.specs.declared.step.PlainStep.{PlainStep}
 use Rattle.px_annals.specs.declared.step.PlainStep.TheVariants as plain
-use Rattle.px_session.specs.declared.header.SinkSpec.{SinkSpec}
 use Rattle.px_core.specs.declared.effect.Effect.{Effect}
 use Rattle.px_core.specs.State.{State}
 use Rattle.px_core.proofs.HandingLaws.{sink_there}
@@ -21,7 +19,7 @@ use Rattle.px_core_cell.specs.declared.step.StepFault.TheVariants.{NoMemory, Wor
 use Rattle.px_core_cell.specs.Cell.{Desk, Cell, SinkEnds, desk_of, ends_of}
 use Rattle.px_core_cell.specs.History.{IsSound}
 use Rattle.px_core_cell.specs.Plain.{plain_notice}
-use Rattle.px_core_cell.specs.Step.{HandsAll, Finishes, IsDone, NoticeGives, OutGives, NowhereGives, FreeGives}
+use Rattle.px_core_cell.specs.Step.{HandsAll, Finishes, NoticeGives, OutGives, NowhereGives, FreeGives}
 use Rattle.px_core_cell.proofs.Doing.{apart, at, nothing_spared, notice_spared, out_spared, out_effects}
 use Rattle.px_core_cell.proofs.Handing.{IsThere}
 use Rattle.px_core_cell.proofs.Places.{there, rests}

@@ -4,7 +4,6 @@ use Rattle.std.specs.Option.{option_to_list, option_or}
 use Rattle.crossbeam_queue.specs.Fifo.{Held}
 use Rattle.px_mail.specs.Mailbox.{IsHeldOf}
 use Rattle.px_types.specs.declared.ids.SinkId.{SinkId}
-use Rattle.px_annals.specs.declared.recorder.RecordFault.{RecordFault}
 use Rattle.px_annals.specs.declared.recorder.Recorder.{Ghosts}
 use Rattle.px_annals.specs.declared.entry.CoreEntry.{CoreEntry}
 use Rattle.px_annals.specs.declared.stream.PlainStream.{PlainStream}

@@ -14,7 +14,7 @@ post_one-requires-clause-heard g c =
 pub loop-posted-preserved : goal.loop-posted-preserved
 loop-posted-preserved g c =
     more_posted c.args.sink c.loop-posted.posted c.args.core.now.state c.loop-posted.core.state c.post_one.new.core.state (ends_of c.args.self.now) (ends_of c.loop-posted.self) (ends_of c.post_one.new.self)
-        c.loop-posted.invariant (c.if-not-post_one.ensures.posts refl)
+    c.loop-posted.invariant (c.if-not-post_one.ensures.posts refl)
 
 pub returns-clause-until : goal.returns-clause-until
 returns-clause-until g c =
