@@ -1,10 +1,13 @@
-ghost use Rattle.std.specs.Prelude.{◌≡◌, ◌+◌, ◌<◌, map};
+ghost use Rattle.std.specs.Prelude.{◌≡◌, ◌+◌, ◌<◌, map, IfOk};
 ghost use Rattle.px_core_cell.specs.Cell.{ends_of};
 ghost use Rattle.px_core_cell.specs.History.{Begins};
+ghost use Rattle.px_core_cell.specs.Step.{IsAsked};
 
-use crate::tests::scene::{Scene, new_scene};
+use crate::tests::asking::{AUTH, CREATE, DRAIN, framed};
+use crate::tests::scene::{Mixer, OUT, Scene, new_scene};
 use px_annals::NoRecorder;
-use px_core_cell::{CoreCell, CoreSeat, CoreStep, Seats};
+use px_core_cell::{CellCore, CoreCell, CoreEnds, CoreSeat, CoreStep, Seats, StepFault};
+use px_msg::Msg;
 use px_types::{ConnId, Mem};
 use std::alloc::Global;
 use std::marker::Brand;
@@ -12,14 +15,53 @@ use std::sync::Wait;
 use std::sync::ledger::Blank;
 use std::thread::{Threads, join};
 
-// A seat that a thread hands back, and how many steps it was told were done.
+// A seat that a thread hands back, and how many steps it was told were made.
 #[derive(Drop)]
 struct Worked<L: Seats> {
     seat: CoreSeat<L>,
-    done: u64,
+    made: u64,
 }
 
-// Steps of one thread, each behind a sweep.
+// A step of a thread's client, once no sweep is owed any more. How many steps were made for it.
+fn makes<L: Seats, R: Wait>(
+    rt: &R,
+    alloc: Global,
+    cell: &CoreCell<NoRecorder, L>,
+    seat: &mut CoreSeat<L>,
+    step: CoreStep,
+) -> u64
+    requires { IsAsked step }
+    ensures { seat.new.parts ≡ seat.old.parts }
+{
+    let mut made: u64 = 0;
+    let mut next = step;
+    for _ in rt.forever() {
+        match cell.step(rt, alloc, next, seat) {
+            Ok(Some(_)) => return made.saturating_add(1),
+            Err(StepFault::Owed(back)) => next = back,
+            _ => return 0,
+        }
+        if matches!(cell.step(rt, alloc, CoreStep::Sweep, seat), Ok(Some(_))) {
+            made = made.saturating_add(1);
+        }
+    }
+    unreachable!()
+}
+
+// The steps of a thread, by their place: its client is let in, makes a stream, and drains it again and again, by rising tags.
+fn step_at(alloc: Global, conn: ConnId, place: u8) -> Mem<CoreStep>
+    ensures { IfOk result IsAsked }
+{
+    match place {
+        0 => Ok(CoreStep::Connect(conn)),
+        1 => framed(alloc, conn, AUTH, &[0; 256]),
+        2 => framed(alloc, conn, CREATE, &[]),
+        3 | 9 | 13 => Ok(CoreStep::Out(OUT)),
+        tag => framed(alloc, conn, DRAIN, &[tag, b'L', 0, 0, 0, 0]),
+    }
+}
+
+// All steps of one thread.
 fn works<L: Seats, R: Wait>(
     rt: &R,
     alloc: Global,
@@ -29,37 +71,27 @@ fn works<L: Seats, R: Wait>(
 ) -> Worked<L>
     ensures { result.seat.parts ≡ seat.parts }
 {
-    let mut done: u64 = 0;
-    for _ in 0..100 {
-        let conn = ConnId(conn);
-        if matches!(
-            cell.step(rt, alloc, CoreStep::Sweep, &mut seat),
-            Ok(Some(_))
-        ) {
-            done = done.saturating_add(1);
-        }
-        if matches!(
-            cell.step(rt, alloc, CoreStep::Connect(conn), &mut seat),
-            Ok(Some(_))
-        ) {
-            done = done.saturating_add(1);
+    let mut made: u64 = 0;
+    for place in 0..14 {
+        if let Ok(step) = step_at(alloc, ConnId(conn), place) {
+            made = made.saturating_add(makes(rt, alloc, cell, &mut seat, step));
         }
     }
-    Worked { seat, done }
+    Worked { seat, made }
 }
 
 fn joined<L: Seats>(one: Worked<L>, other: Worked<L>) -> Worked<L>
     ensures { result.seat.parts ≡ one.seat.parts + other.seat.parts }
 {
-    let Worked { mut seat, done } = one;
+    let Worked { mut seat, made } = one;
     let Worked {
         seat: more,
-        done: also,
+        made: also,
     } = other;
     seat.merge(more);
     Worked {
         seat,
-        done: done.saturating_add(also),
+        made: made.saturating_add(also),
     }
 }
 
@@ -129,19 +161,37 @@ fn four_of<L: Seats>(seat: &mut CoreSeat<L>) -> CoreSeat<L>
     four
 }
 
-// Eight threads. All that the lock tells them is done is done.
+// Whether all drains of the eight clients came to the sink, those of each client in the order of their tags.
+fn in_order<R: Wait>(rt: &R, mixer: &mut Mixer) -> bool {
+    let Mixer { inbox, take, .. } = mixer;
+    let mut last: [u32; 8] = [0; 8];
+    let mut count: u32 = 0;
+    for _ in 0..200 {
+        if let Some(Msg::Drain { input, tag }) = inbox.take(rt, take) {
+            let input = input.0 as usize;
+            if input >= 8 || tag <= last[input] {
+                return false;
+            }
+            last[input] = tag;
+            count = count.saturating_add(1);
+        }
+    }
+    count == 64
+}
+
+// Eight threads: the lock has made as many steps as it has told them.
 fn in_eight<L: Seats + Send + Sync, R: Threads + Wait + Sync>(
     rt: &R,
     alloc: Global,
-    scene: Scene,
+    core: CellCore,
+    ends: CoreEnds,
     blank: Blank,
 ) -> bool
     requires name { blank.name ≡ L.name }
     requires parts { (blank.parts ≡ L.parts) × (L.parts ≡ L.all) × (L.all ≡ 65552) }
-    requires began { scene.core.state ≡ L.began }
-    requires begins { Begins scene.core.state (map ends_of scene.ends.items) }
+    requires began { core.state ≡ L.began }
+    requires begins { Begins core.state (map ends_of ends.items) }
 {
-    let Scene { core, ends, .. } = scene;
     let (cell, mut seat) = CoreCell::<NoRecorder, L>::new(blank, core, NoRecorder, ends);
     let one = four_of(&mut seat);
     let other = four_of(&mut seat);
@@ -157,17 +207,24 @@ fn in_eight<L: Seats + Send + Sync, R: Threads + Wait + Sync>(
             ensures { result.seat.parts ≡ 4 }
         { in_four(rt, alloc, cell, other, 4) },
     );
-    let Worked { seat: worked, done } = joined(a, b);
+    let Worked { seat: worked, made } = joined(a, b);
     seat.merge(worked);
     let parts = cell.take_parts(rt, seat);
-    done >= 800 && done == parts.log.steps
+    made == parts.log.steps
 }
 
 #[test]
 fn eight_threads_step_one_core(rt: HostRuntime) -> Mem<()> {
     let alloc = rt.alloc();
-    let scene = new_scene(alloc)?;
-    let right = in_eight::<Brand, HostRuntime>(&rt, alloc, scene, Blank::new(65_552));
+    let Scene {
+        core,
+        ends,
+        mut mixers,
+    } = new_scene(alloc)?;
+    let mut right = in_eight::<Brand, HostRuntime>(&rt, alloc, core, ends, Blank::new(65_552));
+    if let Some(mixer) = mixers.first_mut() {
+        right = right && in_order(&rt, mixer);
+    }
     assert!(rt; right);
     Ok(())
 }
