@@ -1,0 +1,6 @@
+pub mod Places
+pub mod Seen
+pub mod Handing
+pub mod Doing
+pub mod Keeping
+pub mod Giving
