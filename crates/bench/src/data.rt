@@ -17,11 +17,19 @@ const SINKS: u8 = 4;
 
 const ON_SINK: u32 = 250;
 
-// The one client.
-const CLIENT: ConnId = ConnId(1);
+/// The client with the streams.
+pub(crate) const CLIENT: ConnId = ConnId(1);
+
+// And the connections of those that only listen, which are up to 63.
+const FIRST_LISTENER: u32 = 2;
+
+const LISTENERS: u32 = 63;
 
 // AUTH of version 13, up to the cookie.
 const AUTH: &[u8] = b"L\x00\x00\x00\x08L\x00\x00\x00\x01L\x00\x00\x00\x0Dx\x00\x00\x01\x00";
+
+// SUBSCRIBE to all facilities.
+const SUBSCRIBE: &[u8] = b"L\x00\x00\x00\x23L\x00\x00\x00\x03L\x00\x00\x02\xFF";
 
 // CREATE_PLAYBACK_STREAM of S16LE, mono, up to the index of its sink, and what stands behind that.
 const CREATE: &[u8] =
@@ -67,24 +75,31 @@ fn new_core(alloc: Global) -> Mem<Core<Stub>> {
     }
 }
 
-/// The client asks by a control packet.
-pub(crate) fn ask(core: &mut Core<Stub>, packet: Vec<u8>) -> Mem<()> {
+/// A client asks by a control packet.
+pub(crate) fn ask(core: &mut Core<Stub>, conn: ConnId, packet: Vec<u8>) -> Mem<()> {
     if packet.is_empty() || packet.len() > 400 {
         return Err(NoMemory);
     }
     let body = Body::Control(Packet::from_vec(packet));
-    match core.frame(CLIENT, Frame { at: 0, body }) {
+    match core.frame(conn, Frame { at: 0, body }) {
         Ok(_) => Ok(()),
         Err(_) => Err(NoMemory),
     }
 }
 
-// The client is let in.
-fn enter(alloc: Global, core: &mut Core<Stub>) -> Mem<()> {
-    core.admit(CLIENT)?;
+// A client is let in.
+fn enter(alloc: Global, core: &mut Core<Stub>, conn: ConnId) -> Mem<()> {
+    core.admit(conn)?;
     let mut packet = Vec::from_slice(alloc, AUTH)?;
     packet.extend_from_slice(&[0; 256])?;
-    ask(core, packet)
+    ask(core, conn, packet)
+}
+
+// One that listens comes, and hears of everything.
+fn listen(alloc: Global, core: &mut Core<Stub>, conn: ConnId) -> Mem<()> {
+    enter(alloc, core, conn)?;
+    let packet = Vec::from_slice(alloc, SUBSCRIBE)?;
+    ask(core, conn, packet)
 }
 
 // A stream on a sink.
@@ -92,16 +107,19 @@ fn create(alloc: Global, core: &mut Core<Stub>, sink: u8) -> Mem<()> {
     let mut packet = Vec::from_slice(alloc, CREATE)?;
     packet.push(sink)?;
     packet.extend_from_slice(ON_IT)?;
-    ask(core, packet)
+    ask(core, CLIENT, packet)
 }
 
-/// A core with the client and its streams.
-pub(crate) fn with_streams(alloc: Global, streams: u32) -> Mem<Core<Stub>> {
+/// A core with the client and its streams, and with so many that listen, up to 63.
+pub(crate) fn with_streams(alloc: Global, streams: u32, listeners: u32) -> Mem<Core<Stub>> {
     let mut core = new_core(alloc)?;
-    enter(alloc, &mut core)?;
+    enter(alloc, &mut core, CLIENT)?;
     for stream in 0..streams {
         let sink = (stream / ON_SINK % u32::from(SINKS)) as u8;
         create(alloc, &mut core, sink)?;
+    }
+    for listener in 0..listeners.min(LISTENERS) {
+        listen(alloc, &mut core, ConnId(FIRST_LISTENER + listener))?;
     }
     Ok(core)
 }
@@ -166,10 +184,12 @@ fn send(alloc: Global, core: &mut Core<Stub>, streams: u32, frames: u32) -> Mem<
     Ok(messages)
 }
 
-/// Sends so many data frames through a core that has so many inputs, each frame to the next stream, and says how many messages
-/// waited for the sinks. Takes memory.
-pub fn core_line(alloc: Global, inputs: u32, frames: u32) -> Mem<String> {
-    let mut core = with_streams(alloc, inputs)?;
+/// Sends so many data frames through a core that has so many inputs, each frame to the next stream, while so many clients listen to
+/// all that is told, and says how many messages waited for the sinks. Takes memory.
+pub fn core_line(alloc: Global, inputs: u32, frames: u32, listeners: u32) -> Mem<String> {
+    let mut core = with_streams(alloc, inputs, listeners)?;
     let messages = send(alloc, &mut core, inputs, frames)?;
-    Ok(format!(in alloc; "{inputs} inputs, {frames} frames, {messages} messages")?)
+    Ok(format!(in alloc;
+        "{inputs} inputs, {listeners} listeners, {frames} frames, {messages} messages"
+    )?)
 }

@@ -1,7 +1,7 @@
 //! What the scripts of bench/ time. Words: what to do (`sound`, `frame`, `wire`, `session`, `core` or `volumes`), how often, and for `frame`
-//! the bytes of a piece, for `sound` the code of a format; for `core` and `volumes` how many inputs there are, and then how often. `wire`
-//! reads a packet from standard input. It prints a line on what it did, so that no work is left out and a plain program can be compared.
-//! Without words each is done once.
+//! the bytes of a piece, for `sound` the code of a format; for `core` and `volumes` how many inputs there are, then how often, and how
+//! many clients listen to all that is told. `wire` reads a packet from standard input. It prints a line on what it did, so that no work
+//! is left out and a plain program can be compared. Without words each is done once.
 #![tactic(auto)]
 
 mod data;
@@ -55,14 +55,16 @@ fn work_of(word: &str) -> Option<Work> {
 }
 
 // The line of a work that is done so often.
-fn line(alloc: Global, work: Work, first: u32, second: Option<u32>, packet: &[u8]) -> Mem<String> {
+fn line(alloc: Global, work: Work, counts: [Option<u32>; 3], packet: &[u8]) -> Mem<String> {
+    let [first, second, third] = counts;
+    let first = first.unwrap_or(1);
     match work {
         Work::Sound => sound_line(alloc, first, second.unwrap_or(3)),
         Work::Frame => frame_line(alloc, first, second.unwrap_or(4_096)),
         Work::Wire => wire_line(alloc, first, packet),
         Work::Session => session_line(alloc, first),
-        Work::Core => core_line(alloc, first, second.unwrap_or(1)),
-        Work::Volumes => volumes_line(alloc, first, second.unwrap_or(1)),
+        Work::Core => core_line(alloc, first, second.unwrap_or(1), third.unwrap_or(0)),
+        Work::Volumes => volumes_line(alloc, first, second.unwrap_or(1), third.unwrap_or(0)),
     }
 }
 
@@ -77,17 +79,17 @@ fn main(rt: HostRuntime) -> io::Result<()> {
     let alloc = rt.alloc();
     let mut words = env::args(&rt)?.skip(1);
     let work = words.next().map_or(None, |word| work_of(word.as_str()));
-    let first: u32 = words
-        .next()
-        .map_or(1, |word| word.as_str().parse().unwrap_or(1));
-    let second: Option<u32> = words.next().map_or(None, |word| word.as_str().parse().ok());
+    let mut counts = [None; 3];
+    for count in &mut counts {
+        *count = words.next().map_or(None, |word| word.as_str().parse().ok());
+    }
     let mut packet = Vec::new(alloc);
     rt.stdin().read_to_end(&mut packet)?;
     match work {
-        Some(work) => print(&rt, line(alloc, work, first, second, &packet)),
+        Some(work) => print(&rt, line(alloc, work, counts, &packet)),
         None => {
             for work in ALL {
-                print(&rt, line(alloc, work, first, second, &packet))?;
+                print(&rt, line(alloc, work, counts, &packet))?;
             }
             Ok(())
         }

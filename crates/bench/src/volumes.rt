@@ -1,6 +1,6 @@
 //! Volume commands through a core.
 
-use crate::data::{Stub, ask, deliver, with_streams};
+use crate::data::{CLIENT, Stub, ask, deliver, with_streams};
 use px_core::Core;
 use px_types::Mem;
 use std::alloc::Global;
@@ -14,13 +14,13 @@ fn set_volume(alloc: Global, core: &mut Core<Stub>, input: u32, volume: u8) -> M
     packet.extend_from_slice(&[0, 0, (input / 256 % 256) as u8, (input % 256) as u8])?;
     packet.extend_from_slice(b"v\x01")?;
     packet.extend_from_slice(&[0, 0, volume, 0])?;
-    ask(core, packet)
+    ask(core, CLIENT, packet)
 }
 
-/// Sets a volume of a core's inputs so often, each time of the next input, and says how many messages waited for the sinks. Takes
-/// memory.
-pub fn volumes_line(alloc: Global, inputs: u32, commands: u32) -> Mem<String> {
-    let mut core = with_streams(alloc, inputs)?;
+/// Sets a volume of a core's inputs so often, each time of the next input, while so many clients listen to all that is told, and says
+/// how many messages waited for the sinks. Takes memory.
+pub fn volumes_line(alloc: Global, inputs: u32, commands: u32, listeners: u32) -> Mem<String> {
+    let mut core = with_streams(alloc, inputs, listeners)?;
     let mut messages = deliver(&mut core);
     for command in 0..commands {
         set_volume(
@@ -31,5 +31,7 @@ pub fn volumes_line(alloc: Global, inputs: u32, commands: u32) -> Mem<String> {
         )?;
         messages = messages.wrapping_add(deliver(&mut core));
     }
-    Ok(format!(in alloc; "{inputs} inputs, {commands} volumes, {messages} messages")?)
+    Ok(format!(in alloc;
+        "{inputs} inputs, {listeners} listeners, {commands} volumes, {messages} messages"
+    )?)
 }

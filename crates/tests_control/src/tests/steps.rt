@@ -43,6 +43,9 @@ const MONO: Spec = Spec {
 // AUTH of version 13, up to the cookie.
 const AUTH: &[u8] = b"L\0\0\0\x08L\0\0\0\x01L\0\0\0\x0Dx\0\0\x01\0";
 
+// SUBSCRIBE to inputs.
+const SUBSCRIBE: &[u8] = b"L\0\0\0\x23L\0\0\0\x06L\0\0\0\x04";
+
 // CREATE_PLAYBACK_STREAM on the default sink: S16LE, mono, no prebuffering, the rest left to the server.
 const CREATE: &[u8] =
     b"L\0\0\0\x03L\0\0\0\x02a\x03\x01\0\0\xBB\x80m\x01\0L\xFF\xFF\xFF\xFFNL\xFF\xFF\xFF\xFF0L\xFF\xFF\xFF\xFFL\0\0\0\0L\xFF\xFF\xFF\xFFL\0\0\0\0v\x01\0\x01\0\x00000000000PN";
@@ -195,17 +198,18 @@ fn hands_again(core: &mut Core<Stub>, wanted: [Sent; 2]) -> bool {
     are && hands(core, wanted[0]) && hands(core, wanted[1])
 }
 
-// The client is let in, makes a stream and writes.
+// The client is let in, subscribes, makes a stream, which it is told of as well, and writes.
 fn begins(alloc: Global, core: &mut Core<Stub>) -> Mem<bool> {
     let there = admitted(core)?.as_slice().is_empty();
     let answers = [
         asked(alloc, core, AUTH, &[0; 256])?,
+        asked(alloc, core, SUBSCRIBE, b"")?,
         asked(alloc, core, CREATE, b"")?,
     ];
     let wrote = written(alloc, core)?;
     Ok(
         there
-            && answers == [1, 1]
+            && answers == [1, 1, 2]
             && wrote == 0
             && core.outgoing(OUT) == 3
             && hands_again(core, [Sent::New(FIRST), Sent::Factors(1)])
@@ -232,14 +236,14 @@ fn waits(alloc: Global, core: &mut Core<Stub>) -> Mem<bool> {
     Ok(asks == [0, 0, 0] && handed && answers == [0, 1])
 }
 
-// It plays, ends with two requests that wait, and its sink gives it up.
+// It plays, ends with two requests that wait, which is told behind their errors, and its sink gives it up.
 fn plays(alloc: Global, core: &mut Core<Stub>) -> Mem<bool> {
     let started = noticed(core, Notice::Started { input: FIRST })?;
     let waits = waits(alloc, core)?;
     let ends = asked(alloc, core, DELETE, b"")?;
     let leaves = hands(core, Sent::Detach(FIRST));
     let gone = detached(core, FIRST)?;
-    Ok(waits && [started, ends, gone] == [1, 3, 0] && leaves && hands(core, Sent::Factors(0)))
+    Ok(waits && [started, ends, gone] == [1, 4, 0] && leaves && hands(core, Sent::Factors(0)))
 }
 
 fn why(effects: &Effects) -> Option<Reason> {
@@ -256,7 +260,7 @@ fn broken(core: &mut Core<Stub>) -> Mem<Effects> {
     }
 }
 
-// The connection ends with its second stream, once.
+// It makes a second stream, and its connection ends with it, once.
 fn ends(alloc: Global, core: &mut Core<Stub>) -> Mem<bool> {
     let made = asked(alloc, core, CREATE, b"")?;
     let closed = why(&broken(core)?) == Some(Reason::Protocol) && core.cut(CLIENT).is_none();
@@ -266,7 +270,7 @@ fn ends(alloc: Global, core: &mut Core<Stub>) -> Mem<bool> {
         && hands(core, Sent::Factors(1))
         && hands(core, Sent::Detach(SECOND));
     let gone = detached(core, SECOND)?;
-    Ok(made == 1 && closed && quiet && handed && gone == 0 && hands(core, Sent::Factors(0)))
+    Ok(made == 2 && closed && quiet && handed && gone == 0 && hands(core, Sent::Factors(0)))
 }
 
 fn lives(alloc: Global, core: &mut Core<Stub>) -> Mem<bool> {
