@@ -104,7 +104,6 @@ fn in_two<L: Seats + Send + Sync, R: Threads + Wait + Sync>(
     other: CoreSeat<L>,
     conn: u32,
 ) -> Worked<L>
-    requires { conn < 100 }
     ensures { result.seat.parts ≡ one.parts + other.parts }
 {
     let (a, b) = join(
@@ -114,7 +113,7 @@ fn in_two<L: Seats + Send + Sync, R: Threads + Wait + Sync>(
         { works(rt, alloc, cell, one, conn) },
         move || -> Worked<L>
             ensures { result.seat.parts ≡ other.parts }
-        { works(rt, alloc, cell, other, conn + 1) },
+        { works(rt, alloc, cell, other, conn.saturating_add(1)) },
     );
     joined(a, b)
 }
@@ -127,8 +126,7 @@ fn in_four<L: Seats + Send + Sync, R: Threads + Wait + Sync>(
     mut seat: CoreSeat<L>,
     conn: u32,
 ) -> Worked<L>
-    requires few { conn < 90 }
-    requires parts { seat.parts ≡ 4 }
+    requires { seat.parts ≡ 4 }
     ensures { result.seat.parts ≡ 4 }
 {
     let one = seat.split();
@@ -137,13 +135,13 @@ fn in_four<L: Seats + Send + Sync, R: Threads + Wait + Sync>(
     let (a, b) = join(
         rt,
         move || -> Worked<L>
-            requires { (seat.parts ≡ 1) × (one.parts ≡ 1) × (conn < 90) }
+            requires { (seat.parts ≡ 1) × (one.parts ≡ 1) }
             ensures { result.seat.parts ≡ 2 }
         { in_two(rt, alloc, cell, seat, one, conn) },
         move || -> Worked<L>
-            requires { (two.parts ≡ 1) × (three.parts ≡ 1) × (conn < 90) }
+            requires { (two.parts ≡ 1) × (three.parts ≡ 1) }
             ensures { result.seat.parts ≡ 2 }
-        { in_two(rt, alloc, cell, two, three, conn + 2) },
+        { in_two(rt, alloc, cell, two, three, conn.saturating_add(2)) },
     );
     joined(a, b)
 }
