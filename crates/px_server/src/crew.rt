@@ -1,8 +1,6 @@
 //! The workers that are under way.
 ghost use Rattle.std.specs.Prelude.{◌≡◌};
 ghost use Rattle.px_jobs.specs.Jobs.{given_to};
-ghost use Rattle.px_lane_cell.specs.History.{unturned};
-ghost use Rattle.px_server.specs.declared.sink_work.Met.TheVariants.{Nothing};
 
 use crate::gate::Gate;
 use crate::link_work::LinkWork;
@@ -12,6 +10,7 @@ use px_core_cell::Seats;
 use px_ends::{Device, Link};
 use px_jobs::Running;
 use px_types::ConnId;
+use std::marker::Model;
 use std::sync::Wait;
 
 /// A client's worker under way, which has one share in the core's steps.
@@ -28,7 +27,8 @@ pub(crate) struct Client<
     ghost one_part: { (given_to running).worker.seat.parts ≡ 1 },
 }
 
-/// A sink's worker under way, which has one share in the core's steps, and begins with nothing met.
+/// A sink's worker under way, which has one share in the core's steps, and begins with a fresh cell and nothing met. Contracts see the sink that it
+/// began with.
 #[derive(Drop)]
 pub(crate) struct SinkRun<
     R: Wait + Copy + Drop + Send,
@@ -39,7 +39,27 @@ pub(crate) struct SinkRun<
     G: Gate + Drop + Send + Sync,
 > {
     pub running: Running<SinkWork<R, D, E, C, L, G>>,
-    ghost one_part: { (given_to running).worker.seat.parts ≡ 1 },
-    ghost fresh: { (given_to running).cell.lane.sink ≡ unturned (given_to running).cell.lane.sink },
-    ghost unmet: { (given_to running).met ≡ Nothing },
+}
+
+impl<
+    R: Wait + Copy + Drop + Send,
+    D: Device + Drop + Send,
+    E: Recorder<LaneEntry> + Drop + Send,
+    C: Recorder<CoreEntry> + Drop + Send,
+    L: Seats + Send,
+    G: Gate + Drop + Send + Sync,
+> Model for SinkRun<R, D, E, C, L, G> {
+    ghost use Rattle.std.specs.Prelude.{◌≡◌};
+    ghost use Rattle.px_jobs.specs.Jobs.{given_to};
+    ghost use Rattle.px_lane_cell.specs.History.{unturned};
+    ghost use Rattle.px_server.specs.declared.sink_work.Met.TheVariants.{Nothing};
+    ghost use Rattle.px_server.specs.Parts.{Start, start_at};
+
+    ghost Value = { Start };
+
+    ghost view = { λ r. start_at (given_to r.running).sink (given_to r.running).cell.lane.sink };
+
+    ghost invariant = { λ r. ((given_to r.running).worker.seat.parts ≡ 1)
+        × ((given_to r.running).cell.lane.sink ≡ unturned (given_to r.running).cell.lane.sink)
+        × ((given_to r.running).met ≡ Nothing) };
 }

@@ -4,7 +4,6 @@ ghost use Rattle.px_session.specs.HeaderRules.{IsHeader};
 ghost use Rattle.px_server.specs.Hosted.{IsLater, HasLent, IsCauseOf};
 ghost use Rattle.px_server.specs.Parts.{Start, start_at, starts_of, AreParts, IsFrontOf};
 ghost use Rattle.px_server.specs.Serving.{HasMet, IsDecided, IsServed};
-ghost use Rattle.px_jobs.specs.Jobs.{given_to};
 ghost use Rattle.px_server.specs.Causes.{undecided};
 ghost use Rattle.px_core.specs.State.{new_state};
 
@@ -86,7 +85,7 @@ where
     fn start_sink(&mut self, lone: Lone<D, E>) -> Result<(), Lone<D, E>>
         requires { 1 < self.old.worker.seat.parts }
         ensures parts { self.new.worker.seat.parts + length self.new.sinks.items ≡ self.old.worker.seat.parts + length self.old.sinks.items }
-        ensures ok { OnOk result (map (λ r. start_at (given_to r.running).sink (given_to r.running).cell.lane.sink) self.new.sinks.items ≡ map (λ r. start_at (given_to r.running).sink (given_to r.running).cell.lane.sink) self.old.sinks.items ++ start_at lone.sink lone.cell.lane.sink ∷ []) }
+        ensures ok { OnOk result (self.new.sinks.items ≡ self.old.sinks.items ++ start_at lone.sink lone.cell.lane.sink ∷ []) }
         ensures back { IfErr result (λ back. start_at back.sink back.cell.lane.sink ≡ start_at lone.sink lone.cell.lane.sink) }
         ensures err { OnErr result (self.new.sinks.items ≡ self.old.sinks.items) }
         ensures clients { self.new.clients ≡ self.old.clients }
@@ -132,7 +131,7 @@ where
     ) -> Result<(), Stop>
         requires { length lone.old.items + 1 < self.old.worker.seat.parts }
         ensures parts { self.new.worker.seat.parts + length self.new.sinks.items ≡ self.old.worker.seat.parts + length self.old.sinks.items }
-        ensures starts { map (λ r. start_at (given_to r.running).sink (given_to r.running).cell.lane.sink) self.new.sinks.items ++ map (λ l. start_at l.sink l.cell.lane.sink) lone.new.items ≡ map (λ r. start_at (given_to r.running).sink (given_to r.running).cell.lane.sink) self.old.sinks.items ++ map (λ l. start_at l.sink l.cell.lane.sink) lone.old.items }
+        ensures starts { self.new.sinks.items ++ map (λ l. start_at l.sink l.cell.lane.sink) lone.new.items ≡ self.old.sinks.items ++ map (λ l. start_at l.sink l.cell.lane.sink) lone.old.items }
         ensures clients { self.new.clients ≡ self.old.clients }
         ensures later { IsLater (H.now host.old) (H.now host.new) }
         ensures lent { (H.now host.new).lent ≡ (H.now host.old).lent }
@@ -273,7 +272,7 @@ where
     fn join_sinks(&mut self, lanes: &mut Vec<LanePart<D, E>>) -> Option<Status>
         requires room { vec_len lanes.old + length self.old.sinks.items ≤ vec_capacity lanes.old }
         ensures parts { self.new.worker.seat.parts ≡ self.old.worker.seat.parts + length self.old.sinks.items }
-        ensures lanes { (done : List Start) → AreParts D.now E.told done lanes.old.items → AreParts D.now E.told (done ++ map (λ r. start_at (given_to r.running).sink (given_to r.running).cell.lane.sink) self.old.sinks.items) lanes.new.items }
+        ensures lanes { (done : List Start) → AreParts D.now E.told done lanes.old.items → AreParts D.now E.told (done ++ self.old.sinks.items) lanes.new.items }
         ensures room { vec_len lanes.new ≡ vec_len lanes.old + length self.old.sinks.items }
         ensures capacity { vec_capacity lanes.new ≡ vec_capacity lanes.old }
         ensures met { IfSome result (HasMet D.now E.faults E.fulls lanes.new.items) }
