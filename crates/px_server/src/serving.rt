@@ -1,0 +1,455 @@
+//! The serving call.
+ghost use Rattle.std.specs.Prelude.{◌≡◌, List, ◌+◌, ◌≤◌, ◌<◌, ◌++◌, ◌∷◌, [], length, map, IfOk, IfErr, OnOk, OnErr, IfSome, IsSome, None, vec_len, vec_capacity};
+ghost use Rattle.px_session.specs.HeaderRules.{IsHeader};
+ghost use Rattle.px_server.specs.Hosted.{IsLater, HasLent, IsCauseOf};
+ghost use Rattle.px_server.specs.Parts.{Start, start_at, starts_of, AreParts, IsFrontOf};
+ghost use Rattle.px_server.specs.Serving.{HasMet, IsDecided, IsServed};
+ghost use Rattle.px_server.specs.Causes.{undecided};
+ghost use Rattle.px_core.specs.State.{new_state};
+
+use crate::crew::{Client, SinkRun};
+use crate::desk::Desk;
+use crate::gate::Gate;
+use crate::lines::Lines;
+use crate::link_work::LinkWork;
+use crate::served::{LanePart, Served, Stop, decided, stop_by, undecided};
+use crate::sink_work::{Met, SinkWork, status_of_met};
+use crate::lone::Lone;
+use crate::sinks::{hand_back, make_all, part_of};
+use crate::worker::{CoreStop, Worker};
+use px_annals::{CoreEntry, LaneEntry, Recorder};
+use px_core::Core;
+use px_core_cell::{CoreCell, Seats};
+use px_ends::{Accepted, Device, Host, Link};
+use px_jobs::{Spawned, start};
+use px_session::Header;
+use px_types::{ConnId, Mem, NoMemory, Status};
+use std::alloc::Global;
+use std::collections::VecDeque;
+use std::marker::Brand;
+use std::sync::atomic::{AtomicBool, Ordering};
+use std::sync::ledger::Blank;
+use std::sync::{Arc, Mutex, Wait};
+use std::thread::Threads;
+
+// One part for each of 65,535 links, one for each of 16 sinks, and one for the serving call.
+const PARTS: u64 = 65_552;
+
+// What a serving call has under way.
+#[derive(Drop)]
+struct Serving<R, A, D, E, C, L, G>
+where
+    R: Wait + Copy + Drop + Send,
+    A: Link + Drop + Send,
+    D: Device + Drop + Send,
+    E: Recorder<LaneEntry> + Drop + Send,
+    C: Recorder<CoreEntry> + Drop + Send,
+    L: Seats + Send,
+    G: Gate + Drop + Send + Sync,
+{
+    worker: Worker<R, C, L>,
+    gate: Arc<G>,
+    sinks: VecDeque<SinkRun<R, D, E, C, L, G>>,
+    clients: VecDeque<Client<R, A, C, L, G>>,
+    next: u32,
+}
+
+impl<R, A, D, E, C, L, G> Serving<R, A, D, E, C, L, G>
+where
+    R: Threads + Wait + Copy + Drop + Send + Sync + 'static,
+    A: Link + Drop + Send + 'static,
+    D: Device + Drop + Send + 'static,
+    E: Recorder<LaneEntry> + Drop + Send + 'static,
+    C: Recorder<CoreEntry> + Drop + Send + 'static,
+    L: Seats + Send + Sync + 'static,
+    G: Gate + Drop + Send + Sync + 'static,
+{
+    // A worker with a seat of its own. Where there is no memory there is none.
+    fn another(&mut self) -> Mem<Worker<R, C, L>>
+        requires { 1 < self.old.worker.seat.parts }
+        ensures ok { IfOk result (λ worker. (worker.seat.parts ≡ 1) × (self.new.worker.seat.parts + 1 ≡ self.old.worker.seat.parts)) }
+        ensures err { OnErr result (self.new.worker.seat.parts ≡ self.old.worker.seat.parts) }
+        ensures sinks { self.new.sinks ≡ self.old.sinks }
+        ensures clients { self.new.clients ≡ self.old.clients }
+    {
+        let desk = Arc::try_clone(&self.worker.desk)?;
+        Ok(Worker {
+            rt: self.worker.rt,
+            alloc: self.worker.alloc,
+            desk,
+            seat: self.worker.seat.split(),
+        })
+    }
+
+    // Starts the worker of one sink. Where that can't be, the sink comes back.
+    fn start_sink(&mut self, lone: Lone<D, E>) -> Result<(), Lone<D, E>>
+        requires { 1 < self.old.worker.seat.parts }
+        ensures parts { self.new.worker.seat.parts + length self.new.sinks.items ≡ self.old.worker.seat.parts + length self.old.sinks.items }
+        ensures ok { OnOk result (self.new.sinks.items ≡ self.old.sinks.items ++ start_at lone.sink lone.cell.lane.sink ∷ []) }
+        ensures back { IfErr result (λ back. start_at back.sink back.cell.lane.sink ≡ start_at lone.sink lone.cell.lane.sink) }
+        ensures err { OnErr result (self.new.sinks.items ≡ self.old.sinks.items) }
+        ensures clients { self.new.clients ≡ self.old.clients }
+    {
+        if self.sinks.reserve(1).is_err() {
+            return Err(lone);
+        }
+        let Ok(gate) = Arc::try_clone(&self.gate) else {
+            return Err(lone);
+        };
+        let Ok(worker) = self.another() else {
+            return Err(lone);
+        };
+        let Lone { sink, cell } = lone;
+        let job = SinkWork {
+            worker,
+            sink,
+            cell,
+            gate,
+            met: Met::Nothing,
+        };
+        let rt = self.worker.rt;
+        match start(&rt, self.worker.alloc, job) {
+            Spawned::Started(running) => {
+                self.sinks.push_back_reserved(SinkRun { running });
+                Ok(())
+            }
+            Spawned::Refused(job) | Spawned::NoMemory(job) => {
+                let SinkWork {
+                    worker, sink, cell, ..
+                } = job;
+                self.worker.seat.merge(worker.seat);
+                Err(Lone { sink, cell })
+            }
+        }
+    }
+
+    // Starts the workers of the sinks, in order, as far as that can be.
+    fn start_sinks<H: Host>(
+        &mut self,
+        host: &mut H,
+        lone: &mut VecDeque<Lone<D, E>>,
+    ) -> Result<(), Stop>
+        requires { length lone.old.items + 1 < self.old.worker.seat.parts }
+        ensures parts { self.new.worker.seat.parts + length self.new.sinks.items ≡ self.old.worker.seat.parts + length self.old.sinks.items }
+        ensures starts { self.new.sinks.items ++ map (λ l. start_at l.sink l.cell.lane.sink) lone.new.items ≡ self.old.sinks.items ++ map (λ l. start_at l.sink l.cell.lane.sink) lone.old.items }
+        ensures clients { self.new.clients ≡ self.old.clients }
+        ensures later { IsLater (H.now host.old) (H.now host.new) }
+        ensures lent { (H.now host.new).lent ≡ (H.now host.old).lent }
+        ensures cause { IfErr result (λ stop. IsCauseOf stop (H.now host.old) (H.now host.new)) }
+    {
+        while let Some(one) = lone.pop_front() {
+            if !host.may_start() {
+                lone.push_front_reserved(one);
+                return Err(Stop::Host);
+            }
+            if let Err(one) = self.start_sink(one) {
+                lone.push_front_reserved(one);
+                return Err(Stop::Memory);
+            }
+        }
+        Ok(())
+    }
+
+    // Joins the workers of clients that have gone.
+    fn reap(&mut self)
+        ensures parts { self.new.worker.seat.parts + length self.new.clients.items ≡ self.old.worker.seat.parts + length self.old.clients.items }
+        ensures fewer { length self.new.clients.items ≤ length self.old.clients.items }
+        ensures sinks { self.new.sinks ≡ self.old.sinks }
+    {
+        let rt = self.worker.rt;
+        for _ in 0..self.clients.len() {
+            let Some(client) = self.clients.pop_front() else {
+                return;
+            };
+            if self.worker.has_line(client.conn) {
+                self.clients.push_back_reserved(client);
+            } else {
+                let job = client.running.join(&rt);
+                self.worker.seat.merge(job.worker.seat);
+            }
+        }
+    }
+
+    // Joins the workers of all clients.
+    fn join_clients(&mut self)
+        ensures parts { self.new.worker.seat.parts ≡ self.old.worker.seat.parts + length self.old.clients.items }
+        ensures sinks { self.new.sinks ≡ self.old.sinks }
+    {
+        let rt = self.worker.rt;
+        while let Some(client) = self.clients.pop_front() {
+            let job = client.running.join(&rt);
+            self.worker.seat.merge(job.worker.seat);
+        }
+    }
+
+    // Starts the worker of a client that has connected.
+    fn start_client(&mut self, conn: ConnId, link: A) -> Mem<()>
+        requires { 1 < self.old.worker.seat.parts }
+        ensures parts { self.new.worker.seat.parts + length self.new.clients.items ≡ self.old.worker.seat.parts + length self.old.clients.items }
+        ensures more { length self.new.clients.items ≤ length self.old.clients.items + 1 }
+        ensures sinks { self.new.sinks ≡ self.old.sinks }
+    {
+        self.clients.reserve(1)?;
+        let gate = Arc::try_clone(&self.gate)?;
+        let worker = self.another()?;
+        let job = LinkWork {
+            worker,
+            conn,
+            link,
+            gate,
+        };
+        let rt = self.worker.rt;
+        match start(&rt, self.worker.alloc, job) {
+            Spawned::Started(running) => {
+                self.clients.push_back_reserved(Client { conn, running });
+                Ok(())
+            }
+            Spawned::Refused(job) | Spawned::NoMemory(job) => {
+                self.worker.seat.merge(job.worker.seat);
+                Err(NoMemory)
+            }
+        }
+    }
+
+    // Takes in a client.
+    fn admit<H: Host>(&mut self, host: &mut H, link: A) -> Result<(), Stop>
+        requires { 1 < self.old.worker.seat.parts }
+        ensures parts { self.new.worker.seat.parts + length self.new.clients.items ≡ self.old.worker.seat.parts + length self.old.clients.items }
+        ensures more { length self.new.clients.items ≤ length self.old.clients.items + 1 }
+        ensures sinks { self.new.sinks ≡ self.old.sinks }
+        ensures later { IsLater (H.now host.old) (H.now host.new) }
+        ensures lent { (H.now host.new).lent ≡ (H.now host.old).lent }
+        ensures cause { IfErr result (λ stop. IsCauseOf stop (H.now host.old) (H.now host.new)) }
+    {
+        let conn = ConnId(self.next);
+        self.next = self.next.wrapping_add(1);
+        if !host.may_start() {
+            return Err(Stop::Host);
+        }
+        if self.worker.open_line(conn).is_err() {
+            return Err(Stop::Memory);
+        }
+        // a core that has made as many steps as are counted serves no more clients, and nothing has failed
+        if let Err(CoreStop::Unrecorded(fault)) = self.worker.connect(conn) {
+            return Err(Stop::Unrecorded(fault));
+        }
+        if self.start_client(conn, link).is_err() {
+            let _closed = self.worker.close(conn);
+            self.worker.shut_line(conn);
+            return Err(Stop::Memory);
+        }
+        Ok(())
+    }
+
+    // Takes in clients until no more come.
+    fn accept_all<H: Host<L = A>>(&mut self, host: &mut H) -> Stop
+        requires seats { 65536 ≤ self.old.worker.seat.parts + length self.old.clients.items }
+        requires few { length self.old.clients.items ≤ (H.now host.old).links }
+        ensures parts { self.new.worker.seat.parts + length self.new.clients.items ≡ self.old.worker.seat.parts + length self.old.clients.items }
+        ensures sinks { self.new.sinks ≡ self.old.sinks }
+        ensures later { IsLater (H.now host.old) (H.now host.new) }
+        ensures lent { (H.now host.new).lent ≡ (H.now host.old).lent }
+        ensures cause { IsCauseOf result (H.now host.old) (H.now host.new) }
+    {
+        let rt = self.worker.rt;
+        for _ in rt.forever() {
+            self.reap();
+            match host.accept(self.worker.alloc) {
+                Accepted::Link(link) => {
+                    if let Err(stop) = self.admit(host, link) {
+                        return stop;
+                    }
+                }
+                Accepted::Over => return Stop::Over,
+                Accepted::NoMemory => return Stop::Memory,
+                Accepted::Failed => return Stop::Host,
+            }
+        }
+        unreachable!()
+    }
+
+    // Joins the workers of the sinks, and takes what is left of each. Answers the first status that one of them met.
+    fn join_sinks(&mut self, lanes: &mut Vec<LanePart<D, E>>) -> Option<Status>
+        requires room { vec_len lanes.old + length self.old.sinks.items ≤ vec_capacity lanes.old }
+        ensures parts { self.new.worker.seat.parts ≡ self.old.worker.seat.parts + length self.old.sinks.items }
+        ensures lanes { (done : List Start) → AreParts D.now E.told done lanes.old.items → AreParts D.now E.told (done ++ self.old.sinks.items) lanes.new.items }
+        ensures room { vec_len lanes.new ≡ vec_len lanes.old + length self.old.sinks.items }
+        ensures capacity { vec_capacity lanes.new ≡ vec_capacity lanes.old }
+        ensures met { IfSome result (HasMet D.now E.faults E.fulls lanes.new.items) }
+    {
+        let rt = self.worker.rt;
+        let mut first = None;
+        while let Some(SinkRun { running }) = self.sinks.pop_front() {
+            let job = running.join(&rt);
+            let SinkWork {
+                worker,
+                sink,
+                cell,
+                met,
+                ..
+            } = job;
+            self.worker.seat.merge(worker.seat);
+            first = first.or(status_of_met(met));
+            lanes.push(part_of(sink, cell)).unwrap();
+        }
+        first
+    }
+}
+
+// A serving call that has made no core.
+fn unserved<H: Host>(
+    mut lanes: Vec<LanePart<H::D, H::R>>,
+    mut lone: VecDeque<Lone<H::D, H::R>>,
+    stop: Stop,
+) -> Served<H>
+    requires none { lanes.items ≡ [] }
+    requires room { length lone.items ≤ vec_capacity lanes }
+    ensures status { result.status ≡ undecided stop }
+    ensures lanes { AreParts H.D.now H.R.told (map (λ l. start_at l.sink l.cell.lane.sink) lone.items) result.lanes.items }
+    ensures core { result.core ≡ None }
+{
+    hand_back(&mut lone, &mut lanes);
+    Served {
+        status: undecided(stop),
+        lanes,
+        core: None,
+    }
+}
+
+/// Serves the clients that the host hands out, on the sinks of a header, until the host says that no more come and all have gone, or
+/// until something fails. What the host made comes back with it. (PulseAudio: `main` of daemon/main.c with its threads.)
+pub fn serve<R, H, G>(
+    rt: &R,
+    alloc: Global,
+    header: &Header,
+    host: &mut H,
+    gate: Arc<G>,
+) -> Served<H>
+where
+    R: Threads + Wait + Copy + Drop + Send + Sync + 'static,
+    H: Host,
+    H::L: 'static,
+    H::D: 'static,
+    H::R: 'static,
+    H::C: 'static,
+    G: Gate + Drop + Send + Sync + 'static,
+    requires { IsHeader header.now }
+    ensures { IsServed H.D.now H.R.faults H.R.fulls H.C.faults H.C.fulls H.R.told header.now.sinks (H.now host.old) (H.now host.new) result.status result.lanes.items result.core }
+{
+    serve_in::<R, H, G, Brand>(rt, alloc, header, host, gate, Blank::new(PARTS))
+}
+
+// The serving call, over the ledger of its workers' seats.
+fn serve_in<R, H, G, L>(
+    rt: &R,
+    alloc: Global,
+    header: &Header,
+    host: &mut H,
+    gate: Arc<G>,
+    blank: Blank,
+) -> Served<H>
+where
+    R: Threads + Wait + Copy + Drop + Send + Sync + 'static,
+    H: Host,
+    H::L: 'static,
+    H::D: 'static,
+    H::R: 'static,
+    H::C: 'static,
+    G: Gate + Drop + Send + Sync + 'static,
+    L: Seats + Send + Sync + 'static,
+    requires header { IsHeader header.now }
+    requires name { blank.name ≡ L.name }
+    requires parts { (blank.parts ≡ L.parts) × (L.parts ≡ 65552) × (L.all ≡ 65552) }
+    requires began { L.began ≡ new_state header.now }
+    ensures { IsServed H.D.now H.R.faults H.R.fulls H.C.faults H.C.fulls H.R.told header.now.sinks (H.now host.old) (H.now host.new) result.status result.lanes.items result.core }
+{
+    let mut lanes = Vec::new(alloc);
+    let mut lone = VecDeque::new(alloc);
+    let mut ends = Vec::new(alloc);
+    if lanes.reserve(header.sinks.len()).is_err() {
+        return unserved(lanes, lone, Stop::Memory);
+    }
+    if let Err(stop) = make_all(alloc, header, host, &mut lone, &mut ends) {
+        return unserved(lanes, lone, stop);
+    }
+    let recorder = match host.core_recorder(alloc) {
+        Ok(recorder) => recorder,
+        Err(fault) => return unserved(lanes, lone, stop_by(fault)),
+    };
+    let Ok(core) = Core::new(alloc, header) else {
+        return unserved(lanes, lone, Stop::Memory);
+    };
+    let (core, seat) = CoreCell::<H::C, L>::new(blank, core, recorder, ends);
+    let sinks = lone.len() as u8;
+    let Ok(desk) = Arc::new(
+        alloc,
+        Desk {
+            core,
+            lines: Mutex::new(Lines::new(alloc)),
+            over: AtomicBool::new(false),
+            sinks,
+        },
+    ) else {
+        return unserved(lanes, lone, Stop::Memory);
+    };
+    let worker = Worker {
+        rt: *rt,
+        alloc,
+        desk,
+        seat,
+    };
+    run(rt, worker, host, gate, lone, lanes)
+}
+
+// All that workers do, from their start to their end.
+fn run<R, H, G, L>(
+    rt: &R,
+    worker: Worker<R, H::C, L>,
+    host: &mut H,
+    gate: Arc<G>,
+    mut lone: VecDeque<Lone<H::D, H::R>>,
+    mut lanes: Vec<LanePart<H::D, H::R>>,
+) -> Served<H>
+where
+    R: Threads + Wait + Copy + Drop + Send + Sync + 'static,
+    H: Host,
+    H::L: 'static,
+    H::D: 'static,
+    H::R: 'static,
+    H::C: 'static,
+    G: Gate + Drop + Send + Sync + 'static,
+    L: Seats + Send + Sync + 'static,
+    requires seats { (worker.seat.parts ≡ 65552) × (L.all ≡ 65552) }
+    requires few { length lone.items ≤ 16 }
+    requires none { lanes.items ≡ [] }
+    requires room { length lone.items ≤ vec_capacity lanes }
+    ensures later { IsLater (H.now host.old) (H.now host.new) }
+    ensures lent { (H.now host.new).lent ≡ (H.now host.old).lent }
+    ensures lanes { AreParts H.D.now H.R.told (map (λ l. start_at l.sink l.cell.lane.sink) lone.items) result.lanes.items }
+    ensures core { IsSome result.core }
+    ensures status { IsDecided H.D.now H.R.faults H.R.fulls H.C.faults H.C.fulls (H.now host.old) (H.now host.new) result.status result.lanes.items result.core }
+{
+    let alloc = worker.alloc;
+    let mut serving = Serving::<R, H::L, H::D, H::R, H::C, L, G> {
+        worker,
+        gate,
+        sinks: VecDeque::new(alloc),
+        clients: VecDeque::new(alloc),
+        next: 0,
+    };
+    let stop = match serving.start_sinks(host, &mut lone) {
+        Ok(()) => serving.accept_all(host),
+        Err(stop) => stop,
+    };
+    serving.join_clients();
+    serving.worker.desk.over.store(true, Ordering::SeqCst);
+    let met = serving.join_sinks(&mut lanes);
+    hand_back(&mut lone, &mut lanes);
+    let Worker { desk, seat, .. } = serving.worker;
+    let parts = desk.core.take_parts(rt, seat);
+    Served {
+        status: decided(stop, parts.log.fault, met),
+        lanes,
+        core: Some(parts.log.recorder),
+    }
+}
