@@ -1,0 +1,5 @@
+pub mod Places
+pub mod Seen
+pub mod Handing
+pub mod Doing
+pub mod Keeping

@@ -1,0 +1,48 @@
+-- What lies under the core's lock.
+use Rattle.std.specs.Prelude.{ℕ, Bool, List, map, Option}
+use Rattle.px_annals.specs.declared.recorder.RecordFault.{RecordFault}
+use Rattle.px_annals.specs.declared.stream.PlainStream.{PlainStream}
+use Rattle.px_core.specs.State.{State}
+use Rattle.px_mail.specs.Mailbox.{key_of, posted_by, taken_by}
+use Rattle.px_msg.specs.declared.message.Msg.{Msg}
+use Rattle.px_msg.specs.declared.notice.Notice.{Notice}
+use Rattle.px_sample.specs.declared.spec.Spec.{Spec}
+use Rattle.px_core_cell.specs.declared.ends.CoreEnd.{CoreEnd}
+use Rattle.px_core_cell.specs.declared.log.StepLog.{StepLog}
+use Rattle.px_core_cell.specs.declared.parts.CoreParts.{CoreParts}
+use Rattle.px_core_cell.specs.Parcel.{seen_message, seen_notice}
+
+-- the core's ends of a sink's mailboxes: the inbox's key, what was posted to it, what was taken from the outbox, and the notice of these that no step
+-- has had yet
+pub record SinkEnds : Type 0 where
+  pub key : Option Spec
+  pub posted : List (Msg PlainStream)
+  pub taken : List (Notice PlainStream)
+  pub kept : Option (Notice PlainStream)
+
+-- the core, its recorder with the first fault of that, how many steps were done, and whether a sweep is owed
+pub record Desk (C : Type 0) : Type 0 where
+  pub state : State PlainStream
+  pub recorder : C
+  pub fault : Option RecordFault
+  pub steps : ℕ
+  pub owed : Bool
+
+-- with its ends in the order of the sinks
+pub record Cell (C : Type 0) : Type 0 where
+  pub desk : Desk C
+  pub ends : List SinkEnds
+
+abbrev pub ends_of : CoreEnd → SinkEnds
+ends_of e = record {
+  key = key_of e.post.pass;
+  posted = map seen_message (posted_by e.post.pass);
+  taken = map seen_notice (taken_by e.take.pass);
+  kept = e.kept;
+}
+
+abbrev pub desk_of : {C : Type 0} → State PlainStream → StepLog C → Desk C
+desk_of state log = record { state = state; recorder = log.recorder; fault = log.fault; steps = log.steps; owed = log.owed }
+
+abbrev pub cell_of : {C : Type 0} → CoreParts C → Cell C
+cell_of p = record { desk = desk_of p.core.state p.log; ends = map ends_of p.ends.items }

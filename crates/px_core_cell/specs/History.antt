@@ -1,0 +1,119 @@
+-- The history of a core: what its entries mean, and what a core under its lock keeps.
+use Rattle.std.specs.Prelude.{◌≡◌, ℕ, Bool, true, false, cond, nat_eq, List, [], ◌∷◌, ◌++◌, map, flat_map, length, slice_get, Option, None, Some, IfSome}
+use Rattle.std.specs.List.{fold}
+use Rattle.std.specs.Option.{option_to_list}
+use Rattle.px_types.specs.declared.ids.SinkId.{SinkId}
+use Rattle.px_annals.specs.declared.entry.CoreEntry.{CoreEntry}
+use Rattle.px_annals.specs.declared.stream.PlainStream.{PlainStream}
+use Rattle.px_annals.specs.declared.step.PlainStep.{PlainStep}
+use Rattle.px_annals.specs.declared.step.PlainStep.TheVariants as steps
+use Rattle.px_session.specs.declared.header.Header.{Header}
+use Rattle.px_session.specs.declared.header.SinkSpec.{SinkSpec}
+use Rattle.px_session.specs.HeaderRules.{IsHeader}
+use Rattle.px_msg.specs.declared.notice.Notice.{Notice}
+use Rattle.px_msg.specs.View.{sample_spec}
+use Rattle.px_msg.specs.Letters.{AreLawful, inputs_after}
+use Rattle.px_core.specs.State.{State, new_state}
+use Rattle.px_core.specs.Keeps.{IsKept}
+use Rattle.px_core.specs.Orderly.{inputs_there}
+use Rattle.px_core.specs.Hearing.{told_by}
+use Rattle.px_core.specs.Step.{Step, stepped_by}
+use Rattle.px_core_cell.specs.Cell.{Cell, SinkEnds}
+use Rattle.px_core_cell.specs.Parcel.{spec_of}
+use Rattle.px_core_cell.specs.Plain.{notice_for, steps_of}
+
+abbrev pub sink_at : ℕ → SinkId
+sink_at index = record { 0 = index }
+
+-- ---- what entries mean
+
+-- the steps of the core
+abbrev pub steps_in : List CoreEntry → List (Step PlainStream)
+steps_in entries = flat_map (λ e. steps_of (CoreEntry.step e)) entries
+
+-- the state that they leave
+abbrev pub replayed : State PlainStream → List CoreEntry → State PlainStream
+replayed began entries = stepped_by spec_of began (steps_in entries)
+
+-- the notice of a sink in a step
+abbrev pub noticed_in : ℕ → PlainStep → List (Notice PlainStream)
+noticed_in index (steps.Connect conn) = []
+noticed_in index (steps.Frame conn at body) = []
+noticed_in index (steps.Broken conn fault at) = []
+noticed_in index (steps.Close conn) = []
+noticed_in index (steps.Cut conn) = []
+noticed_in index steps.Sweep = []
+noticed_in index (steps.Notice sink notice) = cond (nat_eq sink index) (notice_for notice ∷ []) []
+noticed_in index (steps.Out sink count) = []
+
+-- those in all of them
+abbrev pub noticed_by : ℕ → List CoreEntry → List (Notice PlainStream)
+noticed_by index entries = flat_map (λ e. noticed_in index (CoreEntry.step e)) entries
+
+-- whether a sweep is owed after a step: a sweep pays it, messages that are handed out change nothing, and each other step owes it
+abbrev pub owes : Bool → PlainStep → Bool
+owes owed (steps.Connect conn) = true
+owes owed (steps.Frame conn at body) = true
+owes owed (steps.Broken conn fault at) = true
+owes owed (steps.Close conn) = true
+owes owed (steps.Cut conn) = true
+owes owed steps.Sweep = false
+owes owed (steps.Notice sink notice) = true
+owes owed (steps.Out sink count) = owed
+
+-- and after all of them
+abbrev pub owed_by : List CoreEntry → Bool
+owed_by entries = fold (λ owed e. owes owed (CoreEntry.step e)) false entries
+
+-- ---- what a core under its lock keeps
+
+-- a sink's inbox is for its sample spec; all that was posted there is lawful, and the inputs that it has left are those that the core knows to be there
+pub record IsHeard (state : State PlainStream) (index : ℕ) (s : SinkSpec) (e : SinkEnds) : Type 0 where
+  pub key : e.key ≡ Some s.spec
+  pub lawful : AreLawful spec_of (sample_spec s.spec) e.posted
+  pub inputs : inputs_there state (sink_at index) ≡ inputs_after spec_of e.posted
+
+-- whether the recorder tells or not
+pub record IsSound {C : Type 0} (cell : Cell C) : Type 0 where
+  pub core : IsKept spec_of cell.desk.state
+  pub count : length cell.ends ≡ length cell.desk.state.sinks
+  pub heard : (index : ℕ) (s : SinkSpec) (e : SinkEnds) → slice_get cell.desk.state.sinks index ≡ Some s → slice_get cell.ends index ≡ Some e
+      → IsHeard cell.desk.state index s e
+
+-- a sink was posted what the entries hand out to it, in order, and was taken from it what they have of it, and then the notice that is kept
+pub record IsTold (began : State PlainStream) (entries : List CoreEntry) (index : ℕ) (e : SinkEnds) : Type 0 where
+  pub posted : e.posted ≡ told_by spec_of (sink_at index) began (steps_in entries)
+  pub taken : e.taken ≡ noticed_by index entries ++ option_to_list e.kept
+
+-- the core is the replay of its entries, one a step
+pub record IsReplay {C : Type 0} (began : State PlainStream) (cell : Cell C) (entries : List CoreEntry) : Type 0 where
+  pub state : cell.desk.state ≡ replayed began entries
+  pub steps : cell.desk.steps ≡ length entries
+  pub owed : cell.desk.owed ≡ owed_by entries
+  pub told : (index : ℕ) (e : SinkEnds) → slice_get cell.ends index ≡ Some e → IsTold began entries index e
+
+-- all of it: told gives the entries of a recorder that tells
+pub record IsCell {C : Type 0} (told : C → Option (List CoreEntry)) (began : State PlainStream) (cell : Cell C) : Type 0 where
+  pub sound : IsSound cell
+  pub replay : IfSome (told cell.desk.recorder) (IsReplay began cell)
+
+-- ---- how one begins
+
+-- what is known of a core's state at its beginning, and how it stands
+pub record Course (C : Type 0) : Type 0 where
+  pub began : State PlainStream
+  pub cell : Cell C
+
+-- the ends of a sink's mailboxes that have moved nothing, for its sample spec
+abbrev pub fresh_ends : SinkSpec → SinkEnds
+fresh_ends s = record { key = Some s.spec; posted = []; taken = []; kept = None }
+
+-- a core before its first step, with such mailboxes for each sink
+pub record Begins (state : State PlainStream) (ends : List SinkEnds) : Type 0 where
+  pub header : Header
+  pub lawful : IsHeader header
+  pub state_is : state ≡ new_state header
+  pub ends_are : ends ≡ map fresh_ends header.sinks
+
+abbrev pub first_cell : {C : Type 0} → State PlainStream → C → List SinkEnds → Cell C
+first_cell state recorder ends = record { desk = record { state = state; recorder = recorder; fault = None; steps = 0; owed = false }; ends = ends }

@@ -1,0 +1,6 @@
+pub mod Parcel
+pub mod Plain
+pub mod Cell
+pub mod History
+pub mod Step
+pub mod Seat

@@ -1,0 +1,256 @@
+-- What a step under the core's lock does, and what it answers.
+use Rattle.std.specs.Prelude.{◌≡◌, ℕ, ◌+◌, ◌-◌, ◌^◌, ◌<◌, ◌⊎◌, Bool, true, false, ◌&&◌, List, [], ◌∷◌, ◌++◌, length, replicate, slice_get, Option, None, Some, Result, Ok, Err, ⊤}
+use Rattle.std.specs.Option.{option_to_list, option_or}
+use Rattle.crossbeam_queue.specs.Fifo.{Held}
+use Rattle.px_mail.specs.Mailbox.{IsHeldOf}
+use Rattle.px_types.specs.declared.ids.SinkId.{SinkId}
+use Rattle.px_annals.specs.declared.recorder.RecordFault.{RecordFault}
+use Rattle.px_annals.specs.declared.entry.CoreEntry.{CoreEntry}
+use Rattle.px_annals.specs.declared.stream.PlainStream.{PlainStream}
+use Rattle.px_annals.specs.declared.step.PlainStep.{PlainStep}
+use Rattle.px_annals.specs.declared.step.PlainStep.TheVariants as plain
+use Rattle.px_annals.specs.History.{noted}
+use Rattle.px_frame.specs.Frame.{IsBody}
+use Rattle.px_frame.specs.Fault.{code_of}
+use Rattle.px_msg.specs.declared.message.Msg.{Msg}
+use Rattle.px_msg.specs.declared.notice.Notice.{Notice}
+use Rattle.px_core.specs.declared.effect.Effect.{Effect}
+use Rattle.px_core.specs.State.{State}
+use Rattle.px_core.specs.Out.{waiting_for, next_for, handed_out}
+use Rattle.px_core.specs.Hearing.{told_by}
+use Rattle.px_core.specs.Step.{Step, stepped_by, effects_by}
+use Rattle.px_core_cell.specs.declared.step.CoreStep.{CoreStep}
+use Rattle.px_core_cell.specs.declared.step.CoreStep.TheVariants as asked
+use Rattle.px_core_cell.specs.declared.step.StepFault.{StepFault}
+use Rattle.px_core_cell.specs.declared.step.StepFault.TheVariants.{NoMemory, Worn, Recorder, Owed}
+use Rattle.px_core_cell.specs.declared.log.StepLog.{StepLog}
+use Rattle.px_core_cell.specs.Cell.{Desk, Cell, SinkEnds, desk_of}
+use Rattle.px_core_cell.specs.History.{sink_at, noticed_in, owes}
+use Rattle.px_core_cell.specs.Parcel.{spec_of}
+use Rattle.px_core_cell.specs.Plain.{plain_notice, plain_body, steps_of}
+
+-- ---- what is asked
+
+-- a frame says what a frame can say
+abbrev pub IsAsked : CoreStep → Type 0
+IsAsked (asked.Connect conn) = ⊤
+IsAsked (asked.Frame conn f) = IsBody f.body
+IsAsked (asked.Broken conn fault at) = ⊤
+IsAsked (asked.Close conn) = ⊤
+IsAsked (asked.Cut conn) = ⊤
+IsAsked asked.Sweep = ⊤
+IsAsked (asked.Notice sink) = ⊤
+IsAsked (asked.Out sink) = ⊤
+
+-- a step that waits for a sweep that is owed
+abbrev pub waits : CoreStep → Bool
+waits (asked.Connect conn) = true
+waits (asked.Frame conn f) = true
+waits (asked.Broken conn fault at) = true
+waits (asked.Close conn) = true
+waits (asked.Cut conn) = true
+waits asked.Sweep = false
+waits (asked.Notice sink) = true
+waits (asked.Out sink) = false
+
+-- a step in which no sink has a part
+abbrev pub is_own : CoreStep → Bool
+is_own (asked.Connect conn) = true
+is_own (asked.Frame conn f) = true
+is_own (asked.Broken conn fault at) = true
+is_own (asked.Close conn) = true
+is_own (asked.Cut conn) = true
+is_own asked.Sweep = true
+is_own (asked.Notice sink) = false
+is_own (asked.Out sink) = false
+
+-- the entry of a step that was asked for: a sink's notice is the one that was taken, and so many messages are those that could be posted
+abbrev pub IsEntryFor : CoreStep → PlainStep → Type 0
+IsEntryFor (asked.Connect conn) d = d ≡ plain.Connect conn.0
+IsEntryFor (asked.Frame conn f) d = d ≡ plain.Frame conn.0 f.at (plain_body f.body)
+IsEntryFor (asked.Broken conn fault at) d = d ≡ plain.Broken conn.0 (code_of fault) at
+IsEntryFor (asked.Close conn) d = d ≡ plain.Close conn.0
+IsEntryFor (asked.Cut conn) d = d ≡ plain.Cut conn.0
+IsEntryFor asked.Sweep d = d ≡ plain.Sweep
+IsEntryFor (asked.Notice sink) d = (n : Notice PlainStream) × (d ≡ plain.Notice sink.0 (plain_notice n))
+IsEntryFor (asked.Out sink) d = (count : ℕ) × (d ≡ plain.Out sink.0 count)
+
+-- ---- what is done: a step of a history, or none
+
+abbrev pub steps_done : Option PlainStep → List (Step PlainStream)
+steps_done None = []
+steps_done (Some d) = steps_of d
+
+abbrev pub noticed_done : ℕ → Option PlainStep → List (Notice PlainStream)
+noticed_done index None = []
+noticed_done index (Some d) = noticed_in index d
+
+abbrev pub entered : Option PlainStep → Option (List CoreEntry) → Option (List CoreEntry)
+entered None told = told
+entered (Some d) told = noted (record { step = d }) told
+
+abbrev pub owed_after : Option PlainStep → Bool → Bool
+owed_after None owed = owed
+owed_after (Some d) owed = owes owed d
+
+-- the ends at a sink: its inbox was posted what the step hands out to it; what was kept and what was taken now is what the step has of the sink, and then
+-- what is kept
+pub record IsEndAfter (done : Option PlainStep) (state : State PlainStream) (index : ℕ) (e f : SinkEnds) : Type 0 where
+  pub key : f.key ≡ e.key
+  pub posted : f.posted ≡ e.posted ++ told_by spec_of (sink_at index) state (steps_done done)
+  pub took : List (Notice PlainStream)
+  pub taken : f.taken ≡ e.taken ++ took
+  pub kept : option_to_list e.kept ++ took ≡ noticed_done index done ++ option_to_list f.kept
+
+-- the core goes on by the step, its recorder notes it, and it is counted
+pub record DeskDoes {C : Type 0} (told : C → Option (List CoreEntry)) (done : Option PlainStep) (before after : Desk C) : Type 0 where
+  pub state : after.state ≡ stepped_by spec_of before.state (steps_done done)
+  pub told_new : told after.recorder ≡ entered done (told before.recorder)
+  pub steps : after.steps ≡ before.steps + length (option_to_list done)
+  pub owed : after.owed ≡ owed_after done before.owed
+
+-- and so do the ends of each sink
+pub record Does {C : Type 0} (told : C → Option (List CoreEntry)) (done : Option PlainStep) (before after : Cell C) : Type 0 where
+  pub desk : DeskDoes told done before.desk after.desk
+  pub count : length after.ends ≡ length before.ends
+  pub ends : (index : ℕ) (e f : SinkEnds) → slice_get before.ends index ≡ Some e → slice_get after.ends index ≡ Some f
+      → IsEndAfter done before.desk.state index e f
+
+-- or those of the one sink that the step is of
+pub record DoesAt {C : Type 0} (told : C → Option (List CoreEntry)) (done : Option PlainStep) (index : ℕ) (before after : Desk C) (e f : SinkEnds) : Type 0 where
+  pub desk : DeskDoes told done before after
+  pub end : IsEndAfter done before.state index e f
+
+-- ---- what is answered
+
+-- messages were handed out until none waited, or the inbox held 256
+abbrev pub Finishes : {C : Type 0} → CoreStep → Cell C → Type 0
+Finishes (asked.Connect conn) after = ⊤
+Finishes (asked.Frame conn f) after = ⊤
+Finishes (asked.Broken conn fault at) after = ⊤
+Finishes (asked.Close conn) after = ⊤
+Finishes (asked.Cut conn) after = ⊤
+Finishes asked.Sweep after = ⊤
+Finishes (asked.Notice sink) after = ⊤
+Finishes (asked.Out sink) after =
+    (e : SinkEnds) → slice_get after.ends sink.0 ≡ Some e → (waiting_for after.desk.state sink ≡ []) ⊎ Held 256 (IsHeldOf e.posted)
+
+-- no notice of the sink was kept
+abbrev pub Lacks : {C : Type 0} → CoreStep → Cell C → Type 0
+Lacks (asked.Connect conn) before = ⊥
+Lacks (asked.Frame conn f) before = ⊥
+Lacks (asked.Broken conn fault at) before = ⊥
+Lacks (asked.Close conn) before = ⊥
+Lacks (asked.Cut conn) before = ⊥
+Lacks asked.Sweep before = ⊥
+Lacks (asked.Notice sink) before = (e : SinkEnds) → slice_get before.ends sink.0 ≡ Some e → e.kept ≡ None
+Lacks (asked.Out sink) before = ⊥
+
+-- a step that was done, with its effects
+pub record IsDone {C : Type 0} (told : C → Option (List CoreEntry)) (step : CoreStep) (before after : Cell C) (effects : List Effect) : Type 0 where
+  pub entry : PlainStep
+  pub entry_for : IsEntryFor step entry
+  pub does : Does told (Some entry) before after
+  pub effects_are : effects ≡ effects_by spec_of before.desk.state (steps_of entry)
+  pub finishes : Finishes step after
+  pub fault : after.desk.fault ≡ before.desk.fault
+
+-- a step for which no sweep was owed, and that can be counted
+pub record IsFree {C : Type 0} (step : CoreStep) (before : Cell C) : Type 0 where
+  pub paid : before.desk.owed && waits step ≡ false
+  pub countable : before.desk.steps < 2 ^ 64 - 1
+
+-- what such a step answers
+abbrev pub FreeGives : {C : Type 0} → (C → Option (List CoreEntry)) → CoreStep → Cell C → Cell C → Result (Option (List Effect)) StepFault → Type 0
+FreeGives told step before after (Ok (Some effects)) = IsDone told step before after effects
+FreeGives told step before after (Ok None) = Lacks step before × (after ≡ before)
+FreeGives told step before after (Err NoMemory) = Does told None before after × (after.desk.fault ≡ before.desk.fault)
+FreeGives told step before after (Err Worn) = ⊥
+FreeGives told step before after (Err (Recorder why)) = Does told None before after × (after.desk.fault ≡ option_or before.desk.fault (Some why))
+FreeGives told step before after (Err (Owed back)) = ⊥
+
+-- what any step answers
+abbrev pub StepGives : {C : Type 0} → (C → Option (List CoreEntry)) → CoreStep → Cell C → Cell C → Result (Option (List Effect)) StepFault → Type 0
+StepGives told step before after (Ok o) = IsFree step before × FreeGives told step before after (Ok o)
+StepGives told step before after (Err NoMemory) = IsFree step before × FreeGives told step before after (Err NoMemory)
+StepGives told step before after (Err Worn) = (before.desk.owed && waits step ≡ false) × (before.desk.steps ≡ 2 ^ 64 - 1) × (after ≡ before)
+StepGives told step before after (Err (Recorder why)) = IsFree step before × FreeGives told step before after (Err (Recorder why))
+StepGives told step before after (Err (Owed back)) = (before.desk.owed && waits step ≡ true) × (back ≡ step) × (after ≡ before)
+
+-- ---- what its parts answer
+
+-- a step in which no sink has a part, where its core is stepped; none stands for the two others
+abbrev pub step_for : CoreStep → Step PlainStream
+step_for (asked.Connect conn) = Step.connect conn
+step_for (asked.Frame conn f) = Step.frame conn f
+step_for (asked.Broken conn fault at) = Step.broken conn fault at
+step_for (asked.Close conn) = Step.close conn
+step_for (asked.Cut conn) = Step.cut conn
+step_for asked.Sweep = Step.sweep
+step_for (asked.Notice sink) = Step.out sink
+step_for (asked.Out sink) = Step.out sink
+
+abbrev pub ReadyFails : StepFault → Option RecordFault → Option RecordFault → Type 0
+ReadyFails e before after = (why : RecordFault) × (e ≡ Recorder why) × (after ≡ option_or before (Some why))
+
+-- a step that no sink has a part in
+abbrev pub OwnGives : {C : Type 0} → (C → Option (List CoreEntry)) → CoreStep → Desk C → Desk C → Result (List Effect) StepFault → Type 0
+OwnGives told step before after (Ok effects) =
+    (d : PlainStep) × IsEntryFor step d × DeskDoes told (Some d) before after × (effects ≡ effects_by spec_of before.state (steps_of d)) × (after.fault ≡ before.fault)
+OwnGives told step before after (Err NoMemory) = DeskDoes told None before after × (after.fault ≡ before.fault)
+OwnGives told step before after (Err Worn) = ⊥
+OwnGives told step before after (Err (Recorder why)) = DeskDoes told None before after × (after.fault ≡ option_or before.fault (Some why))
+OwnGives told step before after (Err (Owed back)) = ⊥
+
+-- a notice of the sink with an index
+abbrev pub NoticeGives : {C : Type 0} → (C → Option (List CoreEntry)) → ℕ → Desk C → Desk C → SinkEnds → SinkEnds → Result (Option (List Effect)) StepFault → Type 0
+NoticeGives told index before after e f (Ok (Some effects)) =
+    (n : Notice PlainStream) × DoesAt told (Some (plain.Notice index (plain_notice n))) index before after e f
+    × (effects ≡ effects_by spec_of before.state (steps_of (plain.Notice index (plain_notice n)))) × (after.fault ≡ before.fault)
+NoticeGives told index before after e f (Ok None) = (e.kept ≡ None) × (f ≡ e) × (after ≡ before)
+NoticeGives told index before after e f (Err NoMemory) = DoesAt told None index before after e f × (after.fault ≡ before.fault)
+NoticeGives told index before after e f (Err Worn) = ⊥
+NoticeGives told index before after e f (Err (Recorder why)) = DoesAt told None index before after e f × (after.fault ≡ option_or before.fault (Some why))
+NoticeGives told index before after e f (Err (Owed back)) = ⊥
+
+-- nothing waits for a sink, or its inbox held 256 of those that were posted
+abbrev pub HandsAll : SinkId → State PlainStream → SinkEnds → Type 0
+HandsAll sink state e = (waiting_for state sink ≡ []) ⊎ Held 256 (IsHeldOf e.posted)
+
+-- a notice that wasn't kept is taken, and kept then, if the outbox has one
+pub record Fetches (e f : SinkEnds) : Type 0 where
+  pub key : f.key ≡ e.key
+  pub posted : f.posted ≡ e.posted
+  pub took : List (Notice PlainStream)
+  pub taken : f.taken ≡ e.taken ++ took
+  pub kept : option_to_list e.kept ++ took ≡ option_to_list f.kept
+  pub none : f.kept ≡ None → f ≡ e
+
+-- the first message that waits for a sink is posted
+pub record PostsOne (sink : SinkId) (before after : State PlainStream) (e f : SinkEnds) : Type 0 where
+  pub message : Msg PlainStream
+  pub next : next_for before sink ≡ Some message
+  pub state : after ≡ handed_out sink before
+  pub ends : f ≡ record e { posted = e.posted ++ message ∷ [] }
+
+-- and so many of them
+pub record PostsMany (sink : SinkId) (count : ℕ) (before after : State PlainStream) (e f : SinkEnds) : Type 0 where
+  pub state : after ≡ stepped_by spec_of before (replicate count (Step.out sink))
+  pub ends : f ≡ record e { posted = e.posted ++ told_by spec_of sink before (replicate count (Step.out sink)) }
+
+-- the messages of the sink with an index
+abbrev pub OutGives : {C : Type 0} → (C → Option (List CoreEntry)) → SinkId → Desk C → Desk C → SinkEnds → SinkEnds → Result Unit StepFault → Type 0
+OutGives told sink before after e f (Ok done) =
+    (count : ℕ) × DoesAt told (Some (plain.Out sink.0 count)) sink.0 before after e f × HandsAll sink after.state f × (after.fault ≡ before.fault)
+OutGives told sink before after e f (Err NoMemory) = ⊥
+OutGives told sink before after e f (Err Worn) = ⊥
+OutGives told sink before after e f (Err (Recorder why)) = DoesAt told None sink.0 before after e f × (after.fault ≡ option_or before.fault (Some why))
+OutGives told sink before after e f (Err (Owed back)) = ⊥
+
+-- no messages, to a sink that isn't there
+abbrev pub NowhereGives : {C : Type 0} → (C → Option (List CoreEntry)) → ℕ → StepLog C → StepLog C → Result Unit StepFault → Type 0
+NowhereGives told index before after (Ok done) = (state : State PlainStream) → DeskDoes told (Some (plain.Out index 0)) (desk_of state before) (desk_of state after) × (after.fault ≡ before.fault)
+NowhereGives told index before after (Err NoMemory) = ⊥
+NowhereGives told index before after (Err Worn) = ⊥
+NowhereGives told index before after (Err (Recorder why)) = (state : State PlainStream) → DeskDoes told None (desk_of state before) (desk_of state after) × (after.fault ≡ option_or before.fault (Some why))
+NowhereGives told index before after (Err (Owed back)) = ⊥

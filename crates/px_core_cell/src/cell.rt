@@ -1,0 +1,169 @@
+//! The core's lock.
+
+ghost use Rattle.std.specs.Prelude.{◌≡◌, ◌+◌, ◌<◌, ◌≤◌, [], Some, map, IfSome, MatchResult, MatchOption};
+ghost use Rattle.px_core_cell.specs.Cell.{ends_of, cell_of};
+ghost use Rattle.px_core_cell.specs.History.{Begins, IsCell};
+ghost use Rattle.px_core_cell.specs.Step.{IsAsked};
+ghost use Rattle.px_core_cell.specs.Seat.{Counts};
+
+use crate::ends::CoreEnds;
+use crate::parcel::CellCore;
+use crate::parts::CoreParts;
+use crate::seat::{CoreSeat, Seats};
+use crate::state::CoreState;
+use crate::step::{CoreStep, StepFault};
+use px_annals::{CoreEntry, Recorder};
+use px_core::Effects;
+use std::alloc::Global;
+use std::marker::Model;
+use std::mem;
+use std::sync::ledger::{Blank, Book, Share};
+use std::sync::{Mutex, Wait};
+
+// A core with the book of its steps.
+#[derive(Drop)]
+struct Live<C: Recorder<CoreEntry>, L: Seats> {
+    state: CoreState<C>,
+    book: Book<L>,
+}
+
+impl<C: Recorder<CoreEntry>, L: Seats> Model for Live<C, L> {
+    ghost use Rattle.std.specs.Prelude.{◌≡◌};
+    ghost use Rattle.px_core_cell.specs.History.{Course, IsCell};
+
+    ghost Value = { Course C };
+
+    ghost view = { λ l. l.state };
+
+    ghost invariant = { λ l. (l.state.began ≡ L.began) × (l.book.total ≡ l.state.cell.desk.steps) × (L.parts ≡ L.all) };
+}
+
+// All parts of a ledger.
+#[derive(Drop)]
+struct Whole<L: Seats> {
+    share: Share<L>,
+}
+
+impl<L: Seats> Model for Whole<L> {
+    ghost use Rattle.std.specs.Prelude.{◌≡◌, ℕ};
+
+    ghost Value = { ℕ };
+
+    ghost view = { λ w. w.share.amount };
+
+    ghost invariant = { λ w. (w.share.parts ≡ L.all) × (L.parts ≡ L.all) };
+}
+
+impl<C: Recorder<CoreEntry>, L: Seats> Live<C, L> {
+    // One step, counted in the seat where it is done.
+    fn step<R: Wait>(
+        &mut self,
+        rt: &R,
+        alloc: Global,
+        step: CoreStep,
+        seat: &mut CoreSeat<L>,
+    ) -> Result<Option<Effects>, StepFault>
+        requires { IsAsked step }
+        ensures { Counts result seat.old seat.new }
+    {
+        let answer = self.state.step(rt, alloc, step)?;
+        if answer.is_some() {
+            self.book.add(&mut seat.share, 1);
+        }
+        Ok(answer)
+    }
+
+    // No seat counts more steps than were done.
+    fn audit(&mut self, seat: &mut CoreSeat<L>)
+        ensures { (self.new ≡ self.old) × (seat.new ≡ seat.old) × (seat.old.steps ≤ self.old.cell.desk.steps) }
+    {
+        self.book.audit(&mut seat.share);
+    }
+}
+
+// No seat and all parts are there at once.
+fn meet<L: Seats>(seat: &mut CoreSeat<L>, whole: &mut Whole<L>)
+    ensures { ⊥ }
+{
+    seat.share.give(&mut whole.share, 0, 0);
+}
+
+// The core until it is taken; then all parts.
+#[derive(Drop)]
+enum Slot<C: Recorder<CoreEntry>, L: Seats> {
+    Live(Live<C, L>),
+    Taken(Whole<L>),
+}
+
+/// The core under its lock (PulseAudio runs `pa_core` in one thread, its main loop; own). Whenever the lock is free, what lies under it keeps
+/// its history.
+#[derive(Drop)]
+pub struct CoreCell<C: Recorder<CoreEntry>, L: Seats> {
+    slot: Mutex<Slot<C, L>>,
+}
+
+impl<C: Recorder<CoreEntry> + Drop, L: Seats> CoreCell<C, L> {
+    /// A core before its first step under a lock, as `CoreState::new` has it, and a seat with all parts. Takes no memory.
+    pub fn new(
+        blank: Blank,
+        core: CellCore,
+        recorder: C,
+        ends: CoreEnds,
+    ) -> (CoreCell<C, L>, CoreSeat<L>)
+        requires name { blank.name ≡ L.name }
+        requires parts { (blank.parts ≡ L.parts) × (L.parts ≡ L.all) × (0 < L.all) }
+        requires began { core.state ≡ L.began }
+        requires begins { Begins core.state (map ends_of ends.items) }
+        requires none { IfSome (C.told recorder) (λ entries. entries ≡ []) }
+        ensures { result.1 ≡ record { parts = L.all; steps = 0 } }
+    {
+        let (book, share) = blank.open::<L>();
+        let state = CoreState::new(core, recorder, ends);
+        (
+            CoreCell {
+                slot: Mutex::new(Slot::Live(Live { state, book })),
+            },
+            CoreSeat { share },
+        )
+    }
+
+    /// Takes the lock and does one step, as `CoreState::step` says. The seat counts one more exactly where the answer is `Ok(Some)`.
+    pub fn step<R: Wait>(
+        &self,
+        rt: &R,
+        alloc: Global,
+        step: CoreStep,
+        seat: &mut CoreSeat<L>,
+    ) -> Result<Option<Effects>, StepFault>
+        requires { IsAsked step }
+        ensures { Counts result seat.old seat.new }
+    {
+        let mut slot = self.slot.lock(rt);
+        match &mut *slot {
+            Slot::Live(live) => live.step(rt, alloc, step, seat),
+            Slot::Taken(whole) => {
+                meet(seat, whole);
+                unreachable!()
+            }
+        }
+    }
+
+    /// Takes the lock and hands out what lies under it, by the seat with all parts. At least as many steps were done as the seat counts.
+    pub fn take_parts<R: Wait>(&self, rt: &R, seat: CoreSeat<L>) -> CoreParts<C>
+        requires { seat.parts ≡ L.all }
+        ensures history { IsCell C.told L.began (cell_of result) }
+        ensures steps { seat.steps ≤ result.log.steps }
+    {
+        let mut seat = seat;
+        let mut slot = self.slot.lock(rt);
+        match &mut *slot {
+            Slot::Live(live) => live.audit(&mut seat),
+            Slot::Taken(whole) => meet(&mut seat, whole),
+        }
+        let CoreSeat { share } = seat;
+        match mem::replace(&mut *slot, Slot::Taken(Whole { share })) {
+            Slot::Live(Live { state, book: _ }) => state.into_parts(),
+            Slot::Taken(_) => unreachable!(),
+        }
+    }
+}

@@ -1,0 +1,52 @@
+//! The steps that were done under the core's lock, counted and recorded.
+
+ghost use Rattle.std.specs.Prelude.{◌≡◌, ◌+◌, ◌-◌, ◌^◌, ◌<◌, OnOk, MatchResult};
+ghost use Rattle.px_annals.specs.History.{noted};
+ghost use Rattle.px_annals.specs.Size.{size_of_core_entry};
+ghost use Rattle.px_core_cell.specs.Step.{ReadyFails};
+
+use crate::step::StepFault;
+use px_annals::{CoreEntry, RecordFault, Recorder};
+
+/// The recorder of the core's history with its first fault, how many steps were done, and whether a sweep is owed: one is from each step that
+/// is neither a sweep nor the handing out of messages to the next sweep.
+#[derive(Drop)]
+pub struct StepLog<C> {
+    pub recorder: C,
+    pub fault: Option<RecordFault>,
+    pub steps: u64,
+    pub owed: bool,
+}
+
+impl<C: Recorder<CoreEntry>> StepLog<C> {
+    /// The recorder takes room for an entry of so many bytes. Its first fault is kept.
+    pub(crate) fn ready(&mut self, bytes: usize) -> Result<(), StepFault>
+        ensures takes { OnOk result (C.takes self.new.recorder bytes) }
+        ensures told { C.told self.new.recorder ≡ C.told self.old.recorder }
+        ensures fault { MatchResult result (λ _. self.new.fault ≡ self.old.fault) (λ e. ReadyFails e self.old.fault self.new.fault) }
+        ensures steps { self.new.steps ≡ self.old.steps }
+        ensures owed { self.new.owed ≡ self.old.owed }
+    {
+        match self.recorder.ready(bytes) {
+            Ok(()) => Ok(()),
+            Err(why) => {
+                self.fault = self.fault.or(Some(why));
+                Err(StepFault::Recorder(why))
+            }
+        }
+    }
+
+    /// Notes a step that was done, and whether a sweep is owed now. Takes no memory.
+    pub(crate) fn note(&mut self, entry: CoreEntry, owed: bool)
+        requires takes { C.takes self.old.recorder (size_of_core_entry entry) }
+        requires steps { self.old.steps < 2 ^ 64 - 1 }
+        ensures told { C.told self.new.recorder ≡ noted entry (C.told self.old.recorder) }
+        ensures fault { self.new.fault ≡ self.old.fault }
+        ensures steps { self.new.steps ≡ self.old.steps + 1 }
+        ensures owed { self.new.owed ≡ owed }
+    {
+        self.recorder.note(entry);
+        self.steps += 1;
+        self.owed = owed;
+    }
+}

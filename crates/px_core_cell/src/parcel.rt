@@ -1,0 +1,169 @@
+//! A stream on its way from one sink to another, as the core under the lock carries it.
+
+ghost use Rattle.std.specs.Prelude.{◌≡◌, IfOk};
+ghost use Rattle.px_core_cell.specs.Parcel.{seen_message, seen_notice};
+
+use px_annals::PlainStream;
+use px_core::Core;
+use px_msg::{Msg, Notice, Parcel};
+use px_sample::Spec;
+use px_stream::Stream;
+use px_types::Mem;
+use std::alloc::Global;
+use std::marker::Model;
+
+/// A stream between two sinks (PulseAudio: a sink input between `pa_sink_input_start_move` and `pa_sink_input_finish_move`). Contracts see
+/// it as a history has it: its plain numbers and bytes.
+#[derive(Debug, Drop)]
+pub struct Carried {
+    stream: Stream,
+}
+
+/// The core of a live server.
+pub type CellCore = Core<Carried>;
+
+impl Model for Carried {
+    ghost use Rattle.px_annals.specs.declared.stream.PlainStream.{PlainStream};
+    ghost use Rattle.px_core_cell.specs.Parcel.{plain_parcel};
+
+    ghost Value = { PlainStream };
+
+    ghost view = { λ c. plain_parcel c.stream };
+}
+
+impl Parcel for Carried {
+    ghost use Rattle.px_core_cell.specs.Parcel.{spec_of};
+
+    ghost spec_of = { spec_of };
+
+    fn spec(&self) -> Spec {
+        self.stream.spec()
+    }
+}
+
+impl Carried {
+    /// All that it is, as plain numbers and bytes.
+    pub(crate) fn plain(&self, alloc: Global) -> Mem<PlainStream>
+        ensures { IfOk result (λ plain. plain ≡ self.now) }
+    {
+        self.stream.plain(alloc)
+    }
+}
+
+/// A message of the core as its sink's mixer takes it: a stream that comes is a stream again. Takes no memory.
+pub(crate) fn taken_over(message: Msg<Carried>) -> Msg<Stream>
+    ensures { seen_message result ≡ message }
+{
+    match message {
+        Msg::New(stream) => Msg::New(stream),
+        Msg::Attach {
+            input,
+            parcel,
+            feed,
+            factors,
+        } => Msg::Attach {
+            input,
+            parcel: parcel.stream,
+            feed,
+            factors,
+        },
+        Msg::Detach { input } => Msg::Detach { input },
+        Msg::Write {
+            input,
+            seek,
+            offset,
+            frames,
+            bytes,
+        } => Msg::Write {
+            input,
+            seek,
+            offset,
+            frames,
+            bytes,
+        },
+        Msg::Cork { input, on } => Msg::Cork { input, on },
+        Msg::Flush { input } => Msg::Flush { input },
+        Msg::Trigger { input } => Msg::Trigger { input },
+        Msg::Prebuf { input } => Msg::Prebuf { input },
+        Msg::Drain { input, tag } => Msg::Drain { input, tag },
+        Msg::Attr { input, attr } => Msg::Attr { input, attr },
+        Msg::Factors(factors) => Msg::Factors(factors),
+        Msg::Query { input, tag } => Msg::Query { input, tag },
+    }
+}
+
+/// A message that a full mailbox handed back, as the core has it. Takes no memory.
+pub(crate) fn taken_back(message: Msg<Stream>) -> Msg<Carried>
+    ensures { result ≡ seen_message message }
+{
+    match message {
+        Msg::New(stream) => Msg::New(stream),
+        Msg::Attach {
+            input,
+            parcel,
+            feed,
+            factors,
+        } => Msg::Attach {
+            input,
+            parcel: Carried { stream: parcel },
+            feed,
+            factors,
+        },
+        Msg::Detach { input } => Msg::Detach { input },
+        Msg::Write {
+            input,
+            seek,
+            offset,
+            frames,
+            bytes,
+        } => Msg::Write {
+            input,
+            seek,
+            offset,
+            frames,
+            bytes,
+        },
+        Msg::Cork { input, on } => Msg::Cork { input, on },
+        Msg::Flush { input } => Msg::Flush { input },
+        Msg::Trigger { input } => Msg::Trigger { input },
+        Msg::Prebuf { input } => Msg::Prebuf { input },
+        Msg::Drain { input, tag } => Msg::Drain { input, tag },
+        Msg::Attr { input, attr } => Msg::Attr { input, attr },
+        Msg::Factors(factors) => Msg::Factors(factors),
+        Msg::Query { input, tag } => Msg::Query { input, tag },
+    }
+}
+
+/// A notice of a sink's mixer as the core takes it: a stream that leaves is carried. Takes no memory.
+pub(crate) fn handed_over(notice: Notice<Stream>) -> Notice<Carried>
+    ensures { result ≡ seen_notice notice }
+{
+    match notice {
+        Notice::Request { input, frames } => Notice::Request { input, frames },
+        Notice::Overflow { input } => Notice::Overflow { input },
+        Notice::Underflow { input } => Notice::Underflow { input },
+        Notice::Started { input } => Notice::Started { input },
+        Notice::Drained { input, tag } => Notice::Drained { input, tag },
+        Notice::Detached { input, parcel } => Notice::Detached {
+            input,
+            parcel: Carried { stream: parcel },
+        },
+        Notice::Latency {
+            input,
+            tag,
+            write,
+            read,
+            buffered,
+            playing,
+            run,
+        } => Notice::Latency {
+            input,
+            tag,
+            write,
+            read,
+            buffered,
+            playing,
+            run,
+        },
+    }
+}

@@ -1,0 +1,230 @@
+//! What lies under the core's lock, and its steps.
+
+ghost use Rattle.std.specs.Prelude.{◌≡◌, ◌-◌, ◌^◌, ◌<◌, Some, true, slice_get, Ok, Err, MatchResult};
+ghost use Rattle.px_session.specs.declared.header.SinkSpec.{SinkSpec};
+ghost use Rattle.px_core.specs.Keeps.{IsKept};
+ghost use Rattle.px_core_cell.specs.declared.step.CoreStep.TheVariants as asked;
+ghost use Rattle.px_core_cell.specs.Cell.{ends_of, desk_of, cell_of};
+ghost use Rattle.px_core_cell.specs.History.{IsHeard, IsSound};
+ghost use Rattle.px_core_cell.specs.Parcel.{spec_of};
+ghost use Rattle.px_core_cell.specs.Step.{is_own, waits, IsAsked, IsFree, OwnGives, NoticeGives, OutGives, NowhereGives, FreeGives, StepGives};
+
+use crate::act::{act, plain_step};
+use crate::ends::{CoreEnd, CoreEnds};
+use crate::log::StepLog;
+use crate::parcel::CellCore;
+use crate::plain::plain_notice;
+use crate::step::{CoreStep, StepFault};
+use px_annals::{CoreEntry, Entry, PlainStep, Recorder};
+use px_core::Effects;
+use px_types::SinkId;
+use std::alloc::Global;
+use std::sync::Wait;
+
+/// The core, the log of its steps, and its ends of each sink's mailboxes.
+#[derive(Drop)]
+pub struct CoreParts<C> {
+    pub core: CellCore,
+    pub log: StepLog<C>,
+    pub ends: CoreEnds,
+}
+
+// A step that no sink has a part in.
+fn own_step<C: Recorder<CoreEntry>>(
+    alloc: Global,
+    core: &mut CellCore,
+    log: &mut StepLog<C>,
+    step: CoreStep,
+) -> Result<Effects, StepFault>
+    requires own { is_own step ≡ true }
+    requires asked { IsAsked step }
+    requires countable { log.old.steps < 2 ^ 64 - 1 }
+    ensures { OwnGives C.told step (desk_of core.old.state log.old) (desk_of core.new.state log.new) result }
+{
+    let owed = !matches!(step, CoreStep::Sweep);
+    let entry = CoreEntry {
+        step: plain_step(alloc, &step)?,
+    };
+    log.ready(entry.size())?;
+    let effects = act(alloc, core, step)?;
+    log.note(entry, owed);
+    Ok(effects)
+}
+
+// The next notice of a sink, if there is one.
+fn notice_step<C: Recorder<CoreEntry>, R: Wait>(
+    rt: &R,
+    alloc: Global,
+    core: &mut CellCore,
+    log: &mut StepLog<C>,
+    end: &mut CoreEnd,
+    sink: SinkId,
+) -> Result<Option<Effects>, StepFault>
+    requires countable { log.old.steps < 2 ^ 64 - 1 }
+    ensures { NoticeGives C.told sink.0 (desk_of core.old.state log.old) (desk_of core.new.state log.new) (ends_of end.old) (ends_of end.new) result }
+{
+    end.fetch(rt);
+    let Some(notice) = &end.kept else {
+        return Ok(None);
+    };
+    let entry = CoreEntry {
+        step: PlainStep::Notice {
+            sink: sink.0,
+            notice: plain_notice(alloc, notice)?,
+        },
+    };
+    log.ready(entry.size())?;
+    let effects = end.collect(core, sink)?;
+    log.note(entry, true);
+    Ok(Some(effects))
+}
+
+// The messages that wait for a sink, to its inbox.
+fn out_step<C: Recorder<CoreEntry>, R: Wait>(
+    rt: &R,
+    core: &mut CellCore,
+    log: &mut StepLog<C>,
+    end: &mut CoreEnd,
+    sink: SinkId,
+) -> Result<(), StepFault>
+    requires countable { log.old.steps < 2 ^ 64 - 1 }
+    requires kept { IsKept spec_of core.old.state }
+    requires heard { (s : SinkSpec) × (slice_get core.old.state.sinks sink.0 ≡ Some s) × IsHeard core.old.state sink.0 s (ends_of end.old) }
+    ensures { OutGives C.told sink (desk_of core.old.state log.old) (desk_of core.new.state log.new) (ends_of end.old) (ends_of end.new) result }
+{
+    log.ready(64)?;
+    let count = end.post_waiting(rt, core, sink);
+    let owed = log.owed;
+    log.note(
+        CoreEntry {
+            step: PlainStep::Out {
+                sink: sink.0,
+                count,
+            },
+        },
+        owed,
+    );
+    Ok(())
+}
+
+// No messages, to a sink that isn't there.
+fn nowhere_step<C: Recorder<CoreEntry>>(
+    log: &mut StepLog<C>,
+    sink: SinkId,
+) -> Result<(), StepFault>
+    requires countable { log.old.steps < 2 ^ 64 - 1 }
+    ensures { NowhereGives C.told sink.0 log.old log.new result }
+{
+    log.ready(64)?;
+    let owed = log.owed;
+    log.note(
+        CoreEntry {
+            step: PlainStep::Out {
+                sink: sink.0,
+                count: 0,
+            },
+        },
+        owed,
+    );
+    Ok(())
+}
+
+impl<C: Recorder<CoreEntry>> CoreParts<C> {
+    // A sink's notice, where more steps can be counted.
+    fn notice<R: Wait>(
+        &mut self,
+        rt: &R,
+        alloc: Global,
+        sink: SinkId,
+    ) -> Result<Option<Effects>, StepFault>
+        requires countable { self.old.log.steps < 2 ^ 64 - 1 }
+        ensures { FreeGives C.told (asked.Notice sink) (cell_of self.old) (cell_of self.new) result }
+    {
+        let CoreParts { core, log, ends } = self;
+        let place = sink.0 as usize;
+        if place < ends.len() {
+            notice_step(rt, alloc, core, log, &mut ends[place], sink)
+        } else {
+            Ok(None)
+        }
+    }
+
+    // The messages that wait for a sink, where more steps can be counted.
+    fn out<R: Wait>(&mut self, rt: &R, alloc: Global, sink: SinkId) -> Result<Effects, StepFault>
+        requires countable { self.old.log.steps < 2 ^ 64 - 1 }
+        requires sound { IsSound (cell_of self.old) }
+        ensures { MatchResult result (λ effects. FreeGives C.told (asked.Out sink) (cell_of self.old) (cell_of self.new) (Ok (Some effects))) (λ e. FreeGives C.told (asked.Out sink) (cell_of self.old) (cell_of self.new) (Err e)) }
+    {
+        let CoreParts { core, log, ends } = self;
+        let place = sink.0 as usize;
+        if place < ends.len() {
+            out_step(rt, core, log, &mut ends[place], sink)?;
+        } else {
+            nowhere_step(log, sink)?;
+        }
+        Ok(Effects::new(alloc))
+    }
+
+    // A step that no sink has a part in, where more steps can be counted.
+    fn own(&mut self, alloc: Global, step: CoreStep) -> Result<Effects, StepFault>
+        requires own { is_own step ≡ true }
+        requires asked { IsAsked step }
+        requires countable { self.old.log.steps < 2 ^ 64 - 1 }
+        ensures { MatchResult result (λ effects. FreeGives C.told step (cell_of self.old) (cell_of self.new) (Ok (Some effects))) (λ e. FreeGives C.told step (cell_of self.old) (cell_of self.new) (Err e)) }
+    {
+        let CoreParts { core, log, ends: _ } = self;
+        own_step(alloc, core, log, step)
+    }
+
+    // A step for which no sweep is owed, where more steps can be counted.
+    fn free_step<R: Wait>(
+        &mut self,
+        rt: &R,
+        alloc: Global,
+        step: CoreStep,
+    ) -> Result<Option<Effects>, StepFault>
+        requires asked { IsAsked step }
+        requires countable { self.old.log.steps < 2 ^ 64 - 1 }
+        requires sound { IsSound (cell_of self.old) }
+        ensures { FreeGives C.told step (cell_of self.old) (cell_of self.new) result }
+    {
+        match step {
+            CoreStep::Notice(sink) => self.notice(rt, alloc, sink),
+            CoreStep::Out(sink) => match self.out(rt, alloc, sink) {
+                Ok(effects) => Ok(Some(effects)),
+                Err(fault) => Err(fault),
+            },
+            step => match self.own(alloc, step) {
+                Ok(effects) => Ok(Some(effects)),
+                Err(fault) => Err(fault),
+            },
+        }
+    }
+
+    /// Does a step, as `CoreState::step` says.
+    pub(crate) fn step<R: Wait>(
+        &mut self,
+        rt: &R,
+        alloc: Global,
+        step: CoreStep,
+    ) -> Result<Option<Effects>, StepFault>
+        requires asked { IsAsked step }
+        requires sound { IsSound (cell_of self.old) }
+        ensures { StepGives C.told step (cell_of self.old) (cell_of self.new) result }
+    {
+        if self.log.owed && waits(&step) {
+            return Err(StepFault::Owed(step));
+        }
+        if self.log.steps == u64::MAX {
+            return Err(StepFault::Worn);
+        }
+        self.free_step(rt, alloc, step)
+    }
+}
+
+// Whether a step waits for a sweep that is owed.
+fn waits(step: &CoreStep) -> bool
+    ensures { result ≡ waits step.now }
+{
+    !matches!(step, CoreStep::Sweep | CoreStep::Out(_))
+}

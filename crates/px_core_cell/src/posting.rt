@@ -1,0 +1,90 @@
+//! What goes through the core's ends of a sink's mailboxes.
+
+ghost use Rattle.std.specs.Prelude.{◌≡◌, None, Some, true, false, slice_get, IsSome, IfSome, IfOk, OnOk, OnErr};
+ghost use Rattle.px_session.specs.declared.header.SinkSpec.{SinkSpec};
+ghost use Rattle.px_core.specs.Keeps.{IsKept};
+ghost use Rattle.px_core.specs.Step.{Step, stepped, effects_of};
+ghost use Rattle.px_core_cell.specs.Cell.{ends_of};
+ghost use Rattle.px_core_cell.specs.History.{IsHeard};
+ghost use Rattle.px_core_cell.specs.Parcel.{spec_of};
+ghost use Rattle.px_core_cell.specs.Step.{Fetches, PostsOne, PostsMany, HandsAll};
+
+use crate::ends::CoreEnd;
+use crate::parcel::{CellCore, handed_over, taken_back, taken_over};
+use px_core::Effects;
+use px_mail::Full;
+use px_types::{Mem, NoMemory, SinkId};
+use std::sync::Wait;
+
+impl CoreEnd {
+    /// Where no notice is kept, the sink's next one is taken from its outbox and kept.
+    pub(crate) fn fetch<R: Wait>(&mut self, rt: &R)
+        ensures fetches { Fetches (ends_of self.old) (ends_of self.new) }
+    {
+        if self.kept.is_none() {
+            match self.outbox.take(rt, &mut self.take) {
+                None => {}
+                Some(notice) => self.kept = Some(handed_over(notice)),
+            }
+        }
+    }
+
+    /// The kept notice goes to the core. Without memory for it, it stays kept and nothing has changed.
+    pub(crate) fn collect(&mut self, core: &mut CellCore, sink: SinkId) -> Mem<Effects>
+        requires { IsSome self.old.kept }
+        ensures done { IfOk result (λ effects. IfSome self.old.kept (λ n. (core.new.state ≡ stepped spec_of core.old.state (Step.notice sink n)) × (effects ≡ effects_of spec_of core.old.state (Step.notice sink n)))) }
+        ensures used { OnOk result (ends_of self.new ≡ record (ends_of self.old) { kept = None }) }
+        ensures err { OnErr result ((core.new.state ≡ core.old.state) × (ends_of self.new ≡ ends_of self.old)) }
+    {
+        let Some(notice) = self.kept.take() else {
+            unreachable!()
+        };
+        match core.notice(sink, notice) {
+            Ok(effects) => Ok(effects),
+            Err(back) => {
+                self.kept = Some(back);
+                Err(NoMemory)
+            }
+        }
+    }
+
+    // The first message that waits for the sink is posted, if the inbox isn't full.
+    fn post_one<R: Wait>(&mut self, rt: &R, core: &mut CellCore, sink: SinkId) -> bool
+        requires kept { IsKept spec_of core.old.state }
+        requires heard { (s : SinkSpec) × (slice_get core.old.state.sinks sink.0 ≡ Some s) × IsHeard core.old.state sink.0 s (ends_of self.old) }
+        ensures posts { result ≡ true → PostsOne sink core.old.state core.new.state (ends_of self.old) (ends_of self.new) }
+        ensures stops { result ≡ false → (core.new.state ≡ core.old.state) × (ends_of self.new ≡ ends_of self.old) × HandsAll sink core.new.state (ends_of self.new) }
+    {
+        let Some(message) = core.sent(sink) else {
+            return false;
+        };
+        match self.inbox.post(rt, &mut self.post, taken_over(message)) {
+            Ok(()) => true,
+            Err(Full(message)) => {
+                core.unsent(sink, taken_back(message));
+                false
+            }
+        }
+    }
+
+    /// The messages that wait for the sink are posted, in order, until none waits or the inbox is full. Answers how many were.
+    pub(crate) fn post_waiting<R: Wait>(
+        &mut self,
+        rt: &R,
+        core: &mut CellCore,
+        sink: SinkId,
+    ) -> u64
+        requires kept { IsKept spec_of core.old.state }
+        requires heard { (s : SinkSpec) × (slice_get core.old.state.sinks sink.0 ≡ Some s) × IsHeard core.old.state sink.0 s (ends_of self.old) }
+        ensures posts { PostsMany sink result core.old.state core.new.state (ends_of self.old) (ends_of self.new) }
+        ensures until { HandsAll sink core.new.state (ends_of self.new) }
+    {
+        let waiting = core.outgoing(sink);
+        for posted in 0..waiting {
+            if !self.post_one(rt, core, sink) {
+                return posted as u64;
+            }
+        }
+        waiting as u64
+    }
+}

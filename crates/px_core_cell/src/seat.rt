@@ -1,0 +1,79 @@
+//! What each thread that steps the core holds.
+
+ghost use Rattle.std.specs.Prelude.{◌≡◌, ◌+◌, ◌<◌};
+
+use std::marker::{Brand, Model};
+use std::sync::ledger::{Ledger, Share};
+
+/// The seats of one core: what they are shares of, and the state that the core began with.
+pub trait Seats: Ledger {
+    ghost use Rattle.std.specs.Prelude.{ℕ};
+    ghost use Rattle.px_annals.specs.declared.stream.PlainStream.{PlainStream};
+    ghost use Rattle.px_core.specs.State.{State};
+
+    /// All its parts.
+    ghost all: { ℕ };
+
+    /// The state of the core before its first step.
+    ghost began: { State PlainStream };
+}
+
+/// A share in the steps of a core. Contracts see how many parts it has, and how many steps were done through it.
+#[derive(Drop)]
+pub struct CoreSeat<L: Seats> {
+    pub(crate) share: Share<L>,
+}
+
+impl<L: Seats> Model for CoreSeat<L> {
+    ghost use Rattle.std.specs.Prelude.{◌≡◌, ◌<◌};
+    ghost use Rattle.px_core_cell.specs.Seat.{Seat};
+
+    ghost Value = { Seat };
+
+    ghost view = { λ s. record { parts = s.share.parts; steps = s.share.amount } };
+
+    ghost invariant = { λ s. (0 < s.share.parts) × (L.parts ≡ L.all) };
+}
+
+impl<L: Seats> CoreSeat<L> {
+    /// A seat of one part and no steps, cut off this one. Takes no memory.
+    pub fn split(&mut self) -> CoreSeat<L>
+        requires { 1 < self.old.parts }
+        ensures split { result ≡ record { parts = 1; steps = 0 } }
+        ensures parts { self.new.parts + 1 ≡ self.old.parts }
+        ensures steps { self.new.steps ≡ self.old.steps }
+    {
+        CoreSeat {
+            share: self.share.split_off(1, 0),
+        }
+    }
+
+    /// Takes in another seat of the same core. Takes no memory.
+    pub fn merge(&mut self, other: CoreSeat<L>)
+        ensures parts { self.new.parts ≡ self.old.parts + other.parts }
+        ensures steps { self.new.steps ≡ self.old.steps + other.steps }
+    {
+        let CoreSeat { share } = other;
+        self.share.merge(share);
+    }
+}
+
+impl Seats for Brand {
+    ghost use Rattle.std.specs.Prelude.{[]};
+
+    ghost all = { 0 };
+
+    ghost began = { record {
+      names = record { cookie = []; sinks = []; fallback = record { 0 = 0 }; clients = [] };
+      sinks = [];
+      connections = [];
+      inputs = [];
+      lists = [];
+      waiting = [];
+      posted = [];
+      delayed = [];
+      groups = [];
+      clients_made = 0;
+      inputs_made = 0;
+    } };
+}

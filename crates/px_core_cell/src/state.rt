@@ -1,0 +1,93 @@
+//! What lies under the core's lock, with what it keeps.
+
+ghost use Rattle.std.specs.Prelude.{◌≡◌, [], map, IfSome};
+ghost use Rattle.px_core_cell.specs.Cell.{ends_of, cell_of};
+ghost use Rattle.px_core_cell.specs.History.{Begins, IsCell, first_cell};
+ghost use Rattle.px_core_cell.specs.Step.{IsAsked, StepGives};
+
+use crate::ends::CoreEnds;
+use crate::log::StepLog;
+use crate::parcel::CellCore;
+use crate::parts::CoreParts;
+use crate::step::{CoreStep, StepFault};
+use px_annals::{CoreEntry, Recorder};
+use px_core::Effects;
+use std::alloc::Global;
+use std::marker::Model;
+use std::snapshot::Snapshot;
+use std::sync::Wait;
+
+/// The core that keeps its history (PulseAudio's `pa_core` keeps none; own). Contracts see the state that it began with and where it stands:
+/// its state, its recorder, how many steps were done, and what went through each sink's mailboxes. Where the recorder tells, the state is the
+/// replay of the entries from the beginning, one entry a step.
+#[derive(Drop)]
+pub struct CoreState<C: Recorder<CoreEntry>> {
+    began: Snapshot<CellCore>,
+    parts: CoreParts<C>,
+}
+
+impl<C: Recorder<CoreEntry>> Model for CoreState<C> {
+    ghost use Rattle.px_core_cell.specs.Cell.{cell_of};
+    ghost use Rattle.px_core_cell.specs.History.{Course, IsCell};
+
+    ghost Value = { Course C };
+
+    ghost view = { λ s. record { began = s.began.value.state; cell = cell_of s.parts } };
+
+    ghost invariant = { λ s. IsCell C.told s.began.value.state (cell_of s.parts) };
+}
+
+impl<C: Recorder<CoreEntry>> CoreState<C> {
+    /// A core before its first step, with a recorder that holds nothing where it tells, and mailboxes that have moved nothing, each inbox for its
+    /// sink's sample spec. Takes no memory.
+    pub fn new(core: CellCore, recorder: C, ends: CoreEnds) -> CoreState<C>
+        requires begins { Begins core.state (map ends_of ends.items) }
+        requires none { IfSome (C.told recorder) (λ entries. entries ≡ []) }
+        ensures { result ≡ record { began = core.state; cell = first_cell core.state recorder (map ends_of ends.items) } }
+    {
+        CoreState {
+            began: Snapshot::of(&core),
+            parts: CoreParts {
+                core,
+                log: StepLog {
+                    recorder,
+                    fault: None,
+                    steps: 0,
+                    owed: false,
+                },
+                ends,
+            },
+        }
+    }
+
+    /// Does one step. A step that is neither a sweep nor the handing out of messages is handed back while a sweep is owed; 2^64 - 1 steps can be
+    /// counted. `None` for the notice of a sink that has none. A step that is done is noted by one entry, and answered by the core's effects.
+    pub fn step<R: Wait>(
+        &mut self,
+        rt: &R,
+        alloc: Global,
+        step: CoreStep,
+    ) -> Result<Option<Effects>, StepFault>
+        requires asked { IsAsked step }
+        ensures gives { StepGives C.told step self.old.cell self.new.cell result }
+        ensures began { self.new.began ≡ self.old.began }
+        ensures history { IsCell C.told self.new.began self.new.cell }
+    {
+        self.parts.step(rt, alloc, step)
+    }
+
+    /// How many steps were done. Takes no memory.
+    pub fn steps(&self) -> u64
+        ensures { result ≡ self.now.cell.desk.steps }
+    {
+        self.parts.log.steps
+    }
+
+    /// All that it is made of. Takes no memory.
+    pub fn into_parts(self) -> CoreParts<C>
+        ensures parts { cell_of result ≡ self.cell }
+        ensures history { IsCell C.told self.began (cell_of result) }
+    {
+        self.parts
+    }
+}

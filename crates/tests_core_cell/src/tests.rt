@@ -1,0 +1,4 @@
+mod cell;
+mod recorder;
+mod scene;
+mod steps;
