@@ -1,2 +1,3 @@
 mod Later
 mod Parts
+mod Joining

@@ -1,6 +1,6 @@
 pub mod Hosted
+pub mod Causes
+pub mod Working
 pub mod Parts
 pub mod Fresh
-pub mod Working
-pub mod Causes
 pub mod Serving

@@ -13,6 +13,9 @@ use Rattle.px_stream.specs.Samples.{samples}
 use Rattle.px_lane_cell.specs.Meaning.{history_meant}
 use Rattle.px_lane_cell.specs.History.{unturned, left_at_stop, ArePlayed}
 use Rattle.px_server.specs.declared.served.LanePart.{LanePart}
+use Rattle.px_server.specs.declared.sink_work.Met.{Met}
+use Rattle.px_server.specs.declared.sink_work.Met.TheVariants.{Nothing}
+use Rattle.px_server.specs.Working.{IsMet, Unworked}
 
 -- a sink before its first turn, with its index
 pub record Start : Type 0 where
@@ -40,17 +43,34 @@ pub record HasPlayed (start : Sink) (device : DeviceState) (entries : List LaneE
   pub turns : IsHistory samples start (history_meant entries)
   pub played : WhereTold device.played (ArePlayed (concat (replay_played samples start (history_meant entries))) (concat (left_at_stop start (history_meant entries))))
 
--- what is left of a sink that began so: its device has played what its recorder holds, where both tell
-pub record IsPart {D R : Type 0} (now : D → DeviceState) (told : R → Option (List LaneEntry)) (start : Start) (part : LanePart D R) : Type 0 where
-  pub sink : part.sink ≡ start.index
-  pub played : IfSome (told part.recorder) (HasPlayed start.sink (now part.device))
+-- a sink's work: how it began, and what its worker met
+pub record Worked : Type 0 where
+  pub start : Start
+  pub met : Met
 
--- what is left of sinks that began so, in their order
-abbrev pub AreParts : {D R : Type 0} → (D → DeviceState) → (R → Option (List LaneEntry)) → List Start → List (LanePart D R) → Type 0
-AreParts now told [] [] = ⊤
-AreParts now told [] (part ∷ parts) = ⊥
-AreParts now told (start ∷ starts) [] = ⊥
-AreParts now told (start ∷ starts) (part ∷ parts) = IsPart now told start part × AreParts now told starts parts
+abbrev pub worked : Start → Met → Worked
+worked start met = record { start = start; met = met }
+
+abbrev pub start_of : {D E : Type 0} → Unworked D E → Start
+start_of u = start_at u.sink u.cell.lane.sink
+
+-- that of a sink that had no worker
+abbrev pub unworked : {D E : Type 0} → Unworked D E → Worked
+unworked u = worked (start_of u) Nothing
+
+module _ {D R : Type 0} (now : D → DeviceState) (told : R → Option (List LaneEntry)) (faults fulls : R → ℕ) where
+  -- what is left of a sink: its device has played what its recorder holds, where both tell; and what its worker met has its cause in them
+  pub record IsPart (work : Worked) (part : LanePart D R) : Type 0 where
+    pub sink : part.sink ≡ work.start.index
+    pub played : IfSome (told part.recorder) (HasPlayed work.start.sink (now part.device))
+    pub met : IsMet (now part.device).faults (faults part.recorder) (fulls part.recorder) work.met
+
+  -- what is left of sinks, in their order
+  abbrev pub AreParts : List Worked → List (LanePart D R) → Type 0
+  AreParts [] [] = ⊤
+  AreParts [] (part ∷ parts) = ⊥
+  AreParts (work ∷ works) [] = ⊥
+  AreParts (work ∷ works) (part ∷ parts) = IsPart work part × AreParts works parts
 
 -- the front of a list
 abbrev pub IsFrontOf : {X : Type 0} → List X → List X → Type 0

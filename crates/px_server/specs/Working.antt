@@ -8,9 +8,9 @@ use Rattle.px_lane_cell.specs.History.{unturned}
 use Rattle.px_server.specs.declared.sink_work.Met.{Met}
 use Rattle.px_server.specs.declared.sink_work.Met.TheVariants.{Nothing, Stopped, Unrecorded}
 
--- what a worker met has its cause in its sink's device or recorder, by their counts of faults and of Fulls
+-- what a worker met has its cause in its sink's device or recorder, by their counts of faults and of Fulls; it met nothing only where nothing failed
 abbrev pub IsMet : ℕ → ℕ → ℕ → Met → Type 0
-IsMet device_faults faults fulls Nothing = ⊤
+IsMet device_faults faults fulls Nothing = (device_faults ≡ 0) × (faults ≡ 0) × (fulls ≡ 0)
 IsMet device_faults faults fulls Stopped = 1 ≤ device_faults
 IsMet device_faults faults fulls (Unrecorded record_fault.NoMemory) = ⊤
 IsMet device_faults faults fulls (Unrecorded (record_fault.Full entries bytes)) = 1 ≤ fulls
@@ -20,6 +20,11 @@ IsMet device_faults faults fulls (Unrecorded record_fault.Failed) = 1 ≤ faults
 pub record IsHonest {D E : Type 0} (now : D → DeviceState) (faults fulls : E → ℕ) (cell : Cell D E) (seen : Met) : Type 0 where
   pub met : IsMet (now cell.lane.device).faults (faults cell.recorder) (fulls cell.recorder) seen
   pub stopped : IsTrue cell.lane.sink.stopped → 1 ≤ (now cell.lane.device).faults
+
+-- a sink that no worker has
+pub record Unworked (D E : Type 0) : Type 0 where
+  pub sink : SinkId
+  pub cell : Cell D E
 
 -- what of a sink's work is told of again when it is done
 pub record Aspect (D E : Type 0) : Type 0 where

@@ -2,8 +2,8 @@
 ghost use Rattle.std.specs.Prelude.{◌≡◌, List, ◌+◌, ◌≤◌, ◌<◌, ◌++◌, ◌∷◌, [], length, map, IfOk, IfErr, OnOk, OnErr, IfSome, IsSome, None, vec_len, vec_capacity};
 ghost use Rattle.px_session.specs.HeaderRules.{IsHeader};
 ghost use Rattle.px_server.specs.Hosted.{IsLater, HasLent, IsCauseOf};
-ghost use Rattle.px_server.specs.Parts.{Start, start_at, starts_of, AreParts, IsFrontOf};
-ghost use Rattle.px_server.specs.Serving.{HasMet, IsDecided, IsServed};
+ghost use Rattle.px_server.specs.Parts.{start_at, start_of, unworked, AreParts};
+ghost use Rattle.px_server.specs.Serving.{Joins, Ends, IsServed};
 ghost use Rattle.px_server.specs.Causes.{undecided};
 ghost use Rattle.px_core.specs.State.{new_state};
 
@@ -85,8 +85,8 @@ where
     fn start_sink(&mut self, lone: Lone<D, E>) -> Result<(), Lone<D, E>>
         requires { 1 < self.old.worker.seat.parts }
         ensures parts { self.new.worker.seat.parts + length self.new.sinks.items ≡ self.old.worker.seat.parts + length self.old.sinks.items }
-        ensures ok { OnOk result (self.new.sinks.items ≡ self.old.sinks.items ++ start_at lone.sink lone.cell.lane.sink ∷ []) }
-        ensures back { IfErr result (λ back. start_at back.sink back.cell.lane.sink ≡ start_at lone.sink lone.cell.lane.sink) }
+        ensures ok { OnOk result (self.new.sinks.items ≡ self.old.sinks.items ++ start_of lone ∷ []) }
+        ensures back { IfErr result (λ back. back ≡ lone) }
         ensures err { OnErr result (self.new.sinks.items ≡ self.old.sinks.items) }
         ensures clients { self.new.clients ≡ self.old.clients }
     {
@@ -131,7 +131,7 @@ where
     ) -> Result<(), Stop>
         requires { length lone.old.items + 1 < self.old.worker.seat.parts }
         ensures parts { self.new.worker.seat.parts + length self.new.sinks.items ≡ self.old.worker.seat.parts + length self.old.sinks.items }
-        ensures starts { self.new.sinks.items ++ map (λ l. start_at l.sink l.cell.lane.sink) lone.new.items ≡ self.old.sinks.items ++ map (λ l. start_at l.sink l.cell.lane.sink) lone.old.items }
+        ensures starts { self.new.sinks.items ++ map start_of lone.new.items ≡ self.old.sinks.items ++ map start_of lone.old.items }
         ensures clients { self.new.clients ≡ self.old.clients }
         ensures later { IsLater (H.now host.old) (H.now host.new) }
         ensures lent { (H.now host.new).lent ≡ (H.now host.old).lent }
@@ -272,10 +272,9 @@ where
     fn join_sinks(&mut self, lanes: &mut Vec<LanePart<D, E>>) -> Option<Status>
         requires room { vec_len lanes.old + length self.old.sinks.items ≤ vec_capacity lanes.old }
         ensures parts { self.new.worker.seat.parts ≡ self.old.worker.seat.parts + length self.old.sinks.items }
-        ensures lanes { (done : List Start) → AreParts D.now E.told done lanes.old.items → AreParts D.now E.told (done ++ self.old.sinks.items) lanes.new.items }
+        ensures lanes { Joins D.now E.told E.faults E.fulls self.old.sinks.items lanes.old.items lanes.new.items result }
         ensures room { vec_len lanes.new ≡ vec_len lanes.old + length self.old.sinks.items }
         ensures capacity { vec_capacity lanes.new ≡ vec_capacity lanes.old }
-        ensures met { IfSome result (HasMet D.now E.faults E.fulls lanes.new.items) }
     {
         let rt = self.worker.rt;
         let mut first = None;
@@ -305,7 +304,7 @@ fn unserved<H: Host>(
     requires none { lanes.items ≡ [] }
     requires room { length lone.items ≤ vec_capacity lanes }
     ensures status { result.status ≡ undecided stop }
-    ensures lanes { AreParts H.D.now H.R.told (map (λ l. start_at l.sink l.cell.lane.sink) lone.items) result.lanes.items }
+    ensures lanes { AreParts H.D.now H.R.told H.R.faults H.R.fulls (map unworked lone.items) result.lanes.items }
     ensures core { result.core ≡ None }
 {
     hand_back(&mut lone, &mut lanes);
@@ -334,7 +333,7 @@ where
     H::C: 'static,
     G: Gate + Drop + Send + Sync + 'static,
     requires { IsHeader header.now }
-    ensures { IsServed H.D.now H.R.faults H.R.fulls H.C.faults H.C.fulls H.R.told header.now.sinks (H.now host.old) (H.now host.new) result.status result.lanes.items result.core }
+    ensures { IsServed H.C.faults H.C.fulls H.D.now H.R.told H.R.faults H.R.fulls header.now.sinks (H.now host.old) (H.now host.new) result.status result.lanes.items result.core }
 {
     serve_in::<R, H, G, Brand>(rt, alloc, header, host, gate, Blank::new(PARTS))
 }
@@ -361,7 +360,7 @@ where
     requires name { blank.name ≡ L.name }
     requires parts { (blank.parts ≡ L.parts) × (L.parts ≡ 65552) × (L.all ≡ 65552) }
     requires began { L.began ≡ new_state header.now }
-    ensures { IsServed H.D.now H.R.faults H.R.fulls H.C.faults H.C.fulls H.R.told header.now.sinks (H.now host.old) (H.now host.new) result.status result.lanes.items result.core }
+    ensures { IsServed H.C.faults H.C.fulls H.D.now H.R.told H.R.faults H.R.fulls header.now.sinks (H.now host.old) (H.now host.new) result.status result.lanes.items result.core }
 {
     let mut lanes = Vec::new(alloc);
     let mut lone = VecDeque::new(alloc);
@@ -425,9 +424,8 @@ where
     requires room { length lone.items ≤ vec_capacity lanes }
     ensures later { IsLater (H.now host.old) (H.now host.new) }
     ensures lent { (H.now host.new).lent ≡ (H.now host.old).lent }
-    ensures lanes { AreParts H.D.now H.R.told (map (λ l. start_at l.sink l.cell.lane.sink) lone.items) result.lanes.items }
+    ensures ends { Ends H.C.faults H.C.fulls H.D.now H.R.told H.R.faults H.R.fulls (map start_of lone.items) (H.now host.old) (H.now host.new) result.status result.lanes.items result.core }
     ensures core { IsSome result.core }
-    ensures status { IsDecided H.D.now H.R.faults H.R.fulls H.C.faults H.C.fulls (H.now host.old) (H.now host.new) result.status result.lanes.items result.core }
 {
     let alloc = worker.alloc;
     let mut serving = Serving::<R, H::L, H::D, H::R, H::C, L, G> {

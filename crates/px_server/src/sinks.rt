@@ -9,9 +9,11 @@ ghost use Rattle.px_lane_cell.specs.Cell.{AreEnds, IsKeyOf, taken_in, posted_in}
 ghost use Rattle.px_core_cell.specs.Cell.{ends_of};
 ghost use Rattle.px_core_cell.specs.History.{fresh_ends};
 ghost use Rattle.px_server.specs.Hosted.{stop_by, IsLater, HasLent, IsCauseOf};
-ghost use Rattle.px_server.specs.Parts.{Start, start_at, sink_for, starts_of, starts_from, IsPart, AreParts, IsFrontOf, Adds};
+ghost use Rattle.px_server.specs.declared.sink_work.Met.{Met};
+ghost use Rattle.px_server.specs.declared.sink_work.Met.TheVariants.{Nothing};
+ghost use Rattle.px_server.specs.Parts.{Worked, worked, unworked, start_at, start_of, sink_for, starts_of, starts_from, IsPart, AreParts, IsFrontOf, Adds};
 ghost use Rattle.px_server.specs.Fresh.{IsFresh};
-ghost use Rattle.px_lane_cell.specs.History.{unturned};
+ghost use Rattle.px_server.specs.Working.{IsHonest};
 
 use crate::lone::Lone;
 use crate::served::{LanePart, Stop, stop_by};
@@ -80,7 +82,7 @@ fn outside<H: Host>(
     ensures lent { OnOk result ((n : ℕ) → HasLent n 0 (H.now host.old) → HasLent (n + 1) 0 (H.now host.new)) }
     ensures kept { OnErr result ((n : ℕ) → HasLent n 0 (H.now host.old) → HasLent n 0 (H.now host.new)) }
     ensures cause { IfErr result (λ fault. IsCauseOf (stop_by fault) (H.now host.old) (H.now host.new)) }
-    ensures fresh { IfOk result (λ made. IsFresh sink.now (H.D.now made.0) (H.R.told made.1)) }
+    ensures fresh { IfOk result (λ made. IsFresh sink.now (H.D.now made.0) (H.R.told made.1) (H.R.faults made.1) (H.R.fulls made.1)) }
 {
     let device = host.device(alloc, sink.name.as_slice(), &shape_of(sink))?;
     let recorder = host.lane_recorder(alloc)?;
@@ -95,8 +97,9 @@ fn cell_of<D: Device + Drop, E: Recorder<LaneEntry> + Drop>(
     recorder: E,
 ) -> Mem<(LaneCell<D, E>, CoreEnd)>
     requires sink { (earlier : List Spec) × IsSink earlier sink.now }
-    requires fresh { IsFresh sink.now (D.now device) (E.told recorder) }
+    requires fresh { IsFresh sink.now (D.now device) (E.told recorder) (E.faults recorder) (E.fulls recorder) }
     ensures sink { IfOk result (λ made. made.0.lane.sink ≡ sink_for sink.now) }
+    ensures honest { IfOk result (λ made. IsHonest D.now E.faults E.fulls made.0 Nothing) }
     ensures core { IfOk result (λ made. ends_of made.1 ≡ fresh_ends sink.now) }
 {
     let (ends, core) = mailboxes(alloc, sink)?;
@@ -118,7 +121,7 @@ fn make_one<H: Host>(
     ensures later { IsLater (H.now host.old) (H.now host.new) }
     ensures lent { HasLent (length lone.old.items) 0 (H.now host.old) → HasLent (length lone.new.items) 0 (H.now host.new) }
     ensures cause { IfErr result (λ stop. IsCauseOf stop (H.now host.old) (H.now host.new)) }
-    ensures made { OnOk result (map (λ l. start_at l.sink l.cell.lane.sink) lone.new.items ≡ map (λ l. start_at l.sink l.cell.lane.sink) lone.old.items ++ (record { index = record { 0 = index }; sink = sink_for sink.now }) ∷ []) }
+    ensures made { OnOk result (map start_of lone.new.items ≡ map start_of lone.old.items ++ (record { index = record { 0 = index }; sink = sink_for sink.now }) ∷ []) }
     ensures ends { OnOk result (map ends_of ends.new.items ≡ map ends_of ends.old.items ++ fresh_ends sink.now ∷ []) }
     ensures stays { OnErr result (lone.new.items ≡ lone.old.items) }
 {
@@ -152,9 +155,9 @@ fn make_from<H: Host>(
     ensures later { IsLater (H.now host.old) (H.now host.new) }
     ensures lent { HasLent (length lone.old.items) 0 (H.now host.old) → HasLent (length lone.new.items) 0 (H.now host.new) }
     ensures cause { IfErr result (λ stop. IsCauseOf stop (H.now host.old) (H.now host.new)) }
-    ensures made { OnOk result (map (λ l. start_at l.sink l.cell.lane.sink) lone.new.items ≡ map (λ l. start_at l.sink l.cell.lane.sink) lone.old.items ++ starts_from index sinks.now) }
+    ensures made { OnOk result (map start_of lone.new.items ≡ map start_of lone.old.items ++ starts_from index sinks.now) }
     ensures ends { OnOk result (map ends_of ends.new.items ≡ map ends_of ends.old.items ++ map fresh_ends sinks.now) }
-    ensures front { Adds (map (λ l. start_at l.sink l.cell.lane.sink) lone.old.items) (starts_from index sinks.now) (map (λ l. start_at l.sink l.cell.lane.sink) lone.new.items) }
+    ensures front { Adds (map start_of lone.old.items) (starts_from index sinks.now) (map start_of lone.new.items) }
 {
     match sinks.split_first() {
         None => Ok(()),
@@ -178,9 +181,9 @@ pub(crate) fn make_all<H: Host>(
     ensures later { IsLater (H.now host.old) (H.now host.new) }
     ensures lent { HasLent 0 0 (H.now host.old) → HasLent (length lone.new.items) 0 (H.now host.new) }
     ensures cause { IfErr result (λ stop. IsCauseOf stop (H.now host.old) (H.now host.new)) }
-    ensures made { OnOk result (map (λ l. start_at l.sink l.cell.lane.sink) lone.new.items ≡ starts_of header.now.sinks) }
+    ensures made { OnOk result (map start_of lone.new.items ≡ starts_of header.now.sinks) }
     ensures ends { OnOk result (map ends_of ends.new.items ≡ map fresh_ends header.now.sinks) }
-    ensures front { IsFrontOf (map (λ l. start_at l.sink l.cell.lane.sink) lone.new.items) (starts_of header.now.sinks) }
+    ensures front { IsFrontOf (map start_of lone.new.items) (starts_of header.now.sinks) }
 {
     make_from(alloc, 0, header.sinks.as_slice(), host, lone, ends)
 }
@@ -190,9 +193,7 @@ pub(crate) fn part_of<D: Device + Drop, E: Recorder<LaneEntry> + Drop>(
     sink: SinkId,
     cell: LaneCell<D, E>,
 ) -> LanePart<D, E>
-    ensures part { IsPart D.now E.told (record { index = sink; sink = unturned cell.lane.sink }) result }
-    ensures device { result.device ≡ cell.lane.device }
-    ensures recorder { result.recorder ≡ cell.recorder }
+    ensures { (met : Met) → IsHonest D.now E.faults E.fulls cell met → IsPart D.now E.told E.faults E.fulls (worked (start_at sink cell.lane.sink) met) result }
 {
     let parts = cell.into_parts();
     LanePart {
@@ -208,8 +209,7 @@ pub(crate) fn hand_back<D: Device + Drop, E: Recorder<LaneEntry> + Drop>(
     lanes: &mut Vec<LanePart<D, E>>,
 )
     requires room { vec_len lanes.old + length lone.old.items ≤ vec_capacity lanes.old }
-    ensures parts { (done : List Start) → AreParts D.now E.told done lanes.old.items → AreParts D.now E.told (done ++ map (λ l. start_at l.sink l.cell.lane.sink) lone.old.items) lanes.new.items }
-    ensures front { IsFrontOf lanes.old.items lanes.new.items }
+    ensures { (done : List Worked) → AreParts D.now E.told E.faults E.fulls done lanes.old.items → AreParts D.now E.told E.faults E.fulls (done ++ map unworked lone.old.items) lanes.new.items }
 {
     while let Some(Lone { sink, cell }) = lone.pop_front() {
         lanes.push(part_of(sink, cell)).unwrap();
