@@ -1,6 +1,6 @@
 -- What is left of sinks, one by one.
 use Rattle.std.proofs.Common.{◌≡◌, ℕ, suc, ◌+◌, ◌<◌, List, [], ◌∷◌, ◌++◌, length, map, Option, None, Some, sym, subst, ◌∙◌, ap, refl, arith}
-use Rattle.std.proofs.lemmas.List.{append_assoc, append-nil, length-append}
+use Rattle.std.proofs.lemmas.List.{append_assoc, append-nil, length-append, map-append}
 use Rattle.std.specs.Option.{option_or}
 use Rattle.px_types.specs.declared.status.Status.{Status}
 use Rattle.px_annals.specs.declared.entry.LaneEntry.{LaneEntry}
@@ -10,7 +10,7 @@ use Rattle.px_server.specs.Causes.{status_of_met}
 use Rattle.px_types.specs.declared.ids.SinkId.{SinkId}
 use Rattle.px_model.specs.Sink.{Sink}
 use Rattle.px_lane_cell.specs.History.{unturned}
-use Rattle.px_server.specs.Parts.{Start, start_at, Worked, IsPart, AreParts, IsFrontOf, Adds, unworked}
+use Rattle.px_server.specs.Parts.{Start, start_at, Worked, IsPart, AreParts, IsFrontOf, Adds, unworked, start_of}
 use Rattle.px_server.specs.Serving.{first_met}
 use Rattle.px_server.specs.Working.{Unworked}
 
@@ -82,3 +82,16 @@ begun index sink = record { index = index; sink = sink }
 -- a sink that goes on began as it did
 pub start_is : (index there : SinkId) (sink before : Sink) → index ≡ there → unturned sink ≡ unturned before → start_at index sink ≡ start_at there before
 start_is index there sink before is same = ap (λ (i : SinkId). begun i (unturned sink)) is ∙ ap (begun there) same
+
+pub starts_unworked : {D E : Type 0} (lone : List (Unworked D E)) → map (λ w. Worked.start w) (map unworked lone) ≡ map start_of lone
+starts_unworked [] = refl
+starts_unworked (l ∷ lone) = ap (λ (all : List Start). start_of l ∷ all) (starts_unworked lone)
+
+-- those with workers and those without are all
+pub all_begin : {D E : Type 0} (works : List Worked) (sinks : List Start) (lone lone' : List (Unworked D E))
+    → map (λ w. Worked.start w) works ≡ sinks → sinks ++ map start_of lone' ≡ map start_of lone → map (λ w. Worked.start w) (works ++ map unworked lone') ≡ map start_of lone
+all_begin works sinks lone lone' began same =
+    map-append (λ w. Worked.start w) works (map unworked lone')
+    ∙ ap (λ (l : List Start). map (λ w. Worked.start w) works ++ l) (starts_unworked lone')
+    ∙ ap (λ (l : List Start). l ++ map start_of lone') began
+    ∙ same

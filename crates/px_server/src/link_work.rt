@@ -13,7 +13,6 @@ use px_ends::{Link, Recv, Sent};
 use px_frame::{Decoder, Frame, FrameError, Packet};
 use px_jobs::Job;
 use px_types::ConnId;
-
 use std::collections::VecDeque;
 use std::sync::{Arc, Wait};
 

@@ -1,39 +1,27 @@
-//! The serving call.
-ghost use Rattle.std.specs.Prelude.{◌≡◌, List, ◌+◌, ◌≤◌, ◌<◌, ◌++◌, ◌∷◌, [], length, map, IfOk, IfErr, OnOk, OnErr, IfSome, IsSome, None, vec_len, vec_capacity};
-ghost use Rattle.px_session.specs.HeaderRules.{IsHeader};
-ghost use Rattle.px_server.specs.Hosted.{IsLater, HasLent, IsCauseOf};
-ghost use Rattle.px_server.specs.Parts.{start_at, start_of, unworked, AreParts};
-ghost use Rattle.px_server.specs.Serving.{Joins, Ends, IsServed};
-ghost use Rattle.px_server.specs.Causes.{undecided};
-ghost use Rattle.px_core.specs.State.{new_state};
+//! What a serving call has under way: its workers, from their start to their end.
+ghost use Rattle.std.specs.Prelude.{◌≡◌, ◌+◌, ◌≤◌, ◌<◌, ◌++◌, ◌∷◌, [], length, map, IfOk, IfErr, OnOk, OnErr, IsSome, vec_len, vec_capacity};
+ghost use Rattle.px_server.specs.Hosted.{IsLater, IsCauseOf};
+ghost use Rattle.px_server.specs.Parts.{start_of};
+ghost use Rattle.px_server.specs.Serving.{Joins, Ends};
 
 use crate::crew::{Client, SinkRun};
-use crate::desk::Desk;
 use crate::gate::Gate;
-use crate::lines::Lines;
 use crate::link_work::LinkWork;
-use crate::served::{LanePart, Served, Stop, decided, stop_by, undecided};
-use crate::sink_work::{Met, SinkWork, status_of_met};
 use crate::lone::Lone;
-use crate::sinks::{hand_back, make_all, part_of};
+use crate::served::{LanePart, Served, Stop, decided};
+use crate::sink_work::{Met, SinkWork, status_of_met};
+use crate::sinks::{hand_back, part_of};
 use crate::worker::{CoreStop, Worker};
 use px_annals::{CoreEntry, LaneEntry, Recorder};
-use px_core::Core;
-use px_core_cell::{CoreCell, Seats};
+use px_core_cell::Seats;
 use px_ends::{Accepted, Device, Host, Link};
 use px_jobs::{Spawned, start};
-use px_session::Header;
 use px_types::{ConnId, Mem, NoMemory, Status};
 use std::alloc::Global;
 use std::collections::VecDeque;
-use std::marker::Brand;
-use std::sync::atomic::{AtomicBool, Ordering};
-use std::sync::ledger::Blank;
-use std::sync::{Arc, Mutex, Wait};
+use std::sync::atomic::Ordering;
+use std::sync::{Arc, Wait};
 use std::thread::Threads;
-
-// One part for each of 65,535 links, one for each of 16 sinks, and one for the serving call.
-const PARTS: u64 = 65_552;
 
 // What a serving call has under way.
 #[derive(Drop)]
@@ -115,7 +103,10 @@ where
             }
             Spawned::Refused(job) | Spawned::NoMemory(job) => {
                 let SinkWork {
-                    worker, sink, cell, ..
+                    worker,
+                    sink,
+                    cell,
+                    ..
                 } = job;
                 self.worker.seat.merge(worker.seat);
                 Err(Lone { sink, cell })
@@ -268,13 +259,31 @@ where
         unreachable!()
     }
 
+    // Starts the workers of the sinks, and takes in clients until no more come.
+    fn work<H: Host<L = A>>(&mut self, host: &mut H, lone: &mut VecDeque<Lone<D, E>>) -> Stop
+        requires idle { (self.old.sinks.items ≡ []) × (self.old.clients.items ≡ []) }
+        requires seats { self.old.worker.seat.parts ≡ 65552 }
+        requires few { length lone.old.items ≤ 16 }
+        ensures parts { self.new.worker.seat.parts + length self.new.sinks.items + length self.new.clients.items ≡ 65552 }
+        ensures starts { self.new.sinks.items ++ map start_of lone.new.items ≡ map start_of lone.old.items }
+        ensures count { length self.new.sinks.items + length lone.new.items ≡ length lone.old.items }
+        ensures later { IsLater (H.now host.old) (H.now host.new) }
+        ensures lent { (H.now host.new).lent ≡ (H.now host.old).lent }
+        ensures cause { IsCauseOf result (H.now host.old) (H.now host.new) }
+    {
+        match self.start_sinks(host, lone) {
+            Ok(()) => self.accept_all(host),
+            Err(stop) => stop,
+        }
+    }
+
     // Joins the workers of the sinks, and takes what is left of each. Answers the first status that one of them met.
     fn join_sinks(&mut self, lanes: &mut Vec<LanePart<D, E>>) -> Option<Status>
         requires room { vec_len lanes.old + length self.old.sinks.items ≤ vec_capacity lanes.old }
         ensures parts { self.new.worker.seat.parts ≡ self.old.worker.seat.parts + length self.old.sinks.items }
         ensures lanes { Joins D.now E.told E.faults E.fulls self.old.sinks.items lanes.old.items lanes.new.items result }
         ensures room { vec_len lanes.new ≡ vec_len lanes.old + length self.old.sinks.items }
-        ensures capacity { vec_capacity lanes.new ≡ vec_capacity lanes.old }
+        ensures capacity { vec_capacity lanes.old ≤ vec_capacity lanes.new }
     {
         let rt = self.worker.rt;
         let mut first = None;
@@ -295,113 +304,8 @@ where
     }
 }
 
-// A serving call that has made no core.
-fn unserved<H: Host>(
-    mut lanes: Vec<LanePart<H::D, H::R>>,
-    mut lone: VecDeque<Lone<H::D, H::R>>,
-    stop: Stop,
-) -> Served<H>
-    requires none { lanes.items ≡ [] }
-    requires room { length lone.items ≤ vec_capacity lanes }
-    ensures status { result.status ≡ undecided stop }
-    ensures lanes { AreParts H.D.now H.R.told H.R.faults H.R.fulls (map unworked lone.items) result.lanes.items }
-    ensures core { result.core ≡ None }
-{
-    hand_back(&mut lone, &mut lanes);
-    Served {
-        status: undecided(stop),
-        lanes,
-        core: None,
-    }
-}
-
-/// Serves the clients that the host hands out, on the sinks of a header, until the host says that no more come and all have gone, or
-/// until something fails. What the host made comes back with it. (PulseAudio: `main` of daemon/main.c with its threads.)
-pub fn serve<R, H, G>(
-    rt: &R,
-    alloc: Global,
-    header: &Header,
-    host: &mut H,
-    gate: Arc<G>,
-) -> Served<H>
-where
-    R: Threads + Wait + Copy + Drop + Send + Sync + 'static,
-    H: Host,
-    H::L: 'static,
-    H::D: 'static,
-    H::R: 'static,
-    H::C: 'static,
-    G: Gate + Drop + Send + Sync + 'static,
-    requires { IsHeader header.now }
-    ensures { IsServed H.C.faults H.C.fulls H.D.now H.R.told H.R.faults H.R.fulls header.now.sinks (H.now host.old) (H.now host.new) result.status result.lanes.items result.core }
-{
-    serve_in::<R, H, G, Brand>(rt, alloc, header, host, gate, Blank::new(PARTS))
-}
-
-// The serving call, over the ledger of its workers' seats.
-fn serve_in<R, H, G, L>(
-    rt: &R,
-    alloc: Global,
-    header: &Header,
-    host: &mut H,
-    gate: Arc<G>,
-    blank: Blank,
-) -> Served<H>
-where
-    R: Threads + Wait + Copy + Drop + Send + Sync + 'static,
-    H: Host,
-    H::L: 'static,
-    H::D: 'static,
-    H::R: 'static,
-    H::C: 'static,
-    G: Gate + Drop + Send + Sync + 'static,
-    L: Seats + Send + Sync + 'static,
-    requires header { IsHeader header.now }
-    requires name { blank.name ≡ L.name }
-    requires parts { (blank.parts ≡ L.parts) × (L.parts ≡ 65552) × (L.all ≡ 65552) }
-    requires began { L.began ≡ new_state header.now }
-    ensures { IsServed H.C.faults H.C.fulls H.D.now H.R.told H.R.faults H.R.fulls header.now.sinks (H.now host.old) (H.now host.new) result.status result.lanes.items result.core }
-{
-    let mut lanes = Vec::new(alloc);
-    let mut lone = VecDeque::new(alloc);
-    let mut ends = Vec::new(alloc);
-    if lanes.reserve(header.sinks.len()).is_err() {
-        return unserved(lanes, lone, Stop::Memory);
-    }
-    if let Err(stop) = make_all(alloc, header, host, &mut lone, &mut ends) {
-        return unserved(lanes, lone, stop);
-    }
-    let recorder = match host.core_recorder(alloc) {
-        Ok(recorder) => recorder,
-        Err(fault) => return unserved(lanes, lone, stop_by(fault)),
-    };
-    let Ok(core) = Core::new(alloc, header) else {
-        return unserved(lanes, lone, Stop::Memory);
-    };
-    let (core, seat) = CoreCell::<H::C, L>::new(blank, core, recorder, ends);
-    let sinks = lone.len() as u8;
-    let Ok(desk) = Arc::new(
-        alloc,
-        Desk {
-            core,
-            lines: Mutex::new(Lines::new(alloc)),
-            over: AtomicBool::new(false),
-            sinks,
-        },
-    ) else {
-        return unserved(lanes, lone, Stop::Memory);
-    };
-    let worker = Worker {
-        rt: *rt,
-        alloc,
-        desk,
-        seat,
-    };
-    run(rt, worker, host, gate, lone, lanes)
-}
-
-// All that workers do, from their start to their end.
-fn run<R, H, G, L>(
+/// All that workers do, from their start to their end.
+pub(crate) fn run<R, H, G, L>(
     rt: &R,
     worker: Worker<R, H::C, L>,
     host: &mut H,
@@ -435,10 +339,7 @@ where
         clients: VecDeque::new(alloc),
         next: 0,
     };
-    let stop = match serving.start_sinks(host, &mut lone) {
-        Ok(()) => serving.accept_all(host),
-        Err(stop) => stop,
-    };
+    let stop = serving.work(host, &mut lone);
     serving.join_clients();
     serving.worker.desk.over.store(true, Ordering::SeqCst);
     let met = serving.join_sinks(&mut lanes);

@@ -80,7 +80,14 @@ where
 
 /// The work of one sink: its turns, and what they tell the core.
 #[derive(Drop)]
-pub(crate) struct SinkWork<R, D: Device, E: Recorder<LaneEntry>, C: Recorder<CoreEntry>, L: Seats, G> {
+pub(crate) struct SinkWork<
+    R,
+    D: Device,
+    E: Recorder<LaneEntry>,
+    C: Recorder<CoreEntry>,
+    L: Seats,
+    G,
+> {
     pub worker: Worker<R, C, L>,
     pub sink: SinkId,
     pub cell: LaneCell<D, E>,

@@ -72,11 +72,7 @@ fn mailboxes(alloc: Global, sink: &SinkSpec) -> Mem<(LaneEnds, CoreEnd)>
 }
 
 // A sink's device and its recorder.
-fn outside<H: Host>(
-    alloc: Global,
-    sink: &SinkSpec,
-    host: &mut H,
-) -> Result<(H::D, H::R), HostFault>
+fn outside<H: Host>(alloc: Global, sink: &SinkSpec, host: &mut H) -> Result<(H::D, H::R), HostFault>
     requires { (earlier : List Spec) × IsSink earlier sink.now }
     ensures later { IsLater (H.now host.old) (H.now host.new) }
     ensures lent { OnOk result ((n : ℕ) → HasLent n 0 (H.now host.old) → HasLent (n + 1) 0 (H.now host.new)) }

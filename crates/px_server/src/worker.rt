@@ -11,7 +11,6 @@ use px_core_cell::{CoreSeat, CoreStep, Seats, StepFault};
 use px_frame::{Frame, FrameFault};
 use px_types::{ConnId, Mem, SinkId};
 use std::alloc::Global;
-
 use std::sync::{Arc, Wait};
 use std::thread::yield_now;
 
@@ -232,7 +231,12 @@ impl<R: Wait + Copy, C: Recorder<CoreEntry> + Drop, L: Seats> Worker<R, C, L> {
     }
 
     /// A fault in a client's bytes. One that finds no memory ends its connection.
-    pub(crate) fn broken(&mut self, conn: ConnId, fault: FrameFault, at: u64) -> Result<(), CoreStop>
+    pub(crate) fn broken(
+        &mut self,
+        conn: ConnId,
+        fault: FrameFault,
+        at: u64,
+    ) -> Result<(), CoreStop>
         ensures seat { self.new.seat.parts ≡ self.old.seat.parts }
     {
         match self.make(CoreStep::Broken(conn, fault, at))? {

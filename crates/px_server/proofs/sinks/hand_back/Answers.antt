@@ -14,5 +14,5 @@ loop-sink-preserved g c =
       room = search rules;
       parts = λ final later. c.loop-sink.invariant.parts final
           (handed g.D.Device.now g.E.Recorder.told g.E.Recorder.faults g.E.Recorder.fulls unworked c.loop-sink.lone.items c.pop_front.new.self.items one c.loop-sink.lanes.items c.push.new.self.items final c.part_of.result
-            front more (c.part_of.ensures Nothing (search rules)) later);
+          front more (c.part_of.ensures Nothing (search rules)) later);
     }

@@ -25,15 +25,15 @@ loop-running-preserved g c =
     let front : c.loop-running.self.sinks.items ≡ one ∷ c.pop_front.new.self.items = search rules in
     let more : c.push.new.self.items ≡ c.loop-running.lanes.items ++ c.part_of.result ∷ [] = search rules in
     let is : IsPart g.D.Device.now g.E.Recorder.told g.E.Recorder.faults g.E.Recorder.fulls (worked one job.met) c.part_of.result =
-      subst (λ (s : Start). IsPart g.D.Device.now g.E.Recorder.told g.E.Recorder.faults g.E.Recorder.fulls (worked s job.met) c.part_of.result)
-        (start_is job.sink given.sink job.cell.lane.sink given.cell.lane.sink c.join-job.ensures.sink c.join-job.ensures.start)
-        (c.part_of.ensures job.met (c.join-job.ensures.honest before)) in
+    subst (λ (s : Start). IsPart g.D.Device.now g.E.Recorder.told g.E.Recorder.faults g.E.Recorder.fulls (worked s job.met) c.part_of.result)
+    (start_is job.sink given.sink job.cell.lane.sink given.cell.lane.sink c.join-job.ensures.sink c.join-job.ensures.start)
+    (c.part_of.ensures job.met (c.join-job.ensures.honest before)) in
     record {
       parts = search rules;
       room = search rules;
       whole = search rules;
       capacity = search rules;
       joined = joined_one g.D.Device.now g.E.Recorder.told g.E.Recorder.faults g.E.Recorder.fulls c.args.self.now.sinks.items c.args.lanes.now.items
-        c.loop-running.self.sinks.items c.pop_front.new.self.items one job.met c.loop-running.lanes.items c.push.new.self.items c.loop-running.first c.or-first.result c.part_of.result
-        front more (search rules) is c.loop-running.invariant.joined;
+          c.loop-running.self.sinks.items c.pop_front.new.self.items one job.met c.loop-running.lanes.items c.push.new.self.items c.loop-running.first c.or-first.result c.part_of.result
+          front more (search rules) is c.loop-running.invariant.joined;
     }

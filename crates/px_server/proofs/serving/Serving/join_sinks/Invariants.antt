@@ -8,7 +8,7 @@ invariant-loop-running g l = record {
   parts : l.self.worker.seat.parts + length l.self.sinks.items ≡ l.fn.self.worker.seat.parts + length l.fn.self.sinks.items;
   room : vec_len l.lanes + length l.self.sinks.items ≤ vec_capacity l.lanes;
   whole : vec_len l.lanes + length l.self.sinks.items ≡ vec_len l.fn.lanes + length l.fn.self.sinks.items;
-  capacity : vec_capacity l.lanes ≡ vec_capacity l.fn.lanes;
+  capacity : vec_capacity l.fn.lanes ≤ vec_capacity l.lanes;
   joined : Joined g.D.Device.now g.E.Recorder.told g.E.Recorder.faults g.E.Recorder.fulls l.fn.self.sinks.items l.self.sinks.items l.fn.lanes.items l.lanes.items l.first;
 }
 
