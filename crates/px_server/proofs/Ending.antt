@@ -1,6 +1,7 @@
 -- What a serving call does, of what its parts do.
-use Rattle.std.proofs.Common.{◌≡◌, ℕ, suc, List, [], ◌∷◌, ◌++◌, map, length, Option, None, Some, IsSome, refl, sym, subst, ◌∙◌, ap, rules, arith, ◌+◌, ◌≤◌}
+use Rattle.std.proofs.Common.{◌≡◌, ℕ, suc, List, [], ◌∷◌, ◌++◌, map, length, Option, None, Some, IsSome, refl, sym, subst, ◌∙◌, ap, rules, arith, ◌+◌, ◌≤◌, Result, Ok, Err, true, false, OnOk}
 use Rattle.std.proofs.lemmas.List.{length-append, length-map}
+use Rattle.std.specs.Result.{is_err}
 use Rattle.px_types.specs.declared.status.Status.{Status}
 use Rattle.px_types.specs.declared.status.Status.TheVariants as status
 use Rattle.px_annals.specs.declared.entry.LaneEntry.{LaneEntry}
@@ -130,3 +131,10 @@ few_begin sinks lone (rest, all) =
 
 pub front_none : {D R : Type 0} (sinks : List SinkSpec) (lone : List (Unworked D R)) → lone ≡ [] → IsFrontOf (map start_of lone) (starts_of sinks)
 front_none sinks lone none = subst (λ (l : List _). IsFrontOf (map start_of l) (starts_of sinks)) (sym none) (starts_of sinks, refl)
+
+-- what an `Ok` says
+pub fine : {T E : Type 0} (r : Result T E) (P : Type 0) → is_err r ≡ false → OnOk r P → P
+fine (Ok x) P there p = p
+fine (Err e) P there p = absurd (off there) where
+  off : true ≡ false → ⊥
+  off same = search rules

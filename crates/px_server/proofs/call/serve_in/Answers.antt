@@ -1,6 +1,6 @@
-use Rattle.std.proofs.Common.{rules, ◌≡◌, ◌≤◌, length, vec_capacity, arith}
+use Rattle.std.proofs.Common.{◌≡◌, ◌∙◌, sym, ◌+◌, ◌≤◌, length, vec_len, vec_capacity, arith}
 use Rattle.px_server.specs.declared.served.Stop.TheVariants.{Memory}
-use Rattle.px_server.proofs.Ending.{few_begin, front_none, unserved_is, served_is}
+use Rattle.px_server.proofs.Ending.{fine, few_begin, front_none, unserved_is, served_is}
 use Rattle.px_server.proofs.Later.{later_refl, later_later, lent_same, lent_none}
 use Rattle.px_server.proofs.call.serve_in.Goals as goal
 
@@ -14,8 +14,8 @@ returns-then-is_err g c =
 
 pub unserved-requires-in-Err-clause-room : goal.unserved-requires-in-Err-clause-room
 unserved-requires-in-Err-clause-room g c κs within =
-    let room : length c.args.header.now.sinks ≤ vec_capacity c.reserve.new.self = search rules in
-    let few = few_begin c.args.header.now.sinks c.make_outside.new.lone.items c.make_outside.ensures.front in omega (arith, few, room)
+    let room = fine c.reserve.result (vec_len c.reserve.new.self + c.len.result ≤ vec_capacity c.reserve.new.self) (sym c.is_err.ensures.value ∙ c.if-is_err.false) c.reserve.ensures.ok in
+    let few = few_begin c.args.header.now.sinks c.make_outside.new.lone.items c.make_outside.ensures.front in omega (arith, few, room, c.len.ensures)
 
 pub returns-in-Err : goal.returns-in-Err
 returns-in-Err g c =
@@ -31,14 +31,14 @@ run-requires-clause-few g c κs within =
 
 pub run-requires-clause-room : goal.run-requires-clause-room
 run-requires-clause-room g c κs within =
-    let room : length c.args.header.now.sinks ≤ vec_capacity c.reserve.new.self = search rules in
-    let few = few_begin c.args.header.now.sinks c.make_outside.new.lone.items c.make_outside.ensures.front in omega (arith, few, room)
+    let room = fine c.reserve.result (vec_len c.reserve.new.self + c.len.result ≤ vec_capacity c.reserve.new.self) (sym c.is_err.ensures.value ∙ c.if-is_err.false) c.reserve.ensures.ok in
+    let few = few_begin c.args.header.now.sinks c.make_outside.new.lone.items c.make_outside.ensures.front in omega (arith, few, room, c.len.ensures)
 
 pub unserved-requires-in-Err-worker_of-clause-room :
     goal.unserved-requires-in-Err-worker_of-clause-room
 unserved-requires-in-Err-worker_of-clause-room g c κs within =
-    let room : length c.args.header.now.sinks ≤ vec_capacity c.reserve.new.self = search rules in
-    let few = few_begin c.args.header.now.sinks c.make_outside.new.lone.items c.make_outside.ensures.front in omega (arith, few, room)
+    let room = fine c.reserve.result (vec_len c.reserve.new.self + c.len.result ≤ vec_capacity c.reserve.new.self) (sym c.is_err.ensures.value ∙ c.if-is_err.false) c.reserve.ensures.ok in
+    let few = few_begin c.args.header.now.sinks c.make_outside.new.lone.items c.make_outside.ensures.front in omega (arith, few, room, c.len.ensures)
 
 pub returns-in-Ok-worker_of : goal.returns-in-Ok-worker_of
 returns-in-Ok-worker_of g c =
