@@ -1,9 +1,9 @@
 -- What the parts of a step under the lock do, put together.
-use Rattle.std.proofs.Common.{◌≡◌, ℕ, zero, suc, ◌+◌, Bool, true, false, List, [], ◌∷◌, ◌++◌, map, length, set, replicate, Option, Some, None, Ok, refl, ap, sym, subst, ◌∙◌, arith}
-use Rattle.std.specs.Prelude.{nat_eq, slice_get}
+use Rattle.std.proofs.Common.{◌≡◌, ℕ, zero, suc, ◌+◌, Bool, true, false, List, [], ◌∷◌, ◌++◌, set, replicate, Option, Some, None, Ok, refl, ap, sym, subst, ◌∙◌, arith}
+use Rattle.std.specs.Prelude.{nat_eq, slice_get, IfSome}
 use Rattle.std.specs.List.{AllByRecursion}
 use Rattle.std.specs.Option.{option_to_list}
-use Rattle.std.proofs.lemmas.Bool.{cond-true, cond-false, eq-eqb, ne_eqb, eqb-true, eqb-false, cond_both, true≢false}
+use Rattle.std.proofs.lemmas.Bool.{cond-true, cond-false, eq-eqb, ne_eqb, eqb-true, eqb-false, true≢false}
 use Rattle.std.proofs.lemmas.List.{append-nil, length-set}
 use Rattle.std.proofs.lemmas.Option.{same_Some}
 use Rattle.px_types.specs.declared.ids.SinkId.{SinkId}
@@ -14,7 +14,6 @@ use Rattle.px_annals.specs.declared.step.PlainStep.TheVariants as plain
 use Rattle.px_annals.specs.History.{noted}
 use Rattle.px_model.specs.declared.data.Run.{Run}
 use Rattle.px_model.specs.declared.data.Run.TheVariants.{Quiet, Playing}
-use Rattle.px_frame.specs.declared.frame.Frame.{Frame}
 use Rattle.px_frame.specs.declared.frame.Body.{Body}
 use Rattle.px_frame.specs.declared.frame.Body.TheVariants.{Control, Write}
 use Rattle.px_frame.specs.declared.fault.FrameFault.{FrameFault}
@@ -31,12 +30,12 @@ use Rattle.px_core.specs.Step.{Step, out, stepped, effects_of, stepped_by, effec
 use Rattle.px_core.proofs.HearingLaws.{untold}
 use Rattle.px_core_cell.specs.declared.step.CoreStep.{CoreStep}
 use Rattle.px_core_cell.specs.declared.step.CoreStep.TheVariants as asked
-use Rattle.px_core_cell.specs.Cell.{Desk, Cell, SinkEnds}
+use Rattle.px_core_cell.specs.Cell.{Desk, SinkEnds}
 use Rattle.px_core_cell.specs.History.{sink_at, noticed_in, owes}
 use Rattle.px_core_cell.specs.Parcel.{spec_of}
 use Rattle.px_core_cell.specs.Plain.{plain_run, plain_notice, plain_body, run_for, notice_for, body_for, fault_for, steps_of}
 use Rattle.px_core_cell.proofs.Places.{elsewhere, there}
-use Rattle.px_core_cell.specs.Step.{is_own, step_for, IsEntryFor, steps_done, noticed_done, owed_after, IsEndAfter, DeskDoes, Does, DoesAt, Fetches, PostsMany, NoticeGives, OwnGives}
+use Rattle.px_core_cell.specs.Step.{is_own, waits, step_for, IsEntryFor, steps_done, noticed_done, IsEndAfter, DeskDoes, Does, DoesAt, Fetches, PostsMany, NoticeGives, OwnGives}
 
 -- ---- plain forms mean what they were made of
 
@@ -84,12 +83,12 @@ out_effects state sink (suc n) = out_effects (stepped spec_of state (out sink)) 
 
 -- ---- the ends that a step has no part in
 
-pub record Spared (state : State PlainStream) (index : ℕ) (done : Option PlainStep) : Type 0 where
-  pub told : told_by spec_of (sink_at index) state (steps_done done) ≡ []
-  pub noticed : noticed_done index done ≡ []
+pub record Spared (state : State PlainStream) (index : ℕ) (made : Option PlainStep) : Type 0 where
+  pub told : told_by spec_of (sink_at index) state (steps_done made) ≡ []
+  pub noticed : noticed_done index made ≡ []
 
-pub stays : (state : State PlainStream) (index : ℕ) (done : Option PlainStep) → Spared state index done → (e : SinkEnds) → IsEndAfter done state index e e
-stays state index done spared e = record {
+pub stays : (state : State PlainStream) (index : ℕ) (made : Option PlainStep) → Spared state index made → (e : SinkEnds) → IsEndAfter made state index e e
+stays state index made spared e = record {
   key = refl;
   posted = sym (ap (λ (l : List (Msg PlainStream)). e.posted ++ l) spared.told ∙ append-nil e.posted);
   took = [];
@@ -109,6 +108,17 @@ own_as state index (asked.Cut conn) own = refl
 own_as state index asked.Sweep own = refl
 own_as state index (asked.Notice sink) own = absurd (true≢false (sym own))
 own_as state index (asked.Out sink) own = absurd (true≢false (sym own))
+
+-- after such a step a sweep is owed, but after a sweep
+pub own_owes : (owed : Bool) (step : CoreStep) (d : PlainStep) → is_own step ≡ true → IsEntryFor step d → owes owed d ≡ waits step
+own_owes owed (asked.Connect conn) d own is = ap (owes owed) is
+own_owes owed (asked.Frame conn f) d own is = ap (owes owed) is
+own_owes owed (asked.Broken conn fault at) d own is = ap (owes owed) is
+own_owes owed (asked.Close conn) d own is = ap (owes owed) is
+own_owes owed (asked.Cut conn) d own is = ap (owes owed) is
+own_owes owed asked.Sweep d own is = ap (owes owed) is
+own_owes owed (asked.Notice sink) d own is = absurd (true≢false (sym own))
+own_owes owed (asked.Out sink) d own is = absurd (true≢false (sym own))
 
 own_unnoticed : (index : ℕ) (step : CoreStep) (d : PlainStep) → is_own step ≡ true → IsEntryFor step d → noticed_in index d ≡ []
 own_unnoticed index (asked.Connect conn) d own is = ap (noticed_in index) is
@@ -173,43 +183,49 @@ module _ {C : Type 0} (told : C → Option (List CoreEntry)) where
   desk_moves d before after state is steps owed = record { state = state; told_new = is; steps = steps; owed = owed }
 
   -- no sink has a part in it
-  pub apart : (done : Option PlainStep) (before after : Desk C) (ends : List SinkEnds) → DeskDoes told done before after → ((index : ℕ) → Spared before.state index done) → Does told done (record { desk = before; ends = ends }) (record { desk = after; ends = ends })
-  apart done before after ends desk spared = record {
+  pub apart : (made : Option PlainStep) (before after : Desk C) (ends : List SinkEnds) → DeskDoes told made before after → ((index : ℕ) → Spared before.state index made) → Does told made (record { desk = before; ends = ends }) (record { desk = after; ends = ends })
+  apart made before after ends desk spared = record {
     desk = desk;
     count = refl;
-    ends = λ index e f was is. subst (λ x. IsEndAfter done before.state index e x) (same_Some e f (sym was ∙ is)) (stays before.state index done (spared index) e);
+    ends = λ index e f was is. subst (λ x. IsEndAfter made before.state index e x) (same_Some e f (sym was ∙ is)) (stays before.state index made (spared index) e);
   }
 
   -- one has
-  pub at : (done : Option PlainStep) (place : ℕ) (before after : Desk C) (ends : List SinkEnds) (e f : SinkEnds) → slice_get ends place ≡ Some e → DoesAt told done place before after e f → ((index : ℕ) → (place ≡ index → ⊥) → Spared before.state index done)
-      → Does told done (record { desk = before; ends = ends }) (record { desk = after; ends = set ends place f })
-  at done place before after ends e f here does spared = record {
+  pub at : (made : Option PlainStep) (place : ℕ) (before after : Desk C) (ends : List SinkEnds) (e f : SinkEnds) → slice_get ends place ≡ Some e → DoesAt told made place before after e f → ((index : ℕ) → (place ≡ index → ⊥) → Spared before.state index made)
+      → Does told made (record { desk = before; ends = ends }) (record { desk = after; ends = set ends place f })
+  at made place before after ends e f here does spared = record {
     desk = does.desk;
     count = length-set ends place f;
     ends = λ index x y was is. by index x y was is (nat_eq place index) refl;
   }
     where
-      by : (index : ℕ) (x y : SinkEnds) → slice_get ends index ≡ Some x → slice_get (set ends place f) index ≡ Some y → (b : Bool) → nat_eq place index ≡ b → IsEndAfter done before.state index x y
+      by : (index : ℕ) (x y : SinkEnds) → slice_get ends index ≡ Some x → slice_get (set ends place f) index ≡ Some y → (b : Bool) → nat_eq place index ≡ b → IsEndAfter made before.state index x y
       by index x y was is true e0 =
           let same : place ≡ index = eqb-true place index e0 in
-          subst (λ (k : ℕ). slice_get ends k ≡ Some x → slice_get (set ends place f) k ≡ Some y → IsEndAfter done before.state k x y) same
-          (λ w i. subst (λ (p : SinkEnds × SinkEnds). IsEndAfter done before.state place p.0 p.1) (λ j. (same_Some e x (sym here ∙ w) j, there ends place f y i j)) does.end) was is
+          subst (λ (k : ℕ). slice_get ends k ≡ Some x → slice_get (set ends place f) k ≡ Some y → IsEndAfter made before.state k x y) same
+          (λ w i. subst (λ (p : SinkEnds × SinkEnds). IsEndAfter made before.state place p.0 p.1) (λ j. (same_Some e x (sym here ∙ w) j, there ends place f y i j)) does.end) was is
       by index x y was is false e0 =
           let other : place ≡ index → ⊥ = eqb-false place index e0 in
-          subst (λ (z : SinkEnds). IsEndAfter done before.state index x z) (same_Some x y (sym was ∙ sym (elsewhere ends place index f other) ∙ is)) (stays before.state index done (spared index other) x)
+          subst (λ (z : SinkEnds). IsEndAfter made before.state index x z) (same_Some x y (sym was ∙ sym (elsewhere ends place index f other) ∙ is)) (stays before.state index made (spared index other) x)
 
-  -- a notice that was fetched and collected
+  -- a notice that is kept is collected
+  abbrev pub Collects : ℕ → Option (Notice PlainStream) → State PlainStream → State PlainStream → List Effect → Type 0
+  Collects index kept before after effects =
+      IfSome kept (λ n. (after ≡ stepped spec_of before (Step.notice (sink_at index) n)) × (effects ≡ effects_of spec_of before (Step.notice (sink_at index) n)))
+
+  -- one that was fetched and collected
   pub notice_done : (index : ℕ) (before after : Desk C) (e k f : SinkEnds) (n : Notice PlainStream) (effects : List Effect) → Fetches e k → k.kept ≡ Some n → f ≡ record k { kept = None }
-      → after.state ≡ stepped spec_of before.state (Step.notice (sink_at index) n) → told after.recorder ≡ noted (record { step = plain.Notice index (plain_notice n) }) (told before.recorder) → after.steps ≡ before.steps + 1 → after.owed ≡ true
-      → effects ≡ effects_of spec_of before.state (Step.notice (sink_at index) n) → after.fault ≡ before.fault → NoticeGives told index before after e f (Ok (Some effects))
-  notice_done index before after e k f n effects fetch has is state same steps owed are fault =
+      → Collects index k.kept before.state after.state effects → told after.recorder ≡ noted (record { step = plain.Notice index (plain_notice n) }) (told before.recorder) → after.steps ≡ before.steps + 1 → after.owed ≡ true
+      → after.fault ≡ before.fault → NoticeGives told index before after e f (Ok (Some effects))
+  notice_done index before after e k f n effects fetch has is collects same steps owed fault =
+      let did = subst (λ (o : Option (Notice PlainStream)). Collects index o before.state after.state effects) has collects in
       let back : Step.notice (sink_at index) n ≡ Step.notice (sink_at index) (notice_for (plain_notice n)) = ap (λ (m : Notice PlainStream). Step.notice (sink_at index) m) (sym (notice_back n)) in (
         n,
         record {
-          desk = desk_moves (plain.Notice index (plain_notice n)) before after (state ∙ ap (λ (s : Step PlainStream). stepped spec_of before.state s) back) same steps owed;
+          desk = desk_moves (plain.Notice index (plain_notice n)) before after (did.0 ∙ ap (λ (s : Step PlainStream). stepped spec_of before.state s) back) same steps owed;
           end = collected before.state index e k f n fetch has is;
         },
-        are ∙ ap (λ (s : Step PlainStream). effects_of spec_of before.state s) back ∙ sym (one_effects before.state (Step.notice (sink_at index) (notice_for (plain_notice n)))),
+        did.1 ∙ ap (λ (s : Step PlainStream). effects_of spec_of before.state s) back ∙ sym (one_effects before.state (Step.notice (sink_at index) (notice_for (plain_notice n)))),
         fault,
       )
 

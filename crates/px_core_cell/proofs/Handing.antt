@@ -1,6 +1,6 @@
 -- What a sink is posted is lawful there, message by message.
-use Rattle.std.proofs.Common.{◌≡◌, ℕ, zero, suc, ◌+◌, List, [], ◌∷◌, ◌++◌, map, length, drop, replicate, Option, Some, None, refl, ap, sym, subst, ◌∙◌, arith}
-use Rattle.std.specs.Prelude.{nat_eq, slice_get, IfSome}
+use Rattle.std.proofs.Common.{◌≡◌, ℕ, zero, suc, ◌+◌, List, [], ◌∷◌, ◌++◌, map, length, drop, replicate, Option, Some, refl, ap, sym, subst, ◌∙◌, inl}
+use Rattle.std.specs.Prelude.{nat_eq, slice_get}
 use Rattle.std.specs.List.{AllByRecursion}
 use Rattle.std.specs.Option.{option_to_list}
 use Rattle.std.proofs.lemmas.Bool.{cond-true, eq-eqb}
@@ -13,20 +13,19 @@ use Rattle.px_types.specs.declared.ids.SinkId.{SinkId}
 use Rattle.px_annals.specs.declared.stream.PlainStream.{PlainStream}
 use Rattle.px_session.specs.declared.header.SinkSpec.{SinkSpec}
 use Rattle.px_sample.specs.declared.spec.Spec.{Spec}
-use Rattle.px_model.specs.Frame.{SampleSpec}
 use Rattle.px_model.specs.Orderly.{Inputs, IsOrderly, inputs_left_by}
 use Rattle.px_msg.specs.declared.message.Msg.{Msg}
 use Rattle.px_msg.specs.View.{sample_spec, message_of}
-use Rattle.px_msg.specs.Letters.{AreLawful, inputs_after}
+use Rattle.px_msg.specs.Letters.{AreLawful}
 use Rattle.px_msg.proofs.Lawful.{joins, inputs}
 use Rattle.px_stream.specs.Kept.{KeptStream}
 use Rattle.px_core.specs.State.{State}
 use Rattle.px_core.specs.Out.{waiting_for, next_for, handed_out}
 use Rattle.px_core.specs.Keeps.{IsKept, IsStep}
-use Rattle.px_core.specs.Orderly.{inputs_there}
 use Rattle.px_core.specs.Hearing.{told_by}
 use Rattle.px_core.specs.Step.{Step, out, stepped, stepped_by}
-use Rattle.px_core.proofs.HearingLaws.{heard_by, told_joined, outs}
+use Rattle.px_core.proofs.HearingLaws.{heard_by, steps_sinks, told_joined, outs}
+use Rattle.px_core.proofs.StepLaws.{steps_keep}
 use Rattle.px_core.proofs.HandingLaws.{all_out}
 use Rattle.px_core_cell.specs.Cell.{SinkEnds}
 use Rattle.px_core_cell.specs.History.{sink_at, IsHeard}
@@ -58,20 +57,23 @@ pub may_post : (state : State PlainStream) (sink : SinkId) (s : SinkSpec) (key :
 may_post state sink s key posted e item keyed posted_is there kept h next =
     let after = heard_on state sink.0 s e (out sink ∷ []) there (tt, tt) kept h in
     let all : e.posted ++ told_by spec_of sink state (out sink ∷ []) ≡ map seen_message (posted ++ item ∷ []) =
-        ap (λ (l : List (Msg PlainStream)). e.posted ++ l) (told_one state sink (seen_message item) next)
-        ∙ ap (λ (l : List (Msg PlainStream)). l ++ seen_message item ∷ []) posted_is
-        ∙ sym (map-append seen_message posted (item ∷ [])) in
+    ap (λ (l : List (Msg PlainStream)). e.posted ++ l) (told_one state sink (seen_message item) next)
+    ∙ ap (λ (l : List (Msg PlainStream)). l ++ seen_message item ∷ []) posted_is
+    ∙ sym (map-append seen_message posted (item ∷ [])) in
     let seen : AreLawful spec_of (sample_spec s.spec) (map seen_message (posted ++ item ∷ [])) =
-        subst (λ (l : List (Msg PlainStream)). AreLawful spec_of (sample_spec s.spec) l) all after.lawful in
+    subst (λ (l : List (Msg PlainStream)). AreLawful spec_of (sample_spec s.spec) l) all after.lawful in
     subst (λ (k : Option Spec). IsLawful (λ k messages. AreLawful kept_spec (sample_spec k) messages) k (posted ++ item ∷ [])) (sym h.key ∙ keyed)
-        (lawful (sample_spec s.spec) (posted ++ item ∷ []) seen)
+    (lawful (sample_spec s.spec) (posted ++ item ∷ []) seen)
 
 -- no message yet
 pub none_posted : (sink : SinkId) (state : State PlainStream) (e : SinkEnds) → PostsMany sink 0 state state e e
 none_posted sink state e = record { state = refl; ends = ap (λ (l : List (Msg PlainStream)). record e { posted = l }) (sym (append-nil e.posted)) }
 
-one_more : (sink : SinkId) (n : ℕ) → replicate (n + 1) (out {P = PlainStream} sink) ≡ replicate n (out sink) ++ out sink ∷ []
-one_more sink n = sym (replicate-append-replicate n 1 (out {P = PlainStream} sink))
+abbrev out_of : SinkId → Step PlainStream
+out_of sink = out sink
+
+one_more : (sink : SinkId) (n : ℕ) → replicate (n + 1) (out_of sink) ≡ replicate n (out_of sink) ++ out_of sink ∷ []
+one_more sink n = sym (replicate-append-replicate n 1 (out_of sink))
 
 -- one message more
 pub more_posted : (sink : SinkId) (n : ℕ) (began before after : State PlainStream) (d e f : SinkEnds) → PostsMany sink n began before d e → PostsOne sink before after e f → PostsMany sink (n + 1) began after d f
@@ -95,9 +97,9 @@ pub all_posted : (sink : SinkId) (n : ℕ) (began after : State PlainStream) (d 
 all_posted sink n began after d e kept count posts =
     let are = all_out spec_of began sink kept.steady n (waiting_for began sink) refl in
     inl (ap (λ (s : State PlainStream). waiting_for s sink) (posts.state ∙ outs spec_of sink n began) ∙ are.waits
-        ∙ ap (λ (k : ℕ). drop k (waiting_for began sink)) count ∙ drop-length (waiting_for began sink))
+    ∙ ap (λ (k : ℕ). drop k (waiting_for began sink)) count ∙ drop-length (waiting_for began sink))
 
-all_outs : (sink : SinkId) (n : ℕ) → AllByRecursion (IsStep {P = PlainStream}) (replicate n (out sink))
+pub all_outs : (sink : SinkId) (n : ℕ) → AllByRecursion (IsStep {P = PlainStream}) (replicate n (out sink))
 all_outs sink zero = tt
 all_outs sink (suc n) = (tt, all_outs sink n)
 
@@ -105,7 +107,23 @@ all_outs sink (suc n) = (tt, all_outs sink n)
 pub heard_still : (sink : SinkId) (n : ℕ) (began after : State PlainStream) (d e : SinkEnds) (s : SinkSpec) → slice_get began.sinks sink.0 ≡ Some s → IsKept spec_of began → IsHeard began sink.0 s d → PostsMany sink n began after d e → IsHeard after sink.0 s e
 heard_still sink n began after d e s there kept h posts =
     subst (λ (x : State PlainStream × SinkEnds). IsHeard x.0 sink.0 s x.1) (λ i. (sym posts.state i, sym posts.ends i))
-        (heard_on began sink.0 s d (replicate n (out sink)) there (all_outs sink n) kept h)
+    (heard_on began sink.0 s d (replicate n (out sink)) there (all_outs sink n) kept h)
+
+-- a sink that is there
+abbrev pub IsThere : SinkId → State PlainStream → SinkEnds → Type 0
+IsThere sink state e = (s : SinkSpec) × (slice_get state.sinks sink.0 ≡ Some s) × IsHeard state sink.0 s e
+
+pub there_still : (sink : SinkId) (n : ℕ) (began after : State PlainStream) (d e : SinkEnds) → IsThere sink began d → IsKept spec_of began → PostsMany sink n began after d e → IsThere sink after e
+there_still sink n began after d e is kept posts = (
+  is.0,
+  ap (λ (l : List SinkSpec). slice_get l sink.0) (ap (λ (s : State PlainStream). s.sinks) posts.state ∙ steps_sinks spec_of began (replicate n (out sink))) ∙ is.1,
+  heard_still sink n began after d e is.0 is.1 kept is.2 posts,
+)
+
+-- and the core keeps what it keeps
+pub kept_still : (sink : SinkId) (n : ℕ) (began after : State PlainStream) (d e : SinkEnds) → IsKept spec_of began → PostsMany sink n began after d e → IsKept spec_of after
+kept_still sink n began after d e kept posts =
+    subst (λ (s : State PlainStream). IsKept spec_of s) (sym posts.state) (steps_keep spec_of began (replicate n (out sink)) (all_outs sink n) kept)
 
 -- the mailbox held 256 of those that were posted, as they are seen
 pub held_seen : (posted : List (Msg KeptStream)) → Held 256 (IsHeldOf posted) → Held 256 (IsHeldOf (map seen_message posted))

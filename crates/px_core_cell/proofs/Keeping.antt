@@ -1,6 +1,6 @@
 -- A core under its lock keeps its history.
-use Rattle.std.proofs.Common.{◌≡◌, ℕ, zero, suc, ◌+◌, ◌<◌, Bool, true, false, List, [], ◌∷◌, ◌++◌, map, length, replicate, Option, Some, None, Result, Ok, Err, refl, ap, sym, subst, ◌∙◌, arith, length-append, append_assoc}
-use Rattle.std.specs.Prelude.{slice_get, get_or, flat_map, IfSome}
+use Rattle.std.proofs.Common.{◌≡◌, ℕ, ◌<◌, Bool, false, List, [], ◌∷◌, ◌++◌, length, Option, Some, None, Result, Ok, Err, refl, ap, sym, subst, ◌∙◌, arith, length-append, append_assoc}
+use Rattle.std.specs.Prelude.{slice_get, get_or, IfSome}
 use Rattle.std.specs.List.{AllByRecursion}
 use Rattle.std.specs.Option.{option_to_list, option_map}
 use Rattle.std.proofs.lemmas.List.{append-nil, length-map}
@@ -10,17 +10,13 @@ use Rattle.std.proofs.lemmas.Option.{slice_get_within, slice_get-get_or, slice_g
 use Rattle.px_annals.specs.declared.entry.CoreEntry.{CoreEntry}
 use Rattle.px_annals.specs.declared.stream.PlainStream.{PlainStream}
 use Rattle.px_annals.specs.declared.step.PlainStep.{PlainStep}
-use Rattle.px_annals.specs.declared.step.PlainStep.TheVariants as plain
-use Rattle.px_annals.specs.History.{noted}
-use Rattle.px_session.specs.declared.header.Header.{Header}
 use Rattle.px_session.specs.declared.header.SinkSpec.{SinkSpec}
-use Rattle.px_session.specs.HeaderRules.{IsHeader}
 use Rattle.px_msg.specs.declared.message.Msg.{Msg}
 use Rattle.px_msg.specs.declared.notice.Notice.{Notice}
 use Rattle.px_msg.specs.View.{sample_spec}
 use Rattle.px_msg.specs.Letters.{AreLawful, inputs_after}
 use Rattle.px_core.specs.declared.effect.Effect.{Effect}
-use Rattle.px_core.specs.State.{State, new_state}
+use Rattle.px_core.specs.State.{State}
 use Rattle.px_core.specs.Keeps.{IsKept, IsStep}
 use Rattle.px_core.specs.Orderly.{inputs_there}
 use Rattle.px_core.specs.Hearing.{told_by}
@@ -31,43 +27,43 @@ use Rattle.px_core_cell.specs.declared.step.CoreStep.{CoreStep}
 use Rattle.px_core_cell.specs.declared.step.CoreStep.TheVariants as asked
 use Rattle.px_core_cell.specs.declared.step.StepFault.{StepFault}
 use Rattle.px_core_cell.specs.declared.step.StepFault.TheVariants.{NoMemory, Worn, Recorder, Owed}
-use Rattle.px_core_cell.specs.Cell.{Desk, Cell, SinkEnds}
+use Rattle.px_core_cell.specs.Cell.{Cell, SinkEnds}
 use Rattle.px_core_cell.specs.History.{sink_at, steps_in, noticed_in, noticed_by, owes, owed_by, IsHeard, IsSound, IsTold, IsReplay, IsCell, Begins, fresh_ends, first_cell}
 use Rattle.px_core_cell.specs.Parcel.{spec_of}
 use Rattle.px_core_cell.specs.Plain.{steps_of}
-use Rattle.px_core_cell.specs.Step.{step_for, IsAsked, IsEntryFor, steps_done, noticed_done, entered, owed_after, IsEndAfter, Does, StepGives}
+use Rattle.px_core_cell.specs.Step.{IsAsked, IsEntryFor, steps_done, noticed_done, entered, owed_after, IsEndAfter, Does, StepGives}
 use Rattle.px_core_cell.proofs.Handing.{heard_on, all_outs}
 use Rattle.px_core_cell.proofs.Doing.{own_steps}
 
 -- ---- the entries of a step
 
-those : Option PlainStep → List CoreEntry
+abbrev those : Option PlainStep → List CoreEntry
 those None = []
 those (Some d) = record { step = d } ∷ []
 
-those_steps : (done : Option PlainStep) → steps_in (those done) ≡ steps_done done
+those_steps : (made : Option PlainStep) → steps_in (those made) ≡ steps_done made
 those_steps None = refl
 those_steps (Some d) = append-nil (steps_of d)
 
-those_noticed : (index : ℕ) (done : Option PlainStep) → noticed_by index (those done) ≡ noticed_done index done
+those_noticed : (index : ℕ) (made : Option PlainStep) → noticed_by index (those made) ≡ noticed_done index made
 those_noticed index None = refl
 those_noticed index (Some d) = append-nil (noticed_in index d)
 
-those_count : (done : Option PlainStep) → length (those done) ≡ length (option_to_list done)
+those_count : (made : Option PlainStep) → length (those made) ≡ length (option_to_list made)
 those_count None = refl
 those_count (Some d) = refl
 
-those_owed : (done : Option PlainStep) (entries : List CoreEntry) → owed_by (entries ++ those done) ≡ owed_after done (owed_by entries)
+those_owed : (made : Option PlainStep) (entries : List CoreEntry) → owed_by (entries ++ those made) ≡ owed_after made (owed_by entries)
 those_owed None entries = ap owed_by (append-nil entries)
 those_owed (Some d) entries = fold-append (λ (owed : Bool) (e : CoreEntry). owes owed e.step) false entries (record { step = d } ∷ [])
 
-all_steps : (entries : List CoreEntry) (done : Option PlainStep) → steps_in (entries ++ those done) ≡ steps_in entries ++ steps_done done
-all_steps entries done =
-    flat_map-append (λ (e : CoreEntry). steps_of e.step) entries (those done) ∙ ap (λ (l : List (Step PlainStream)). steps_in entries ++ l) (those_steps done)
+all_steps : (entries : List CoreEntry) (made : Option PlainStep) → steps_in (entries ++ those made) ≡ steps_in entries ++ steps_done made
+all_steps entries made =
+    flat_map-append (λ (e : CoreEntry). steps_of e.step) entries (those made) ∙ ap (λ (l : List (Step PlainStream)). steps_in entries ++ l) (those_steps made)
 
-all_noticed : (index : ℕ) (entries : List CoreEntry) (done : Option PlainStep) → noticed_by index (entries ++ those done) ≡ noticed_by index entries ++ noticed_done index done
-all_noticed index entries done =
-    flat_map-append (λ (e : CoreEntry). noticed_in index e.step) entries (those done) ∙ ap (λ (l : List (Notice PlainStream)). noticed_by index entries ++ l) (those_noticed index done)
+all_noticed : (index : ℕ) (entries : List CoreEntry) (made : Option PlainStep) → noticed_by index (entries ++ those made) ≡ noticed_by index entries ++ noticed_done index made
+all_noticed index entries made =
+    flat_map-append (λ (e : CoreEntry). noticed_in index e.step) entries (those made) ∙ ap (λ (l : List (Notice PlainStream)). noticed_by index entries ++ l) (those_noticed index made)
 
 -- ---- the steps of an entry can be
 
@@ -83,23 +79,23 @@ steps_fine (asked.Out sink) d may is = subst (λ (x : PlainStep). AllByRecursion
 
 module _ {C : Type 0} (told : C → Option (List CoreEntry)) (began : State PlainStream) where
   -- the ends that a sink had before
-  ends_before : (done : Option PlainStep) (before after : Cell C) → Does told done before after → (index : ℕ) (f : SinkEnds) → slice_get after.ends index ≡ Some f → slice_get before.ends index ≡ Some (get_or before.ends index f)
-  ends_before done before after does index f is = slice_get-get_or before.ends index f (subst (λ (n : ℕ). index < n) does.count (slice_get_within after.ends index f is))
+  ends_before : (made : Option PlainStep) (before after : Cell C) → Does told made before after → (index : ℕ) (f : SinkEnds) → slice_get after.ends index ≡ Some f → slice_get before.ends index ≡ Some (get_or before.ends index f)
+  ends_before made before after does index f is = slice_get-get_or before.ends index f (subst (λ (n : ℕ). index < n) does.count (slice_get_within after.ends index f is))
 
-  end_after : (done : Option PlainStep) (before after : Cell C) → Does told done before after → (index : ℕ) (f : SinkEnds) → slice_get after.ends index ≡ Some f → IsEndAfter done before.desk.state index (get_or before.ends index f) f
-  end_after done before after does index f is = does.ends index (get_or before.ends index f) f (ends_before done before after does index f is) is
+  end_after : (made : Option PlainStep) (before after : Cell C) → Does told made before after → (index : ℕ) (f : SinkEnds) → slice_get after.ends index ≡ Some f → IsEndAfter made before.desk.state index (get_or before.ends index f) f
+  end_after made before after does index f is = does.ends index (get_or before.ends index f) f (ends_before made before after does index f is) is
 
-  sound_after : (done : Option PlainStep) (before after : Cell C) → AllByRecursion IsStep (steps_done done) → IsSound before → Does told done before after → IsSound after
-  sound_after done before after fine h does =
-      let sinks : after.desk.state.sinks ≡ before.desk.state.sinks = ap (λ (s : State PlainStream). s.sinks) does.desk.state ∙ steps_sinks spec_of before.desk.state (steps_done done) in
+  sound_after : (made : Option PlainStep) (before after : Cell C) → AllByRecursion IsStep (steps_done made) → IsSound before → Does told made before after → IsSound after
+  sound_after made before after fine h does =
+      let sinks : after.desk.state.sinks ≡ before.desk.state.sinks = ap (λ (s : State PlainStream). s.sinks) does.desk.state ∙ steps_sinks spec_of before.desk.state (steps_done made) in
       record {
-        core = subst (λ (s : State PlainStream). IsKept spec_of s) (sym does.desk.state) (steps_keep spec_of before.desk.state (steps_done done) fine h.core);
+        core = subst (λ (s : State PlainStream). IsKept spec_of s) (sym does.desk.state) (steps_keep spec_of before.desk.state (steps_done made) fine h.core);
         count = does.count ∙ h.count ∙ ap (λ (l : List SinkSpec). length l) (sym sinks);
         heard = λ index s f there is.
             let e : SinkEnds = get_or before.ends index f in
-            let end = end_after done before after does index f is in
+            let end = end_after made before after does index f is in
             let was : slice_get before.desk.state.sinks index ≡ Some s = ap (λ (l : List SinkSpec). slice_get l index) (sym sinks) ∙ there in
-            let now = heard_on before.desk.state index s e (steps_done done) was fine h.core (h.heard index s e was (ends_before done before after does index f is)) in
+            let now = heard_on before.desk.state index s e (steps_done made) was fine h.core (h.heard index s e was (ends_before made before after does index f is)) in
             record {
               key = end.key ∙ now.key;
               lawful = subst (λ (l : List (Msg PlainStream)). AreLawful spec_of (sample_spec s.spec) l) (sym end.posted) now.lawful;
@@ -107,39 +103,39 @@ module _ {C : Type 0} (told : C → Option (List CoreEntry)) (began : State Plai
             };
       }
 
-  replay_after : (done : Option PlainStep) (before after : Cell C) (entries : List CoreEntry) → IsReplay began before entries → Does told done before after → IsReplay began after (entries ++ those done)
-  replay_after done before after entries h does = record {
-    state = does.desk.state ∙ ap (λ (s : State PlainStream). stepped_by spec_of s (steps_done done)) h.state
-        ∙ sym (fold-append (stepped spec_of) began (steps_in entries) (steps_done done)) ∙ ap (λ (l : List (Step PlainStream)). stepped_by spec_of began l) (sym (all_steps entries done));
-    steps = omega (arith, does.desk.steps, h.steps, those_count done, length-append entries (those done));
-    owed = does.desk.owed ∙ ap (λ (b : Bool). owed_after done b) h.owed ∙ sym (those_owed done entries);
+  replay_after : (made : Option PlainStep) (before after : Cell C) (entries : List CoreEntry) → IsReplay began before entries → Does told made before after → IsReplay began after (entries ++ those made)
+  replay_after made before after entries h does = record {
+    state = does.desk.state ∙ ap (λ (s : State PlainStream). stepped_by spec_of s (steps_done made)) h.state
+        ∙ sym (fold-append (stepped spec_of) began (steps_in entries) (steps_done made)) ∙ ap (λ (l : List (Step PlainStream)). stepped_by spec_of began l) (sym (all_steps entries made));
+    steps = omega (arith, does.desk.steps, h.steps, those_count made, length-append entries (those made));
+    owed = does.desk.owed ∙ ap (λ (b : Bool). owed_after made b) h.owed ∙ sym (those_owed made entries);
     told = λ index f is.
         let e : SinkEnds = get_or before.ends index f in
-        let end = end_after done before after does index f is in
-        let was = h.told index e (ends_before done before after does index f is) in
+        let end = end_after made before after does index f is in
+        let was = h.told index e (ends_before made before after does index f is) in
         record {
-          posted = end.posted ∙ ap (λ (l : List (Msg PlainStream)). l ++ told_by spec_of (sink_at index) before.desk.state (steps_done done)) was.posted
-              ∙ ap (λ (s : State PlainStream). told_by spec_of (sink_at index) began (steps_in entries) ++ told_by spec_of (sink_at index) s (steps_done done)) h.state
-              ∙ sym (told_joined spec_of (sink_at index) (steps_in entries) (steps_done done) began)
-              ∙ ap (λ (l : List (Step PlainStream)). told_by spec_of (sink_at index) began l) (sym (all_steps entries done));
+          posted = end.posted ∙ ap (λ (l : List (Msg PlainStream)). l ++ told_by spec_of (sink_at index) before.desk.state (steps_done made)) was.posted
+              ∙ ap (λ (s : State PlainStream). told_by spec_of (sink_at index) began (steps_in entries) ++ told_by spec_of (sink_at index) s (steps_done made)) h.state
+              ∙ sym (told_joined spec_of (sink_at index) (steps_in entries) (steps_done made) began)
+              ∙ ap (λ (l : List (Step PlainStream)). told_by spec_of (sink_at index) began l) (sym (all_steps entries made));
           taken = end.taken ∙ ap (λ (l : List (Notice PlainStream)). l ++ end.took) was.taken
               ∙ append_assoc (noticed_by index entries) (option_to_list e.kept) end.took
               ∙ ap (λ (l : List (Notice PlainStream)). noticed_by index entries ++ l) end.kept
-              ∙ sym (append_assoc (noticed_by index entries) (noticed_done index done) (option_to_list f.kept))
-              ∙ ap (λ (l : List (Notice PlainStream)). l ++ option_to_list f.kept) (sym (all_noticed index entries done));
+              ∙ sym (append_assoc (noticed_by index entries) (noticed_done index made) (option_to_list f.kept))
+              ∙ ap (λ (l : List (Notice PlainStream)). l ++ option_to_list f.kept) (sym (all_noticed index entries made));
         };
   }
 
-  replays : (done : Option PlainStep) (before after : Cell C) → Does told done before after → (o : Option (List CoreEntry)) → told before.desk.recorder ≡ o → IfSome o (IsReplay began before) → IfSome (entered done o) (IsReplay began after)
+  replays : (made : Option PlainStep) (before after : Cell C) → Does told made before after → (o : Option (List CoreEntry)) → told before.desk.recorder ≡ o → IfSome o (IsReplay began before) → IfSome (entered made o) (IsReplay began after)
   replays None before after does None e h = tt
   replays None before after does (Some entries) e h = subst (λ (l : List CoreEntry). IsReplay began after l) (append-nil entries) (replay_after None before after entries h does)
   replays (Some d) before after does None e h = tt
   replays (Some d) before after does (Some entries) e h = replay_after (Some d) before after entries h does
 
-  pub goes_on : (done : Option PlainStep) (before after : Cell C) → AllByRecursion IsStep (steps_done done) → IsCell told began before → Does told done before after → IsCell told began after
-  goes_on done before after fine h does = record {
-    sound = sound_after done before after fine h.sound does;
-    replay = subst (λ (o : Option (List CoreEntry)). IfSome o (IsReplay began after)) (sym does.desk.told_new) (replays done before after does (told before.desk.recorder) refl h.replay);
+  pub goes_on : (made : Option PlainStep) (before after : Cell C) → AllByRecursion IsStep (steps_done made) → IsCell told began before → Does told made before after → IsCell told began after
+  goes_on made before after fine h does = record {
+    sound = sound_after made before after fine h.sound does;
+    replay = subst (λ (o : Option (List CoreEntry)). IfSome o (IsReplay began after)) (sym does.desk.told_new) (replays made before after does (told before.desk.recorder) refl h.replay);
   }
 
   same : (before after : Cell C) → after ≡ before → IsCell told began before → IsCell told began after
@@ -184,6 +180,7 @@ module _ {C : Type 0} (told : C → Option (List CoreEntry)) (began : State Plai
     where
       at_end : (index : ℕ) → option_map fresh_ends (slice_get h.header.sinks index) ≡ slice_get ends index
       at_end index = sym (ap (λ (l : List SinkEnds). slice_get l index) h.ends_are ∙ slice_get-map fresh_ends h.header.sinks index)
+
       by : (index : ℕ) (e : SinkEnds) (o : Option SinkSpec) → option_map fresh_ends o ≡ Some e → IsTold began [] index e
       by index e None is = absurd (none-some e is)
       by index e (Some s) is = subst (λ (x : SinkEnds). IsTold began [] index x) (same_Some (fresh_ends s) e is) (record { posted = refl; taken = refl })

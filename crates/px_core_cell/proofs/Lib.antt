@@ -3,3 +3,4 @@ pub mod Seen
 pub mod Handing
 pub mod Doing
 pub mod Keeping
+pub mod Giving

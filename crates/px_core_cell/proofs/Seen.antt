@@ -1,6 +1,5 @@
 -- Messages of the code and as a history has them are lawful alike.
-use Rattle.std.proofs.Common.{◌≡◌, ℕ, List, [], ◌∷◌, ◌++◌, map, refl, ap, sym, subst}
-use Rattle.px_annals.specs.declared.stream.PlainStream.{PlainStream}
+use Rattle.std.proofs.Common.{◌≡◌, List, [], ◌∷◌, map, refl, subst}
 use Rattle.px_model.specs.Frame.{SampleSpec}
 use Rattle.px_model.specs.Message.{Message}
 use Rattle.px_model.specs.Orderly.{Inputs, IsOrderly, NamesInput, Fits, inputs_left}

@@ -1,6 +1,8 @@
 -- What lies under the core's lock.
 use Rattle.std.specs.Prelude.{ℕ, Bool, List, map, Option}
+use Rattle.px_annals.specs.declared.entry.CoreEntry.{CoreEntry}
 use Rattle.px_annals.specs.declared.recorder.RecordFault.{RecordFault}
+use Rattle.px_annals.specs.declared.recorder.Recorder.{Ghosts}
 use Rattle.px_annals.specs.declared.stream.PlainStream.{PlainStream}
 use Rattle.px_core.specs.State.{State}
 use Rattle.px_mail.specs.Mailbox.{key_of, posted_by, taken_by}
@@ -41,8 +43,8 @@ ends_of e = record {
   kept = e.kept;
 }
 
-abbrev pub desk_of : {C : Type 0} → State PlainStream → StepLog C → Desk C
+abbrev pub desk_of : {C : Type 0} {R : Ghosts C CoreEntry} → State PlainStream → StepLog C R → Desk C
 desk_of state log = record { state = state; recorder = log.recorder; fault = log.fault; steps = log.steps; owed = log.owed }
 
-abbrev pub cell_of : {C : Type 0} → CoreParts C → Cell C
+abbrev pub cell_of : {C : Type 0} {R : Ghosts C CoreEntry} → CoreParts C R → Cell C
 cell_of p = record { desk = desk_of p.core.state p.log; ends = map ends_of p.ends.items }

@@ -1,5 +1,6 @@
 pub mod Parcel
 pub mod Plain
+pub mod Cause
 pub mod Cell
 pub mod History
 pub mod Step

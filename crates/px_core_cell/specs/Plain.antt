@@ -1,8 +1,5 @@
 -- Steps of the core as plain numbers and bytes, and back.
-use Rattle.std.specs.Prelude.{ℕ, zero, suc, List, [], ◌∷◌, replicate, map, flat_map}
-use Rattle.px_types.specs.declared.ids.ConnId.{ConnId}
-use Rattle.px_types.specs.declared.ids.SinkId.{SinkId}
-use Rattle.px_annals.specs.declared.entry.CoreEntry.{CoreEntry}
+use Rattle.std.specs.Prelude.{ℕ, zero, suc, List, [], ◌∷◌, replicate}
 use Rattle.px_annals.specs.declared.stream.PlainRun.{PlainRun}
 use Rattle.px_annals.specs.declared.stream.PlainRun.TheVariants as runs
 use Rattle.px_annals.specs.declared.stream.PlainStream.{PlainStream}
@@ -16,7 +13,6 @@ use Rattle.px_model.specs.declared.data.Run.{Run}
 use Rattle.px_model.specs.declared.data.Run.TheVariants.{Quiet, Playing}
 use Rattle.px_frame.specs.declared.fault.FrameFault.{FrameFault}
 use Rattle.px_frame.specs.declared.fault.FrameFault.TheVariants.{ZeroLength, TooLong, PacketFlags, SharedMemory, SeekMode}
-use Rattle.px_frame.specs.declared.frame.Frame.{Frame}
 use Rattle.px_frame.specs.declared.frame.Body.{Body}
 use Rattle.px_frame.specs.declared.frame.Body.TheVariants.{Control, Write}
 use Rattle.px_msg.specs.declared.notice.Notice.{Notice}

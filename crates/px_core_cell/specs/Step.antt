@@ -4,7 +4,7 @@ use Rattle.std.specs.Option.{option_to_list, option_or}
 use Rattle.crossbeam_queue.specs.Fifo.{Held}
 use Rattle.px_mail.specs.Mailbox.{IsHeldOf}
 use Rattle.px_types.specs.declared.ids.SinkId.{SinkId}
-use Rattle.px_annals.specs.declared.recorder.RecordFault.{RecordFault}
+use Rattle.px_annals.specs.declared.recorder.Recorder.{Ghosts}
 use Rattle.px_annals.specs.declared.entry.CoreEntry.{CoreEntry}
 use Rattle.px_annals.specs.declared.stream.PlainStream.{PlainStream}
 use Rattle.px_annals.specs.declared.step.PlainStep.{PlainStep}
@@ -177,6 +177,14 @@ StepGives told step before after (Err Worn) = (before.desk.owed && waits step �
 StepGives told step before after (Err (Recorder why)) = IsFree step before × FreeGives told step before after (Err (Recorder why))
 StepGives told step before after (Err (Owed back)) = (before.desk.owed && waits step ≡ true) × (back ≡ step) × (after ≡ before)
 
+-- a step that is handed back is the very step that was asked for
+abbrev pub HandsBack : {A : Type 0} → CoreStep → Result A StepFault → Type 0
+HandsBack step (Ok answer) = ⊤
+HandsBack step (Err NoMemory) = ⊤
+HandsBack step (Err Worn) = ⊤
+HandsBack step (Err (Recorder why)) = ⊤
+HandsBack step (Err (Owed back)) = back ≡ step
+
 -- ---- what its parts answer
 
 -- a step in which no sink has a part, where its core is stepped; none stands for the two others
@@ -189,9 +197,6 @@ step_for (asked.Cut conn) = Step.cut conn
 step_for asked.Sweep = Step.sweep
 step_for (asked.Notice sink) = Step.out sink
 step_for (asked.Out sink) = Step.out sink
-
-abbrev pub ReadyFails : StepFault → Option RecordFault → Option RecordFault → Type 0
-ReadyFails e before after = (why : RecordFault) × (e ≡ Recorder why) × (after ≡ option_or before (Some why))
 
 -- a step that no sink has a part in
 abbrev pub OwnGives : {C : Type 0} → (C → Option (List CoreEntry)) → CoreStep → Desk C → Desk C → Result (List Effect) StepFault → Type 0
@@ -239,18 +244,20 @@ pub record PostsMany (sink : SinkId) (count : ℕ) (before after : State PlainSt
   pub ends : f ≡ record e { posted = e.posted ++ told_by spec_of sink before (replicate count (Step.out sink)) }
 
 -- the messages of the sink with an index
-abbrev pub OutGives : {C : Type 0} → (C → Option (List CoreEntry)) → SinkId → Desk C → Desk C → SinkEnds → SinkEnds → Result Unit StepFault → Type 0
-OutGives told sink before after e f (Ok done) =
-    (count : ℕ) × DoesAt told (Some (plain.Out sink.0 count)) sink.0 before after e f × HandsAll sink after.state f × (after.fault ≡ before.fault)
+abbrev pub OutGives : {C : Type 0} → (C → Option (List CoreEntry)) → SinkId → Desk C → Desk C → SinkEnds → SinkEnds → Result (List Effect) StepFault → Type 0
+OutGives told sink before after e f (Ok effects) =
+    (count : ℕ) × DoesAt told (Some (plain.Out sink.0 count)) sink.0 before after e f × HandsAll sink after.state f × (effects ≡ []) × (after.fault ≡ before.fault)
 OutGives told sink before after e f (Err NoMemory) = ⊥
 OutGives told sink before after e f (Err Worn) = ⊥
 OutGives told sink before after e f (Err (Recorder why)) = DoesAt told None sink.0 before after e f × (after.fault ≡ option_or before.fault (Some why))
 OutGives told sink before after e f (Err (Owed back)) = ⊥
 
 -- no messages, to a sink that isn't there
-abbrev pub NowhereGives : {C : Type 0} → (C → Option (List CoreEntry)) → ℕ → StepLog C → StepLog C → Result Unit StepFault → Type 0
-NowhereGives told index before after (Ok done) = (state : State PlainStream) → DeskDoes told (Some (plain.Out index 0)) (desk_of state before) (desk_of state after) × (after.fault ≡ before.fault)
+abbrev pub NowhereGives : {C : Type 0} {R : Ghosts C CoreEntry} → (C → Option (List CoreEntry)) → ℕ → StepLog C R → StepLog C R → Result (List Effect) StepFault → Type 0
+NowhereGives told index before after (Ok effects) =
+    ((state : State PlainStream) → DeskDoes told (Some (plain.Out index 0)) (desk_of state before) (desk_of state after)) × (effects ≡ []) × (after.fault ≡ before.fault)
 NowhereGives told index before after (Err NoMemory) = ⊥
 NowhereGives told index before after (Err Worn) = ⊥
-NowhereGives told index before after (Err (Recorder why)) = (state : State PlainStream) → DeskDoes told None (desk_of state before) (desk_of state after) × (after.fault ≡ option_or before.fault (Some why))
+NowhereGives told index before after (Err (Recorder why)) =
+    ((state : State PlainStream) → DeskDoes told None (desk_of state before) (desk_of state after)) × (after.fault ≡ option_or before.fault (Some why))
 NowhereGives told index before after (Err (Owed back)) = ⊥

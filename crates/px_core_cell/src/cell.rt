@@ -3,7 +3,8 @@
 ghost use Rattle.std.specs.Prelude.{◌≡◌, ◌+◌, ◌<◌, ◌≤◌, [], Some, map, IfSome, MatchResult, MatchOption};
 ghost use Rattle.px_core_cell.specs.Cell.{ends_of, cell_of};
 ghost use Rattle.px_core_cell.specs.History.{Begins, IsCell};
-ghost use Rattle.px_core_cell.specs.Step.{IsAsked};
+ghost use Rattle.px_core_cell.specs.Cause.{IsCaused};
+ghost use Rattle.px_core_cell.specs.Step.{IsAsked, HandsBack};
 ghost use Rattle.px_core_cell.specs.Seat.{Counts};
 
 use crate::ends::CoreEnds;
@@ -64,7 +65,8 @@ impl<C: Recorder<CoreEntry>, L: Seats> Live<C, L> {
         seat: &mut CoreSeat<L>,
     ) -> Result<Option<Effects>, StepFault>
         requires { IsAsked step }
-        ensures { Counts result seat.old seat.new }
+        ensures counts { Counts result seat.old seat.new }
+        ensures back { HandsBack step result }
     {
         let answer = self.state.step(rt, alloc, step)?;
         if answer.is_some() {
@@ -127,7 +129,8 @@ impl<C: Recorder<CoreEntry> + Drop, L: Seats> CoreCell<C, L> {
         )
     }
 
-    /// Takes the lock and does one step, as `CoreState::step` says. The seat counts one more exactly where the answer is `Ok(Some)`.
+    /// Takes the lock and does one step, as `CoreState::step` says. The seat counts one more exactly where the answer is `Ok(Some)`. `Owed`
+    /// hands the very step back.
     pub fn step<R: Wait>(
         &self,
         rt: &R,
@@ -136,7 +139,8 @@ impl<C: Recorder<CoreEntry> + Drop, L: Seats> CoreCell<C, L> {
         seat: &mut CoreSeat<L>,
     ) -> Result<Option<Effects>, StepFault>
         requires { IsAsked step }
-        ensures { Counts result seat.old seat.new }
+        ensures counts { Counts result seat.old seat.new }
+        ensures back { HandsBack step result }
     {
         let mut slot = self.slot.lock(rt);
         match &mut *slot {
@@ -153,6 +157,7 @@ impl<C: Recorder<CoreEntry> + Drop, L: Seats> CoreCell<C, L> {
         requires { seat.parts ≡ L.all }
         ensures history { IsCell C.told L.began (cell_of result) }
         ensures steps { seat.steps ≤ result.log.steps }
+        ensures caused { IsCaused result.log.fault (C.faults result.log.recorder) (C.fulls result.log.recorder) }
     {
         let mut seat = seat;
         let mut slot = self.slot.lock(rt);

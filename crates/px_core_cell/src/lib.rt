@@ -18,7 +18,7 @@ mod step;
 pub use cell::CoreCell;
 pub use ends::{CoreEnd, CoreEnds};
 pub use log::StepLog;
-pub use parcel::{CellCore, Carried};
+pub use parcel::{Carried, CellCore};
 pub use parts::CoreParts;
 pub use seat::{CoreSeat, Seats};
 pub use state::CoreState;

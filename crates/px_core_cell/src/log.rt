@@ -1,9 +1,10 @@
 //! The steps that were done under the core's lock, counted and recorded.
 
 ghost use Rattle.std.specs.Prelude.{◌≡◌, ◌+◌, ◌-◌, ◌^◌, ◌<◌, OnOk, MatchResult};
+ghost use Rattle.std.proofs.Props.{props};
 ghost use Rattle.px_annals.specs.History.{noted};
 ghost use Rattle.px_annals.specs.Size.{size_of_core_entry};
-ghost use Rattle.px_core_cell.specs.Step.{ReadyFails};
+ghost use Rattle.px_core_cell.specs.Cause.{IsCaused, ReadyFails};
 
 use crate::step::StepFault;
 use px_annals::{CoreEntry, RecordFault, Recorder};
@@ -11,11 +12,12 @@ use px_annals::{CoreEntry, RecordFault, Recorder};
 /// The recorder of the core's history with its first fault, how many steps were done, and whether a sweep is owed: one is from each step that
 /// is neither a sweep nor the handing out of messages to the next sweep.
 #[derive(Drop)]
-pub struct StepLog<C> {
+pub struct StepLog<C: Recorder<CoreEntry>> {
     pub recorder: C,
     pub fault: Option<RecordFault>,
     pub steps: u64,
     pub owed: bool,
+    pub ghost caused: { IsCaused fault (C.faults recorder) (C.fulls recorder) } by { Prim.hlevel props },
 }
 
 impl<C: Recorder<CoreEntry>> StepLog<C> {

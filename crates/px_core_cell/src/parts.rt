@@ -23,7 +23,7 @@ use std::sync::Wait;
 
 /// The core, the log of its steps, and its ends of each sink's mailboxes.
 #[derive(Drop)]
-pub struct CoreParts<C> {
+pub struct CoreParts<C: Recorder<CoreEntry>> {
     pub core: CellCore,
     pub log: StepLog<C>,
     pub ends: CoreEnds,
@@ -41,7 +41,7 @@ fn own_step<C: Recorder<CoreEntry>>(
     requires countable { log.old.steps < 2 ^ 64 - 1 }
     ensures { OwnGives C.told step (desk_of core.old.state log.old) (desk_of core.new.state log.new) result }
 {
-    let owed = !matches!(step, CoreStep::Sweep);
+    let owed = waits(&step);
     let entry = CoreEntry {
         step: plain_step(alloc, &step)?,
     };
@@ -82,11 +82,12 @@ fn notice_step<C: Recorder<CoreEntry>, R: Wait>(
 // The messages that wait for a sink, to its inbox.
 fn out_step<C: Recorder<CoreEntry>, R: Wait>(
     rt: &R,
+    alloc: Global,
     core: &mut CellCore,
     log: &mut StepLog<C>,
     end: &mut CoreEnd,
     sink: SinkId,
-) -> Result<(), StepFault>
+) -> Result<Effects, StepFault>
     requires countable { log.old.steps < 2 ^ 64 - 1 }
     requires kept { IsKept spec_of core.old.state }
     requires heard { (s : SinkSpec) × (slice_get core.old.state.sinks sink.0 ≡ Some s) × IsHeard core.old.state sink.0 s (ends_of end.old) }
@@ -104,14 +105,15 @@ fn out_step<C: Recorder<CoreEntry>, R: Wait>(
         },
         owed,
     );
-    Ok(())
+    Ok(Effects::new(alloc))
 }
 
 // No messages, to a sink that isn't there.
 fn nowhere_step<C: Recorder<CoreEntry>>(
+    alloc: Global,
     log: &mut StepLog<C>,
     sink: SinkId,
-) -> Result<(), StepFault>
+) -> Result<Effects, StepFault>
     requires countable { log.old.steps < 2 ^ 64 - 1 }
     ensures { NowhereGives C.told sink.0 log.old log.new result }
 {
@@ -126,7 +128,7 @@ fn nowhere_step<C: Recorder<CoreEntry>>(
         },
         owed,
     );
-    Ok(())
+    Ok(Effects::new(alloc))
 }
 
 impl<C: Recorder<CoreEntry>> CoreParts<C> {
@@ -158,11 +160,10 @@ impl<C: Recorder<CoreEntry>> CoreParts<C> {
         let CoreParts { core, log, ends } = self;
         let place = sink.0 as usize;
         if place < ends.len() {
-            out_step(rt, core, log, &mut ends[place], sink)?;
+            out_step(rt, alloc, core, log, &mut ends[place], sink)
         } else {
-            nowhere_step(log, sink)?;
+            nowhere_step(alloc, log, sink)
         }
-        Ok(Effects::new(alloc))
     }
 
     // A step that no sink has a part in, where more steps can be counted.

@@ -68,12 +68,7 @@ impl CoreEnd {
     }
 
     /// The messages that wait for the sink are posted, in order, until none waits or the inbox is full. Answers how many were.
-    pub(crate) fn post_waiting<R: Wait>(
-        &mut self,
-        rt: &R,
-        core: &mut CellCore,
-        sink: SinkId,
-    ) -> u64
+    pub(crate) fn post_waiting<R: Wait>(&mut self, rt: &R, core: &mut CellCore, sink: SinkId) -> u64
         requires kept { IsKept spec_of core.old.state }
         requires heard { (s : SinkSpec) × (slice_get core.old.state.sinks sink.0 ≡ Some s) × IsHeard core.old.state sink.0 s (ends_of self.old) }
         ensures posts { PostsMany sink result core.old.state core.new.state (ends_of self.old) (ends_of self.new) }

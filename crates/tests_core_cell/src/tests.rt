@@ -1,4 +1,5 @@
-mod cell;
+mod asking;
 mod recorder;
 mod scene;
 mod steps;
+mod threads;

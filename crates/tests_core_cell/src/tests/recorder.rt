@@ -1,31 +1,43 @@
 ghost use Rattle.std.specs.Prelude.{◌≡◌, []};
 
-use px_annals::{CoreEntry, Entry, RecordFault, Recorder};
+use px_annals::{CoreEntry, Entry, PlainStep, RecordFault, Recorder};
 use std::alloc::Global;
 
-// A recorder that keeps its entries, and fails at one call, counted from 0.
+// A recorder that says once that it is full, when it holds so many entries.
 #[derive(Drop)]
-pub(crate) struct Failing {
+pub(crate) struct Crowded {
     entries: Vec<CoreEntry>,
-    calls: u64,
-    fails_at: u64,
-    faults: u64,
+    full_at: usize,
+    fulls: u64,
 }
 
-impl Failing {
-    pub fn new(alloc: Global, fails_at: u64) -> Failing
+// What an entry is of.
+fn kind(entry: &CoreEntry) -> u64 {
+    match &entry.step {
+        PlainStep::Connect { .. } => 1,
+        PlainStep::Frame { .. } => 2,
+        PlainStep::Broken { .. } => 3,
+        PlainStep::Close { .. } => 4,
+        PlainStep::Cut { .. } => 5,
+        PlainStep::Sweep => 6,
+        PlainStep::Notice { .. } => 7,
+        PlainStep::Out { count, .. } => count.saturating_add(8),
+    }
+}
+
+impl Crowded {
+    pub fn new(alloc: Global, full_at: usize) -> Crowded
         ensures { result.entries.items ≡ [] }
     {
-        Failing {
+        Crowded {
             entries: Vec::new(alloc),
-            calls: 0,
-            fails_at,
-            faults: 0,
+            full_at,
+            fulls: 0,
         }
     }
 
-    // Whether both keep as many entries of the same sizes.
-    pub fn matches(&self, other: &Failing) -> bool {
+    // Whether both keep entries of the same kinds and sizes, in order.
+    pub fn matches(&self, other: &Crowded) -> bool {
         if self.entries.len() != other.entries.len() {
             return false;
         }
@@ -33,7 +45,9 @@ impl Failing {
             if place >= other.entries.len() {
                 return false;
             }
-            if self.entries[place].size() != other.entries[place].size() {
+            let one = &self.entries[place];
+            let two = &other.entries[place];
+            if kind(one) != kind(two) || one.size() != two.size() {
                 return false;
             }
         }
@@ -43,9 +57,13 @@ impl Failing {
     pub fn len(&self) -> usize {
         self.entries.len()
     }
+
+    pub fn fulls(&self) -> u64 {
+        self.fulls
+    }
 }
 
-impl Recorder<CoreEntry> for Failing {
+impl Recorder<CoreEntry> for Crowded {
     ghost use Rattle.std.specs.Prelude.{◌<◌, Some, None, vec_len, vec_capacity};
 
     ghost told = { λ r. Some r.entries.items };
@@ -54,16 +72,15 @@ impl Recorder<CoreEntry> for Failing {
 
     ghost takes = { λ r bytes. vec_len r.entries < vec_capacity r.entries };
 
-    ghost faults = { λ r. r.faults };
+    ghost faults = { λ r. 0 };
 
-    ghost fulls = { λ r. 0 };
+    ghost fulls = { λ r. r.fulls };
 
     fn ready(&mut self, _bytes: usize) -> Result<(), RecordFault> {
-        let call = self.calls;
-        self.calls = self.calls.saturating_add(1);
-        if call == self.fails_at {
-            self.faults = self.faults.saturating_add(1);
-            return Err(RecordFault::Failed);
+        let entries = self.entries.len();
+        if entries == self.full_at && self.fulls == 0 {
+            self.fulls = 1;
+            return Err(RecordFault::Full { entries, bytes: 0 });
         }
         if self.entries.reserve(1).is_err() {
             return Err(RecordFault::NoMemory);

@@ -12,13 +12,11 @@ use px_mail::{Mailbox, PostPass, TakePass};
 use px_msg::{Msg, Notice};
 use px_session::{Header, Reader, SinkSpec, Step};
 use px_stream::Stream;
-use px_types::{ConnId, Mem, NoMemory, SinkId, Text};
+use px_types::{Mem, NoMemory, SinkId, Text};
 use std::alloc::Global;
 use std::sync::Arc;
 
 pub(crate) const OUT: SinkId = SinkId(0);
-
-pub(crate) const CLIENT: ConnId = ConnId(7);
 
 // The other side of a sink's mailboxes.
 #[derive(Drop)]

@@ -1,45 +1,29 @@
 ghost use Rattle.std.specs.Prelude.{IfOk};
 ghost use Rattle.px_core_cell.specs.Step.{IsAsked};
 
-use crate::tests::recorder::Failing;
-use crate::tests::scene::{CLIENT, Mixer, OUT, Scene, new_scene};
+use crate::tests::asking::{AUTH, CREATE, framed};
+use crate::tests::recorder::Crowded;
+use crate::tests::scene::{Mixer, OUT, Scene, new_scene};
 use px_annals::{CoreEntry, MemRecorder};
 use px_core_cell::{CoreState, CoreStep, StepFault};
-use px_frame::{Body, Frame, Packet};
 use px_msg::Notice;
-use px_types::{InputId, Mem};
+use px_types::{ConnId, InputId, Mem};
 use std::alloc::Global;
 use std::sync::Wait;
 
-// AUTH of version 13, up to the cookie.
-const AUTH: &[u8] = b"L\0\0\0\x08L\0\0\0\x01L\0\0\0\x0Dx\0\0\x01\0";
+const CLIENT: ConnId = ConnId(7);
 
-// CREATE_PLAYBACK_STREAM on the default sink: S16LE, mono, no prebuffering, the rest left to the server.
-const CREATE: &[u8] =
-    b"L\0\0\0\x03L\0\0\0\x02a\x03\x01\0\0\xBB\x80m\x01\0L\xFF\xFF\xFF\xFFNL\xFF\xFF\xFF\xFF0L\xFF\xFF\xFF\xFFL\0\0\0\0L\xFF\xFF\xFF\xFFL\0\0\0\0v\x01\0\x01\0\x00000000000PN";
-
-// The frame of a control packet.
-fn framed(alloc: Global, packet: &[u8], more: &[u8]) -> Mem<CoreStep>
-    ensures { IfOk result IsAsked }
-{
-    let mut bytes = Vec::new(alloc);
-    bytes.extend_from_slice(packet)?;
-    bytes.extend_from_slice(more)?;
-    if bytes.is_empty() || bytes.len() > 400 {
-        return Ok(CoreStep::Sweep);
-    }
-    let body = Body::Control(Packet::from_vec(bytes));
-    Ok(CoreStep::Frame(CLIENT, Frame { at: 20, body }))
-}
+// How many steps a run has.
+const STEPS: usize = 12;
 
 // The steps of a run, by their place: a client that is let in and makes a stream, the stream's notice, and its end.
-fn step_at(alloc: Global, place: u32) -> Mem<CoreStep>
+fn step_at(alloc: Global, place: usize) -> Mem<CoreStep>
     ensures { IfOk result IsAsked }
 {
     match place {
         0 => Ok(CoreStep::Connect(CLIENT)),
-        2 => framed(alloc, AUTH, &[0; 256]),
-        4 => framed(alloc, CREATE, &[]),
+        2 => framed(alloc, CLIENT, AUTH, &[0; 256]),
+        4 => framed(alloc, CLIENT, CREATE, &[]),
         6 | 11 => Ok(CoreStep::Out(OUT)),
         7 => Ok(CoreStep::Notice(OUT)),
         9 => Ok(CoreStep::Close(CLIENT)),
@@ -48,7 +32,7 @@ fn step_at(alloc: Global, place: u32) -> Mem<CoreStep>
 }
 
 // A step of the run, asked for again where it wasn't done.
-fn done<R: Wait>(rt: &R, alloc: Global, state: &mut CoreState<Failing>, place: u32) -> Mem<bool> {
+fn done<R: Wait>(rt: &R, alloc: Global, state: &mut CoreState<Crowded>, place: usize) -> Mem<bool> {
     if matches!(state.step(rt, alloc, step_at(alloc, place)?), Ok(Some(_))) {
         return Ok(true);
     }
@@ -70,8 +54,15 @@ fn arrived<R: Wait>(rt: &R, mixer: &mut Mixer) -> u32 {
     count
 }
 
-// The whole run, with a recorder that fails at one call: what it keeps then, and how many messages came to the sink.
-fn run<R: Wait>(rt: &R, alloc: Global, fails_at: u64) -> Mem<Option<(Failing, u32)>> {
+// A notice of the sink.
+fn starts<R: Wait>(rt: &R, mixer: &mut Mixer) -> bool {
+    let Mixer { outbox, post, .. } = mixer;
+    let started = Notice::Started { input: InputId(0) };
+    outbox.post(rt, post, started).is_ok()
+}
+
+// The whole run, with a recorder that is full once at so many entries: what it keeps then, and how many messages came to the sink.
+fn run<R: Wait>(rt: &R, alloc: Global, full_at: usize) -> Mem<Option<(Crowded, u32)>> {
     let Scene {
         core,
         ends,
@@ -80,15 +71,11 @@ fn run<R: Wait>(rt: &R, alloc: Global, fails_at: u64) -> Mem<Option<(Failing, u3
     let Some(mut mixer) = mixers.pop() else {
         return Ok(None);
     };
-    {
-        let Mixer { outbox, post, .. } = &mut mixer;
-        let started = Notice::Started { input: InputId(0) };
-        if outbox.post(rt, post, started).is_err() {
-            return Ok(None);
-        }
+    if !starts(rt, &mut mixer) {
+        return Ok(None);
     }
-    let mut state = CoreState::new(core, Failing::new(alloc, fails_at), ends);
-    for place in 0..12 {
+    let mut state = CoreState::new(core, Crowded::new(alloc, full_at), ends);
+    for place in 0..STEPS {
         if !done(rt, alloc, &mut state, place)? {
             return Ok(None);
         }
@@ -97,25 +84,29 @@ fn run<R: Wait>(rt: &R, alloc: Global, fails_at: u64) -> Mem<Option<(Failing, u3
     Ok(Some((parts.log.recorder, arrived(rt, &mut mixer))))
 }
 
-// Whether a run whose recorder fails once keeps as much as one whose recorder doesn't.
-fn keeps_all<R: Wait>(rt: &R, alloc: Global, fails_at: u64) -> Mem<bool> {
-    let Some((whole, messages)) = run(rt, alloc, 1_000)? else {
+// Whether a run whose recorder is full once keeps what one keeps whose recorder never is, and posts as many messages: New, Factors and Detach.
+fn keeps_all<R: Wait>(rt: &R, alloc: Global, full_at: usize) -> Mem<bool> {
+    let Some((whole, messages)) = run(rt, alloc, STEPS)? else {
         return Ok(false);
     };
-    let Some((other, arrived)) = run(rt, alloc, fails_at)? else {
+    let Some((other, arrived)) = run(rt, alloc, full_at)? else {
         return Ok(false);
     };
-    Ok(whole.len() == 12 && other.matches(&whole) && messages > 1 && arrived == messages)
+    Ok(whole.len() == STEPS
+        && whole.fulls() == 0
+        && other.fulls() == 1
+        && other.matches(&whole)
+        && messages == 3
+        && arrived == messages)
 }
 
 #[test]
-fn a_recorder_that_fails_once_misses_nothing(rt: HostRuntime) -> Mem<()> {
+fn a_recorder_that_is_full_for_a_while_misses_nothing(rt: HostRuntime) {
     let mut right = true;
-    for fails_at in 0..12 {
-        right = right && keeps_all(&rt, rt.alloc(), fails_at)?;
+    for full_at in 0..STEPS {
+        right = right && matches!(keeps_all(&rt, rt.alloc(), full_at), Ok(true));
     }
     assert!(rt; right);
-    Ok(())
 }
 
 // Whether steps for which a sweep is owed come back, and are done behind it.

@@ -1,20 +1,20 @@
-use Rattle.std.proofs.Common.{◌≡◌, List, map, Some, refl, ap, sym, subst, ◌∙◌}
+use Rattle.std.proofs.Common.{List, map, Some, refl, ap, sym, subst, ◌∙◌, inr}
 use Rattle.crossbeam_queue.specs.Fifo.{Held}
 use Rattle.px_mail.specs.Mailbox.{key_of, posted_by, taken_by, IsHeldOf}
 use Rattle.px_annals.specs.declared.stream.PlainStream.{PlainStream}
 use Rattle.px_msg.specs.declared.message.Msg.{Msg}
 use Rattle.px_stream.specs.Kept.{KeptStream}
 use Rattle.px_core.specs.Out.{Roomy, unsent}
-use Rattle.px_core_cell.specs.Cell.{SinkEnds, ends_of}
+use Rattle.px_core_cell.specs.Cell.{ends_of}
 use Rattle.px_core_cell.specs.Parcel.{seen_message, seen_notice}
 use Rattle.px_core_cell.proofs.Handing.{may_post, held_seen}
 use Rattle.px_core_cell.proofs.ends.CoreEnd.post_one.Goals as goal
 
 pub post-requires-clause-lawful : goal.post-requires-clause-lawful
-post-requires-clause-lawful g c =
+post-requires-clause-lawful g c κs within =
     let heard = c.requires.heard in
     may_post c.args.core.now.state c.args.sink heard.0 (key_of c.args.self.now.post.pass) (posted_by c.args.self.now.post.pass) (ends_of c.args.self.now) c.taken_over.result refl refl heard.1 c.requires.kept heard.2
-        (sym c.in-Some.ensures.next ∙ ap Some (sym c.taken_over.ensures))
+    (sym c.in-Some.ensures.next ∙ ap Some (sym c.taken_over.ensures))
 
 pub returns-in-Err-clause-stops : goal.returns-in-Err-clause-stops
 returns-in-Err-clause-stops g c = λ none.
