@@ -17,6 +17,6 @@ module _ {D R C : Type 0} (core_faults core_fulls : C → ℕ) (now : D → Devi
   -- what is served with the options of the words is served by the words
   pub served_by : (texts : List (List ℕ)) (said : ServeWords) (end : ServeEnd) (before after : HostState D R C) → IsSaid texts said → said.tape ≡ false
       → ServesWith core_faults core_fulls now told faults fulls said.options end before after → ServesBy core_faults core_fulls now told faults fulls texts end before after
-  served_by texts said Usage before after is no serves = absurd serves
-  served_by texts said (Refused at cause) before after is no serves = (said, is, no, serves)
-  served_by texts said (Ended answered) before after is no serves = inr (said, is, no, serves)
+  served_by texts said Usage before after is untaped serves = absurd serves
+  served_by texts said (Refused at cause) before after is untaped serves = (said, is, untaped, serves)
+  served_by texts said (Ended answered) before after is untaped serves = inr (said, is, untaped, serves)
