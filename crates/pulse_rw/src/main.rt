@@ -25,14 +25,7 @@ fn main(rt: HostRuntime) -> ExitCode {
     let mut log = Writing::new(rt.stderr());
     let mut host = SystemHost::new(rt.alloc(), rt);
     let status = match words(&rt, rt.alloc()) {
-        Ok(words) => run(
-            &rt,
-            &words,
-            &mut input,
-            &mut output,
-            &mut log,
-            &mut host,
-        ),
+        Ok(words) => run(&rt, &words, &mut input, &mut output, &mut log, &mut host),
         Err(_) => report(rt.alloc(), Ending::Memory, &mut log),
     };
     ExitCode::from(status.code())

@@ -32,12 +32,7 @@ fn words(alloc: Global) -> Mem<Vec<String>> {
 }
 
 // How a replay of the session ends.
-fn ended(
-    rt: &HostRuntime,
-    read: u64,
-    output: &mut MemSink,
-    log: &mut MemSink,
-) -> Mem<Status> {
+fn ended(rt: &HostRuntime, read: u64, output: &mut MemSink, log: &mut MemSink) -> Mem<Status> {
     let alloc = rt.alloc();
     let words = words(alloc)?;
     let mut input = dripping(alloc, session(alloc)?, read)?;
