@@ -1,0 +1,4 @@
+mod Later
+mod Parts
+mod Joining
+mod Ending

@@ -1,0 +1,50 @@
+-- The statuses of a serving call, by what was met, in the order in which causes decide.
+use Rattle.std.specs.Prelude.{◌≡◌, ℕ, ◌≤◌, ◌⊎◌, List, Option, None, Some, ⊤}
+use Rattle.px_types.specs.Faults.{Rose}
+use Rattle.px_types.specs.declared.status.Status.{Status}
+use Rattle.px_types.specs.declared.status.Status.TheVariants as status
+use Rattle.px_annals.specs.declared.recorder.RecordFault.{RecordFault}
+use Rattle.px_annals.specs.declared.recorder.RecordFault.TheVariants as record_fault
+use Rattle.px_server.specs.declared.served.Stop.{Stop}
+use Rattle.px_server.specs.declared.served.Stop.TheVariants as stop
+use Rattle.px_server.specs.declared.sink_work.Met.{Met}
+use Rattle.px_server.specs.declared.sink_work.Met.TheVariants as met
+
+abbrev pub status_of_record : RecordFault → Status
+status_of_record record_fault.NoMemory = status.Memory
+status_of_record (record_fault.Full entries bytes) = status.HistoryFull
+status_of_record record_fault.Failed = status.Host
+
+abbrev pub status_of_met : Met → Option Status
+status_of_met met.Nothing = None
+status_of_met met.Stopped = Some status.Device
+status_of_met (met.Unrecorded fault) = Some (status_of_record fault)
+
+-- what the workers met decides where nothing else did
+abbrev pub met_or_fine : Option Status → Status
+met_or_fine None = status.Ok
+met_or_fine (Some answered) = answered
+
+-- the fault that the core's recorder had first, and then what the sinks' workers met
+abbrev pub recorded_or_met : Option RecordFault → Option Status → Status
+recorded_or_met (Some fault) met = status_of_record fault
+recorded_or_met None met = met_or_fine met
+
+-- a core whose recorder isn't ready keeps that fault
+abbrev pub recorded : Option RecordFault → Status
+recorded (Some fault) = status_of_record fault
+recorded None = status.Memory
+
+-- what made the call itself stop comes first
+abbrev pub decided : Stop → Option RecordFault → Option Status → Status
+decided stop.Over fault met = recorded_or_met fault met
+decided stop.Memory fault met = status.Memory
+decided stop.Host fault met = status.Host
+decided (stop.Unrecorded why) fault met = recorded fault
+
+-- the status of a call that has made no core
+abbrev pub undecided : Stop → Status
+undecided stop.Over = status.Memory
+undecided stop.Memory = status.Memory
+undecided stop.Host = status.Host
+undecided (stop.Unrecorded why) = status.Memory

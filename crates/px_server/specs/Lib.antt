@@ -1,0 +1,6 @@
+pub mod Hosted
+pub mod Causes
+pub mod Working
+pub mod Parts
+pub mod Fresh
+pub mod Serving

@@ -1,0 +1,81 @@
+-- What is left of a server's sinks.
+use Rattle.std.specs.Prelude.{◌≡◌, ℕ, ◌+◌, ◌≤◌, List, [], ◌∷◌, ◌++◌, length, Option, IfSome, ⊤}
+use Rattle.std.specs.List.{concat}
+use Rattle.px_types.specs.declared.ids.SinkId.{SinkId}
+use Rattle.px_annals.specs.declared.entry.LaneEntry.{LaneEntry}
+use Rattle.px_ends.specs.Told.{WhereTold}
+use Rattle.px_ends.specs.Device.{DeviceState}
+use Rattle.px_model.specs.Sink.{Sink, empty_sink}
+use Rattle.px_model.specs.Deciding.{replay_played, IsHistory}
+use Rattle.px_msg.specs.View.{sample_spec}
+use Rattle.px_session.specs.declared.header.SinkSpec.{SinkSpec}
+use Rattle.px_stream.specs.Samples.{samples}
+use Rattle.px_lane_cell.specs.Meaning.{history_meant}
+use Rattle.px_lane_cell.specs.History.{unturned, left_at_stop, ArePlayed}
+use Rattle.px_server.specs.declared.served.LanePart.{LanePart}
+use Rattle.px_server.specs.declared.sink_work.Met.{Met}
+use Rattle.px_server.specs.declared.sink_work.Met.TheVariants.{Nothing}
+use Rattle.px_server.specs.Working.{IsMet, Unworked}
+
+-- a sink before its first turn, with its index
+pub record Start : Type 0 where
+  pub index : SinkId
+  pub sink : Sink
+
+-- one with this index, of a sink that may have made turns
+abbrev pub start_at : SinkId → Sink → Start
+start_at index sink = record { index = index; sink = unturned sink }
+
+-- the sink of a header's entry
+abbrev pub sink_for : SinkSpec → Sink
+sink_for s = empty_sink (sample_spec (SinkSpec.spec s)) (SinkSpec.guard s) (SinkSpec.depth s)
+
+-- those of all entries, where the first has this index
+abbrev pub starts_from : ℕ → List SinkSpec → List Start
+starts_from index [] = []
+starts_from index (s ∷ sinks) = record { index = record { 0 = index }; sink = sink_for s } ∷ starts_from (index + 1) sinks
+
+abbrev pub starts_of : List SinkSpec → List Start
+starts_of sinks = starts_from 0 sinks
+
+-- a device has played what these entries of its sink's history say: all frames that they play, and where it failed, a front of those that waited then
+pub record HasPlayed (start : Sink) (device : DeviceState) (entries : List LaneEntry) : Type 0 where
+  pub turns : IsHistory samples start (history_meant entries)
+  pub played : WhereTold device.played (ArePlayed (concat (replay_played samples start (history_meant entries))) (concat (left_at_stop start (history_meant entries))))
+
+-- a sink's work: how it began, and what its worker met
+pub record Worked : Type 0 where
+  pub start : Start
+  pub met : Met
+
+abbrev pub worked : Start → Met → Worked
+worked start met = record { start = start; met = met }
+
+abbrev pub start_of : {D E : Type 0} → Unworked D E → Start
+start_of u = start_at u.sink u.cell.lane.sink
+
+-- that of a sink that had no worker
+abbrev pub unworked : {D E : Type 0} → Unworked D E → Worked
+unworked u = worked (start_of u) Nothing
+
+module _ {D R : Type 0} (now : D → DeviceState) (told : R → Option (List LaneEntry)) (faults fulls : R → ℕ) where
+  -- what is left of a sink: its device has played what its recorder holds, where both tell; and what its worker met has its cause in them
+  pub record IsPart (work : Worked) (part : LanePart D R) : Type 0 where
+    pub sink : part.sink ≡ work.start.index
+    pub played : IfSome (told part.recorder) (HasPlayed work.start.sink (now part.device))
+    pub met : IsMet (now part.device).faults (faults part.recorder) (fulls part.recorder) work.met
+
+  -- what is left of sinks, in their order
+  abbrev pub AreParts : List Worked → List (LanePart D R) → Type 0
+  AreParts [] [] = ⊤
+  AreParts [] (part ∷ parts) = ⊥
+  AreParts (work ∷ works) [] = ⊥
+  AreParts (work ∷ works) (part ∷ parts) = IsPart work part × AreParts works parts
+
+-- the front of a list
+abbrev pub IsFrontOf : {X : Type 0} → List X → List X → Type 0
+IsFrontOf front all = (rest : List _) × (all ≡ front ++ rest)
+
+-- a front of some items came behind those that were there
+abbrev pub Adds : {X : Type 0} → List X → List X → List X → Type 0
+Adds before more after = (added : List _) × IsFrontOf added more × (after ≡ before ++ added)

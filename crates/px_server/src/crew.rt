@@ -1,0 +1,65 @@
+//! The workers that are under way.
+ghost use Rattle.std.specs.Prelude.{◌≡◌};
+ghost use Rattle.px_jobs.specs.Jobs.{given_to};
+
+use crate::gate::Gate;
+use crate::link_work::LinkWork;
+use crate::sink_work::SinkWork;
+use px_annals::{CoreEntry, LaneEntry, Recorder};
+use px_core_cell::Seats;
+use px_ends::{Device, Link};
+use px_jobs::Running;
+use px_types::ConnId;
+use std::marker::Model;
+use std::sync::Wait;
+
+/// A client's worker under way, which has one share in the core's steps.
+#[derive(Drop)]
+pub(crate) struct Client<
+    R: Wait + Copy + Drop + Send,
+    A: Link + Drop + Send,
+    C: Recorder<CoreEntry> + Drop + Send,
+    L: Seats + Send,
+    G: Gate + Drop + Send + Sync,
+> {
+    pub conn: ConnId,
+    pub running: Running<LinkWork<R, A, C, L, G>>,
+    ghost one_part: { (given_to running).worker.seat.parts ≡ 1 },
+}
+
+/// A sink's worker under way, which has one share in the core's steps, and begins where nothing has failed. Contracts see the sink that it
+/// began with.
+#[derive(Drop)]
+pub(crate) struct SinkRun<
+    R: Wait + Copy + Drop + Send,
+    D: Device + Drop + Send,
+    E: Recorder<LaneEntry> + Drop + Send,
+    C: Recorder<CoreEntry> + Drop + Send,
+    L: Seats + Send,
+    G: Gate + Drop + Send + Sync,
+> {
+    pub running: Running<SinkWork<R, D, E, C, L, G>>,
+}
+
+impl<
+    R: Wait + Copy + Drop + Send,
+    D: Device + Drop + Send,
+    E: Recorder<LaneEntry> + Drop + Send,
+    C: Recorder<CoreEntry> + Drop + Send,
+    L: Seats + Send,
+    G: Gate + Drop + Send + Sync,
+> Model for SinkRun<R, D, E, C, L, G> {
+    ghost use Rattle.std.specs.Prelude.{◌≡◌};
+    ghost use Rattle.px_jobs.specs.Jobs.{given_to};
+    ghost use Rattle.px_server.specs.declared.sink_work.Met.TheVariants.{Nothing};
+    ghost use Rattle.px_server.specs.Parts.{Start, start_at};
+    ghost use Rattle.px_server.specs.Working.{IsHonest};
+
+    ghost Value = { Start };
+
+    ghost view = { λ r. start_at (given_to r.running).sink (given_to r.running).cell.lane.sink };
+
+    ghost invariant = { λ r. ((given_to r.running).worker.seat.parts ≡ 1)
+        × ((given_to r.running).met ≡ Nothing)
+        × IsHonest D.now E.faults E.fulls (given_to r.running).cell Nothing };
+}

@@ -1,0 +1,186 @@
+//! The work at one client's link.
+
+ghost use Rattle.std.specs.Prelude.{◌≡◌, ◌<◌, All, length};
+ghost use Rattle.px_frame.specs.Frame.{IsBody};
+
+use crate::gate::Gate;
+use crate::lines::Next;
+use crate::worker::{CoreStop, Worker};
+use px_annals::{CoreEntry, Recorder};
+use px_block::Fresh;
+use px_core_cell::Seats;
+use px_ends::{Link, Recv, Sent};
+use px_frame::{Decoder, Frame, FrameError, Packet};
+use px_jobs::Job;
+use px_types::ConnId;
+use std::collections::VecDeque;
+use std::sync::{Arc, Wait};
+
+// How many bytes are received at once.
+const PIECE: usize = 16_384;
+
+// How far the packet is sent that is on its way.
+#[derive(Debug, Drop)]
+struct Sending {
+    packet: Option<Packet>,
+    at: usize,
+}
+
+// Whether a client is still there.
+#[derive(Clone, Copy, Debug, PartialEq, Eq)]
+enum Flow {
+    On,
+    Ended,
+}
+
+/// The work at one client's link: what it sends goes to the core frame by frame, and what the core has for it is sent.
+#[derive(Drop)]
+pub(crate) struct LinkWork<R, A, C: Recorder<CoreEntry>, L: Seats, G> {
+    pub worker: Worker<R, C, L>,
+    pub conn: ConnId,
+    pub link: A,
+    pub gate: Arc<G>,
+}
+
+// Sends what is left of a packet, as far as the link is ready.
+fn send_rest<A: Link>(link: &mut A, sending: &mut Sending) -> Sent {
+    let Some(packet) = &sending.packet else {
+        return Sent::Bytes(0);
+    };
+    let rest = &packet.bytes()[sending.at.min(packet.bytes().len())..];
+    if rest.is_empty() {
+        return Sent::Bytes(0);
+    }
+    let count = rest.len();
+    match link.send(rest) {
+        Sent::Bytes(sent) => {
+            sending.at = sending.at.saturating_add(sent.min(count));
+            Sent::Bytes(sent)
+        }
+        other => other,
+    }
+}
+
+impl<R, A, C, L, G> LinkWork<R, A, C, L, G>
+where
+    R: Wait + Copy,
+    A: Link + Drop,
+    C: Recorder<CoreEntry> + Drop,
+    L: Seats,
+    G: Gate,
+{
+    // Sends what waits for the client, as far as its link is ready.
+    fn send(&mut self, sending: &mut Sending) -> Flow
+        ensures seat { self.new.worker.seat.parts ≡ self.old.worker.seat.parts }
+    {
+        let rt = self.worker.rt;
+        for _ in rt.forever() {
+            match send_rest(&mut self.link, sending) {
+                Sent::Bytes(0) => match self.worker.next_packet(self.conn) {
+                    Next::Packet(packet) => {
+                        sending.packet = Some(packet);
+                        sending.at = 0;
+                    }
+                    Next::Nothing => {
+                        sending.packet = None;
+                        return Flow::On;
+                    }
+                    Next::Ended => return Flow::Ended,
+                },
+                Sent::Bytes(_) => {}
+                Sent::NotYet => return Flow::On,
+                Sent::Failed => return Flow::Ended,
+            }
+        }
+        unreachable!()
+    }
+
+    // The frames of some bytes, each a step.
+    fn take(&mut self, frames: Vec<Frame>) -> Result<(), CoreStop>
+        requires { All (λ f. IsBody f.body) frames.items }
+        ensures seat { self.new.worker.seat.parts ≡ self.old.worker.seat.parts }
+    {
+        let mut frames = VecDeque::from_vec(frames);
+        while let Some(frame) = frames.pop_front() {
+            self.worker.frame(self.conn, frame)?;
+            self.gate.after_packet(self.conn);
+        }
+        Ok(())
+    }
+
+    // Some bytes of the client.
+    fn hear(&mut self, decoder: &mut Decoder, bytes: &[u8]) -> Result<(), CoreStop>
+        ensures seat { self.new.worker.seat.parts ≡ self.old.worker.seat.parts }
+    {
+        let mut blocks = Fresh::new(self.worker.alloc);
+        match decoder.feed(bytes, &mut blocks) {
+            Ok(frames) => self.take(frames.into_vec()),
+            Err(FrameError::Fault { frames, fault, at }) => {
+                self.take(frames.into_vec())?;
+                self.worker.broken(self.conn, fault, at)
+            }
+            Err(FrameError::Failed { .. }) => Ok(()),
+            Err(FrameError::NoMemory) => self.worker.cut(self.conn),
+        }
+    }
+
+    // One round: what waits is sent, and what came is heard.
+    fn round(&mut self, sending: &mut Sending, decoder: &mut Decoder, piece: &mut [u8]) -> Flow
+        requires { 0 < length piece.old }
+        ensures piece { length piece.new ≡ length piece.old }
+        ensures seat { self.new.worker.seat.parts ≡ self.old.worker.seat.parts }
+    {
+        if self.send(sending) == Flow::Ended {
+            return Flow::Ended;
+        }
+        match self.link.recv(piece) {
+            Recv::Bytes(count) => match self.hear(decoder, &piece[..count]) {
+                Ok(()) => Flow::On,
+                Err(_) => Flow::Ended,
+            },
+            Recv::NotYet => Flow::On,
+            Recv::End | Recv::Failed => Flow::Ended,
+        }
+    }
+
+    // All rounds until the client or the server ends.
+    fn serve(&mut self)
+        ensures seat { self.new.worker.seat.parts ≡ self.old.worker.seat.parts }
+    {
+        let rt = self.worker.rt;
+        let mut decoder = Decoder::new(self.worker.alloc);
+        let mut sending = Sending {
+            packet: None,
+            at: 0,
+        };
+        let mut piece = [0u8; PIECE];
+        for _ in rt.forever() {
+            if self.round(&mut sending, &mut decoder, &mut piece) == Flow::Ended {
+                return;
+            }
+        }
+        unreachable!()
+    }
+}
+
+impl<R, A, C, L, G> Job for LinkWork<R, A, C, L, G>
+where
+    R: Wait + Copy + Drop + Send,
+    A: Link + Drop + Send,
+    C: Recorder<CoreEntry> + Drop + Send,
+    L: Seats + Send,
+    G: Gate + Drop + Send + Sync,
+{
+    ghost use Rattle.std.specs.Prelude.{◌≡◌, refl};
+
+    ghost keeps = { λ before after. after.worker.seat.parts ≡ before.worker.seat.parts };
+
+    fn work(&mut self) {
+        self.serve();
+        // where the core makes no more steps, no client is served any more
+        let _closed = self.worker.close(self.conn);
+        self.worker.shut_line(self.conn);
+    }
+
+    ghost keeps_itself = { λ job. refl };
+}

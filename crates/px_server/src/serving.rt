@@ -1,0 +1,354 @@
+//! What a serving call has under way: its workers, from their start to their end.
+ghost use Rattle.std.specs.Prelude.{◌≡◌, ◌+◌, ◌≤◌, ◌<◌, ◌++◌, ◌∷◌, [], length, map, IfOk, IfErr, OnOk, OnErr, IsSome, vec_len, vec_capacity};
+ghost use Rattle.px_server.specs.Hosted.{IsLater, IsCauseOf};
+ghost use Rattle.px_server.specs.Parts.{start_of};
+ghost use Rattle.px_server.specs.Serving.{Joins, Ends};
+
+use crate::crew::{Client, SinkRun};
+use crate::gate::Gate;
+use crate::link_work::LinkWork;
+use crate::lone::Lone;
+use crate::served::{LanePart, Served, Stop, decided};
+use crate::sink_work::{Met, SinkWork, status_of_met};
+use crate::sinks::{hand_back, part_of};
+use crate::worker::{CoreStop, Worker};
+use px_annals::{CoreEntry, LaneEntry, Recorder};
+use px_core_cell::Seats;
+use px_ends::{Accepted, Device, Host, Link};
+use px_jobs::{Spawned, start};
+use px_types::{ConnId, Mem, NoMemory, Status};
+use std::alloc::Global;
+use std::collections::VecDeque;
+use std::sync::atomic::Ordering;
+use std::sync::{Arc, Wait};
+use std::thread::Threads;
+
+// What a serving call has under way.
+#[derive(Drop)]
+struct Serving<R, A, D, E, C, L, G>
+where
+    R: Wait + Copy + Drop + Send,
+    A: Link + Drop + Send,
+    D: Device + Drop + Send,
+    E: Recorder<LaneEntry> + Drop + Send,
+    C: Recorder<CoreEntry> + Drop + Send,
+    L: Seats + Send,
+    G: Gate + Drop + Send + Sync,
+{
+    worker: Worker<R, C, L>,
+    gate: Arc<G>,
+    sinks: VecDeque<SinkRun<R, D, E, C, L, G>>,
+    clients: VecDeque<Client<R, A, C, L, G>>,
+    next: u32,
+}
+
+impl<R, A, D, E, C, L, G> Serving<R, A, D, E, C, L, G>
+where
+    R: Threads + Wait + Copy + Drop + Send + Sync + 'static,
+    A: Link + Drop + Send + 'static,
+    D: Device + Drop + Send + 'static,
+    E: Recorder<LaneEntry> + Drop + Send + 'static,
+    C: Recorder<CoreEntry> + Drop + Send + 'static,
+    L: Seats + Send + Sync + 'static,
+    G: Gate + Drop + Send + Sync + 'static,
+{
+    // A worker with a seat of its own. Where there is no memory there is none.
+    fn another(&mut self) -> Mem<Worker<R, C, L>>
+        requires { 1 < self.old.worker.seat.parts }
+        ensures ok { IfOk result (λ worker. (worker.seat.parts ≡ 1) × (self.new.worker.seat.parts + 1 ≡ self.old.worker.seat.parts)) }
+        ensures err { OnErr result (self.new.worker.seat.parts ≡ self.old.worker.seat.parts) }
+        ensures sinks { self.new.sinks ≡ self.old.sinks }
+        ensures clients { self.new.clients ≡ self.old.clients }
+    {
+        let desk = Arc::try_clone(&self.worker.desk)?;
+        Ok(Worker {
+            rt: self.worker.rt,
+            alloc: self.worker.alloc,
+            desk,
+            seat: self.worker.seat.split(),
+        })
+    }
+
+    // Starts the worker of one sink. Where that can't be, the sink comes back.
+    fn start_sink(&mut self, lone: Lone<D, E>) -> Result<(), Lone<D, E>>
+        requires { 1 < self.old.worker.seat.parts }
+        ensures parts { self.new.worker.seat.parts + length self.new.sinks.items ≡ self.old.worker.seat.parts + length self.old.sinks.items }
+        ensures ok { OnOk result (self.new.sinks.items ≡ self.old.sinks.items ++ start_of lone ∷ []) }
+        ensures back { IfErr result (λ back. back ≡ lone) }
+        ensures err { OnErr result (self.new.sinks.items ≡ self.old.sinks.items) }
+        ensures clients { self.new.clients ≡ self.old.clients }
+    {
+        if self.sinks.reserve(1).is_err() {
+            return Err(lone);
+        }
+        let Ok(gate) = Arc::try_clone(&self.gate) else {
+            return Err(lone);
+        };
+        let Ok(worker) = self.another() else {
+            return Err(lone);
+        };
+        let Lone { sink, cell } = lone;
+        let job = SinkWork {
+            worker,
+            sink,
+            cell,
+            gate,
+            met: Met::Nothing,
+        };
+        let rt = self.worker.rt;
+        match start(&rt, self.worker.alloc, job) {
+            Spawned::Started(running) => {
+                self.sinks.push_back_reserved(SinkRun { running });
+                Ok(())
+            }
+            Spawned::Refused(job) | Spawned::NoMemory(job) => {
+                let SinkWork {
+                    worker,
+                    sink,
+                    cell,
+                    ..
+                } = job;
+                self.worker.seat.merge(worker.seat);
+                Err(Lone { sink, cell })
+            }
+        }
+    }
+
+    // Starts the workers of the sinks, in order, as far as that can be.
+    fn start_sinks<H: Host>(
+        &mut self,
+        host: &mut H,
+        lone: &mut VecDeque<Lone<D, E>>,
+    ) -> Result<(), Stop>
+        requires { length lone.old.items + 1 < self.old.worker.seat.parts }
+        ensures parts { self.new.worker.seat.parts + length self.new.sinks.items ≡ self.old.worker.seat.parts + length self.old.sinks.items }
+        ensures starts { self.new.sinks.items ++ map start_of lone.new.items ≡ self.old.sinks.items ++ map start_of lone.old.items }
+        ensures clients { self.new.clients ≡ self.old.clients }
+        ensures later { IsLater (H.now host.old) (H.now host.new) }
+        ensures lent { (H.now host.new).lent ≡ (H.now host.old).lent }
+        ensures cause { IfErr result (λ stop. IsCauseOf stop (H.now host.old) (H.now host.new)) }
+    {
+        while let Some(one) = lone.pop_front() {
+            if !host.may_start() {
+                lone.push_front_reserved(one);
+                return Err(Stop::Host);
+            }
+            if let Err(one) = self.start_sink(one) {
+                lone.push_front_reserved(one);
+                return Err(Stop::Memory);
+            }
+        }
+        Ok(())
+    }
+
+    // Joins the workers of clients that have gone.
+    fn reap(&mut self)
+        ensures parts { self.new.worker.seat.parts + length self.new.clients.items ≡ self.old.worker.seat.parts + length self.old.clients.items }
+        ensures fewer { length self.new.clients.items ≤ length self.old.clients.items }
+        ensures sinks { self.new.sinks ≡ self.old.sinks }
+    {
+        let rt = self.worker.rt;
+        for _ in 0..self.clients.len() {
+            let Some(client) = self.clients.pop_front() else {
+                return;
+            };
+            if self.worker.has_line(client.conn) {
+                self.clients.push_back_reserved(client);
+            } else {
+                let job = client.running.join(&rt);
+                self.worker.seat.merge(job.worker.seat);
+            }
+        }
+    }
+
+    // Joins the workers of all clients.
+    fn join_clients(&mut self)
+        ensures parts { self.new.worker.seat.parts ≡ self.old.worker.seat.parts + length self.old.clients.items }
+        ensures sinks { self.new.sinks ≡ self.old.sinks }
+    {
+        let rt = self.worker.rt;
+        while let Some(client) = self.clients.pop_front() {
+            let job = client.running.join(&rt);
+            self.worker.seat.merge(job.worker.seat);
+        }
+    }
+
+    // Starts the worker of a client that has connected.
+    fn start_client(&mut self, conn: ConnId, link: A) -> Mem<()>
+        requires { 1 < self.old.worker.seat.parts }
+        ensures parts { self.new.worker.seat.parts + length self.new.clients.items ≡ self.old.worker.seat.parts + length self.old.clients.items }
+        ensures more { length self.new.clients.items ≤ length self.old.clients.items + 1 }
+        ensures sinks { self.new.sinks ≡ self.old.sinks }
+    {
+        self.clients.reserve(1)?;
+        let gate = Arc::try_clone(&self.gate)?;
+        let worker = self.another()?;
+        let job = LinkWork {
+            worker,
+            conn,
+            link,
+            gate,
+        };
+        let rt = self.worker.rt;
+        match start(&rt, self.worker.alloc, job) {
+            Spawned::Started(running) => {
+                self.clients.push_back_reserved(Client { conn, running });
+                Ok(())
+            }
+            Spawned::Refused(job) | Spawned::NoMemory(job) => {
+                self.worker.seat.merge(job.worker.seat);
+                Err(NoMemory)
+            }
+        }
+    }
+
+    // Takes in a client.
+    fn admit<H: Host>(&mut self, host: &mut H, link: A) -> Result<(), Stop>
+        requires { 1 < self.old.worker.seat.parts }
+        ensures parts { self.new.worker.seat.parts + length self.new.clients.items ≡ self.old.worker.seat.parts + length self.old.clients.items }
+        ensures more { length self.new.clients.items ≤ length self.old.clients.items + 1 }
+        ensures sinks { self.new.sinks ≡ self.old.sinks }
+        ensures later { IsLater (H.now host.old) (H.now host.new) }
+        ensures lent { (H.now host.new).lent ≡ (H.now host.old).lent }
+        ensures cause { IfErr result (λ stop. IsCauseOf stop (H.now host.old) (H.now host.new)) }
+    {
+        let conn = ConnId(self.next);
+        self.next = self.next.wrapping_add(1);
+        if !host.may_start() {
+            return Err(Stop::Host);
+        }
+        if self.worker.open_line(conn).is_err() {
+            return Err(Stop::Memory);
+        }
+        // a core that has made as many steps as are counted serves no more clients, and nothing has failed
+        if let Err(CoreStop::Unrecorded(fault)) = self.worker.connect(conn) {
+            return Err(Stop::Unrecorded(fault));
+        }
+        if self.start_client(conn, link).is_err() {
+            let _closed = self.worker.close(conn);
+            self.worker.shut_line(conn);
+            return Err(Stop::Memory);
+        }
+        Ok(())
+    }
+
+    // Takes in clients until no more come.
+    fn accept_all<H: Host<L = A>>(&mut self, host: &mut H) -> Stop
+        requires seats { 65536 ≤ self.old.worker.seat.parts + length self.old.clients.items }
+        requires few { length self.old.clients.items ≤ (H.now host.old).links }
+        ensures parts { self.new.worker.seat.parts + length self.new.clients.items ≡ self.old.worker.seat.parts + length self.old.clients.items }
+        ensures sinks { self.new.sinks ≡ self.old.sinks }
+        ensures later { IsLater (H.now host.old) (H.now host.new) }
+        ensures lent { (H.now host.new).lent ≡ (H.now host.old).lent }
+        ensures cause { IsCauseOf result (H.now host.old) (H.now host.new) }
+    {
+        let rt = self.worker.rt;
+        for _ in rt.forever() {
+            self.reap();
+            match host.accept(self.worker.alloc) {
+                Accepted::Link(link) => {
+                    if let Err(stop) = self.admit(host, link) {
+                        return stop;
+                    }
+                }
+                Accepted::Over => return Stop::Over,
+                Accepted::NoMemory => return Stop::Memory,
+                Accepted::Failed => return Stop::Host,
+            }
+        }
+        unreachable!()
+    }
+
+    // Starts the workers of the sinks, and takes in clients until no more come.
+    fn work<H: Host<L = A>>(&mut self, host: &mut H, lone: &mut VecDeque<Lone<D, E>>) -> Stop
+        requires idle { (self.old.sinks.items ≡ []) × (self.old.clients.items ≡ []) }
+        requires seats { self.old.worker.seat.parts ≡ 65552 }
+        requires few { length lone.old.items ≤ 16 }
+        ensures parts { self.new.worker.seat.parts + length self.new.sinks.items + length self.new.clients.items ≡ 65552 }
+        ensures starts { self.new.sinks.items ++ map start_of lone.new.items ≡ map start_of lone.old.items }
+        ensures count { length self.new.sinks.items + length lone.new.items ≡ length lone.old.items }
+        ensures later { IsLater (H.now host.old) (H.now host.new) }
+        ensures lent { (H.now host.new).lent ≡ (H.now host.old).lent }
+        ensures cause { IsCauseOf result (H.now host.old) (H.now host.new) }
+    {
+        match self.start_sinks(host, lone) {
+            Ok(()) => self.accept_all(host),
+            Err(stop) => stop,
+        }
+    }
+
+    // Joins the workers of the sinks, and takes what is left of each. Answers the first status that one of them met.
+    fn join_sinks(&mut self, lanes: &mut Vec<LanePart<D, E>>) -> Option<Status>
+        requires room { vec_len lanes.old + length self.old.sinks.items ≤ vec_capacity lanes.old }
+        ensures parts { self.new.worker.seat.parts ≡ self.old.worker.seat.parts + length self.old.sinks.items }
+        ensures lanes { Joins D.now E.told E.faults E.fulls self.old.sinks.items lanes.old.items lanes.new.items result }
+        ensures room { vec_len lanes.new ≡ vec_len lanes.old + length self.old.sinks.items }
+        ensures capacity { vec_capacity lanes.old ≤ vec_capacity lanes.new }
+    {
+        let rt = self.worker.rt;
+        let mut first = None;
+        while let Some(SinkRun { running }) = self.sinks.pop_front() {
+            let job = running.join(&rt);
+            let SinkWork {
+                worker,
+                sink,
+                cell,
+                met,
+                ..
+            } = job;
+            self.worker.seat.merge(worker.seat);
+            first = first.or(status_of_met(met));
+            lanes.push(part_of(sink, cell)).unwrap();
+        }
+        first
+    }
+}
+
+/// All that workers do, from their start to their end.
+pub(crate) fn run<R, H, G, L>(
+    rt: &R,
+    worker: Worker<R, H::C, L>,
+    host: &mut H,
+    gate: Arc<G>,
+    mut lone: VecDeque<Lone<H::D, H::R>>,
+    mut lanes: Vec<LanePart<H::D, H::R>>,
+) -> Served<H>
+where
+    R: Threads + Wait + Copy + Drop + Send + Sync + 'static,
+    H: Host,
+    H::L: 'static,
+    H::D: 'static,
+    H::R: 'static,
+    H::C: 'static,
+    G: Gate + Drop + Send + Sync + 'static,
+    L: Seats + Send + Sync + 'static,
+    requires seats { (worker.seat.parts ≡ 65552) × (L.all ≡ 65552) }
+    requires few { length lone.items ≤ 16 }
+    requires none { lanes.items ≡ [] }
+    requires room { length lone.items ≤ vec_capacity lanes }
+    ensures later { IsLater (H.now host.old) (H.now host.new) }
+    ensures lent { (H.now host.new).lent ≡ (H.now host.old).lent }
+    ensures ends { Ends H.C.faults H.C.fulls H.D.now H.R.told H.R.faults H.R.fulls (map start_of lone.items) (H.now host.old) (H.now host.new) result.status result.lanes.items result.core }
+    ensures core { IsSome result.core }
+{
+    let alloc = worker.alloc;
+    let mut serving = Serving::<R, H::L, H::D, H::R, H::C, L, G> {
+        worker,
+        gate,
+        sinks: VecDeque::new(alloc),
+        clients: VecDeque::new(alloc),
+        next: 0,
+    };
+    let stop = serving.work(host, &mut lone);
+    serving.join_clients();
+    serving.worker.desk.over.store(true, Ordering::SeqCst);
+    let met = serving.join_sinks(&mut lanes);
+    hand_back(&mut lone, &mut lanes);
+    let Worker { desk, seat, .. } = serving.worker;
+    let parts = desk.core.take_parts(rt, seat);
+    Served {
+        status: decided(stop, parts.log.fault, met),
+        lanes,
+        core: Some(parts.log.recorder),
+    }
+}

@@ -1,0 +1,213 @@
+//! The sinks of a server: what the host makes for each, and their cells.
+ghost use Rattle.std.specs.Prelude.{◌≡◌, ℕ, ◌+◌, ◌≤◌, ◌<◌, ◌++◌, ◌∷◌, [], List, length, map, IfOk, IfErr, OnOk, OnErr, vec_len, vec_capacity};
+ghost use Rattle.px_ends.specs.Host.{IsNewDevice, IsNewRecorder};
+ghost use Rattle.px_ends.specs.Device.{IsShape};
+ghost use Rattle.px_sample.specs.Format.{frame_size_of};
+ghost use Rattle.px_session.specs.HeaderRules.{IsSink, AreSinks, IsHeader};
+ghost use Rattle.px_session.specs.declared.header.SinkSpec.{SinkSpec as Spec};
+ghost use Rattle.px_lane_cell.specs.Cell.{AreEnds, IsKeyOf, taken_in, posted_in};
+ghost use Rattle.px_core_cell.specs.Cell.{ends_of};
+ghost use Rattle.px_core_cell.specs.History.{fresh_ends};
+ghost use Rattle.px_server.specs.Hosted.{stop_by, IsLater, HasLent, IsCauseOf};
+ghost use Rattle.px_server.specs.declared.sink_work.Met.{Met};
+ghost use Rattle.px_server.specs.declared.sink_work.Met.TheVariants.{Nothing};
+ghost use Rattle.px_server.specs.Parts.{Worked, worked, unworked, start_at, start_of, sink_for, starts_of, starts_from, IsPart, AreParts, IsFrontOf, Adds};
+ghost use Rattle.px_server.specs.Fresh.{IsFresh};
+ghost use Rattle.px_server.specs.Working.{IsHonest};
+
+use crate::lone::Lone;
+use crate::served::{LanePart, Stop, stop_by};
+use px_annals::{LaneEntry, Recorder};
+use px_core_cell::{CoreEnd, CoreEnds};
+use px_ends::{Device, DeviceShape, Host, HostFault};
+use px_lane::Lane;
+use px_lane_cell::{Boxes, LaneCell, LaneEnds, LanePasses};
+use px_mail::Mailbox;
+use px_msg::{Msg, Notice};
+use px_session::{Header, SinkSpec};
+use px_stream::Stream;
+use px_types::{Mem, SinkId};
+use std::alloc::Global;
+use std::collections::VecDeque;
+use std::sync::Arc;
+
+// The shape of a sink's device.
+fn shape_of(sink: &SinkSpec) -> DeviceShape
+    requires { (earlier : List Spec) × IsSink earlier sink.now }
+    ensures value { result ≡ record { frame = frame_size_of sink.now.spec; rate = sink.now.spec.rate; guard = sink.now.guard; depth = sink.now.depth } }
+    ensures shape { IsShape result }
+{
+    DeviceShape {
+        frame: sink.spec.frame_size() as u32,
+        rate: sink.spec.rate,
+        guard: sink.guard,
+        depth: sink.depth,
+    }
+}
+
+// A sink's mailboxes, through which nothing has gone: its worker's ends, and the core's.
+fn mailboxes(alloc: Global, sink: &SinkSpec) -> Mem<(LaneEnds, CoreEnd)>
+    ensures ends { IfOk result (λ made. AreEnds made.0 × IsKeyOf made.0 (sink_for sink.now)) }
+    ensures unmoved { IfOk result (λ made. (taken_in made.0 ≡ []) × (posted_in made.0 ≡ [])) }
+    ensures core { IfOk result (λ made. ends_of made.1 ≡ fresh_ends sink.now) }
+{
+    let (inbox, post_message, take_message) = Mailbox::<Msg<Stream>>::new(alloc, sink.spec)?;
+    let (outbox, post_notice, take_notice) = Mailbox::<Notice<Stream>>::new(alloc, ())?;
+    let inbox = Arc::new(alloc, inbox)?;
+    let outbox = Arc::new(alloc, outbox)?;
+    let core = CoreEnd::new(
+        Arc::try_clone(&inbox)?,
+        Arc::try_clone(&outbox)?,
+        post_message,
+        take_notice,
+    );
+    let lane = LaneEnds {
+        boxes: Boxes { inbox, outbox },
+        passes: LanePasses {
+            take: take_message,
+            post: post_notice,
+        },
+    };
+    Ok((lane, core))
+}
+
+// A sink's device and its recorder.
+fn outside<H: Host>(alloc: Global, sink: &SinkSpec, host: &mut H) -> Result<(H::D, H::R), HostFault>
+    requires { (earlier : List Spec) × IsSink earlier sink.now }
+    ensures later { IsLater (H.now host.old) (H.now host.new) }
+    ensures lent { OnOk result ((n : ℕ) → HasLent n 0 (H.now host.old) → HasLent (n + 1) 0 (H.now host.new)) }
+    ensures kept { OnErr result ((n : ℕ) → HasLent n 0 (H.now host.old) → HasLent n 0 (H.now host.new)) }
+    ensures cause { IfErr result (λ fault. IsCauseOf (stop_by fault) (H.now host.old) (H.now host.new)) }
+    ensures fresh { IfOk result (λ made. IsFresh sink.now (H.D.now made.0) (H.R.told made.1) (H.R.faults made.1) (H.R.fulls made.1)) }
+{
+    let device = host.device(alloc, sink.name.as_slice(), &shape_of(sink))?;
+    let recorder = host.lane_recorder(alloc)?;
+    Ok((device, recorder))
+}
+
+// A sink's cell, with the core's ends of its mailboxes.
+fn cell_of<D: Device + Drop, E: Recorder<LaneEntry> + Drop>(
+    alloc: Global,
+    sink: &SinkSpec,
+    device: D,
+    recorder: E,
+) -> Mem<(LaneCell<D, E>, CoreEnd)>
+    requires sink { (earlier : List Spec) × IsSink earlier sink.now }
+    requires fresh { IsFresh sink.now (D.now device) (E.told recorder) (E.faults recorder) (E.fulls recorder) }
+    ensures sink { IfOk result (λ made. made.0.lane.sink ≡ sink_for sink.now) }
+    ensures honest { IfOk result (λ made. IsHonest D.now E.faults E.fulls made.0 Nothing) }
+    ensures core { IfOk result (λ made. ends_of made.1 ≡ fresh_ends sink.now) }
+{
+    let (ends, core) = mailboxes(alloc, sink)?;
+    let lane = Lane::new(alloc, sink, device)?;
+    let cell = LaneCell::new(alloc, lane, recorder, ends)?;
+    Ok((cell, core))
+}
+
+// One sink. Where it can't be made, those that are there stay.
+fn make_one<H: Host>(
+    alloc: Global,
+    index: u8,
+    sink: &SinkSpec,
+    host: &mut H,
+    lone: &mut VecDeque<Lone<H::D, H::R>>,
+    ends: &mut CoreEnds,
+) -> Result<(), Stop>
+    requires { (earlier : List Spec) × IsSink earlier sink.now }
+    ensures later { IsLater (H.now host.old) (H.now host.new) }
+    ensures lent { HasLent (length lone.old.items) 0 (H.now host.old) → HasLent (length lone.new.items) 0 (H.now host.new) }
+    ensures cause { IfErr result (λ stop. IsCauseOf stop (H.now host.old) (H.now host.new)) }
+    ensures made { OnOk result (map start_of lone.new.items ≡ map start_of lone.old.items ++ (record { index = record { 0 = index }; sink = sink_for sink.now }) ∷ []) }
+    ensures ends { OnOk result (map ends_of ends.new.items ≡ map ends_of ends.old.items ++ fresh_ends sink.now ∷ []) }
+    ensures stays { OnErr result (lone.new.items ≡ lone.old.items) }
+{
+    if lone.reserve(1).is_err() || ends.reserve(1).is_err() {
+        return Err(Stop::Memory);
+    }
+    let (device, recorder) = match outside(alloc, sink, host) {
+        Ok(made) => made,
+        Err(fault) => return Err(stop_by(fault)),
+    };
+    let Ok((cell, core)) = cell_of(alloc, sink, device, recorder) else {
+        return Err(Stop::Memory);
+    };
+    let sink = SinkId(index);
+    lone.push_back_reserved(Lone { sink, cell });
+    ends.push(core).unwrap();
+    Ok(())
+}
+
+// The sinks of these entries, in order, where the first has this index. Where one can't be made, those before it are there.
+fn make_from<H: Host>(
+    alloc: Global,
+    index: u8,
+    sinks: &[SinkSpec],
+    host: &mut H,
+    lone: &mut VecDeque<Lone<H::D, H::R>>,
+    ends: &mut CoreEnds,
+) -> Result<(), Stop>
+    requires sinks { (earlier : List Spec) × AreSinks earlier sinks.now }
+    requires few { index + length sinks.now ≤ 16 }
+    ensures later { IsLater (H.now host.old) (H.now host.new) }
+    ensures lent { HasLent (length lone.old.items) 0 (H.now host.old) → HasLent (length lone.new.items) 0 (H.now host.new) }
+    ensures cause { IfErr result (λ stop. IsCauseOf stop (H.now host.old) (H.now host.new)) }
+    ensures made { OnOk result (map start_of lone.new.items ≡ map start_of lone.old.items ++ starts_from index sinks.now) }
+    ensures ends { OnOk result (map ends_of ends.new.items ≡ map ends_of ends.old.items ++ map fresh_ends sinks.now) }
+    ensures front { Adds (map start_of lone.old.items) (starts_from index sinks.now) (map start_of lone.new.items) }
+{
+    match sinks.split_first() {
+        None => Ok(()),
+        Some((first, rest)) => {
+            make_one(alloc, index, first, host, lone, ends)?;
+            make_from(alloc, index + 1, rest, host, lone, ends)
+        }
+    }
+}
+
+/// The sinks of a header, in order. Where one can't be made, those before it are there.
+pub(crate) fn make_all<H: Host>(
+    alloc: Global,
+    header: &Header,
+    host: &mut H,
+    lone: &mut VecDeque<Lone<H::D, H::R>>,
+    ends: &mut CoreEnds,
+) -> Result<(), Stop>
+    requires header { IsHeader header.now }
+    requires none { (lone.old.items ≡ []) × (ends.old.items ≡ []) }
+    ensures later { IsLater (H.now host.old) (H.now host.new) }
+    ensures lent { HasLent 0 0 (H.now host.old) → HasLent (length lone.new.items) 0 (H.now host.new) }
+    ensures cause { IfErr result (λ stop. IsCauseOf stop (H.now host.old) (H.now host.new)) }
+    ensures made { OnOk result (map start_of lone.new.items ≡ starts_of header.now.sinks) }
+    ensures ends { OnOk result (map ends_of ends.new.items ≡ map fresh_ends header.now.sinks) }
+    ensures front { IsFrontOf (map start_of lone.new.items) (starts_of header.now.sinks) }
+{
+    make_from(alloc, 0, header.sinks.as_slice(), host, lone, ends)
+}
+
+/// What is left of a sink without a worker.
+pub(crate) fn part_of<D: Device + Drop, E: Recorder<LaneEntry> + Drop>(
+    sink: SinkId,
+    cell: LaneCell<D, E>,
+) -> LanePart<D, E>
+    ensures { (met : Met) → IsHonest D.now E.faults E.fulls cell met → IsPart D.now E.told E.faults E.fulls (worked (start_at sink cell.lane.sink) met) result }
+{
+    let parts = cell.into_parts();
+    LanePart {
+        sink,
+        device: parts.lane.into_device(),
+        recorder: parts.recorder,
+    }
+}
+
+/// What is left of the sinks without workers, behind what is left of others. Takes no memory.
+pub(crate) fn hand_back<D: Device + Drop, E: Recorder<LaneEntry> + Drop>(
+    lone: &mut VecDeque<Lone<D, E>>,
+    lanes: &mut Vec<LanePart<D, E>>,
+)
+    requires room { vec_len lanes.old + length lone.old.items ≤ vec_capacity lanes.old }
+    ensures { (done : List Worked) → AreParts D.now E.told E.faults E.fulls done lanes.old.items → AreParts D.now E.told E.faults E.fulls (done ++ map unworked lone.old.items) lanes.new.items }
+{
+    while let Some(Lone { sink, cell }) = lone.pop_front() {
+        lanes.push(part_of(sink, cell)).unwrap();
+    }
+}
