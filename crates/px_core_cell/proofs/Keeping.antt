@@ -1,8 +1,9 @@
 -- A core under its lock keeps its history.
-use Rattle.std.proofs.Common.{◌≡◌, ℕ, ◌<◌, Bool, false, List, [], ◌∷◌, ◌++◌, length, Option, Some, None, Result, Ok, Err, refl, ap, sym, subst, ◌∙◌, arith, length-append, append_assoc}
+use Rattle.std.proofs.Common.{true, ◌+◌, ◌≡◌, ℕ, ◌<◌, Bool, false, List, [], ◌∷◌, ◌++◌, length, Option, Some, None, Result, Ok, Err, refl, ap, sym, subst, ◌∙◌, arith, length-append, append_assoc}
+use Rattle.std.proofs.lemmas.Bool.{true≢false}
 use Rattle.std.specs.Prelude.{slice_get, get_or, IfSome}
 use Rattle.std.specs.List.{AllByRecursion}
-use Rattle.std.specs.Option.{option_to_list, option_map}
+use Rattle.std.specs.Option.{is_some, option_to_list, option_map}
 use Rattle.std.proofs.lemmas.List.{append-nil, length-map}
 use Rattle.std.proofs.lemmas.List.Sums.{fold-append}
 use Rattle.std.proofs.lemmas.Grind.{flat_map-append}
@@ -148,6 +149,25 @@ module _ {C : Type 0} (told : C → Option (List CoreEntry)) (began : State Plai
   step_keeps step before after (Err Worn) may h gives = same before after gives.2 h
   step_keeps step before after (Err (Recorder why)) may h gives = goes_on None before after tt h gives.1.0
   step_keeps step before after (Err (Owed back)) may h gives = same before after gives.2 h
+
+  -- ---- and counts its steps
+
+  abbrev pub counted : Result (Option (List Effect)) StepFault → ℕ
+  counted (Ok None) = 0
+  counted (Ok (Some effects)) = 1
+  counted (Err fault) = 0
+
+  pub steps_after : (step : CoreStep) (before after : Cell C) (result : Result (Option (List Effect)) StepFault) → StepGives told step before after result → after.desk.steps ≡ before.desk.steps + counted result
+  steps_after step before after (Ok None) gives = omega (arith, ap (λ (c : Cell C). c.desk.steps) gives.1.1)
+  steps_after step before after (Ok (Some effects)) gives = gives.1.does.desk.steps
+  steps_after step before after (Err NoMemory) gives = gives.1.0.desk.steps
+  steps_after step before after (Err Worn) gives = omega (arith, ap (λ (c : Cell C). c.desk.steps) gives.2)
+  steps_after step before after (Err (Recorder why)) gives = gives.1.0.desk.steps
+  steps_after step before after (Err (Owed back)) gives = omega (arith, ap (λ (c : Cell C). c.desk.steps) gives.2)
+
+  pub counted_one : (o : Option (List Effect)) → is_some o ≡ true → counted (Ok o) ≡ 1
+  counted_one None h = absurd (true≢false (sym h))
+  counted_one (Some effects) h = refl
 
   -- ---- how it begins
 

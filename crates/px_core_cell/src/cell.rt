@@ -24,19 +24,20 @@ use std::sync::{Mutex, Wait};
 // A core with the book of its steps.
 #[derive(Drop)]
 struct Live<C: Recorder<CoreEntry>, L: Seats> {
-    state: CoreState<C>,
+    parts: CoreParts<C>,
     book: Book<L>,
 }
 
 impl<C: Recorder<CoreEntry>, L: Seats> Model for Live<C, L> {
     ghost use Rattle.std.specs.Prelude.{◌≡◌};
-    ghost use Rattle.px_core_cell.specs.History.{Course, IsCell};
+    ghost use Rattle.px_core_cell.specs.Cell.{Cell, cell_of};
+    ghost use Rattle.px_core_cell.specs.History.{IsCell};
 
-    ghost Value = { Course C };
+    ghost Value = { Cell C };
 
-    ghost view = { λ l. l.state };
+    ghost view = { λ l. cell_of l.parts };
 
-    ghost invariant = { λ l. (l.state.began ≡ L.began) × (l.book.total ≡ l.state.cell.desk.steps) × (L.parts ≡ L.all) };
+    ghost invariant = { λ l. IsCell C.told L.began (cell_of l.parts) × (l.book.total ≡ l.parts.log.steps) × (L.parts ≡ L.all) };
 }
 
 // All parts of a ledger.
@@ -68,7 +69,7 @@ impl<C: Recorder<CoreEntry>, L: Seats> Live<C, L> {
         ensures counts { Counts result seat.old seat.new }
         ensures back { HandsBack step result }
     {
-        let answer = self.state.step(rt, alloc, step)?;
+        let answer = self.parts.step(rt, alloc, step)?;
         if answer.is_some() {
             self.book.add(&mut seat.share, 1);
         }
@@ -77,7 +78,7 @@ impl<C: Recorder<CoreEntry>, L: Seats> Live<C, L> {
 
     // No seat counts more steps than were done.
     fn audit(&mut self, seat: &mut CoreSeat<L>)
-        ensures { (self.new ≡ self.old) × (seat.new ≡ seat.old) × (seat.old.steps ≤ self.old.cell.desk.steps) }
+        ensures { (self.new ≡ self.old) × (seat.new ≡ seat.old) × (seat.old.steps ≤ self.old.desk.steps) }
     {
         self.book.audit(&mut seat.share);
     }
@@ -120,10 +121,10 @@ impl<C: Recorder<CoreEntry> + Drop, L: Seats> CoreCell<C, L> {
         ensures { result.1 ≡ record { parts = L.all; steps = 0 } }
     {
         let (book, share) = blank.open::<L>();
-        let state = CoreState::new(core, recorder, ends);
+        let parts = CoreState::new(core, recorder, ends).into_parts();
         (
             CoreCell {
-                slot: Mutex::new(Slot::Live(Live { state, book })),
+                slot: Mutex::new(Slot::Live(Live { parts, book })),
             },
             CoreSeat { share },
         )
@@ -167,7 +168,7 @@ impl<C: Recorder<CoreEntry> + Drop, L: Seats> CoreCell<C, L> {
         }
         let CoreSeat { share } = seat;
         match mem::replace(&mut *slot, Slot::Taken(Whole { share })) {
-            Slot::Live(Live { state, book: _ }) => state.into_parts(),
+            Slot::Live(Live { parts, book: _ }) => parts,
             Slot::Taken(_) => unreachable!(),
         }
     }

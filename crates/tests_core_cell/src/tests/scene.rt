@@ -14,7 +14,7 @@ use px_session::{Header, Reader, SinkSpec, Step};
 use px_stream::Stream;
 use px_types::{Mem, NoMemory, SinkId, Text};
 use std::alloc::Global;
-use std::sync::Arc;
+use std::sync::{Arc, Wait};
 
 pub(crate) const OUT: SinkId = SinkId(0);
 
@@ -98,4 +98,16 @@ pub(crate) fn new_scene(alloc: Global) -> Mem<Scene>
         Ok(Step::Header(header)) => set_up(alloc, &header),
         _ => Err(NoMemory),
     }
+}
+
+// The sink's next message.
+pub(crate) fn taken<R: Wait>(rt: &R, mixer: &mut Mixer) -> Option<Msg<Stream>> {
+    let Mixer { inbox, take, .. } = mixer;
+    inbox.take(rt, take)
+}
+
+// Whether there was room for a notice of the sink.
+pub(crate) fn told<R: Wait>(rt: &R, mixer: &mut Mixer, notice: Notice<Stream>) -> bool {
+    let Mixer { outbox, post, .. } = mixer;
+    outbox.post(rt, post, notice).is_ok()
 }

@@ -3,7 +3,7 @@ ghost use Rattle.px_core_cell.specs.Step.{IsAsked};
 
 use crate::tests::asking::{AUTH, CREATE, framed};
 use crate::tests::recorder::Crowded;
-use crate::tests::scene::{Mixer, OUT, Scene, new_scene};
+use crate::tests::scene::{Mixer, OUT, Scene, new_scene, taken, told};
 use px_annals::{CoreEntry, MemRecorder};
 use px_core_cell::{CoreState, CoreStep, StepFault};
 use px_msg::Notice;
@@ -36,29 +36,18 @@ fn done<R: Wait>(rt: &R, alloc: Global, state: &mut CoreState<Crowded>, place: u
     if matches!(state.step(rt, alloc, step_at(alloc, place)?), Ok(Some(_))) {
         return Ok(true);
     }
-    Ok(matches!(
-        state.step(rt, alloc, step_at(alloc, place)?),
-        Ok(Some(_))
-    ))
+    Ok(matches!(state.step(rt, alloc, step_at(alloc, place)?), Ok(Some(_))))
 }
 
 // How many messages came to the sink.
 fn arrived<R: Wait>(rt: &R, mixer: &mut Mixer) -> u32 {
-    let Mixer { inbox, take, .. } = mixer;
     let mut count: u32 = 0;
     for _ in 0..100 {
-        if inbox.take(rt, take).is_some() {
+        if taken(rt, mixer).is_some() {
             count = count.saturating_add(1);
         }
     }
     count
-}
-
-// A notice of the sink.
-fn starts<R: Wait>(rt: &R, mixer: &mut Mixer) -> bool {
-    let Mixer { outbox, post, .. } = mixer;
-    let started = Notice::Started { input: InputId(0) };
-    outbox.post(rt, post, started).is_ok()
 }
 
 // The whole run, with a recorder that is full once at so many entries: what it keeps then, and how many messages came to the sink.
@@ -71,7 +60,7 @@ fn run<R: Wait>(rt: &R, alloc: Global, full_at: usize) -> Mem<Option<(Crowded, u
     let Some(mut mixer) = mixers.pop() else {
         return Ok(None);
     };
-    if !starts(rt, &mut mixer) {
+    if !told(rt, &mut mixer, Notice::Started { input: InputId(0) }) {
         return Ok(None);
     }
     let mut state = CoreState::new(core, Crowded::new(alloc, full_at), ends);
@@ -92,12 +81,14 @@ fn keeps_all<R: Wait>(rt: &R, alloc: Global, full_at: usize) -> Mem<bool> {
     let Some((other, arrived)) = run(rt, alloc, full_at)? else {
         return Ok(false);
     };
-    Ok(whole.len() == STEPS
-        && whole.fulls() == 0
-        && other.fulls() == 1
-        && other.matches(&whole)
-        && messages == 3
-        && arrived == messages)
+    Ok(
+        whole.len() == STEPS
+            && whole.fulls() == 0
+            && other.fulls() == 1
+            && other.matches(&whole)
+            && messages == 3
+            && arrived == messages,
+    )
 }
 
 #[test]

@@ -4,7 +4,7 @@ ghost use Rattle.px_core_cell.specs.History.{Begins};
 ghost use Rattle.px_core_cell.specs.Step.{IsAsked};
 
 use crate::tests::asking::{AUTH, CREATE, DRAIN, framed};
-use crate::tests::scene::{Mixer, OUT, Scene, new_scene};
+use crate::tests::scene::{Mixer, OUT, Scene, new_scene, taken};
 use px_annals::NoRecorder;
 use px_core_cell::{CellCore, CoreCell, CoreEnds, CoreSeat, CoreStep, Seats, StepFault};
 use px_msg::Msg;
@@ -161,11 +161,10 @@ fn four_of<L: Seats>(seat: &mut CoreSeat<L>) -> CoreSeat<L>
 
 // Whether all drains of the eight clients came to the sink, those of each client in the order of their tags.
 fn in_order<R: Wait>(rt: &R, mixer: &mut Mixer) -> bool {
-    let Mixer { inbox, take, .. } = mixer;
     let mut last: [u32; 8] = [0; 8];
     let mut count: u32 = 0;
     for _ in 0..200 {
-        if let Some(Msg::Drain { input, tag }) = inbox.take(rt, take) {
+        if let Some(Msg::Drain { input, tag }) = taken(rt, mixer) {
             let input = input.0 as usize;
             if input >= 8 || tag <= last[input] {
                 return false;
