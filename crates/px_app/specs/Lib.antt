@@ -8,4 +8,3 @@ pub mod Ending
 pub mod Report
 pub mod Step
 pub mod Words
-pub mod Serving

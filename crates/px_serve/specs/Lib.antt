@@ -1,3 +1,0 @@
-pub mod HeaderFile
-pub mod Back
-pub mod Serves
