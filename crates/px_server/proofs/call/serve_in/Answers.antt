@@ -8,9 +8,9 @@ pub returns-then-is_err : goal.returns-then-is_err
 returns-then-is_err g c =
     let before = g.H.Host.now c.args.host.now in
     unserved_is g.H.D.Device.now g.H.R.Recorder.told g.H.R.Recorder.faults g.H.R.Recorder.fulls g.H.C.Recorder.faults g.H.C.Recorder.fulls
-      c.args.header.now.sinks c.new-lone.result.items before before Memory c.unserved.result.status c.unserved.result.lanes.items c.unserved.result.core
-      (front_none c.args.header.now.sinks c.new-lone.result.items c.new-lone.ensures.items) (later_refl before) (lent_none before c.new-lone.result.items c.new-lone.ensures.items) tt
-      c.unserved.ensures.status c.unserved.ensures.lanes c.unserved.ensures.core
+    c.args.header.now.sinks c.new-lone.result.items before before Memory c.unserved.result.status c.unserved.result.lanes.items c.unserved.result.core
+    (front_none c.args.header.now.sinks c.new-lone.result.items c.new-lone.ensures.items) (later_refl before) (lent_none before c.new-lone.result.items c.new-lone.ensures.items) tt
+    c.unserved.ensures.status c.unserved.ensures.lanes c.unserved.ensures.core
 
 pub unserved-requires-in-Err-clause-room : goal.unserved-requires-in-Err-clause-room
 unserved-requires-in-Err-clause-room g c κs within =
@@ -20,10 +20,10 @@ unserved-requires-in-Err-clause-room g c κs within =
 pub returns-in-Err : goal.returns-in-Err
 returns-in-Err g c =
     unserved_is g.H.D.Device.now g.H.R.Recorder.told g.H.R.Recorder.faults g.H.R.Recorder.fulls g.H.C.Recorder.faults g.H.C.Recorder.fulls
-      c.args.header.now.sinks c.make_outside.new.lone.items (g.H.Host.now c.args.host.now) (g.H.Host.now c.make_outside.new.host) c.in-Err.stop
-      c.unserved-in-Err.result.status c.unserved-in-Err.result.lanes.items c.unserved-in-Err.result.core
-      c.make_outside.ensures.front c.make_outside.ensures.later c.make_outside.ensures.lent c.in-Err.ensures.cause
-      c.unserved-in-Err.ensures.status c.unserved-in-Err.ensures.lanes c.unserved-in-Err.ensures.core
+    c.args.header.now.sinks c.make_outside.new.lone.items (g.H.Host.now c.args.host.now) (g.H.Host.now c.make_outside.new.host) c.in-Err.stop
+    c.unserved-in-Err.result.status c.unserved-in-Err.result.lanes.items c.unserved-in-Err.result.core
+    c.make_outside.ensures.front c.make_outside.ensures.later c.make_outside.ensures.lent c.in-Err.ensures.cause
+    c.unserved-in-Err.ensures.status c.unserved-in-Err.ensures.lanes c.unserved-in-Err.ensures.core
 
 pub run-requires-clause-few : goal.run-requires-clause-few
 run-requires-clause-few g c κs within =
@@ -46,14 +46,14 @@ returns-in-Ok-worker_of g c =
     let made = g.H.Host.now c.make_outside.new.host in
     let after = g.H.Host.now c.run.new.host in
     served_is g.H.D.Device.now g.H.R.Recorder.told g.H.R.Recorder.faults g.H.R.Recorder.fulls g.H.C.Recorder.faults g.H.C.Recorder.fulls
-      c.args.header.now.sinks c.make_outside.new.lone.items before made after c.run.result.status c.run.result.lanes.items c.run.result.core
-      c.in-Ok.ensures.made c.make_outside.ensures.later (later_later before made after c.make_outside.ensures.later c.run.ensures.later)
-      (lent_same (length c.make_outside.new.lone.items) 1 made after c.run.ensures.lent c.in-Ok.ensures.core_lent) c.run.ensures.core c.run.ensures.ends
+    c.args.header.now.sinks c.make_outside.new.lone.items before made after c.run.result.status c.run.result.lanes.items c.run.result.core
+    c.in-Ok.ensures.made c.make_outside.ensures.later (later_later before made after c.make_outside.ensures.later c.run.ensures.later)
+    (lent_same (length c.make_outside.new.lone.items) 1 made after c.run.ensures.lent c.in-Ok.ensures.core_lent) c.run.ensures.core c.run.ensures.ends
 
 pub returns-in-Err-worker_of : goal.returns-in-Err-worker_of
 returns-in-Err-worker_of g c =
     unserved_is g.H.D.Device.now g.H.R.Recorder.told g.H.R.Recorder.faults g.H.R.Recorder.fulls g.H.C.Recorder.faults g.H.C.Recorder.fulls
-      c.args.header.now.sinks c.make_outside.new.lone.items (g.H.Host.now c.args.host.now) (g.H.Host.now c.make_outside.new.host) Memory
-      c.unserved-in-Err-worker_of.result.status c.unserved-in-Err-worker_of.result.lanes.items c.unserved-in-Err-worker_of.result.core
-      c.make_outside.ensures.front c.make_outside.ensures.later c.make_outside.ensures.lent tt
-      c.unserved-in-Err-worker_of.ensures.status c.unserved-in-Err-worker_of.ensures.lanes c.unserved-in-Err-worker_of.ensures.core
+    c.args.header.now.sinks c.make_outside.new.lone.items (g.H.Host.now c.args.host.now) (g.H.Host.now c.make_outside.new.host) Memory
+    c.unserved-in-Err-worker_of.result.status c.unserved-in-Err-worker_of.result.lanes.items c.unserved-in-Err-worker_of.result.core
+    c.make_outside.ensures.front c.make_outside.ensures.later c.make_outside.ensures.lent tt
+    c.unserved-in-Err-worker_of.ensures.status c.unserved-in-Err-worker_of.ensures.lanes c.unserved-in-Err-worker_of.ensures.core
