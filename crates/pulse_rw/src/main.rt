@@ -1,10 +1,9 @@
-//! The program: it makes the real ends over standard input, output and error, runs the words of its command line, and exits
-//! with the status's code.
+//! The program: it makes the real ends over standard input, output and error and the real host, runs the words of its command line, and
+//! exits with the status's code.
 #![tactic(auto)]
 
 use px_app::{Ending, report, run};
-use px_ends::NoHost;
-use px_host::{Reading, Writing};
+use px_host::{Reading, SystemHost, Writing};
 use std::alloc::{AllocError, Global};
 use std::env;
 use std::process::ExitCode;
@@ -24,15 +23,9 @@ fn main(rt: HostRuntime) -> ExitCode {
     let mut input = Reading::new(rt.stdin());
     let mut output = Writing::new(rt.stdout());
     let mut log = Writing::new(rt.stderr());
+    let mut host = SystemHost::new(rt.alloc(), rt);
     let status = match words(&rt, rt.alloc()) {
-        Ok(words) => run(
-            &rt,
-            &words,
-            &mut input,
-            &mut output,
-            &mut log,
-            &mut NoHost::new(),
-        ),
+        Ok(words) => run(&rt, &words, &mut input, &mut output, &mut log, &mut host),
         Err(_) => report(rt.alloc(), Ending::Memory, &mut log),
     };
     ExitCode::from(status.code())

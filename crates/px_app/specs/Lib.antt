@@ -8,3 +8,4 @@ pub mod Ending
 pub mod Report
 pub mod Step
 pub mod Words
+pub mod Serving

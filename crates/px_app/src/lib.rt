@@ -1,4 +1,5 @@
-//! The program's top call, `run`, and what it does by the words of the command line: `replay` plays a recorded session, `gen` makes one.
+//! The program's top call, `run`, and what it does by the words of the command line: `replay` plays a recorded session, `gen` makes one,
+//! `serve` serves live clients.
 //! It exports these two, `View`, `Ending`, the `Refusal`s of a session, `report`, which writes to a log how a run ended, and the
 //! laws on inputs and refusals.
 #![tactic(auto)]
@@ -13,6 +14,7 @@ mod reading;
 mod records;
 mod refusal;
 mod replaying;
+mod serving;
 mod summary;
 mod tally;
 mod view;

@@ -1,6 +1,6 @@
 //! All that the program does.
 
-ghost use Rattle.std.specs.Prelude.{◌≡◌, ◌⊎◌, ◌≢◌, map, string_bytes};
+ghost use Rattle.std.specs.Prelude.{◌≡◌, ◌⊎◌, ◌≢◌, true, false, map, string_bytes};
 ghost use Rattle.px_types.specs.declared.status.Status.{Status as Answered};
 ghost use Rattle.px_ends.specs.Told.{after_adding};
 ghost use Rattle.px_types.specs.Faults.{Rose};
@@ -14,16 +14,21 @@ ghost use Rattle.px_app.specs.Ending.{status_of, line_of, IsRunStatus};
 ghost use Rattle.px_app.specs.Report.{Says};
 ghost use Rattle.px_app.specs.View.{Shown};
 ghost use Rattle.px_app.specs.Replay.{WasRefused, WasUnnamed, InputCounted};
+ghost use Rattle.px_app.specs.Serving.{is_serve, Served};
 ghost use Rattle.px_app.specs.Words.{Meaning, Replay, Means, AreOther, Ran, DoneWhole, DoneFront, DoneCompletes};
 
 use crate::ending::Ending;
 use crate::log::report;
 use crate::making::make;
 use crate::replaying::replay_by;
+use crate::serving::{is_serve, serve_reported};
 use crate::words::{Words, meaning};
 use px_ends::{Host, Sink, Source};
 use px_types::Status;
 use std::alloc::Global;
+use std::rt::Clock;
+use std::sync::Wait;
+use std::thread::Threads;
 
 // Does what the words mean.
 fn run_by<S: Source, K: Sink, L: Sink>(
@@ -45,19 +50,13 @@ fn run_by<S: Source, K: Sink, L: Sink>(
     }
 }
 
-/// Does all that the program does, by the words of its command line, and answers its status.
-///
-/// `replay`, `replay --raw SINK` and `summary` replay the session that `input` has: see [`crate::replay`] and [`crate::View`].
-/// `gen NUMBER COUNT` writes the session that a number of 64 bits and a count up to 1,000,000 give, both in decimal digits
-/// alone: see [`px_gen::generate`]. Other words are `Usage`, and then nothing is read or written but the log's line. Where
-/// the log's line can't be written, the status is `WriteFault`.
-pub fn run<R: AllocGlobal, S: Source, K: Sink, L: Sink, H: Host>(
-    rt: &R,
+// Does what the words mean that need no server.
+fn run_alone<S: Source, K: Sink, L: Sink>(
+    alloc: Global,
     words: &[String],
     input: &mut S,
     output: &mut K,
     log: &mut L,
-    _host: &mut H,
 ) -> Status
     // What was read and written, which calls failed, and what was reported; the clauses behind it follow from it.
     ensures exact { Ran (map string_bytes words.now) result
@@ -105,5 +104,92 @@ pub fn run<R: AllocGlobal, S: Source, K: Sink, L: Sink, H: Host>(
         → DoneCompletes meaning result
         (ends_of (S.left input.old) (S.faults input.old) (K.held output.old) (K.faults output.old)) }
 {
-    run_by(rt.alloc(), words, input, output, log)
+    run_by(alloc, words, input, output, log)
+}
+
+/// Does all that the program does, by the words of its command line, and answers its status.
+///
+/// `replay`, `replay --raw SINK` and `summary` replay the session that `input` has: see [`crate::replay`] and [`crate::View`].
+/// `gen NUMBER COUNT` writes the session that a number of 64 bits and a count up to 1,000,000 give, both in decimal digits
+/// alone: see [`px_gen::generate`]. `serve` with its options serves live clients on the sinks of the header that the host reads, and
+/// waits for them: see [`px_serve::serve_by`] and [`px_server::serve`]. Other words are `Usage`, and then nothing is read or written but
+/// the log's line. Where the log's line can't be written, the status is `WriteFault`.
+pub fn run<R, S, K, L, H>(
+    rt: &R,
+    words: &[String],
+    input: &mut S,
+    output: &mut K,
+    log: &mut L,
+    host: &mut H,
+) -> Status
+where
+    R: AllocGlobal + Threads + Wait + Clock + Copy + Drop + Send + Sync + 'static,
+    S: Source,
+    K: Sink,
+    L: Sink,
+    H: Host,
+    H::L: 'static,
+    H::D: 'static,
+    H::R: 'static,
+    H::C: 'static,
+    // By the words of `serve` the host was started, served, and given back what it made; nothing was read from the input or written to the output.
+    ensures serve { is_serve (map string_bytes words.now) ≡ true → Served H.C.faults H.C.fulls H.D.now H.R.told H.R.faults H.R.fulls
+        (map string_bytes words.now) result (H.now host.old) (H.now host.new)
+        (log_end (L.held log.old) (L.faults log.old)) (log_end (L.held log.new) (L.faults log.new)) }
+    ensures serve_alone { is_serve (map string_bytes words.now) ≡ true
+        → (S.left input.new ≡ S.left input.old) × (S.faults input.new ≡ S.faults input.old)
+        × (K.held output.new ≡ K.held output.old) × (K.faults output.new ≡ K.faults output.old) }
+    // By all other words the host isn't called.
+    ensures unserved { is_serve (map string_bytes words.now) ≡ false → H.now host.new ≡ H.now host.old }
+    // What was read and written, which calls failed, and what was reported; the clauses behind it follow from it.
+    ensures exact { is_serve (map string_bytes words.now) ≡ false → Ran (map string_bytes words.now) result
+        (ends_of (S.left input.old) (S.faults input.old) (K.held output.old) (K.faults output.old))
+        (ends_of (S.left input.new) (S.faults input.new) (K.held output.new) (K.faults output.new))
+        (log_end (L.held log.old) (L.faults log.old)) (log_end (L.held log.new) (L.faults log.new)) }
+    ensures ok { is_serve (map string_bytes words.now) ≡ false → result ≡ Answered.Ok → (meaning : Meaning) × Means (map string_bytes words.now) meaning × DoneWhole meaning
+        (ends_of (S.left input.old) (S.faults input.old) (K.held output.old) (K.faults output.old))
+        (ends_of (S.left input.new) (S.faults input.new) (K.held output.new) (K.faults output.new)) }
+    ensures refused { is_serve (map string_bytes words.now) ≡ false → result ≡ Answered.Refused → (shown : Shown) × Means (map string_bytes words.now) (Replay shown) × ((refusal : Refused) × WasRefused shown refusal
+        (ends_of (S.left input.old) (S.faults input.old) (K.held output.old) (K.faults output.old))
+        (ends_of (S.left input.new) (S.faults input.new) (K.held output.new) (K.faults output.new))
+        × (L.held log.new ≡ after_adding (L.held log.old) (refusal_line refusal))) }
+    ensures no_such_sink { is_serve (map string_bytes words.now) ≡ false → result ≡ Answered.NoSuchSink → (shown : Shown) × Means (map string_bytes words.now) (Replay shown) × WasUnnamed shown
+        (ends_of (S.left input.old) (S.faults input.old) (K.held output.old) (K.faults output.old))
+        (ends_of (S.left input.new) (S.faults input.new) (K.held output.new) (K.faults output.new)) }
+    ensures usage { is_serve (map string_bytes words.now) ≡ false → result ≡ Answered.Usage → AreOther (map string_bytes words.now) }
+    ensures memory { is_serve (map string_bytes words.now) ≡ false → result ≡ Answered.Memory → (meaning : Meaning) × Means (map string_bytes words.now) meaning }
+    ensures front { is_serve (map string_bytes words.now) ≡ false → (meaning : Meaning) → Means (map string_bytes words.now) meaning → DoneFront meaning
+        (ends_of (S.left input.old) (S.faults input.old) (K.held output.old) (K.faults output.old))
+        (ends_of (S.left input.new) (S.faults input.new) (K.held output.new) (K.faults output.new)) }
+    // With every status but those of a failed read or write no call failed, and the log's line is the status's.
+    ensures quiet { is_serve (map string_bytes words.now) ≡ false → result ≢ Answered.ReadFault → result ≢ Answered.WriteFault
+        → (S.faults input.new ≡ S.faults input.old) × (K.faults output.new ≡ K.faults output.old) × (L.faults log.new ≡ L.faults log.old) }
+    ensures read_fault { is_serve (map string_bytes words.now) ≡ false → result ≡ Answered.ReadFault → (shown : Shown) × Means (map string_bytes words.now) (Replay shown)
+        × Rose (S.faults input.old) (S.faults input.new) × KeptOrRose (K.faults output.old) (K.faults output.new) × (L.faults log.new ≡ L.faults log.old) }
+    ensures line { is_serve (map string_bytes words.now) ≡ false → result ≢ Answered.WriteFault → (ended : Ended) × (result ≡ status_of ended)
+        × (L.held log.new ≡ after_adding (L.held log.old) (line_of ended)) }
+    // A write of the output failed and the log has the line of it, or one of the log did, behind a front of the line of how it ended.
+    ensures write_fault { is_serve (map string_bytes words.now) ≡ false → result ≡ Answered.WriteFault
+        → ((S.faults input.new ≡ S.faults input.old) × Rose (K.faults output.old) (K.faults output.new) × (L.faults log.new ≡ L.faults log.old)
+        × (L.held log.new ≡ after_adding (L.held log.old) (line_of ending.WriteFault)))
+        ⊎ ((ended : Ended) × (said : Ended) × Says ended said
+        × InputCounted ended
+        (ends_of (S.left input.old) (S.faults input.old) (K.held output.old) (K.faults output.old))
+        (ends_of (S.left input.new) (S.faults input.new) (K.held output.new) (K.faults output.new))
+        × AddsFront (line_of said) (L.held log.old) (L.held log.new) × Rose (L.faults log.old) (L.faults log.new)) }
+    ensures others { is_serve (map string_bytes words.now) ≡ false → IsRunStatus result }
+    ensures other_words { is_serve (map string_bytes words.now) ≡ false → AreOther (map string_bytes words.now) → ((result ≡ Answered.Usage) ⊎ (result ≡ Answered.WriteFault))
+        × (S.left input.new ≡ S.left input.old) × (S.faults input.new ≡ S.faults input.old)
+        × (K.held output.new ≡ K.held output.old) × (K.faults output.new ≡ K.faults output.old) }
+    // Where no read and no write fails, what the words mean is done, unless memory ran out, or its input is refused.
+    ensures complete { is_serve (map string_bytes words.now) ≡ false → (meaning : Meaning) → Means (map string_bytes words.now) meaning → ¬ Rose (S.faults input.old) (S.faults input.new)
+        → ¬ Rose (K.faults output.old) (K.faults output.new) → ¬ Rose (L.faults log.old) (L.faults log.new)
+        → DoneCompletes meaning result
+        (ends_of (S.left input.old) (S.faults input.old) (K.held output.old) (K.faults output.old)) }
+{
+    if is_serve(words) {
+        serve_reported(rt, rt.alloc(), words, log, host)
+    } else {
+        run_alone(rt.alloc(), words, input, output, log)
+    }
 }

@@ -1,7 +1,7 @@
 use Rattle.std.proofs.Common.{map, string_bytes}
 use Rattle.px_app.proofs.RunLaws.{ok_run, refused_run, unnamed_run, usage_run, memory_run, front_run, quiet_run, read_fault_run, line_run, write_fault_run, status_run, other_run, complete_run}
 use Rattle.px_app.specs.Ends.{ends_of, log_end}
-use Rattle.px_app.proofs.program.run.Goals as goal
+use Rattle.px_app.proofs.program.run_alone.Goals as goal
 
 pub returns-clause-ok : goal.returns-clause-ok
 returns-clause-ok g c =

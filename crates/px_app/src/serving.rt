@@ -1,0 +1,81 @@
+//! What the words of `serve` do, and what the log gains of it.
+
+ghost use Rattle.std.specs.Prelude.{◌≡◌, map, string_bytes};
+ghost use Rattle.px_app.specs.Ends.{log_end};
+ghost use Rattle.px_app.specs.Serving.{is_serve, line_of_status, StatusReported, Served};
+
+use crate::ending::Ending;
+use crate::log::report;
+use crate::refusal::{Refusal, Why};
+use px_ends::{Host, Sink, write_all};
+use px_serve::{ServeEnd, serve_by};
+use px_types::Status;
+use std::alloc::Global;
+use std::rt::Clock;
+use std::sync::Wait;
+use std::thread::Threads;
+
+/// Whether words are those of `serve`: they begin with it.
+pub(crate) fn is_serve(words: &[String]) -> bool
+    ensures { result ≡ is_serve (map string_bytes words.now) }
+{
+    match words {
+        [word, ..] => word.as_str() == "serve",
+        [] => false,
+    }
+}
+
+// The line of a server's status, with its line end. Nothing where all went well.
+fn line_of_status(status: Status) -> &'static [u8]
+    ensures { result.now ≡ line_of_status status }
+{
+    match status {
+        Status::Memory => b"pulse_rw: out of memory\n",
+        Status::Device => b"pulse_rw: device failed\n",
+        Status::Host => b"pulse_rw: host failed\n",
+        Status::HistoryFull => b"pulse_rw: history full\n",
+        _ => b"",
+    }
+}
+
+// Writes the line of a server's status to the log.
+fn report_status<L: Sink>(status: Status, log: &mut L) -> Status
+    ensures { StatusReported status result (log_end (L.held log.old) (L.faults log.old)) (log_end (L.held log.new) (L.faults log.new)) }
+{
+    match write_all(log, line_of_status(status)) {
+        Ok(()) => status,
+        Err(_) => Status::WriteFault,
+    }
+}
+
+/// Serves by words, and reports how that ended.
+pub(crate) fn serve_reported<R, L, H>(
+    rt: &R,
+    alloc: Global,
+    words: &[String],
+    log: &mut L,
+    host: &mut H,
+) -> Status
+where
+    R: Threads + Wait + Clock + Copy + Drop + Send + Sync + 'static,
+    L: Sink,
+    H: Host,
+    H::L: 'static,
+    H::D: 'static,
+    H::R: 'static,
+    H::C: 'static,
+    ensures { Served H.C.faults H.C.fulls H.D.now H.R.told H.R.faults H.R.fulls (map string_bytes words.now) result (H.now host.old) (H.now host.new)
+        (log_end (L.held log.old) (L.faults log.old)) (log_end (L.held log.new) (L.faults log.new)) }
+{
+    match serve_by(rt, alloc, words, host) {
+        ServeEnd::Usage => report(alloc, Ending::Usage, log),
+        ServeEnd::Refused { at, cause } => {
+            let refusal = Refusal {
+                at,
+                why: Why::Session(cause),
+            };
+            report(alloc, Ending::Refused(refusal), log)
+        }
+        ServeEnd::Ended(status) => report_status(status, log),
+    }
+}

@@ -1,0 +1,3 @@
+mod HeaderLaws
+mod BackLaws
+mod ServeLaws

@@ -1,0 +1,3 @@
+pub mod HeaderFile
+pub mod Back
+pub mod Serves
