@@ -1,0 +1,3 @@
+mod gates;
+mod hosts;
+mod statuses;
