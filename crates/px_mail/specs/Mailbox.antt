@@ -5,6 +5,10 @@ use lib.ListN.{get_elem?}
 use Rattle.crossbeam_queue.specs.Passes.{Pass, view}
 use Rattle.px_mail.specs.declared.step.Account.{Account}
 
+-- of the calls that a pass has written down after these, the last one failed: a take found the mailbox empty, or a post found it full
+abbrev pub LastFails : List Bool → List Bool → Type 0
+LastFails before after = (calls : List Bool) × (after ≡ before ++ calls ++ false ∷ [])
+
 module _ {T : Type 0} where
   -- some of what was posted was taken, and this is the rest
   abbrev pub IsHeldOf : List T → List T → Type 0
