@@ -16,7 +16,7 @@ use Rattle.px_core_cell.specs.declared.log.StepLog.{StepLog}
 use Rattle.px_core_cell.specs.declared.step.CoreStep.TheVariants as asked
 use Rattle.px_core_cell.specs.declared.step.StepFault.{StepFault}
 use Rattle.px_core_cell.specs.declared.step.StepFault.TheVariants.{NoMemory, Worn, Recorder, Owed}
-use Rattle.px_core_cell.specs.Cell.{Desk, Cell, SinkEnds, desk_of, ends_of}
+use Rattle.px_core_cell.specs.Cell.{Desk, Cell, SinkEnds, desk_of}
 use Rattle.px_core_cell.specs.History.{IsSound}
 use Rattle.px_core_cell.specs.Plain.{plain_notice}
 use Rattle.px_core_cell.specs.Step.{HandsAll, Finishes, NoticeGives, OutGives, NowhereGives, FreeGives}
@@ -26,12 +26,12 @@ use Rattle.px_core_cell.proofs.Places.{there, rests}
 
 -- ---- the ends of one sink
 
-pub end_at : (ends : List CoreEnd) (place n : ℕ) (e : CoreEnd) → n ≡ length ends → place < n → e ≡ slice_index_or ends place e → slice_get (map ends_of ends) place ≡ Some (ends_of e)
-end_at ends place n e count inside is = slice_get-map ends_of ends place ∙ ap (λ (o : Option CoreEnd). Rattle.std.specs.Option.option_map ends_of o) (slice_get_read ends n place e count inside is)
+pub placed_at : {B : Type 0} (seen : CoreEnd → B) (ends : List CoreEnd) (place n : ℕ) (e : CoreEnd) → n ≡ length ends → place < n → e ≡ slice_index_or ends place e → slice_get (map seen ends) place ≡ Some (seen e)
+placed_at seen ends place n e count inside is = slice_get-map seen ends place ∙ ap (λ (o : Option CoreEnd). Rattle.std.specs.Option.option_map seen o) (slice_get_read ends n place e count inside is)
 
-pub none_at : (ends : List CoreEnd) (place n : ℕ) → n ≡ length ends → n ≤ place → (e : SinkEnds) → slice_get (map ends_of ends) place ≡ Some e → ⊥
-none_at ends place n count past e is =
-    none-some e (sym (slice_get_past (map ends_of ends) place (omega (arith, count, past, length-map ends ends_of))) ∙ is)
+pub none_at : {B : Type 0} (seen : CoreEnd → B) (ends : List CoreEnd) (place n : ℕ) → n ≡ length ends → n ≤ place → (e : B) → slice_get (map seen ends) place ≡ Some e → ⊥
+none_at seen ends place n count past e is =
+    none-some e (sym (slice_get_past (map seen ends) place (omega (arith, count, past, length-map ends seen))) ∙ is)
 
 -- a sink whose ends are there is there itself
 pub is_there : {C : Type 0} (cell : Cell C) (sink : SinkId) (e : SinkEnds) → IsSound cell → sink.0 < length cell.ends → slice_get cell.ends sink.0 ≡ Some e → IsThere sink cell.desk.state e

@@ -1,5 +1,5 @@
 -- What a sink is posted is lawful there, message by message.
-use Rattle.std.proofs.Common.{◌≡◌, ℕ, zero, suc, ◌+◌, List, [], ◌∷◌, ◌++◌, map, length, drop, replicate, Option, Some, refl, ap, sym, subst, ◌∙◌, inl}
+use Rattle.std.proofs.Common.{◌≡◌, ℕ, zero, suc, ◌+◌, List, [], ◌∷◌, ◌++◌, map, length, drop, replicate, Option, Some, refl, ap, sym, subst, ◌∙◌}
 use Rattle.std.specs.Prelude.{nat_eq, slice_get}
 use Rattle.std.specs.List.{AllByRecursion}
 use Rattle.std.specs.Option.{option_to_list}
@@ -30,7 +30,7 @@ use Rattle.px_core.proofs.HandingLaws.{all_out}
 use Rattle.px_core_cell.specs.Cell.{SinkEnds}
 use Rattle.px_core_cell.specs.History.{sink_at, IsHeard}
 use Rattle.px_core_cell.specs.Parcel.{seen_message, spec_of}
-use Rattle.px_core_cell.specs.Step.{PostsOne, PostsMany, HandsAll}
+use Rattle.px_core_cell.specs.Step.{PostsOne, PostsMany}
 use Rattle.px_core_cell.proofs.Seen.{kept_spec, lawful}
 
 -- a sink goes on being heard under all steps, once it was posted what they hand out to it
@@ -93,11 +93,11 @@ more_posted sink n began before after d e f so_far one =
     }
 
 -- all that waited were handed out
-pub all_posted : (sink : SinkId) (n : ℕ) (began after : State PlainStream) (d e : SinkEnds) → IsKept spec_of began → n ≡ length (waiting_for began sink) → PostsMany sink n began after d e → HandsAll sink after e
-all_posted sink n began after d e kept count posts =
+pub all_gone : (sink : SinkId) (n : ℕ) (began after : State PlainStream) (d e : SinkEnds) → IsKept spec_of began → n ≡ length (waiting_for began sink) → PostsMany sink n began after d e → waiting_for after sink ≡ []
+all_gone sink n began after d e kept count posts =
     let are = all_out spec_of began sink kept.steady n (waiting_for began sink) refl in
-    inl (ap (λ (s : State PlainStream). waiting_for s sink) (posts.state ∙ outs spec_of sink n began) ∙ are.waits
-    ∙ ap (λ (k : ℕ). drop k (waiting_for began sink)) count ∙ drop-length (waiting_for began sink))
+    ap (λ (s : State PlainStream). waiting_for s sink) (posts.state ∙ outs spec_of sink n began) ∙ are.waits
+    ∙ ap (λ (k : ℕ). drop k (waiting_for began sink)) count ∙ drop-length (waiting_for began sink)
 
 pub all_outs : (sink : SinkId) (n : ℕ) → AllByRecursion (IsStep {P = PlainStream}) (replicate n (out sink))
 all_outs sink zero = tt

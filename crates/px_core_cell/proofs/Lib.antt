@@ -1,4 +1,5 @@
 pub mod Places
+pub mod Calls
 pub mod Seen
 pub mod Handing
 pub mod Doing

@@ -5,7 +5,7 @@ use Rattle.px_annals.specs.declared.recorder.RecordFault.{RecordFault}
 use Rattle.px_annals.specs.declared.recorder.Recorder.{Ghosts}
 use Rattle.px_annals.specs.declared.stream.PlainStream.{PlainStream}
 use Rattle.px_core.specs.State.{State}
-use Rattle.px_mail.specs.Mailbox.{key_of, posted_by, taken_by}
+use Rattle.px_mail.specs.Mailbox.{key_of, posted_by, taken_by, stored_by, found_by}
 use Rattle.px_msg.specs.declared.message.Msg.{Msg}
 use Rattle.px_msg.specs.declared.notice.Notice.{Notice}
 use Rattle.px_sample.specs.declared.spec.Spec.{Spec}
@@ -21,6 +21,12 @@ pub record SinkEnds : Type 0 where
   pub posted : List (Msg PlainStream)
   pub taken : List (Notice PlainStream)
   pub kept : Option (Notice PlainStream)
+
+-- what its passes have written down there: of each post to the inbox whether the message was stored, and of each take from the outbox whether it found
+-- a notice
+pub record Calls : Type 0 where
+  pub stored : List Bool
+  pub found : List Bool
 
 -- the core, its recorder with the first fault of that, how many steps were done, and whether a sweep is owed
 pub record Desk (C : Type 0) : Type 0 where
@@ -48,3 +54,9 @@ desk_of state log = record { state = state; recorder = log.recorder; fault = log
 
 abbrev pub cell_of : {C : Type 0} {R : Ghosts C CoreEntry} → CoreParts C R → Cell C
 cell_of p = record { desk = desk_of p.core.state p.log; ends = map ends_of p.ends.items }
+
+abbrev pub calls_of : CoreEnd → Calls
+calls_of e = record { stored = stored_by e.post.pass; found = found_by e.take.pass }
+
+abbrev pub calls_in : {C : Type 0} {R : Ghosts C CoreEntry} → CoreParts C R → List Calls
+calls_in p = map calls_of p.ends.items

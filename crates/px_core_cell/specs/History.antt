@@ -18,7 +18,7 @@ use Rattle.px_core.specs.Keeps.{IsKept}
 use Rattle.px_core.specs.Orderly.{inputs_there}
 use Rattle.px_core.specs.Hearing.{told_by}
 use Rattle.px_core.specs.Step.{Step, stepped_by}
-use Rattle.px_core_cell.specs.Cell.{Cell, SinkEnds}
+use Rattle.px_core_cell.specs.Cell.{Cell, Calls, SinkEnds}
 use Rattle.px_core_cell.specs.Parcel.{spec_of}
 use Rattle.px_core_cell.specs.Plain.{notice_for, steps_of}
 
@@ -99,10 +99,11 @@ pub record IsCell {C : Type 0} (told : C → Option (List CoreEntry)) (began : S
 
 -- ---- how one begins
 
--- what is known of a core's state at its beginning, and how it stands
+-- what is known of a core's state at its beginning, how it stands, and what its passes have written down for each sink
 pub record Course (C : Type 0) : Type 0 where
   pub began : State PlainStream
   pub cell : Cell C
+  pub calls : List Calls
 
 -- the ends of a sink's mailboxes that have moved nothing, for its sample spec
 abbrev pub fresh_ends : SinkSpec → SinkEnds

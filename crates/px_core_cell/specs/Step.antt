@@ -2,7 +2,7 @@
 use Rattle.std.specs.Prelude.{◌≡◌, ℕ, ◌+◌, ◌-◌, ◌^◌, ◌<◌, ◌⊎◌, Bool, true, false, ◌&&◌, List, [], ◌∷◌, ◌++◌, length, replicate, slice_get, Option, None, Some, Result, Ok, Err, ⊤}
 use Rattle.std.specs.Option.{option_to_list, option_or}
 use Rattle.crossbeam_queue.specs.Fifo.{Held}
-use Rattle.px_mail.specs.Mailbox.{IsHeldOf}
+use Rattle.px_mail.specs.Mailbox.{IsHeldOf, LastFails}
 use Rattle.px_types.specs.declared.ids.SinkId.{SinkId}
 use Rattle.px_annals.specs.declared.recorder.Recorder.{Ghosts}
 use Rattle.px_annals.specs.declared.entry.CoreEntry.{CoreEntry}
@@ -24,7 +24,7 @@ use Rattle.px_core_cell.specs.declared.step.CoreStep.TheVariants as asked
 use Rattle.px_core_cell.specs.declared.step.StepFault.{StepFault}
 use Rattle.px_core_cell.specs.declared.step.StepFault.TheVariants.{NoMemory, Worn, Recorder, Owed}
 use Rattle.px_core_cell.specs.declared.log.StepLog.{StepLog}
-use Rattle.px_core_cell.specs.Cell.{Desk, Cell, SinkEnds, desk_of}
+use Rattle.px_core_cell.specs.Cell.{Desk, Cell, Calls, SinkEnds, desk_of}
 use Rattle.px_core_cell.specs.History.{sink_at, noticed_in, owes}
 use Rattle.px_core_cell.specs.Parcel.{spec_of}
 use Rattle.px_core_cell.specs.Plain.{plain_notice, plain_body, steps_of}
@@ -177,6 +177,42 @@ StepGives told step before after (Err Worn) = (before.desk.owed && waits step �
 StepGives told step before after (Err (Recorder why)) = IsFree step before × FreeGives told step before after (Err (Recorder why))
 StepGives told step before after (Err (Owed back)) = (before.desk.owed && waits step ≡ true) × (back ≡ step) × (after ≡ before)
 
+-- ---- where a step stops
+
+-- nothing waits for a sink, or the last post of this call found its inbox full
+abbrev pub HandsOut : SinkId → State PlainStream → Calls → Calls → Type 0
+HandsOut sink state before after = (waiting_for state sink ≡ []) ⊎ LastFails before.stored after.stored
+
+-- messages were handed out until none waited, or the inbox was found full
+abbrev pub StopsAt : CoreStep → State PlainStream → List Calls → List Calls → Type 0
+StopsAt (asked.Connect conn) state before after = ⊤
+StopsAt (asked.Frame conn f) state before after = ⊤
+StopsAt (asked.Broken conn fault at) state before after = ⊤
+StopsAt (asked.Close conn) state before after = ⊤
+StopsAt (asked.Cut conn) state before after = ⊤
+StopsAt asked.Sweep state before after = ⊤
+StopsAt (asked.Notice sink) state before after = ⊤
+StopsAt (asked.Out sink) state before after =
+    (b c : Calls) → slice_get before sink.0 ≡ Some b → slice_get after sink.0 ≡ Some c → HandsOut sink state b c
+
+-- the outbox was found empty
+abbrev pub FindsNone : CoreStep → List Calls → List Calls → Type 0
+FindsNone (asked.Connect conn) before after = ⊥
+FindsNone (asked.Frame conn f) before after = ⊥
+FindsNone (asked.Broken conn fault at) before after = ⊥
+FindsNone (asked.Close conn) before after = ⊥
+FindsNone (asked.Cut conn) before after = ⊥
+FindsNone asked.Sweep before after = ⊥
+FindsNone (asked.Notice sink) before after =
+    (b c : Calls) → slice_get before sink.0 ≡ Some b → slice_get after sink.0 ≡ Some c → LastFails b.found c.found
+FindsNone (asked.Out sink) before after = ⊥
+
+-- by what is answered: the core's state after the step, and what its passes have written down before it and after it
+abbrev pub Stops : CoreStep → State PlainStream → List Calls → List Calls → Result (Option (List Effect)) StepFault → Type 0
+Stops step state before after (Ok (Some effects)) = StopsAt step state before after
+Stops step state before after (Ok None) = FindsNone step before after
+Stops step state before after (Err fault) = ⊤
+
 -- a step that is handed back is the very step that was asked for
 abbrev pub HandsBack : {A : Type 0} → CoreStep → Result A StepFault → Type 0
 HandsBack step (Ok answer) = ⊤
@@ -221,6 +257,16 @@ NoticeGives told index before after e f (Err (Owed back)) = ⊥
 -- nothing waits for a sink, or its inbox held 256 of those that were posted
 abbrev pub HandsAll : SinkId → State PlainStream → SinkEnds → Type 0
 HandsAll sink state e = (waiting_for state sink ≡ []) ⊎ Held 256 (IsHeldOf e.posted)
+
+-- the messages of one sink, and its notice, as its passes have them written down
+abbrev pub OutStops : SinkId → State PlainStream → Calls → Calls → Result (List Effect) StepFault → Type 0
+OutStops sink state before after (Ok effects) = HandsOut sink state before after
+OutStops sink state before after (Err fault) = ⊤
+
+abbrev pub NoticeStops : Calls → Calls → Result (Option (List Effect)) StepFault → Type 0
+NoticeStops before after (Ok (Some effects)) = ⊤
+NoticeStops before after (Ok None) = LastFails before.found after.found
+NoticeStops before after (Err fault) = ⊤
 
 -- a notice that wasn't kept is taken, and kept then, if the outbox has one
 pub record Fetches (e f : SinkEnds) : Type 0 where

@@ -1,13 +1,13 @@
 //! What lies under the core's lock, and its steps.
 
-ghost use Rattle.std.specs.Prelude.{◌≡◌, ◌-◌, ◌^◌, ◌<◌, Some, true, slice_get, Ok, Err, MatchResult};
+ghost use Rattle.std.specs.Prelude.{◌≡◌, ◌-◌, ◌^◌, ◌<◌, Some, true, slice_get, Ok, Err, IfOk, MatchResult};
 ghost use Rattle.px_session.specs.declared.header.SinkSpec.{SinkSpec};
 ghost use Rattle.px_core.specs.Keeps.{IsKept};
 ghost use Rattle.px_core_cell.specs.declared.step.CoreStep.TheVariants as asked;
-ghost use Rattle.px_core_cell.specs.Cell.{ends_of, desk_of, cell_of};
+ghost use Rattle.px_core_cell.specs.Cell.{ends_of, desk_of, cell_of, calls_of, calls_in};
 ghost use Rattle.px_core_cell.specs.History.{IsHeard, IsSound};
 ghost use Rattle.px_core_cell.specs.Parcel.{spec_of};
-ghost use Rattle.px_core_cell.specs.Step.{is_own, waits, IsAsked, IsFree, OwnGives, NoticeGives, OutGives, NowhereGives, FreeGives, StepGives};
+ghost use Rattle.px_core_cell.specs.Step.{is_own, waits, IsAsked, IsFree, OwnGives, NoticeGives, OutGives, NowhereGives, FreeGives, StepGives, OutStops, NoticeStops, Stops};
 
 use crate::act::{act, plain_step};
 use crate::ends::{CoreEnd, CoreEnds};
@@ -61,7 +61,8 @@ fn notice_step<C: Recorder<CoreEntry>, R: Wait>(
     sink: SinkId,
 ) -> Result<Option<Effects>, StepFault>
     requires countable { log.old.steps < 2 ^ 64 - 1 }
-    ensures { NoticeGives C.told sink.0 (desk_of core.old.state log.old) (desk_of core.new.state log.new) (ends_of end.old) (ends_of end.new) result }
+    ensures gives { NoticeGives C.told sink.0 (desk_of core.old.state log.old) (desk_of core.new.state log.new) (ends_of end.old) (ends_of end.new) result }
+    ensures stops { NoticeStops (calls_of end.old) (calls_of end.new) result }
 {
     end.fetch(rt);
     let Some(notice) = &end.kept else {
@@ -91,7 +92,8 @@ fn out_step<C: Recorder<CoreEntry>, R: Wait>(
     requires countable { log.old.steps < 2 ^ 64 - 1 }
     requires kept { IsKept spec_of core.old.state }
     requires heard { (s : SinkSpec) × (slice_get core.old.state.sinks sink.0 ≡ Some s) × IsHeard core.old.state sink.0 s (ends_of end.old) }
-    ensures { OutGives C.told sink (desk_of core.old.state log.old) (desk_of core.new.state log.new) (ends_of end.old) (ends_of end.new) result }
+    ensures gives { OutGives C.told sink (desk_of core.old.state log.old) (desk_of core.new.state log.new) (ends_of end.old) (ends_of end.new) result }
+    ensures stops { OutStops sink core.new.state (calls_of end.old) (calls_of end.new) result }
 {
     log.ready(64)?;
     let count = end.post_waiting(rt, core, sink);
@@ -140,7 +142,8 @@ impl<C: Recorder<CoreEntry>> CoreParts<C> {
         sink: SinkId,
     ) -> Result<Option<Effects>, StepFault>
         requires countable { self.old.log.steps < 2 ^ 64 - 1 }
-        ensures { FreeGives C.told (asked.Notice sink) (cell_of self.old) (cell_of self.new) result }
+        ensures gives { FreeGives C.told (asked.Notice sink) (cell_of self.old) (cell_of self.new) result }
+        ensures stops { Stops (asked.Notice sink) self.new.core.state (calls_in self.old) (calls_in self.new) result }
     {
         let CoreParts { core, log, ends } = self;
         let place = sink.0 as usize;
@@ -155,7 +158,8 @@ impl<C: Recorder<CoreEntry>> CoreParts<C> {
     fn out<R: Wait>(&mut self, rt: &R, alloc: Global, sink: SinkId) -> Result<Effects, StepFault>
         requires countable { self.old.log.steps < 2 ^ 64 - 1 }
         requires sound { IsSound (cell_of self.old) }
-        ensures { MatchResult result (λ effects. FreeGives C.told (asked.Out sink) (cell_of self.old) (cell_of self.new) (Ok (Some effects))) (λ e. FreeGives C.told (asked.Out sink) (cell_of self.old) (cell_of self.new) (Err e)) }
+        ensures gives { MatchResult result (λ effects. FreeGives C.told (asked.Out sink) (cell_of self.old) (cell_of self.new) (Ok (Some effects))) (λ e. FreeGives C.told (asked.Out sink) (cell_of self.old) (cell_of self.new) (Err e)) }
+        ensures stops { IfOk result (λ effects. Stops (asked.Out sink) self.new.core.state (calls_in self.old) (calls_in self.new) (Ok (Some effects))) }
     {
         let CoreParts { core, log, ends } = self;
         let place = sink.0 as usize;
@@ -187,7 +191,8 @@ impl<C: Recorder<CoreEntry>> CoreParts<C> {
         requires asked { IsAsked step }
         requires countable { self.old.log.steps < 2 ^ 64 - 1 }
         requires sound { IsSound (cell_of self.old) }
-        ensures { FreeGives C.told step (cell_of self.old) (cell_of self.new) result }
+        ensures gives { FreeGives C.told step (cell_of self.old) (cell_of self.new) result }
+        ensures stops { Stops step self.new.core.state (calls_in self.old) (calls_in self.new) result }
     {
         match step {
             CoreStep::Notice(sink) => self.notice(rt, alloc, sink),
@@ -211,7 +216,8 @@ impl<C: Recorder<CoreEntry>> CoreParts<C> {
     ) -> Result<Option<Effects>, StepFault>
         requires asked { IsAsked step }
         requires sound { IsSound (cell_of self.old) }
-        ensures { StepGives C.told step (cell_of self.old) (cell_of self.new) result }
+        ensures gives { StepGives C.told step (cell_of self.old) (cell_of self.new) result }
+        ensures stops { Stops step self.new.core.state (calls_in self.old) (calls_in self.new) result }
     {
         if self.log.owed && waits(&step) {
             return Err(StepFault::Owed(step));

@@ -1,13 +1,15 @@
 //! What goes through the core's ends of a sink's mailboxes.
 
-ghost use Rattle.std.specs.Prelude.{◌≡◌, None, Some, true, false, slice_get, IsSome, IfSome, IfOk, OnOk, OnErr};
+ghost use Rattle.std.specs.Prelude.{◌≡◌, ◌⊎◌, ◌++◌, [], ◌∷◌, None, Some, true, false, slice_get, IsSome, IfSome, IfOk, OnOk, OnErr};
+ghost use Rattle.px_mail.specs.Mailbox.{stored_by, found_by};
 ghost use Rattle.px_session.specs.declared.header.SinkSpec.{SinkSpec};
+ghost use Rattle.px_core.specs.Out.{waiting_for};
 ghost use Rattle.px_core.specs.Keeps.{IsKept};
 ghost use Rattle.px_core.specs.Step.{Step, stepped, effects_of};
-ghost use Rattle.px_core_cell.specs.Cell.{ends_of};
+ghost use Rattle.px_core_cell.specs.Cell.{ends_of, calls_of};
 ghost use Rattle.px_core_cell.specs.History.{IsHeard};
 ghost use Rattle.px_core_cell.specs.Parcel.{spec_of};
-ghost use Rattle.px_core_cell.specs.Step.{Fetches, PostsOne, PostsMany, HandsAll};
+ghost use Rattle.px_core_cell.specs.Step.{Fetches, PostsOne, PostsMany, HandsAll, HandsOut};
 
 use crate::ends::CoreEnd;
 use crate::parcel::{CellCore, handed_over, taken_back, taken_over};
@@ -20,6 +22,7 @@ impl CoreEnd {
     /// Where no notice is kept, the sink's next one is taken from its outbox and kept.
     pub(crate) fn fetch<R: Wait>(&mut self, rt: &R)
         ensures fetches { Fetches (ends_of self.old) (ends_of self.new) }
+        ensures looks { self.new.kept ≡ None → found_by self.new.take.pass ≡ found_by self.old.take.pass ++ false ∷ [] }
     {
         if self.kept.is_none() {
             match self.outbox.take(rt, &mut self.take) {
@@ -54,6 +57,8 @@ impl CoreEnd {
         requires heard { (s : SinkSpec) × (slice_get core.old.state.sinks sink.0 ≡ Some s) × IsHeard core.old.state sink.0 s (ends_of self.old) }
         ensures posts { result ≡ true → PostsOne sink core.old.state core.new.state (ends_of self.old) (ends_of self.new) }
         ensures stops { result ≡ false → (core.new.state ≡ core.old.state) × (ends_of self.new ≡ ends_of self.old) × HandsAll sink core.new.state (ends_of self.new) }
+        ensures stored { result ≡ true → stored_by self.new.post.pass ≡ stored_by self.old.post.pass ++ true ∷ [] }
+        ensures refused { result ≡ false → (waiting_for core.new.state sink ≡ []) ⊎ (stored_by self.new.post.pass ≡ stored_by self.old.post.pass ++ false ∷ []) }
     {
         let Some(message) = core.sent(sink) else {
             return false;
@@ -73,6 +78,7 @@ impl CoreEnd {
         requires heard { (s : SinkSpec) × (slice_get core.old.state.sinks sink.0 ≡ Some s) × IsHeard core.old.state sink.0 s (ends_of self.old) }
         ensures posts { PostsMany sink result core.old.state core.new.state (ends_of self.old) (ends_of self.new) }
         ensures until { HandsAll sink core.new.state (ends_of self.new) }
+        ensures calls { HandsOut sink core.new.state (calls_of self.old) (calls_of self.new) }
     {
         let waiting = core.outgoing(sink);
         for posted in 0..waiting {

@@ -1,9 +1,9 @@
 //! What lies under the core's lock, with what it keeps.
 
 ghost use Rattle.std.specs.Prelude.{◌≡◌, [], map, IfSome};
-ghost use Rattle.px_core_cell.specs.Cell.{ends_of, cell_of};
+ghost use Rattle.px_core_cell.specs.Cell.{ends_of, calls_of, cell_of};
 ghost use Rattle.px_core_cell.specs.History.{Begins, IsCell, first_cell};
-ghost use Rattle.px_core_cell.specs.Step.{IsAsked, StepGives};
+ghost use Rattle.px_core_cell.specs.Step.{IsAsked, StepGives, Stops};
 
 use crate::ends::CoreEnds;
 use crate::log::StepLog;
@@ -18,7 +18,8 @@ use std::snapshot::Snapshot;
 use std::sync::Wait;
 
 /// The core that keeps its history (PulseAudio's `pa_core` keeps none; own). Contracts see the state that it began with and where it stands:
-/// its state, its recorder, how many steps were done, and what went through each sink's mailboxes. Where the recorder tells, the state is the
+/// its state, its recorder, how many steps were done, what went through each sink's mailboxes, and of each call at these whether it found room
+/// or a notice. Where the recorder tells, the state is the
 /// replay of the entries from the beginning, one entry a step.
 #[derive(Drop)]
 pub struct CoreState<C: Recorder<CoreEntry>> {
@@ -27,12 +28,12 @@ pub struct CoreState<C: Recorder<CoreEntry>> {
 }
 
 impl<C: Recorder<CoreEntry>> Model for CoreState<C> {
-    ghost use Rattle.px_core_cell.specs.Cell.{cell_of};
+    ghost use Rattle.px_core_cell.specs.Cell.{cell_of, calls_in};
     ghost use Rattle.px_core_cell.specs.History.{Course, IsCell};
 
     ghost Value = { Course C };
 
-    ghost view = { λ s. record { began = s.began.value.state; cell = cell_of s.parts } };
+    ghost view = { λ s. record { began = s.began.value.state; cell = cell_of s.parts; calls = calls_in s.parts } };
 
     ghost invariant = { λ s. IsCell C.told s.began.value.state (cell_of s.parts) };
 }
@@ -43,7 +44,7 @@ impl<C: Recorder<CoreEntry>> CoreState<C> {
     pub fn new(core: CellCore, recorder: C, ends: CoreEnds) -> CoreState<C>
         requires begins { Begins core.state (map ends_of ends.items) }
         requires none { IfSome (C.told recorder) (λ entries. entries ≡ []) }
-        ensures { result ≡ record { began = core.state; cell = first_cell core.state recorder (map ends_of ends.items) } }
+        ensures { result ≡ record { began = core.state; cell = first_cell core.state recorder (map ends_of ends.items); calls = map calls_of ends.items } }
     {
         CoreState {
             began: Snapshot::of(&core),
@@ -61,7 +62,8 @@ impl<C: Recorder<CoreEntry>> CoreState<C> {
     }
 
     /// Does one step. A step that is neither a sweep nor the handing out of messages is handed back while a sweep is owed; 2^64 - 1 steps can be
-    /// counted. `None` for the notice of a sink that has none. A step that is done is noted by one entry, and answered by the core's effects.
+    /// counted. `None` for the notice of a sink that isn't there, or that has none kept and whose outbox was found empty. Messages are handed
+    /// out until none waits or the inbox is found full. A step that is done is noted by one entry, and answered by the core's effects.
     pub fn step<R: Wait>(
         &mut self,
         rt: &R,
@@ -70,6 +72,7 @@ impl<C: Recorder<CoreEntry>> CoreState<C> {
     ) -> Result<Option<Effects>, StepFault>
         requires asked { IsAsked step }
         ensures gives { StepGives C.told step self.old.cell self.new.cell result }
+        ensures stops { Stops step self.new.cell.desk.state self.old.calls self.new.calls result }
         ensures began { self.new.began ≡ self.old.began }
         ensures history { IsCell C.told self.new.began self.new.cell }
     {

@@ -1,5 +1,5 @@
 -- One message more that is taken, and one notice more that is posted.
-use Rattle.std.proofs.Common.{◌≡◌, List, [], ◌∷◌, ◌++◌, refl, ap, sym, ◌∙◌, append_assoc, Option, Some, None}
+use Rattle.std.proofs.Common.{◌≡◌, Bool, List, [], ◌∷◌, ◌++◌, refl, ap, sym, ◌∙◌, append_assoc, Option, Some, None}
 use Rattle.std.specs.Prelude.{IfSome, ⊤}
 use Rattle.std.proofs.lemmas.List.{map-append, append-nil}
 use Rattle.px_sample.specs.declared.spec.Spec.{Spec}
@@ -13,6 +13,14 @@ use Rattle.px_msg.proofs.Lawful.{front}
 use Rattle.px_stream.specs.Kept.{KeptStream}
 use Rattle.px_lane.specs.Lists.{plain_message, plain_notice, messages_of, notices_of}
 use Rattle.px_lane_cell.specs.Moved.{parcel_spec, AreTaken, Takes, Posts}
+
+-- ---- calls that a pass has written down
+
+abbrev pub GoesOnWith : List Bool → List Bool → Type 0
+GoesOnWith before after = (calls : List Bool) × (after ≡ before ++ calls)
+
+pub one_call : (before after after' : List Bool) (b : Bool) → GoesOnWith before after → after' ≡ after ++ b ∷ [] → GoesOnWith before after'
+one_call before after after' b h e = (h.0 ++ b ∷ [], e ∙ ap (λ l. l ++ b ∷ []) h.1 ∙ append_assoc before h.0 (b ∷ []))
 
 -- ---- messages
 

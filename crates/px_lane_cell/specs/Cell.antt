@@ -1,10 +1,10 @@
 -- A sink's mixer with its history and its mailboxes.
-use Rattle.std.specs.Prelude.{◌≡◌, ℕ, ◌≤◌, IsFalse, List, ◌++◌, length, Option, IfSome, MatchOption}
+use Rattle.std.specs.Prelude.{◌≡◌, ℕ, ◌≤◌, Bool, IsFalse, List, ◌++◌, length, Option, IfSome, MatchOption}
 use Rattle.std.specs.Arc.{arc_value}
 use Rattle.crossbeam_queue.specs.Passes.{IsPassOf}
 use Rattle.px_annals.specs.declared.entry.LaneEntry.{LaneEntry}
 use Rattle.px_ends.specs.Device.{DeviceState}
-use Rattle.px_mail.specs.Mailbox.{key_of, taken_by, posted_by}
+use Rattle.px_mail.specs.Mailbox.{key_of, taken_by, posted_by, found_by, stored_by}
 use Rattle.px_msg.specs.declared.message.Msg.{Msg}
 use Rattle.px_msg.specs.declared.notice.Notice.{Notice as Kept}
 use Rattle.px_msg.specs.Letters.{none_there}
@@ -41,6 +41,13 @@ taken_in ends = taken_by ends.passes.take.pass
 
 abbrev pub posted_in : LaneEnds → List (Kept KeptStream)
 posted_in ends = posted_by ends.passes.post.pass
+
+-- of each take from its inbox whether it found a message, and of each post to its outbox whether the notice was stored
+abbrev pub found_in : LaneEnds → List Bool
+found_in ends = found_by ends.passes.take.pass
+
+abbrev pub stored_in : LaneEnds → List Bool
+stored_in ends = stored_by ends.passes.post.pass
 
 -- the sample spec under which the messages of its inbox are lawful
 abbrev pub key_in : LaneEnds → Option Spec

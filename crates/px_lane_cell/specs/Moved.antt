@@ -1,7 +1,7 @@
 -- What goes through the mailboxes at a sink.
-use Rattle.std.specs.Prelude.{◌≡◌, ◌⊎◌, List, [], ◌++◌, length, Option}
+use Rattle.std.specs.Prelude.{◌≡◌, ◌⊎◌, Bool, List, [], ◌++◌, length, Option}
 use Rattle.crossbeam_queue.specs.Fifo.{Held}
-use Rattle.px_mail.specs.Mailbox.{IsLawful, IsHeldOf}
+use Rattle.px_mail.specs.Mailbox.{IsLawful, IsHeldOf, LastFails}
 use Rattle.px_msg.specs.declared.message.Msg.{Msg}
 use Rattle.px_msg.specs.declared.notice.Notice.{Notice as Kept}
 use Rattle.px_msg.specs.Letters.{AreLawful}
@@ -28,9 +28,9 @@ pub record Takes (taken taken' : List (Msg KeptStream)) (kept kept' : List (Mess
   pub moved : taken' ≡ taken ++ got
   pub stands : kept' ≡ kept ++ messages_of got
 
--- there are 256, or the inbox held nothing at one moment
-abbrev pub AreAll : Option Spec → List (Msg KeptStream) → List (Message Stream) → Type 0
-AreAll key taken kept = (length kept ≡ 256) ⊎ Held 0 (λ held. AreTaken key (taken ++ held))
+-- there are 256, or the last look into the inbox found it empty: what its pass wrote down before these looks and after them
+abbrev pub AreAll : List Bool → List Bool → Option Spec → List (Msg KeptStream) → List (Message Stream) → Type 0
+AreAll found found' key taken kept = (length kept ≡ 256) ⊎ (LastFails found found' × Held 0 (λ held. AreTaken key (taken ++ held)))
 
 -- the first ones were posted, and the others are left
 pub record Posts (posted posted' : List (Kept KeptStream)) (notices left : List (Notice Stream)) : Type 0 where
@@ -38,6 +38,6 @@ pub record Posts (posted posted' : List (Kept KeptStream)) (notices left : List 
   pub moved : posted' ≡ posted ++ gone
   pub stays : notices ≡ notices_of gone ++ left
 
--- none is left, or the outbox held 256 at one moment
-abbrev pub AreGone : List (Kept KeptStream) → List (Notice Stream) → Type 0
-AreGone posted left = (left ≡ []) ⊎ Held 256 (IsHeldOf posted)
+-- none is left, or the outbox was full at the last post: what its pass wrote down before these posts and after them
+abbrev pub AreGone : List Bool → List Bool → List (Kept KeptStream) → List (Notice Stream) → Type 0
+AreGone stored stored' posted left = (left ≡ []) ⊎ (LastFails stored stored' × Held 256 (IsHeldOf posted))

@@ -17,7 +17,7 @@ use Rattle.px_lane_cell.specs.declared.fault.CellFault.{CellFault}
 use Rattle.px_lane_cell.specs.declared.fault.CellFault.TheVariants.{NoMemory, Worn, Recorder}
 use Rattle.px_lane_cell.specs.Meaning.{messages_meant, entry_meant}
 use Rattle.px_lane_cell.specs.Moved.{Takes, AreAll, Posts, AreGone}
-use Rattle.px_lane_cell.specs.Cell.{Cell, taken_in, posted_in, key_in}
+use Rattle.px_lane_cell.specs.Cell.{Cell, taken_in, posted_in, found_in, stored_in, key_in}
 
 -- the frames that a turn's sync consumed, none where the sink has stopped
 abbrev pub consumed_in : Turned → Option ℕ
@@ -39,13 +39,13 @@ pub record Makes {D R : Type 0} (now : D → DeviceState) (told : R → Option (
   pub messages : List (Message Stream)
   pub notices : List (Notice Stream)
   pub takes : Takes (taken_in before.ends) (taken_in after.ends) before.messages.messages messages
-  pub all : AreAll (key_in after.ends) (taken_in after.ends) messages
+  pub all : AreAll (found_in before.ends) (found_in after.ends) (key_in after.ends) (taken_in after.ends) messages
   pub turn : IsNoted now before.lane after.lane messages before.notices.notices notices turned entry
   pub recorded : told after.recorder ≡ noted entry (told before.recorder)
   pub counted : after.taken ≡ length entry.messages
   pub none_kept : after.messages.messages ≡ []
   pub posts : Posts (posted_in before.ends) (posted_in after.ends) notices after.notices.notices
-  pub gone : AreGone (posted_in after.ends) after.notices.notices
+  pub gone : AreGone (stored_in before.ends) (stored_in after.ends) (posted_in after.ends) after.notices.notices
 
 -- there is no turn: the messages that were taken are kept, and all else is what it was
 pub record Keeps {D R : Type 0} (told : R → Option (List LaneEntry)) (before after : Cell D R) : Type 0 where

@@ -1,7 +1,7 @@
 // What goes through the mailboxes at a sink.
 ghost use Rattle.std.specs.Prelude.{◌≡◌, ◌≤◌, length};
 ghost use Rattle.crossbeam_queue.specs.Passes.{IsPassOf};
-ghost use Rattle.px_mail.specs.Mailbox.{key_of, taken_by, posted_by};
+ghost use Rattle.px_mail.specs.Mailbox.{key_of, taken_by, posted_by, found_by, stored_by};
 ghost use Rattle.px_lane_cell.specs.Moved.{AreTaken, Takes, AreAll, Posts, AreGone};
 
 use px_lane::{MsgList, NoticeList};
@@ -30,7 +30,7 @@ pub(crate) fn take_messages<W: Wait>(
     ensures takes { Takes (taken_by pass.old.pass) (taken_by pass.new.pass) messages.old.messages messages.new.messages }
     ensures few { length messages.new.messages ≤ 256 }
     ensures room { messages.new.capacity ≡ messages.old.capacity }
-    ensures all { AreAll (key_of pass.new.pass) (taken_by pass.new.pass) messages.new.messages }
+    ensures all { AreAll (found_by pass.old.pass) (found_by pass.new.pass) (key_of pass.new.pass) (taken_by pass.new.pass) messages.new.messages }
 {
     while messages.len() < MOST_MESSAGES {
         match inbox.take(rt, pass) {
@@ -51,7 +51,7 @@ pub(crate) fn post_notices<W: Wait>(
     ensures pass { IsPassOf outbox.now.queue pass.new.pass }
     ensures key { key_of pass.new.pass ≡ key_of pass.old.pass }
     ensures posts { Posts (posted_by pass.old.pass) (posted_by pass.new.pass) notices.old.notices notices.new.notices }
-    ensures gone { AreGone (posted_by pass.new.pass) notices.new.notices }
+    ensures gone { AreGone (stored_by pass.old.pass) (stored_by pass.new.pass) (posted_by pass.new.pass) notices.new.notices }
 {
     while let Some(notice) = notices.pop_front() {
         if let Err(Full(notice)) = outbox.post(rt, pass, notice) {

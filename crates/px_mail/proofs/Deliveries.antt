@@ -125,6 +125,29 @@ module _ {T K : Type 0} (lawful : K → List T → Type 0) where
             )) (at_snoc vs r u j e),
       )
 
+  -- what a pass writes down of its own calls is its own affair
+  pub notes : (port : ℕ) (v w : Account T K) → w.posts ≡ v.posts → w.takes ≡ v.takes → w.key ≡ v.key → w.posted ≡ v.posted → w.taken ≡ v.taken → Forks (Delivers lawful) port v w idle
+  notes port v w may_post may_take key posted taken items views h at =
+      let mine = h.7 port v at in
+      let vs : List (Account T K) = set views port w in
+      let all : Each (Fits h.0 h.1 h.2 h.3 h.4) vs = each_set (Fits h.0 h.1 h.2 h.3 h.4) views port w (
+        (λ p. let is = mine.0 (sym may_post ∙ p) in (is.0, key ∙ is.1, posted ∙ is.2)),
+        λ p. let is = mine.1 (sym may_take ∙ p) in (is.0, key ∙ is.1, taken ∙ is.2),
+      ) (λ j u other e. h.7 j u e) in (
+        h.0,
+        h.1,
+        h.2,
+        h.3,
+        h.4,
+        h.5,
+        h.6,
+        λ j u e. ⊎_elim (λ x. all j u x)
+            (λ (is : idle ≡ u). (
+              (λ p. absurd (true≢false (sym (ap (λ (y : Account T K). y.posts) is ∙ p)))),
+              λ p. absurd (true≢false (sym (ap (λ (y : Account T K). y.takes) is ∙ p))),
+            )) (at_snoc vs idle u j e),
+      )
+
   pub merges : (port : ℕ) (v : Account T K) (other : ℕ) (u : Account T K) → v.posts ≡ true → u.takes ≡ true → Merges (Delivers lawful) port v other u (closer v.key v.posted u.taken) idle
   merges port v other u a b items views h at two at' =
       let both : Account T K = closer v.key v.posted u.taken in

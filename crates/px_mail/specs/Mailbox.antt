@@ -5,6 +5,10 @@ use lib.ListN.{get_elem?}
 use Rattle.crossbeam_queue.specs.Passes.{Pass, view}
 use Rattle.px_mail.specs.declared.step.Account.{Account}
 
+-- of the calls that a pass has written down after these, the last one failed: a take found the mailbox empty, or a post found it full
+abbrev pub LastFails : List Bool → List Bool → Type 0
+LastFails before after = (calls : List Bool) × (after ≡ before ++ calls ++ false ∷ [])
+
 module _ {T : Type 0} where
   -- some of what was posted was taken, and this is the rest
   abbrev pub IsHeldOf : List T → List T → Type 0
@@ -22,10 +26,18 @@ module _ {T K : Type 0} where
   abbrev pub taken_by : Pass T (Account T K) → List T
   taken_by p = (view p).taken
 
+  -- of each post by this pass, in order, whether its item was stored: false is a mailbox that was full
+  abbrev pub stored_by : Pass T (Account T K) → List Bool
+  stored_by p = (view p).stored
+
+  -- of each take by this pass, in order, whether it found an item: false is a mailbox that was empty
+  abbrev pub found_by : Pass T (Account T K) → List Bool
+  found_by p = (view p).found
+
   -- ---- accounts
 
   abbrev pub account : Bool → Bool → Option K → List T → List T → Account T K
-  account a b key posted taken = record { posts = a; takes = b; key = key; posted = posted; taken = taken }
+  account a b key posted taken = record { posts = a; takes = b; key = key; posted = posted; taken = taken; stored = []; found = [] }
 
   -- before there is a key: the one pass may do both, and has done neither
   abbrev pub unkeyed : Account T K
@@ -46,10 +58,18 @@ module _ {T K : Type 0} where
   idle = account false false None [] []
 
   abbrev pub after_posting : Account T K → T → Account T K
-  after_posting v item = record v { posted = v.posted ++ item ∷ [] }
+  after_posting v item = record v { posted = v.posted ++ item ∷ []; stored = v.stored ++ true ∷ [] }
+
+  -- a post found the mailbox full
+  abbrev pub after_full : Account T K → Account T K
+  after_full v = record v { stored = v.stored ++ false ∷ [] }
 
   abbrev pub after_taking : Account T K → T → Account T K
-  after_taking v item = record v { taken = v.taken ++ item ∷ [] }
+  after_taking v item = record v { taken = v.taken ++ item ∷ []; found = v.found ++ true ∷ [] }
+
+  -- a take found the mailbox empty
+  abbrev pub after_empty : Account T K → Account T K
+  after_empty v = record v { found = v.found ++ false ∷ [] }
 
   -- ---- what a mailbox holds
 

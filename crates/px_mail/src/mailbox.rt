@@ -1,12 +1,14 @@
 //! The mailbox.
-ghost use Rattle.std.specs.Prelude.{◌≡◌, ◌++◌, [], ◌∷◌, Some, IfOk, MatchOption, MatchResult};
+ghost use Rattle.std.specs.Prelude.{◌≡◌, ◌++◌, [], ◌∷◌, true, false, Some, IfOk, MatchOption, MatchResult};
 ghost use Rattle.crossbeam_queue.specs.Fifo.{Held};
 ghost use Rattle.crossbeam_queue.specs.Passes.{IsPassOf, ruled_capacity};
-ghost use Rattle.px_mail.specs.Mailbox.{key_of, posted_by, taken_by, IsLawful, IsHeldOf, GoesOn, Delivered};
+ghost use Rattle.px_mail.specs.Mailbox.{key_of, posted_by, taken_by, stored_by, found_by, IsLawful, IsHeldOf, GoesOn, Delivered};
 
 use crate::letter::Letter;
 use crate::pass::{PostPass, TakePass};
-use crate::step::{Account, Delivery, Keyed, MakesPost, MakesTake, Posts, Takes, Total, Whole};
+use crate::step::{
+    Account, Delivery, Keyed, MakesPost, MakesTake, Posts, SawEmpty, SawFull, Takes, Total, Whole,
+};
 use crossbeam_queue::RuledArrayQueue;
 use px_types::Mem;
 use std::alloc::Global;
@@ -33,6 +35,7 @@ impl<T: Letter + Drop> Mailbox<T> {
     pub fn new(alloc: Global, key: T::Key) -> Mem<(Mailbox<T>, PostPass<T>, TakePass<T>)>
         ensures post { IfOk result (λ made. IsPassOf made.0.queue made.1.pass × (key_of made.1.pass ≡ Some key) × (posted_by made.1.pass ≡ [])) }
         ensures take { IfOk result (λ made. IsPassOf made.0.queue made.2.pass × (key_of made.2.pass ≡ Some key) × (taken_by made.2.pass ≡ [])) }
+        ensures unused { IfOk result (λ made. (stored_by made.1.pass ≡ []) × (found_by made.2.pass ≡ [])) }
     {
         made::<T, Brand>(alloc, key)
     }
@@ -44,10 +47,15 @@ impl<T: Letter + Drop> Mailbox<T> {
         requires lawful { IsLawful T.lawful (key_of pass.old.pass) (posted_by pass.old.pass ++ item ∷ []) }
         ensures pass { IsPassOf self.now.queue pass.new.pass × (key_of pass.new.pass ≡ key_of pass.old.pass) }
         ensures posted { MatchResult result (λ _. posted_by pass.new.pass ≡ posted_by pass.old.pass ++ item ∷ []) (λ full. (full.0 ≡ item) × (posted_by pass.new.pass ≡ posted_by pass.old.pass) × Held 256 (IsHeldOf (posted_by pass.old.pass))) }
+        ensures stored { MatchResult result (λ _. stored_by pass.new.pass ≡ stored_by pass.old.pass ++ true ∷ []) (λ full. stored_by pass.new.pass ≡ stored_by pass.old.pass ++ false ∷ []) }
     {
-        self.queue
-            .push_as::<Posts, R>(rt, &mut pass.pass, item)
-            .map_err(Full)
+        match self.queue.push_as::<Posts, R>(rt, &mut pass.pass, item) {
+            Ok(()) => Ok(()),
+            Err(item) => {
+                self.queue.another::<SawFull>(&mut pass.pass);
+                Err(Full(item))
+            }
+        }
     }
 
     /// Takes the next item of all that was posted. None only where the mailbox held nothing at one moment of this call, and nothing
@@ -56,8 +64,15 @@ impl<T: Letter + Drop> Mailbox<T> {
         requires pass { IsPassOf self.now.queue pass.old.pass }
         ensures pass { IsPassOf self.now.queue pass.new.pass × (key_of pass.new.pass ≡ key_of pass.old.pass) }
         ensures taken { MatchOption result ((taken_by pass.new.pass ≡ taken_by pass.old.pass) × Held 0 (λ held. IsLawful T.lawful (key_of pass.old.pass) (taken_by pass.old.pass ++ held))) (λ item. (taken_by pass.new.pass ≡ taken_by pass.old.pass ++ item ∷ []) × GoesOn T.lawful (key_of pass.old.pass) (taken_by pass.new.pass)) }
+        ensures found { MatchOption result (found_by pass.new.pass ≡ found_by pass.old.pass ++ false ∷ []) (λ item. found_by pass.new.pass ≡ found_by pass.old.pass ++ true ∷ []) }
     {
-        self.queue.pop_as::<Takes, R>(rt, &mut pass.pass)
+        match self.queue.pop_as::<Takes, R>(rt, &mut pass.pass) {
+            Some(item) => Some(item),
+            None => {
+                self.queue.another::<SawEmpty>(&mut pass.pass);
+                None
+            }
+        }
     }
 
     /// Takes both passes in, and shows that what was taken is a front of what was posted. What the mailbox still holds stays there
@@ -81,6 +96,7 @@ fn made<T: Letter + Drop, B: Keyed<T::Key>>(
     requires { B.picked ≡ Some key }
     ensures post { IfOk result (λ made. IsPassOf made.0.queue made.1.pass × (key_of made.1.pass ≡ Some key) × (posted_by made.1.pass ≡ [])) }
     ensures take { IfOk result (λ made. IsPassOf made.0.queue made.2.pass × (key_of made.2.pass ≡ Some key) × (taken_by made.2.pass ≡ [])) }
+    ensures unused { IfOk result (λ made. (stored_by made.1.pass ≡ []) × (found_by made.2.pass ≡ [])) }
 {
     let (queue, mut maker) = RuledArrayQueue::<T, Account<T, T::Key>, Delivery>::ruled(
         alloc, CAPACITY,

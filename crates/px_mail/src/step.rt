@@ -6,13 +6,16 @@ use crossbeam_queue::protocol::{Join, Lesson, Outcome, Protocol, Split};
 use std::collections::LinkedList;
 use std::marker::{Brand, PhantomData};
 
-/// What the holder of a pass may do, the key it knows, and what it has posted and taken.
+/// What the holder of a pass may do, the key it knows, what it has posted and taken, of each post whether its item was stored, and of
+/// each take whether it found one.
 pub struct Account<T, K> {
     pub posts: bool,
     pub takes: bool,
     pub key: Option<K>,
     pub posted: LinkedList<T>,
     pub taken: LinkedList<T>,
+    pub stored: LinkedList<bool>,
+    pub found: LinkedList<bool>,
 }
 
 /// What was posted is what was taken and then what is held.
@@ -76,6 +79,17 @@ impl<T, K> Lesson<T, Account<T, K>> for Posts {
     ghost fact = { λ v held. IsHeldOf v.posted held };
 }
 
+/// A post that found the mailbox full is written down.
+pub struct SawFull;
+
+impl<T, K> Split<Account<T, K>> for SawFull {
+    ghost use Rattle.px_mail.specs.Mailbox.{after_full, idle};
+
+    ghost left = { λ v. after_full v };
+
+    ghost right = { λ v. idle };
+}
+
 /// An item is taken, or the mailbox is empty.
 pub struct Takes;
 
@@ -89,6 +103,17 @@ impl<T: Letter> Lesson<T, Account<T, T::Key>> for Takes {
     ghost use Rattle.px_mail.specs.Mailbox.{IsLawful};
 
     ghost fact = { λ v held. IsLawful T.lawful v.key (v.taken ++ held) };
+}
+
+/// A take that found the mailbox empty is written down.
+pub struct SawEmpty;
+
+impl<T, K> Split<Account<T, K>> for SawEmpty {
+    ghost use Rattle.px_mail.specs.Mailbox.{after_empty, idle};
+
+    ghost left = { λ v. after_empty v };
+
+    ghost right = { λ v. idle };
 }
 
 /// A take pass is taken in by the post pass.
