@@ -4,7 +4,7 @@ ghost use Rattle.px_model.specs.Held.{place};
 ghost use Rattle.px_queue.specs.Peeked.{Peeks, Copies};
 
 use crate::FrameQueue;
-use crate::finding::{newest, newest_run};
+use crate::finding::newest_run;
 
 /// What stands at a place ahead of the read index.
 #[derive(Clone, Copy, Debug, PartialEq, Eq)]
@@ -75,7 +75,7 @@ impl FrameQueue {
             return 0;
         }
         let index = self.read.onward(k);
-        let (place, run) = newest_run(self.writes.as_slice(), self.read, index, most);
+        let (place, run) = newest_run(&self.writes, self.rising, self.read, index, most);
         if place == 0 {
             return 0;
         }
@@ -92,20 +92,31 @@ impl FrameQueue {
     {
         let mut count: u32 = 0;
         while count < most {
-            if self.has_frame(k as u64 + count as u64) {
+            let run = self.hole(k as u64 + count as u64, most - count);
+            if run == 0 {
                 return count;
             }
-            count += 1;
+            count += run;
         }
         count
     }
 
-    // Whether a frame is held at a place past the read index.
-    fn has_frame(&self, k: u64) -> bool
-        ensures some { IsTrue result → IsSome (place self.now.queue.held k) }
-        ensures none { IsFalse result → place self.now.queue.held k ≡ None }
+    // How many places from a place on no write has, at most so many: none only where a frame is held at that place.
+    fn hole(&self, k: u64, most: u32) -> u32
+        requires some { 1 ≤ most }
+        ensures few { result ≤ most }
+        ensures holes { (j : ℕ) → j < result → place self.now.queue.held (k + j) ≡ None }
+        ensures none { result ≡ 0 → IsSome (place self.now.queue.held k) }
     {
-        k < self.held && newest(self.writes.as_slice(), self.read, self.read.onward(k)).is_some()
+        if k >= self.held {
+            return most;
+        }
+        let index = self.read.onward(k);
+        let (place, run) = newest_run(&self.writes, self.rising, self.read, index, most);
+        if place == 0 {
+            return run;
+        }
+        0
     }
 
     /// Copies the frame held at a place past the read index, and answers whether one is.
@@ -113,17 +124,7 @@ impl FrameQueue {
         requires { length out.old ≡ self.now.frame }
         ensures { Copies result (place self.now.queue.held k) out.old out.new }
     {
-        if k >= self.held {
-            return false;
-        }
-        let index = self.read.onward(k);
-        match newest(self.writes.as_slice(), self.read, index) {
-            Some(write) => {
-                write.copy(index, out);
-                true
-            }
-            None => false,
-        }
+        self.copy_run(k, 1, out) > 0
     }
 }
 
