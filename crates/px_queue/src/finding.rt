@@ -12,10 +12,12 @@ use px_block::BlockSource;
 use std::collections::VecDeque;
 
 /// The writes up to the newest that has a frame at this index, none where none has; and at how many of the next indices, at most so
-/// many, none behind them has a frame, and that one has. Where the writes rise it is found by halves, else by a walk from the newest back.
+/// many, none behind them has a frame, and that one has. Where the writes rise it is the one behind the first `near`, or found by halves;
+/// else it is found by a walk from the newest back.
 pub(crate) fn newest_run(
     writes: &VecDeque<Chunk>,
     rising: bool,
+    near: usize,
     read: Index,
     index: Index,
     most: u32,
@@ -30,7 +32,7 @@ pub(crate) fn newest_run(
     ensures has { (d : Written) → 0 < result.0 → (j : ℕ) → j < result.1 → IsSome (frame_in (slice_index_or writes.now.items (result.0 - 1) d) (onward index j)) }
 {
     if rising {
-        rising_run(writes, read, index, most)
+        rising_run(writes, near, read, index, most)
     } else {
         walked_run(writes, read, index, most)
     }
@@ -60,7 +62,13 @@ fn walked_run(writes: &VecDeque<Chunk>, read: Index, index: Index, most: u32) ->
 }
 
 // The same where the writes rise: those that end at or before the index haven't it, and of the others at most the first has.
-fn rising_run(writes: &VecDeque<Chunk>, read: Index, index: Index, most: u32) -> (usize, u32)
+fn rising_run(
+    writes: &VecDeque<Chunk>,
+    near: usize,
+    read: Index,
+    index: Index,
+    most: u32,
+) -> (usize, u32)
     requires rising { AreRising writes.now.items }
     requires from { read ≤ℤ index }
     requires some { 1 ≤ most }
@@ -70,7 +78,7 @@ fn rising_run(writes: &VecDeque<Chunk>, read: Index, index: Index, most: u32) ->
     ensures frames { (j : ℕ) → j < result.1 → frame_of read (held_of read writes.now.items) (onward index j) ≡ frame_of read (held_of read (take result.0 writes.now.items)) (onward index j) }
     ensures has { (d : Written) → 0 < result.0 → (j : ℕ) → j < result.1 → IsSome (frame_in (slice_index_or writes.now.items (result.0 - 1) d) (onward index j)) }
 {
-    let place = ended(writes, index);
+    let place = ended(writes, near, index);
     if place == writes.len() {
         return (0, most);
     }
@@ -82,8 +90,41 @@ fn rising_run(writes: &VecDeque<Chunk>, read: Index, index: Index, most: u32) ->
     (place + 1, most.min(write.left(index)))
 }
 
-// How many of the first writes end at or before this index; they rise, so no other does.
-fn ended(writes: &VecDeque<Chunk>, index: Index) -> usize
+// How many of the first writes end at or before this index; they rise, so no other does. So many is tried first.
+fn ended(writes: &VecDeque<Chunk>, near: usize, index: Index) -> usize
+    requires { AreRising writes.now.items }
+    ensures few { result ≤ length writes.now.items }
+    ensures before { EndBy index (take result writes.now.items) }
+    ensures behind { (d : Written) → result < length writes.now.items → index <ℤ end_of (slice_index_or writes.now.items result d) }
+{
+    if near < writes.len() && parts(writes, near, index) {
+        near
+    } else {
+        halved(writes, index)
+    }
+}
+
+// Whether exactly so many of the first writes end at or before this index; there are more.
+fn parts(writes: &VecDeque<Chunk>, near: usize, index: Index) -> bool
+    requires rising { AreRising writes.now.items }
+    requires more { near < length writes.now.items }
+    ensures before { IsTrue result → EndBy index (take near writes.now.items) }
+    ensures behind { (d : Written) → IsTrue result → index <ℤ end_of (slice_index_or writes.now.items near d) }
+{
+    if writes[near].end().above(index) == 0 {
+        return false;
+    }
+    if near == 0 {
+        return true;
+    }
+    if writes[near - 1].end().above(index) > 0 {
+        return false;
+    }
+    true
+}
+
+// How many of the first writes end at or before this index, by halves.
+fn halved(writes: &VecDeque<Chunk>, index: Index) -> usize
     requires { AreRising writes.now.items }
     ensures few { result ≤ length writes.now.items }
     ensures before { EndBy index (take result writes.now.items) }

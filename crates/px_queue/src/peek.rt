@@ -50,9 +50,15 @@ impl FrameQueue {
     {
         let size = self.frame as usize;
         let mut count: u32 = 0;
+        let mut near = 0;
         while count < most {
             let at = count as usize * size;
-            let run = self.copy_run(k as u64 + count as u64, most - count, &mut out[at..]);
+            let run = self.copy_run(
+                k as u64 + count as u64,
+                most - count,
+                &mut near,
+                &mut out[at..],
+            );
             if run == 0 {
                 return count;
             }
@@ -62,8 +68,8 @@ impl FrameQueue {
     }
 
     // Copies the frames held from a place on that one write has, at most so many, and answers how many they are: none only where none is
-    // held at that place.
-    fn copy_run(&self, k: u64, most: u32, out: &mut [u8]) -> u32
+    // held at that place. It looks behind the first `near` writes first, and the next frames are likely behind as many as it leaves there.
+    fn copy_run(&self, k: u64, most: u32, near: &mut usize, out: &mut [u8]) -> u32
         requires room { most * self.now.frame ≤ length out.old }
         requires some { 1 ≤ most }
         ensures few { result ≤ most }
@@ -75,7 +81,8 @@ impl FrameQueue {
             return 0;
         }
         let index = self.read.onward(k);
-        let (place, run) = newest_run(&self.writes, self.rising, self.read, index, most);
+        let (place, run) = newest_run(&self.writes, self.rising, *near, self.read, index, most);
+        *near = place;
         if place == 0 {
             return 0;
         }
@@ -112,7 +119,7 @@ impl FrameQueue {
             return most;
         }
         let index = self.read.onward(k);
-        let (place, run) = newest_run(&self.writes, self.rising, self.read, index, most);
+        let (place, run) = newest_run(&self.writes, self.rising, 0, self.read, index, most);
         if place == 0 {
             return run;
         }
@@ -124,7 +131,7 @@ impl FrameQueue {
         requires { length out.old ≡ self.now.frame }
         ensures { Copies result (place self.now.queue.held k) out.old out.new }
     {
-        self.copy_run(k, 1, out) > 0
+        self.copy_run(k, 1, &mut 0, out) > 0
     }
 }
 

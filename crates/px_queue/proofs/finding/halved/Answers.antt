@@ -4,7 +4,7 @@ use Rattle.std.proofs.lemmas.Int.{ints}
 use Rattle.px_model.specs.Index.{above}
 use Rattle.px_queue.specs.Written.{Written, end_of, EndBy}
 use Rattle.px_queue.proofs.Rising.{front_ends}
-use Rattle.px_queue.proofs.finding.ended.Goals as goal
+use Rattle.px_queue.proofs.finding.halved.Goals as goal
 
 pub loop-low-preserved-then-above-eq0 : goal.loop-low-preserved-then-above-eq0
 loop-low-preserved-then-above-eq0 c =

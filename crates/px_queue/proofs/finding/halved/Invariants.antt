@@ -1,7 +1,7 @@
 use Rattle.std.proofs.Common.{◌≤◌, ◌<◌, ◌-◌, length, take}
 use Rattle.std.specs.Prelude.{◌<ℤ◌, slice_index_or}
 use Rattle.px_queue.specs.Written.{Written, end_of, EndBy}
-use Rattle.px_queue.proofs.finding.ended.Given as goal
+use Rattle.px_queue.proofs.finding.halved.Given as goal
 
 abbrev pub invariant-loop-low : goal.invariant-loop-low
 invariant-loop-low l = record {
