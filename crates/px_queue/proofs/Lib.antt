@@ -5,3 +5,4 @@ pub mod Packing
 pub mod Copying
 pub mod Listed
 pub mod Hearing
+pub mod Rising

@@ -1,6 +1,6 @@
 -- Writes and what is held of them.
 use Rattle.std.proofs.Common.{◌≡◌, ℕ, ◌+◌, ◌*◌, ◌<◌, ◌≤◌, zero, suc, List, [], ◌∷◌, ◌++◌, length, take, drop, Bool, true, false, refl, ap, sym, ◌∙◌, arith, Option, Some, None, subst, max, ◌⊎◌, inl, inr, ⊎_elim, length-drop}
-use Rattle.std.specs.Prelude.{slice_get, slice_index_or, remove, ℤ, int_lt, ◌≤ℤ◌, ◌<ℤ◌, IsSome}
+use Rattle.std.specs.Prelude.{slice_get, slice_index_or, ℤ, int_lt, ◌≤ℤ◌, ◌<ℤ◌, IsSome}
 use Rattle.std.specs.List.{fold}
 use Rattle.std.proofs.lemmas.Int.{ints, by_lt_z}
 use Rattle.std.proofs.lemmas.Bool.{cases_lt, cond-true, cond-false, false≢true}
@@ -170,11 +170,11 @@ frame_inside at size count bytes i e few =
     cond-false (int_lt i at) None (slice_get (frames_of size count bytes) (above i at)) e
     ∙ frame_get size count (above i at) bytes few
 
--- the oldest write is removed where it is past
-pub held_removed : (read : ℤ) (writes : List Written) (w : Written) → w ≡ slice_index_or writes 0 w → above (end_of w) read ≡ 0
-    → held_of read (remove writes 0) ≡ held_of read writes
-held_removed read [] w is past = refl
-held_removed read (x ∷ writes) w is past =
+-- the oldest write goes where it is past
+pub held_rest : (read : ℤ) (writes : List Written) (w : Written) → w ≡ slice_index_or writes 0 w → above (end_of w) read ≡ 0
+    → held_of read (drop 1 writes) ≡ held_of read writes
+held_rest read [] w is past = refl
+held_rest read (x ∷ writes) w is past =
     sym (held_without read x writes (subst (λ (v : Written). end_of v ≤ℤ read) is (omega (arith, ints, past))))
 
 -- a write that has a frame there has it inside

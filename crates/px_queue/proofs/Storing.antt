@@ -1,6 +1,6 @@
 -- Frames are held over what is held, and the newest write that has an index is found.
-use Rattle.std.proofs.Common.{◌≡◌, ℕ, zero, suc, ◌+◌, ◌-◌, ◌<◌, ◌≤◌, max, List, [], ◌∷◌, ◌++◌, length, take, get_or, Bool, false, true, refl, ap, sym, ◌∙◌, subst, arith, cond, rules, Option, Some, None, inl, inr, ⊎_elim}
-use Rattle.std.specs.Prelude.{ℤ, ◌-ℤ◌, ◌==◌, ◌||◌, remove, not, ◌&&◌, int_lt, ◌≤ℤ◌, ◌<ℤ◌, slice_get, IsSome}
+use Rattle.std.proofs.Common.{◌≡◌, ℕ, zero, suc, ◌+◌, ◌-◌, ◌<◌, ◌≤◌, max, List, [], ◌∷◌, ◌++◌, length, take, drop, get_or, Bool, false, true, refl, ap, sym, ◌∙◌, subst, arith, cond, rules, Option, Some, None, inl, inr, ⊎_elim}
+use Rattle.std.specs.Prelude.{ℤ, ◌-ℤ◌, ◌==◌, ◌||◌, not, ◌&&◌, int_lt, ◌≤ℤ◌, ◌<ℤ◌, slice_get, IsSome}
 use Rattle.std.proofs.lemmas.Int.{ints, by_lt_z}
 use Rattle.std.proofs.lemmas.Bool.{cases_lt, false≢true}
 use Rattle.std.proofs.lemmas.Bool.Decides.{nat_tests}
@@ -109,13 +109,19 @@ nothing_of read i = by (int_lt i read)
     by false = refl
 
 -- a place at which no write has a frame
+pub gap_none : (read : ℤ) (ws : List Written) (k n j : ℕ) (index : ℤ) → index ≡ onward read k → n ≡ 0
+    → frame_of read (held_of read ws) (onward index j) ≡ frame_of read (held_of read (take n ws)) (onward index j) → place (held_of read ws) (k + j) ≡ None
+gap_none read ws k n j index at none same =
+    sym (frame_from read (held_of read ws) (onward index j) (k + j) (omega (arith, ints, at)))
+    ∙ same
+    ∙ ap (λ (m : ℕ). frame_of read (held_of read (take m ws)) (onward index j)) none
+    ∙ nothing_of read (onward index j)
+
 pub run_none : (read : ℤ) (ws : List Written) (k n : ℕ) (index : ℤ) → index ≡ onward read k → n ≡ 0
     → frame_of read (held_of read ws) (onward index 0) ≡ frame_of read (held_of read (take n ws)) (onward index 0) → place (held_of read ws) k ≡ None
 run_none read ws k n index at none same =
-    sym (frame_from read (held_of read ws) (onward index 0) k (omega (arith, ints, at)))
-    ∙ same
-    ∙ ap (λ (m : ℕ). frame_of read (held_of read (take m ws)) (onward index 0)) none
-    ∙ nothing_of read (onward index 0)
+    let e : k ≡ k + 0 = omega arith in
+    ap (λ (m : ℕ). place (held_of read ws) m) e ∙ gap_none read ws k n 0 index at none same
 
 -- a place of a run that one write has
 pub run_some : (read : ℤ) (ws : List Written) (k n j : ℕ) (index : ℤ) (w : Written) → index ≡ onward read k → 0 < n → n ≤ length ws → w ≡ get_or ws (n - 1) w
@@ -132,6 +138,21 @@ same_write [] j w d few is = absurd (omega (arith, few))
 same_write (x ∷ ws) zero w d few is = is
 same_write (x ∷ ws) (suc j) w d few is = same_write ws j w d (omega (arith, few)) is
 
+any_default : (ws : List Written) (j : ℕ) (d e : Written) → j < length ws → get_or ws j d ≡ get_or ws j e
+any_default [] j d e few = absurd (omega (arith, few))
+any_default (x ∷ ws) zero d e few = refl
+any_default (x ∷ ws) (suc j) d e few = any_default ws j d e (omega (arith, few))
+
+-- a place that one write has
+pub run_has : (read : ℤ) (ws : List Written) (k n : ℕ) (index : ℤ) (d : Written) → index ≡ onward read k → 0 < n → n ≤ length ws
+    → frame_of read (held_of read ws) (onward index 0) ≡ frame_of read (held_of read (take n ws)) (onward index 0) → IsSome (frame_in (get_or ws (n - 1) d) (onward index 0))
+    → IsSome (place (held_of read ws) k)
+run_has read ws k n index d at some fits same has =
+    let w : Written = get_or ws (n - 1) d in
+    let e : k ≡ k + 0 = omega arith in
+    subst (λ (o : Option Frame). IsSome o)
+    (sym (ap (λ (m : ℕ). place (held_of read ws) m) e ∙ run_some read ws k n 0 index w at some fits (any_default ws (n - 1) d w (omega (arith, some, fits))) same has)) has
+
 -- each has frames of one size
 pub size_at : (size : ℕ) (ws : List Written) (j : ℕ) (w : Written) → AreOf size ws → j < length ws → w ≡ get_or ws j w → w.size ≡ size
 size_at size [] j w all few is = absurd (omega (arith, few))
@@ -142,9 +163,9 @@ pub sizes_more : (size : ℕ) (ws : List Written) (w : Written) → AreOf size w
 sizes_more size [] w all e = (e, tt)
 sizes_more size (x ∷ ws) w all e = (all.0, sizes_more size ws w all.1 e)
 
-pub sizes_removed : (size : ℕ) (ws : List Written) → AreOf size ws → AreOf size (remove ws 0)
-sizes_removed size [] all = all
-sizes_removed size (x ∷ ws) all = all.1
+pub sizes_rest : (size : ℕ) (ws : List Written) → AreOf size ws → AreOf size (drop 1 ws)
+sizes_rest size [] all = all
+sizes_rest size (x ∷ ws) all = all.1
 
 -- ---- blocks
 
@@ -152,9 +173,8 @@ pub blocks_more : (ws : List Written) (w : Written) → blocks_in (ws ++ w ∷ [
 blocks_more [] w = omega arith
 blocks_more (x ∷ ws) w = ap (λ (n : ℕ). x.blocks + n) (blocks_more ws w) ∙ omega arith
 
-pub blocks_removed : (ws : List Written) (w : Written) → 0 < length ws → w ≡ get_or ws 0 w → w.blocks + blocks_in (remove ws 0) ≡ blocks_in ws
-blocks_removed [] w some is = absurd (omega (arith, some))
-blocks_removed (x ∷ ws) w some is = ap (λ (v : Written). v.blocks + blocks_in ws) is
+pub blocks_rest : (ws rest : List Written) (w : Written) → ws ≡ w ∷ rest → w.blocks + blocks_in rest ≡ blocks_in ws
+blocks_rest ws rest w is = ap (λ (vs : List Written). blocks_in vs) (sym is)
 
 -- ---- how a write ends
 

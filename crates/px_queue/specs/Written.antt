@@ -1,5 +1,5 @@
 -- What is held of a list of writes, oldest first: each stands over those before it.
-use Rattle.std.specs.Prelude.{◌≡◌, ℕ, ◌+◌, nat_lt, min, ◌==◌, ℤ, int_lt, Bool, List, [], ◌∷◌, length, slice_get, Option, None, if◌then◌else◌}
+use Rattle.std.specs.Prelude.{◌≡◌, ℕ, ◌+◌, nat_lt, min, ◌==◌, ℤ, ◌≤ℤ◌, int_lt, Bool, List, [], ◌∷◌, length, slice_get, Option, None, if◌then◌else◌}
 use Rattle.std.specs.List.{fold, AllByRecursion}
 use Rattle.px_model.specs.Index.{above, onward}
 use Rattle.px_model.specs.Frame.{Frame}
@@ -41,6 +41,15 @@ blocks_in (w ∷ writes) = w.blocks + blocks_in writes
 -- each has frames of so many bytes
 abbrev pub AreOf : ℕ → List Written → Type 0
 AreOf size writes = AllByRecursion (λ w. Written.size w ≡ size) writes
+
+-- none ends past this index
+abbrev pub EndBy : ℤ → List Written → Type 0
+EndBy edge writes = AllByRecursion (λ w. end_of w ≤ℤ edge) writes
+
+-- each begins at or past the end of all before it
+abbrev pub AreRising : List Written → Type 0
+AreRising [] = Unit {0}
+AreRising (w ∷ writes) = AllByRecursion (λ v. end_of w ≤ℤ Written.at v) writes × AreRising writes
 
 -- the queue with these writes
 abbrev pub queue_of : List Written → ℤ → ℤ → Bool → ℕ → Queue

@@ -69,6 +69,13 @@ impl Chunk {
         self.at.onward(self.count as u64)
     }
 
+    /// The index of its first frame.
+    pub(crate) fn first(&self) -> Index
+        ensures { result ≡ self.now.at }
+    {
+        self.at
+    }
+
     /// How far its frames reach past a read index, 0 where it has none.
     pub(crate) fn reach(&self, read: Index) -> u64
         ensures { result ≡ reach_of self.now read }
@@ -121,16 +128,6 @@ impl Chunk {
         requires has { (j : ℕ) → j < count → IsSome (frame_in self.now (onward index j)) }
         requires size { length out.old ≡ count * self.now.size }
         ensures { (j : ℕ) → j < count → frame_in self.now (onward index j) ≡ Some (take self.now.size (drop (j * self.now.size) out.new)) }
-    {
-        let start = start(index.above(self.at), self.count, self.size);
-        copy_bytes(self.bytes.as_slice(), start, out);
-    }
-
-    /// Copies its frame at this index, which it has.
-    pub(crate) fn copy(&self, index: Index, out: &mut [u8])
-        requires has { IsSome (frame_in self.now index) }
-        requires size { length out.old ≡ self.now.size }
-        ensures { frame_in self.now index ≡ Some out.new }
     {
         let start = start(index.above(self.at), self.count, self.size);
         copy_bytes(self.bytes.as_slice(), start, out);

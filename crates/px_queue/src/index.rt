@@ -1,5 +1,6 @@
 // Indices of a stream.
 ghost use Rattle.std.specs.Prelude.{◌≡◌, pos, ◌+ℤ◌, ◌-ℤ◌, ◌<ℤ◌, ◌≤ℤ◌, IsOk, IfOk, IfErr, IsTrue, IsFalse, int_lt, ◌↔◌};
+ghost use Rattle.std.specs.Int.{int_max};
 ghost use Rattle.px_model.specs.Index.{LAST, above, onward, is_index, IsIndex};
 
 use std::marker::Model;
@@ -63,6 +64,13 @@ impl Index {
         ensures { result ≡ int_lt self other }
     {
         self.frame < other.frame
+    }
+
+    /// The greater of two.
+    pub(crate) fn greater(self, other: Index) -> Index
+        ensures { result ≡ int_max self other }
+    {
+        if self.is_below(other) { other } else { self }
     }
 
     /// Whether it lies more than so many frames above a number.

@@ -4,7 +4,7 @@ ghost use Rattle.px_model.specs.Held.{place};
 ghost use Rattle.px_queue.specs.Peeked.{Peeks, Copies};
 
 use crate::FrameQueue;
-use crate::finding::{newest, newest_run};
+use crate::finding::newest_run;
 
 /// What stands at a place ahead of the read index.
 #[derive(Clone, Copy, Debug, PartialEq, Eq)]
@@ -50,9 +50,15 @@ impl FrameQueue {
     {
         let size = self.frame as usize;
         let mut count: u32 = 0;
+        let mut near = 0;
         while count < most {
             let at = count as usize * size;
-            let run = self.copy_run(k as u64 + count as u64, most - count, &mut out[at..]);
+            let run = self.copy_run(
+                k as u64 + count as u64,
+                most - count,
+                &mut near,
+                &mut out[at..],
+            );
             if run == 0 {
                 return count;
             }
@@ -62,8 +68,8 @@ impl FrameQueue {
     }
 
     // Copies the frames held from a place on that one write has, at most so many, and answers how many they are: none only where none is
-    // held at that place.
-    fn copy_run(&self, k: u64, most: u32, out: &mut [u8]) -> u32
+    // held at that place. It looks behind the first `near` writes first, and the next frames are likely behind as many as it leaves there.
+    fn copy_run(&self, k: u64, most: u32, near: &mut usize, out: &mut [u8]) -> u32
         requires room { most * self.now.frame ≤ length out.old }
         requires some { 1 ≤ most }
         ensures few { result ≤ most }
@@ -75,7 +81,8 @@ impl FrameQueue {
             return 0;
         }
         let index = self.read.onward(k);
-        let (place, run) = newest_run(self.writes.as_slice(), self.read, index, most);
+        let (place, run) = newest_run(&self.writes, self.rising, *near, self.read, index, most);
+        *near = place;
         if place == 0 {
             return 0;
         }
@@ -92,20 +99,31 @@ impl FrameQueue {
     {
         let mut count: u32 = 0;
         while count < most {
-            if self.has_frame(k as u64 + count as u64) {
+            let run = self.hole(k as u64 + count as u64, most - count);
+            if run == 0 {
                 return count;
             }
-            count += 1;
+            count += run;
         }
         count
     }
 
-    // Whether a frame is held at a place past the read index.
-    fn has_frame(&self, k: u64) -> bool
-        ensures some { IsTrue result → IsSome (place self.now.queue.held k) }
-        ensures none { IsFalse result → place self.now.queue.held k ≡ None }
+    // How many places from a place on no write has, at most so many: none only where a frame is held at that place.
+    fn hole(&self, k: u64, most: u32) -> u32
+        requires some { 1 ≤ most }
+        ensures few { result ≤ most }
+        ensures holes { (j : ℕ) → j < result → place self.now.queue.held (k + j) ≡ None }
+        ensures none { result ≡ 0 → IsSome (place self.now.queue.held k) }
     {
-        k < self.held && newest(self.writes.as_slice(), self.read, self.read.onward(k)).is_some()
+        if k >= self.held {
+            return most;
+        }
+        let index = self.read.onward(k);
+        let (place, run) = newest_run(&self.writes, self.rising, 0, self.read, index, most);
+        if place == 0 {
+            return run;
+        }
+        0
     }
 
     /// Copies the frame held at a place past the read index, and answers whether one is.
@@ -113,17 +131,7 @@ impl FrameQueue {
         requires { length out.old ≡ self.now.frame }
         ensures { Copies result (place self.now.queue.held k) out.old out.new }
     {
-        if k >= self.held {
-            return false;
-        }
-        let index = self.read.onward(k);
-        match newest(self.writes.as_slice(), self.read, index) {
-            Some(write) => {
-                write.copy(index, out);
-                true
-            }
-            None => false,
-        }
+        self.copy_run(k, 1, &mut 0, out) > 0
     }
 }
 

@@ -10,6 +10,7 @@ ghost use Rattle.px_queue.specs.Pushed.{outcome_for, Carries, IsPlaced, IsMissed
 
 use crate::FrameQueue;
 use crate::chunk::Chunk;
+use crate::finding::risen;
 use crate::index::Index;
 use px_block::{BlockSource, Blocks};
 
@@ -143,7 +144,10 @@ impl FrameQueue {
         let reach = chunk.reach(self.read);
         let brought = chunk.blocks() as u32;
         self.block_room -= brought;
-        self.writes.push_reserved(chunk);
+        let (rising, edge) = risen(&self.writes, self.rising, self.edge, &chunk);
+        self.rising = rising;
+        self.edge = edge;
+        self.writes.push_back_reserved(chunk);
         self.held = self.held.max(reach);
         self.write = end;
     }

@@ -13,13 +13,17 @@ use crate::index::Index;
 use px_block::BlockSource;
 use px_types::{Mem, NoMemory};
 use std::alloc::Global;
+use std::collections::VecDeque;
 use std::marker::Model;
 
-/// A queue of frames (PulseAudio: `pa_memblockq`). Indices are frames, and its bytes whole frames of one size.
+/// A queue of frames (PulseAudio: `pa_memblockq`). Indices are frames, and its bytes whole frames of one size. It knows an index at or past
+/// the end of each write, and of writes that rise that they do: each begins at or past the end of all before it.
 #[derive(Debug, Drop)]
 pub struct FrameQueue {
     pub(crate) frame: u32,
-    pub(crate) writes: Vec<Chunk>,
+    pub(crate) writes: VecDeque<Chunk>,
+    pub(crate) rising: bool,
+    pub(crate) edge: Index,
     pub(crate) block_room: u32,
     pub(crate) read: Index,
     pub(crate) write: Index,
@@ -29,24 +33,26 @@ pub struct FrameQueue {
 }
 
 impl Model for FrameQueue {
-    ghost use Rattle.std.specs.Prelude.{◌≡◌, ◌≤◌, ◌-◌, length, vec_len, vec_capacity};
+    ghost use Rattle.std.specs.Prelude.{◌≡◌, ◌≤◌, ◌-◌, length, IsTrue};
+    ghost use Rattle.std.specs.VecDeque.{deque_len, deque_capacity};
     ghost use Rattle.px_model.specs.Queue.{IsQueue};
     ghost use Rattle.px_queue.specs.Kept.{KeptQueue};
-    ghost use Rattle.px_queue.specs.Written.{held_of, queue_of, blocks_in, AreOf};
+    ghost use Rattle.px_queue.specs.Written.{held_of, queue_of, blocks_in, AreOf, AreRising, EndBy};
 
     ghost Value = { KeptQueue };
 
     ghost view = { λ q. record {
       queue = queue_of q.writes.items q.read q.write q.hold q.prebuf;
       frame = q.frame;
-      room = vec_capacity q.writes - vec_len q.writes;
+      room = deque_capacity q.writes - deque_len q.writes;
       block_room = q.block_room;
       blocks = blocks_in q.writes.items;
     } };
 
     ghost invariant = { λ q. (q.held ≡ length (held_of q.read q.writes.items))
         × IsQueue (queue_of q.writes.items q.read q.write q.hold q.prebuf)
-        × (1 ≤ q.frame) × AreOf q.frame q.writes.items };
+        × (1 ≤ q.frame) × AreOf q.frame q.writes.items
+        × EndBy q.edge q.writes.items × (IsTrue q.rising → AreRising q.writes.items) };
 }
 
 impl FrameQueue {
@@ -59,7 +65,9 @@ impl FrameQueue {
     {
         FrameQueue {
             frame: frame_size,
-            writes: Vec::new(alloc),
+            writes: VecDeque::new(alloc),
+            rising: true,
+            edge: Index::zero(),
             block_room: 0,
             read: Index::zero(),
             write: Index::zero(),

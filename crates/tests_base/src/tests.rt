@@ -3,5 +3,6 @@ mod clock;
 mod device;
 mod ends;
 mod host;
+mod pool;
 mod recorders;
 mod types;

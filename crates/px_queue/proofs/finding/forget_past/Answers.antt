@@ -1,30 +1,36 @@
-use Rattle.std.proofs.Common.{◌≡◌, ℕ, ◌+◌, List, Option, ap, sym, subst, ◌∙◌, arith, length, ◌<◌}
+use Rattle.std.proofs.Common.{◌≡◌, ℕ, ◌+◌, List, ◌∷◌, ◌++◌, drop, Option, ap, sym, subst, ◌∙◌, arith}
 use Rattle.std.specs.Prelude.{ℤ}
+use Rattle.std.specs.Option.{option_to_list}
 use Rattle.px_block.specs.Given.{after_giving}
 use Rattle.px_block.proofs.Giving.{giving_both}
 use Rattle.px_model.specs.Index.{above}
-use Rattle.px_queue.specs.Written.{Written, end_of, held_of, blocks_in, AreOf}
-use Rattle.px_queue.proofs.Log.{held_removed}
-use Rattle.px_queue.proofs.Storing.{sizes_removed, blocks_removed}
+use Rattle.px_queue.specs.Written.{Written, end_of, held_of, blocks_in, AreOf, AreRising, EndBy}
+use Rattle.px_queue.proofs.Log.{held_rest}
+use Rattle.px_queue.proofs.Storing.{sizes_rest, blocks_rest}
+use Rattle.px_queue.proofs.Rising.{ends_rest, rising_rest}
 use Rattle.px_queue.proofs.finding.forget_past.Goals as goal
 
 pub loop-writes-preserved : goal.loop-writes-preserved
 loop-writes-preserved g c =
     let items = c.loop-writes.writes.items in
+    let rest = c.pop_front.new.self.items in
+    let w : Written = c.unwrap.result in
     let given = g.B.BlockSource.given c.loop-writes.source in
     let past : above (end_of c.index.result.now) c.args.read ≡ 0 =
     ap (λ (i : ℤ). above i c.args.read) (sym c.end.ensures.value) ∙ sym c.above.ensures ∙ c.if-above-eq0.true in
-    let some : 0 < length items = omega (arith, c.remove.ensures.len, c.loop-writes.writes.ok.0) in
-    let less : c.remove.result.blocks + blocks_in c.remove.new.self.items ≡ blocks_in items =
-    ap (λ (ws : List Written). c.remove.result.blocks + blocks_in ws) c.remove.ensures.items ∙ blocks_removed items c.remove.result some c.remove.ensures.value in
+    let is : rest ≡ drop 1 items = c.pop_front.ensures.rest in
+    let all : items ≡ w ∷ rest = c.pop_front.ensures.items ∙ ap (λ (o : Option Written). option_to_list o ++ rest) c.unwrap.ensures in
+    let less : w.blocks + blocks_in rest ≡ blocks_in items = blocks_rest items rest w all in
     record {
-      held = ap (λ (ws : List Written). held_of c.args.read ws) c.remove.ensures.items
-          ∙ held_removed c.args.read items c.index.result.now c.index.ensures past
+      held = ap (λ (ws : List Written). held_of c.args.read ws) is
+          ∙ held_rest c.args.read items c.index.result.now c.index.ensures past
           ∙ c.loop-writes.invariant.held;
-      sizes = λ size all. subst (λ (ws : List Written). AreOf size ws) (sym c.remove.ensures.items) (sizes_removed size items (c.loop-writes.invariant.sizes size all));
-      room = omega (arith, c.loop-writes.invariant.room, c.remove.ensures.capacity, c.remove.ensures.len);
-      given = ap (λ (o : Option ℕ). after_giving o (blocks_in c.remove.new.self.items)) c.give_back.ensures
-          ∙ giving_both given c.remove.result.blocks (blocks_in c.remove.new.self.items)
+      sizes = λ size all. subst (λ (ws : List Written). AreOf size ws) (sym is) (sizes_rest size items (c.loop-writes.invariant.sizes size all));
+      rising = λ all. subst (λ (ws : List Written). AreRising ws) (sym is) (rising_rest items (c.loop-writes.invariant.rising all));
+      ends = λ edge all. subst (λ (ws : List Written). EndBy edge ws) (sym is) (ends_rest edge items (c.loop-writes.invariant.ends edge all));
+      room = omega (arith, c.loop-writes.invariant.room, c.pop_front.ensures.capacity, c.pop_front.ensures.len);
+      given = ap (λ (o : Option ℕ). after_giving o (blocks_in rest)) c.give_back.ensures
+          ∙ giving_both given w.blocks (blocks_in rest)
           ∙ ap (λ (n : ℕ). after_giving given n) less
           ∙ c.loop-writes.invariant.given;
     }

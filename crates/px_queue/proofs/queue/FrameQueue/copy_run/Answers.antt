@@ -1,7 +1,7 @@
-use Rattle.std.proofs.Common.{◌≡◌, ℕ, ◌+◌, ◌-◌, ◌*◌, ◌<◌, ◌≤◌, List, ◌++◌, length, take, drop, None, Some, sym, subst, ap, ◌∙◌, arith, length-take}
-use Rattle.std.specs.Prelude.{slice_index_or, IsSome}
+use Rattle.std.proofs.Common.{◌≡◌, ℕ, ◌+◌, ◌-◌, ◌*◌, ◌<◌, ◌≤◌, ◌++◌, length, take, drop, None, Some, sym, subst, ap, ◌∙◌, arith, length-take}
+use Rattle.std.specs.Prelude.{IsSome}
 use Rattle.std.proofs.Math.Nat.{add-mul, mul-le-mul_right}
-use Rattle.px_model.specs.Held.{place, frame_of}
+use Rattle.px_model.specs.Held.{place}
 use Rattle.px_model.specs.Index.{onward}
 use Rattle.px_model.proofs.Places.{place_past}
 use Rattle.px_queue.specs.Kept.{KeptQueue}
@@ -19,9 +19,8 @@ pub returns-then-place-eq0-clause-none : goal.returns-then-place-eq0-clause-none
 returns-then-place-eq0-clause-none c = λ _.
     let d = c.self.inside in
     subst (λ (v : KeptQueue). place v.queue.held c.args.k ≡ None) c.self.view_is
-    (subst (λ (ws : List Written). place (held_of d.read ws) c.args.k ≡ None) c.as_slice.ensures.value
-    (run_none d.read c.as_slice.result.now c.args.k c.newest_run-place.result.0 c.onward-index.result c.onward-index.ensures c.if-place-eq0.true
-    (c.newest_run-place.ensures.frames 0 (omega (arith, c.newest_run-place.ensures.some)))))
+    (run_none d.read d.writes.items c.args.k c.newest_run-place.result.0 c.onward-index.result c.onward-index.ensures c.if-place-eq0.true
+    (c.newest_run-place.ensures.frames 0 (omega (arith, c.newest_run-place.ensures.some))))
 
 pub returns-clause-frames : goal.returns-clause-frames
 returns-clause-frames c = λ j less.
@@ -33,10 +32,10 @@ returns-clause-frames c = λ j less.
     let part = c.copy_run.new.out in
     let rest = drop (run * d.frame) c.args.out.now in
     let some : 0 < n = omega (arith, c.if-place-eq0.false) in
-    let fits : n ≤ length d.writes.items = omega (arith, c.newest_run-place.ensures.few, ap (λ (ws : List Written). length ws) c.as_slice.ensures.value) in
-    let same = subst (λ (ws : List Written). frame_of d.read (held_of d.read ws) (onward index j) ≡ frame_of d.read (held_of d.read (take n ws)) (onward index j)) c.as_slice.ensures.value (c.newest_run-place.ensures.frames j less) in
+    let fits : n ≤ length d.writes.items = c.newest_run-place.ensures.few in
+    let same = c.newest_run-place.ensures.frames j less in
     let has = subst (λ (v : Written). IsSome (frame_in v (onward index j))) (sym c.index.ensures)
-    (subst (λ (ws : List Written). IsSome (frame_in (slice_index_or ws (n - 1) w) (onward index j))) c.as_slice.ensures.value (c.newest_run-place.ensures.has w some j less)) in
+    (c.newest_run-place.ensures.has w some j less) in
     let width : w.size ≡ d.frame = size_at d.frame d.writes.items (n - 1) w c.self.invariant.3 (omega (arith, some, fits)) c.index.ensures in
     let frame : d.frame ≡ c.args.self.now.frame = ap (λ (v : KeptQueue). v.frame) c.self.view_is in
     let room : c.args.most * d.frame ≤ length c.args.out.now = subst (λ (v : ℕ). c.args.most * v ≤ length c.args.out.now) (sym frame) c.requires.room in

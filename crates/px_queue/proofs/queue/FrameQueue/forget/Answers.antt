@@ -11,4 +11,6 @@ invariant_of-self g c =
       subst (λ (h : List (Option Frame)). IsQueue (made h)) (sym c.forget_past.ensures.held) c.self.invariant.1,
       c.self.invariant.2,
       c.forget_past.ensures.sizes d.frame c.self.invariant.3,
+      c.forget_past.ensures.ends d.edge c.self.invariant.4,
+      λ rising. c.forget_past.ensures.rising (c.self.invariant.5 rising),
     )

@@ -38,4 +38,6 @@ invariant_of-self c =
       subst (λ (v : Queue). IsQueue v) (sym same) (queue_after_keeps q c.self.invariant.1 c.args.frames),
       c.self.invariant.2,
       c.self.invariant.3,
+      c.self.invariant.4,
+      c.self.invariant.5,
     )
