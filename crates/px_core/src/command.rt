@@ -4,6 +4,7 @@
 ghost use Rattle.std.specs.Prelude.{◌≡◌, ◌≤◌, [], true, false, IfOk, IfSome};
 ghost use Rattle.px_cmd.specs.Meant.{meant};
 ghost use Rattle.px_plan.specs.Row.{Plans};
+ghost use Rattle.px_plan.specs.Target.{IsNamed};
 ghost use Rattle.px_session.specs.HeaderRules.{AreSinks};
 ghost use Rattle.px_ctl_info.specs.Sinks.{server_info};
 ghost use Rattle.px_ctl_play.specs.Move.{move_input};
@@ -34,7 +35,7 @@ use px_ctl_play::{
 };
 use px_flat::Group;
 use px_msg::Msg;
-use px_plan::{Connection, Input, Plan, Refusal};
+use px_plan::{Connection, Input, Named, Plan, Refusal};
 use px_targets::{default_sink, depth_of, group_named, named_by, rate_of, sink_of};
 use px_types::{ErrorCode, Mem, NoMemory};
 use std::alloc::Global;
@@ -69,6 +70,27 @@ fn stream_of<P>(tables: &Tables<P>, me: &Connection, stream: u32) -> Option<Inpu
     copied(tables.inputs.stream_of(me.conn, stream))
 }
 
+// CREATE_PLAYBACK_STREAM on a sink that was named.
+fn create_by<P: Drop>(
+    alloc: Global,
+    tables: &Tables<P>,
+    me: &Connection,
+    tag: u32,
+    named: Named,
+    fields: &CreateFields,
+) -> Result<Plan<Msg<P>, Group>, Refusal>
+    requires inputs { AllByRecursion (IsInput tables.now.sinks tables.now.inputs_made) tables.now.inputs.items }
+    requires groups { AreGrouped [] tables.now.sinks tables.now.inputs.items tables.now.groups.items }
+    requires value { named ≡ named_by tables.now.names tables.now.sinks fields.now.sink true }
+    requires lawful { IsNamed named }
+    ensures { Plans result (create_on (state_of tables.now) me.now tag fields.now named) }
+{
+    let group = group_named(&tables.groups, &named);
+    let inputs = tables.inputs.as_slice();
+    let count = tables.inputs_made;
+    create(alloc, inputs, count, me, tag, named, group, fields)
+}
+
 // CREATE_PLAYBACK_STREAM on the sink that it names.
 fn create_named<P: Drop>(
     alloc: Global,
@@ -84,18 +106,7 @@ fn create_named<P: Drop>(
 {
     let sinks = tables.sinks.as_slice();
     let named = named_by(alloc, &tables.names, sinks, &fields.sink, true)?;
-    let group = group_named(&tables.groups, &named);
-    let inputs = tables.inputs.as_slice();
-    create(
-        alloc,
-        inputs,
-        tables.inputs_made,
-        me,
-        tag,
-        named,
-        group,
-        fields,
-    )
+    create_by(alloc, tables, me, tag, named, fields)
 }
 
 // New buffer attributes of a stream, with the latency of its sink.
