@@ -1,11 +1,12 @@
-//! What the scripts of bench/ time. Words: what to do (`sound`, `frame`, `wire`, `session`, `core` or `volumes`), how often, and for `frame`
-//! the bytes of a piece, for `sound` the code of a format; for `core` and `volumes` how many inputs there are, then how often, and how
-//! many clients listen to all that is told. `wire` reads a packet from standard input. It prints a line on what it did, so that no work
-//! is left out and a plain program can be compared. Without words each is done once.
+//! What the scripts of bench/ time. Words: what to do (`sound`, `mix`, `frame`, `wire`, `session`, `core` or `volumes`), how often, and for
+//! `frame` the bytes of a piece, for `sound` and `mix` the code of a format; for `core` and `volumes` how many inputs there are, then how
+//! often, and how many clients listen to all that is told. `wire` reads a packet from standard input. It prints a line on what it did, so
+//! that no work is left out and a plain program can be compared. Without words each is done once.
 #![tactic(auto)]
 
 mod data;
 mod frame;
+mod mix;
 mod session;
 mod sound;
 mod volumes;
@@ -13,6 +14,7 @@ mod wire;
 
 use data::core_line;
 use frame::frame_line;
+use mix::mix_line;
 use px_types::{Mem, NoMemory};
 use session::session_line;
 use sound::sound_line;
@@ -26,6 +28,7 @@ use wire::wire_line;
 #[derive(Clone, Copy)]
 enum Work {
     Sound,
+    Mix,
     Frame,
     Wire,
     Session,
@@ -33,8 +36,9 @@ enum Work {
     Volumes,
 }
 
-const ALL: [Work; 6] = [
+const ALL: [Work; 7] = [
     Work::Sound,
+    Work::Mix,
     Work::Frame,
     Work::Wire,
     Work::Session,
@@ -45,6 +49,7 @@ const ALL: [Work; 6] = [
 fn work_of(word: &str) -> Option<Work> {
     match word {
         "sound" => Some(Work::Sound),
+        "mix" => Some(Work::Mix),
         "frame" => Some(Work::Frame),
         "wire" => Some(Work::Wire),
         "session" => Some(Work::Session),
@@ -60,6 +65,7 @@ fn line(alloc: Global, work: Work, counts: [Option<u32>; 3], packet: &[u8]) -> M
     let first = first.unwrap_or(1);
     match work {
         Work::Sound => sound_line(alloc, first, second.unwrap_or(3)),
+        Work::Mix => mix_line(alloc, first, second.unwrap_or(3)),
         Work::Frame => frame_line(alloc, first, second.unwrap_or(4_096)),
         Work::Wire => wire_line(alloc, first, packet),
         Work::Session => session_line(alloc, first),

@@ -9,7 +9,7 @@ use std::alloc::Global;
 const SAMPLES: usize = 4096;
 
 // The bytes of all samples, from a small generator.
-fn fill(bytes: &mut [u8], seed: u32) {
+pub fn fill(bytes: &mut [u8], seed: u32) {
     let mut state = seed;
     for byte in bytes.iter_mut() {
         state = state.wrapping_mul(1_664_525).wrapping_add(1_013_904_223);
@@ -46,7 +46,7 @@ fn sum(bytes: &[u8], values: &[i32]) -> u32 {
 }
 
 // The format with a code; S16LE where that has none, or one of floating point.
-fn whole_format(code: u32) -> Format
+pub fn whole_format(code: u32) -> Format
     ensures { IsWhole result }
 {
     match Format::from_code(code.min(255) as u8) {

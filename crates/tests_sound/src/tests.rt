@@ -1,4 +1,5 @@
 mod channels;
 mod groups;
+mod kept;
 mod samples;
 mod volumes;

@@ -1,0 +1,4 @@
+pub mod Changing
+pub mod Clipped
+pub mod Fours
+pub mod Shares

@@ -1,0 +1,4 @@
+pub mod Channels
+pub mod Each
+pub mod Part
+pub mod Stretches

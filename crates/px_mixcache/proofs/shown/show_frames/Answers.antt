@@ -1,0 +1,28 @@
+use Rattle.std.proofs.Common.{◌*◌, ◌+◌, ◌-◌, ◌≤◌, ℕ, length, ◌∙◌, arith, sym, ap}
+use Rattle.std.proofs.Math.Nat.{add-mul}
+use Rattle.px_sample.proofs.RunLemmas.{length_part}
+use Rattle.px_mixcache.specs.Shown.{frame_of}
+use Rattle.px_mixcache.proofs.Stretches.{run_more, run_fits}
+use Rattle.px_mixcache.proofs.shown.show_frames.Goals as goal
+
+pub slice_bounds-show_stretch-end : goal.slice_bounds-show_stretch-end
+slice_bounds-show_stretch-end g c =
+    let size = length c.args.runs.now * c.size.result in
+    run_fits size c.loop-done.done c.min-count.result c.args.frames (length c.loop-done.out) (omega (arith, c.min-count.ensures, c.loop-done.invariant.few))
+    (c.loop-done.auto.out ∙ c.requires.whole ∙ sym (ap (λ (n : ℕ). c.args.frames * (length c.args.runs.now * n)) c.size.ensures))
+
+pub loop-done-preserved : goal.loop-done-preserved
+loop-done-preserved g c =
+    let done = c.loop-done.done in
+    let count = c.min-count.result in
+    let size = length c.args.runs.now * c.size.result in
+    let few : done + count ≤ c.args.frames = omega (arith, c.min-count.ensures, c.loop-done.invariant.few) in
+    let fits : done * size + count * size ≤ length c.loop-done.out = run_fits size done count c.args.frames (length c.loop-done.out) few
+    (c.loop-done.auto.out ∙ c.requires.whole ∙ sym (ap (λ (n : ℕ). c.args.frames * (length c.args.runs.now * n)) c.size.ensures)) in
+    record {
+      few = few;
+      bytes = run_more (frame_of c.args.format c.args.runs.now) c.loop-done.out c.show_stretch.new.out c.args.from done count
+          (done * size) (done * size + count * size - done * size) ((done + count) * size) (omega (arith, fits))
+          (omega (arith, add-mul done count size, c.show_stretch.auto.out, length_part c.loop-done.out (done * size) (count * size) fits)) c.loop-done.invariant.bytes c.show_stretch.ensures.bytes;
+      ticks = omega (arith, c.loop-done.invariant.ticks, c.show_stretch.ensures.ticks);
+    }

@@ -1,0 +1,21 @@
+use Rattle.std.proofs.Common.{◌≡◌, ◌+◌, ◌*◌, length, ap, ◌∙◌}
+use Rattle.std.proofs.lemmas.List.{length-take-le}
+use Rattle.std.specs.Int.{saturate_signed}
+use Rattle.px_sample.specs.declared.format.Width.{Width}
+use Rattle.px_sample.specs.WorkValue.{packed_of}
+use Rattle.px_kernel.specs.Kernel.{at, bits_of}
+use Rattle.px_mixcache.specs.Cache.{run_at}
+use Rattle.px_mixcache.proofs.Stretches.{shown_at, stretch_listed, packed_stretch}
+use Rattle.px_mixcache.proofs.shown.show_stretch.Goals as goal
+
+pub returns-clause-bytes : goal.returns-clause-bytes
+returns-clause-bytes g c =
+    let runs = c.args.runs.now in
+    let format = c.args.format in
+    let from = c.args.from in
+    let size : length c.clip_channels.new.values ≡ length runs * c.args.count = c.clip_channels.ensures.long ∙ c.fill.ensures.len ∙ length-take-le (length runs * c.args.count) _ c.requires.few in
+    c.pack.ensures
+    ∙ ap (packed_of format)
+    (stretch_listed (shown_at format runs) (length runs) from c.args.count c.clip_channels.new.values size
+    (λ n j less few. c.clip_channels.ensures.values n j less few ∙ ap (λ (w : Width). saturate_signed (bits_of w) (at (run_at runs n).sums (from + j))) c.width.ensures))
+    ∙ packed_stretch format runs from c.args.count

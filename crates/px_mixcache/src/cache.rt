@@ -1,0 +1,132 @@
+// The kept sums of all channels of a sink.
+ghost use Rattle.std.specs.Prelude.{◌≡◌, ℕ, ◌+◌, ◌-◌, ◌*◌, ◌/◌, ◌^◌, ◌≤◌, ◌<◌, pos, length, slice_index, replicate, [], map, IfOk};
+ghost use Rattle.std.specs.List.{concat, range_with_len};
+ghost use Rattle.px_sample.specs.Format.{size_of, IsLinear};
+ghost use Rattle.px_mixcache.specs.Shown.{frame_of};
+ghost use Rattle.px_kernel.specs.Kernel.{changed};
+ghost use Rattle.px_mixcache.specs.Run.{AreValues};
+ghost use Rattle.px_mixcache.specs.Cache.{kept_at, part_at, run_at, run_of};
+
+use crate::run::Run;
+use crate::runs::{advance_all, change_all, empty_runs, extend_all};
+use crate::shown::show_frames;
+use px_kernel::Steps;
+use px_sample::Format;
+use px_types::{Mem, NoMemory};
+use px_vol::Factors;
+use std::alloc::Global;
+use std::marker::Model;
+use std::sync::ledger::Ledger;
+
+/// What streams add up to, frame by frame and channel by channel, before it is clipped (own: PulseAudio mixes anew what it rewinds). It holds
+/// some frames from a first one on.
+#[derive(Debug, Drop)]
+pub struct MixCache {
+    runs: Vec<Run>,
+    frames: usize,
+    depth: usize,
+}
+
+impl Model for MixCache {
+    ghost use Rattle.std.specs.Prelude.{◌≤◌, ◌≡◌, length};
+    ghost use Rattle.px_mixcache.specs.Cache.{KeptSums, AreLong};
+
+    ghost Value = { KeptSums };
+
+    ghost view = { λ c. record { depth = c.depth; frames = c.frames; runs = c.runs.items } };
+
+    ghost invariant = { λ c. (c.frames ≤ c.depth) × (1 ≤ length c.runs.items) × (length c.runs.items ≤ 32) × AreLong c.depth c.frames c.runs.items };
+}
+
+impl MixCache {
+    /// Sums of so many channels, 1 to 32, that hold no frames and may hold so many. Takes their room.
+    pub fn new(alloc: Global, channels: u8, depth: u32) -> Mem<MixCache>
+        requires some { 1 ≤ channels }
+        requires few { channels ≤ 32 }
+        ensures { IfOk result (λ c. c ≡ record { depth = depth; frames = 0; runs = replicate channels (record { depth = depth; sums = [] }) }) }
+    {
+        Ok(MixCache {
+            runs: empty_runs(alloc, channels, depth)?,
+            frames: 0,
+            depth: depth as usize,
+        })
+    }
+
+    /// Gives up the first so many frames. Takes no memory.
+    pub fn advance(&mut self, frames: u32)
+        requires { frames ≤ self.old.frames }
+        ensures depth { self.new.depth ≡ self.old.depth }
+        ensures frames { self.new.frames ≡ self.old.frames - frames }
+        ensures channels { length self.new.runs ≡ length self.old.runs }
+        ensures sums { (c k : ℕ) → c < length self.old.runs → kept_at self.new c k ≡ kept_at self.old c (frames + k) }
+    {
+        let frames = frames as usize;
+        advance_all(&mut self.runs, frames);
+        self.frames -= frames;
+    }
+
+    /// Holds frames of nothing behind those that it holds, so that there are so many. Takes no memory.
+    pub fn extend(&mut self, to: u32)
+        requires more { self.old.frames ≤ to }
+        requires fits { to ≤ self.old.depth }
+        ensures depth { self.new.depth ≡ self.old.depth }
+        ensures frames { self.new.frames ≡ to }
+        ensures channels { length self.new.runs ≡ length self.old.runs }
+        ensures sums { (c k : ℕ) → c < length self.old.runs → kept_at self.new c k ≡ kept_at self.old c k }
+        ensures nothing { (c k : ℕ) → c < length self.old.runs → self.old.frames ≤ k → kept_at self.new c k ≡ pos 0 }
+    {
+        extend_all(&mut self.runs, to as usize);
+        self.frames = to as usize;
+    }
+
+    /// Adds what values give to the frames from `at` on, each by the factor of its channel, or takes it away. The values stand channel by
+    /// channel, as many of each. Takes no memory.
+    pub fn change<T: Ledger>(
+        &mut self,
+        at: u32,
+        values: &[i32],
+        factors: &Factors,
+        add: bool,
+        steps: &mut Steps<T>,
+    )
+        requires whole { length values.now ≡ length self.old.runs * (length values.now / length self.old.runs) }
+        requires factors { length factors.now ≡ length self.old.runs }
+        requires inside { at + length values.now / length self.old.runs ≤ self.old.frames }
+        requires values { (c : ℕ) → c < length self.old.runs → AreValues add (run_at self.old.runs c).sums at (run_of (length values.now / length self.old.runs) values.now c) (slice_index factors.now c) }
+        ensures depth { self.new.depth ≡ self.old.depth }
+        ensures frames { self.new.frames ≡ self.old.frames }
+        ensures channels { length self.new.runs ≡ length self.old.runs }
+        ensures sums { (c k : ℕ) → c < length self.old.runs → k < self.old.frames → kept_at self.new c k ≡ changed add (kept_at self.old c k) (part_at at (length values.now / length self.old.runs) values.now factors.now c k) }
+        ensures ticks { steps.new ≡ steps.old + length values.now }
+    {
+        let len = values.len() / self.runs.len();
+        change_all(
+            &mut self.runs,
+            at as usize,
+            len,
+            values,
+            factors.values(),
+            add,
+            steps,
+        );
+    }
+
+    /// Puts so many frames from `at` on into `out`, as a device gets them: each sum clipped to the format's width, once, and packed. Takes no
+    /// memory.
+    pub fn frames<T: Ledger>(
+        &self,
+        at: u32,
+        len: u32,
+        format: Format,
+        out: &mut [u8],
+        steps: &mut Steps<T>,
+    )
+        requires linear { IsLinear format }
+        requires inside { at + len ≤ self.now.frames }
+        requires whole { length out.old ≡ len * (length self.now.runs * size_of format) }
+        ensures bytes { out.new ≡ concat (map (frame_of format self.now.runs) (range_with_len at len)) }
+        ensures ticks { steps.new ≡ steps.old + length self.now.runs * len }
+    {
+        show_frames(&self.runs, at as usize, len as usize, format, out, steps);
+    }
+}
