@@ -1,12 +1,14 @@
-//! What the scripts of bench/ time. Words: what to do (`sound`, `mix`, `frame`, `wire`, `session`, `core` or `volumes`), how often, and for
-//! `frame` the bytes of a piece, for `sound` and `mix` the code of a format; for `core` and `volumes` how many inputs there are, then how
-//! often, and how many clients listen to all that is told. `wire` reads a packet from standard input. It prints a line on what it did, so
-//! that no work is left out and a plain program can be compared. Without words each is done once.
+//! What the scripts of bench/ time. Words: what to do (`sound`, `mix`, `frame`, `wire`, `session`, `core`, `volumes` or `queue`), how often,
+//! and for `frame` the bytes of a piece, for `sound` and `mix` the code of a format; for `core` and `volumes` how many inputs there are, then
+//! how often, and how many clients listen to all that is told; for `queue` how many turns, the frames of a write, and how many wait. `wire`
+//! reads a packet from standard input. It prints a line on what it did, so that no work is left out and a plain program can be compared.
+//! Without words each is done once.
 #![tactic(auto)]
 
 mod data;
 mod frame;
 mod mix;
+mod queue;
 mod session;
 mod sound;
 mod volumes;
@@ -16,6 +18,7 @@ use data::core_line;
 use frame::frame_line;
 use mix::mix_line;
 use px_types::{Mem, NoMemory};
+use queue::queue_line;
 use session::session_line;
 use sound::sound_line;
 use std::alloc::Global;
@@ -34,9 +37,10 @@ enum Work {
     Session,
     Core,
     Volumes,
+    Queue,
 }
 
-const ALL: [Work; 7] = [
+const ALL: [Work; 8] = [
     Work::Sound,
     Work::Mix,
     Work::Frame,
@@ -44,6 +48,7 @@ const ALL: [Work; 7] = [
     Work::Session,
     Work::Core,
     Work::Volumes,
+    Work::Queue,
 ];
 
 fn work_of(word: &str) -> Option<Work> {
@@ -55,6 +60,7 @@ fn work_of(word: &str) -> Option<Work> {
         "session" => Some(Work::Session),
         "core" => Some(Work::Core),
         "volumes" => Some(Work::Volumes),
+        "queue" => Some(Work::Queue),
         _ => None,
     }
 }
@@ -71,6 +77,7 @@ fn line(alloc: Global, work: Work, counts: [Option<u32>; 3], packet: &[u8]) -> M
         Work::Session => session_line(alloc, first),
         Work::Core => core_line(alloc, first, second.unwrap_or(1), third.unwrap_or(0)),
         Work::Volumes => volumes_line(alloc, first, second.unwrap_or(1), third.unwrap_or(0)),
+        Work::Queue => queue_line(alloc, first, second.unwrap_or(480), third.unwrap_or(96_000)),
     }
 }
 
