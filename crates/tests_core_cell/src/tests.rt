@@ -1,5 +1,0 @@
-mod asking;
-mod recorder;
-mod scene;
-mod steps;
-mod threads;
