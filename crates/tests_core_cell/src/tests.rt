@@ -1,0 +1,5 @@
+mod asking;
+mod recorder;
+mod scene;
+mod steps;
+mod threads;

@@ -1,0 +1,113 @@
+ghost use Rattle.std.specs.Prelude.{◌≡◌, [], map, IfOk};
+ghost use Rattle.std.specs.Arc.{arc_value};
+ghost use Rattle.crossbeam_queue.specs.Passes.{IsPassOf};
+ghost use Rattle.px_session.specs.HeaderRules.{IsHeader};
+ghost use Rattle.px_core_cell.specs.Cell.{ends_of};
+ghost use Rattle.px_core_cell.specs.History.{Begins, fresh_ends};
+
+use px_core::Core;
+use px_core_cell::{CellCore, CoreEnd, CoreEnds};
+use px_ends::{Calls, MemSource};
+use px_mail::{Mailbox, PostPass, TakePass};
+use px_msg::{Msg, Notice};
+use px_session::{Header, Reader, SinkSpec, Step};
+use px_stream::Stream;
+use px_types::{Mem, NoMemory, SinkId, Text};
+use std::alloc::Global;
+use std::sync::{Arc, Wait};
+
+pub(crate) const OUT: SinkId = SinkId(0);
+
+// The other side of a sink's mailboxes.
+#[derive(Drop)]
+pub(crate) struct Mixer {
+    pub inbox: Arc<Mailbox<Msg<Stream>>>,
+    pub outbox: Arc<Mailbox<Notice<Stream>>>,
+    pub take: TakePass<Msg<Stream>>,
+    pub post: PostPass<Notice<Stream>>,
+    pub ghost takes: { IsPassOf (arc_value inbox).queue take.pass },
+    pub ghost posts: { IsPassOf (arc_value outbox).queue post.pass },
+}
+
+// A core before its first step, with its ends and the other sides of its sinks' mailboxes.
+#[derive(Drop)]
+pub(crate) struct Scene {
+    pub core: CellCore,
+    pub ends: CoreEnds,
+    pub mixers: Vec<Mixer>,
+}
+
+// A header of one sink `out`: S16LE, mono, 48,000 frames a second, guard 10, depth 100.
+fn header(alloc: Global) -> Mem<Text> {
+    let mut bytes = Vec::new(alloc);
+    bytes.extend_from_slice(b"PRS1")?;
+    bytes.extend_from_slice(&[0; 256])?;
+    bytes.extend_from_slice(b"\x01\x03out\x03\x01\0\0\xBB\x80\0\0\0\0\x0A\0\0\0\x64")?;
+    Ok(Text::from_vec(bytes))
+}
+
+// The two sides of a sink's mailboxes.
+fn sides(alloc: Global, sink: &SinkSpec) -> Mem<(CoreEnd, Mixer)>
+    ensures { IfOk result (λ made. ends_of made.0 ≡ fresh_ends sink.now) }
+{
+    let (inbox, post, take) = Mailbox::<Msg<Stream>>::new(alloc, sink.spec)?;
+    let (outbox, told, collect) = Mailbox::<Notice<Stream>>::new(alloc, ())?;
+    let inbox = Arc::new(alloc, inbox)?;
+    let outbox = Arc::new(alloc, outbox)?;
+    let their_inbox = Arc::try_clone(&inbox)?;
+    let their_outbox = Arc::try_clone(&outbox)?;
+    Ok((
+        CoreEnd::new(inbox, outbox, post, collect),
+        Mixer {
+            inbox: their_inbox,
+            outbox: their_outbox,
+            take,
+            post: told,
+        },
+    ))
+}
+
+fn all_sides(alloc: Global, sinks: &[SinkSpec]) -> Mem<(CoreEnds, Vec<Mixer>)>
+    ensures { IfOk result (λ made. map ends_of made.0.items ≡ map fresh_ends sinks.now) }
+{
+    let mut ends = Vec::new(alloc);
+    let mut mixers = Vec::new(alloc);
+    for sink in sinks {
+        let (end, mixer) = sides(alloc, sink)?;
+        ends.push(end)?;
+        mixers.push(mixer)?;
+    }
+    Ok((ends, mixers))
+}
+
+fn set_up(alloc: Global, header: &Header) -> Mem<Scene>
+    requires { IsHeader header.now }
+    ensures { IfOk result (λ scene. Begins scene.core.state (map ends_of scene.ends.items)) }
+{
+    let core = Core::new(alloc, header)?;
+    let (ends, mixers) = all_sides(alloc, header.sinks.as_slice())?;
+    Ok(Scene { core, ends, mixers })
+}
+
+pub(crate) fn new_scene(alloc: Global) -> Mem<Scene>
+    ensures { IfOk result (λ scene. Begins scene.core.state (map ends_of scene.ends.items)) }
+{
+    let mut source = MemSource::new(header(alloc)?, Calls::none(alloc));
+    let mut reader = Reader::new(alloc)?;
+    match reader.next(&mut source) {
+        Ok(Step::Header(header)) => set_up(alloc, &header),
+        _ => Err(NoMemory),
+    }
+}
+
+// The sink's next message.
+pub(crate) fn taken<R: Wait>(rt: &R, mixer: &mut Mixer) -> Option<Msg<Stream>> {
+    let Mixer { inbox, take, .. } = mixer;
+    inbox.take(rt, take)
+}
+
+// Whether there was room for a notice of the sink.
+pub(crate) fn told<R: Wait>(rt: &R, mixer: &mut Mixer, notice: Notice<Stream>) -> bool {
+    let Mixer { outbox, post, .. } = mixer;
+    outbox.post(rt, post, notice).is_ok()
+}
