@@ -78,6 +78,10 @@ where
     }
 }
 
+// How many turns a sink makes once the clients have gone: by the program's gate a tenth of a second, in which the frames that couldn't
+// change any more are played.
+const LAST_TURNS: u32 = 20;
+
 /// The work of one sink: its turns, and what they tell the core.
 #[derive(Drop)]
 pub(crate) struct SinkWork<
@@ -123,16 +127,23 @@ where
         turn_once(&rt, alloc, &mut self.cell, &mut self.met, blocks) && self.tell().is_ok()
     }
 
-    // All turns, until the clients have gone.
+    // All turns, until the clients have gone and what they left was played.
     fn run(&mut self)
         ensures { GoesOn D.now E.faults E.fulls (record { parts = self.old.worker.seat.parts; sink = self.old.sink; cell = self.old.cell; met = self.old.met }) (record { parts = self.new.worker.seat.parts; sink = self.new.sink; cell = self.new.cell; met = self.new.met }) }
     {
         let rt = self.worker.rt;
         let mut blocks = Fresh::new(self.worker.alloc);
+        let mut left = LAST_TURNS;
         for _ in rt.forever() {
             self.gate.before_turn(self.sink);
-            if !self.turn(&mut blocks) || self.worker.desk.over.load(Ordering::SeqCst) {
+            if !self.turn(&mut blocks) {
                 return;
+            }
+            if self.worker.desk.over.load(Ordering::SeqCst) {
+                if left == 0 {
+                    return;
+                }
+                left -= 1;
             }
         }
         unreachable!()
