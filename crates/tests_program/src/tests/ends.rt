@@ -1,8 +1,16 @@
-//! An input that gives one byte a read.
+//! An input that gives one byte a read, and what a run asks of its runtime.
 
 use px_ends::{Calls, Got, MemSource, Source};
 use px_types::{Mem, Text};
 use std::alloc::Global;
+use std::rt::Clock;
+use std::sync::Wait;
+use std::thread::Threads;
+
+/// A runtime that the whole program may have.
+pub trait Machine: AllocGlobal + Threads + Wait + Clock + Copy + Drop + Send + Sync + 'static {}
+
+impl<R: AllocGlobal + Threads + Wait + Clock + Copy + Drop + Send + Sync + 'static> Machine for R {}
 
 #[derive(Drop)]
 pub struct Drip {

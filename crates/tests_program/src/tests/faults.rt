@@ -1,4 +1,4 @@
-use super::ends::dripping;
+use super::ends::{Machine, dripping};
 use px_app::run;
 use px_ends::{Calls, MemSink, NoHost};
 use px_types::{Mem, Status};
@@ -32,7 +32,7 @@ fn words(alloc: Global) -> Mem<Vec<String>> {
 }
 
 // How a replay of the session ends.
-fn ended(rt: &HostRuntime, read: u64, output: &mut MemSink, log: &mut MemSink) -> Mem<Status> {
+fn ended<R: Machine>(rt: &R, read: u64, output: &mut MemSink, log: &mut MemSink) -> Mem<Status> {
     let alloc = rt.alloc();
     let words = words(alloc)?;
     let mut input = dripping(alloc, session(alloc)?, read)?;
@@ -41,8 +41,8 @@ fn ended(rt: &HostRuntime, read: u64, output: &mut MemSink, log: &mut MemSink) -
 
 // Whether it ends with this status, this much of the output and this line, where the read of a number fails, 0 for none, and the
 // output and the log have room for so many bytes.
-fn ends(
-    rt: &HostRuntime,
+fn ends<R: Machine>(
+    rt: &R,
     read: u64,
     room: [usize; 2],
     status: Status,
@@ -61,12 +61,12 @@ fn ends(
     )
 }
 
-fn is_played(rt: &HostRuntime) -> bool {
+fn is_played<R: Machine>(rt: &R) -> bool {
     matches!(ends(rt, 0, [45, 0], Status::Ok, 45, b""), Ok(true))
 }
 
 // A read fails in the header, between events, within the one that is answered, and before the end byte.
-fn reads_fail(rt: &HostRuntime) -> bool {
+fn reads_fail<R: Machine>(rt: &R) -> bool {
     let line = b"pulse_rw: read failed\n";
     [(1, 0), (281, 0), (400, 0), (590, 0), (591, 44)]
         .iter()
@@ -79,13 +79,13 @@ fn reads_fail(rt: &HostRuntime) -> bool {
 }
 
 // A read fails, and then the write of what waits: the first cause is told, and what was written stands.
-fn both_fail(rt: &HostRuntime) -> bool {
+fn both_fail<R: Machine>(rt: &R) -> bool {
     let line = b"pulse_rw: read failed\n";
     matches!(ends(rt, 591, [7, 99], Status::ReadFault, 7, line), Ok(true))
 }
 
 // A write fails after each number of bytes: they stand.
-fn writes_fail(rt: &HostRuntime) -> bool {
+fn writes_fail<R: Machine>(rt: &R) -> bool {
     let line = b"pulse_rw: write failed\n";
     (0..45).all(|length| {
         matches!(
@@ -96,7 +96,7 @@ fn writes_fail(rt: &HostRuntime) -> bool {
 }
 
 // The log fails within its line: a front of it stands, and the status tells of the log.
-fn log_fails(rt: &HostRuntime) -> bool {
+fn log_fails<R: Machine>(rt: &R) -> bool {
     matches!(
         ends(rt, 1, [45, 9], Status::WriteFault, 0, b"pulse_rw:"),
         Ok(true)
