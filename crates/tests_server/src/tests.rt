@@ -1,3 +1,2 @@
-mod gates;
 mod hosts;
 mod statuses;
