@@ -53,7 +53,7 @@ class Launching(unittest.TestCase):
         status, out, said, asked = self.run_it("replay", "two words")
         self.assertEqual((status, out), (0, "program of one, with low: replay two words\n"))
         self.assertEqual(asked, ["lib px_low", "run pulse_rw"])
-        self.assertIn("about 10 minutes", said)
+        self.assertIn("about half an hour", said)
         self.assertIn("crate 1 of 2, px_low", said)
         self.assertIn("crate 2 of 2, pulse_rw", said)
         self.assertEqual(self.run_it("replay"), (0, "program of one, with low: replay\n", "", []))
