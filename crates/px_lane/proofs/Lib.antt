@@ -19,3 +19,5 @@ pub mod Drains
 pub mod Sounding
 pub mod Staying
 pub mod Remixing
+pub mod Sharing
+pub mod Growing

@@ -11,3 +11,4 @@ pub mod Needed
 pub mod Lane
 pub mod Turned
 pub mod Unaltered
+pub mod Mixed

@@ -4,6 +4,7 @@
 //! `LaneFault`, and `MsgList` and `NoticeList`.
 #![tactic(auto)]
 
+mod adding;
 mod finding;
 mod input;
 mod inputs;
@@ -11,6 +12,7 @@ mod lane;
 mod lists;
 mod memory;
 mod mix;
+mod mixed;
 mod mixer;
 mod prepared;
 mod ready;

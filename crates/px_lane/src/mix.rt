@@ -138,8 +138,8 @@ fn add_stream(
     ensures bounds { (n : ℕ) → All (IsSumOf n) sums.old → All (IsSumOf (n + 1)) sums.new }
 {
     values.fill(0);
-    stream.frame_values(ahead, sink.format.width(), values);
-    add_values(values, count, stream.factors(), sums);
+    stream.give_values(ahead, sink.format.width(), values);
+    add_values(values, count, stream.factors().values(), sums);
 }
 
 // Adds to the sum of each sample its value, by the factor of its channel. The values stand channel by channel, the sums frame by frame.
