@@ -21,3 +21,4 @@ pub mod Staying
 pub mod Remixing
 pub mod Sharing
 pub mod Growing
+pub mod Mixable

@@ -8,7 +8,7 @@ use Rattle.px_msg.specs.View.{sample_spec}
 use Rattle.px_model.specs.Stream.{Stream}
 use Rattle.px_model.specs.Going.{after}
 use Rattle.px_model.specs.Control.{with_factors}
-use Rattle.px_model.specs.Sink.{Input as Stands, IsRising, stream_at, with_stream, with_change}
+use Rattle.px_model.specs.Sink.{Input as Stands, IsRising, stream_at, with_stream, with_change, with_input}
 use Rattle.px_kernel.specs.Kernel.{changed}
 use Rattle.px_mixcache.specs.Cache.{KeptSums, kept_at}
 use Rattle.px_sums.specs.Kept.{from_on, AddLittle, changed_there}
@@ -115,3 +115,15 @@ can_mix_factors channels factors i xs rising h = record {
   fed = fed_factors channels factors i xs h.fed;
   few = omega (arith, length_change i (λ s. with_factors s factors) xs, h.few);
 }
+
+-- a stream that has come is fed as the others are
+pub come_fed : (channels i : ℕ) (s : Stream) (xs : List Stands) → AreFed channels (with_input i s xs) → length s.feed ≡ channels
+come_fed channels i s [] h = h.0
+come_fed channels i s (x ∷ xs) h =
+    by_place (nat_lt i x.index) (x.index == i) (come_fed channels i s xs) h
+  where
+    by_place : (low here : Bool) → (AreFed channels (with_input i s xs) → length s.feed ≡ channels)
+        → AreFed channels (cond low (record { index = i; stream = s } ∷ (x ∷ xs)) (cond here (record { index = i; stream = s } ∷ xs) (x ∷ with_input i s xs))) → length s.feed ≡ channels
+    by_place true here rest f = f.0
+    by_place false true rest f = f.0
+    by_place false false rest f = rest f.1

@@ -17,6 +17,7 @@ mod mixer;
 mod prepared;
 mod ready;
 mod share;
+mod taking;
 
 pub use lane::{Lane, LaneFault, Turned};
 pub use lists::{MsgList, NoticeList};

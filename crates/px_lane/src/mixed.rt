@@ -1,6 +1,6 @@
 // The inputs of a sink with the kept sums of their mix.
-ghost use Rattle.std.specs.Prelude.{◌≡◌, ◌≤◌, ◌+◌, ◌-◌, ◌*◌, ◌++◌, [], length, map, flat_map, MatchOption, None, Some, IfOk};
-ghost use Rattle.std.specs.List.{AllByRecursion, concat, range_with_len};
+ghost use Rattle.std.specs.Prelude.{◌≡◌, ◌≤◌, ◌+◌, ◌-◌, ◌*◌, ◌++◌, [], length, map, flat_map, MatchOption, None, Some, IfOk, OnOk, OnErr};
+ghost use Rattle.std.specs.List.{AllByRecursion, concat, range_with_len, sum_by};
 ghost use Rattle.px_sample.specs.Format.{frame_size_of};
 ghost use Rattle.px_model.specs.Frame.{SampleSpec};
 ghost use Rattle.px_model.specs.Stream.{IsStream};
@@ -8,20 +8,22 @@ ghost use Rattle.px_model.specs.Going.{after};
 ghost use Rattle.px_model.specs.Sink.{Input as Stands, streams_of, stream_at, with_input, without_input, with_change, with_stream};
 ghost use Rattle.px_model.specs.Applied.{applied};
 ghost use Rattle.px_model.specs.Control.{with_factors};
-ghost use Rattle.px_model.specs.Message.{StreamMessage};
+ghost use Rattle.px_model.specs.Message.{Message, StreamMessage};
 ghost use Rattle.px_model.specs.Mix.{mix_of};
-ghost use Rattle.px_model.specs.Turn.{going_notices, asked_stream, asked_notices, with_each_factors};
+ghost use Rattle.px_model.specs.Turn.{going_notices, asked_stream, asked_notices, with_each_factors, message_notices, BringsStream};
 ghost use Rattle.px_msg.specs.View.{gains, sample_spec};
 ghost use Rattle.px_stream.specs.Samples.{samples};
 ghost use Rattle.px_stream.specs.Messages.{message_of, blocks_with};
 ghost use Rattle.px_lane.specs.Mixing.{IsMixed};
 ghost use Rattle.px_lane.specs.Mixed.{CanMix};
+ghost use Rattle.px_lane.specs.Needed.{needed, blocks_of, Opens};
 ghost use Rattle.px_lane.specs.Unaltered.{MixesSame};
 ghost use Rattle.px_lane.specs.Taking.{FactorsFit, SuitsAt, IsRoomy, overflows_at};
 
-use crate::NoticeList;
 use crate::adding::add_each;
 use crate::inputs::Inputs;
+use crate::prepared::Prepared;
+use crate::{MsgList, NoticeList};
 use px_block::BlockSource;
 use px_kernel::Steps;
 use px_msg::InputFactors;
@@ -57,6 +59,7 @@ impl Model for MixedInputs {
 }
 
 /// What a message led to: whether frames were written that aren't held, and how many frames past the horizon are mixed as before.
+#[derive(Clone, Copy, Debug, PartialEq, Eq)]
 pub(crate) struct Altered {
     pub refused: bool,
     pub unaltered: u64,
@@ -78,6 +81,50 @@ impl MixedInputs {
             spec,
             frames: 0,
         })
+    }
+
+    /// How many frames are mixed past the horizon.
+    pub(crate) fn frames(&self) -> u32
+        ensures { result ≡ self.now.frames }
+    {
+        self.frames
+    }
+
+    /// Tells where a stream stands, if it is there, as the answer to a tag, with so many frames in the sink's buffer.
+    pub(crate) fn answer(&self, input: InputId, tag: u32, buffered: u32, out: &mut NoticeList)
+        requires { length out.old.notices + length (message_notices self.now.frames buffered (Message.query input.0 tag) self.now.inputs) ≤ out.old.capacity }
+        ensures notices { out.new.notices ≡ out.old.notices ++ message_notices self.now.frames buffered (Message.query input.0 tag) self.now.inputs }
+        ensures capacity { out.new.capacity ≡ out.old.capacity }
+    {
+        self.inputs
+            .answer(input, tag, self.frames as u64, buffered, out);
+    }
+
+    /// Takes all the memory of a turn with these messages. The list is empty then. Without memory the inputs, the messages and the notices
+    /// stay what they are.
+    pub(crate) fn prepare(
+        &mut self,
+        alloc: Global,
+        messages: &mut MsgList,
+        out: &mut NoticeList,
+    ) -> Mem<Prepared>
+        requires { AllByRecursion Opens messages.old.messages }
+        ensures spec { self.new.spec ≡ self.old.spec }
+        ensures depth { self.new.depth ≡ self.old.depth }
+        ensures frames { self.new.frames ≡ self.old.frames }
+        ensures inputs { self.new.inputs ≡ self.old.inputs }
+        ensures notices { out.new.notices ≡ out.old.notices }
+        ensures messages { IfOk result (λ prepared. prepared.messages ≡ messages.old.messages) }
+        ensures parcels { AllByRecursion BringsStream messages.old.messages }
+        ensures room { IfOk result (λ prepared. (self.new.room ≡ length messages.old.messages) × (prepared.room ≡ length messages.old.messages)) }
+        ensures block_room { IfOk result (λ prepared. (self.new.block_room ≡ sum_by blocks_of messages.old.messages) × (prepared.block_room ≡ sum_by blocks_of messages.old.messages)) }
+        ensures capacity { OnOk result (length out.old.notices + needed self.old.inputs messages.old.messages ≤ out.new.capacity) }
+        ensures more { out.old.capacity ≤ out.new.capacity }
+        ensures list { IfOk result (λ prepared. prepared.capacity ≡ messages.old.capacity) }
+        ensures empty { OnOk result (messages.new.messages ≡ []) }
+        ensures err { OnErr result (messages.new ≡ messages.old) }
+    {
+        messages.prepare(alloc, &mut self.inputs, out)
     }
 
     /// All go so many frames of their sink forward, at most as many as are mixed. Of each it tells that it starts, and that it runs out.
