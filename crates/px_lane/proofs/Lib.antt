@@ -1,6 +1,4 @@
-pub mod Channels
 pub mod Runs
-pub mod Mixing
 pub mod Shares
 pub mod Summed
 pub mod Each

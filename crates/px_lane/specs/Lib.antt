@@ -1,5 +1,4 @@
 pub mod Room
-pub mod Sums
 pub mod Inputs
 pub mod Lists
 pub mod Whole

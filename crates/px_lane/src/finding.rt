@@ -23,7 +23,7 @@ use crate::NoticeList;
 use crate::input::Input;
 use px_block::BlockSource;
 use px_kernel::Steps;
-use px_msg::{InputFactors, Notice, Run};
+use px_msg::{Notice, Run};
 use px_sample::Spec;
 use px_share::KeptMix;
 use px_stream::{Applied, Stream, StreamMsg};
@@ -129,19 +129,6 @@ fn is_overflow(applied: Applied) -> bool
     ensures { result ≡ is_overflow applied }
 {
     matches!(applied, Applied::Overflow)
-}
-
-/// Replaces the factors of each of these inputs that is there.
-pub(crate) fn set_each<B: BlockSource>(inputs: &mut [Input], each: &[InputFactors], blocks: &mut B)
-    requires rising { IsRising (inputs_of inputs.old) }
-    requires fit { FactorsFit (map gains each.now) (inputs_of inputs.old) }
-    ensures inputs { inputs_of inputs.new ≡ with_each_factors (map gains each.now) (inputs_of inputs.old) }
-    ensures room { (room kept : ℕ) → AllByRecursion (HasRoom room kept) inputs.old → AllByRecursion (HasRoom room kept) inputs.new }
-{
-    for f in each {
-        let factors = StreamMsg::Factors { factors: f.factors };
-        change_at(inputs, f.input, factors, 0, blocks);
-    }
 }
 
 /// Puts an input at its place, or in the place of one with its index. There is room for it.

@@ -19,12 +19,12 @@ ghost use Rattle.px_lane.specs.Unaltered.{MixesSame};
 ghost use Rattle.px_lane.specs.Taking.{AreFed, FactorsFit, SuitsAt, IsRoomy, overflows_at};
 
 use crate::NoticeList;
-use crate::finding::{answer_at, change_at, close_at, open_at, set_each, share_at, unaltered_at};
+use crate::finding::{answer_at, change_at, close_at, open_at, share_at, unaltered_at};
 use crate::input::Input;
 use crate::memory::reserve_inputs;
 use px_block::BlockSource;
 use px_kernel::Steps;
-use px_msg::{InputFactors, Notice};
+use px_msg::Notice;
 use px_sample::Spec;
 use px_share::KeptMix;
 use px_stream::{Stream, StreamMsg};
@@ -168,16 +168,6 @@ impl Inputs {
         ensures ticks { steps.new ≤ steps.old + 2 * (sink.now.channels * (kept.old.frames - from)) }
     {
         share_at(self.items.as_slice(), input, sink, from, add, kept, steps);
-    }
-
-    /// Replaces the factors of each of these inputs that is there.
-    pub(crate) fn set_factors<B: BlockSource>(&mut self, each: &[InputFactors], blocks: &mut B)
-        requires { FactorsFit (map gains each.now) self.old.inputs }
-        ensures inputs { self.new.inputs ≡ with_each_factors (map gains each.now) self.old.inputs }
-        ensures room { self.new.room ≡ self.old.room }
-        ensures block_room { self.new.block_room ≡ self.old.block_room }
-    {
-        set_each(self.items.as_mut_slice(), each, blocks);
     }
 
     /// Replaces the factors of a stream, if it is there.
