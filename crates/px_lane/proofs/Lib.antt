@@ -1,6 +1,4 @@
-pub mod Channels
 pub mod Runs
-pub mod Mixing
 pub mod Shares
 pub mod Summed
 pub mod Each
@@ -19,3 +17,6 @@ pub mod Drains
 pub mod Sounding
 pub mod Staying
 pub mod Remixing
+pub mod Sharing
+pub mod Growing
+pub mod Mixable

@@ -54,7 +54,7 @@ still spec mixed xs = record {
 }
 
 -- the inputs that a message leaves are those after it
-leaves : (spec : SampleSpec) (mixed : ℕ) (m : Message Stream) (xs : List Stands) → inputs_left Stream.spec (specs_of xs) m ≡ specs_of (inputs_with mixed m xs)
+pub leaves : (spec : SampleSpec) (mixed : ℕ) (m : Message Stream) (xs : List Stands) → inputs_left Stream.spec (specs_of xs) m ≡ specs_of (inputs_with mixed m xs)
 leaves spec mixed m xs =
     turn_leaves s16_samples (still spec mixed xs) 0 (m ∷ [])
     ∙ same_specs (asked_stream (0 + 0 + 0 - next_horizon (still spec mixed xs) 0)) (λ s. refl)

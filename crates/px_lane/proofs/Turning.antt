@@ -58,7 +58,7 @@ remove_few inputs i few =
     subst (λ (n : ℕ). n ≤ 256) (sym (finite.len-remove nat_cmp_total inputs i))
     (cond_both (finite.contains_key inputs i) (finite.len inputs - 1) (finite.len inputs) (λ n. n ≤ 256) (λ e. omega (arith, few)) (λ e. few))
 
-message_few : (inputs : Inputs) (m : Message Stream) → NamesInput inputs m → finite.len inputs ≤ 256 → finite.len (inputs_left Stream.spec inputs m) ≤ 256
+pub message_few : (inputs : Inputs) (m : Message Stream) → NamesInput inputs m → finite.len inputs ≤ 256 → finite.len (inputs_left Stream.spec inputs m) ≤ 256
 message_few inputs (Message.new n) names few = insert_few inputs n.input n.spec names.room
 message_few inputs (Message.attach i parcel feed factors) names few = insert_few inputs i parcel.spec names.room
 message_few inputs (Message.detach i) names few = remove_few inputs i few

@@ -1,5 +1,4 @@
 pub mod Room
-pub mod Sums
 pub mod Inputs
 pub mod Lists
 pub mod Whole
@@ -11,3 +10,4 @@ pub mod Needed
 pub mod Lane
 pub mod Turned
 pub mod Unaltered
+pub mod Mixed

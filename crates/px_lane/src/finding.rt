@@ -1,5 +1,5 @@
 // Inputs of rising index with the one of an index changed, put in or left out.
-ghost use Rattle.std.specs.Prelude.{ℕ, ◌≡◌, ◌≤◌, ◌<◌, ◌+◌, ◌++◌, length, map, slice_index_or, vec_len, vec_capacity, IfOk, IfErr, MatchOption, None, Some};
+ghost use Rattle.std.specs.Prelude.{ℕ, ◌≡◌, ◌≤◌, ◌<◌, ◌+◌, ◌-◌, ◌*◌, ◌++◌, length, map, slice_index_or, vec_len, vec_capacity, IfOk, IfErr, MatchOption, None, Some};
 ghost use Rattle.std.specs.List.{AllByRecursion};
 ghost use Rattle.px_model.specs.Frame.{SampleSpec};
 ghost use Rattle.px_model.specs.Message.{Message};
@@ -8,8 +8,11 @@ ghost use Rattle.px_model.specs.Notice.{Notice as Told};
 ghost use Rattle.px_model.specs.Turn.{with_each_factors, message_notices, latency_of, is_playing};
 ghost use Rattle.px_msg.specs.View.{gains};
 ghost use Rattle.px_model.specs.Applied.{applied};
+ghost use Rattle.px_model.specs.Stream.{Stream as Plain};
+ghost use Rattle.px_share.specs.Keeping.{AreSmall, IsAsLarge, SharesThere, AreLittleThere};
+ghost use Rattle.px_stream.specs.Heard.{SoundsSame};
 ghost use Rattle.px_stream.specs.Messages.{message_of, room_for, blocks_with};
-ghost use Rattle.px_lane.specs.Taking.{FactorsFit, SuitsAt, is_overflow, overflows_at};
+ghost use Rattle.px_lane.specs.Taking.{AreFed, FactorsFit, SuitsAt, is_overflow, overflows_at};
 ghost use Rattle.px_lane.specs.Inputs.{inputs_of, HasRoom};
 ghost use Rattle.px_lane.specs.Lists.{plain_notice};
 ghost use Rattle.px_lane.specs.Unaltered.{MixesSame};
@@ -19,9 +22,13 @@ ghost use Rattle.px_lane.specs.declared.input.Input.{Input as DeclaredInput};
 use crate::NoticeList;
 use crate::input::Input;
 use px_block::BlockSource;
-use px_msg::{InputFactors, Notice, Run};
+use px_kernel::Steps;
+use px_msg::{Notice, Run};
+use px_sample::Spec;
+use px_share::KeptMix;
 use px_stream::{Applied, Stream, StreamMsg};
 use px_types::InputId;
+use std::sync::ledger::Ledger;
 
 // How many of the first indices lie below this one.
 fn place(inputs: &[Input], index: InputId) -> usize
@@ -83,7 +90,8 @@ pub(crate) fn change_at<B: BlockSource>(
 pub(crate) fn unaltered_at(inputs: &[Input], index: InputId, change: &StreamMsg) -> u64
     requires rising { IsRising (inputs_of inputs.now) }
     requires suits { SuitsAt (stream_at index.0 (inputs_of inputs.now)) (message_of change.now) }
-    ensures { (sink : SampleSpec) (mixed : ℕ) → MixesSame sink result (inputs_of inputs.now) (with_change index.0 (applied mixed (message_of change.now)) (inputs_of inputs.now)) }
+    ensures mixes { (sink : SampleSpec) (mixed : ℕ) → MixesSame sink result (inputs_of inputs.now) (with_change index.0 (applied mixed (message_of change.now)) (inputs_of inputs.now)) }
+    ensures sounds { (mixed k : ℕ) (s : Plain) → k < result → stream_at index.0 (inputs_of inputs.now) ≡ Some s → SoundsSame k s (applied mixed (message_of change.now) s) }
 {
     match find(inputs, index) {
         Err(_) => u64::MAX,
@@ -91,23 +99,36 @@ pub(crate) fn unaltered_at(inputs: &[Input], index: InputId, change: &StreamMsg)
     }
 }
 
+/// Adds the share of the stream of this index, if it is there, to kept sums from a frame on, or takes it away.
+pub(crate) fn share_at<T: Ledger>(
+    inputs: &[Input],
+    index: InputId,
+    sink: &Spec,
+    from: u32,
+    add: bool,
+    kept: &mut KeptMix,
+    steps: &mut Steps<T>,
+)
+    requires rising { IsRising (inputs_of inputs.now) }
+    requires fed { AreFed sink.now.channels (inputs_of inputs.now) }
+    requires channels { length kept.old.runs ≡ sink.now.channels }
+    requires from { from ≤ kept.old.frames }
+    requires room { AreSmall 258 kept.old }
+    ensures large { IsAsLarge kept.old kept.new }
+    ensures sums { SharesThere add sink.now (stream_at index.0 (inputs_of inputs.now)) from kept.old kept.new }
+    ensures little { AreLittleThere sink.now (stream_at index.0 (inputs_of inputs.now)) from kept.old.frames }
+    ensures ticks { steps.new ≤ steps.old + 2 * (sink.now.channels * (kept.old.frames - from)) }
+{
+    match find(inputs, index) {
+        Err(_) => {}
+        Ok(place) => kept.change(sink, &inputs[place].stream, from, add, steps),
+    }
+}
+
 fn is_overflow(applied: Applied) -> bool
     ensures { result ≡ is_overflow applied }
 {
     matches!(applied, Applied::Overflow)
-}
-
-/// Replaces the factors of each of these inputs that is there.
-pub(crate) fn set_each<B: BlockSource>(inputs: &mut [Input], each: &[InputFactors], blocks: &mut B)
-    requires rising { IsRising (inputs_of inputs.old) }
-    requires fit { FactorsFit (map gains each.now) (inputs_of inputs.old) }
-    ensures inputs { inputs_of inputs.new ≡ with_each_factors (map gains each.now) (inputs_of inputs.old) }
-    ensures room { (room kept : ℕ) → AllByRecursion (HasRoom room kept) inputs.old → AllByRecursion (HasRoom room kept) inputs.new }
-{
-    for f in each {
-        let factors = StreamMsg::Factors { factors: f.factors };
-        change_at(inputs, f.input, factors, 0, blocks);
-    }
 }
 
 /// Puts an input at its place, or in the place of one with its index. There is room for it.

@@ -1,29 +1,38 @@
 // The inputs of a sink.
-ghost use Rattle.std.specs.Prelude.{ℕ, ◌≡◌, ◌≤◌, ◌+◌, ◌-◌, ◌++◌, [], length, map, flat_map, MatchOption, None, Some, OnOk};
+ghost use Rattle.std.specs.Prelude.{ℕ, ◌≡◌, ◌≤◌, ◌<◌, ◌+◌, ◌-◌, ◌*◌, ◌++◌, [], length, map, flat_map, MatchOption, None, Some, OnOk};
 ghost use Rattle.std.specs.List.{AllByRecursion};
 ghost use Rattle.px_model.specs.Frame.{SampleSpec};
 ghost use Rattle.px_model.specs.Going.{after};
-ghost use Rattle.px_model.specs.Sink.{stream_at, with_input, without_input, with_change, with_stream};
-ghost use Rattle.px_model.specs.Message.{Message};
+ghost use Rattle.px_model.specs.Stream.{Stream as Plain};
+ghost use Rattle.px_model.specs.Sink.{IsRising, stream_at, with_input, without_input, with_change, with_stream};
+ghost use Rattle.px_model.specs.Control.{with_factors};
+ghost use Rattle.px_model.specs.Message.{Message, StreamMessage};
 ghost use Rattle.px_msg.specs.View.{gains};
 ghost use Rattle.px_model.specs.Applied.{applied};
 ghost use Rattle.px_model.specs.Turn.{going_notices, asked_stream, asked_notices, with_each_factors, message_notices};
+ghost use Rattle.px_share.specs.Keeping.{AreSmall, IsAsLarge, SharesThere, AreLittleThere};
+ghost use Rattle.px_stream.specs.Heard.{SoundsSame};
 ghost use Rattle.px_stream.specs.Messages.{message_of, blocks_with};
 ghost use Rattle.px_lane.specs.Inputs.{input_of, inputs_of, HasRoom};
 ghost use Rattle.px_lane.specs.Asked.{drained, drained_notices};
 ghost use Rattle.px_lane.specs.Unaltered.{MixesSame};
-ghost use Rattle.px_lane.specs.Taking.{FactorsFit, SuitsAt, IsRoomy, overflows_at};
+ghost use Rattle.px_lane.specs.Taking.{AreFed, FactorsFit, SuitsAt, IsRoomy, overflows_at};
 
 use crate::NoticeList;
-use crate::finding::{answer_at, change_at, close_at, open_at, set_each, unaltered_at};
+use crate::finding::{answer_at, change_at, close_at, open_at, share_at, unaltered_at};
 use crate::input::Input;
 use crate::memory::reserve_inputs;
 use px_block::BlockSource;
-use px_msg::{InputFactors, Notice};
+use px_kernel::Steps;
+use px_msg::Notice;
+use px_sample::Spec;
+use px_share::KeptMix;
 use px_stream::{Stream, StreamMsg};
 use px_types::{InputId, Mem, NoMemory};
+use px_vol::Factors;
 use std::alloc::Global;
 use std::marker::Model;
+use std::sync::ledger::Ledger;
 
 /// The inputs of a sink (PulseAudio: the inputs of `thread_info` in pulsecore/sink.h), in rising index, with room for messages to them.
 #[derive(Debug, Drop)]
@@ -132,19 +141,49 @@ impl Inputs {
     /// How many frames past the horizon are mixed as before once a message is applied to a stream, wherever the sink has mixed to.
     pub(crate) fn unaltered(&self, input: InputId, change: &StreamMsg) -> u64
         requires { SuitsAt (stream_at input.0 self.now.inputs) (message_of change.now) }
-        ensures { (sink : SampleSpec) (mixed : ℕ) → MixesSame sink result self.now.inputs (with_change input.0 (applied mixed (message_of change.now)) self.now.inputs) }
+        ensures mixes { (sink : SampleSpec) (mixed : ℕ) → MixesSame sink result self.now.inputs (with_change input.0 (applied mixed (message_of change.now)) self.now.inputs) }
+        ensures sounds { (mixed k : ℕ) (s : Plain) → k < result → stream_at input.0 self.now.inputs ≡ Some s → SoundsSame k s (applied mixed (message_of change.now) s) }
     {
         unaltered_at(self.items.as_slice(), input, change)
     }
 
-    /// Replaces the factors of each of these inputs that is there.
-    pub(crate) fn set_factors<B: BlockSource>(&mut self, each: &[InputFactors], blocks: &mut B)
-        requires { FactorsFit (map gains each.now) self.old.inputs }
-        ensures inputs { self.new.inputs ≡ with_each_factors (map gains each.now) self.old.inputs }
+    /// Adds the share of the stream of an input, if it is there, to kept sums from a frame on, or takes it away.
+    pub(crate) fn share<T: Ledger>(
+        &self,
+        input: InputId,
+        sink: &Spec,
+        from: u32,
+        add: bool,
+        kept: &mut KeptMix,
+        steps: &mut Steps<T>,
+    )
+        requires fed { AreFed sink.now.channels self.now.inputs }
+        requires channels { length kept.old.runs ≡ sink.now.channels }
+        requires from { from ≤ kept.old.frames }
+        requires room { AreSmall 258 kept.old }
+        ensures rising { IsRising self.now.inputs }
+        ensures large { IsAsLarge kept.old kept.new }
+        ensures sums { SharesThere add sink.now (stream_at input.0 self.now.inputs) from kept.old kept.new }
+        ensures little { AreLittleThere sink.now (stream_at input.0 self.now.inputs) from kept.old.frames }
+        ensures ticks { steps.new ≤ steps.old + 2 * (sink.now.channels * (kept.old.frames - from)) }
+    {
+        share_at(self.items.as_slice(), input, sink, from, add, kept, steps);
+    }
+
+    /// Replaces the factors of a stream, if it is there.
+    pub(crate) fn set_one<B: BlockSource>(
+        &mut self,
+        input: InputId,
+        factors: Factors,
+        blocks: &mut B,
+    )
+        requires { SuitsAt (stream_at input.0 self.old.inputs) (StreamMessage.factors factors) }
+        ensures inputs { self.new.inputs ≡ with_change input.0 (λ s. with_factors s factors) self.old.inputs }
         ensures room { self.new.room ≡ self.old.room }
         ensures block_room { self.new.block_room ≡ self.old.block_room }
     {
-        set_each(self.items.as_mut_slice(), each, blocks);
+        let change = StreamMsg::Factors { factors };
+        change_at(self.items.as_mut_slice(), input, change, 0, blocks);
     }
 
     /// Tells where a stream stands, if it is there, as the answer to a tag, with so many frames mixed past the horizon and so many in the

@@ -1,5 +1,5 @@
 // The mixer of one sink over a device.
-ghost use Rattle.std.specs.Prelude.{◌≡◌, ◌≤◌, ◌+◌, ◌-◌, ◌^◌, ◌++◌, [], length, IfOk, OnOk, OnErr, MatchResult, IsFalse};
+ghost use Rattle.std.specs.Prelude.{◌≡◌, ◌<◌, ◌≤◌, ◌+◌, ◌-◌, ◌^◌, ◌++◌, [], length, IfOk, OnOk, OnErr, MatchResult, IsFalse};
 ghost use Rattle.std.specs.Borrow.{Lends, sem};
 ghost use Rattle.std.specs.List.{sum_by};
 ghost use Rattle.px_msg.specs.View.{sample_spec};
@@ -19,10 +19,12 @@ use crate::prepared::Prepared;
 use crate::{MsgList, NoticeList};
 use px_block::BlockSource;
 use px_ends::{Device, DeviceFault};
+use px_kernel::Steps;
 use px_session::SinkSpec;
 use px_types::{Mem, NoMemory};
 use std::alloc::Global;
-use std::marker::Model;
+use std::marker::{Brand, Model};
+use std::sync::ledger::{Blank, Ledger};
 
 /// The most frames that may be filled before a turn: the last index of a stream, 2^60.
 const MOST_FILLED: u64 = 1 << 60;
@@ -135,7 +137,8 @@ impl<D: Device + Drop> Lane<D> {
         match self.mixer.prepare(alloc, messages, out) {
             Err(NoMemory) => Err(LaneFault::NoMemory),
             Ok(mut prepared) => {
-                let turned = run(
+                let turned = counted::<D, B, Brand>(
+                    Blank::new(1),
                     &mut self.mixer,
                     &mut self.device,
                     &mut self.faults,
@@ -150,14 +153,49 @@ impl<D: Device + Drop> Lane<D> {
     }
 }
 
-// A turn for which all memory was taken.
-fn run<D: Device, B: BlockSource>(
+// A turn for which all memory was taken, with a count of its steps.
+fn counted<D: Device, B: BlockSource, T: Ledger>(
+    blank: Blank,
     mixer: &mut SinkMixer,
     device: &mut D,
     faults: &mut u64,
     messages: &mut Prepared,
     out: &mut NoticeList,
     blocks: &mut B,
+) -> Turned
+    requires name { blank.name ≡ T.name }
+    requires parts { blank.parts ≡ T.parts }
+    requires some { 0 < T.parts }
+    requires lane { IsLane mixer.old.sink }
+    requires counted { HasCounted mixer.old.sink faults.old }
+    requires attached { IsFalse mixer.old.sink.stopped → IsAttached (D.now device.old) mixer.old.sink }
+    requires countable { mixer.old.sink.filled ≤ 2 ^ 60 }
+    requires messages { AreFor mixer.old.sink messages.old.messages }
+    requires room { length messages.old.messages ≤ mixer.old.room }
+    requires block_room { sum_by blocks_of messages.old.messages ≤ mixer.old.block_room }
+    requires comes { mixer.old.room ≤ messages.old.room }
+    requires blocks_come { mixer.old.block_room ≤ messages.old.block_room }
+    requires capacity { length out.old.notices + needed mixer.old.sink.inputs messages.old.messages ≤ out.old.capacity }
+    ensures turns { Turns D.now (record { sink = mixer.old.sink; device = device.old; faults = faults.old }) (record { sink = mixer.new.sink; device = device.new; faults = faults.new }) messages.old.messages out.old.notices out.new.notices result }
+    ensures lane { IsLane mixer.new.sink }
+    ensures counted { HasCounted mixer.new.sink faults.new }
+    ensures messages { messages.new.messages ≡ [] }
+    ensures list { messages.new.capacity ≡ messages.old.capacity }
+    ensures capacity { out.new.capacity ≡ out.old.capacity }
+{
+    let mut steps = Steps::<T>::new(blank);
+    run(mixer, device, faults, messages, out, blocks, &mut steps)
+}
+
+// A turn for which all memory was taken.
+fn run<D: Device, B: BlockSource, T: Ledger>(
+    mixer: &mut SinkMixer,
+    device: &mut D,
+    faults: &mut u64,
+    messages: &mut Prepared,
+    out: &mut NoticeList,
+    blocks: &mut B,
+    steps: &mut Steps<T>,
 ) -> Turned
     requires lane { IsLane mixer.old.sink }
     requires counted { HasCounted mixer.old.sink faults.old }
@@ -177,27 +215,28 @@ fn run<D: Device, B: BlockSource>(
     ensures capacity { out.new.capacity ≡ out.old.capacity }
 {
     if mixer.is_stopped() {
-        mixer.stop(messages, out, blocks);
+        mixer.stop(messages, out, blocks, steps);
         return Turned::Stopped { faults: *faults };
     }
     match device.sync() {
-        Ok(consumed) => play(mixer, device, consumed, messages, out, blocks),
+        Ok(consumed) => play(mixer, device, consumed, messages, out, blocks, steps),
         Err(DeviceFault) => {
             *faults = faults.saturating_add(1);
-            mixer.stop(messages, out, blocks);
+            mixer.stop(messages, out, blocks, steps);
             Turned::Stopped { faults: *faults }
         }
     }
 }
 
 // A turn after a sync that answered so many frames consumed.
-fn play<D: Device, B: BlockSource>(
+fn play<D: Device, B: BlockSource, T: Ledger>(
     mixer: &mut SinkMixer,
     device: &mut D,
     consumed: u64,
     messages: &mut Prepared,
     out: &mut NoticeList,
     blocks: &mut B,
+    steps: &mut Steps<T>,
 ) -> Turned
     requires lane { IsLane mixer.old.sink }
     requires forward { mixer.old.sink.consumed ≤ consumed }
@@ -224,7 +263,7 @@ fn play<D: Device, B: BlockSource>(
     ensures next { (D.now device.new).next ≡ (D.now device.old).next }
 {
     let frames = consumed - mixer.consumed();
-    mixer.play(frames, messages, out, blocks);
+    mixer.play(frames, messages, out, blocks, steps);
     device.put(mixer.horizon(), mixer.fresh());
     Turned::Played {
         consumed,

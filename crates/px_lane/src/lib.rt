@@ -1,20 +1,21 @@
 //! A sink's mixer over a device: its streams, their mix, and a turn. All the memory of a turn is taken before its first message
 //! (`MsgList::prepare`); from then on nothing can fail but the device. `lane` has the turn over a device, `mixer` the sink without it,
-//! `mix` the mix of frames, `inputs` the list of inputs, `lists` what a turn takes and gives. It exports `Lane` with `Turned` and
-//! `LaneFault`, and `MsgList` and `NoticeList`.
+//! `mixed` the inputs with the kept sums of their mix, `taking` the messages to them, `adding` the frames that come, `inputs` the list of
+//! inputs, `lists` what a turn takes and gives. It exports `Lane` with `Turned` and `LaneFault`, and `MsgList` and `NoticeList`.
 #![tactic(auto)]
 
+mod adding;
 mod finding;
 mod input;
 mod inputs;
 mod lane;
 mod lists;
 mod memory;
-mod mix;
+mod mixed;
 mod mixer;
 mod prepared;
 mod ready;
-mod share;
+mod taking;
 
 pub use lane::{Lane, LaneFault, Turned};
 pub use lists::{MsgList, NoticeList};

@@ -8,22 +8,24 @@ ghost use Rattle.px_model.specs.Mix.{mix_of};
 ghost use Rattle.px_model.specs.Turn.{next_horizon, settled, with_messages, notices_of_messages, remixed, asked, going_notices, asked_notices, AreFor, BringsStream, turned, turn_notices, stopped_turn, stopped_notices};
 ghost use Rattle.px_lane.specs.Mixing.{RoomySink, IsMixed, given_up};
 ghost use Rattle.px_stream.specs.Samples.{samples};
+ghost use Rattle.px_lane.specs.Mixed.{CanMixAll};
 ghost use Rattle.px_lane.specs.Taking.{CanTakeAll};
 ghost use Rattle.px_lane.specs.Lane.{IsLane};
 ghost use Rattle.px_lane.specs.Needed.{needed, blocks_of, Opens};
 ghost use Rattle.px_lane.specs.Whole.{AreFramesOf};
 ghost use Rattle.px_model.specs.Frame.{frame_size};
 
-use crate::inputs::Inputs;
-use crate::mix::mix_frames;
+use crate::mixed::MixedInputs;
 use crate::prepared::Prepared;
 use crate::{MsgList, NoticeList};
 use px_block::BlockSource;
+use px_kernel::Steps;
 use px_sample::Spec;
 use px_session::SinkSpec;
 use px_types::{Mem, NoMemory};
 use std::alloc::Global;
 use std::marker::Model;
+use std::sync::ledger::Ledger;
 
 /// What a sink mixes: its counts, its buffer and its inputs (PulseAudio: `thread_info` of pulsecore/sink.h). The buffer's bytes are
 /// kept here from the first frame that isn't consumed on, as many as the depth has room for.
@@ -39,11 +41,11 @@ pub(crate) struct SinkMixer {
     bytes: Vec<u8>,
     // how many frames past the horizon are the mix of the streams as they stand
     unaltered: u64,
-    inputs: Inputs,
+    inputs: MixedInputs,
 }
 
 impl Model for SinkMixer {
-    ghost use Rattle.std.specs.Prelude.{◌≡◌, ◌*◌, ◌≤◌, length};
+    ghost use Rattle.std.specs.Prelude.{◌≡◌, ◌-◌, ◌*◌, ◌≤◌, length};
     ghost use Rattle.px_sample.specs.Format.{frame_size_of};
     ghost use Rattle.px_lane.specs.Mixing.{RoomySink, IsMixed, Counts, AreInOrder, sink_of};
     ghost use Rattle.px_lane.specs.Unaltered.{IsUnaltered};
@@ -59,7 +61,8 @@ impl Model for SinkMixer {
     ghost invariant = { λ m. IsMixed m.spec
         × AreInOrder (record { guard = m.guard; depth = m.depth; consumed = m.consumed; filled = m.filled; horizon = m.horizon })
         × (length m.bytes.items ≡ m.depth * frame_size_of m.spec)
-        × IsUnaltered m.unaltered (sink_of m.spec (record { guard = m.guard; depth = m.depth; consumed = m.consumed; filled = m.filled; horizon = m.horizon }) m.stopped m.bytes.items m.inputs.inputs) };
+        × IsUnaltered m.unaltered (sink_of m.spec (record { guard = m.guard; depth = m.depth; consumed = m.consumed; filled = m.filled; horizon = m.horizon }) m.stopped m.bytes.items m.inputs.inputs)
+        × (m.inputs.spec ≡ m.spec) × (m.inputs.depth ≡ m.depth) × (m.inputs.frames ≡ m.filled - m.horizon) };
 }
 
 // So many bytes of zero.
@@ -79,30 +82,20 @@ fn move_to_front(bytes: &mut Vec<u8>, count: usize)
     bytes.copy_within(count.., 0);
 }
 
-// Mixes so many frames, the first of them so many ahead, in place of the last bytes, those from place `from` on.
-fn mix_behind(
-    sink: &Spec,
-    inputs: &Inputs,
-    ahead: u32,
-    frames: usize,
+// Puts the bytes of the frames that are mixed, from one on, in place of the last bytes, those from place `at` on.
+fn show_behind<T: Ledger>(
+    inputs: &MixedInputs,
+    from: u32,
     bytes: &mut Vec<u8>,
-    from: usize,
+    at: usize,
+    steps: &mut Steps<T>,
 )
-    requires mixed { IsMixed sink.now }
-    requires streams { AllByRecursion (λ x. IsStreamOf (sample_spec sink.now) (Stands.stream x)) inputs.now.inputs }
-    requires few { length inputs.now.inputs ≤ 256 }
-    requires near { ahead + frames < 2 ^ 32 }
-    requires size { length bytes.old.items ≡ from + frames * frame_size_of sink.now }
+    requires from { from ≤ inputs.now.frames }
+    requires size { length bytes.old.items ≡ at + (inputs.now.frames - from) * frame_size_of inputs.now.spec }
     ensures size { length bytes.new.items ≡ length bytes.old.items }
-    ensures bytes { bytes.new.items ≡ take from bytes.old.items ++ concat (map (mix_of samples (sample_spec sink.now) (streams_of inputs.now.inputs)) (range_with_len ahead frames)) }
+    ensures bytes { bytes.new.items ≡ take at bytes.old.items ++ concat (map (mix_of samples (sample_spec inputs.now.spec) (streams_of inputs.now.inputs)) (range_with_len from (inputs.now.frames - from))) }
 {
-    mix_frames(
-        sink,
-        inputs.as_slice(),
-        ahead,
-        frames,
-        &mut bytes.as_mut_slice()[from..],
-    );
+    inputs.show(from, &mut bytes.as_mut_slice()[at..], steps);
 }
 
 impl SinkMixer {
@@ -123,7 +116,7 @@ impl SinkMixer {
             stopped: false,
             bytes: zeros(alloc, sink.depth as usize * size)?,
             unaltered: 0,
-            inputs: Inputs::new(alloc),
+            inputs: MixedInputs::new(alloc, sink.spec, sink.depth)?,
         })
     }
 
@@ -176,7 +169,7 @@ impl SinkMixer {
         ensures empty { OnOk result (messages.new.messages ≡ []) }
         ensures err { OnErr result (messages.new ≡ messages.old) }
     {
-        messages.prepare(alloc, &mut self.inputs, out)
+        self.inputs.prepare(alloc, messages, out)
     }
 
     /// So many frames more are consumed, and all streams go forward to the new horizon.
@@ -207,17 +200,19 @@ impl SinkMixer {
     }
 
     /// Takes all messages in order, at the horizon, and tells what they have to tell. Takes no memory.
-    pub(crate) fn take_all<B: BlockSource>(
+    pub(crate) fn take_all<T: Ledger, B: BlockSource>(
         &mut self,
         messages: &mut Prepared,
         out: &mut NoticeList,
         blocks: &mut B,
+        steps: &mut Steps<T>,
     )
         requires room { length messages.old.messages ≤ self.old.room }
         requires block_room { sum_by blocks_of messages.old.messages ≤ self.old.block_room }
         requires comes { self.old.room ≤ messages.old.room }
         requires blocks_come { self.old.block_room ≤ messages.old.block_room }
         requires suits { CanTakeAll (self.old.sink.filled - self.old.sink.horizon) messages.old.messages self.old.sink.inputs }
+        requires mixes { CanMixAll self.old.sink.spec.channels (self.old.sink.filled - self.old.sink.horizon) messages.old.messages self.old.sink.inputs }
         requires capacity { length out.old.notices + length (notices_of_messages self.old.sink messages.old.messages) ≤ out.old.capacity }
         ensures value { self.new.sink ≡ with_messages self.old.sink messages.old.messages }
         ensures notices { out.new.notices ≡ out.old.notices ++ notices_of_messages self.old.sink messages.old.messages }
@@ -225,9 +220,8 @@ impl SinkMixer {
         ensures messages { messages.new.messages ≡ [] }
         ensures list { messages.new.capacity ≡ messages.old.capacity }
     {
-        let mixed = self.filled - self.horizon;
         let buffered = (self.filled - self.consumed) as u32;
-        let same = self.inputs.take_all(messages, mixed, buffered, out, blocks);
+        let same = self.inputs.take_all(messages, buffered, out, blocks, steps);
         self.unaltered = self.unaltered.min(same);
     }
 
@@ -238,13 +232,14 @@ impl SinkMixer {
         ensures room { self.new.room ≡ self.old.room }
         ensures block_room { self.new.block_room ≡ self.old.block_room }
     {
+        self.inputs.give_up();
         self.filled = self.horizon;
         self.unaltered = 0;
         self.stopped = true;
     }
 
     /// Has all frames from the horizon on mixed afresh, up to the depth: those that are altered, and those that are new.
-    pub(crate) fn remix(&mut self)
+    pub(crate) fn remix<T: Ledger>(&mut self, steps: &mut Steps<T>)
         requires streams { AllByRecursion (λ x. IsStreamOf self.old.sink.spec (Stands.stream x)) self.old.sink.inputs }
         requires few { length self.old.sink.inputs ≤ 256 }
         requires countable { self.old.sink.consumed + self.old.sink.depth ≤ 2 ^ 61 }
@@ -254,16 +249,14 @@ impl SinkMixer {
         ensures block_room { self.new.block_room ≡ self.old.block_room }
     {
         let below = self.horizon - self.consumed;
-        let kept = below + self.unaltered;
-        let frames = self.depth as u64 - kept;
-        let from = kept as usize * self.spec.frame_size();
-        mix_behind(
-            &self.spec,
+        let at = (below + self.unaltered) as usize * self.spec.frame_size();
+        self.inputs.mix((self.depth as u64 - below) as u32, steps);
+        show_behind(
             &self.inputs,
             self.unaltered as u32,
-            frames as usize,
             &mut self.bytes,
-            from,
+            at,
+            steps,
         );
         self.unaltered = self.depth as u64 - below;
         self.filled = self.consumed + self.depth as u64;
@@ -293,12 +286,13 @@ impl SinkMixer {
     /// A turn whose sync consumed so many frames: these leave the buffer and the streams go forward, the messages are taken, all frames
     /// from the horizon on are mixed afresh, and the streams ask for more. Takes no memory. (PulseAudio: `pa_sink_render` and
     /// `pa_sink_process_rewind` of pulsecore/sink.c.)
-    pub(crate) fn play<B: BlockSource>(
+    pub(crate) fn play<T: Ledger, B: BlockSource>(
         &mut self,
         frames: u64,
         messages: &mut Prepared,
         out: &mut NoticeList,
         blocks: &mut B,
+        steps: &mut Steps<T>,
     )
         requires lane { IsLane self.old.sink }
         requires there { frames ≤ self.old.sink.filled - self.old.sink.consumed }
@@ -317,18 +311,19 @@ impl SinkMixer {
         ensures list { messages.new.capacity ≡ messages.old.capacity }
     {
         self.settle(frames, out, blocks);
-        self.take_all(messages, out, blocks);
-        self.remix();
+        self.take_all(messages, out, blocks, steps);
+        self.remix(steps);
         self.ask(out);
     }
 
     /// A turn whose sync failed, and each after it: the streams go forward to the horizon, all past it is given up, the messages are
     /// taken, and the streams ask for more. Takes no memory. (Own: a PulseAudio sink is unlinked.)
-    pub(crate) fn stop<B: BlockSource>(
+    pub(crate) fn stop<T: Ledger, B: BlockSource>(
         &mut self,
         messages: &mut Prepared,
         out: &mut NoticeList,
         blocks: &mut B,
+        steps: &mut Steps<T>,
     )
         requires lane { IsLane self.old.sink }
         requires messages { AreFor self.old.sink messages.old.messages }
@@ -346,7 +341,7 @@ impl SinkMixer {
     {
         self.settle(0, out, blocks);
         self.give_up();
-        self.take_all(messages, out, blocks);
+        self.take_all(messages, out, blocks, steps);
         self.ask(out);
     }
 }

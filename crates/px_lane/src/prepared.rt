@@ -13,10 +13,7 @@ ghost use Rattle.px_lane.specs.Needed.{blocks_of};
 ghost use Rattle.px_lane.specs.Unaltered.{MixesSame};
 ghost use Rattle.px_lane.specs.Taking.{CanTake, CanTakeAll, streams_of, IsRoomy, BringsRoom, HasRoomLeft, IsReadyFor};
 
-use crate::NoticeList;
-use crate::inputs::Inputs;
 use crate::ready::Ready;
-use px_block::BlockSource;
 use px_msg::Msg;
 use px_stream::{Stream, StreamMsg};
 use std::collections::VecDeque;
@@ -161,38 +158,5 @@ fn ready(message: Msg<Stream>, streams: &mut VecDeque<Stream>) -> Ready
         },
         Msg::Factors(list) => Ready::Each(list),
         Msg::Query { input, tag } => Ready::Answer { input, tag },
-    }
-}
-
-impl Inputs {
-    /// Takes all messages in order, where so many frames are mixed past the horizon and so many are in the sink's buffer, and tells what
-    /// they have to tell. Answers how many frames past the horizon are mixed as before. Takes no memory.
-    pub(crate) fn take_all<B: BlockSource>(
-        &mut self,
-        messages: &mut Prepared,
-        mixed: u64,
-        buffered: u32,
-        out: &mut NoticeList,
-        blocks: &mut B,
-    ) -> u64
-        requires room { length messages.old.messages ≤ self.old.room }
-        requires block_room { sum_by blocks_of messages.old.messages ≤ self.old.block_room }
-        requires comes { self.old.room ≤ messages.old.room }
-        requires blocks_come { self.old.block_room ≤ messages.old.block_room }
-        requires suits { CanTakeAll mixed messages.old.messages self.old.inputs }
-        requires capacity { length out.old.notices + length (all_message_notices mixed buffered messages.old.messages self.old.inputs) ≤ out.old.capacity }
-        ensures inputs { self.new.inputs ≡ inputs_with_all mixed messages.old.messages self.old.inputs }
-        ensures notices { out.new.notices ≡ out.old.notices ++ all_message_notices mixed buffered messages.old.messages self.old.inputs }
-        ensures capacity { out.new.capacity ≡ out.old.capacity }
-        ensures messages { messages.new.messages ≡ [] }
-        ensures list { messages.new.capacity ≡ messages.old.capacity }
-        ensures unaltered { (sink : SampleSpec) → MixesSame sink result self.old.inputs self.new.inputs }
-    {
-        let mut unaltered = u64::MAX;
-        while let Some(message) = messages.next() {
-            let same = self.take(message, mixed, buffered, out, blocks);
-            unaltered = unaltered.min(same);
-        }
-        unaltered
     }
 }

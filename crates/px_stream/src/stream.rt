@@ -269,10 +269,11 @@ impl Stream {
     }
 
     /// For each channel of the sink the factor of the stream there, in 65536ths.
-    pub fn factors(&self) -> &[u32]
-        ensures { result.now ≡ self.now.stream.factors }
+    pub fn factors(&self) -> &Factors
+        ensures value { result.now ≡ self.now.stream.factors }
+        ensures places { length self.now.stream.factors ≡ length self.now.stream.feed }
     {
-        self.factors.values()
+        &self.factors
     }
 }
 

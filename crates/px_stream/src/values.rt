@@ -8,8 +8,10 @@ ghost use Rattle.px_model.specs.Stream.{frame_at};
 ghost use Rattle.px_stream.specs.Values.{GivesValues, value_at};
 
 use crate::Stream;
+use px_kernel::Steps;
 use px_queue::Span;
 use px_sample::{Format, Spec, Width, to_work, unpack};
+use std::sync::ledger::Ledger;
 
 /// The most samples that are read at once, and the most bytes of them.
 const MOST_SAMPLES: usize = 256;
@@ -19,8 +21,26 @@ const MOST_BYTES: usize = 1024;
 impl Stream {
     /// Gives the work values of the frames from `from` frames past the read index on, at a width: `out` has one run for each channel of
     /// the sink, all of one length, and the frames fill a front of each run, from the stream's channel that feeds it. Silence is 0.
-    /// Answers how many frames it gave. Takes no memory.
-    pub fn frame_values(&self, from: u32, width: Width, out: &mut [i32]) -> u32
+    /// Answers how many frames it gave, and counts a step for each of them in each run. Takes no memory.
+    pub fn frame_values<T: Ledger>(
+        &self,
+        from: u32,
+        width: Width,
+        out: &mut [i32],
+        steps: &mut Steps<T>,
+    ) -> u32
+        requires { (n : ℕ) × (length out.old ≡ n * length self.now.stream.feed) }
+        ensures values { (n : ℕ) → length out.old ≡ n * length self.now.stream.feed → GivesValues width self.now.stream from n result out.old out.new }
+        ensures words { All (FitsSigned w32) out.old → All (FitsSigned w32) out.new }
+        ensures ticks { steps.new ≡ steps.old + length self.now.stream.feed * result }
+    {
+        let given = self.give_values(from, width, out);
+        steps.tick(self.feed.channels().len() as u64 * given as u64);
+        given
+    }
+
+    /// The same without the count, for a mix that promises no bound on its steps. Takes no memory.
+    pub fn give_values(&self, from: u32, width: Width, out: &mut [i32]) -> u32
         requires { (n : ℕ) × (length out.old ≡ n * length self.now.stream.feed) }
         ensures values { (n : ℕ) → length out.old ≡ n * length self.now.stream.feed → GivesValues width self.now.stream from n result out.old out.new }
         ensures words { All (FitsSigned w32) out.old → All (FitsSigned w32) out.new }

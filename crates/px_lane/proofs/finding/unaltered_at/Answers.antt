@@ -1,4 +1,6 @@
-use Rattle.std.proofs.Common.{◌≡◌, List, Option, ap, sym, ◌∙◌, subst, Some}
+use Rattle.std.proofs.Common.{◌≡◌, List, Option, ap, sym, ◌∙◌, subst, Some, None}
+use Rattle.std.specs.Prelude.{is_some}
+use Rattle.std.proofs.lemmas.Bool.{false≢true}
 use Rattle.std.proofs.lemmas.Option.{same_Some}
 use Rattle.std.specs.Prelude.{slice_index_or}
 use Rattle.px_model.specs.Mix.{mix_of}
@@ -10,7 +12,7 @@ use Rattle.px_stream.specs.Heard.{SoundsSame}
 use Rattle.px_stream.specs.Messages.{message_of}
 use Rattle.px_lane.specs.Taking.{SuitsAt}
 use Rattle.px_lane.specs.Inputs.{inputs_of}
-use Rattle.px_lane.proofs.Places.{at_stream, gap_change}
+use Rattle.px_lane.proofs.Places.{at_stream, gap_stream, gap_change}
 use Rattle.px_lane.proofs.Sounding.{mix_same, change_sounds}
 use Rattle.px_lane.proofs.finding.unaltered_at.Goals as goal
 
@@ -20,12 +22,16 @@ unaltered-requires c =
     (at_stream c.args.index.0 c.in-Ok.place c.args.inputs.now c.index-inputs-place.result c.in-Ok.ensures.ok)
     c.requires.suits
 
-pub returns-in-Err : goal.returns-in-Err
-returns-in-Err c = λ sink mixed k l.
+pub returns-in-Err-clause-mixes : goal.returns-in-Err-clause-mixes
+returns-in-Err-clause-mixes c = λ sink mixed k l.
     ap (λ (xs : List Stands). mix_of samples sink (streams_of xs) k) (sym (gap_change c.args.index.0 (applied mixed (message_of c.args.change.now)) c.in-Err.field-0 c.args.inputs.now c.in-Err.ensures.err))
 
-pub returns-in-Ok : goal.returns-in-Ok
-returns-in-Ok c = λ sink mixed k l.
+pub returns-in-Err-clause-sounds : goal.returns-in-Err-clause-sounds
+returns-in-Err-clause-sounds c = λ mixed k s l at.
+    absurd (false≢true (ap is_some (sym (gap_stream c.args.index.0 c.in-Err.field-0 c.args.inputs.now c.in-Err.ensures.err) ∙ at)))
+
+pub returns-in-Ok-clause-mixes : goal.returns-in-Ok-clause-mixes
+returns-in-Ok-clause-mixes c = λ sink mixed k l.
     let inputs : List Stands = inputs_of c.args.inputs.now in
     let s : Stream = (slice_index_or c.args.inputs.now c.in-Ok.place c.index-inputs-place.result).stream.stream in
     mix_same sink k inputs (with_change c.args.index.0 (applied mixed (message_of c.args.change.now)) inputs)
@@ -34,3 +40,10 @@ returns-in-Ok c = λ sink mixed k l.
     subst (λ (u : Stream). SoundsSame k u (applied mixed (message_of c.args.change.now) u))
     (same_Some s t (sym (at_stream c.args.index.0 c.in-Ok.place c.args.inputs.now c.index-inputs-place.result c.in-Ok.ensures.ok) ∙ at))
     (c.unaltered.ensures mixed k l)))
+
+pub returns-in-Ok-clause-sounds : goal.returns-in-Ok-clause-sounds
+returns-in-Ok-clause-sounds c = λ mixed k t l at.
+    let s : Stream = (slice_index_or c.args.inputs.now c.in-Ok.place c.index-inputs-place.result).stream.stream in
+    subst (λ (u : Stream). SoundsSame k u (applied mixed (message_of c.args.change.now) u))
+    (same_Some s t (sym (at_stream c.args.index.0 c.in-Ok.place c.args.inputs.now c.index-inputs-place.result c.in-Ok.ensures.ok) ∙ at))
+    (c.unaltered.ensures mixed k l)

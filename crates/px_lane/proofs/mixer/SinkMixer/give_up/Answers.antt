@@ -1,7 +1,7 @@
-use Rattle.std.proofs.Common.{◌≡◌, ℕ, ◌+◌, ◌-◌, List, take, ap, sym, ◌∙◌, arith}
+use Rattle.std.proofs.Common.{◌≡◌, ℕ, ◌+◌, ◌-◌, List, take, true, ap, sym, ◌∙◌, arith}
 use Rattle.px_sample.specs.Format.{frame_size_of}
 use Rattle.px_model.specs.Frame.{Frame, frames_of}
-use Rattle.px_model.specs.Sink.{Sink}
+use Rattle.px_model.specs.Sink.{Sink, Input}
 use Rattle.px_lane.specs.Mixing.{RoomySink, sink_of, given_up}
 use Rattle.px_lane.proofs.Buffers.{frames_kept}
 use Rattle.px_lane.proofs.Shares.{frames_sized}
@@ -15,7 +15,8 @@ returns-clause-value c =
     let kept = d.horizon - d.consumed in
     let all : kept + (d.filled - d.horizon) ≡ d.filled - d.consumed = omega (arith, h.consumed_first, h.horizon_first) in
     let before : Sink = sink_of d.spec (record { guard = d.guard; depth = d.depth; consumed = d.consumed; filled = d.filled; horizon = d.horizon }) d.stopped d.bytes.items d.inputs.inputs in
-    ap (λ (frames : List Frame). let s : Sink = record (given_up before) { buffer = frames } in s)
+    ap (λ (xs : List Input). sink_of d.spec (record { guard = d.guard; depth = d.depth; consumed = d.consumed; filled = d.horizon; horizon = d.horizon }) true d.bytes.items xs) c.give_up.ensures.inputs
+    ∙ ap (λ (frames : List Frame). let s : Sink = record (given_up before) { buffer = frames } in s)
     (sym (frames_kept (frame_size_of d.spec) (d.horizon - d.consumed) (d.filled - d.horizon) d.bytes.items)
     ∙ ap (λ (n : ℕ). take (d.horizon - d.consumed) (frames_of (frame_size_of d.spec) n d.bytes.items)) all)
     ∙ ap (λ (m : RoomySink). given_up m.sink) c.self.view_is

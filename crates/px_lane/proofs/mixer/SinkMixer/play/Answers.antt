@@ -7,6 +7,8 @@ use Rattle.px_stream.specs.Samples.{samples}
 use Rattle.px_lane.specs.Taking.{CanTakeAll}
 use Rattle.px_lane.specs.Whole.{AreFramesOf}
 use Rattle.px_lane.specs.Lane.{IsLane}
+use Rattle.px_lane.specs.Mixed.{CanMixAll}
+use Rattle.px_lane.proofs.Mixable.{orderly_mixes}
 use Rattle.px_lane.proofs.Orders.{orderly_taken}
 use Rattle.px_lane.proofs.Turning.{told_suit, told_few, turned_lane}
 use Rattle.px_lane.proofs.mixer.SinkMixer.play.Goals as goal
@@ -16,6 +18,12 @@ take_all-requires-clause-suits g c =
     let sink = c.args.self.now.sink in
     subst (λ (s : Sink). CanTakeAll (s.filled - s.horizon) c.args.messages.now.messages s.inputs) (sym c.settle.ensures.value)
     (orderly_taken sink.spec (next_horizon sink c.args.frames - sink.horizon) (sink.filled - next_horizon sink c.args.frames) c.args.messages.now.messages sink.inputs c.requires.lane.kept.rising c.requires.lane.kept.streams c.requires.messages.orderly)
+
+pub take_all-requires-clause-mixes : goal.take_all-requires-clause-mixes
+take_all-requires-clause-mixes g c =
+    let sink = c.args.self.now.sink in
+    subst (λ (s : Sink). CanMixAll s.spec.channels (s.filled - s.horizon) c.args.messages.now.messages s.inputs) (sym c.settle.ensures.value)
+    (orderly_mixes sink.spec (next_horizon sink c.args.frames - sink.horizon) (sink.filled - next_horizon sink c.args.frames) c.args.messages.now.messages sink.inputs c.requires.lane.kept.rising c.requires.lane.kept.streams c.requires.lane.few c.requires.messages.orderly)
 
 pub remix-requires-clause-streams : goal.remix-requires-clause-streams
 remix-requires-clause-streams g c =

@@ -9,8 +9,22 @@ use Rattle.px_model.specs.Turn.{settled, next_horizon}
 use Rattle.px_lane.specs.Mixing.{RoomySink, sink_of}
 use Rattle.px_lane.specs.Unaltered.{IsUnaltered}
 use Rattle.px_lane.proofs.Buffers.{frames_moved, same_parts}
+use Rattle.px_msg.specs.View.{sample_spec}
+use Rattle.px_lane.proofs.Mixable.{streams_are}
 use Rattle.px_lane.proofs.Staying.{settled_stays}
 use Rattle.px_lane.proofs.mixer.SinkMixer.settle.Goals as goal
+
+pub go-requires-clause-there : goal.go-requires-clause-there
+go-requires-clause-there g c =
+    let d = c.self.inside in
+    let h = c.self.invariant.1 in
+    omega (arith, c.self.invariant.6, c.min-horizon.ensures)
+
+pub go-requires-clause-streams : goal.go-requires-clause-streams
+go-requires-clause-streams g c =
+    let d = c.self.inside in
+    let streams = subst (λ (m : RoomySink). AllByRecursion (λ x. IsStreamOf m.sink.spec (Input.stream x)) m.sink.inputs) (sym c.self.view_is) c.requires.streams in
+    streams_are (sample_spec d.spec) d.inputs.inputs streams
 
 pub invariant_of-self : goal.invariant_of-self
 invariant_of-self g c =
@@ -44,6 +58,9 @@ invariant_of-self g c =
           (c.go.ensures.inputs ∙ ap (λ (to : ℕ). map (with_stream (λ s. after s (to - d.horizon))) d.inputs.inputs) c.min-horizon.ensures)))
           (subst (λ (m : ℕ). IsUnaltered m (settled before n)) (sym left)
           (settled_stays before d.unaltered n h.consumed_first h.horizon_first h.horizon_near there streams c.self.invariant.3)),
+      c.go.ensures.spec ∙ c.self.invariant.4,
+      c.go.ensures.depth ∙ c.self.invariant.5,
+      omega (arith, c.go.ensures.frames, c.self.invariant.6, c.min-horizon.ensures, h.consumed_first, h.horizon_first, h.horizon_near, there),
     )
 
 pub returns-clause-value : goal.returns-clause-value

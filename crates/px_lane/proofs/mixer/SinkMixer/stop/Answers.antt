@@ -6,6 +6,8 @@ use Rattle.px_lane.specs.Taking.{CanTakeAll}
 use Rattle.px_lane.specs.Mixing.{given_up}
 use Rattle.px_lane.specs.Whole.{AreFramesOf}
 use Rattle.px_lane.specs.Lane.{IsLane}
+use Rattle.px_lane.specs.Mixed.{CanMixAll}
+use Rattle.px_lane.proofs.Mixable.{orderly_mixes}
 use Rattle.px_lane.proofs.Orders.{orderly_taken}
 use Rattle.px_lane.proofs.Turning.{stopped_lane, halted_is}
 use Rattle.px_lane.proofs.mixer.SinkMixer.stop.Goals as goal
@@ -15,6 +17,12 @@ take_all-requires-clause-suits g c =
     let sink = c.args.self.now.sink in
     subst (λ (s : Sink). CanTakeAll (s.filled - s.horizon) c.args.messages.now.messages s.inputs) (sym (c.give_up.ensures.value ∙ ap given_up c.settle.ensures.value))
     (orderly_taken sink.spec (next_horizon sink 0 - sink.horizon) (next_horizon sink 0 - next_horizon sink 0) c.args.messages.now.messages sink.inputs c.requires.lane.kept.rising c.requires.lane.kept.streams c.requires.messages.orderly)
+
+pub take_all-requires-clause-mixes : goal.take_all-requires-clause-mixes
+take_all-requires-clause-mixes g c =
+    let sink = c.args.self.now.sink in
+    subst (λ (s : Sink). CanMixAll s.spec.channels (s.filled - s.horizon) c.args.messages.now.messages s.inputs) (sym (c.give_up.ensures.value ∙ ap given_up c.settle.ensures.value))
+    (orderly_mixes sink.spec (next_horizon sink 0 - sink.horizon) (next_horizon sink 0 - next_horizon sink 0) c.args.messages.now.messages sink.inputs c.requires.lane.kept.rising c.requires.lane.kept.streams c.requires.lane.few c.requires.messages.orderly)
 
 pub returns-clause-lane : goal.returns-clause-lane
 returns-clause-lane g c =

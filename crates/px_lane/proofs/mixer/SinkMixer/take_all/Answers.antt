@@ -1,4 +1,4 @@
-use Rattle.std.proofs.Common.{arith}
+use Rattle.std.proofs.Common.{◌∙◌, arith}
 use Rattle.px_msg.specs.View.{sample_spec}
 use Rattle.px_model.specs.Sink.{Sink}
 use Rattle.px_lane.specs.Mixing.{sink_of}
@@ -14,4 +14,7 @@ invariant_of-self g c =
       c.self.invariant.2,
       told_stays before d.unaltered c.take_all-same.result c.min-self-inside.result c.take_all-same.new.self.inputs c.self.invariant.3 (c.take_all-same.ensures.unaltered (sample_spec d.spec))
           (omega (arith, c.min-self-inside.ensures)) (omega (arith, c.min-self-inside.ensures)),
+      c.take_all-same.ensures.spec ∙ c.self.invariant.4,
+      c.take_all-same.ensures.depth ∙ c.self.invariant.5,
+      c.take_all-same.ensures.frames ∙ c.self.invariant.6,
     )

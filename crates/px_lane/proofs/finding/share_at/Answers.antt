@@ -1,0 +1,33 @@
+use Rattle.std.proofs.Common.{◌≡◌, ℕ, ◌+◌, ◌-◌, ◌*◌, ◌≤◌, Option, Some, None, length, ap, sym, ◌∙◌, subst, arith, refl}
+use Rattle.std.specs.Prelude.{slice_index_or}
+use Rattle.px_model.specs.Stream.{Stream}
+use Rattle.px_share.specs.Keeping.{SharesThere, AreLittleThere, IsAsLarge}
+use Rattle.px_lane.proofs.Places.{at_stream, gap_stream}
+use Rattle.px_lane.proofs.Sharing.{fed_at, nothing_shared}
+use Rattle.px_lane.proofs.finding.share_at.Goals as goal
+
+pub change-requires-clause-fed : goal.change-requires-clause-fed
+change-requires-clause-fed g c = fed_at c.args.sink.now.channels c.args.inputs.now c.in-Ok.place c.index-inputs-place.result c.requires.fed c.in-Ok.ensures.few
+
+pub returns-in-Err-clause-sums : goal.returns-in-Err-clause-sums
+returns-in-Err-clause-sums g c =
+    subst (λ (o : Option Stream). SharesThere c.args.add c.args.sink.now o c.args.from c.args.kept.now c.args.kept.now)
+    (sym (gap_stream c.args.index.0 c.in-Err.field-0 c.args.inputs.now c.in-Err.ensures.err))
+    (nothing_shared c.args.add c.args.sink.now c.args.from c.args.kept.now)
+
+pub returns-in-Err-clause-little : goal.returns-in-Err-clause-little
+returns-in-Err-clause-little g c =
+    subst (λ (o : Option Stream). AreLittleThere c.args.sink.now o c.args.from c.args.kept.now.frames)
+    (sym (gap_stream c.args.index.0 c.in-Err.field-0 c.args.inputs.now c.in-Err.ensures.err)) tt
+
+pub returns-in-Ok-clause-sums : goal.returns-in-Ok-clause-sums
+returns-in-Ok-clause-sums g c =
+    subst (λ (o : Option Stream). SharesThere c.args.add c.args.sink.now o c.args.from c.args.kept.now c.change.new.self)
+    (sym (at_stream c.args.index.0 c.in-Ok.place c.args.inputs.now c.index-inputs-place.result c.in-Ok.ensures.ok))
+    c.change.ensures.sums
+
+pub returns-in-Ok-clause-little : goal.returns-in-Ok-clause-little
+returns-in-Ok-clause-little g c =
+    subst (λ (o : Option Stream). AreLittleThere c.args.sink.now o c.args.from c.args.kept.now.frames)
+    (sym (at_stream c.args.index.0 c.in-Ok.place c.args.inputs.now c.index-inputs-place.result c.in-Ok.ensures.ok))
+    c.change.ensures.little

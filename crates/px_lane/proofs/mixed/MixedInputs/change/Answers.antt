@@ -1,0 +1,63 @@
+use Rattle.std.proofs.Common.{◌≡◌, ℕ, ◌+◌, ◌-◌, ◌≤◌, List, Option, length, false, true, ap, sym, ◌∙◌, subst, arith}
+use Rattle.px_model.specs.Stream.{Stream}
+use Rattle.px_model.specs.Applied.{applied}
+use Rattle.px_model.specs.Mix.{mix_of}
+use Rattle.px_model.specs.Sink.{Input, streams_of, stream_at, with_change}
+use Rattle.px_stream.specs.Samples.{samples}
+use Rattle.px_stream.specs.Messages.{message_of}
+use Rattle.px_sums.specs.Kept.{changed_there}
+use Rattle.px_share.specs.Keeping.{AreSmall, AreLittleThere, SharesThere, SoundsBefore, IsKept}
+use Rattle.px_share.proofs.Exchanging.{small, one_more_small, changes}
+use Rattle.px_lane.specs.Mixed.{SummedInputs, CanMix}
+use Rattle.px_lane.specs.Taking.{AreFed}
+use Rattle.px_lane.specs.Unaltered.{MixesSame}
+use Rattle.px_lane.proofs.Sharing.{roomy, sounds_there, changed_at_index}
+use Rattle.px_lane.proofs.mixed.MixedInputs.change.Goals as goal
+
+pub share-requires-clause-from : goal.share-requires-clause-from
+share-requires-clause-from g c = omega (arith, c.min-from.ensures, c.self.invariant.3)
+
+pub share-requires-clause-room : goal.share-requires-clause-room
+share-requires-clause-room g c =
+    let d = c.self.inside in
+    roomy 256 d.kept (omega arith) (small d.spec d.inputs.inputs d.kept c.self.invariant.2 c.self.invariant.1.few)
+
+pub share-requires-2-clause-room : goal.share-requires-2-clause-room
+share-requires-2-clause-room g c =
+    let d = c.self.inside in
+    roomy 257 c.share.new.kept (omega arith)
+    (one_more_small false d.spec (stream_at c.args.input.0 d.inputs.inputs) c.min-from.result 256 d.kept c.share.new.kept
+    (small d.spec d.inputs.inputs d.kept c.self.invariant.2 c.self.invariant.1.few)
+    c.share.ensures.large c.self.invariant.2.channels c.share.ensures.sums c.share.ensures.little)
+
+pub invariant_of-self : goal.invariant_of-self
+invariant_of-self g c =
+    let d = c.self.inside in
+    let i = c.args.input.0 in
+    let f = applied d.frames (message_of c.args.change) in
+    let mixes : CanMix d.spec.channels (with_change c.args.input.0 (applied d.frames (message_of c.args.change)) d.inputs.inputs) =
+    subst (λ (v : SummedInputs). CanMix v.spec.channels (with_change c.args.input.0 (applied v.frames (message_of c.args.change)) v.inputs)) (sym c.self.view_is) c.requires.mixes in
+    let come : stream_at c.args.input.0 c.change-refused.new.self.inputs ≡ changed_there (applied d.frames (message_of c.args.change)) (stream_at c.args.input.0 d.inputs.inputs) =
+    ap (λ (xs : List Input). stream_at c.args.input.0 xs) c.change-refused.ensures.inputs ∙ changed_at_index c.args.input.0 (applied d.frames (message_of c.args.change)) d.inputs.inputs in
+    let sounds : SoundsBefore c.min-from.result (applied d.frames (message_of c.args.change)) (stream_at c.args.input.0 d.inputs.inputs) =
+    sounds_there c.min-from.result (applied d.frames (message_of c.args.change)) (stream_at c.args.input.0 d.inputs.inputs)
+    (λ k s less at. c.unaltered-unaltered.ensures.sounds d.frames k s (omega (arith, less, c.min-from.ensures)) at) in (
+      c.self.invariant.0,
+      subst (CanMix d.spec.channels) (sym c.change-refused.ensures.inputs) mixes,
+      subst (λ (xs : List Input). IsKept d.spec xs c.share-2.new.kept) (sym c.change-refused.ensures.inputs)
+          (changes d.spec d.inputs.inputs c.args.input.0 c.min-from.result (applied d.frames (message_of c.args.change)) d.kept c.share.new.kept c.share-2.new.kept
+          c.self.invariant.2 c.share.ensures.rising sounds c.share.ensures.large c.share.ensures.sums c.share-2.ensures.large
+          (subst (λ (o : Option Stream). SharesThere true d.spec o c.min-from.result c.share.new.kept c.share-2.new.kept) come c.share-2.ensures.sums)
+          (subst (AreLittleThere d.spec (changed_there (applied d.frames (message_of c.args.change)) (stream_at c.args.input.0 d.inputs.inputs)) c.min-from.result) c.share.ensures.large.frames
+          (subst (λ (o : Option Stream). AreLittleThere d.spec o c.min-from.result c.share.new.kept.frames) come c.share-2.ensures.little))),
+      c.self.invariant.3 ∙ sym (c.share-2.ensures.large.frames ∙ c.share.ensures.large.frames),
+    )
+
+pub returns-clause-inputs : goal.returns-clause-inputs
+returns-clause-inputs g c = c.change-refused.ensures.inputs ∙ ap (λ (v : SummedInputs). with_change c.args.input.0 (applied v.frames (message_of c.args.change)) v.inputs) c.self.view_is
+
+pub returns-clause-unaltered : goal.returns-clause-unaltered
+returns-clause-unaltered g c = λ sink k less.
+    ap (λ (xs : List Input). mix_of samples sink (streams_of xs) k) c.change-refused.ensures.inputs
+    ∙ c.unaltered-unaltered.ensures.mixes sink c.self.inside.frames k less
+    ∙ ap (λ (v : SummedInputs). mix_of samples sink (streams_of v.inputs) k) c.self.view_is

@@ -1,0 +1,41 @@
+use Rattle.std.proofs.Common.{◌≡◌, ℕ, ◌+◌, ◌-◌, ◌≤◌, List, length, false, true, ap, sym, ◌∙◌, subst, arith}
+use Rattle.px_model.specs.Sink.{Input, stream_at, with_input}
+use Rattle.px_share.specs.Keeping.{AreSmall, AreLittle, IsKept}
+use Rattle.px_share.proofs.Exchanging.{small, one_more_small, comes}
+use Rattle.px_lane.specs.Mixed.{SummedInputs, CanMix}
+use Rattle.px_lane.proofs.Sharing.{roomy}
+use Rattle.px_lane.proofs.mixed.MixedInputs.insert.Goals as goal
+
+pub share-requires-clause-room : goal.share-requires-clause-room
+share-requires-clause-room g c =
+    let d = c.self.inside in
+    roomy 256 d.kept (omega arith) (small d.spec d.inputs.inputs d.kept c.self.invariant.2 c.self.invariant.1.few)
+
+pub change-requires-clause-channels : goal.change-requires-clause-channels
+change-requires-clause-channels g c = c.share.ensures.large.channels ∙ c.self.invariant.2.channels
+
+pub change-requires-clause-fed : goal.change-requires-clause-fed
+change-requires-clause-fed g c = c.requires.fed ∙ sym (ap (λ (v : SummedInputs). v.spec.channels) c.self.view_is)
+
+pub change-requires-clause-room : goal.change-requires-clause-room
+change-requires-clause-room g c =
+    let d = c.self.inside in
+    roomy 257 c.share.new.kept (omega arith)
+    (one_more_small false d.spec (stream_at c.args.input.0 d.inputs.inputs) 0 256 d.kept c.share.new.kept
+    (small d.spec d.inputs.inputs d.kept c.self.invariant.2 c.self.invariant.1.few)
+    c.share.ensures.large c.self.invariant.2.channels c.share.ensures.sums c.share.ensures.little)
+
+pub invariant_of-self : goal.invariant_of-self
+invariant_of-self g c =
+    let d = c.self.inside in
+    let i = c.args.input.0 in
+    let s = c.args.stream.stream in (
+      c.self.invariant.0,
+      subst (CanMix d.spec.channels) (sym c.insert.ensures.inputs)
+          (subst (λ (v : SummedInputs). CanMix v.spec.channels (with_input c.args.input.0 c.args.stream.stream v.inputs)) (sym c.self.view_is) c.requires.mixes),
+      subst (λ (xs : List Input). IsKept d.spec xs c.change.new.self) (sym c.insert.ensures.inputs)
+          (comes d.spec d.inputs.inputs c.args.input.0 c.args.stream.stream d.kept c.share.new.kept c.change.new.self c.self.invariant.2 c.share.ensures.rising
+          c.share.ensures.large c.share.ensures.sums c.change.ensures.large c.change.ensures.sums
+          (subst (AreLittle d.spec c.args.stream.stream 0) c.share.ensures.large.frames c.change.ensures.little)),
+      c.self.invariant.3 ∙ sym (c.change.ensures.large.frames ∙ c.share.ensures.large.frames),
+    )

@@ -1,0 +1,51 @@
+use Rattle.std.proofs.Common.{◌≡◌, ℕ, ◌<◌, List, Option, length, false, true, ap, sym, ◌∙◌, subst, arith}
+use Rattle.px_model.specs.Control.{with_factors}
+use Rattle.px_model.specs.Stream.{Stream}
+use Rattle.px_model.specs.Sink.{Input, IsRising, stream_at, with_change}
+use Rattle.px_sums.specs.Kept.{changed_there}
+use Rattle.px_share.specs.Keeping.{AreLittleThere, SharesThere, IsKept}
+use Rattle.px_share.proofs.Exchanging.{small, one_more_small, changes}
+use Rattle.px_lane.specs.Mixed.{SummedInputs, CanMix}
+use Rattle.px_lane.specs.Taking.{AreFed}
+use Rattle.px_lane.proofs.Rising.{rising_change}
+use Rattle.px_lane.proofs.Sharing.{roomy, sounds_there, changed_at_index, can_mix_factors}
+use Rattle.px_lane.proofs.mixed.MixedInputs.set_one.Goals as goal
+
+pub share-requires-clause-room : goal.share-requires-clause-room
+share-requires-clause-room g c =
+    let d = c.self.inside in
+    roomy 256 d.kept (omega arith) (small d.spec d.inputs.inputs d.kept c.self.invariant.2 c.self.invariant.1.few)
+
+pub share-requires-2-clause-fed : goal.share-requires-2-clause-fed
+share-requires-2-clause-fed g c =
+    let d = c.self.inside in
+    subst (AreFed d.spec.channels) (sym c.set_one.ensures.inputs) (can_mix_factors d.spec.channels c.args.factors c.args.input.0 d.inputs.inputs c.share.ensures.rising c.self.invariant.1).fed
+
+pub share-requires-2-clause-room : goal.share-requires-2-clause-room
+share-requires-2-clause-room g c =
+    let d = c.self.inside in
+    roomy 257 c.share.new.kept (omega arith)
+    (one_more_small false d.spec (stream_at c.args.input.0 d.inputs.inputs) 0 256 d.kept c.share.new.kept
+    (small d.spec d.inputs.inputs d.kept c.self.invariant.2 c.self.invariant.1.few)
+    c.share.ensures.large c.self.invariant.2.channels c.share.ensures.sums c.share.ensures.little)
+
+pub invariant_of-self : goal.invariant_of-self
+invariant_of-self g c =
+    let d = c.self.inside in
+    let f = λ (s : Stream). with_factors s c.args.factors in
+    let come : stream_at c.args.input.0 c.set_one.new.self.inputs ≡ changed_there (λ s. with_factors s c.args.factors) (stream_at c.args.input.0 d.inputs.inputs) =
+    ap (λ (xs : List Input). stream_at c.args.input.0 xs) c.set_one.ensures.inputs ∙ changed_at_index c.args.input.0 (λ s. with_factors s c.args.factors) d.inputs.inputs in (
+      c.self.invariant.0,
+      subst (CanMix d.spec.channels) (sym c.set_one.ensures.inputs) (can_mix_factors d.spec.channels c.args.factors c.args.input.0 d.inputs.inputs c.share.ensures.rising c.self.invariant.1),
+      subst (λ (xs : List Input). IsKept d.spec xs c.share-2.new.kept) (sym c.set_one.ensures.inputs)
+          (changes d.spec d.inputs.inputs c.args.input.0 0 (λ s. with_factors s c.args.factors) d.kept c.share.new.kept c.share-2.new.kept
+          c.self.invariant.2 c.share.ensures.rising (sounds_there 0 (λ s. with_factors s c.args.factors) (stream_at c.args.input.0 d.inputs.inputs) (λ k s less at. absurd (omega (arith, less))))
+          c.share.ensures.large c.share.ensures.sums c.share-2.ensures.large
+          (subst (λ (o : Option Stream). SharesThere true d.spec o 0 c.share.new.kept c.share-2.new.kept) come c.share-2.ensures.sums)
+          (subst (AreLittleThere d.spec (changed_there (λ s. with_factors s c.args.factors) (stream_at c.args.input.0 d.inputs.inputs)) 0) c.share.ensures.large.frames
+          (subst (λ (o : Option Stream). AreLittleThere d.spec o 0 c.share.new.kept.frames) come c.share-2.ensures.little))),
+      c.self.invariant.3 ∙ sym (c.share-2.ensures.large.frames ∙ c.share.ensures.large.frames),
+    )
+
+pub returns-clause-inputs : goal.returns-clause-inputs
+returns-clause-inputs g c = c.set_one.ensures.inputs ∙ ap (λ (v : SummedInputs). with_change c.args.input.0 (λ s. with_factors s c.args.factors) v.inputs) c.self.view_is

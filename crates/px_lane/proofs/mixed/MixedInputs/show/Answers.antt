@@ -1,0 +1,15 @@
+use Rattle.std.proofs.Common.{◌≡◌, ℕ, ◌-◌, map, ap, sym, ◌∙◌, subst}
+use Rattle.std.specs.List.{concat, range_with_len}
+use Rattle.px_msg.specs.View.{sample_spec}
+use Rattle.px_model.specs.Mix.{mix_of}
+use Rattle.px_model.specs.Sink.{streams_of}
+use Rattle.px_stream.specs.Samples.{samples}
+use Rattle.px_lane.specs.Mixed.{SummedInputs}
+use Rattle.px_lane.proofs.mixed.MixedInputs.show.Goals as goal
+
+pub returns : goal.returns
+returns g c =
+    let d = c.self.inside in
+    c.show.ensures.bytes d.inputs.inputs c.self.invariant.2
+    ∙ ap (λ (n : ℕ). concat (map (mix_of samples (sample_spec d.spec) (streams_of d.inputs.inputs)) (range_with_len c.args.from (n - c.args.from)))) (sym c.self.invariant.3)
+    ∙ ap (λ (v : SummedInputs). concat (map (mix_of samples (sample_spec v.spec) (streams_of v.inputs)) (range_with_len c.args.from (v.frames - c.args.from)))) c.self.view_is

@@ -1,0 +1,21 @@
+use Rattle.std.proofs.Common.{◌≡◌, length, ap, ◌∙◌, subst}
+use Rattle.px_model.specs.Stream.{Stream}
+use Rattle.px_model.specs.Applied.{applied}
+use Rattle.px_model.specs.Message.{StreamMessage}
+use Rattle.px_lane.specs.declared.ready.Ready.{Ready}
+use Rattle.px_lane.specs.Mixed.{CanMix}
+use Rattle.px_lane.specs.Taking.{ready_inputs}
+use Rattle.px_lane.proofs.Sharing.{come_fed}
+use Rattle.px_lane.proofs.mixed.MixedInputs.take.Goals as goal
+
+pub insert-requires-clause-fed : goal.insert-requires-clause-fed
+insert-requires-clause-fed g c =
+    let m = c.args.self.now in
+    come_fed c.args.self.now.spec.channels c.in-Insert.input.0 c.in-Insert.stream.stream c.args.self.now.inputs
+    (subst (λ (r : Ready). CanMix c.args.self.now.spec.channels (ready_inputs c.args.self.now.frames r c.args.self.now.inputs)) c.in-Insert.is c.requires.mixes).fed
+
+pub insert-requires-in-Join-clause-fed : goal.insert-requires-in-Join-clause-fed
+insert-requires-in-Join-clause-fed g c =
+    ap (λ (s : Stream). length s.feed) c.apply.ensures.stream
+    ∙ come_fed c.args.self.now.spec.channels c.in-Join.input.0 (applied c.args.self.now.frames (StreamMessage.attach c.in-Join.feed c.in-Join.factors) c.in-Join.parcel.stream) c.args.self.now.inputs
+    (subst (λ (r : Ready). CanMix c.args.self.now.spec.channels (ready_inputs c.args.self.now.frames r c.args.self.now.inputs)) c.in-Join.is c.requires.mixes).fed

@@ -1,0 +1,37 @@
+// Frames that come to the kept sums of a sink.
+ghost use Rattle.std.specs.Prelude.{◌≡◌, ℕ, ◌+◌, ◌-◌, ◌*◌, ◌<◌, ◌≤◌, length, pos};
+ghost use Rattle.px_msg.specs.View.{sample_spec};
+ghost use Rattle.px_mixcache.specs.Cache.{kept_at};
+ghost use Rattle.px_share.specs.Keeping.{IsKept, IsAsLarge};
+ghost use Rattle.px_stream.specs.Samples.{samples};
+ghost use Rattle.px_sums.specs.Kept.{AreKept};
+ghost use Rattle.px_lane.specs.Inputs.{inputs_of};
+ghost use Rattle.px_lane.specs.Mixed.{CanMix};
+
+use crate::input::Input;
+use px_kernel::Steps;
+use px_sample::Spec;
+use px_share::KeptMix;
+use std::sync::ledger::Ledger;
+
+/// Adds what the stream of each input gives to the sums from a frame on, where they hold nothing yet. Takes no memory.
+pub(crate) fn add_each<T: Ledger>(
+    sink: &Spec,
+    inputs: &[Input],
+    from: u32,
+    kept: &mut KeptMix,
+    steps: &mut Steps<T>,
+)
+    requires mixes { CanMix sink.now.channels (inputs_of inputs.now) }
+    requires channels { length kept.old.runs ≡ sink.now.channels }
+    requires from { from ≤ kept.old.frames }
+    requires before { AreKept samples (sample_spec sink.now) from (inputs_of inputs.now) (kept_at kept.old) }
+    requires nothing { (c k : ℕ) → c < sink.now.channels → from ≤ k → k < kept.old.frames → kept_at kept.old c k ≡ pos 0 }
+    ensures large { IsAsLarge kept.old kept.new }
+    ensures kept { IsKept sink.now (inputs_of inputs.now) kept.new }
+    ensures ticks { steps.new ≤ steps.old + length inputs.now * (2 * (sink.now.channels * (kept.old.frames - from))) }
+{
+    for input in inputs {
+        kept.change(sink, &input.stream, from, true, steps);
+    }
+}

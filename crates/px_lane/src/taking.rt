@@ -1,0 +1,116 @@
+// The messages of a turn, taken by the inputs of a sink with the kept sums of their mix.
+ghost use Rattle.std.specs.Prelude.{◌≡◌, ◌≤◌, ◌+◌, ◌-◌, ◌++◌, [], length};
+ghost use Rattle.std.specs.List.{sum_by};
+ghost use Rattle.px_model.specs.Frame.{SampleSpec};
+ghost use Rattle.px_model.specs.Turn.{inputs_with_all, all_message_notices};
+ghost use Rattle.px_lane.specs.Mixed.{CanMix, CanMixAll};
+ghost use Rattle.px_lane.specs.Needed.{blocks_of};
+ghost use Rattle.px_lane.specs.Taking.{CanTakeAll, HasRoomLeft, ready_blocks, ready_inputs, ready_notices, ReadySuits};
+ghost use Rattle.px_lane.specs.Unaltered.{MixesSame};
+
+use crate::NoticeList;
+use crate::mixed::MixedInputs;
+use crate::prepared::Prepared;
+use crate::ready::Ready;
+use px_block::BlockSource;
+use px_kernel::Steps;
+use px_msg::Notice;
+use px_stream::StreamMsg;
+use std::sync::ledger::Ledger;
+
+impl MixedInputs {
+    /// Takes a message, where so many frames are in the sink's buffer, and tells what it has to tell. Answers how many frames past the
+    /// horizon are mixed as before. Takes room for one message with its blocks, and no memory.
+    pub(crate) fn take<T: Ledger, B: BlockSource>(
+        &mut self,
+        message: Ready,
+        buffered: u32,
+        out: &mut NoticeList,
+        blocks: &mut B,
+        steps: &mut Steps<T>,
+    ) -> u64
+        requires room { 1 ≤ self.old.room }
+        requires block_room { ready_blocks message ≤ self.old.block_room }
+        requires comes { HasRoomLeft (self.old.room - 1) self.old.block_room message }
+        requires suits { ReadySuits message self.old.inputs }
+        requires mixes { CanMix self.old.spec.channels (ready_inputs self.old.frames message self.old.inputs) }
+        requires capacity { length out.old.notices + length (ready_notices self.old.frames buffered message self.old.inputs) ≤ out.old.capacity }
+        ensures spec { self.new.spec ≡ self.old.spec }
+        ensures depth { self.new.depth ≡ self.old.depth }
+        ensures frames { self.new.frames ≡ self.old.frames }
+        ensures inputs { self.new.inputs ≡ ready_inputs self.old.frames message self.old.inputs }
+        ensures room { self.old.room ≤ self.new.room + 1 }
+        ensures less { self.new.room ≤ self.old.room }
+        ensures block_room { self.new.block_room + ready_blocks message ≡ self.old.block_room }
+        ensures notices { out.new.notices ≡ out.old.notices ++ ready_notices self.old.frames buffered message self.old.inputs }
+        ensures capacity { out.new.capacity ≡ out.old.capacity }
+        ensures unaltered { (sink : SampleSpec) → MixesSame sink result self.old.inputs self.new.inputs }
+    {
+        match message {
+            Ready::Insert { input, stream } => self.insert(input, stream, steps),
+            Ready::Join {
+                input,
+                parcel,
+                feed,
+                factors,
+            } => {
+                let mut stream = parcel;
+                let mixed = self.frames() as u64;
+                stream.apply(StreamMsg::Attach { feed, factors }, mixed, blocks);
+                self.insert(input, stream, steps);
+            }
+            Ready::Remove(input) => match self.remove(input, steps) {
+                Some(parcel) => out.push(Notice::Detached { input, parcel }),
+                None => {}
+            },
+            Ready::Change { input, change } => {
+                let altered = self.change(input, change, blocks, steps);
+                if altered.refused {
+                    out.push(Notice::Overflow { input });
+                }
+                return altered.unaltered;
+            }
+            Ready::Each(list) => self.set_factors(list.as_slice(), blocks, steps),
+            Ready::Answer { input, tag } => {
+                self.answer(input, tag, buffered, out);
+                return u64::MAX;
+            }
+        }
+        0
+    }
+
+    /// Takes all messages in order, where so many frames are in the sink's buffer, and tells what they have to tell. Answers how many
+    /// frames past the horizon are mixed as before. Takes no memory.
+    pub(crate) fn take_all<T: Ledger, B: BlockSource>(
+        &mut self,
+        messages: &mut Prepared,
+        buffered: u32,
+        out: &mut NoticeList,
+        blocks: &mut B,
+        steps: &mut Steps<T>,
+    ) -> u64
+        requires room { length messages.old.messages ≤ self.old.room }
+        requires block_room { sum_by blocks_of messages.old.messages ≤ self.old.block_room }
+        requires comes { self.old.room ≤ messages.old.room }
+        requires blocks_come { self.old.block_room ≤ messages.old.block_room }
+        requires suits { CanTakeAll self.old.frames messages.old.messages self.old.inputs }
+        requires mixes { CanMixAll self.old.spec.channels self.old.frames messages.old.messages self.old.inputs }
+        requires capacity { length out.old.notices + length (all_message_notices self.old.frames buffered messages.old.messages self.old.inputs) ≤ out.old.capacity }
+        ensures spec { self.new.spec ≡ self.old.spec }
+        ensures depth { self.new.depth ≡ self.old.depth }
+        ensures frames { self.new.frames ≡ self.old.frames }
+        ensures inputs { self.new.inputs ≡ inputs_with_all self.old.frames messages.old.messages self.old.inputs }
+        ensures notices { out.new.notices ≡ out.old.notices ++ all_message_notices self.old.frames buffered messages.old.messages self.old.inputs }
+        ensures capacity { out.new.capacity ≡ out.old.capacity }
+        ensures messages { messages.new.messages ≡ [] }
+        ensures list { messages.new.capacity ≡ messages.old.capacity }
+        ensures unaltered { (sink : SampleSpec) → MixesSame sink result self.old.inputs self.new.inputs }
+    {
+        let mut unaltered = u64::MAX;
+        while let Some(message) = messages.next() {
+            let same = self.take(message, buffered, out, blocks, steps);
+            unaltered = unaltered.min(same);
+        }
+        unaltered
+    }
+}

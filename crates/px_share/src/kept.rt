@@ -1,0 +1,230 @@
+// The kept sums of a sink's mix.
+ghost use Rattle.std.specs.Prelude.{◌≡◌, ℕ, ◌+◌, ◌-◌, ◌*◌, ◌<◌, ◌≤◌, List, length, map, All, FitsSigned, IfOk, pos, slice_index, slice_index_or};
+ghost use Rattle.std.specs.Int.{w32};
+ghost use Rattle.std.specs.List.{concat, range_with_len};
+ghost use Rattle.px_sample.specs.Format.{frame_size_of, IsLinear};
+ghost use Rattle.px_msg.specs.View.{sample_spec};
+ghost use Rattle.px_model.specs.Mix.{mix_of};
+ghost use Rattle.px_model.specs.Sink.{Input, streams_of};
+ghost use Rattle.px_kernel.specs.Kernel.{changed, scaled};
+ghost use Rattle.px_mixcache.specs.Cache.{KeptSums, kept_at};
+ghost use Rattle.px_stream.specs.Samples.{samples};
+ghost use Rattle.px_sums.specs.Kept.{IsSumOf, from_on};
+ghost use Rattle.px_share.specs.Keeping.{IsKept, IsAsLarge, AreSmall, Shares, AreLittle};
+
+use px_kernel::Steps;
+use px_mixcache::MixCache;
+use px_sample::Spec;
+use px_stream::Stream;
+use px_types::{Mem, NoMemory};
+use px_vol::Factors;
+use std::alloc::Global;
+use std::marker::Model;
+use std::sync::ledger::Ledger;
+
+/// What the streams of a sink add up to, frame by frame from the horizon on and channel by channel, before it is clipped, with the room to
+/// read a stream's values there (own: PulseAudio mixes anew what it rewinds).
+#[derive(Debug, Drop)]
+pub struct KeptMix {
+    cache: MixCache,
+    frames: u32,
+    // a place for each sum
+    values: Vec<i32>,
+}
+
+impl Model for KeptMix {
+    ghost use Rattle.std.specs.Prelude.{◌≡◌, ◌*◌, ◌≤◌, length};
+    ghost use Rattle.px_mixcache.specs.Cache.{KeptSums};
+
+    ghost Value = { KeptSums };
+
+    ghost view = { λ k. k.cache };
+
+    ghost invariant = { λ k. (k.frames ≡ k.cache.frames) × (k.cache.frames ≤ k.cache.depth) × (k.cache.depth ≤ 65536) × (1 ≤ length k.cache.runs) × (length k.values.items ≡ length k.cache.runs * k.cache.depth) };
+}
+
+// Adds to the sums from a frame on what a stream gives there, or takes it away. The values are of as many frames.
+fn change<T: Ledger>(
+    cache: &mut MixCache,
+    values: &mut [i32],
+    sink: &Spec,
+    stream: &Stream,
+    from: u32,
+    add: bool,
+    steps: &mut Steps<T>,
+)
+    requires channels { length cache.old.runs ≡ sink.now.channels }
+    requires some { 1 ≤ sink.now.channels }
+    requires fed { length stream.now.stream.feed ≡ sink.now.channels }
+    requires from { from ≤ cache.old.frames }
+    requires near { cache.old.frames ≤ 65536 }
+    requires size { length values.old ≡ sink.now.channels * (cache.old.frames - from) }
+    requires room { AreSmall 258 cache.old }
+    ensures large { IsAsLarge cache.old cache.new }
+    ensures sums { Shares add sink.now stream.now.stream from cache.old cache.new }
+    ensures little { AreLittle sink.now stream.now.stream from cache.old.frames }
+    ensures ticks { steps.new ≤ steps.old + 2 * (sink.now.channels * (cache.old.frames - from)) }
+{
+    values.fill(0);
+    stream.frame_values(from, sink.format.width(), values, steps);
+    put(
+        cache,
+        values,
+        stream.factors(),
+        stream.factors().values(),
+        from,
+        add,
+        steps,
+    );
+}
+
+// Adds to the sums from a frame on what the values give there by the factors, or takes it away.
+fn put<T: Ledger>(
+    cache: &mut MixCache,
+    values: &[i32],
+    factors: &Factors,
+    numbers: &[u32],
+    from: u32,
+    add: bool,
+    steps: &mut Steps<T>,
+)
+    requires same { numbers.now ≡ factors.now }
+    requires some { 1 ≤ length cache.old.runs }
+    requires channels { length factors.now ≡ length cache.old.runs }
+    requires from { from ≤ cache.old.frames }
+    requires size { length values.now ≡ length cache.old.runs * (cache.old.frames - from) }
+    requires words { All (FitsSigned w32) values.now }
+    requires room { AreSmall 258 cache.old }
+    ensures large { IsAsLarge cache.old cache.new }
+    ensures sums { (c k : ℕ) → c < length cache.old.runs → k < cache.old.frames → kept_at cache.new c k ≡ changed add (kept_at cache.old c k) (from_on from k (scaled (slice_index_or values.now (c * (cache.old.frames - from) + (k - from)) (pos 0)) (slice_index factors.now c))) }
+    ensures little { (c k : ℕ) → c < length cache.old.runs → from ≤ k → k < cache.old.frames → IsSumOf 1 (scaled (slice_index_or values.now (c * (cache.old.frames - from) + (k - from)) (pos 0)) (slice_index factors.now c)) }
+    ensures ticks { steps.new ≡ steps.old + length values.now }
+{
+    cache.change(from, values, factors, add, steps);
+}
+
+// The same over the first places for values, of so many frames.
+fn change_over<T: Ledger>(
+    cache: &mut MixCache,
+    values: &mut Vec<i32>,
+    frames: usize,
+    sink: &Spec,
+    stream: &Stream,
+    from: u32,
+    add: bool,
+    steps: &mut Steps<T>,
+)
+    requires channels { length cache.old.runs ≡ sink.now.channels }
+    requires some { 1 ≤ sink.now.channels }
+    requires fed { length stream.now.stream.feed ≡ sink.now.channels }
+    requires from { from + frames ≡ cache.old.frames }
+    requires near { cache.old.frames ≤ 65536 }
+    requires size { sink.now.channels * frames ≤ length values.old.items }
+    requires room { AreSmall 258 cache.old }
+    ensures size { length values.new.items ≡ length values.old.items }
+    ensures large { IsAsLarge cache.old cache.new }
+    ensures sums { Shares add sink.now stream.now.stream from cache.old cache.new }
+    ensures little { AreLittle sink.now stream.now.stream from cache.old.frames }
+    ensures ticks { steps.new ≤ steps.old + 2 * (sink.now.channels * frames) }
+{
+    let places = sink.channels as usize * frames;
+    change(
+        cache,
+        &mut values.as_mut_slice()[..places],
+        sink,
+        stream,
+        from,
+        add,
+        steps,
+    );
+}
+
+impl KeptMix {
+    /// Sums of as many channels as a sink has, that hold no frames and may hold so many. Takes their room.
+    pub fn new(alloc: Global, sink: &Spec, depth: u32) -> Mem<KeptMix>
+        requires some { 1 ≤ sink.now.channels }
+        requires few { sink.now.channels ≤ 32 }
+        requires low { depth ≤ 65536 }
+        ensures depth { IfOk result (λ kept. kept.depth ≡ depth) }
+        ensures frames { IfOk result (λ kept. kept.frames ≡ 0) }
+        ensures channels { IfOk result (λ kept. length kept.runs ≡ sink.now.channels) }
+    {
+        let values = vec![in alloc; 0; sink.channels as usize * depth as usize]?;
+        Ok(KeptMix {
+            cache: MixCache::new(alloc, sink.channels, depth)?,
+            frames: 0,
+            values,
+        })
+    }
+
+    /// Gives up the first so many frames. Takes no memory.
+    pub fn advance(&mut self, frames: u32)
+        requires { frames ≤ self.old.frames }
+        ensures depth { self.new.depth ≡ self.old.depth }
+        ensures frames { self.new.frames ≡ self.old.frames - frames }
+        ensures channels { length self.new.runs ≡ length self.old.runs }
+        ensures sums { (c k : ℕ) → c < length self.old.runs → kept_at self.new c k ≡ kept_at self.old c (frames + k) }
+    {
+        self.cache.advance(frames);
+        self.frames -= frames;
+    }
+
+    /// Holds frames of nothing behind those that it holds, so that there are so many. Takes no memory.
+    pub fn extend(&mut self, to: u32)
+        requires more { self.old.frames ≤ to }
+        requires fits { to ≤ self.old.depth }
+        ensures depth { self.new.depth ≡ self.old.depth }
+        ensures frames { self.new.frames ≡ to }
+        ensures channels { length self.new.runs ≡ length self.old.runs }
+        ensures sums { (c k : ℕ) → c < length self.old.runs → kept_at self.new c k ≡ kept_at self.old c k }
+        ensures nothing { (c k : ℕ) → c < length self.old.runs → self.old.frames ≤ k → kept_at self.new c k ≡ pos 0 }
+    {
+        self.cache.extend(to);
+        self.frames = to;
+    }
+
+    /// Adds what a stream gives to the sums, from a frame on, or takes it away. Takes no memory.
+    pub fn change<T: Ledger>(
+        &mut self,
+        sink: &Spec,
+        stream: &Stream,
+        from: u32,
+        add: bool,
+        steps: &mut Steps<T>,
+    )
+        requires channels { length self.old.runs ≡ sink.now.channels }
+        requires fed { length stream.now.stream.feed ≡ sink.now.channels }
+        requires from { from ≤ self.old.frames }
+        requires room { AreSmall 258 self.old }
+        ensures large { IsAsLarge self.old self.new }
+        ensures sums { Shares add sink.now stream.now.stream from self.old self.new }
+        ensures little { AreLittle sink.now stream.now.stream from self.old.frames }
+        ensures ticks { steps.new ≤ steps.old + 2 * (sink.now.channels * (self.old.frames - from)) }
+    {
+        let frames = self.frames - from;
+        change_over(
+            &mut self.cache,
+            &mut self.values,
+            frames as usize,
+            sink,
+            stream,
+            from,
+            add,
+            steps,
+        );
+    }
+
+    /// Puts the frames from one on into `out`, all that are held, as a device gets them: each sum clipped to the sink's width, once, and
+    /// packed. Takes no memory.
+    pub fn show<T: Ledger>(&self, sink: &Spec, from: u32, out: &mut [u8], steps: &mut Steps<T>)
+        requires linear { IsLinear sink.now.format }
+        requires channels { length self.now.runs ≡ sink.now.channels }
+        requires from { from ≤ self.now.frames }
+        requires whole { length out.old ≡ (self.now.frames - from) * frame_size_of sink.now }
+        ensures bytes { (inputs : List Input) → IsKept sink.now inputs self.now → out.new ≡ concat (map (mix_of samples (sample_spec sink.now) (streams_of inputs)) (range_with_len from (self.now.frames - from))) }
+        ensures ticks { steps.new ≡ steps.old + sink.now.channels * (self.now.frames - from) }
+    {
+        self.cache
+            .frames(from, self.frames - from, sink.format, out, steps);
+    }
+}
