@@ -40,7 +40,7 @@ impl Stream {
     }
 
     /// The same without the count, for a mix that promises no bound on its steps. Takes no memory.
-    pub fn give_values(&self, from: u32, width: Width, out: &mut [i32]) -> u32
+    fn give_values(&self, from: u32, width: Width, out: &mut [i32]) -> u32
         requires { (n : ℕ) × (length out.old ≡ n * length self.now.stream.feed) }
         ensures values { (n : ℕ) → length out.old ≡ n * length self.now.stream.feed → GivesValues width self.now.stream from n result out.old out.new }
         ensures words { All (FitsSigned w32) out.old → All (FitsSigned w32) out.new }
