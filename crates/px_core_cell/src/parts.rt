@@ -1,11 +1,12 @@
 //! What lies under the core's lock, and its steps.
 
-ghost use Rattle.std.specs.Prelude.{◌≡◌, ◌-◌, ◌^◌, ◌<◌, Some, true, slice_get, Ok, Err, MatchResult};
+ghost use Rattle.std.specs.Prelude.{◌≡◌, ◌-◌, ◌^◌, ◌<◌, Some, true, slice_get, Ok, Err, map, MatchResult};
 ghost use Rattle.px_session.specs.declared.header.SinkSpec.{SinkSpec};
 ghost use Rattle.px_core.specs.Keeps.{IsKept};
 ghost use Rattle.px_core_cell.specs.declared.step.CoreStep.TheVariants as asked;
+ghost use Rattle.px_core_cell.specs.Boxes.{boxes_of};
 ghost use Rattle.px_core_cell.specs.Cell.{ends_of, desk_of, cell_of};
-ghost use Rattle.px_core_cell.specs.History.{IsHeard, IsSound};
+ghost use Rattle.px_core_cell.specs.History.{IsHeard, IsSound, first_cell};
 ghost use Rattle.px_core_cell.specs.Parcel.{spec_of};
 ghost use Rattle.px_core_cell.specs.Step.{is_own, waits, IsAsked, IsFree, OwnGives, NoticeGives, OutGives, NowhereGives, FreeGives, StepGives};
 
@@ -61,7 +62,8 @@ fn notice_step<C: Recorder<CoreEntry>, R: Wait>(
     sink: SinkId,
 ) -> Result<Option<Effects>, StepFault>
     requires countable { log.old.steps < 2 ^ 64 - 1 }
-    ensures { NoticeGives C.told sink.0 (desk_of core.old.state log.old) (desk_of core.new.state log.new) (ends_of end.old) (ends_of end.new) result }
+    ensures gives { NoticeGives C.told sink.0 (desk_of core.old.state log.old) (desk_of core.new.state log.new) (ends_of end.old) (ends_of end.new) result }
+    ensures boxes { boxes_of end.new ≡ boxes_of end.old }
 {
     end.fetch(rt);
     let Some(notice) = &end.kept else {
@@ -91,7 +93,8 @@ fn out_step<C: Recorder<CoreEntry>, R: Wait>(
     requires countable { log.old.steps < 2 ^ 64 - 1 }
     requires kept { IsKept spec_of core.old.state }
     requires heard { (s : SinkSpec) × (slice_get core.old.state.sinks sink.0 ≡ Some s) × IsHeard core.old.state sink.0 s (ends_of end.old) }
-    ensures { OutGives C.told sink (desk_of core.old.state log.old) (desk_of core.new.state log.new) (ends_of end.old) (ends_of end.new) result }
+    ensures gives { OutGives C.told sink (desk_of core.old.state log.old) (desk_of core.new.state log.new) (ends_of end.old) (ends_of end.new) result }
+    ensures boxes { boxes_of end.new ≡ boxes_of end.old }
 {
     log.ready(64)?;
     let count = end.post_waiting(rt, core, sink);
@@ -132,6 +135,23 @@ fn nowhere_step<C: Recorder<CoreEntry>>(
 }
 
 impl<C: Recorder<CoreEntry>> CoreParts<C> {
+    /// Those of a core before its first step. Takes no memory.
+    pub(crate) fn new(core: CellCore, recorder: C, ends: CoreEnds) -> CoreParts<C>
+        ensures cell { cell_of result ≡ first_cell core.state recorder (map ends_of ends.items) }
+        ensures ends { result.ends ≡ ends }
+    {
+        CoreParts {
+            core,
+            log: StepLog {
+                recorder,
+                fault: None,
+                steps: 0,
+                owed: false,
+            },
+            ends,
+        }
+    }
+
     // A sink's notice, where more steps can be counted.
     fn notice<R: Wait>(
         &mut self,
@@ -140,7 +160,8 @@ impl<C: Recorder<CoreEntry>> CoreParts<C> {
         sink: SinkId,
     ) -> Result<Option<Effects>, StepFault>
         requires countable { self.old.log.steps < 2 ^ 64 - 1 }
-        ensures { FreeGives C.told (asked.Notice sink) (cell_of self.old) (cell_of self.new) result }
+        ensures gives { FreeGives C.told (asked.Notice sink) (cell_of self.old) (cell_of self.new) result }
+        ensures boxes { map boxes_of self.new.ends.items ≡ map boxes_of self.old.ends.items }
     {
         let CoreParts { core, log, ends } = self;
         let place = sink.0 as usize;
@@ -155,7 +176,8 @@ impl<C: Recorder<CoreEntry>> CoreParts<C> {
     fn out<R: Wait>(&mut self, rt: &R, alloc: Global, sink: SinkId) -> Result<Effects, StepFault>
         requires countable { self.old.log.steps < 2 ^ 64 - 1 }
         requires sound { IsSound (cell_of self.old) }
-        ensures { MatchResult result (λ effects. FreeGives C.told (asked.Out sink) (cell_of self.old) (cell_of self.new) (Ok (Some effects))) (λ e. FreeGives C.told (asked.Out sink) (cell_of self.old) (cell_of self.new) (Err e)) }
+        ensures gives { MatchResult result (λ effects. FreeGives C.told (asked.Out sink) (cell_of self.old) (cell_of self.new) (Ok (Some effects))) (λ e. FreeGives C.told (asked.Out sink) (cell_of self.old) (cell_of self.new) (Err e)) }
+        ensures boxes { map boxes_of self.new.ends.items ≡ map boxes_of self.old.ends.items }
     {
         let CoreParts { core, log, ends } = self;
         let place = sink.0 as usize;
@@ -171,7 +193,8 @@ impl<C: Recorder<CoreEntry>> CoreParts<C> {
         requires own { is_own step ≡ true }
         requires asked { IsAsked step }
         requires countable { self.old.log.steps < 2 ^ 64 - 1 }
-        ensures { MatchResult result (λ effects. FreeGives C.told step (cell_of self.old) (cell_of self.new) (Ok (Some effects))) (λ e. FreeGives C.told step (cell_of self.old) (cell_of self.new) (Err e)) }
+        ensures gives { MatchResult result (λ effects. FreeGives C.told step (cell_of self.old) (cell_of self.new) (Ok (Some effects))) (λ e. FreeGives C.told step (cell_of self.old) (cell_of self.new) (Err e)) }
+        ensures boxes { map boxes_of self.new.ends.items ≡ map boxes_of self.old.ends.items }
     {
         let CoreParts { core, log, ends: _ } = self;
         own_step(alloc, core, log, step)
@@ -187,7 +210,8 @@ impl<C: Recorder<CoreEntry>> CoreParts<C> {
         requires asked { IsAsked step }
         requires countable { self.old.log.steps < 2 ^ 64 - 1 }
         requires sound { IsSound (cell_of self.old) }
-        ensures { FreeGives C.told step (cell_of self.old) (cell_of self.new) result }
+        ensures gives { FreeGives C.told step (cell_of self.old) (cell_of self.new) result }
+        ensures boxes { map boxes_of self.new.ends.items ≡ map boxes_of self.old.ends.items }
     {
         match step {
             CoreStep::Notice(sink) => self.notice(rt, alloc, sink),
@@ -211,7 +235,8 @@ impl<C: Recorder<CoreEntry>> CoreParts<C> {
     ) -> Result<Option<Effects>, StepFault>
         requires asked { IsAsked step }
         requires sound { IsSound (cell_of self.old) }
-        ensures { StepGives C.told step (cell_of self.old) (cell_of self.new) result }
+        ensures gives { StepGives C.told step (cell_of self.old) (cell_of self.new) result }
+        ensures boxes { map boxes_of self.new.ends.items ≡ map boxes_of self.old.ends.items }
     {
         if self.log.owed && waits(&step) {
             return Err(StepFault::Owed(step));

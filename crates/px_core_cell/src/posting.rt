@@ -4,6 +4,7 @@ ghost use Rattle.std.specs.Prelude.{◌≡◌, None, Some, true, false, slice_ge
 ghost use Rattle.px_session.specs.declared.header.SinkSpec.{SinkSpec};
 ghost use Rattle.px_core.specs.Keeps.{IsKept};
 ghost use Rattle.px_core.specs.Step.{Step, stepped, effects_of};
+ghost use Rattle.px_core_cell.specs.Boxes.{boxes_of};
 ghost use Rattle.px_core_cell.specs.Cell.{ends_of};
 ghost use Rattle.px_core_cell.specs.History.{IsHeard};
 ghost use Rattle.px_core_cell.specs.Parcel.{spec_of};
@@ -20,6 +21,7 @@ impl CoreEnd {
     /// Where no notice is kept, the sink's next one is taken from its outbox and kept.
     pub(crate) fn fetch<R: Wait>(&mut self, rt: &R)
         ensures fetches { Fetches (ends_of self.old) (ends_of self.new) }
+        ensures boxes { boxes_of self.new ≡ boxes_of self.old }
     {
         if self.kept.is_none() {
             match self.outbox.take(rt, &mut self.take) {
@@ -35,6 +37,7 @@ impl CoreEnd {
         ensures done { IfOk result (λ effects. IfSome self.old.kept (λ n. (core.new.state ≡ stepped spec_of core.old.state (Step.notice sink n)) × (effects ≡ effects_of spec_of core.old.state (Step.notice sink n)))) }
         ensures used { OnOk result (ends_of self.new ≡ record (ends_of self.old) { kept = None }) }
         ensures err { OnErr result ((core.new.state ≡ core.old.state) × (ends_of self.new ≡ ends_of self.old)) }
+        ensures boxes { boxes_of self.new ≡ boxes_of self.old }
     {
         let Some(notice) = self.kept.take() else {
             unreachable!()
@@ -54,6 +57,7 @@ impl CoreEnd {
         requires heard { (s : SinkSpec) × (slice_get core.old.state.sinks sink.0 ≡ Some s) × IsHeard core.old.state sink.0 s (ends_of self.old) }
         ensures posts { result ≡ true → PostsOne sink core.old.state core.new.state (ends_of self.old) (ends_of self.new) }
         ensures stops { result ≡ false → (core.new.state ≡ core.old.state) × (ends_of self.new ≡ ends_of self.old) × HandsAll sink core.new.state (ends_of self.new) }
+        ensures boxes { boxes_of self.new ≡ boxes_of self.old }
     {
         let Some(message) = core.sent(sink) else {
             return false;
@@ -73,6 +77,7 @@ impl CoreEnd {
         requires heard { (s : SinkSpec) × (slice_get core.old.state.sinks sink.0 ≡ Some s) × IsHeard core.old.state sink.0 s (ends_of self.old) }
         ensures posts { PostsMany sink result core.old.state core.new.state (ends_of self.old) (ends_of self.new) }
         ensures until { HandsAll sink core.new.state (ends_of self.new) }
+        ensures boxes { boxes_of self.new ≡ boxes_of self.old }
     {
         let waiting = core.outgoing(sink);
         for posted in 0..waiting {

@@ -8,8 +8,8 @@ use Rattle.px_core_cell.specs.Plain.{plain_notice}
 use Rattle.px_core_cell.proofs.Doing.{Collects, notice_done}
 use Rattle.px_core_cell.proofs.parts.notice_step.Goals as goal
 
-pub returns : goal.returns
-returns g c =
+pub returns-clause-gives : goal.returns-clause-gives
+returns-clause-gives g c =
     let kept : c.fetch.new.self.kept ≡ Some c.in-Some.notice = c.in-Some.is in
     let used : ends_of c.collect.new.self ≡ record (ends_of c.fetch.new.self) { kept = None } = c.in_ok-effects.ensures.used in
     let made : c.in_ok-plain_notice.field-0 ≡ plain_notice c.in-Some.notice = c.in_ok-plain_notice.ensures in

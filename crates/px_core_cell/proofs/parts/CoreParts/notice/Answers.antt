@@ -3,17 +3,22 @@ use Rattle.std.proofs.lemmas.List.{map-set}
 use Rattle.px_core_cell.specs.declared.step.CoreStep.TheVariants as asked
 use Rattle.px_core_cell.specs.Cell.{SinkEnds, ends_of, desk_of, cell_of}
 use Rattle.px_core_cell.specs.Step.{FreeGives}
-use Rattle.px_core_cell.proofs.Giving.{end_at, none_at, notice_gives}
+use Rattle.px_core_cell.proofs.Giving.{end_at, none_at, boxes_stay, notice_gives}
 use Rattle.px_core_cell.proofs.parts.CoreParts.notice.Goals as goal
 
-pub returns-then-place-len : goal.returns-then-place-len
-returns-then-place-len g c =
+pub returns-then-place-len-clause-gives : goal.returns-then-place-len-clause-gives
+returns-then-place-len-clause-gives g c =
     subst (λ (l : List SinkEnds). FreeGives g.C.Recorder.told (asked.Notice c.args.sink) (cell_of c.args.self.now) (record { desk = desk_of c.notice_step.new.core.state c.notice_step.new.log; ends = l }) c.notice_step.result)
     (sym (map-set ends_of c.args.self.now.ends.items c.args.sink.0 c.notice_step.new.end))
     (notice_gives g.C.Recorder.told c.args.sink (desk_of c.args.self.now.core.state c.args.self.now.log) (desk_of c.notice_step.new.core.state c.notice_step.new.log) (map ends_of c.args.self.now.ends.items)
     (ends_of c.index_mut.result.now) (ends_of c.notice_step.new.end) c.notice_step.result
     (end_at c.args.self.now.ends.items c.args.sink.0 c.len.result c.index_mut.result.now (c.len.ensures ∙ c.args.self.now.ends.ok.0) c.if-place-len.true c.index_mut.ensures.value)
-    c.notice_step.ensures)
+    c.notice_step.ensures.gives)
 
-pub returns-else-place-len : goal.returns-else-place-len
-returns-else-place-len g c = ((λ e is. absurd (none_at c.args.self.now.ends.items c.args.sink.0 c.len.result (c.len.ensures ∙ c.args.self.now.ends.ok.0) c.if-place-len.false e is)), refl)
+pub returns-else-place-len-clause-gives : goal.returns-else-place-len-clause-gives
+returns-else-place-len-clause-gives g c = ((λ e is. absurd (none_at c.args.self.now.ends.items c.args.sink.0 c.len.result (c.len.ensures ∙ c.args.self.now.ends.ok.0) c.if-place-len.false e is)), refl)
+
+pub returns-then-place-len-clause-boxes : goal.returns-then-place-len-clause-boxes
+returns-then-place-len-clause-boxes g c =
+    boxes_stay c.args.self.now.ends.items c.args.sink.0 c.len.result c.index_mut.result.now c.notice_step.new.end (c.len.ensures ∙ c.args.self.now.ends.ok.0) c.if-place-len.true c.index_mut.ensures.value
+    c.notice_step.ensures.boxes

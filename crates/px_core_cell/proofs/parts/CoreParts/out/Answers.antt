@@ -2,7 +2,7 @@ use Rattle.std.proofs.Common.{◌≡◌, ◌<◌, ◌∙◌, List, Some, map, le
 use Rattle.std.specs.Prelude.{slice_get}
 use Rattle.std.proofs.lemmas.List.{map-set, length-map}
 use Rattle.px_core_cell.specs.Cell.{SinkEnds, ends_of, desk_of, cell_of}
-use Rattle.px_core_cell.proofs.Giving.{end_at, none_at, is_there, EffectsGive, out_gives, nowhere_gives}
+use Rattle.px_core_cell.proofs.Giving.{end_at, none_at, boxes_stay, is_there, EffectsGive, out_gives, nowhere_gives}
 use Rattle.px_core_cell.proofs.parts.CoreParts.out.Goals as goal
 
 pub out_step-requires-clause-heard : goal.out_step-requires-clause-heard
@@ -12,16 +12,21 @@ out_step-requires-clause-heard g c =
     is_there (cell_of c.args.self.now) c.args.sink (ends_of c.index_mut.result.now) c.requires.sound inside
     (end_at c.args.self.now.ends.items c.args.sink.0 c.len.result c.index_mut.result.now (c.len.ensures ∙ c.args.self.now.ends.ok.0) c.if-place-len.true c.index_mut.ensures.value)
 
-pub returns-then-place-len : goal.returns-then-place-len
-returns-then-place-len g c =
+pub returns-then-place-len-clause-gives : goal.returns-then-place-len-clause-gives
+returns-then-place-len-clause-gives g c =
     let here : slice_get (map ends_of c.args.self.now.ends.items) c.args.sink.0 ≡ Some (ends_of c.index_mut.result.now) =
     end_at c.args.self.now.ends.items c.args.sink.0 c.len.result c.index_mut.result.now (c.len.ensures ∙ c.args.self.now.ends.ok.0) c.if-place-len.true c.index_mut.ensures.value in
     subst (λ (l : List SinkEnds). EffectsGive g.C.Recorder.told c.args.sink (cell_of c.args.self.now) (record { desk = desk_of c.out_step.new.core.state c.out_step.new.log; ends = l }) c.out_step.result)
     (sym (map-set ends_of c.args.self.now.ends.items c.args.sink.0 c.out_step.new.end))
     (out_gives g.C.Recorder.told c.args.sink (desk_of c.args.self.now.core.state c.args.self.now.log) (desk_of c.out_step.new.core.state c.out_step.new.log) (map ends_of c.args.self.now.ends.items)
-    (ends_of c.index_mut.result.now) (ends_of c.out_step.new.end) c.out_step.result here c.out_step.ensures)
+    (ends_of c.index_mut.result.now) (ends_of c.out_step.new.end) c.out_step.result here c.out_step.ensures.gives)
 
-pub returns-else-place-len : goal.returns-else-place-len
-returns-else-place-len g c =
+pub returns-else-place-len-clause-gives : goal.returns-else-place-len-clause-gives
+returns-else-place-len-clause-gives g c =
     nowhere_gives g.C.Recorder.told c.args.sink c.args.self.now.core.state c.args.self.now.log c.nowhere_step.new.log (map ends_of c.args.self.now.ends.items) c.nowhere_step.result
     (none_at c.args.self.now.ends.items c.args.sink.0 c.len.result (c.len.ensures ∙ c.args.self.now.ends.ok.0) c.if-place-len.false) c.nowhere_step.ensures
+
+pub returns-then-place-len-clause-boxes : goal.returns-then-place-len-clause-boxes
+returns-then-place-len-clause-boxes g c =
+    boxes_stay c.args.self.now.ends.items c.args.sink.0 c.len.result c.index_mut.result.now c.out_step.new.end (c.len.ensures ∙ c.args.self.now.ends.ok.0) c.if-place-len.true c.index_mut.ensures.value
+    c.out_step.ensures.boxes
