@@ -71,8 +71,8 @@ pub first_refused : (reader new : Reader) (bytes : List ℕ) (after : Option (Li
     → Gives (Err e) reader new (all_ahead reader (Some bytes)) after → header_of bytes ≡ Err (record { at = at; cause = cause })
 first_refused reader new bytes after e at cause is why gives =
     let g : Gives (Err (Refused at cause)) fresh new (all_ahead fresh (Some bytes)) after =
-      subst (λ (r : Reader). Gives (Err (Refused at cause)) r new (all_ahead r (Some bytes)) after) is
-        (subst (λ (f : ReadError). Gives (Err f) reader new (all_ahead reader (Some bytes)) after) why gives) in
+    subst (λ (r : Reader). Gives (Err (Refused at cause)) r new (all_ahead r (Some bytes)) after) is
+    (subst (λ (f : ReadError). Gives (Err f) reader new (all_ahead reader (Some bytes)) after) why gives) in
     ap (whole (length bytes)) (header_refused (start_of bytes) (record { at = at; cause = cause }) g.2)
 
 abbrev pub refused_at : ℕ → Result Header Refusal

@@ -29,7 +29,7 @@ pub returns-clause-parts : goal.returns-clause-parts
 returns-clause-parts g c =
     let none : c.loop-part.left.items ≡ [] = search rules in
     c.loop-part.invariant.parts (g.H.Host.now c.loop-part.host)
-      (back_none g.H.D.Device.now g.H.R.Recorder.faults g.H.R.Recorder.fulls c.loop-part.left.items (g.H.Host.now c.loop-part.host) none)
+    (back_none g.H.D.Device.now g.H.R.Recorder.faults g.H.R.Recorder.fulls c.loop-part.left.items (g.H.Host.now c.loop-part.host) none)
 
 pub returns-clause-lent : goal.returns-clause-lent
 returns-clause-lent g c =

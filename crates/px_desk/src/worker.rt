@@ -1,33 +1,38 @@
 //! What every worker does with the core.
 
-ghost use Rattle.std.specs.Prelude.{◌≡◌};
+ghost use Rattle.std.specs.Prelude.{◌≡◌, ◌+◌, ◌<◌, map, IfOk, OnErr};
 ghost use Rattle.px_frame.specs.Frame.{IsBody};
+ghost use Rattle.px_core_cell.specs.Boxes.{boxes_of};
+ghost use Rattle.px_core_cell.specs.Cause.{IsCaused};
+ghost use Rattle.px_core_cell.specs.Cell.{cell_of};
+ghost use Rattle.px_core_cell.specs.History.{IsCell};
 ghost use Rattle.px_core_cell.specs.Step.{IsAsked, HandsBack};
 
 use crate::desk::Desk;
 use crate::lines::Next;
 use px_annals::{CoreEntry, RecordFault, Recorder};
-use px_core_cell::{CoreSeat, CoreStep, Seats, StepFault};
+use px_core_cell::{CoreParts, CoreSeat, CoreStep, Seats, StepFault};
 use px_frame::{Frame, FrameFault};
 use px_types::{ConnId, Mem, SinkId};
 use std::alloc::Global;
+use std::sync::atomic::Ordering;
 use std::sync::{Arc, Wait};
 use std::thread::yield_now;
 
-/// What became of a step.
+// What became of a step.
 #[derive(Clone, Copy, Debug, PartialEq, Eq)]
-pub(crate) enum Made {
-    /// It was done.
+enum Made {
+    // It was done.
     Done,
-    /// There was nothing to do.
+    // There was nothing to do.
     Nothing,
-    /// There was no memory for it.
+    // There was no memory for it.
     NoMemory,
 }
 
 /// Why the core makes no more steps.
 #[derive(Clone, Copy, Debug, PartialEq, Eq)]
-pub(crate) enum CoreStop {
+pub enum CoreStop {
     /// It has made as many as are counted.
     Worn,
     /// Its recorder isn't ready for one more.
@@ -57,7 +62,7 @@ fn step_of(step: Plain) -> CoreStep
 
 /// A worker's hold of what all share.
 #[derive(Drop)]
-pub(crate) struct Worker<R, C: Recorder<CoreEntry>, L: Seats> {
+pub struct Worker<R, C: Recorder<CoreEntry>, L: Seats> {
     pub rt: R,
     pub alloc: Global,
     pub desk: Arc<Desk<C, L>>,
@@ -65,6 +70,42 @@ pub(crate) struct Worker<R, C: Recorder<CoreEntry>, L: Seats> {
 }
 
 impl<R: Wait + Copy, C: Recorder<CoreEntry> + Drop, L: Seats> Worker<R, C, L> {
+    /// Another worker with one share of this one's. Where there is no memory there is none.
+    pub fn another(&mut self) -> Mem<Worker<R, C, L>>
+        requires { 1 < self.old.seat.parts }
+        ensures ok { IfOk result (λ other. (other.seat.parts ≡ 1) × (self.new.seat.parts + 1 ≡ self.old.seat.parts)) }
+        ensures err { OnErr result (self.new.seat.parts ≡ self.old.seat.parts) }
+    {
+        let desk = Arc::try_clone(&self.desk)?;
+        Ok(Worker {
+            rt: self.rt,
+            alloc: self.alloc,
+            desk,
+            seat: self.seat.split(),
+        })
+    }
+
+    /// The sinks' workers may end.
+    pub fn finish(&self) {
+        self.desk.over.store(true, Ordering::SeqCst);
+    }
+
+    /// Whether the sinks' workers may end.
+    pub fn is_over(&self) -> bool {
+        self.desk.over.load(Ordering::SeqCst)
+    }
+
+    /// What lies under the core's lock, by a worker with all shares.
+    pub fn into_core(self) -> CoreParts<C>
+        requires { self.seat.parts ≡ L.all }
+        ensures history { IsCell C.told L.began (cell_of result) }
+        ensures boxes { map boxes_of result.ends.items ≡ L.boxes }
+        ensures caused { IsCaused result.log.fault (C.faults result.log.recorder) (C.fulls result.log.recorder) }
+    {
+        let Worker { rt, desk, seat, .. } = self;
+        desk.core.take_parts(&rt, seat)
+    }
+
     // Makes a step, and puts what it does to the outside into the clients' lines. The lines are locked meanwhile, so that they
     // have the packets in the order of the steps.
     fn once(&mut self, step: CoreStep) -> Result<bool, StepFault>
@@ -179,7 +220,7 @@ impl<R: Wait + Copy, C: Recorder<CoreEntry> + Drop, L: Seats> Worker<R, C, L> {
     }
 
     /// What follows a step: the sweep that it owes, the ends of connections that found no memory, and what waits for the sinks.
-    pub(crate) fn follow(&mut self) -> Result<(), CoreStop>
+    pub fn follow(&mut self) -> Result<(), CoreStop>
         ensures seat { self.new.seat.parts ≡ self.old.seat.parts }
     {
         self.sweep()?;
@@ -188,7 +229,7 @@ impl<R: Wait + Copy, C: Recorder<CoreEntry> + Drop, L: Seats> Worker<R, C, L> {
     }
 
     /// Posts to a sink what waits for it. Where there is no memory it waits for the next time.
-    pub(crate) fn post(&mut self, sink: SinkId) -> Result<(), CoreStop>
+    pub fn post(&mut self, sink: SinkId) -> Result<(), CoreStop>
         ensures seat { self.new.seat.parts ≡ self.old.seat.parts }
     {
         self.make(CoreStep::Out(sink))?;
@@ -196,7 +237,7 @@ impl<R: Wait + Copy, C: Recorder<CoreEntry> + Drop, L: Seats> Worker<R, C, L> {
     }
 
     /// A client connects.
-    pub(crate) fn connect(&mut self, conn: ConnId) -> Result<(), CoreStop>
+    pub fn connect(&mut self, conn: ConnId) -> Result<(), CoreStop>
         ensures seat { self.new.seat.parts ≡ self.old.seat.parts }
     {
         self.insist(Plain::Connect(conn))?;
@@ -204,7 +245,7 @@ impl<R: Wait + Copy, C: Recorder<CoreEntry> + Drop, L: Seats> Worker<R, C, L> {
     }
 
     /// The server ends a connection.
-    pub(crate) fn cut(&mut self, conn: ConnId) -> Result<(), CoreStop>
+    pub fn cut(&mut self, conn: ConnId) -> Result<(), CoreStop>
         ensures seat { self.new.seat.parts ≡ self.old.seat.parts }
     {
         self.insist(Plain::Cut(conn))?;
@@ -212,7 +253,7 @@ impl<R: Wait + Copy, C: Recorder<CoreEntry> + Drop, L: Seats> Worker<R, C, L> {
     }
 
     /// A client has closed its connection.
-    pub(crate) fn close(&mut self, conn: ConnId) -> Result<(), CoreStop>
+    pub fn close(&mut self, conn: ConnId) -> Result<(), CoreStop>
         ensures seat { self.new.seat.parts ≡ self.old.seat.parts }
     {
         self.insist(Plain::Close(conn))?;
@@ -220,7 +261,7 @@ impl<R: Wait + Copy, C: Recorder<CoreEntry> + Drop, L: Seats> Worker<R, C, L> {
     }
 
     /// A frame of a client. One that finds no memory ends its connection.
-    pub(crate) fn frame(&mut self, conn: ConnId, frame: Frame) -> Result<(), CoreStop>
+    pub fn frame(&mut self, conn: ConnId, frame: Frame) -> Result<(), CoreStop>
         requires { IsBody frame.body }
         ensures seat { self.new.seat.parts ≡ self.old.seat.parts }
     {
@@ -231,12 +272,7 @@ impl<R: Wait + Copy, C: Recorder<CoreEntry> + Drop, L: Seats> Worker<R, C, L> {
     }
 
     /// A fault in a client's bytes. One that finds no memory ends its connection.
-    pub(crate) fn broken(
-        &mut self,
-        conn: ConnId,
-        fault: FrameFault,
-        at: u64,
-    ) -> Result<(), CoreStop>
+    pub fn broken(&mut self, conn: ConnId, fault: FrameFault, at: u64) -> Result<(), CoreStop>
         ensures seat { self.new.seat.parts ≡ self.old.seat.parts }
     {
         match self.make(CoreStep::Broken(conn, fault, at))? {
@@ -246,7 +282,7 @@ impl<R: Wait + Copy, C: Recorder<CoreEntry> + Drop, L: Seats> Worker<R, C, L> {
     }
 
     /// All notices that a sink's mixer has posted.
-    pub(crate) fn notices(&mut self, sink: SinkId) -> Result<(), CoreStop>
+    pub fn notices(&mut self, sink: SinkId) -> Result<(), CoreStop>
         ensures seat { self.new.seat.parts ≡ self.old.seat.parts }
     {
         let rt = self.rt;
@@ -260,26 +296,26 @@ impl<R: Wait + Copy, C: Recorder<CoreEntry> + Drop, L: Seats> Worker<R, C, L> {
     }
 
     /// A line for a client's packets.
-    pub(crate) fn open_line(&mut self, conn: ConnId) -> Mem<()>
+    pub fn open_line(&mut self, conn: ConnId) -> Mem<()>
         ensures seat { self.new.seat.parts ≡ self.old.seat.parts }
     {
         self.desk.lines.lock(&self.rt).open(conn)
     }
 
     /// A client's line goes.
-    pub(crate) fn shut_line(&mut self, conn: ConnId)
+    pub fn shut_line(&mut self, conn: ConnId)
         ensures seat { self.new.seat.parts ≡ self.old.seat.parts }
     {
         self.desk.lines.lock(&self.rt).shut(conn);
     }
 
     /// Whether a client has a line.
-    pub(crate) fn has_line(&self, conn: ConnId) -> bool {
+    pub fn has_line(&self, conn: ConnId) -> bool {
         self.desk.lines.lock(&self.rt).has(conn)
     }
 
     /// What stands first in a client's line.
-    pub(crate) fn next_packet(&mut self, conn: ConnId) -> Next
+    pub fn next_packet(&mut self, conn: ConnId) -> Next
         ensures seat { self.new.seat.parts ≡ self.old.seat.parts }
     {
         self.desk.lines.lock(&self.rt).next(conn)

@@ -20,7 +20,7 @@ struct Line {
 
 /// What stands first in a client's line.
 #[derive(Debug, Drop)]
-pub(crate) enum Next {
+pub enum Next {
     /// A packet to be sent.
     Packet(Packet),
     /// Nothing waits.
