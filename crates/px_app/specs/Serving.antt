@@ -3,6 +3,7 @@ use Rattle.std.specs.Prelude.{◌≡◌, ◌⊎◌, ℕ, Bool, false, bytes_eq, 
 use Rattle.px_types.specs.declared.status.Status.{Status}
 use Rattle.px_types.specs.declared.status.Status.TheVariants as status
 use Rattle.px_types.specs.Faults.{Rose}
+use Rattle.px_annals.specs.declared.entry.CoreEntry.{CoreEntry}
 use Rattle.px_annals.specs.declared.entry.LaneEntry.{LaneEntry}
 use Rattle.px_ends.specs.Device.{DeviceState}
 use Rattle.px_ends.specs.Host.{HostState}
@@ -42,8 +43,8 @@ EndReported (serve.Refused at cause) answered before after = Reported (ending.Re
 EndReported (serve.Ended ended) answered before after = StatusReported ended answered before after
 
 -- it was served by these words, and that was reported
-pub record Served {D R C : Type 0} (core_faults core_fulls : C → ℕ) (now : D → DeviceState) (told : R → Option (List LaneEntry)) (faults fulls : R → ℕ)
+pub record Served {D R C : Type 0} (core_told : C → Option (List CoreEntry)) (core_faults core_fulls : C → ℕ) (now : D → DeviceState) (told : R → Option (List LaneEntry)) (faults fulls : R → ℕ)
     (texts : List (List ℕ)) (answered : Status) (before after : HostState D R C) (log_before log_after : Log) : Type 0 where
   pub end : ServeEnd
-  pub serves : ServesBy core_faults core_fulls now told faults fulls texts end before after
+  pub serves : ServesBy core_told core_faults core_fulls now told faults fulls texts end before after
   pub reported : EndReported end answered log_before log_after

@@ -133,7 +133,7 @@ where
     H::R: 'static,
     H::C: 'static,
     // By the words of `serve` the host was started, served, and given back what it made; nothing was read from the input or written to the output.
-    ensures serve { is_serve (map string_bytes words.now) ≡ true → Served H.C.faults H.C.fulls H.D.now H.R.told H.R.faults H.R.fulls
+    ensures serve { is_serve (map string_bytes words.now) ≡ true → Served H.C.told H.C.faults H.C.fulls H.D.now H.R.told H.R.faults H.R.fulls
         (map string_bytes words.now) result (H.now host.old) (H.now host.new)
         (log_end (L.held log.old) (L.faults log.old)) (log_end (L.held log.new) (L.faults log.new)) }
     ensures serve_alone { is_serve (map string_bytes words.now) ≡ true

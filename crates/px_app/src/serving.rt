@@ -64,7 +64,7 @@ where
     H::D: 'static,
     H::R: 'static,
     H::C: 'static,
-    ensures { Served H.C.faults H.C.fulls H.D.now H.R.told H.R.faults H.R.fulls (map string_bytes words.now) result (H.now host.old) (H.now host.new)
+    ensures { Served H.C.told H.C.faults H.C.fulls H.D.now H.R.told H.R.faults H.R.fulls (map string_bytes words.now) result (H.now host.old) (H.now host.new)
         (log_end (L.held log.old) (L.faults log.old)) (log_end (L.held log.new) (L.faults log.new)) }
 {
     match serve_by(rt, alloc, words, host) {

@@ -1,7 +1,7 @@
 -- What the steps of one sink answer, as steps of the whole.
 use Rattle.std.proofs.Common.{◌≡◌, ℕ, ◌<◌, ◌≤◌, List, map, length, set, Option, Some, None, Result, Ok, Err, refl, ap, sym, subst, ◌∙◌, arith}
 use Rattle.std.specs.Prelude.{slice_get, slice_index_or, MatchResult}
-use Rattle.std.proofs.lemmas.List.{length-map}
+use Rattle.std.proofs.lemmas.List.{length-map, map-set}
 use Rattle.std.proofs.lemmas.Option.{same_Some, none-some, slice_get-map, slice_get_past, slice_get_read}
 use Rattle.px_types.specs.declared.ids.SinkId.{SinkId}
 use Rattle.px_annals.specs.declared.entry.CoreEntry.{CoreEntry}
@@ -16,6 +16,7 @@ use Rattle.px_core_cell.specs.declared.log.StepLog.{StepLog}
 use Rattle.px_core_cell.specs.declared.step.CoreStep.TheVariants as asked
 use Rattle.px_core_cell.specs.declared.step.StepFault.{StepFault}
 use Rattle.px_core_cell.specs.declared.step.StepFault.TheVariants.{NoMemory, Worn, Recorder, Owed}
+use Rattle.px_core_cell.specs.Boxes.{Boxes, boxes_of}
 use Rattle.px_core_cell.specs.Cell.{Desk, Cell, SinkEnds, desk_of}
 use Rattle.px_core_cell.specs.History.{IsSound}
 use Rattle.px_core_cell.specs.Plain.{plain_notice}
@@ -28,6 +29,15 @@ use Rattle.px_core_cell.proofs.Places.{there, rests}
 
 pub placed_at : {B : Type 0} (seen : CoreEnd → B) (ends : List CoreEnd) (place n : ℕ) (e : CoreEnd) → n ≡ length ends → place < n → e ≡ slice_index_or ends place e → slice_get (map seen ends) place ≡ Some (seen e)
 placed_at seen ends place n e count inside is = slice_get-map seen ends place ∙ ap (λ (o : Option CoreEnd). Rattle.std.specs.Option.option_map seen o) (slice_get_read ends n place e count inside is)
+
+-- their mailboxes stay the same where one of them was used
+pub boxes_stay : (ends : List CoreEnd) (place n : ℕ) (e f : CoreEnd) → n ≡ length ends → place < n → e ≡ slice_index_or ends place e → boxes_of f ≡ boxes_of e
+    → map boxes_of (set ends place f) ≡ map boxes_of ends
+boxes_stay ends place n e f count inside is same =
+    map-set boxes_of ends place f
+    ∙ ap (λ (b : Boxes). set (map boxes_of ends) place b) same
+    ∙ rests (map boxes_of ends) place (boxes_of e)
+    (slice_get-map boxes_of ends place ∙ ap (λ (o : Option CoreEnd). Rattle.std.specs.Option.option_map boxes_of o) (slice_get_read ends n place e count inside is))
 
 pub none_at : {B : Type 0} (seen : CoreEnd → B) (ends : List CoreEnd) (place n : ℕ) → n ≡ length ends → n ≤ place → (e : B) → slice_get (map seen ends) place ≡ Some e → ⊥
 none_at seen ends place n count past e is =

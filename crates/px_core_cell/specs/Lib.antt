@@ -1,3 +1,4 @@
+pub mod Boxes
 pub mod Parcel
 pub mod Plain
 pub mod Cause

@@ -1,6 +1,7 @@
 //! The core's lock.
 
 ghost use Rattle.std.specs.Prelude.{◌≡◌, ◌+◌, ◌<◌, ◌≤◌, [], Some, map, IfSome, MatchResult, MatchOption};
+ghost use Rattle.px_core_cell.specs.Boxes.{boxes_of};
 ghost use Rattle.px_core_cell.specs.Cell.{ends_of, cell_of};
 ghost use Rattle.px_core_cell.specs.History.{Begins, IsCell};
 ghost use Rattle.px_core_cell.specs.Cause.{IsCaused};
@@ -11,7 +12,6 @@ use crate::ends::CoreEnds;
 use crate::parcel::CellCore;
 use crate::parts::CoreParts;
 use crate::seat::{CoreSeat, Seats};
-use crate::state::CoreState;
 use crate::step::{CoreStep, StepFault};
 use px_annals::{CoreEntry, Recorder};
 use px_core::Effects;
@@ -29,7 +29,8 @@ struct Live<C: Recorder<CoreEntry>, L: Seats> {
 }
 
 impl<C: Recorder<CoreEntry>, L: Seats> Model for Live<C, L> {
-    ghost use Rattle.std.specs.Prelude.{◌≡◌};
+    ghost use Rattle.std.specs.Prelude.{◌≡◌, map};
+    ghost use Rattle.px_core_cell.specs.Boxes.{boxes_of};
     ghost use Rattle.px_core_cell.specs.Cell.{Cell, cell_of};
     ghost use Rattle.px_core_cell.specs.History.{IsCell};
 
@@ -37,7 +38,7 @@ impl<C: Recorder<CoreEntry>, L: Seats> Model for Live<C, L> {
 
     ghost view = { λ l. cell_of l.parts };
 
-    ghost invariant = { λ l. IsCell C.told L.began (cell_of l.parts) × (l.book.total ≡ l.parts.log.steps) × (L.parts ≡ L.all) };
+    ghost invariant = { λ l. IsCell C.told L.began (cell_of l.parts) × (l.book.total ≡ l.parts.log.steps) × (L.parts ≡ L.all) × (map boxes_of l.parts.ends.items ≡ L.boxes) };
 }
 
 // All parts of a ledger.
@@ -117,11 +118,12 @@ impl<C: Recorder<CoreEntry> + Drop, L: Seats> CoreCell<C, L> {
         requires parts { (blank.parts ≡ L.parts) × (L.parts ≡ L.all) × (0 < L.all) }
         requires began { core.state ≡ L.began }
         requires begins { Begins core.state (map ends_of ends.items) }
+        requires boxes { map boxes_of ends.items ≡ L.boxes }
         requires none { IfSome (C.told recorder) (λ entries. entries ≡ []) }
         ensures { result.1 ≡ record { parts = L.all; steps = 0 } }
     {
         let (book, share) = blank.open::<L>();
-        let parts = CoreState::new(core, recorder, ends).into_parts();
+        let parts = CoreParts::new(core, recorder, ends);
         (
             CoreCell {
                 slot: Mutex::new(Slot::Live(Live { parts, book })),
@@ -157,6 +159,7 @@ impl<C: Recorder<CoreEntry> + Drop, L: Seats> CoreCell<C, L> {
     pub fn take_parts<R: Wait>(&self, rt: &R, seat: CoreSeat<L>) -> CoreParts<C>
         requires { seat.parts ≡ L.all }
         ensures history { IsCell C.told L.began (cell_of result) }
+        ensures boxes { map boxes_of result.ends.items ≡ L.boxes }
         ensures steps { seat.steps ≤ result.log.steps }
         ensures caused { IsCaused result.log.fault (C.faults result.log.recorder) (C.fulls result.log.recorder) }
     {

@@ -1,11 +1,12 @@
 //! What lies under the core's lock, and its steps.
 
-ghost use Rattle.std.specs.Prelude.{◌≡◌, ◌-◌, ◌^◌, ◌<◌, Some, true, slice_get, Ok, Err, IfOk, MatchResult};
+ghost use Rattle.std.specs.Prelude.{◌≡◌, ◌-◌, ◌^◌, ◌<◌, Some, true, slice_get, Ok, Err, IfOk, MatchResult, map};
 ghost use Rattle.px_session.specs.declared.header.SinkSpec.{SinkSpec};
 ghost use Rattle.px_core.specs.Keeps.{IsKept};
 ghost use Rattle.px_core_cell.specs.declared.step.CoreStep.TheVariants as asked;
 ghost use Rattle.px_core_cell.specs.Cell.{ends_of, desk_of, cell_of, calls_of, calls_in};
-ghost use Rattle.px_core_cell.specs.History.{IsHeard, IsSound};
+ghost use Rattle.px_core_cell.specs.History.{IsHeard, IsSound, first_cell};
+ghost use Rattle.px_core_cell.specs.Boxes.{boxes_of};
 ghost use Rattle.px_core_cell.specs.Parcel.{spec_of};
 ghost use Rattle.px_core_cell.specs.Step.{is_own, waits, IsAsked, IsFree, OwnGives, NoticeGives, OutGives, NowhereGives, FreeGives, StepGives, OutStops, NoticeStops, Stops};
 
@@ -63,6 +64,7 @@ fn notice_step<C: Recorder<CoreEntry>, R: Wait>(
     requires countable { log.old.steps < 2 ^ 64 - 1 }
     ensures gives { NoticeGives C.told sink.0 (desk_of core.old.state log.old) (desk_of core.new.state log.new) (ends_of end.old) (ends_of end.new) result }
     ensures stops { NoticeStops (calls_of end.old) (calls_of end.new) result }
+    ensures boxes { boxes_of end.new ≡ boxes_of end.old }
 {
     end.fetch(rt);
     let Some(notice) = &end.kept else {
@@ -94,6 +96,7 @@ fn out_step<C: Recorder<CoreEntry>, R: Wait>(
     requires heard { (s : SinkSpec) × (slice_get core.old.state.sinks sink.0 ≡ Some s) × IsHeard core.old.state sink.0 s (ends_of end.old) }
     ensures gives { OutGives C.told sink (desk_of core.old.state log.old) (desk_of core.new.state log.new) (ends_of end.old) (ends_of end.new) result }
     ensures stops { OutStops sink core.new.state (calls_of end.old) (calls_of end.new) result }
+    ensures boxes { boxes_of end.new ≡ boxes_of end.old }
 {
     log.ready(64)?;
     let count = end.post_waiting(rt, core, sink);
@@ -134,6 +137,23 @@ fn nowhere_step<C: Recorder<CoreEntry>>(
 }
 
 impl<C: Recorder<CoreEntry>> CoreParts<C> {
+    /// Those of a core before its first step. Takes no memory.
+    pub(crate) fn new(core: CellCore, recorder: C, ends: CoreEnds) -> CoreParts<C>
+        ensures cell { cell_of result ≡ first_cell core.state recorder (map ends_of ends.items) }
+        ensures ends { result.ends ≡ ends }
+    {
+        CoreParts {
+            core,
+            log: StepLog {
+                recorder,
+                fault: None,
+                steps: 0,
+                owed: false,
+            },
+            ends,
+        }
+    }
+
     // A sink's notice, where more steps can be counted.
     fn notice<R: Wait>(
         &mut self,
@@ -144,6 +164,7 @@ impl<C: Recorder<CoreEntry>> CoreParts<C> {
         requires countable { self.old.log.steps < 2 ^ 64 - 1 }
         ensures gives { FreeGives C.told (asked.Notice sink) (cell_of self.old) (cell_of self.new) result }
         ensures stops { Stops (asked.Notice sink) self.new.core.state (calls_in self.old) (calls_in self.new) result }
+        ensures boxes { map boxes_of self.new.ends.items ≡ map boxes_of self.old.ends.items }
     {
         let CoreParts { core, log, ends } = self;
         let place = sink.0 as usize;
@@ -160,6 +181,7 @@ impl<C: Recorder<CoreEntry>> CoreParts<C> {
         requires sound { IsSound (cell_of self.old) }
         ensures gives { MatchResult result (λ effects. FreeGives C.told (asked.Out sink) (cell_of self.old) (cell_of self.new) (Ok (Some effects))) (λ e. FreeGives C.told (asked.Out sink) (cell_of self.old) (cell_of self.new) (Err e)) }
         ensures stops { IfOk result (λ effects. Stops (asked.Out sink) self.new.core.state (calls_in self.old) (calls_in self.new) (Ok (Some effects))) }
+        ensures boxes { map boxes_of self.new.ends.items ≡ map boxes_of self.old.ends.items }
     {
         let CoreParts { core, log, ends } = self;
         let place = sink.0 as usize;
@@ -175,7 +197,8 @@ impl<C: Recorder<CoreEntry>> CoreParts<C> {
         requires own { is_own step ≡ true }
         requires asked { IsAsked step }
         requires countable { self.old.log.steps < 2 ^ 64 - 1 }
-        ensures { MatchResult result (λ effects. FreeGives C.told step (cell_of self.old) (cell_of self.new) (Ok (Some effects))) (λ e. FreeGives C.told step (cell_of self.old) (cell_of self.new) (Err e)) }
+        ensures gives { MatchResult result (λ effects. FreeGives C.told step (cell_of self.old) (cell_of self.new) (Ok (Some effects))) (λ e. FreeGives C.told step (cell_of self.old) (cell_of self.new) (Err e)) }
+        ensures boxes { map boxes_of self.new.ends.items ≡ map boxes_of self.old.ends.items }
     {
         let CoreParts { core, log, ends: _ } = self;
         own_step(alloc, core, log, step)
@@ -193,6 +216,7 @@ impl<C: Recorder<CoreEntry>> CoreParts<C> {
         requires sound { IsSound (cell_of self.old) }
         ensures gives { FreeGives C.told step (cell_of self.old) (cell_of self.new) result }
         ensures stops { Stops step self.new.core.state (calls_in self.old) (calls_in self.new) result }
+        ensures boxes { map boxes_of self.new.ends.items ≡ map boxes_of self.old.ends.items }
     {
         match step {
             CoreStep::Notice(sink) => self.notice(rt, alloc, sink),
@@ -218,6 +242,7 @@ impl<C: Recorder<CoreEntry>> CoreParts<C> {
         requires sound { IsSound (cell_of self.old) }
         ensures gives { StepGives C.told step (cell_of self.old) (cell_of self.new) result }
         ensures stops { Stops step self.new.core.state (calls_in self.old) (calls_in self.new) result }
+        ensures boxes { map boxes_of self.new.ends.items ≡ map boxes_of self.old.ends.items }
     {
         if self.log.owed && waits(&step) {
             return Err(StepFault::Owed(step));

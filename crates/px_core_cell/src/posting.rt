@@ -7,6 +7,7 @@ ghost use Rattle.px_core.specs.Out.{waiting_for};
 ghost use Rattle.px_core.specs.Keeps.{IsKept};
 ghost use Rattle.px_core.specs.Step.{Step, stepped, effects_of};
 ghost use Rattle.px_core_cell.specs.Cell.{ends_of, calls_of};
+ghost use Rattle.px_core_cell.specs.Boxes.{boxes_of};
 ghost use Rattle.px_core_cell.specs.History.{IsHeard};
 ghost use Rattle.px_core_cell.specs.Parcel.{spec_of};
 ghost use Rattle.px_core_cell.specs.Step.{Fetches, PostsOne, PostsMany, HandsAll, HandsOut};
@@ -23,6 +24,7 @@ impl CoreEnd {
     pub(crate) fn fetch<R: Wait>(&mut self, rt: &R)
         ensures fetches { Fetches (ends_of self.old) (ends_of self.new) }
         ensures looks { self.new.kept ≡ None → found_by self.new.take.pass ≡ found_by self.old.take.pass ++ false ∷ [] }
+        ensures boxes { boxes_of self.new ≡ boxes_of self.old }
     {
         if self.kept.is_none() {
             match self.outbox.take(rt, &mut self.take) {
@@ -38,6 +40,7 @@ impl CoreEnd {
         ensures done { IfOk result (λ effects. IfSome self.old.kept (λ n. (core.new.state ≡ stepped spec_of core.old.state (Step.notice sink n)) × (effects ≡ effects_of spec_of core.old.state (Step.notice sink n)))) }
         ensures used { OnOk result (ends_of self.new ≡ record (ends_of self.old) { kept = None }) }
         ensures err { OnErr result ((core.new.state ≡ core.old.state) × (ends_of self.new ≡ ends_of self.old)) }
+        ensures boxes { boxes_of self.new ≡ boxes_of self.old }
     {
         let Some(notice) = self.kept.take() else {
             unreachable!()
@@ -59,6 +62,7 @@ impl CoreEnd {
         ensures stops { result ≡ false → (core.new.state ≡ core.old.state) × (ends_of self.new ≡ ends_of self.old) × HandsAll sink core.new.state (ends_of self.new) }
         ensures stored { result ≡ true → stored_by self.new.post.pass ≡ stored_by self.old.post.pass ++ true ∷ [] }
         ensures refused { result ≡ false → (waiting_for core.new.state sink ≡ []) ⊎ (stored_by self.new.post.pass ≡ stored_by self.old.post.pass ++ false ∷ []) }
+        ensures boxes { boxes_of self.new ≡ boxes_of self.old }
     {
         let Some(message) = core.sent(sink) else {
             return false;
@@ -79,6 +83,7 @@ impl CoreEnd {
         ensures posts { PostsMany sink result core.old.state core.new.state (ends_of self.old) (ends_of self.new) }
         ensures until { HandsAll sink core.new.state (ends_of self.new) }
         ensures calls { HandsOut sink core.new.state (calls_of self.old) (calls_of self.new) }
+        ensures boxes { boxes_of self.new ≡ boxes_of self.old }
     {
         let waiting = core.outgoing(sink);
         for posted in 0..waiting {

@@ -5,17 +5,21 @@ ghost use Rattle.std.specs.Prelude.{◌≡◌, ◌+◌, ◌<◌};
 use std::marker::{Brand, Model};
 use std::sync::ledger::{Ledger, Share};
 
-/// The seats of one core: what they are shares of, and the state that the core began with.
+/// The seats of one core: what they are shares of, the state that the core began with, and the mailboxes of its sinks.
 pub trait Seats: Ledger {
-    ghost use Rattle.std.specs.Prelude.{ℕ};
+    ghost use Rattle.std.specs.Prelude.{ℕ, List};
     ghost use Rattle.px_annals.specs.declared.stream.PlainStream.{PlainStream};
     ghost use Rattle.px_core.specs.State.{State};
+    ghost use Rattle.px_core_cell.specs.Boxes.{Boxes};
 
     /// All its parts.
     ghost all: { ℕ };
 
     /// The state of the core before its first step.
     ghost began: { State PlainStream };
+
+    /// The mailboxes of its sinks.
+    ghost boxes: { List Boxes };
 }
 
 /// A share in the steps of a core. Contracts see how many parts it has, and how many steps were done through it.
@@ -76,4 +80,6 @@ impl Seats for Brand {
       clients_made = 0;
       inputs_made = 0;
     } };
+
+    ghost boxes = { [] };
 }

@@ -6,7 +6,6 @@ ghost use Rattle.px_core_cell.specs.History.{Begins, IsCell, first_cell};
 ghost use Rattle.px_core_cell.specs.Step.{IsAsked, StepGives, Stops};
 
 use crate::ends::CoreEnds;
-use crate::log::StepLog;
 use crate::parcel::CellCore;
 use crate::parts::CoreParts;
 use crate::step::{CoreStep, StepFault};
@@ -48,16 +47,7 @@ impl<C: Recorder<CoreEntry>> CoreState<C> {
     {
         CoreState {
             began: Snapshot::of(&core),
-            parts: CoreParts {
-                core,
-                log: StepLog {
-                    recorder,
-                    fault: None,
-                    steps: 0,
-                    owed: false,
-                },
-                ends,
-            },
+            parts: CoreParts::new(core, recorder, ends),
         }
     }
 

@@ -3,13 +3,13 @@ use Rattle.std.specs.Prelude.{◌≡◌, ◌⊎◌, ℕ, true, false, List, [], 
 use Rattle.clap.specs.Words.{fault_of}
 use Rattle.px_types.specs.declared.status.Status.{Status}
 use Rattle.px_types.specs.declared.status.Status.TheVariants as status
+use Rattle.px_annals.specs.declared.entry.CoreEntry.{CoreEntry}
 use Rattle.px_annals.specs.declared.entry.LaneEntry.{LaneEntry}
 use Rattle.px_ends.specs.declared.host.ServeOptions.{ServeOptions}
 use Rattle.px_ends.specs.Device.{DeviceState}
 use Rattle.px_ends.specs.Host.{HostState, FailsOnce, started_by}
 use Rattle.px_ends.specs.Told.{WhereTold}
 use Rattle.px_session.specs.declared.header.Header.{Header}
-use Rattle.px_session.specs.declared.header.SinkSpec.{SinkSpec}
 use Rattle.px_serve_words.specs.declared.words.ServeWords.{ServeWords}
 use Rattle.px_serve_words.specs.Command.{serve_command, rows, Reads, Refused as Denied}
 use Rattle.px_serve_words.specs.Plain.{Plain}
@@ -32,14 +32,14 @@ AreNone texts =
     (Denied texts × ((said : ServeWords) → Plain texts said → ⊥))
     ⊎ ((said : ServeWords) × IsSaid texts said × (said.tape ≡ true))
 
-module _ {D R C : Type 0} (core_faults core_fulls : C → ℕ) (now : D → DeviceState) (told : R → Option (List LaneEntry)) (faults fulls : R → ℕ) where
-  -- a serving call on these sinks, after which the host took back all that was handed out
-  pub record IsServing (sinks : List SinkSpec) (before after : HostState D R C) (answered : Status) : Type 0 where
+module _ {D R C : Type 0} (core_told : C → Option (List CoreEntry)) (core_faults core_fulls : C → ℕ) (now : D → DeviceState) (told : R → Option (List LaneEntry)) (faults fulls : R → ℕ) where
+  -- a serving call on the sinks of a header, after which the host took back all that was handed out
+  pub record IsServing (header : Header) (before after : HostState D R C) (answered : Status) : Type 0 where
     pub parts : List (LanePart D R)
     pub core : Option C
     pub served_state : HostState D R C
     pub parts_state : HostState D R C
-    pub served : IsServed core_faults core_fulls now told faults fulls sinks before served_state answered parts core
+    pub served : IsServed core_told core_faults core_fulls now told faults fulls header before served_state answered parts core
     pub parts_back : TakesParts now faults fulls parts served_state parts_state
     pub core_back : TakesCores core_faults core_fulls core parts_state after
 
@@ -57,7 +57,7 @@ module _ {D R C : Type 0} (core_faults core_fulls : C → ℕ) (now : D → Devi
   ServesWith options (Ended answered) before after =
       IsEarly options answered before after
       ⊎ ((bytes : List ℕ) × (header : Header) × WhereTold before.header (λ all. bytes ≡ all) × (header_of bytes ≡ Ok header)
-      × IsServing header.sinks (started_by options before) after answered)
+      × IsServing header (started_by options before) after answered)
 
   -- by these words
   abbrev pub ServesBy : List (List ℕ) → ServeEnd → HostState D R C → HostState D R C → Type 0

@@ -42,7 +42,7 @@ where
     H::R: 'static,
     H::C: 'static,
     requires { IsHeader header.now }
-    ensures { IsServing H.C.faults H.C.fulls H.D.now H.R.told H.R.faults H.R.fulls header.now.sinks (H.now host.old) (H.now host.new) result }
+    ensures { IsServing H.C.told H.C.faults H.C.fulls H.D.now H.R.told H.R.faults H.R.fulls header.now (H.now host.old) (H.now host.new) result }
 {
     let Served {
         status,
@@ -70,7 +70,7 @@ where
     H::D: 'static,
     H::R: 'static,
     H::C: 'static,
-    ensures { ServesWith H.C.faults H.C.fulls H.D.now H.R.told H.R.faults H.R.fulls options.now result (H.now host.old) (H.now host.new) }
+    ensures { ServesWith H.C.told H.C.faults H.C.fulls H.D.now H.R.told H.R.faults H.R.fulls options.now result (H.now host.old) (H.now host.new) }
 {
     let bytes = match host.start(alloc, options) {
         HeaderRead::Bytes(bytes) => bytes,
@@ -95,7 +95,7 @@ where
     H::D: 'static,
     H::R: 'static,
     H::C: 'static,
-    ensures { ServesBy H.C.faults H.C.fulls H.D.now H.R.told H.R.faults H.R.fulls (map string_bytes words.now) result (H.now host.old) (H.now host.new) }
+    ensures { ServesBy H.C.told H.C.faults H.C.fulls H.D.now H.R.told H.R.faults H.R.fulls (map string_bytes words.now) result (H.now host.old) (H.now host.new) }
 {
     let said = match read_serve_words(alloc, words) {
         Ok(said) => said,

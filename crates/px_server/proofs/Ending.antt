@@ -1,73 +1,79 @@
 -- What a serving call does, of what its parts do.
-use Rattle.std.proofs.Common.{◌≡◌, ℕ, suc, List, [], ◌∷◌, ◌++◌, map, length, Option, None, Some, IsSome, refl, sym, subst, ◌∙◌, ap, rules, arith, ◌+◌, ◌≤◌, Result, Ok, Err, true, false, OnOk}
-use Rattle.std.proofs.lemmas.List.{length-append, length-map}
+use Rattle.std.proofs.Common.{◌≡◌, ℕ, suc, List, [], ◌∷◌, ◌++◌, map, length, Option, None, Some, IsSome, IfSome, refl, sym, subst, ◌∙◌, ap, rules, arith, ◌+◌, ◌≤◌, Result, Ok, Err, true, false, OnOk}
+use Rattle.std.specs.Prelude.{slice_get}
+use Rattle.std.proofs.lemmas.List.{length-append, length-map, append-nil}
 use Rattle.std.specs.Result.{is_err}
 use Rattle.px_types.specs.declared.status.Status.{Status}
 use Rattle.px_types.specs.declared.status.Status.TheVariants as status
+use Rattle.px_annals.specs.declared.entry.CoreEntry.{CoreEntry}
 use Rattle.px_annals.specs.declared.entry.LaneEntry.{LaneEntry}
 use Rattle.px_annals.specs.declared.recorder.RecordFault.{RecordFault}
+use Rattle.px_annals.specs.declared.stream.PlainStream.{PlainStream}
 use Rattle.px_ends.specs.Device.{DeviceState}
 use Rattle.px_ends.specs.Host.{HostState}
+use Rattle.px_session.specs.declared.header.Header.{Header}
 use Rattle.px_session.specs.declared.header.SinkSpec.{SinkSpec}
+use Rattle.px_core.specs.State.{State, new_state}
 use Rattle.px_core_cell.specs.Cause.{IsCaused}
+use Rattle.px_core_cell.specs.Cell.{Cell, SinkEnds}
+use Rattle.px_core_cell.specs.History.{IsReplay, IsTold}
 use Rattle.px_server.specs.declared.served.LanePart.{LanePart}
 use Rattle.px_server.specs.declared.served.Stop.{Stop}
 use Rattle.px_server.specs.declared.served.Stop.TheVariants as stops
 use Rattle.px_server.specs.Causes.{decided, undecided}
 use Rattle.px_server.specs.Hosted.{IsLater, HasLent, IsCauseOf}
 use Rattle.px_server.specs.Parts.{Start, Worked, AreParts, IsFrontOf, unworked, start_of, starts_of, starts_from}
-use Rattle.px_server.specs.Serving.{first_met, cores_in, Joins, IsDecided, Ends, IsServed}
+use Rattle.px_server.specs.Serving.{first_met, cores_in, IsDecided, Ends, IsServed}
 use Rattle.px_server.specs.Working.{Unworked}
-use Rattle.px_server.proofs.Later.{cause_later}
-use Rattle.px_server.proofs.Parts.{none_met, all_begin, starts_unworked}
+use Rattle.px_server.proofs.Later.{later_later, cause_later}
+use Rattle.px_server.proofs.Parts.{parts_count, starts_unworked}
 
 none_there : (C : Type 0) → IsSome {T = C} None → ⊥
 none_there C some = search rules
 
-module _ {D R C : Type 0} (now : D → DeviceState) (told : R → Option (List LaneEntry)) (faults fulls : R → ℕ) (core_faults core_fulls : C → ℕ) where
+-- what a core's entries say of a sink, wherever its recorder tells
+pub replay_told : {C : Type 0} (began : State PlainStream) (cell : Cell C) (core : Option (List CoreEntry)) → IfSome core (IsReplay began cell)
+    → (i : ℕ) (e : SinkEnds) → slice_get cell.ends i ≡ Some e → IfSome core (λ entries. IsTold began entries (0 + i) e)
+replay_told began cell None none i e is = tt
+replay_told began cell (Some entries) replay i e is =
+    let same : i ≡ 0 + i = omega arith in subst (λ (n : ℕ). IsTold began entries n e) same (replay.told i e is)
+
+module _ {D R C : Type 0} (now : D → DeviceState) (told : R → Option (List LaneEntry)) (faults fulls : R → ℕ) (core_told : C → Option (List CoreEntry)) (core_faults core_fulls : C → ℕ) where
   -- a call whose workers were joined
-  pub run_ends : (lone lone' : List (Unworked D R)) (sinks sinks' : List Start) (before after : HostState D R C)
-      (stop : Stop) (fault : Option RecordFault) (met : Option Status) (answered : Status) (lanes joined parts : List (LanePart D R)) (recorder : C)
-      → sinks ++ map start_of lone' ≡ map start_of lone → sinks' ≡ sinks → Joins now told faults fulls sinks' lanes joined met → lanes ≡ []
-      → ((done : List Worked) → AreParts now told faults fulls done joined → AreParts now told faults fulls (done ++ map unworked lone') parts)
+  pub run_ends : (began : State PlainStream) (lone last : List (Unworked D R)) (before after : HostState D R C)
+      (stop : Stop) (fault : Option RecordFault) (met : Option Status) (answered : Status) (parts : List (LanePart D R)) (recorder : C)
+      → map start_of last ≡ map start_of lone → AreParts began (core_told recorder) now told faults fulls (map unworked last) parts → met ≡ first_met (map unworked last)
       → IsCauseOf stop before after → IsCaused fault (core_faults recorder) (core_fulls recorder) → answered ≡ decided stop fault met
-      → Ends core_faults core_fulls now told faults fulls (map start_of lone) before after answered parts (Some recorder)
-  run_ends lone lone' sinks sinks' before after stop fault met answered lanes joined parts recorder starts same joins none back cause caused is = record {
-    works = joins.works ++ map unworked lone';
-    began = all_begin joins.works sinks lone lone' (joins.began ∙ same) starts;
-    lanes = back joins.works (joins.parts [] (subst (AreParts now told faults fulls []) (sym none) tt));
+      → Ends core_told core_faults core_fulls began now told faults fulls (map start_of lone) before after answered parts (Some recorder)
+  run_ends began lone last before after stop fault met answered parts recorder starts all first cause caused is = record {
+    works = map unworked last;
+    all = starts_unworked last ∙ starts;
+    lanes = all;
     decided = record {
       stop = stop;
       cause = cause;
       fault = fault;
       kept = caused;
-      status = is ∙ ap (decided stop fault) (joins.met ∙ sym (none_met joins.works lone'));
+      status = is ∙ ap (decided stop fault) first;
     };
   }
 
-  -- as many are left as there were
-  pub parts_count : (works : List Worked) (parts : List (LanePart D R)) → AreParts now told faults fulls works parts → length parts ≡ length works
-  parts_count [] [] all = refl
-  parts_count [] (p ∷ parts) all = absurd all
-  parts_count (w ∷ works) [] all = absurd all
-  parts_count (w ∷ works) (p ∷ parts) all = ap suc (parts_count works parts all.1)
-
   -- a call that has made no core is decided by what made it stop
-  pub undecided_is : (before after : HostState D R C) (stop : Stop) (works : List Worked) → first_met works ≡ None → IsCauseOf stop before after
-      → IsDecided core_faults core_fulls before after (undecided stop) works None
-  undecided_is before after stops.Over works none cause = record { stop = stops.Memory; cause = tt; fault = None; kept = refl; status = refl }
-  undecided_is before after stops.Memory works none cause = record { stop = stops.Memory; cause = tt; fault = None; kept = refl; status = refl }
-  undecided_is before after stops.Host works none cause = record { stop = stops.Host; cause = cause; fault = None; kept = refl; status = refl }
-  undecided_is before after (stops.Unrecorded why) works none cause = record { stop = stops.Memory; cause = tt; fault = None; kept = refl; status = refl }
+  pub undecided_is : (before after : HostState D R C) (stop : Stop) (works : List Worked) → IsCauseOf stop before after
+      → IsDecided core_told core_faults core_fulls before after (undecided stop) works None
+  undecided_is before after stops.Over works cause = record { stop = stops.Memory; cause = tt; fault = None; kept = refl; status = refl }
+  undecided_is before after stops.Memory works cause = record { stop = stops.Memory; cause = tt; fault = None; kept = refl; status = refl }
+  undecided_is before after stops.Host works cause = record { stop = stops.Host; cause = cause; fault = None; kept = refl; status = refl }
+  undecided_is before after (stops.Unrecorded why) works cause = record { stop = stops.Memory; cause = tt; fault = None; kept = refl; status = refl }
 
-  pub unserved_is : (sinks : List SinkSpec) (lone : List (Unworked D R)) (before after : HostState D R C) (stop : Stop) (answered : Status) (parts : List (LanePart D R)) (core : Option C)
-      → IsFrontOf (map start_of lone) (starts_of sinks) → IsLater before after → HasLent (length lone) 0 after → IsCauseOf stop before after
-      → answered ≡ undecided stop → AreParts now told faults fulls (map unworked lone) parts → core ≡ None
-      → IsServed core_faults core_fulls now told faults fulls sinks before after answered parts core
-  unserved_is sinks lone before after stop answered parts core front later lent cause is all none =
-      let count : length parts ≡ length lone = parts_count (map unworked lone) parts all ∙ length-map lone unworked in
-      subst (λ (s : Status). IsServed core_faults core_fulls now told faults fulls sinks before after s parts core) (sym is)
-      (subst (λ (o : Option C). IsServed core_faults core_fulls now told faults fulls sinks before after (undecided stop) parts o) (sym none)
+  pub unserved_is : (header : Header) (lone : List (Unworked D R)) (before after : HostState D R C) (stop : Stop) (answered : Status) (parts : List (LanePart D R)) (core : Option C)
+      → IsFrontOf (map start_of lone) (starts_of header.sinks) → IsLater before after → HasLent (length lone) 0 after → IsCauseOf stop before after
+      → answered ≡ undecided stop → ((began : State PlainStream) → AreParts began None now told faults fulls (map unworked lone) parts) → core ≡ None
+      → IsServed core_told core_faults core_fulls now told faults fulls header before after answered parts core
+  unserved_is header lone before after stop answered parts core front later lent cause is all none =
+      let count : length parts ≡ length lone = parts_count (new_state header) None now told faults fulls (map unworked lone) parts (all (new_state header)) ∙ length-map lone unworked in
+      subst (λ (s : Status). IsServed core_told core_faults core_fulls now told faults fulls header before after s parts core) (sym is)
+      (subst (λ (o : Option C). IsServed core_told core_faults core_fulls now told faults fulls header before after (undecided stop) parts o) (sym none)
       (record {
         later = later;
         lent = subst (λ (n : ℕ). HasLent n 0 after) (sym count) lent;
@@ -76,9 +82,9 @@ module _ {D R C : Type 0} (now : D → DeviceState) (told : R → Option (List L
         all = λ some. absurd (none_there C some);
         ends = record {
           works = map unworked lone;
-          began = starts_unworked lone;
-          lanes = all;
-          decided = undecided_is before after stop (map unworked lone) (none_met [] lone) cause;
+          all = starts_unworked lone;
+          lanes = all (new_state header);
+          decided = undecided_is before after stop (map unworked lone) cause;
         };
         whole = λ fine. absurd (not_fine stop fine);
       })) where
@@ -88,36 +94,45 @@ module _ {D R C : Type 0} (now : D → DeviceState) (told : R → Option (List L
         not_fine stops.Host fine = search rules
         not_fine (stops.Unrecorded why) fine = search rules
 
-  pub served_is : (sinks : List SinkSpec) (lone : List (Unworked D R)) (before made after : HostState D R C) (answered : Status) (parts : List (LanePart D R)) (core : Option C)
-      → map start_of lone ≡ starts_of sinks → IsLater before made → IsLater before after → HasLent (length lone) 1 after → IsSome core
-      → Ends core_faults core_fulls now told faults fulls (map start_of lone) made after answered parts core
-      → IsServed core_faults core_fulls now told faults fulls sinks before after answered parts core
-  served_is sinks lone before made after answered parts None starts first later lent some ends = absurd (none_there C some)
-  served_is sinks lone before made after answered parts (Some recorder) starts first later lent some ends =
+  pub served_is : (header : Header) (began : State PlainStream) (lone : List (Unworked D R)) (before after : HostState D R C) (answered : Status) (parts : List (LanePart D R)) (core : Option C)
+      → began ≡ new_state header → map start_of lone ≡ starts_of header.sinks → IsLater before after → HasLent (length lone) 1 after → IsSome core
+      → Ends core_told core_faults core_fulls began now told faults fulls (map start_of lone) before after answered parts core
+      → IsServed core_told core_faults core_fulls now told faults fulls header before after answered parts core
+  served_is header began lone before after answered parts None is starts later lent some ends = absurd (none_there C some)
+  served_is header began lone before after answered parts (Some recorder) is starts later lent some ends =
       let count : length parts ≡ length lone =
-      parts_count ends.works parts ends.lanes ∙ sym (length-map ends.works (λ w. Worked.start w)) ∙ ap length ends.began ∙ length-map lone start_of in
+      parts_count began (core_told recorder) now told faults fulls ends.works parts ends.lanes ∙ sym (length-map ends.works (λ w. Worked.start w)) ∙ ap length ends.all ∙ length-map lone start_of in
       record {
         later = later;
         lent = subst (λ (n : ℕ). HasLent n 1 after) (sym count) lent;
         starts = map start_of lone;
         front = ([], starts_all starts);
         all = λ there. starts;
-        ends = record {
-          works = ends.works;
-          began = ends.began;
-          lanes = ends.lanes;
-          decided = record {
-            stop = ends.decided.stop;
-            cause = cause_later ends.decided.stop before made after first ends.decided.cause;
-            fault = ends.decided.fault;
-            kept = ends.decided.kept;
-            status = ends.decided.status;
-          };
-        };
+        ends = subst (λ (b : State PlainStream). Ends core_told core_faults core_fulls b now told faults fulls (map start_of lone) before after answered parts (Some recorder)) is ends;
         whole = λ fine. some;
       } where
         starts_all : {xs ys : List Start} → xs ≡ ys → ys ≡ xs ++ []
         starts_all same = search rules
+
+  -- it is the same call seen from before the host made its parts
+  pub served_since : (header : Header) (before made after : HostState D R C) (answered : Status) (parts : List (LanePart D R)) (core : Option C)
+      → IsLater before made → IsServed core_told core_faults core_fulls now told faults fulls header made after answered parts core
+      → IsServed core_told core_faults core_fulls now told faults fulls header before after answered parts core
+  served_since header before made after answered parts core first s =
+      let d = s.ends.decided in record {
+        later = later_later before made after first s.later;
+        lent = s.lent;
+        starts = s.starts;
+        front = s.front;
+        all = s.all;
+        ends = record {
+          works = s.ends.works;
+          all = s.ends.all;
+          lanes = s.ends.lanes;
+          decided = record { stop = d.stop; cause = cause_later d.stop before made after first d.cause; fault = d.fault; kept = d.kept; status = d.status };
+        };
+        whole = s.whole;
+      }
 
 starts_count : (index : ℕ) (sinks : List SinkSpec) → length (starts_from index sinks) ≡ length sinks
 starts_count index [] = refl
@@ -128,6 +143,10 @@ pub few_begin : {D R : Type 0} (sinks : List SinkSpec) (lone : List (Unworked D 
 few_begin sinks lone (rest, all) =
     let whole : length (starts_of sinks) ≡ length (map start_of lone ++ rest) = ap length all in
     omega (arith, whole, length-append (map start_of lone) rest, length-map lone start_of, starts_count 0 sinks)
+
+-- all of them
+pub front_all : {D R : Type 0} (sinks : List SinkSpec) (lone : List (Unworked D R)) → map start_of lone ≡ starts_of sinks → IsFrontOf (map start_of lone) (starts_of sinks)
+front_all sinks lone same = ([], sym same ∙ sym (append-nil (map start_of lone)))
 
 pub front_none : {D R : Type 0} (sinks : List SinkSpec) (lone : List (Unworked D R)) → lone ≡ [] → IsFrontOf (map start_of lone) (starts_of sinks)
 front_none sinks lone none = subst (λ (l : List _). IsFrontOf (map start_of l) (starts_of sinks)) (sym none) (starts_of sinks, refl)

@@ -50,3 +50,10 @@ some_lent (Some l) = (omega arith, omega arith, omega arith)
 
 pub lent_none : {D R C X : Type 0} (h : HostState D R C) (lone : List X) → lone ≡ [] → HasLent (length lone) 0 h
 lent_none h lone none = subst (λ (n : ℕ). HasLent n 0 h) (sym (ap length none)) (some_lent h.lent)
+
+-- what was lent with a recorder of the core was lent
+pub lent_less : {D R C : Type 0} (n : ℕ) (h : HostState D R C) → HasLent n 1 h → HasLent n 0 h
+lent_less n h lent = less h.lent lent where
+  less : (o : Option Lent) → IfSome o (λ l. (n ≤ l.devices) × (n ≤ l.recorders) × (1 ≤ l.cores)) → IfSome o (λ l. (n ≤ l.devices) × (n ≤ l.recorders) × (0 ≤ l.cores))
+  less None some = tt
+  less (Some l) some = (some.0, some.1, omega arith)

@@ -1,4 +1,4 @@
 mod Later
 mod Parts
-mod Joining
+mod Delivering
 mod Ending

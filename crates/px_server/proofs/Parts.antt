@@ -1,72 +1,111 @@
 -- What is left of sinks, one by one.
-use Rattle.std.proofs.Common.{◌≡◌, ℕ, suc, ◌+◌, ◌<◌, List, [], ◌∷◌, ◌++◌, length, map, Option, None, Some, sym, subst, ◌∙◌, ap, refl, arith}
+use Rattle.std.proofs.Common.{◌≡◌, ℕ, suc, ◌+◌, ◌<◌, List, [], ◌∷◌, ◌++◌, length, map, Option, None, Some, IfSome, sym, subst, ◌∙◌, ap, refl, arith}
 use Rattle.std.proofs.lemmas.List.{append_assoc, append-nil, length-append, map-append}
 use Rattle.std.specs.Option.{option_or}
+use Rattle.px_types.specs.declared.ids.SinkId.{SinkId}
 use Rattle.px_types.specs.declared.status.Status.{Status}
+use Rattle.px_annals.specs.declared.entry.CoreEntry.{CoreEntry}
 use Rattle.px_annals.specs.declared.entry.LaneEntry.{LaneEntry}
+use Rattle.px_annals.specs.declared.stream.PlainStream.{PlainStream}
 use Rattle.px_ends.specs.Device.{DeviceState}
+use Rattle.px_model.specs.Sink.{Sink}
+use Rattle.px_core.specs.State.{State}
+use Rattle.px_lane_cell.specs.History.{unturned}
 use Rattle.px_server.specs.declared.served.LanePart.{LanePart}
 use Rattle.px_server.specs.Causes.{status_of_met}
-use Rattle.px_types.specs.declared.ids.SinkId.{SinkId}
-use Rattle.px_model.specs.Sink.{Sink}
-use Rattle.px_lane_cell.specs.History.{unturned}
-use Rattle.px_server.specs.Parts.{Start, start_at, Worked, IsPart, AreParts, IsFrontOf, Adds, unworked, start_of}
+use Rattle.px_server.specs.Delivered.{IsDelivered}
+use Rattle.px_server.specs.Parts.{Start, start_at, Worked, IsPart, AreParts, Adds, unworked, start_of}
 use Rattle.px_server.specs.Serving.{first_met}
 use Rattle.px_server.specs.Working.{Unworked}
 
-module _ {D R : Type 0} (now : D → DeviceState) (told : R → Option (List LaneEntry)) (faults fulls : R → ℕ) where
+module _ {D R : Type 0} (began : State PlainStream) (core : Option (List CoreEntry)) (now : D → DeviceState) (told : R → Option (List LaneEntry)) (faults fulls : R → ℕ) where
+  -- what is left of a sink without a core, and what the core's entries say of it
+  pub part_told : (work : Worked) (part : LanePart D R) → IsPart began None now told faults fulls work part
+      → IfSome core (λ entries. IfSome (told part.recorder) (IsDelivered began entries work.start.index work.start.sink)) → IsPart began core now told faults fulls work part
+  part_told work part p delivered = record { sink = p.sink; played = p.played; delivered = delivered; met = p.met }
+
   -- one more
   pub parts_more : (works : List Worked) (parts : List (LanePart D R)) (work : Worked) (part : LanePart D R)
-      → AreParts now told faults fulls works parts → IsPart now told faults fulls work part → AreParts now told faults fulls (works ++ work ∷ []) (parts ++ part ∷ [])
+      → AreParts began core now told faults fulls works parts → IsPart began core now told faults fulls work part
+      → AreParts began core now told faults fulls (works ++ work ∷ []) (parts ++ part ∷ [])
   parts_more [] [] work part all one = (one, tt)
   parts_more [] (p ∷ parts) work part all one = absurd all
   parts_more (w ∷ works) [] work part all one = absurd all
   parts_more (w ∷ works) (p ∷ parts) work part all one = (all.0, parts_more works parts work part all.1 one)
 
-  -- what comes of the others from here on comes of all of them from the one before
-  pub handed : {X : Type 0} (f : X → Worked) (before rest : List X) (x : X) (lanes next final : List (LanePart D R)) (part : LanePart D R)
-      → before ≡ x ∷ rest → next ≡ lanes ++ part ∷ [] → IsPart now told faults fulls (f x) part
-      → ((done : List Worked) → AreParts now told faults fulls done next → AreParts now told faults fulls (done ++ map f rest) final)
-      → (done : List Worked) → AreParts now told faults fulls done lanes → AreParts now told faults fulls (done ++ map f before) final
-  handed f before rest x lanes next final part front more one later done all =
-      subst (λ (l : List _). AreParts now told faults fulls (done ++ map f l) final) (sym front)
-      (subst (λ (l : List Worked). AreParts now told faults fulls l final) (append_assoc done (f x ∷ []) (map f rest))
-      (later (done ++ f x ∷ []) (subst (AreParts now told faults fulls (done ++ f x ∷ [])) (sym more) (parts_more done lanes (f x) part all one))))
+  -- as many are left as there were
+  pub parts_count : (works : List Worked) (parts : List (LanePart D R)) → AreParts began core now told faults fulls works parts → length parts ≡ length works
+  parts_count [] [] all = refl
+  parts_count [] (p ∷ parts) all = absurd all
+  parts_count (w ∷ works) [] all = absurd all
+  parts_count (w ∷ works) (p ∷ parts) all = ap suc (parts_count works parts all.1)
 
-  -- where no others are left, these are all
-  pub all_handed : {X : Type 0} (f : X → Worked) (before : List X) (lanes : List (LanePart D R))
-      → before ≡ [] → (done : List Worked) → AreParts now told faults fulls done lanes → AreParts now told faults fulls (done ++ map f before) lanes
-  all_handed f before lanes none done all =
-      subst (λ (l : List _). AreParts now told faults fulls (done ++ map f l) lanes) (sym none)
-      (subst (λ (l : List Worked). AreParts now told faults fulls l lanes) (sym (append-nil done)) all)
+  -- what is left of some of the sinks is there, and the others are to come
+  pub record Handed (all left : List (Unworked D R)) (lanes : List (LanePart D R)) : Type 0 where
+    pub done : List Worked
+    pub whole : done ++ map unworked left ≡ map unworked all
+    pub parts : AreParts began core now told faults fulls done lanes
+
+  pub handed_none : (all : List (Unworked D R)) (lanes : List (LanePart D R)) → lanes ≡ [] → Handed all all lanes
+  handed_none all lanes none = record { done = []; whole = refl; parts = subst (AreParts began core now told faults fulls []) (sym none) tt }
+
+  pub handed_one : (all left rest : List (Unworked D R)) (one : Unworked D R) (lanes next : List (LanePart D R)) (part : LanePart D R)
+      → left ≡ one ∷ rest → next ≡ lanes ++ part ∷ [] → IsPart began core now told faults fulls (unworked one) part
+      → Handed all left lanes → Handed all rest next
+  handed_one all left rest one lanes next part front more is h = record {
+    done = h.done ++ unworked one ∷ [];
+    whole = append_assoc h.done (unworked one ∷ []) (map unworked rest) ∙ ap (λ (l : List (Unworked D R)). h.done ++ map unworked l) (sym front) ∙ h.whole;
+    parts = subst (AreParts began core now told faults fulls (h.done ++ unworked one ∷ [])) (sym more) (parts_more h.done lanes (unworked one) part h.parts is);
+  }
+
+  pub handed_all : (all left : List (Unworked D R)) (lanes : List (LanePart D R)) → left ≡ [] → Handed all left lanes
+      → AreParts began core now told faults fulls (map unworked all) lanes
+  handed_all all left lanes none h =
+      subst (λ (l : List Worked). AreParts began core now told faults fulls l lanes)
+      (sym (append-nil h.done) ∙ ap (λ (l : List (Unworked D R)). h.done ++ map unworked l) (sym none) ∙ h.whole) h.parts
 
 pub or_none : (a : Option Status) → option_or a None ≡ a
 or_none None = refl
 or_none (Some a) = refl
 
--- sinks without workers have met nothing
-pub none_met : {D E : Type 0} (works : List Worked) (lone : List (Unworked D E)) → first_met (works ++ map unworked lone) ≡ first_met works
-none_met [] [] = refl
-none_met [] (l ∷ lone) = none_met [] lone
-none_met (w ∷ works) lone = ap (option_or (status_of_met w.met)) (none_met works lone)
+pub or_or : (a b c : Option Status) → option_or (option_or a b) c ≡ option_or a (option_or b c)
+or_or None b c = refl
+or_or (Some a) b c = refl
 
--- one more worker, behind the others
-pub first_more : (works : List Worked) (work : Worked) → first_met (works ++ work ∷ []) ≡ option_or (first_met works) (status_of_met work.met)
-first_more [] work = or_none (status_of_met work.met)
-first_more (w ∷ works) work = ap (option_or (status_of_met w.met)) (first_more works work) ∙ or_or (status_of_met w.met) (first_met works) (status_of_met work.met) where
-  or_or : (a b c : Option Status) → option_or a (option_or b c) ≡ option_or (option_or a b) c
-  or_or None b c = refl
-  or_or (Some a) b c = refl
+-- what was met so far, and then what the others met
+pub met_one : {D E : Type 0} (first then : Option Status) (left rest all : List (Unworked D E)) (one : Unworked D E)
+    → left ≡ one ∷ rest → then ≡ option_or first (status_of_met one.met) → option_or first (first_met (map unworked left)) ≡ first_met (map unworked all)
+    → option_or then (first_met (map unworked rest)) ≡ first_met (map unworked all)
+met_one first then left rest all one front or so =
+    ap (λ (o : Option Status). option_or o (first_met (map unworked rest))) or
+    ∙ or_or first (status_of_met one.met) (first_met (map unworked rest))
+    ∙ ap (λ (l : List _). option_or first (first_met (map unworked l))) (sym front)
+    ∙ so
+
+pub met_all : {D E : Type 0} (first : Option Status) (left all : List (Unworked D E))
+    → left ≡ [] → option_or first (first_met (map unworked left)) ≡ first_met (map unworked all) → first ≡ first_met (map unworked all)
+met_all first left all none so = sym (or_none first) ∙ ap (λ (l : List _). option_or first (first_met (map unworked l))) (sym none) ∙ so
 
 -- none came
 pub adds_none : {X : Type 0} (f : X → Start) (before after : List X) (more : List Start) → after ≡ before → Adds (map f before) more (map f after)
 adds_none f before after more same = ([], (more, refl), ap (map f) same ∙ sym (append-nil (map f before)))
 
 -- one was started, of those that are to be
-pub started_one : {X : Type 0} (f : X → Start) (sinks next all : List Start) (lone rest : List X) (one : X)
-    → lone ≡ one ∷ rest → next ≡ sinks ++ f one ∷ [] → sinks ++ map f lone ≡ all → next ++ map f rest ≡ all
-started_one f sinks next all lone rest one front more so =
-    ap (λ (l : List Start). l ++ map f rest) more ∙ append_assoc sinks (f one ∷ []) (map f rest) ∙ ap (λ (l : List _). sinks ++ map f l) (sym front) ∙ so
+pub started_one : {X : Type 0} (sinks next all lone rest : List X) (one : X)
+    → lone ≡ one ∷ rest → next ≡ sinks ++ one ∷ [] → sinks ++ lone ≡ all → next ++ rest ≡ all
+started_one sinks next all lone rest one front more so =
+    ap (λ (l : List _). l ++ rest) more ∙ append_assoc sinks (one ∷ []) rest ∙ ap (λ (l : List _). sinks ++ l) (sym front) ∙ so
+
+-- one was joined, and stands before those that no worker had
+pub joined_one : {X Y : Type 0} (f : X → Y) (sinks rest lone next : List X) (given back : X)
+    → sinks ≡ rest ++ given ∷ [] → next ≡ back ∷ lone → f back ≡ f given → map f (rest ++ next) ≡ map f (sinks ++ lone)
+joined_one f sinks rest lone next given back behind front same =
+    ap (λ (l : List _). map f (rest ++ l)) front
+    ∙ map-append f rest (back ∷ lone)
+    ∙ ap (λ (y : _). map f rest ++ (y ∷ map f lone)) same
+    ∙ sym (map-append f rest (given ∷ lone))
+    ∙ ap (map f) (sym (append_assoc rest (given ∷ []) lone))
+    ∙ ap (λ (l : List _). map f (l ++ lone)) (sym behind)
 
 -- each that is started takes a share
 pub seats_one : {X Y : Type 0} (lone rest : List X) (one : X) (sinks next : List Y) (more : Y) (parts left : ℕ)
@@ -86,12 +125,3 @@ start_is index there sink before is same = ap (λ (i : SinkId). begun i (unturne
 pub starts_unworked : {D E : Type 0} (lone : List (Unworked D E)) → map (λ w. Worked.start w) (map unworked lone) ≡ map start_of lone
 starts_unworked [] = refl
 starts_unworked (l ∷ lone) = ap (λ (all : List Start). start_of l ∷ all) (starts_unworked lone)
-
--- those with workers and those without are all
-pub all_begin : {D E : Type 0} (works : List Worked) (sinks : List Start) (lone lone' : List (Unworked D E))
-    → map (λ w. Worked.start w) works ≡ sinks → sinks ++ map start_of lone' ≡ map start_of lone → map (λ w. Worked.start w) (works ++ map unworked lone') ≡ map start_of lone
-all_begin works sinks lone lone' began same =
-    map-append (λ w. Worked.start w) works (map unworked lone')
-    ∙ ap (λ (l : List Start). map (λ w. Worked.start w) works ++ l) (starts_unworked lone')
-    ∙ ap (λ (l : List Start). l ++ map start_of lone') began
-    ∙ same

@@ -1,8 +1,10 @@
 -- What is left of a server's sinks.
-use Rattle.std.specs.Prelude.{◌≡◌, ℕ, ◌+◌, ◌≤◌, List, [], ◌∷◌, ◌++◌, length, Option, IfSome, ⊤}
+use Rattle.std.specs.Prelude.{◌≡◌, ℕ, ◌+◌, ◌≤◌, List, [], ◌∷◌, ◌++◌, length, Option, None, Some, IfSome, ⊤}
 use Rattle.std.specs.List.{concat}
 use Rattle.px_types.specs.declared.ids.SinkId.{SinkId}
+use Rattle.px_annals.specs.declared.entry.CoreEntry.{CoreEntry}
 use Rattle.px_annals.specs.declared.entry.LaneEntry.{LaneEntry}
+use Rattle.px_annals.specs.declared.stream.PlainStream.{PlainStream}
 use Rattle.px_ends.specs.Told.{WhereTold}
 use Rattle.px_ends.specs.Device.{DeviceState}
 use Rattle.px_model.specs.Sink.{Sink, empty_sink}
@@ -10,12 +12,17 @@ use Rattle.px_model.specs.Deciding.{replay_played, IsHistory}
 use Rattle.px_msg.specs.View.{sample_spec}
 use Rattle.px_session.specs.declared.header.SinkSpec.{SinkSpec}
 use Rattle.px_stream.specs.Samples.{samples}
+use Rattle.px_core.specs.State.{State}
+use Rattle.px_core_cell.specs.declared.ends.CoreEnd.{CoreEnd}
+use Rattle.px_core_cell.specs.Cell.{ends_of}
+use Rattle.px_core_cell.specs.History.{IsTold}
 use Rattle.px_lane_cell.specs.Meaning.{history_meant}
 use Rattle.px_lane_cell.specs.History.{unturned, left_at_stop, ArePlayed}
 use Rattle.px_server.specs.declared.served.LanePart.{LanePart}
 use Rattle.px_server.specs.declared.sink_work.Met.{Met}
-use Rattle.px_server.specs.declared.sink_work.Met.TheVariants.{Nothing}
 use Rattle.px_server.specs.Working.{IsMet, Unworked}
+pub use Rattle.px_server.specs.Delivered.{IsFrontOf}
+use Rattle.px_server.specs.Delivered.{IsDelivered}
 
 -- a sink before its first turn, with its index
 pub record Start : Type 0 where
@@ -54,15 +61,22 @@ worked start met = record { start = start; met = met }
 abbrev pub start_of : {D E : Type 0} → Unworked D E → Start
 start_of u = start_at u.sink u.cell.lane.sink
 
--- that of a sink that had no worker
+-- that of a sink that no worker has any more
 abbrev pub unworked : {D E : Type 0} → Unworked D E → Worked
-unworked u = worked (start_of u) Nothing
+unworked u = worked (start_of u) u.met
 
-module _ {D R : Type 0} (now : D → DeviceState) (told : R → Option (List LaneEntry)) (faults fulls : R → ℕ) where
-  -- what is left of a sink: its device has played what its recorder holds, where both tell; and what its worker met has its cause in them
+-- what the core's recorder tells, where there is one
+abbrev pub told_there : {C : Type 0} → (C → Option (List CoreEntry)) → Option C → Option (List CoreEntry)
+told_there told None = None
+told_there told (Some recorder) = told recorder
+
+module _ {D R : Type 0} (began : State PlainStream) (core : Option (List CoreEntry)) (now : D → DeviceState) (told : R → Option (List LaneEntry)) (faults fulls : R → ℕ) where
+  -- what is left of a sink: its device has played what its recorder holds, where both tell; what its worker met has its cause in them; and where the
+  -- core's recorder tells too, what was taken on either side is a front of what was handed out on the other
   pub record IsPart (work : Worked) (part : LanePart D R) : Type 0 where
     pub sink : part.sink ≡ work.start.index
     pub played : IfSome (told part.recorder) (HasPlayed work.start.sink (now part.device))
+    pub delivered : IfSome core (λ entries. IfSome (told part.recorder) (IsDelivered began entries work.start.index work.start.sink))
     pub met : IsMet (now part.device).faults (faults part.recorder) (fulls part.recorder) work.met
 
   -- what is left of sinks, in their order
@@ -72,10 +86,13 @@ module _ {D R : Type 0} (now : D → DeviceState) (told : R → Option (List Lan
   AreParts (work ∷ works) [] = ⊥
   AreParts (work ∷ works) (part ∷ parts) = IsPart work part × AreParts works parts
 
--- the front of a list
-abbrev pub IsFrontOf : {X : Type 0} → List X → List X → Type 0
-IsFrontOf front all = (rest : List _) × (all ≡ front ++ rest)
-
 -- a front of some items came behind those that were there
 abbrev pub Adds : {X : Type 0} → List X → List X → List X → Type 0
 Adds before more after = (added : List _) × IsFrontOf added more × (after ≡ before ++ added)
+
+-- sinks and the core's ends of their mailboxes, in the same order: what was posted to each sink and taken from it is what the core's entries say of it
+abbrev pub AreTold : {D E : Type 0} → State PlainStream → Option (List CoreEntry) → List (Unworked D E) → List CoreEnd → Type 0
+AreTold began core [] [] = ⊤
+AreTold began core [] (end ∷ ends) = ⊥
+AreTold began core (u ∷ lone) [] = ⊥
+AreTold began core (u ∷ lone) (end ∷ ends) = IfSome core (λ entries. IsTold began entries u.sink.0 (ends_of end)) × AreTold began core lone ends

@@ -3,17 +3,20 @@ use Rattle.std.specs.Prelude.{◌≡◌, ℕ, List, [], ◌∷◌, ◌++◌, len
 use Rattle.std.specs.Option.{option_or}
 use Rattle.px_types.specs.declared.status.Status.{Status}
 use Rattle.px_types.specs.declared.status.Status.TheVariants as status
+use Rattle.px_annals.specs.declared.entry.CoreEntry.{CoreEntry}
 use Rattle.px_annals.specs.declared.entry.LaneEntry.{LaneEntry}
 use Rattle.px_annals.specs.declared.recorder.RecordFault.{RecordFault}
+use Rattle.px_annals.specs.declared.stream.PlainStream.{PlainStream}
 use Rattle.px_ends.specs.Device.{DeviceState}
 use Rattle.px_ends.specs.Host.{HostState}
-use Rattle.px_session.specs.declared.header.SinkSpec.{SinkSpec}
+use Rattle.px_session.specs.declared.header.Header.{Header}
+use Rattle.px_core.specs.State.{State, new_state}
 use Rattle.px_core_cell.specs.Cause.{IsCaused}
 use Rattle.px_server.specs.declared.served.LanePart.{LanePart}
 use Rattle.px_server.specs.declared.served.Stop.{Stop}
 use Rattle.px_server.specs.Hosted.{IsLater, HasLent, IsCauseOf}
 use Rattle.px_server.specs.Causes.{status_of_met, decided}
-use Rattle.px_server.specs.Parts.{Start, Worked, starts_of, AreParts, IsFrontOf}
+use Rattle.px_server.specs.Parts.{Start, Worked, starts_of, told_there, AreParts, IsFrontOf}
 
 -- the status of the first sink whose worker met something, in the order of the sinks
 abbrev pub first_met : List Worked → Option Status
@@ -25,15 +28,7 @@ abbrev pub cores_in : {C : Type 0} → Option C → ℕ
 cores_in None = 0
 cores_in (Some recorder) = 1
 
--- sinks' workers that began so were joined, and met this first; what is left of their sinks stands behind what was there
-pub record Joins {D R : Type 0} (now : D → DeviceState) (told : R → Option (List LaneEntry)) (faults fulls : R → ℕ) (starts : List Start)
-    (before after : List (LanePart D R)) (first : Option Status) : Type 0 where
-  pub works : List Worked
-  pub began : map (λ w. Worked.start w) works ≡ starts
-  pub parts : (done : List Worked) → AreParts now told faults fulls done before → AreParts now told faults fulls (done ++ works) after
-  pub met : first ≡ first_met works
-
-module _ {D R C : Type 0} (core_faults core_fulls : C → ℕ) where
+module _ {D R C : Type 0} (core_told : C → Option (List CoreEntry)) (core_faults core_fulls : C → ℕ) where
   -- the first cause decides: what made the call stop, then the fault that the core's recorder had first, then what the sinks' workers met
   pub record IsDecided (before after : HostState D R C) (answered : Status) (works : List Worked) (core : Option C) : Type 0 where
     pub stop : Stop
@@ -42,24 +37,24 @@ module _ {D R C : Type 0} (core_faults core_fulls : C → ℕ) where
     pub kept : MatchOption core (fault ≡ None) (λ recorder. IsCaused fault (core_faults recorder) (core_fulls recorder))
     pub status : answered ≡ decided stop fault (first_met works)
 
-  -- how a call ends that had sinks which began so
-  pub record Ends (now : D → DeviceState) (told : R → Option (List LaneEntry)) (faults fulls : R → ℕ) (starts : List Start)
+  -- how a call ends that had sinks which began so, and a core that began so
+  pub record Ends (began : State PlainStream) (now : D → DeviceState) (told : R → Option (List LaneEntry)) (faults fulls : R → ℕ) (starts : List Start)
       (before after : HostState D R C) (answered : Status) (parts : List (LanePart D R)) (core : Option C) : Type 0 where
     pub works : List Worked
-    pub began : map (λ w. Worked.start w) works ≡ starts
-    pub lanes : AreParts now told faults fulls works parts
+    pub all : map (λ w. Worked.start w) works ≡ starts
+    pub lanes : AreParts began (told_there core_told core) now told faults fulls works parts
     pub decided : IsDecided before after answered works core
 
-  -- a serving call on these sinks
-  pub record IsServed (now : D → DeviceState) (told : R → Option (List LaneEntry)) (faults fulls : R → ℕ) (sinks : List SinkSpec)
+  -- a serving call on the sinks of a header
+  pub record IsServed (now : D → DeviceState) (told : R → Option (List LaneEntry)) (faults fulls : R → ℕ) (header : Header)
       (before after : HostState D R C) (answered : Status) (parts : List (LanePart D R)) (core : Option C) : Type 0 where
     pub later : IsLater before after
     -- the host can take back all that is handed out
     pub lent : HasLent (length parts) (cores_in core) after
     -- the sinks of which something is left: all of them, where there is a core's recorder, and else those before the first that couldn't be made
     pub starts : List Start
-    pub front : IsFrontOf starts (starts_of sinks)
-    pub all : IsSome core → starts ≡ starts_of sinks
-    pub ends : Ends now told faults fulls starts before after answered parts core
+    pub front : IsFrontOf starts (starts_of header.sinks)
+    pub all : IsSome core → starts ≡ starts_of header.sinks
+    pub ends : Ends (new_state header) now told faults fulls starts before after answered parts core
     -- where nothing failed, the core's recorder is there
     pub whole : answered ≡ status.Ok → IsSome core

@@ -1,38 +1,47 @@
 //! The serving call.
 ghost use Rattle.std.specs.Prelude.{◌≡◌, ◌+◌, ◌≤◌, [], length, map, IfOk, IfErr, OnOk, IfSome, None, vec_capacity};
+ghost use Rattle.px_annals.specs.declared.stream.PlainStream.{PlainStream};
 ghost use Rattle.px_session.specs.HeaderRules.{IsHeader};
-ghost use Rattle.px_core.specs.State.{new_state};
+ghost use Rattle.px_core.specs.State.{State, new_state};
+ghost use Rattle.px_core_cell.specs.Boxes.{boxes_of};
 ghost use Rattle.px_core_cell.specs.Cell.{ends_of};
 ghost use Rattle.px_core_cell.specs.History.{fresh_ends};
 ghost use Rattle.px_server.specs.Hosted.{IsLater, HasLent, IsCauseOf};
 ghost use Rattle.px_server.specs.Parts.{start_of, starts_of, unworked, AreParts, IsFrontOf};
 ghost use Rattle.px_server.specs.Serving.{IsServed};
 ghost use Rattle.px_server.specs.Causes.{undecided};
+ghost use Rattle.px_server.specs.Working.{boxes_in};
 
-use crate::desk::Desk;
 use crate::gate::Gate;
-use crate::lines::Lines;
+use crate::left::hand_back;
 use crate::lone::Lone;
 use crate::served::{LanePart, Served, Stop, stop_by, undecided};
 use crate::serving::run;
-use crate::sinks::{hand_back, make_all};
-use crate::worker::Worker;
+use crate::sinks::make_all;
 use px_annals::{CoreEntry, Recorder};
 use px_core::Core;
 use px_core_cell::{CoreCell, CoreEnds, Seats};
+use px_desk::{Desk, Worker};
 use px_ends::Host;
 use px_session::Header;
 use px_types::Mem;
 use std::alloc::Global;
 use std::collections::VecDeque;
 use std::marker::Brand;
-use std::sync::atomic::AtomicBool;
 use std::sync::ledger::Blank;
-use std::sync::{Arc, Mutex, Wait};
+use std::sync::{Arc, Wait};
 use std::thread::Threads;
 
 // One part for each of 65,535 links, one for each of 16 sinks, and one for the serving call.
 const PARTS: u64 = 65_552;
+
+// What the host makes before the core is there, with the core's ends of the sinks' mailboxes.
+#[derive(Drop)]
+struct Made<H: Host> {
+    lone: VecDeque<Lone<H::D, H::R>>,
+    ends: CoreEnds,
+    recorder: H::C,
+}
 
 // A serving call that has made no core.
 fn unserved<H: Host>(
@@ -43,7 +52,7 @@ fn unserved<H: Host>(
     requires none { lanes.items ≡ [] }
     requires room { length lone.items ≤ vec_capacity lanes }
     ensures status { result.status ≡ undecided stop }
-    ensures lanes { AreParts H.D.now H.R.told H.R.faults H.R.fulls (map unworked lone.items) result.lanes.items }
+    ensures lanes { (began : State PlainStream) → AreParts began None H.D.now H.R.told H.R.faults H.R.fulls (map unworked lone.items) result.lanes.items }
     ensures core { result.core ≡ None }
 {
     hand_back(&mut lone, &mut lanes);
@@ -70,6 +79,7 @@ fn make_outside<H: Host>(
     ensures cause { IfErr result (λ stop. IsCauseOf stop (H.now host.old) (H.now host.new)) }
     ensures made { OnOk result (map start_of lone.new.items ≡ starts_of header.now.sinks) }
     ensures ends { OnOk result (map ends_of ends.new.items ≡ map fresh_ends header.now.sinks) }
+    ensures boxes { OnOk result (map boxes_in lone.new.items ≡ map boxes_of ends.new.items) }
     ensures front { IsFrontOf (map start_of lone.new.items) (starts_of header.now.sinks) }
     ensures none { IfOk result (λ recorder. IfSome (H.C.told recorder) (λ entries. entries ≡ [])) }
 {
@@ -97,6 +107,7 @@ where
     requires name { blank.name ≡ L.name }
     requires parts { (blank.parts ≡ L.parts) × (L.parts ≡ 65552) × (L.all ≡ 65552) }
     requires began { L.began ≡ new_state header.now }
+    requires boxes { map boxes_of ends.items ≡ L.boxes }
     requires ends { map ends_of ends.items ≡ map fresh_ends header.now.sinks }
     requires none { IfSome (C.told recorder) (λ entries. entries ≡ []) }
     ensures { IfOk result (λ worker. worker.seat.parts ≡ 65552) }
@@ -104,21 +115,58 @@ where
     let sinks = header.sinks.len() as u8;
     let core = Core::new(alloc, header)?;
     let (core, seat) = CoreCell::<C, L>::new(blank, core, recorder, ends);
-    let desk = Arc::new(
-        alloc,
-        Desk {
-            core,
-            lines: Mutex::new(Lines::new(alloc)),
-            over: AtomicBool::new(false),
-            sinks,
-        },
-    )?;
+    let desk = Arc::new(alloc, Desk::new(alloc, core, sinks))?;
     Ok(Worker {
         rt: *rt,
         alloc,
         desk,
         seat,
     })
+}
+
+// Serves with what the host has made, over the ledger of the workers' seats.
+fn serve_made<R, H, G, L>(
+    rt: &R,
+    alloc: Global,
+    header: &Header,
+    host: &mut H,
+    gate: Arc<G>,
+    made: Made<H>,
+    lanes: Vec<LanePart<H::D, H::R>>,
+    blank: Blank,
+) -> Served<H>
+where
+    R: Threads + Wait + Copy + Drop + Send + Sync + 'static,
+    H: Host,
+    H::L: 'static,
+    H::D: 'static,
+    H::R: 'static,
+    H::C: 'static,
+    G: Gate + Drop + Send + Sync + 'static,
+    L: Seats + Send + Sync + 'static,
+    requires header { IsHeader header.now }
+    requires name { blank.name ≡ L.name }
+    requires parts { (blank.parts ≡ L.parts) × (L.parts ≡ 65552) × (L.all ≡ 65552) }
+    requires began { L.began ≡ new_state header.now }
+    requires boxes { map boxes_of made.ends.items ≡ L.boxes }
+    requires both { map boxes_in made.lone.items ≡ map boxes_of made.ends.items }
+    requires ends { map ends_of made.ends.items ≡ map fresh_ends header.now.sinks }
+    requires sinks { map start_of made.lone.items ≡ starts_of header.now.sinks }
+    requires untold { IfSome (H.C.told made.recorder) (λ entries. entries ≡ []) }
+    requires none { lanes.items ≡ [] }
+    requires room { length made.lone.items ≤ vec_capacity lanes }
+    requires lent { HasLent (length made.lone.items) 1 (H.now host.old) }
+    ensures { IsServed H.C.told H.C.faults H.C.fulls H.D.now H.R.told H.R.faults H.R.fulls header.now (H.now host.old) (H.now host.new) result.status result.lanes.items result.core }
+{
+    let Made {
+        lone,
+        ends,
+        recorder,
+    } = made;
+    match worker_of::<R, H::C, L>(rt, alloc, header, recorder, ends, blank) {
+        Ok(worker) => run(worker, host, gate, lone, lanes),
+        Err(_) => unserved(lanes, lone, Stop::Memory),
+    }
 }
 
 /// Serves the clients that the host hands out, on the sinks of a header, until the host says that no more come and all have gone, or
@@ -139,34 +187,7 @@ where
     H::C: 'static,
     G: Gate + Drop + Send + Sync + 'static,
     requires { IsHeader header.now }
-    ensures { IsServed H.C.faults H.C.fulls H.D.now H.R.told H.R.faults H.R.fulls header.now.sinks (H.now host.old) (H.now host.new) result.status result.lanes.items result.core }
-{
-    serve_in::<R, H, G, Brand>(rt, alloc, header, host, gate, Blank::new(PARTS))
-}
-
-// The serving call, over the ledger of its workers' seats.
-fn serve_in<R, H, G, L>(
-    rt: &R,
-    alloc: Global,
-    header: &Header,
-    host: &mut H,
-    gate: Arc<G>,
-    blank: Blank,
-) -> Served<H>
-where
-    R: Threads + Wait + Copy + Drop + Send + Sync + 'static,
-    H: Host,
-    H::L: 'static,
-    H::D: 'static,
-    H::R: 'static,
-    H::C: 'static,
-    G: Gate + Drop + Send + Sync + 'static,
-    L: Seats + Send + Sync + 'static,
-    requires header { IsHeader header.now }
-    requires name { blank.name ≡ L.name }
-    requires parts { (blank.parts ≡ L.parts) × (L.parts ≡ 65552) × (L.all ≡ 65552) }
-    requires began { L.began ≡ new_state header.now }
-    ensures { IsServed H.C.faults H.C.fulls H.D.now H.R.told H.R.faults H.R.fulls header.now.sinks (H.now host.old) (H.now host.new) result.status result.lanes.items result.core }
+    ensures { IsServed H.C.told H.C.faults H.C.fulls H.D.now H.R.told H.R.faults H.R.fulls header.now (H.now host.old) (H.now host.new) result.status result.lanes.items result.core }
 {
     let mut lanes = Vec::new(alloc);
     let mut lone = VecDeque::new(alloc);
@@ -174,12 +195,16 @@ where
     if lanes.reserve(header.sinks.len()).is_err() {
         return unserved(lanes, lone, Stop::Memory);
     }
-    let recorder = match make_outside(alloc, header, host, &mut lone, &mut ends) {
-        Ok(recorder) => recorder,
-        Err(stop) => return unserved(lanes, lone, stop),
-    };
-    match worker_of::<R, H::C, L>(rt, alloc, header, recorder, ends, blank) {
-        Ok(worker) => run(rt, worker, host, gate, lone, lanes),
-        Err(_) => unserved(lanes, lone, Stop::Memory),
+    match make_outside(alloc, header, host, &mut lone, &mut ends) {
+        Ok(recorder) => {
+            let made = Made {
+                lone,
+                ends,
+                recorder,
+            };
+            let blank = Blank::new(PARTS);
+            serve_made::<R, H, G, Brand>(rt, alloc, header, host, gate, made, lanes, blank)
+        }
+        Err(stop) => unserved(lanes, lone, stop),
     }
 }

@@ -27,8 +27,7 @@ pub(crate) struct Client<
     ghost one_part: { (given_to running).worker.seat.parts ≡ 1 },
 }
 
-/// A sink's worker under way, which has one share in the core's steps, and begins where nothing has failed. Contracts see the sink that it
-/// began with.
+/// A sink's worker under way, which has one share in the core's steps. Contracts see the sink that it was given.
 #[derive(Drop)]
 pub(crate) struct SinkRun<
     R: Wait + Copy + Drop + Send,
@@ -51,15 +50,12 @@ impl<
 > Model for SinkRun<R, D, E, C, L, G> {
     ghost use Rattle.std.specs.Prelude.{◌≡◌};
     ghost use Rattle.px_jobs.specs.Jobs.{given_to};
-    ghost use Rattle.px_server.specs.declared.sink_work.Met.TheVariants.{Nothing};
-    ghost use Rattle.px_server.specs.Parts.{Start, start_at};
-    ghost use Rattle.px_server.specs.Working.{IsHonest};
+    ghost use Rattle.px_server.specs.Working.{Unworked, IsHonest};
 
-    ghost Value = { Start };
+    ghost Value = { Unworked D E };
 
-    ghost view = { λ r. start_at (given_to r.running).sink (given_to r.running).cell.lane.sink };
+    ghost view = { λ r. record { sink = (given_to r.running).sink; cell = (given_to r.running).cell; met = (given_to r.running).met } };
 
     ghost invariant = { λ r. ((given_to r.running).worker.seat.parts ≡ 1)
-        × ((given_to r.running).met ≡ Nothing)
-        × IsHonest D.now E.faults E.fulls (given_to r.running).cell Nothing };
+        × IsHonest D.now E.faults E.fulls (given_to r.running).cell (given_to r.running).met };
 }

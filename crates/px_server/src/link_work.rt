@@ -4,11 +4,10 @@ ghost use Rattle.std.specs.Prelude.{◌≡◌, ◌<◌, All, length};
 ghost use Rattle.px_frame.specs.Frame.{IsBody};
 
 use crate::gate::Gate;
-use crate::lines::Next;
-use crate::worker::{CoreStop, Worker};
 use px_annals::{CoreEntry, Recorder};
 use px_block::Fresh;
 use px_core_cell::Seats;
+use px_desk::{CoreStop, Next, Worker};
 use px_ends::{Link, Recv, Sent};
 use px_frame::{Decoder, Frame, FrameError, Packet};
 use px_jobs::Job;

@@ -1,25 +1,27 @@
 //! What a serving call has under way: its workers, from their start to their end.
-ghost use Rattle.std.specs.Prelude.{◌≡◌, ◌+◌, ◌≤◌, ◌<◌, ◌++◌, ◌∷◌, [], length, map, IfOk, IfErr, OnOk, OnErr, IsSome, vec_len, vec_capacity};
+ghost use Rattle.std.specs.Prelude.{◌≡◌, ◌+◌, ◌≤◌, ◌<◌, ◌++◌, ◌∷◌, [], List, length, map, IfOk, IfErr, OnOk, OnErr, IsSome, vec_capacity};
+ghost use Rattle.std.specs.VecDeque.{deque_capacity};
 ghost use Rattle.px_server.specs.Hosted.{IsLater, IsCauseOf};
-ghost use Rattle.px_server.specs.Parts.{start_of};
-ghost use Rattle.px_server.specs.Serving.{Joins, Ends};
+ghost use Rattle.px_session.specs.declared.header.SinkSpec.{SinkSpec};
+ghost use Rattle.px_server.specs.Parts.{start_of, starts_of};
+ghost use Rattle.px_server.specs.Serving.{Ends};
+ghost use Rattle.px_server.specs.Working.{boxes_in};
 
 use crate::crew::{Client, SinkRun};
 use crate::gate::Gate;
+use crate::left::close_all;
 use crate::link_work::LinkWork;
 use crate::lone::Lone;
 use crate::served::{LanePart, Served, Stop, decided};
-use crate::sink_work::{Met, SinkWork, status_of_met};
-use crate::sinks::{hand_back, part_of};
-use crate::worker::{CoreStop, Worker};
+use crate::sink_work::SinkWork;
 use px_annals::{CoreEntry, LaneEntry, Recorder};
-use px_core_cell::Seats;
+use px_core_cell::{CoreParts, Seats};
+use px_desk::{CoreStop, Worker};
 use px_ends::{Accepted, Device, Host, Link};
 use px_jobs::{Spawned, start};
-use px_types::{ConnId, Mem, NoMemory, Status};
+use px_types::{ConnId, Mem, NoMemory};
 use std::alloc::Global;
 use std::collections::VecDeque;
-use std::sync::atomic::Ordering;
 use std::sync::{Arc, Wait};
 use std::thread::Threads;
 
@@ -52,28 +54,11 @@ where
     L: Seats + Send + Sync + 'static,
     G: Gate + Drop + Send + Sync + 'static,
 {
-    // A worker with a seat of its own. Where there is no memory there is none.
-    fn another(&mut self) -> Mem<Worker<R, C, L>>
-        requires { 1 < self.old.worker.seat.parts }
-        ensures ok { IfOk result (λ worker. (worker.seat.parts ≡ 1) × (self.new.worker.seat.parts + 1 ≡ self.old.worker.seat.parts)) }
-        ensures err { OnErr result (self.new.worker.seat.parts ≡ self.old.worker.seat.parts) }
-        ensures sinks { self.new.sinks ≡ self.old.sinks }
-        ensures clients { self.new.clients ≡ self.old.clients }
-    {
-        let desk = Arc::try_clone(&self.worker.desk)?;
-        Ok(Worker {
-            rt: self.worker.rt,
-            alloc: self.worker.alloc,
-            desk,
-            seat: self.worker.seat.split(),
-        })
-    }
-
     // Starts the worker of one sink. Where that can't be, the sink comes back.
     fn start_sink(&mut self, lone: Lone<D, E>) -> Result<(), Lone<D, E>>
         requires { 1 < self.old.worker.seat.parts }
         ensures parts { self.new.worker.seat.parts + length self.new.sinks.items ≡ self.old.worker.seat.parts + length self.old.sinks.items }
-        ensures ok { OnOk result (self.new.sinks.items ≡ self.old.sinks.items ++ start_of lone ∷ []) }
+        ensures ok { OnOk result (self.new.sinks.items ≡ self.old.sinks.items ++ lone ∷ []) }
         ensures back { IfErr result (λ back. back ≡ lone) }
         ensures err { OnErr result (self.new.sinks.items ≡ self.old.sinks.items) }
         ensures clients { self.new.clients ≡ self.old.clients }
@@ -84,16 +69,16 @@ where
         let Ok(gate) = Arc::try_clone(&self.gate) else {
             return Err(lone);
         };
-        let Ok(worker) = self.another() else {
+        let Ok(worker) = self.worker.another() else {
             return Err(lone);
         };
-        let Lone { sink, cell } = lone;
+        let Lone { sink, cell, met } = lone;
         let job = SinkWork {
             worker,
             sink,
             cell,
             gate,
-            met: Met::Nothing,
+            met,
         };
         let rt = self.worker.rt;
         match start(&rt, self.worker.alloc, job) {
@@ -106,10 +91,11 @@ where
                     worker,
                     sink,
                     cell,
+                    met,
                     ..
                 } = job;
                 self.worker.seat.merge(worker.seat);
-                Err(Lone { sink, cell })
+                Err(Lone { sink, cell, met })
             }
         }
     }
@@ -122,7 +108,8 @@ where
     ) -> Result<(), Stop>
         requires { length lone.old.items + 1 < self.old.worker.seat.parts }
         ensures parts { self.new.worker.seat.parts + length self.new.sinks.items ≡ self.old.worker.seat.parts + length self.old.sinks.items }
-        ensures starts { self.new.sinks.items ++ map start_of lone.new.items ≡ self.old.sinks.items ++ map start_of lone.old.items }
+        ensures all { self.new.sinks.items ++ lone.new.items ≡ self.old.sinks.items ++ lone.old.items }
+        ensures capacity { deque_capacity lone.new ≡ deque_capacity lone.old }
         ensures clients { self.new.clients ≡ self.old.clients }
         ensures later { IsLater (H.now host.old) (H.now host.new) }
         ensures lent { (H.now host.new).lent ≡ (H.now host.old).lent }
@@ -182,7 +169,7 @@ where
     {
         self.clients.reserve(1)?;
         let gate = Arc::try_clone(&self.gate)?;
-        let worker = self.another()?;
+        let worker = self.worker.another()?;
         let job = LinkWork {
             worker,
             conn,
@@ -265,8 +252,8 @@ where
         requires seats { self.old.worker.seat.parts ≡ 65552 }
         requires few { length lone.old.items ≤ 16 }
         ensures parts { self.new.worker.seat.parts + length self.new.sinks.items + length self.new.clients.items ≡ 65552 }
-        ensures starts { self.new.sinks.items ++ map start_of lone.new.items ≡ map start_of lone.old.items }
-        ensures count { length self.new.sinks.items + length lone.new.items ≡ length lone.old.items }
+        ensures all { self.new.sinks.items ++ lone.new.items ≡ lone.old.items }
+        ensures capacity { deque_capacity lone.new ≡ deque_capacity lone.old }
         ensures later { IsLater (H.now host.old) (H.now host.new) }
         ensures lent { (H.now host.new).lent ≡ (H.now host.old).lent }
         ensures cause { IsCauseOf result (H.now host.old) (H.now host.new) }
@@ -277,17 +264,15 @@ where
         }
     }
 
-    // Joins the workers of the sinks, and takes what is left of each. Answers the first status that one of them met.
-    fn join_sinks(&mut self, lanes: &mut Vec<LanePart<D, E>>) -> Option<Status>
-        requires room { vec_len lanes.old + length self.old.sinks.items ≤ vec_capacity lanes.old }
+    // Joins the workers of the sinks, which go before those that no worker had.
+    fn join_sinks(&mut self, lone: &mut VecDeque<Lone<D, E>>)
+        requires room { length self.old.sinks.items + length lone.old.items ≤ deque_capacity lone.old }
         ensures parts { self.new.worker.seat.parts ≡ self.old.worker.seat.parts + length self.old.sinks.items }
-        ensures lanes { Joins D.now E.told E.faults E.fulls self.old.sinks.items lanes.old.items lanes.new.items result }
-        ensures room { vec_len lanes.new ≡ vec_len lanes.old + length self.old.sinks.items }
-        ensures capacity { vec_capacity lanes.old ≤ vec_capacity lanes.new }
+        ensures starts { map start_of lone.new.items ≡ map start_of (self.old.sinks.items ++ lone.old.items) }
+        ensures boxes { map boxes_in lone.new.items ≡ map boxes_in (self.old.sinks.items ++ lone.old.items) }
     {
         let rt = self.worker.rt;
-        let mut first = None;
-        while let Some(SinkRun { running }) = self.sinks.pop_front() {
+        while let Some(SinkRun { running }) = self.sinks.pop_back() {
             let job = running.join(&rt);
             let SinkWork {
                 worker,
@@ -297,16 +282,13 @@ where
                 ..
             } = job;
             self.worker.seat.merge(worker.seat);
-            first = first.or(status_of_met(met));
-            lanes.push(part_of(sink, cell)).unwrap();
+            lone.push_front_reserved(Lone { sink, cell, met });
         }
-        first
     }
 }
 
 /// All that workers do, from their start to their end.
 pub(crate) fn run<R, H, G, L>(
-    rt: &R,
     worker: Worker<R, H::C, L>,
     host: &mut H,
     gate: Arc<G>,
@@ -323,12 +305,14 @@ where
     G: Gate + Drop + Send + Sync + 'static,
     L: Seats + Send + Sync + 'static,
     requires seats { (worker.seat.parts ≡ 65552) × (L.all ≡ 65552) }
+    requires sinks { (sinks : List SinkSpec) × (map start_of lone.items ≡ starts_of sinks) }
+    requires boxes { map boxes_in lone.items ≡ L.boxes }
     requires few { length lone.items ≤ 16 }
     requires none { lanes.items ≡ [] }
     requires room { length lone.items ≤ vec_capacity lanes }
     ensures later { IsLater (H.now host.old) (H.now host.new) }
     ensures lent { (H.now host.new).lent ≡ (H.now host.old).lent }
-    ensures ends { Ends H.C.faults H.C.fulls H.D.now H.R.told H.R.faults H.R.fulls (map start_of lone.items) (H.now host.old) (H.now host.new) result.status result.lanes.items result.core }
+    ensures ends { Ends H.C.told H.C.faults H.C.fulls L.began H.D.now H.R.told H.R.faults H.R.fulls (map start_of lone.items) (H.now host.old) (H.now host.new) result.status result.lanes.items result.core }
     ensures core { IsSome result.core }
 {
     let alloc = worker.alloc;
@@ -341,14 +325,13 @@ where
     };
     let stop = serving.work(host, &mut lone);
     serving.join_clients();
-    serving.worker.desk.over.store(true, Ordering::SeqCst);
-    let met = serving.join_sinks(&mut lanes);
-    hand_back(&mut lone, &mut lanes);
-    let Worker { desk, seat, .. } = serving.worker;
-    let parts = desk.core.take_parts(rt, seat);
+    serving.worker.finish();
+    serving.join_sinks(&mut lone);
+    let CoreParts { log, ends, .. } = serving.worker.into_core();
+    let met = close_all(&mut lone, ends, &mut lanes);
     Served {
-        status: decided(stop, parts.log.fault, met),
+        status: decided(stop, log.fault, met),
         lanes,
-        core: Some(parts.log.recorder),
+        core: Some(log.recorder),
     }
 }

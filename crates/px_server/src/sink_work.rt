@@ -1,22 +1,21 @@
 //! The work of one sink.
 ghost use Rattle.std.specs.Prelude.{◌≡◌};
 ghost use Rattle.px_lane_cell.specs.History.{unturned};
-ghost use Rattle.px_server.specs.Working.{IsHonest, GoesOn};
+ghost use Rattle.px_server.specs.Working.{IsHonest, GoesOn, boxes_at};
 ghost use Rattle.px_server.specs.Causes.{status_of_met};
 
 use crate::gate::Gate;
 use crate::served::status_of_record;
-use crate::worker::{CoreStop, Worker};
 use px_annals::{CoreEntry, LaneEntry, RecordFault, Recorder};
 use px_block::Fresh;
 use px_core_cell::Seats;
+use px_desk::{CoreStop, Worker};
 use px_ends::Device;
 use px_jobs::Job;
 use px_lane::Turned;
 use px_lane_cell::{CellFault, LaneCell};
 use px_types::{SinkId, Status};
 use std::alloc::Global;
-use std::sync::atomic::Ordering;
 use std::sync::{Arc, Wait};
 
 // How many messages a mailbox holds.
@@ -58,6 +57,7 @@ where
     E: Recorder<LaneEntry> + Drop,
     ensures honest { IsHonest D.now E.faults E.fulls cell.old met.old → IsHonest D.now E.faults E.fulls cell.new met.new }
     ensures start { unturned cell.new.lane.sink ≡ unturned cell.old.lane.sink }
+    ensures boxes { boxes_at cell.new.ends ≡ boxes_at cell.old.ends }
 {
     match cell.turn(rt, alloc, blocks) {
         Ok(Turned::Played { .. }) => true,
@@ -139,7 +139,7 @@ where
             if !self.turn(&mut blocks) {
                 return;
             }
-            if self.worker.desk.over.load(Ordering::SeqCst) {
+            if self.worker.is_over() {
                 if left == 0 {
                     return;
                 }
@@ -168,5 +168,5 @@ where
         self.run();
     }
 
-    ghost keeps_itself = { λ job. record { parts = refl; sink = refl; start = refl; honest = λ h. h } };
+    ghost keeps_itself = { λ job. record { parts = refl; sink = refl; start = refl; boxes = refl; honest = λ h. h } };
 }

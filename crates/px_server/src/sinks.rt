@@ -1,22 +1,23 @@
 //! The sinks of a server: what the host makes for each, and their cells.
-ghost use Rattle.std.specs.Prelude.{◌≡◌, ℕ, ◌+◌, ◌≤◌, ◌<◌, ◌++◌, ◌∷◌, [], List, length, map, IfOk, IfErr, OnOk, OnErr, vec_len, vec_capacity};
+ghost use Rattle.std.specs.Prelude.{◌≡◌, ℕ, ◌+◌, ◌≤◌, ◌<◌, ◌++◌, ◌∷◌, [], List, length, map, IfOk, IfErr, OnOk, OnErr};
 ghost use Rattle.px_ends.specs.Host.{IsNewDevice, IsNewRecorder};
 ghost use Rattle.px_ends.specs.Device.{IsShape};
 ghost use Rattle.px_sample.specs.Format.{frame_size_of};
 ghost use Rattle.px_session.specs.HeaderRules.{IsSink, AreSinks, IsHeader};
 ghost use Rattle.px_session.specs.declared.header.SinkSpec.{SinkSpec as Spec};
 ghost use Rattle.px_lane_cell.specs.Cell.{AreEnds, IsKeyOf, taken_in, posted_in};
+ghost use Rattle.px_core_cell.specs.Boxes.{boxes_of};
 ghost use Rattle.px_core_cell.specs.Cell.{ends_of};
 ghost use Rattle.px_core_cell.specs.History.{fresh_ends};
 ghost use Rattle.px_server.specs.Hosted.{stop_by, IsLater, HasLent, IsCauseOf};
-ghost use Rattle.px_server.specs.declared.sink_work.Met.{Met};
 ghost use Rattle.px_server.specs.declared.sink_work.Met.TheVariants.{Nothing};
-ghost use Rattle.px_server.specs.Parts.{Worked, worked, unworked, start_at, start_of, sink_for, starts_of, starts_from, IsPart, AreParts, IsFrontOf, Adds};
+ghost use Rattle.px_server.specs.Parts.{start_of, sink_for, starts_of, starts_from, IsFrontOf, Adds};
 ghost use Rattle.px_server.specs.Fresh.{IsFresh};
-ghost use Rattle.px_server.specs.Working.{IsHonest};
+ghost use Rattle.px_server.specs.Working.{IsHonest, boxes_at, boxes_in};
 
 use crate::lone::Lone;
-use crate::served::{LanePart, Stop, stop_by};
+use crate::served::{Stop, stop_by};
+use crate::sink_work::Met;
 use px_annals::{LaneEntry, Recorder};
 use px_core_cell::{CoreEnd, CoreEnds};
 use px_ends::{Device, DeviceShape, Host, HostFault};
@@ -50,6 +51,7 @@ fn mailboxes(alloc: Global, sink: &SinkSpec) -> Mem<(LaneEnds, CoreEnd)>
     ensures ends { IfOk result (λ made. AreEnds made.0 × IsKeyOf made.0 (sink_for sink.now)) }
     ensures unmoved { IfOk result (λ made. (taken_in made.0 ≡ []) × (posted_in made.0 ≡ [])) }
     ensures core { IfOk result (λ made. ends_of made.1 ≡ fresh_ends sink.now) }
+    ensures boxes { IfOk result (λ made. boxes_at made.0 ≡ boxes_of made.1) }
 {
     let (inbox, post_message, take_message) = Mailbox::<Msg<Stream>>::new(alloc, sink.spec)?;
     let (outbox, post_notice, take_notice) = Mailbox::<Notice<Stream>>::new(alloc, ())?;
@@ -97,6 +99,7 @@ fn cell_of<D: Device + Drop, E: Recorder<LaneEntry> + Drop>(
     ensures sink { IfOk result (λ made. made.0.lane.sink ≡ sink_for sink.now) }
     ensures honest { IfOk result (λ made. IsHonest D.now E.faults E.fulls made.0 Nothing) }
     ensures core { IfOk result (λ made. ends_of made.1 ≡ fresh_ends sink.now) }
+    ensures boxes { IfOk result (λ made. boxes_at made.0.ends ≡ boxes_of made.1) }
 {
     let (ends, core) = mailboxes(alloc, sink)?;
     let lane = Lane::new(alloc, sink, device)?;
@@ -119,6 +122,7 @@ fn make_one<H: Host>(
     ensures cause { IfErr result (λ stop. IsCauseOf stop (H.now host.old) (H.now host.new)) }
     ensures made { OnOk result (map start_of lone.new.items ≡ map start_of lone.old.items ++ (record { index = record { 0 = index }; sink = sink_for sink.now }) ∷ []) }
     ensures ends { OnOk result (map ends_of ends.new.items ≡ map ends_of ends.old.items ++ fresh_ends sink.now ∷ []) }
+    ensures boxes { OnOk result (map boxes_in lone.old.items ≡ map boxes_of ends.old.items → map boxes_in lone.new.items ≡ map boxes_of ends.new.items) }
     ensures stays { OnErr result (lone.new.items ≡ lone.old.items) }
 {
     if lone.reserve(1).is_err() || ends.reserve(1).is_err() {
@@ -132,7 +136,11 @@ fn make_one<H: Host>(
         return Err(Stop::Memory);
     };
     let sink = SinkId(index);
-    lone.push_back_reserved(Lone { sink, cell });
+    lone.push_back_reserved(Lone {
+        sink,
+        cell,
+        met: Met::Nothing,
+    });
     ends.push(core).unwrap();
     Ok(())
 }
@@ -153,6 +161,7 @@ fn make_from<H: Host>(
     ensures cause { IfErr result (λ stop. IsCauseOf stop (H.now host.old) (H.now host.new)) }
     ensures made { OnOk result (map start_of lone.new.items ≡ map start_of lone.old.items ++ starts_from index sinks.now) }
     ensures ends { OnOk result (map ends_of ends.new.items ≡ map ends_of ends.old.items ++ map fresh_ends sinks.now) }
+    ensures boxes { OnOk result (map boxes_in lone.old.items ≡ map boxes_of ends.old.items → map boxes_in lone.new.items ≡ map boxes_of ends.new.items) }
     ensures front { Adds (map start_of lone.old.items) (starts_from index sinks.now) (map start_of lone.new.items) }
 {
     match sinks.split_first() {
@@ -179,35 +188,8 @@ pub(crate) fn make_all<H: Host>(
     ensures cause { IfErr result (λ stop. IsCauseOf stop (H.now host.old) (H.now host.new)) }
     ensures made { OnOk result (map start_of lone.new.items ≡ starts_of header.now.sinks) }
     ensures ends { OnOk result (map ends_of ends.new.items ≡ map fresh_ends header.now.sinks) }
+    ensures boxes { OnOk result (map boxes_in lone.new.items ≡ map boxes_of ends.new.items) }
     ensures front { IsFrontOf (map start_of lone.new.items) (starts_of header.now.sinks) }
 {
     make_from(alloc, 0, header.sinks.as_slice(), host, lone, ends)
-}
-
-/// What is left of a sink without a worker.
-pub(crate) fn part_of<D: Device + Drop, E: Recorder<LaneEntry> + Drop>(
-    sink: SinkId,
-    cell: LaneCell<D, E>,
-) -> LanePart<D, E>
-    ensures { (met : Met) → IsHonest D.now E.faults E.fulls cell met → IsPart D.now E.told E.faults E.fulls (worked (start_at sink cell.lane.sink) met) result }
-{
-    let parts = cell.into_parts();
-    LanePart {
-        sink,
-        device: parts.lane.into_device(),
-        recorder: parts.recorder,
-    }
-}
-
-/// What is left of the sinks without workers, behind what is left of others. Takes no memory.
-pub(crate) fn hand_back<D: Device + Drop, E: Recorder<LaneEntry> + Drop>(
-    lone: &mut VecDeque<Lone<D, E>>,
-    lanes: &mut Vec<LanePart<D, E>>,
-)
-    requires room { vec_len lanes.old + length lone.old.items ≤ vec_capacity lanes.old }
-    ensures { (done : List Worked) → AreParts D.now E.told E.faults E.fulls done lanes.old.items → AreParts D.now E.told E.faults E.fulls (done ++ map unworked lone.old.items) lanes.new.items }
-{
-    while let Some(Lone { sink, cell }) = lone.pop_front() {
-        lanes.push(part_of(sink, cell)).unwrap();
-    }
 }

@@ -11,6 +11,7 @@ invariant_of-self g c =
       step_keeps g.C.Recorder.told g.L.Seats.began c.args.step (cell_of c.self.inside.parts) (cell_of c.step.new.self) c.step.result c.requires c.self.invariant.0 c.step.ensures.gives,
       omega (arith, count, none, c.self.invariant.1),
       c.self.invariant.2,
+      c.step.ensures.boxes ∙ c.self.invariant.3,
     )
 
 pub invariant_of-self-then-is_some : goal.invariant_of-self-then-is_some
@@ -21,4 +22,5 @@ invariant_of-self-then-is_some g c =
       step_keeps g.C.Recorder.told g.L.Seats.began c.args.step (cell_of c.self.inside.parts) (cell_of c.step.new.self) c.step.result c.requires c.self.invariant.0 c.step.ensures.gives,
       omega (arith, count, one, c.self.invariant.1, c.add.ensures.total),
       c.self.invariant.2,
+      c.step.ensures.boxes ∙ c.self.invariant.3,
     )

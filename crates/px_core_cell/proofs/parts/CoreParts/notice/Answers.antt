@@ -3,7 +3,7 @@ use Rattle.std.proofs.lemmas.List.{map-set}
 use Rattle.px_core_cell.specs.declared.step.CoreStep.TheVariants as asked
 use Rattle.px_core_cell.specs.Cell.{SinkEnds, ends_of, desk_of, cell_of, calls_of}
 use Rattle.px_core_cell.specs.Step.{FreeGives}
-use Rattle.px_core_cell.proofs.Giving.{placed_at, none_at, notice_gives}
+use Rattle.px_core_cell.proofs.Giving.{placed_at, none_at, boxes_stay, notice_gives}
 use Rattle.px_core_cell.proofs.Calls.{notice_stops}
 use Rattle.px_core_cell.proofs.parts.CoreParts.notice.Goals as goal
 
@@ -27,3 +27,8 @@ returns-then-place-len-clause-stops g c =
 
 pub returns-else-place-len-clause-stops : goal.returns-else-place-len-clause-stops
 returns-else-place-len-clause-stops g c = λ b d was is. absurd (none_at calls_of c.args.self.now.ends.items c.args.sink.0 c.len.result (c.len.ensures ∙ c.args.self.now.ends.ok.0) c.if-place-len.false b was)
+
+pub returns-then-place-len-clause-boxes : goal.returns-then-place-len-clause-boxes
+returns-then-place-len-clause-boxes g c =
+    boxes_stay c.args.self.now.ends.items c.args.sink.0 c.len.result c.index_mut.result.now c.notice_step.new.end (c.len.ensures ∙ c.args.self.now.ends.ok.0) c.if-place-len.true c.index_mut.ensures.value
+    c.notice_step.ensures.boxes

@@ -2,7 +2,7 @@ use Rattle.std.proofs.Common.{◌≡◌, ◌<◌, ◌∙◌, List, Some, map, le
 use Rattle.std.specs.Prelude.{slice_get}
 use Rattle.std.proofs.lemmas.List.{map-set, length-map}
 use Rattle.px_core_cell.specs.Cell.{SinkEnds, ends_of, desk_of, cell_of, calls_of, calls_in}
-use Rattle.px_core_cell.proofs.Giving.{placed_at, none_at, is_there, EffectsGive, out_gives, nowhere_gives}
+use Rattle.px_core_cell.proofs.Giving.{placed_at, none_at, boxes_stay, is_there, EffectsGive, out_gives, nowhere_gives}
 use Rattle.px_core_cell.proofs.Calls.{out_stops, nowhere_stops}
 use Rattle.px_core_cell.proofs.parts.CoreParts.out.Goals as goal
 
@@ -37,3 +37,8 @@ pub returns-else-place-len-clause-stops : goal.returns-else-place-len-clause-sto
 returns-else-place-len-clause-stops g c =
     nowhere_stops c.args.sink c.args.self.now.core.state (calls_in c.args.self.now) c.nowhere_step.result
     (none_at calls_of c.args.self.now.ends.items c.args.sink.0 c.len.result (c.len.ensures ∙ c.args.self.now.ends.ok.0) c.if-place-len.false)
+
+pub returns-then-place-len-clause-boxes : goal.returns-then-place-len-clause-boxes
+returns-then-place-len-clause-boxes g c =
+    boxes_stay c.args.self.now.ends.items c.args.sink.0 c.len.result c.index_mut.result.now c.out_step.new.end (c.len.ensures ∙ c.args.self.now.ends.ok.0) c.if-place-len.true c.index_mut.ensures.value
+    c.out_step.ensures.boxes

@@ -1,15 +1,15 @@
-use Rattle.std.proofs.Common.{◌≡◌, ◌+◌, ◌≤◌, length}
-use Rattle.std.specs.Prelude.{vec_len, vec_capacity}
-use Rattle.px_server.proofs.Joining.{Joined}
+use Rattle.std.proofs.Common.{◌≡◌, ◌+◌, ◌≤◌, ◌++◌, length, map}
+use Rattle.std.specs.VecDeque.{deque_capacity}
+use Rattle.px_server.specs.Parts.{start_of}
+use Rattle.px_server.specs.Working.{boxes_in}
 use Rattle.px_server.proofs.serving.Serving.join_sinks.Given as goal
 
 abbrev pub invariant-loop-running : goal.invariant-loop-running
 invariant-loop-running g l = record {
   parts : l.self.worker.seat.parts + length l.self.sinks.items ≡ l.fn.self.worker.seat.parts + length l.fn.self.sinks.items;
-  room : vec_len l.lanes + length l.self.sinks.items ≤ vec_capacity l.lanes;
-  whole : vec_len l.lanes + length l.self.sinks.items ≡ vec_len l.fn.lanes + length l.fn.self.sinks.items;
-  capacity : vec_capacity l.fn.lanes ≤ vec_capacity l.lanes;
-  joined : Joined g.D.Device.now g.E.Recorder.told g.E.Recorder.faults g.E.Recorder.fulls l.fn.self.sinks.items l.self.sinks.items l.fn.lanes.items l.lanes.items l.first;
+  room : length l.self.sinks.items + length l.lone.items ≤ deque_capacity l.lone;
+  starts : map start_of (l.self.sinks.items ++ l.lone.items) ≡ map start_of (l.fn.self.sinks.items ++ l.fn.lone.items);
+  boxes : map boxes_in (l.self.sinks.items ++ l.lone.items) ≡ map boxes_in (l.fn.self.sinks.items ++ l.fn.lone.items);
 }
 
 -- how many are left

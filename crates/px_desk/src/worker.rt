@@ -1,0 +1,323 @@
+//! What every worker does with the core.
+
+ghost use Rattle.std.specs.Prelude.{◌≡◌, ◌+◌, ◌<◌, map, IfOk, OnErr};
+ghost use Rattle.px_frame.specs.Frame.{IsBody};
+ghost use Rattle.px_core_cell.specs.Boxes.{boxes_of};
+ghost use Rattle.px_core_cell.specs.Cause.{IsCaused};
+ghost use Rattle.px_core_cell.specs.Cell.{cell_of};
+ghost use Rattle.px_core_cell.specs.History.{IsCell};
+ghost use Rattle.px_core_cell.specs.Step.{IsAsked, HandsBack};
+
+use crate::desk::Desk;
+use crate::lines::Next;
+use px_annals::{CoreEntry, RecordFault, Recorder};
+use px_core_cell::{CoreParts, CoreSeat, CoreStep, Seats, StepFault};
+use px_frame::{Frame, FrameFault};
+use px_types::{ConnId, Mem, SinkId};
+use std::alloc::Global;
+use std::sync::atomic::Ordering;
+use std::sync::{Arc, Wait};
+use std::thread::yield_now;
+
+// What became of a step.
+#[derive(Clone, Copy, Debug, PartialEq, Eq)]
+enum Made {
+    // It was done.
+    Done,
+    // There was nothing to do.
+    Nothing,
+    // There was no memory for it.
+    NoMemory,
+}
+
+/// Why the core makes no more steps.
+#[derive(Clone, Copy, Debug, PartialEq, Eq)]
+pub enum CoreStop {
+    /// It has made as many as are counted.
+    Worn,
+    /// Its recorder isn't ready for one more.
+    Unrecorded(RecordFault),
+}
+
+// A step that can be asked for again.
+#[derive(Clone, Copy, Debug)]
+enum Plain {
+    Connect(ConnId),
+    Close(ConnId),
+    Cut(ConnId),
+    Notice(SinkId),
+}
+
+// The step that is asked for.
+fn step_of(step: Plain) -> CoreStep
+    ensures { IsAsked result }
+{
+    match step {
+        Plain::Connect(conn) => CoreStep::Connect(conn),
+        Plain::Close(conn) => CoreStep::Close(conn),
+        Plain::Cut(conn) => CoreStep::Cut(conn),
+        Plain::Notice(sink) => CoreStep::Notice(sink),
+    }
+}
+
+/// A worker's hold of what all share.
+#[derive(Drop)]
+pub struct Worker<R, C: Recorder<CoreEntry>, L: Seats> {
+    pub rt: R,
+    pub alloc: Global,
+    pub desk: Arc<Desk<C, L>>,
+    pub seat: CoreSeat<L>,
+}
+
+impl<R: Wait + Copy, C: Recorder<CoreEntry> + Drop, L: Seats> Worker<R, C, L> {
+    /// Another worker with one share of this one's. Where there is no memory there is none.
+    pub fn another(&mut self) -> Mem<Worker<R, C, L>>
+        requires { 1 < self.old.seat.parts }
+        ensures ok { IfOk result (λ other. (other.seat.parts ≡ 1) × (self.new.seat.parts + 1 ≡ self.old.seat.parts)) }
+        ensures err { OnErr result (self.new.seat.parts ≡ self.old.seat.parts) }
+    {
+        let desk = Arc::try_clone(&self.desk)?;
+        Ok(Worker {
+            rt: self.rt,
+            alloc: self.alloc,
+            desk,
+            seat: self.seat.split(),
+        })
+    }
+
+    /// The sinks' workers may end.
+    pub fn finish(&self) {
+        self.desk.over.store(true, Ordering::SeqCst);
+    }
+
+    /// Whether the sinks' workers may end.
+    pub fn is_over(&self) -> bool {
+        self.desk.over.load(Ordering::SeqCst)
+    }
+
+    /// What lies under the core's lock, by a worker with all shares.
+    pub fn into_core(self) -> CoreParts<C>
+        requires { self.seat.parts ≡ L.all }
+        ensures history { IsCell C.told L.began (cell_of result) }
+        ensures boxes { map boxes_of result.ends.items ≡ L.boxes }
+        ensures caused { IsCaused result.log.fault (C.faults result.log.recorder) (C.fulls result.log.recorder) }
+    {
+        let Worker { rt, desk, seat, .. } = self;
+        desk.core.take_parts(&rt, seat)
+    }
+
+    // Makes a step, and puts what it does to the outside into the clients' lines. The lines are locked meanwhile, so that they
+    // have the packets in the order of the steps.
+    fn once(&mut self, step: CoreStep) -> Result<bool, StepFault>
+        requires lawful { IsAsked step }
+        ensures seat { self.new.seat.parts ≡ self.old.seat.parts }
+        ensures back { HandsBack step result }
+    {
+        let mut lines = self.desk.lines.lock(&self.rt);
+        match self
+            .desk
+            .core
+            .step(&self.rt, self.alloc, step, &mut self.seat)?
+        {
+            Some(effects) => {
+                lines.put(effects);
+                Ok(true)
+            }
+            None => Ok(false),
+        }
+    }
+
+    // Sweeps, again until there is memory.
+    fn sweep(&mut self) -> Result<(), CoreStop>
+        ensures seat { self.new.seat.parts ≡ self.old.seat.parts }
+    {
+        let rt = self.rt;
+        for _ in rt.forever() {
+            match self.once(CoreStep::Sweep) {
+                Ok(_) | Err(StepFault::Owed(_)) => return Ok(()),
+                Err(StepFault::NoMemory) | Err(StepFault::Recorder(RecordFault::NoMemory)) => {
+                    yield_now()
+                }
+                Err(StepFault::Worn) => return Err(CoreStop::Worn),
+                Err(StepFault::Recorder(fault)) => return Err(CoreStop::Unrecorded(fault)),
+            }
+        }
+        unreachable!()
+    }
+
+    // Makes a step. Where a sweep is owed, that is made first.
+    fn make(&mut self, step: CoreStep) -> Result<Made, CoreStop>
+        requires lawful { IsAsked step }
+        ensures seat { self.new.seat.parts ≡ self.old.seat.parts }
+    {
+        let rt = self.rt;
+        let mut step = step;
+        for _ in rt.forever() {
+            match self.once(step) {
+                Ok(true) => return Ok(Made::Done),
+                Ok(false) => return Ok(Made::Nothing),
+                Err(StepFault::NoMemory) | Err(StepFault::Recorder(RecordFault::NoMemory)) => {
+                    return Ok(Made::NoMemory);
+                }
+                Err(StepFault::Owed(back)) => {
+                    step = back;
+                    self.sweep()?;
+                }
+                Err(StepFault::Worn) => return Err(CoreStop::Worn),
+                Err(StepFault::Recorder(fault)) => return Err(CoreStop::Unrecorded(fault)),
+            }
+        }
+        unreachable!()
+    }
+
+    // Makes a step that isn't a client's frame or a fault in its bytes, again until there is memory. Whether there was something to do.
+    fn insist(&mut self, step: Plain) -> Result<bool, CoreStop>
+        ensures seat { self.new.seat.parts ≡ self.old.seat.parts }
+    {
+        let rt = self.rt;
+        for _ in rt.forever() {
+            match self.make(step_of(step))? {
+                Made::Done => return Ok(true),
+                Made::Nothing => return Ok(false),
+                Made::NoMemory => yield_now(),
+            }
+        }
+        unreachable!()
+    }
+
+    // A client in whose line a packet found no memory.
+    fn short(&mut self) -> Option<ConnId>
+        ensures seat { self.new.seat.parts ≡ self.old.seat.parts }
+    {
+        self.desk.lines.lock(&self.rt).take_short()
+    }
+
+    // Ends the connections of clients in whose lines a packet found no memory.
+    fn cut_short(&mut self) -> Result<(), CoreStop>
+        ensures seat { self.new.seat.parts ≡ self.old.seat.parts }
+    {
+        let rt = self.rt;
+        for _ in rt.forever() {
+            match self.short() {
+                Some(conn) => {
+                    self.insist(Plain::Cut(conn))?;
+                    self.sweep()?;
+                }
+                None => return Ok(()),
+            }
+        }
+        unreachable!()
+    }
+
+    // Posts to each sink what waits for it.
+    fn post_all(&mut self) -> Result<(), CoreStop>
+        ensures seat { self.new.seat.parts ≡ self.old.seat.parts }
+    {
+        for sink in 0..self.desk.sinks {
+            self.post(SinkId(sink))?;
+        }
+        Ok(())
+    }
+
+    /// What follows a step: the sweep that it owes, the ends of connections that found no memory, and what waits for the sinks.
+    pub fn follow(&mut self) -> Result<(), CoreStop>
+        ensures seat { self.new.seat.parts ≡ self.old.seat.parts }
+    {
+        self.sweep()?;
+        self.cut_short()?;
+        self.post_all()
+    }
+
+    /// Posts to a sink what waits for it. Where there is no memory it waits for the next time.
+    pub fn post(&mut self, sink: SinkId) -> Result<(), CoreStop>
+        ensures seat { self.new.seat.parts ≡ self.old.seat.parts }
+    {
+        self.make(CoreStep::Out(sink))?;
+        Ok(())
+    }
+
+    /// A client connects.
+    pub fn connect(&mut self, conn: ConnId) -> Result<(), CoreStop>
+        ensures seat { self.new.seat.parts ≡ self.old.seat.parts }
+    {
+        self.insist(Plain::Connect(conn))?;
+        self.follow()
+    }
+
+    /// The server ends a connection.
+    pub fn cut(&mut self, conn: ConnId) -> Result<(), CoreStop>
+        ensures seat { self.new.seat.parts ≡ self.old.seat.parts }
+    {
+        self.insist(Plain::Cut(conn))?;
+        self.follow()
+    }
+
+    /// A client has closed its connection.
+    pub fn close(&mut self, conn: ConnId) -> Result<(), CoreStop>
+        ensures seat { self.new.seat.parts ≡ self.old.seat.parts }
+    {
+        self.insist(Plain::Close(conn))?;
+        self.follow()
+    }
+
+    /// A frame of a client. One that finds no memory ends its connection.
+    pub fn frame(&mut self, conn: ConnId, frame: Frame) -> Result<(), CoreStop>
+        requires { IsBody frame.body }
+        ensures seat { self.new.seat.parts ≡ self.old.seat.parts }
+    {
+        match self.make(CoreStep::Frame(conn, frame))? {
+            Made::Done | Made::Nothing => self.follow(),
+            Made::NoMemory => self.cut(conn),
+        }
+    }
+
+    /// A fault in a client's bytes. One that finds no memory ends its connection.
+    pub fn broken(&mut self, conn: ConnId, fault: FrameFault, at: u64) -> Result<(), CoreStop>
+        ensures seat { self.new.seat.parts ≡ self.old.seat.parts }
+    {
+        match self.make(CoreStep::Broken(conn, fault, at))? {
+            Made::Done | Made::Nothing => self.follow(),
+            Made::NoMemory => self.cut(conn),
+        }
+    }
+
+    /// All notices that a sink's mixer has posted.
+    pub fn notices(&mut self, sink: SinkId) -> Result<(), CoreStop>
+        ensures seat { self.new.seat.parts ≡ self.old.seat.parts }
+    {
+        let rt = self.rt;
+        for _ in rt.forever() {
+            if !self.insist(Plain::Notice(sink))? {
+                return Ok(());
+            }
+            self.follow()?;
+        }
+        unreachable!()
+    }
+
+    /// A line for a client's packets.
+    pub fn open_line(&mut self, conn: ConnId) -> Mem<()>
+        ensures seat { self.new.seat.parts ≡ self.old.seat.parts }
+    {
+        self.desk.lines.lock(&self.rt).open(conn)
+    }
+
+    /// A client's line goes.
+    pub fn shut_line(&mut self, conn: ConnId)
+        ensures seat { self.new.seat.parts ≡ self.old.seat.parts }
+    {
+        self.desk.lines.lock(&self.rt).shut(conn);
+    }
+
+    /// Whether a client has a line.
+    pub fn has_line(&self, conn: ConnId) -> bool {
+        self.desk.lines.lock(&self.rt).has(conn)
+    }
+
+    /// What stands first in a client's line.
+    pub fn next_packet(&mut self, conn: ConnId) -> Next
+        ensures seat { self.new.seat.parts ≡ self.old.seat.parts }
+    {
+        self.desk.lines.lock(&self.rt).next(conn)
+    }
+}

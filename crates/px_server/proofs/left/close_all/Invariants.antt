@@ -1,0 +1,26 @@
+use Rattle.std.proofs.Common.{◌≡◌, ◌+◌, ◌≤◌, List, Option, length, map}
+use Rattle.std.specs.Prelude.{vec_len, vec_capacity}
+use Rattle.std.specs.Option.{option_or}
+use Rattle.px_annals.specs.declared.entry.CoreEntry.{CoreEntry}
+use Rattle.px_annals.specs.declared.stream.PlainStream.{PlainStream}
+use Rattle.px_core.specs.State.{State}
+use Rattle.px_core_cell.specs.Boxes.{boxes_of}
+use Rattle.px_server.specs.Parts.{unworked, AreTold}
+use Rattle.px_server.specs.Serving.{first_met}
+use Rattle.px_server.specs.Working.{boxes_in}
+use Rattle.px_server.proofs.Parts.{Handed}
+use Rattle.px_server.proofs.left.close_all.Given as goal
+
+abbrev pub invariant-loop-sink : goal.invariant-loop-sink
+invariant-loop-sink g l = record {
+  room : vec_len l.lanes + length l.lone.items ≤ vec_capacity l.lanes;
+  boxes : map boxes_in l.lone.items ≡ map boxes_of l.ends.items;
+  met : option_or l.first (first_met (map unworked l.lone.items)) ≡ first_met (map unworked l.fn.lone.items);
+  parts : (began : State PlainStream) (core : Option (List CoreEntry)) → AreTold began core l.fn.lone.items l.fn.ends.items
+      → AreTold began core l.lone.items l.ends.items
+      × Handed began core g.D.Device.now g.E.Recorder.told g.E.Recorder.faults g.E.Recorder.fulls l.fn.lone.items l.lone.items l.lanes.items;
+}
+
+-- how many are left
+abbrev pub decreases-loop-sink : goal.decreases-loop-sink
+decreases-loop-sink g l = length l.lone.items

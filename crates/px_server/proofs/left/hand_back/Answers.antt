@@ -1,0 +1,26 @@
+use Rattle.std.proofs.Common.{rules, ◌≡◌, ◌∷◌, [], ◌++◌, None}
+use Rattle.px_server.specs.Working.{Unworked}
+use Rattle.px_server.proofs.Parts.{handed_none, handed_one, handed_all}
+use Rattle.px_server.proofs.left.hand_back.Goals as goal
+
+pub loop-sink-init : goal.loop-sink-init
+loop-sink-init g c = record {
+  room = search rules;
+  parts = λ began. handed_none began None g.D.Device.now g.E.Recorder.told g.E.Recorder.faults g.E.Recorder.fulls c.args.lone.now.items c.args.lanes.now.items c.requires.none;
+}
+
+pub loop-sink-preserved : goal.loop-sink-preserved
+loop-sink-preserved g c =
+    let one : Unworked g.row.D.Denot g.row.E.Denot = record { sink = c.in-Some.field-0.sink; cell = c.in-Some.field-0.cell; met = c.in-Some.field-0.met } in
+    let front : c.loop-sink.lone.items ≡ one ∷ c.pop_front.new.self.items = search rules in
+    let more : c.push.new.self.items ≡ c.loop-sink.lanes.items ++ c.part_of.result ∷ [] = search rules in
+    record {
+      room = search rules;
+      parts = λ began. handed_one began None g.D.Device.now g.E.Recorder.told g.E.Recorder.faults g.E.Recorder.fulls c.args.lone.now.items c.loop-sink.lone.items c.pop_front.new.self.items one
+          c.loop-sink.lanes.items c.push.new.self.items c.part_of.result front more (c.part_of.ensures began one.met (search rules)) (c.loop-sink.invariant.parts began);
+    }
+
+pub returns : goal.returns
+returns g c = λ began.
+    let none : c.loop-sink.lone.items ≡ [] = search rules in
+    handed_all began None g.D.Device.now g.E.Recorder.told g.E.Recorder.faults g.E.Recorder.fulls c.args.lone.now.items c.loop-sink.lone.items c.loop-sink.lanes.items none (c.loop-sink.invariant.parts began)

@@ -1,0 +1,111 @@
+//! What is left of sinks without workers.
+ghost use Rattle.std.specs.Prelude.{◌≡◌, ◌+◌, ◌≤◌, ◌++◌, [], List, Option, None, length, map, IfSome, vec_len, vec_capacity};
+ghost use Rattle.px_annals.specs.declared.entry.CoreEntry.{CoreEntry as Entry};
+ghost use Rattle.px_annals.specs.declared.stream.PlainStream.{PlainStream};
+ghost use Rattle.px_core.specs.State.{State};
+ghost use Rattle.px_core_cell.specs.Boxes.{boxes_of};
+ghost use Rattle.px_core_cell.specs.Cell.{ends_of};
+ghost use Rattle.px_core_cell.specs.History.{IsTold};
+ghost use Rattle.px_lane_cell.specs.History.{unturned};
+ghost use Rattle.px_server.specs.declared.sink_work.Met.{Met as Seen};
+ghost use Rattle.px_server.specs.Delivered.{IsDelivered};
+ghost use Rattle.px_server.specs.Parts.{worked, unworked, start_at, IsPart, AreParts, AreTold};
+ghost use Rattle.px_server.specs.Serving.{first_met};
+ghost use Rattle.px_server.specs.Working.{IsHonest, boxes_at, boxes_in};
+
+use crate::lone::Lone;
+use crate::served::LanePart;
+use crate::sink_work::status_of_met;
+use px_annals::{LaneEntry, Recorder};
+use px_core_cell::{CoreEnd, CoreEnds};
+use px_ends::Device;
+use px_lane_cell::{LaneCell, LaneCellParts, LaneEnds, LanePasses};
+use px_types::{SinkId, Status};
+use std::collections::VecDeque;
+
+// What is left of a sink, where there is no core.
+fn part_of<D: Device + Drop, E: Recorder<LaneEntry> + Drop>(
+    sink: SinkId,
+    cell: LaneCell<D, E>,
+) -> LanePart<D, E>
+    ensures { (began : State PlainStream) (met : Seen) → IsHonest D.now E.faults E.fulls cell met
+        → IsPart began None D.now E.told E.faults E.fulls (worked (start_at sink cell.lane.sink) met) result }
+{
+    let parts = cell.into_parts();
+    LanePart {
+        sink,
+        device: parts.lane.into_device(),
+        recorder: parts.recorder,
+    }
+}
+
+/// What is left of the sinks without workers, where there is no core. Takes no memory.
+pub(crate) fn hand_back<D: Device + Drop, E: Recorder<LaneEntry> + Drop>(
+    lone: &mut VecDeque<Lone<D, E>>,
+    lanes: &mut Vec<LanePart<D, E>>,
+)
+    requires none { lanes.old.items ≡ [] }
+    requires room { length lone.old.items ≤ vec_capacity lanes.old }
+    ensures { (began : State PlainStream) → AreParts began None D.now E.told E.faults E.fulls (map unworked lone.old.items) lanes.new.items }
+{
+    while let Some(Lone { sink, cell, .. }) = lone.pop_front() {
+        lanes.push(part_of(sink, cell)).unwrap();
+    }
+}
+
+// What is left of a sink, whose mailboxes are closed with the core's ends of them.
+fn closed<D: Device + Drop, E: Recorder<LaneEntry> + Drop>(
+    sink: SinkId,
+    cell: LaneCell<D, E>,
+    end: CoreEnd,
+) -> LanePart<D, E>
+    requires { boxes_at cell.ends ≡ boxes_of end }
+    ensures part { (began : State PlainStream) (met : Seen) → IsHonest D.now E.faults E.fulls cell met
+        → IsPart began None D.now E.told E.faults E.fulls (worked (start_at sink cell.lane.sink) met) result }
+    ensures delivered { (began : State PlainStream) (entries : List Entry) → IsTold began entries sink.0 (ends_of end)
+        → IfSome (E.told result.recorder) (IsDelivered began entries sink (unturned cell.lane.sink)) }
+{
+    let LaneCellParts {
+        lane,
+        recorder,
+        ends,
+        ..
+    } = cell.into_parts();
+    let LaneEnds {
+        boxes,
+        passes: LanePasses { take, post },
+    } = ends;
+    boxes.inbox.close(end.post, take);
+    boxes.outbox.close(post, end.take);
+    LanePart {
+        sink,
+        device: lane.into_device(),
+        recorder,
+    }
+}
+
+/// What is left of the sinks without workers, whose mailboxes are closed with the core's ends of them, and the first status that one of their
+/// workers met. Takes no memory.
+pub(crate) fn close_all<D: Device + Drop, E: Recorder<LaneEntry> + Drop>(
+    lone: &mut VecDeque<Lone<D, E>>,
+    ends: CoreEnds,
+    lanes: &mut Vec<LanePart<D, E>>,
+) -> Option<Status>
+    requires boxes { map boxes_in lone.old.items ≡ map boxes_of ends.items }
+    requires none { lanes.old.items ≡ [] }
+    requires room { length lone.old.items ≤ vec_capacity lanes.old }
+    ensures met { result ≡ first_met (map unworked lone.old.items) }
+    ensures parts { (began : State PlainStream) (core : Option (List Entry)) → AreTold began core lone.old.items ends.items
+        → AreParts began core D.now E.told E.faults E.fulls (map unworked lone.old.items) lanes.new.items }
+{
+    let mut ends = VecDeque::from_vec(ends);
+    let mut first = None;
+    while let Some(Lone { sink, cell, met }) = lone.pop_front() {
+        let Some(end) = ends.pop_front() else {
+            unreachable!()
+        };
+        first = first.or(status_of_met(met));
+        lanes.push(closed(sink, cell, end)).unwrap();
+    }
+    first
+}
