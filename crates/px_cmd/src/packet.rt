@@ -37,6 +37,75 @@ fn attributes(reader: &mut TagReader) -> Result<Command, CmdFault>
     })
 }
 
+// The fields of a command whose number is 81 at least: those with property lists, and the last of the lists that are empty.
+fn list_fields(alloc: Global, number: u32, reader: &mut TagReader) -> Result<Command, CmdFault>
+    requires { 81 ≤ number }
+    ensures value { Reaches result number reader.new (taken (kinds_of number) number reader.old) }
+    ensures numbered { IfOk result IsNumbered }
+    ensures plain { IfOk result IsOfVersion13 }
+{
+    match number {
+        81 => {
+            let stream = reader.number()?;
+            let mode = reader.number()?;
+            let list = properties(alloc, reader)?;
+            Ok(Command::UpdateStream { stream, mode, list })
+        }
+        82 => {
+            let mode = reader.number()?;
+            let list = properties(alloc, reader)?;
+            Ok(Command::UpdateClient { mode, list })
+        }
+        84 => {
+            let stream = reader.number()?;
+            let keys = keys(alloc, reader)?;
+            Ok(Command::RemoveStream { stream, keys })
+        }
+        85 => {
+            let keys = keys(alloc, reader)?;
+            Ok(Command::RemoveClient { keys })
+        }
+        89 => Ok(Command::EmptyList { number }),
+        _ => Err(CmdFault::Unsupported(number)),
+    }
+}
+
+// The fields of a command whose number is 48 at least.
+fn last_fields(alloc: Global, number: u32, reader: &mut TagReader) -> Result<Command, CmdFault>
+    requires { 48 ≤ number }
+    ensures value { Reaches result number reader.new (taken (kinds_of number) number reader.old) }
+    ensures numbered { IfOk result IsNumbered }
+    ensures plain { IfOk result IsOfVersion13 }
+{
+    match number {
+        48 => {
+            let client = reader.number()?;
+            Ok(Command::KillClient { client })
+        }
+        49 => {
+            let input = reader.number()?;
+            Ok(Command::KillInput { input })
+        }
+        60 => {
+            let stream = reader.number()?;
+            Ok(Command::Prebuf { stream })
+        }
+        67 => {
+            let input = reader.number()?;
+            let sink = sink(alloc, reader)?;
+            Ok(Command::Move { input, sink })
+        }
+        69 => {
+            let input = reader.number()?;
+            let on = reader.flag()?;
+            Ok(Command::InputMute { input, on })
+        }
+        72 => attributes(reader),
+        0..=80 => Err(CmdFault::Unsupported(number)),
+        _ => list_fields(alloc, number, reader),
+    }
+}
+
 // The fields of a command whose number is 36 at least.
 fn later_fields(alloc: Global, number: u32, reader: &mut TagReader) -> Result<Command, CmdFault>
     requires { 36 ≤ number }
@@ -82,51 +151,8 @@ fn later_fields(alloc: Global, number: u32, reader: &mut TagReader) -> Result<Co
             let name = text(alloc, reader)?;
             Ok(Command::StreamName { stream, name })
         }
-        48 => {
-            let client = reader.number()?;
-            Ok(Command::KillClient { client })
-        }
-        49 => {
-            let input = reader.number()?;
-            Ok(Command::KillInput { input })
-        }
-        60 => {
-            let stream = reader.number()?;
-            Ok(Command::Prebuf { stream })
-        }
-        67 => {
-            let input = reader.number()?;
-            let sink = sink(alloc, reader)?;
-            Ok(Command::Move { input, sink })
-        }
-        69 => {
-            let input = reader.number()?;
-            let on = reader.flag()?;
-            Ok(Command::InputMute { input, on })
-        }
-        72 => attributes(reader),
-        81 => {
-            let stream = reader.number()?;
-            let mode = reader.number()?;
-            let list = properties(alloc, reader)?;
-            Ok(Command::UpdateStream { stream, mode, list })
-        }
-        82 => {
-            let mode = reader.number()?;
-            let list = properties(alloc, reader)?;
-            Ok(Command::UpdateClient { mode, list })
-        }
-        84 => {
-            let stream = reader.number()?;
-            let keys = keys(alloc, reader)?;
-            Ok(Command::RemoveStream { stream, keys })
-        }
-        85 => {
-            let keys = keys(alloc, reader)?;
-            Ok(Command::RemoveClient { keys })
-        }
-        89 => Ok(Command::EmptyList { number }),
-        _ => Err(CmdFault::Unsupported(number)),
+        0..=47 => Err(CmdFault::Unsupported(number)),
+        _ => last_fields(alloc, number, reader),
     }
 }
 
