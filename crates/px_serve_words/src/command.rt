@@ -49,12 +49,19 @@ fn tape<'a>(alloc: Global) -> Arg<'a>
 pub fn command<'a>(alloc: Global) -> Result<Command<'a>, AllocError>
     ensures { IfOk result (λ command. app_of command ≡ serve_command) }
 {
+    let header = path(alloc, "header");
+    let socket = path(alloc, "socket");
+    let out = path(alloc, "out");
+    let accept = accept(alloc);
+    let history = option(alloc, "history");
+    let tape = tape(alloc);
     let empty = Command::new(alloc, "serve").disable_help_flag(true);
-    let command = empty.arg(path(alloc, "header"))?;
-    let command = command.arg(path(alloc, "socket"))?;
-    let command = command.arg(path(alloc, "out"))?;
-    let command = command.arg(accept(alloc))?;
-    let command = command.arg(option(alloc, "history"))?;
-    let command = command.arg(tape(alloc))?;
+    let command = empty
+        .arg(header)?
+        .arg(socket)?
+        .arg(out)?
+        .arg(accept)?
+        .arg(history)?
+        .arg(tape)?;
     Ok(command)
 }
