@@ -8,8 +8,8 @@ use px_session::{Cause, Header, ReadError, Reader, Step};
 use px_types::Text;
 use std::alloc::Global;
 
-/// The header that these bytes are. Bytes behind a header are refused at the first of them.
-pub(crate) fn header_in(alloc: Global, bytes: Text) -> Result<Header, ReadError>
+/// The header that these bytes of a file are, or the first rule that they break. Bytes behind a header are refused at the first of them.
+pub fn header_in(alloc: Global, bytes: Text) -> Result<Header, ReadError>
     ensures gives { HeaderGives result bytes }
     ensures lawful { IfOk result IsHeader }
 {

@@ -1,3 +1,4 @@
+mod crowded;
 mod full;
 mod lane;
 mod threads;

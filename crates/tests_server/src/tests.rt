@@ -1,2 +1,3 @@
+mod gates;
 mod hosts;
 mod statuses;

@@ -1,10 +1,10 @@
-ghost use Rattle.std.specs.Prelude.{◌≡◌, [], IfOk};
+ghost use Rattle.std.specs.Prelude.{◌≡◌, [], IfSome, IfOk};
 ghost use Rattle.std.specs.Arc.{arc_value};
 ghost use Rattle.crossbeam_queue.specs.Passes.{IsPassOf};
 ghost use Rattle.px_mail.specs.Mailbox.{key_of, posted_by};
 ghost use Rattle.tests_cells.specs.Gains.{IsGain, IsNew, Sends};
 
-use px_annals::{LaneEntry, MemRecorder, PlainMsg};
+use px_annals::{LaneEntry, MemRecorder, PlainMsg, Recorder};
 use px_chmap::Map;
 use px_ends::{DeviceShape, MemDevice};
 use px_lane::Lane;
@@ -60,6 +60,18 @@ pub fn opened(alloc: Global, entries: usize) -> Mem<(Cell, Inbox, PostPass<Msg<S
     ensures pass { IfOk result (λ made. IsPassOf (arc_value made.1).queue made.2.pass) }
     ensures sends { IfOk result (λ made. Sends (key_of made.2.pass) (posted_by made.2.pass)) }
 {
+    opened_with(alloc, MemRecorder::new(alloc, entries, 268_435_456)?)
+}
+
+/// A cell with a recorder that holds nothing, its inbox, and what is at the other end of it.
+pub fn opened_with<C: Recorder<LaneEntry> + Drop>(
+    alloc: Global,
+    recorder: C,
+) -> Mem<(LaneCell<MemDevice, C>, Inbox, PostPass<Msg<Stream>>)>
+    requires { IfSome (C.told recorder) (λ entries. entries ≡ []) }
+    ensures pass { IfOk result (λ made. IsPassOf (arc_value made.1).queue made.2.pass) }
+    ensures sends { IfOk result (λ made. Sends (key_of made.2.pass) (posted_by made.2.pass)) }
+{
     let (inbox, theirs, take) = Mailbox::<Msg<Stream>>::new(alloc, SPEC)?;
     let (outbox, post, _notices) = Mailbox::<Notice<Stream>>::new(alloc, ())?;
     let inbox = Arc::new(alloc, inbox)?;
@@ -75,7 +87,6 @@ pub fn opened(alloc: Global, entries: usize) -> Mem<(Cell, Inbox, PostPass<Msg<S
         passes: LanePasses { take, post },
     };
     let lane = mixer(alloc)?;
-    let recorder = MemRecorder::new(alloc, entries, 268_435_456)?;
     let cell = LaneCell::new(alloc, lane, recorder, ends)?;
     Ok((cell, inbox, theirs))
 }
@@ -103,8 +114,8 @@ fn is_for(message: &PlainMsg, number: u32) -> bool {
     }
 }
 
-// How many of the messages from this number on an entry has, in order; `None` where it has another.
-fn counted(entry: &LaneEntry, first: u32) -> Option<u32> {
+/// How many of the messages from this number on an entry has, in order; `None` where it has another.
+pub fn counted(entry: &LaneEntry, first: u32) -> Option<u32> {
     let mut number = first;
     for message in entry.messages.as_slice() {
         if !is_for(message, number) {

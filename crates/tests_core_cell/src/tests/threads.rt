@@ -1,4 +1,5 @@
 ghost use Rattle.std.specs.Prelude.{◌≡◌, ◌+◌, ◌<◌, map, IfOk};
+ghost use Rattle.px_core_cell.specs.Boxes.{boxes_of};
 ghost use Rattle.px_core_cell.specs.Cell.{ends_of};
 ghost use Rattle.px_core_cell.specs.History.{Begins};
 ghost use Rattle.px_core_cell.specs.Step.{IsAsked};
@@ -196,6 +197,7 @@ fn in_eight<L: Seats + Send + Sync, R: Threads + Wait + Sync>(
     requires parts { (blank.parts ≡ L.parts) × (L.parts ≡ L.all) × (L.all ≡ 65552) }
     requires began { core.state ≡ L.began }
     requires begins { Begins core.state (map ends_of ends.items) }
+    requires boxes { map boxes_of ends.items ≡ L.boxes }
 {
     let (cell, mut seat) = CoreCell::<NoRecorder, L>::new(blank, core, NoRecorder, ends);
     let one = four_of(&mut seat);
