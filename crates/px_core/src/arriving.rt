@@ -15,7 +15,7 @@ use px_msg::{Msg, Parcel};
 use px_plan::Input;
 use px_state::{Effects, Tables, delayed_count, finish_arrival};
 use px_targets::{group_on, target_at};
-use px_types::{InputId, Mem, SinkId};
+use px_types::{Mem, SinkId};
 use std::alloc::Global;
 
 // What it does that an input is on a sink, but for its parcel.

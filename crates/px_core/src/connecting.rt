@@ -1,7 +1,7 @@
 //! Connections begin and end (PulseAudio: `pa_native_protocol_connect` and `native_connection_unlink` of
 //! `pulsecore/protocol-native.c`; that an ended connection is swept away in a step of its own is own).
 
-ghost use Rattle.std.specs.Prelude.{◌≡◌, ◌<◌, ◌++◌, ◌∷◌, [], ℕ, List, Option, None, Some, filter, flat_map, IfOk, OnOk, OnErr};
+ghost use Rattle.std.specs.Prelude.{◌≡◌, ◌++◌, ◌∷◌, [], ℕ, List, Option, None, Some, filter, flat_map, IfOk, OnOk, OnErr};
 ghost use Rattle.std.specs.Option.{option_map};
 ghost use Rattle.px_plan.specs.declared.sending.Reason.{Reason};
 ghost use Rattle.px_plan.specs.declared.sending.Reason.TheVariants.{Protocol};
@@ -11,7 +11,7 @@ ghost use Rattle.px_plan.specs.declared.input.Input.{Input};
 ghost use Rattle.px_plan.specs.Plan.{changing};
 ghost use Rattle.px_session.specs.HeaderRules.{AreSinks};
 ghost use Rattle.px_state.specs.State.{connection_of, marked_of, is_from};
-ghost use Rattle.px_core.specs.Connecting.{is_full, new_connection, joined, connected, going_on, ended, ends, swept, sweep_of};
+ghost use Rattle.px_core.specs.Connecting.{is_full, connected, going_on, ended, ends, swept, sweep_of};
 ghost use Rattle.px_state.specs.Effect.{closed_at, IsSendable};
 ghost use Rattle.px_state.specs.Plan.{plan_effects};
 ghost use Rattle.px_core.specs.Step.{answered, answer_effects, admitted_effects};

@@ -1,6 +1,6 @@
 //! The commands on volumes and mutes, each on the parts of the state that it reads.
 
-ghost use Rattle.std.specs.Prelude.{◌≡◌, [], false};
+ghost use Rattle.std.specs.Prelude.{[], false};
 ghost use Rattle.px_plan.specs.Row.{Plans};
 ghost use Rattle.px_session.specs.HeaderRules.{AreSinks};
 ghost use Rattle.px_core.specs.Command.{sink_volume, sink_mute, input_volume, input_mute};
