@@ -8,10 +8,10 @@ use Rattle.px_session.specs.declared.event.Event.TheVariants.{Connect, Bytes, Cl
 use Rattle.px_session.specs.declared.output.OutRecord.TheVariants as written
 use Rattle.px_session.specs.Output.{record_of}
 use Rattle.px_plan.specs.declared.sending.Reason.{Reason}
-use Rattle.px_core.specs.declared.effect.Effect.{Effect}
-use Rattle.px_core.specs.declared.effect.Effect.TheVariants as effect
+use Rattle.px_state.specs.declared.effect.Effect.{Effect}
+use Rattle.px_state.specs.declared.effect.Effect.TheVariants as effect
 use Rattle.px_frame.specs.Descriptor.{descriptor_bytes, control_descriptor}
-use Rattle.px_core.specs.Effect.{reason_code, framed, IsSendable}
+use Rattle.px_state.specs.Effect.{reason_code, framed, IsSendable}
 use Rattle.px_world.specs.World.{World}
 use Rattle.px_world.specs.Event.{effects_after, frames_played}
 use Rattle.px_world.specs.Output.{effect_record, turn_record, records_of}

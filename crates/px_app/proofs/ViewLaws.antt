@@ -5,7 +5,7 @@ use Rattle.std.proofs.lemmas.List.Folds.{concat-append}
 use Rattle.std.proofs.lemmas.List.Sums.{sum_by-append}
 use Rattle.px_session.specs.declared.event.Event.{Event}
 use Rattle.px_session.specs.declared.event.Event.TheVariants.{Connect, Bytes, Close, Cut, Turn, Collect}
-use Rattle.px_core.specs.declared.effect.Effect.{Effect}
+use Rattle.px_state.specs.declared.effect.Effect.{Effect}
 use Rattle.px_world.specs.World.{World}
 use Rattle.px_world.specs.Event.{world_after, effects_after, frames_played}
 use Rattle.px_world.specs.Output.{world_by}

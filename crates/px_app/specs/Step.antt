@@ -13,7 +13,7 @@ use Rattle.px_session.specs.declared.fault.ReadError.{ReadError}
 use Rattle.px_session.specs.declared.fault.ReadError.TheVariants as error
 use Rattle.px_session.specs.Reader.{place_with}
 use Rattle.px_session.specs.Output.{played_record}
-use Rattle.px_core.specs.declared.effect.Effect.{Effect}
+use Rattle.px_state.specs.declared.effect.Effect.{Effect}
 use Rattle.px_world.specs.declared.fault.WorldFault.{WorldFault}
 use Rattle.px_world.specs.declared.fault.WorldFault.TheVariants.{NoMemory}
 use Rattle.px_world.specs.World.{World, new_world}

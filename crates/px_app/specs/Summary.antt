@@ -3,8 +3,8 @@ use Rattle.std.specs.Prelude.{ℕ, suc, ◌+◌, Bool, true, false, List, [], �
 use Rattle.std.specs.List.{slice_get, count_by}
 use Rattle.px_session.specs.declared.header.SinkSpec.{SinkSpec}
 use Rattle.px_session.specs.declared.event.Event.{Event}
-use Rattle.px_core.specs.declared.effect.Effect.{Effect}
-use Rattle.px_core.specs.declared.effect.Effect.TheVariants.{Sent, Closed}
+use Rattle.px_state.specs.declared.effect.Effect.{Effect}
+use Rattle.px_state.specs.declared.effect.Effect.TheVariants.{Sent, Closed}
 use Rattle.px_world.specs.World.{World, Mixer}
 use Rattle.px_world.specs.Event.{world_after, effects_after}
 use Rattle.px_app.specs.declared.tally.Tally.{Tally}

@@ -4,7 +4,7 @@ ghost use Rattle.std.specs.Prelude.{◌≡◌, ◌++◌, OnOk, OnErr};
 ghost use Rattle.std.specs.List.{flat_map};
 ghost use Rattle.px_ends.specs.Told.{after_adding};
 ghost use Rattle.px_ends.specs.Whole.{AddsFront};
-ghost use Rattle.px_core.specs.Effect.{IsSendable, AreSendable};
+ghost use Rattle.px_state.specs.Effect.{IsSendable, AreSendable};
 ghost use Rattle.px_world.specs.Output.{effect_record};
 ghost use Rattle.px_app.specs.Step.{played_part, raw_part, shown_part};
 

@@ -30,13 +30,13 @@ use Rattle.px_ctl_play.specs.declared.data.Frames.{Frames}
 use Rattle.px_ctl_play.specs.Data.{are_frames, write, written, data_for}
 use Rattle.px_ctl_play.specs.Factors.{gains_of, factor_list, regrouped}
 use Rattle.px_ctl_play.specs.Told.{has_left, same_spec, gives_up, gone, left}
-use Rattle.px_core.specs.State.{State, has_index, input_of, is_leaving, is_stream, stream_of, is_settled, settled_on}
-use Rattle.px_core.specs.Change.{changed, drop_first}
+use Rattle.px_state.specs.State.{State, has_index, input_of, is_leaving, is_stream, stream_of, is_settled, settled_on}
+use Rattle.px_state.specs.Change.{changed, drop_first}
 use Rattle.px_core.specs.Grouped.{channels_there, IsGroupOf, paid}
 use Rattle.px_core.specs.Keeps.{IsInput, IsKept, IsRising, IsIncreasing, AllAbove}
 use Rattle.px_core.specs.Lawful.{Suits, HasLeft, Lawful, AreLawful, owed_for, IsPaid}
 use Rattle.px_core.specs.Notice.{is_on, input_on}
-use Rattle.px_core.specs.Plan.{Plan}
+use Rattle.px_state.specs.Plan.{Plan}
 use Rattle.px_core.proofs.EntryLaws.{found_by_index}
 use Rattle.px_core.proofs.GroupLaws.{gone_there}
 use Rattle.px_core.proofs.ListLaws.{found_test, found_all}

@@ -33,16 +33,16 @@ use Rattle.px_ctl_play.specs.Factors.{own_factors, regrouped}
 use Rattle.px_ctl_play.specs.Move.{feed_to}
 use Rattle.px_ctl_play.specs.Told.{same_spec}
 use Rattle.px_targets.specs.Sinks.{target_of}
-use Rattle.px_core.specs.declared.delayed.Delayed.{Delayed}
-use Rattle.px_core.specs.Delayed.{is_of, delayed_of, Suits, Waits, IsDelayed}
-use Rattle.px_core.specs.State.{State, has_index, input_of, is_settled, settled_on}
-use Rattle.px_core.specs.Change.{Change, change_first, drop_first, arrived_at, posted_to, arrives, arrives_of, arriving, releasing, releasing_of, changed, committed}
+use Rattle.px_state.specs.declared.delayed.Delayed.{Delayed}
+use Rattle.px_state.specs.Delayed.{is_of, delayed_of, Suits, Waits, IsDelayed}
+use Rattle.px_state.specs.State.{State, has_index, input_of, is_settled, settled_on}
+use Rattle.px_state.specs.Change.{Change, change_first, drop_first, arrived_at, posted_to, arrives, arrives_of, arriving, releasing, releasing_of, changed, committed}
 use Rattle.px_core.specs.Grouped.{channels_there, IsGroupOf, paid}
 use Rattle.px_core.specs.Keeps.{IsFedAt, GoesTo, GoesThere, IsInput, IsKept, IsRising, AllAbove}
 use Rattle.px_core.specs.Lawful.{IsReleased, AreReleased, AreLawfulOwing}
 use Rattle.px_core.specs.Notice.{is_on, owner_of, arrival_between, arrival_at, arrived_with}
 use Rattle.px_core.specs.Parcels.{carried_by}
-use Rattle.px_core.specs.Plan.{Plan}
+use Rattle.px_state.specs.Plan.{Plan}
 use Rattle.px_core.proofs.ListLaws.{all_weaken, all_drop, found_all, found_test, same_passed}
 use Rattle.px_core.proofs.EntryLaws.{rising_change}
 use Rattle.px_core.proofs.MoveLaws.{arriving_keeps, brought_held}

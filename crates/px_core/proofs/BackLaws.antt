@@ -17,15 +17,15 @@ use Rattle.px_msg.specs.View.{sample_spec}
 use Rattle.px_plan.specs.declared.input.Input.{Input}
 use Rattle.px_plan.specs.declared.input.Way.{Way}
 use Rattle.px_plan.specs.declared.input.Way.TheVariants.{Coming, There, Left}
-use Rattle.px_core.specs.State.{State, has_index}
-use Rattle.px_core.specs.Change.{change_first}
+use Rattle.px_state.specs.State.{State, has_index}
+use Rattle.px_state.specs.Change.{change_first}
 use Rattle.px_core.specs.Orderly.{spec_in, specs_of, is_held_by, is_there}
-use Rattle.px_core.specs.Out.{first_of, rest_of, next_for, on_way, with_way, inputs_past, inputs_before, past, handed_out, put_back, Roomy, room_for, room_past, with_more_room, with_less_room, sent, unsent, sent_by, unsent_by}
+use Rattle.px_state.specs.Out.{first_of, rest_of, next_for, on_way, with_way, inputs_past, inputs_before, past, handed_out, put_back, Roomy, room_for, room_past, with_more_room, with_less_room, sent, unsent, sent_by, unsent_by}
 use Rattle.px_core.specs.Keeps.{AreInStep, IsSteady, IsKept, IsRising, is_coming_to, is_coming, brought_of, messages_out}
 use Rattle.px_core.proofs.EntryLaws.{first_brought, Found, found_in, get_in}
 use Rattle.px_core.proofs.ChangeLaws.{sink_at}
 use Rattle.px_core.proofs.HandingLaws.{sink_there, list_there, some_of, out_keeps}
-use Rattle.px_core.proofs.Waiting.{set_past}
+use Rattle.px_state.proofs.Waiting.{set_past}
 
 -- a change that is undone
 change_back : (j : InputId) (f g : Input → Input) → ((x : Input) → (g x).index.0 ≡ x.index.0) → (xs : List Input) (y : Input) → find (has_index j) xs ≡ Some y → f (g y) ≡ y → change_first (has_index j) f (change_first (has_index j) g xs) ≡ xs

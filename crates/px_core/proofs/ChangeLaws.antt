@@ -22,8 +22,8 @@ use Rattle.px_plan.specs.declared.input.Input.{Input}
 use Rattle.px_plan.specs.declared.input.Standing.{Standing}
 use Rattle.px_plan.specs.declared.input.Standing.TheVariants.{Settled, Moving, Leaving}
 use Rattle.px_plan.specs.declared.input.Way.TheVariants.{Coming, Left}
-use Rattle.px_core.specs.State.{State, has_index, input_of, belongs_to, stays_on, is_bound_for, is_settled, bound_for, settled_on}
-use Rattle.px_core.specs.Change.{change_first, drop_first, leaving, with_attr, posting, without_standing, ending}
+use Rattle.px_state.specs.State.{State, has_index, input_of, belongs_to, stays_on, is_bound_for, is_settled, bound_for, settled_on}
+use Rattle.px_state.specs.Change.{change_first, drop_first, leaving, with_attr, posting, without_standing, ending}
 use Rattle.px_ctl_play.specs.Asked.{MOST_ON_SINK}
 use Rattle.px_core.specs.Orderly.{entry_of, spec_in, specs_of, is_held_by, is_there}
 use Rattle.px_core.specs.Keeps.{AreInStep, AreAllInStep, IsInput, IsSteady, IsRising, IsPosted, is_coming_to, is_coming, brought_of}

@@ -2,7 +2,7 @@
 use Rattle.std.proofs.Common.{◌≡◌, Result, Ok, Err, sym, subst}
 use Rattle.std.specs.Prelude.{OnOk, OnErr}
 use Rattle.px_model.specs.Frame.{SampleSpec}
-use Rattle.px_core.specs.State.{State}
+use Rattle.px_state.specs.State.{State}
 use Rattle.px_core.specs.Keeps.{IsKept, IsStep}
 use Rattle.px_core.specs.Step.{Step, stepped}
 use Rattle.px_core.proofs.StepLaws.{step_keeps}

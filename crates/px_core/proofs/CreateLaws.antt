@@ -23,8 +23,8 @@ use Rattle.px_msg.specs.Repair.{UNSET, MAXLENGTH, repaired, frames_asked, betwee
 use Rattle.px_msg.specs.View.{sample_spec}
 use Rattle.px_plan.specs.declared.input.Connection.{Connection}
 use Rattle.px_plan.specs.declared.input.Input.{Input}
-use Rattle.px_core.specs.State.{State, is_settled, settled_on, bound_for}
-use Rattle.px_core.specs.Change.{changed}
+use Rattle.px_state.specs.State.{State, is_settled, settled_on, bound_for}
+use Rattle.px_state.specs.Change.{changed}
 use Rattle.px_plan.specs.declared.change.Change.TheVariants.{Made}
 use Rattle.px_plan.specs.declared.target.Target.{Target}
 use Rattle.px_plan.specs.declared.target.Named.{Named}
@@ -41,7 +41,7 @@ use Rattle.px_flat.proofs.Inputs.{attached_in, attached_channels, attached_there
 use Rattle.px_ctl_play.proofs.Passed.{IsCreated, create_passed}
 use Rattle.px_core.specs.Command.{create_on}
 use Rattle.px_core.specs.Grouped.{channels_there, IsGroupOf}
-use Rattle.px_core.specs.Plan.{Plan}
+use Rattle.px_state.specs.Plan.{Plan}
 use Rattle.px_targets.specs.Sinks.{group_of, group_named}
 use Rattle.px_core.proofs.RowLaws.{Each, each_by}
 use Rattle.px_targets.proofs.Sinks.{IsThere}

@@ -24,26 +24,26 @@ use Rattle.px_plan.specs.declared.input.Standing.{Standing}
 use Rattle.px_plan.specs.declared.input.Standing.TheVariants.{Settled, Moving, Leaving}
 use Rattle.px_ctl_play.specs.declared.data.Frames.{Frames}
 use Rattle.px_ctl_play.specs.Data.{frames_of, write, written, data_for}
-use Rattle.px_core.specs.declared.effect.Effect.{Effect}
-use Rattle.px_core.specs.declared.effect.Effect.TheVariants.{Closed}
-use Rattle.px_core.specs.Effect.{fits, sent, sending, closed_for}
-use Rattle.px_core.specs.declared.delayed.Delayed.{Delayed}
-use Rattle.px_core.specs.Delayed.{is_of}
-use Rattle.px_core.specs.State.{State, has_number, connection_of, input_of, stream_of}
-use Rattle.px_core.specs.Change.{Change, change_first, drop_first, authed, marked, with_streams, ending, ending_of, saying, saying_of, departs, departs_of, releasing, releasing_of, changed, committed}
-use Rattle.px_core.specs.Plan.{Plan, reply_to_asker, sent_all, closed_by, closed_in, closed_all, plan_effects}
+use Rattle.px_state.specs.declared.effect.Effect.{Effect}
+use Rattle.px_state.specs.declared.effect.Effect.TheVariants.{Closed}
+use Rattle.px_state.specs.Effect.{fits, sent, sending, closed_for}
+use Rattle.px_state.specs.declared.delayed.Delayed.{Delayed}
+use Rattle.px_state.specs.Delayed.{is_of}
+use Rattle.px_state.specs.State.{State, has_number, connection_of, input_of, stream_of}
+use Rattle.px_state.specs.Change.{Change, change_first, drop_first, authed, marked, with_streams, ending, ending_of, saying, saying_of, departs, departs_of, releasing, releasing_of, changed, committed}
+use Rattle.px_state.specs.Plan.{Plan, reply_to_asker, sent_all, closed_by, closed_in, closed_all, plan_effects}
 use Rattle.px_core.specs.Command.{head_answer}
 use Rattle.px_core.specs.Connecting.{is_full, joined, new_connection, connected, connect_effects, unmarked, going_on}
-use Rattle.px_core.specs.Out.{next_for, past}
+use Rattle.px_state.specs.Out.{next_for, past}
 use Rattle.px_core.specs.Parcels.{given_in}
 use Rattle.px_core.specs.Keeps.{AreDistinct, IsSteady, IsKept, IsStep}
 use Rattle.px_core.specs.Lawful.{Lawful, AreLawfulOwing, owed_after}
 use Rattle.px_core.specs.Ending.{is_end_of, ends_of, goes_on, begins_with, begins_of, begins_by}
 use Rattle.px_shown.specs.Shown.{told_between}
-use Rattle.px_core.specs.Events.{scene_of, step_events}
+use Rattle.px_state.specs.Events.{scene_of, step_events}
 use Rattle.px_core.specs.Step.{Step, connect, frame, broken, close, cut, sweep, notice, out, body_answer, frame_of, answer_of, answered, stepped, effects_of, stepped_by, effects_by}
 use Rattle.px_core.proofs.AnswerLaws.{IsLawful}
-use Rattle.px_core.proofs.SceneLaws.{events_are}
+use Rattle.px_state.proofs.SceneLaws.{events_are}
 use Rattle.px_core.proofs.Going.{going_by_own}
 use Rattle.px_core.proofs.VerbLaws.{change_follows}
 use Rattle.px_core.proofs.ArrivalLaws.{IsArrival, arrival_committed}

@@ -16,8 +16,8 @@ use Rattle.px_model.specs.Orderly.{Inputs}
 use Rattle.px_msg.specs.declared.message.Msg.{Msg}
 use Rattle.px_msg.specs.View.{sample_spec}
 use Rattle.px_plan.specs.declared.input.Input.{Input}
-use Rattle.px_core.specs.State.{has_index}
-use Rattle.px_core.specs.Change.{change_first, drop_first}
+use Rattle.px_state.specs.State.{has_index}
+use Rattle.px_state.specs.Change.{change_first, drop_first}
 use Rattle.px_core.specs.Orderly.{entry_of, spec_in, specs_of}
 use Rattle.px_core.specs.Keeps.{AllAbove, IsRising, brought_of}
 use Rattle.px_core.proofs.ListLaws.{heads, tails, no_cons, found_all, all_change, all_drop, all_push}

@@ -14,15 +14,15 @@ use Rattle.px_events.specs.Event.{message_of, hears}
 use Rattle.px_events.specs.Announce.{told_to, announced, announced_all}
 use Rattle.px_plan.specs.declared.sending.Sending.{Sending}
 use Rattle.px_tag.specs.Item.{number}
-use Rattle.px_core.specs.declared.effect.Effect.{Effect}
-use Rattle.px_core.specs.Effect.{closed_for}
-use Rattle.px_core.specs.State.{State}
+use Rattle.px_state.specs.declared.effect.Effect.{Effect}
+use Rattle.px_state.specs.Effect.{closed_for}
+use Rattle.px_state.specs.State.{State}
 use Rattle.px_core.specs.Connecting.{is_full, joined}
-use Rattle.px_core.specs.Events.{step_events}
-use Rattle.px_core.specs.Plan.{Plan}
+use Rattle.px_state.specs.Events.{step_events}
+use Rattle.px_state.specs.Plan.{Plan}
 use Rattle.px_core.specs.Step.{answer_effects, admitted_effects}
 use Rattle.px_core.proofs.ListLaws.{all_joined}
-use Rattle.px_core.proofs.SceneLaws.{none_events}
+use Rattle.px_state.proofs.SceneLaws.{none_events}
 
 pub idle_effects : (P : Type 0) (asker : Option ConnId) (state : State P) → answer_effects asker state idle ≡ []
 idle_effects P asker state = none_events state

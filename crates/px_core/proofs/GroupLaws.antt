@@ -26,15 +26,15 @@ use Rattle.px_plan.specs.Target.{target_of as target_in}
 use Rattle.px_ctl_play.specs.Joining.{IsReadyAt}
 use Rattle.px_ctl_play.specs.Told.{IsMemberIn}
 use Rattle.px_plan.specs.declared.change.Change.TheVariants.{Authed, Named as Renamed, Masked, Defaulted, Made, Described, Leaves, Moves, Arrives, Released, Said, Regrouped, Asked, Answered, Gone, Ended, Forgotten}
-use Rattle.px_core.specs.declared.delayed.Delayed.{Delayed}
-use Rattle.px_core.specs.Delayed.{is_of}
-use Rattle.px_core.specs.State.{State, has_index, input_of}
-use Rattle.px_core.specs.Change.{Change, change_first, drop_first, leaving, with_attr, moving_to, arrived_at, inputs_told, ending, ending_of, saying, saying_of, departs, departs_of, releasing, releasing_of, changed, committed}
+use Rattle.px_state.specs.declared.delayed.Delayed.{Delayed}
+use Rattle.px_state.specs.Delayed.{is_of}
+use Rattle.px_state.specs.State.{State, has_index, input_of}
+use Rattle.px_state.specs.Change.{Change, change_first, drop_first, leaving, with_attr, moving_to, arrived_at, inputs_told, ending, ending_of, saying, saying_of, departs, departs_of, releasing, releasing_of, changed, committed}
 use Rattle.px_core.specs.Grouped.{channels_there, IsGroupOf, AreGrouped, is_owed, paid}
 use Rattle.px_core.specs.Lawful.{Lawful, AreLawfulOwing, owed_for, owed_after}
 use Rattle.px_core.specs.Keeps.{IsInput}
 use Rattle.px_core.specs.Notice.{is_on, input_on}
-use Rattle.px_core.specs.Out.{on_way, inputs_past, past}
+use Rattle.px_state.specs.Out.{on_way, inputs_past, past}
 use Rattle.px_targets.specs.Sinks.{group_named}
 use Rattle.px_core.proofs.ListLaws.{same_passed, same_left, all_weaken, found_test}
 use Rattle.px_targets.proofs.Sinks.{IsThere}

@@ -40,18 +40,18 @@ use Rattle.px_events.specs.Announce.{told_to, announced, announced_all}
 use Rattle.px_events.specs.Became.{events_between}
 use Rattle.px_events.specs.Told.{infos_in}
 use Rattle.px_shown.specs.Shown.{telling_of, given_in, subscriber_of, subscribers_of}
-use Rattle.px_core.specs.Effect.{sent, sending, fits}
-use Rattle.px_core.specs.State.{State, has_number, has_index, goes_on, connection_of}
-use Rattle.px_core.specs.Plan.{sent_all, ended_by}
+use Rattle.px_state.specs.Effect.{sent, sending, fits}
+use Rattle.px_state.specs.State.{State, has_number, has_index, goes_on, connection_of}
+use Rattle.px_state.specs.Plan.{sent_all, ended_by}
 use Rattle.px_core.specs.Connecting.{unmarked, going_on, ended}
-use Rattle.px_core.specs.Out.{with_way, inputs_past, past, next_for, handed_out}
+use Rattle.px_state.specs.Out.{with_way, inputs_past, past, next_for, handed_out}
 use Rattle.px_core.specs.Step.{Step, connect, frame, broken, close, cut, sweep, notice, out, answered, stepped, effects_of}
 use Rattle.px_core.specs.Keeps.{AreDistinct}
-use Rattle.px_core.specs.Events.{scene_of, step_events}
+use Rattle.px_state.specs.Events.{scene_of, step_events}
 use Rattle.px_core.specs.Heard.{infos_of, events_of, mask_by, mask_on, heard, sent_events, goes_to, sent_to, own_effects}
 use Rattle.px_core.proofs.ListLaws.{found_test}
-use Rattle.px_core.proofs.SceneLaws.{events_are, none_events, quiet_events}
-use Rattle.px_core.proofs.AddedLaws.{none_added}
+use Rattle.px_state.proofs.SceneLaws.{events_are, none_events, quiet_events}
+use Rattle.px_state.proofs.AddedLaws.{none_added}
 
 -- ---- lists
 

@@ -17,14 +17,14 @@ use Rattle.px_plan.specs.declared.input.Input.{Input}
 use Rattle.px_plan.specs.declared.input.Standing.{Standing}
 use Rattle.px_plan.specs.declared.input.Standing.TheVariants.{Settled, Moving, Leaving}
 use Rattle.px_plan.specs.declared.input.Connection.{Connection}
-use Rattle.px_core.specs.declared.delayed.Delayed.{Delayed}
-use Rattle.px_core.specs.Delayed.{is_of}
-use Rattle.px_core.specs.State.{State, connection_of, input_of}
-use Rattle.px_core.specs.Change.{Change, ending, ending_of, saying, saying_of, departs, departs_of, arrives, arrives_of, releasing, releasing_of, changed, committed}
+use Rattle.px_state.specs.declared.delayed.Delayed.{Delayed}
+use Rattle.px_state.specs.Delayed.{is_of}
+use Rattle.px_state.specs.State.{State, connection_of, input_of}
+use Rattle.px_state.specs.Change.{Change, ending, ending_of, saying, saying_of, departs, departs_of, arrives, arrives_of, releasing, releasing_of, changed, committed}
 use Rattle.px_plan.specs.Plan.{Planned}
 use Rattle.px_core.specs.Connecting.{is_full, joined, connected}
 use Rattle.px_core.specs.Orderly.{inputs_there}
-use Rattle.px_core.specs.Out.{waiting_for, first_of, next_for, past, handed_out}
+use Rattle.px_state.specs.Out.{waiting_for, first_of, next_for, past, handed_out}
 use Rattle.px_core.specs.Keeps.{AreInStep, IsKept, IsPosted, IsStep, Spares, handed_out_by, messages_out}
 use Rattle.px_core.specs.Hearing.{told_in, told_by}
 use Rattle.px_core.specs.Step.{Step, connect, frame, broken, close, cut, sweep, notice, out, answer_of, stepped, stepped_by}

@@ -14,7 +14,7 @@ use Rattle.px_model.proofs.Shown.{orderly_joins}
 use Rattle.px_msg.specs.declared.message.Msg.{Msg}
 use Rattle.px_msg.specs.View.{sample_spec, message_of}
 use Rattle.px_plan.specs.declared.input.Input.{Input}
-use Rattle.px_core.specs.State.{settled_on, bound_for}
+use Rattle.px_state.specs.State.{settled_on, bound_for}
 use Rattle.px_ctl_play.specs.Asked.{MOST_ON_SINK}
 use Rattle.px_core.specs.Orderly.{entry_of, spec_in, specs_of, is_held_by}
 use Rattle.px_core.specs.Keeps.{AreInStep, IsPosted, is_coming_to, brought_of}

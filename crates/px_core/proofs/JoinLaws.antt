@@ -19,7 +19,7 @@ use Rattle.px_plan.specs.declared.input.Standing.TheVariants.{Moving}
 use Rattle.px_plan.specs.declared.target.Target.{Target}
 use Rattle.px_ctl_play.specs.Arrival.{HasChannels, CanJoin}
 use Rattle.px_targets.specs.Sinks.{target_of, target_at}
-use Rattle.px_core.specs.State.{State, has_index, input_of}
+use Rattle.px_state.specs.State.{State, has_index, input_of}
 use Rattle.px_core.specs.Keeps.{IsFedAt, GoesTo, GoesThere, IsInput, IsKept}
 use Rattle.px_core.proofs.ListLaws.{found_all}
 use Rattle.px_core.proofs.HandingLaws.{sink_there}

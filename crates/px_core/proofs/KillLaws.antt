@@ -11,7 +11,7 @@ use Rattle.px_plan.specs.declared.change.Change.TheVariants.{Ended}
 use Rattle.px_plan.specs.declared.sending.Reason.TheVariants.{Killed}
 use Rattle.px_ctl_info.specs.Clients.{is_of, connection_with, kill_client}
 use Rattle.px_ctl_play.specs.Kill.{kill_input}
-use Rattle.px_core.specs.State.{State, connection_of}
+use Rattle.px_state.specs.State.{State, connection_of}
 use Rattle.px_core.specs.Connecting.{unmarked}
 use Rattle.px_core.specs.Keeps.{AreDistinct}
 use Rattle.px_core.specs.Lawful.{AreLawful}

@@ -1,7 +1,4 @@
-pub mod Rooms
-pub mod Sendable
 pub mod Silent
-pub mod Waiting
 pub mod ListLaws
 pub mod EntryLaws
 pub mod InStepLaws
@@ -22,7 +19,6 @@ pub mod VolumeLaws
 pub mod RoadLaws
 pub mod ArrivalLaws
 pub mod JoinLaws
-pub mod Late
 pub mod StreamLaws
 pub mod StepLaws
 pub mod ParcelLaws
@@ -31,9 +27,6 @@ pub mod BackLaws
 pub mod EndLaws
 pub mod TellsLaws
 pub mod RefusalLaws
-pub mod Undone
 pub mod HearingLaws
-pub mod SceneLaws
-pub mod AddedLaws
 pub mod EventLaws
 pub mod HeardLaws

@@ -4,7 +4,8 @@ use Rattle.std.specs.Prelude.{◌+◌, filter}
 use Rattle.std.specs.List.{AllByRecursion, find}
 use Rattle.std.proofs.lemmas.Bool.{cond_both, false≢true}
 use Rattle.std.proofs.lemmas.Option.{none-some, same_Some}
-use Rattle.px_core.specs.Change.{change_first, drop_first}
+use Rattle.px_state.specs.Change.{change_first, drop_first}
+pub use Rattle.px_state.proofs.Found.{found_test}
 
 -- ---- lists that are equal
 
@@ -30,14 +31,6 @@ all_joined Q [] ys h k = k
 all_joined Q (x ∷ xs) ys h k = (h.0, all_joined Q xs ys h.1 k)
 
 -- ---- what is found
-
-pub found_test : {A : Type 0} (q : A → Bool) (xs : List A) (y : A) → find q xs ≡ Some y → q y ≡ true
-found_test q [] y e = absurd (none-some y e)
-found_test q (x ∷ xs) y e = step (found_test q xs y) (q x) refl e
-  where
-    step : (find q xs ≡ Some y → q y ≡ true) → (b : Bool) → q x ≡ b → cond b (Some x) (find q xs) ≡ Some y → q y ≡ true
-    step later true h f = subst (λ z. q z ≡ true) (same_Some x y f) h
-    step later false h f = later f
 
 pub found_all : {A : Type 0} (P : A → Type 0) (q : A → Bool) (xs : List A) (y : A) → AllByRecursion P xs → find q xs ≡ Some y → P y
 found_all P q [] y h e = absurd (none-some y e)

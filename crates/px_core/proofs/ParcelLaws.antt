@@ -17,14 +17,14 @@ use Rattle.px_plan.specs.declared.input.Connection.{Connection}
 use Rattle.px_plan.specs.declared.input.Input.{Input}
 use Rattle.px_plan.specs.declared.input.Standing.{Standing}
 use Rattle.px_plan.specs.declared.input.Standing.TheVariants.{Settled, Moving, Leaving}
-use Rattle.px_core.specs.declared.delayed.Delayed.{Delayed}
-use Rattle.px_core.specs.State.{State, new_state, connection_of, input_of}
-use Rattle.px_core.specs.Change.{Change, posting, regrouping, ending, ending_of, saying, saying_of, departs, departs_of, releasing, releasing_of, changed, committed}
+use Rattle.px_state.specs.declared.delayed.Delayed.{Delayed}
+use Rattle.px_state.specs.State.{State, new_state, connection_of, input_of}
+use Rattle.px_state.specs.Change.{Change, posting, regrouping, ending, ending_of, saying, saying_of, departs, departs_of, releasing, releasing_of, changed, committed}
 use Rattle.px_core.specs.Lawful.{is_of, Brings, Suits, AreFor, IsReleased, AreReleased, Lawful, AreLawfulOwing, owed_after}
 use Rattle.px_plan.specs.Plan.{Planned}
-use Rattle.px_core.specs.Plan.{Plan}
+use Rattle.px_state.specs.Plan.{Plan}
 use Rattle.px_core.specs.Connecting.{is_full, joined, connected}
-use Rattle.px_core.specs.Out.{first_of, rest_of, waiting_for, next_for, past, handed_out}
+use Rattle.px_state.specs.Out.{first_of, rest_of, waiting_for, next_for, past, handed_out}
 use Rattle.px_core.specs.Keeps.{IsKept, IsStep}
 use Rattle.px_core.specs.Parcels.{given_in, Carries, Takes, AllCarry, IsAmong}
 use Rattle.px_core.specs.Hearing.{told_in, told_by}

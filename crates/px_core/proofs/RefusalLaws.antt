@@ -45,12 +45,12 @@ use Rattle.px_ctl_play.specs.Drain.{drain_answered, drained}
 use Rattle.px_ctl_play.specs.Latency.{fields_of, time_given, latency_answered, measured}
 use Rattle.px_flat.specs.FlatVolume.{FlatGroup}
 use Rattle.px_ctl_play.specs.Told.{message_of, told, gives_up, gone, left}
-use Rattle.px_core.specs.declared.effect.Effect.{Effect}
-use Rattle.px_core.specs.declared.effect.Effect.TheVariants.{Sent, Closed}
-use Rattle.px_core.specs.State.{State, goes_on, connection_of, stream_of, marked_of, is_from}
-use Rattle.px_core.specs.Change.{Change, marked, with_connection, committed}
-use Rattle.px_core.specs.Effect.{reason_code, framed, fits, sent, sending, closed_at, closed_for, fault_code, fault_place, offset_behind}
-use Rattle.px_core.specs.Plan.{Plan, reply_to_asker, sent_all, closed_by, closed_all, plan_effects, refused, reply_fits, requested, ended_by, broken_off}
+use Rattle.px_state.specs.declared.effect.Effect.{Effect}
+use Rattle.px_state.specs.declared.effect.Effect.TheVariants.{Sent, Closed}
+use Rattle.px_state.specs.State.{State, goes_on, connection_of, stream_of, marked_of, is_from}
+use Rattle.px_state.specs.Change.{Change, marked, with_connection, committed}
+use Rattle.px_state.specs.Effect.{reason_code, framed, fits, sent, sending, closed_at, closed_for, fault_code, fault_place, offset_behind}
+use Rattle.px_state.specs.Plan.{Plan, reply_to_asker, sent_all, closed_by, closed_all, plan_effects, refused, reply_fits, requested, ended_by, broken_off}
 use Rattle.px_core.specs.Command.{row, read_answer, is_barred, command_answer, head_answer}
 use Rattle.px_core.specs.Connecting.{is_full, connected, connect_effects, going_on, ended, ends, swept, sweep_of}
 use Rattle.px_types.specs.declared.ids.InputId.{InputId}
@@ -62,15 +62,15 @@ use Rattle.px_plan.specs.declared.target.Target.{Target}
 use Rattle.px_ctl_play.specs.Arrival.{hands_over, attributes_told, arrived_message, arrival_of, arrival_by, arriving_with}
 use Rattle.px_ctl_play.specs.Create.{latency_of}
 use Rattle.px_ctl_play.specs.Move.{feed_to}
-use Rattle.px_core.specs.Delayed.{delayed_of}
+use Rattle.px_state.specs.Delayed.{delayed_of}
 use Rattle.px_core.specs.Notice.{input_on, owner_of, left_of, arrival_between, arrival_at, arrived_with, given_up_by, given_up, notice_answer}
 use Rattle.px_targets.specs.Sinks.{rate_on, target_at}
 use Rattle.px_core.specs.Step.{Step, connect, frame, broken, close, cut, sweep, notice, out, body_answer, frame_of, sender_of, answer_of, answered as after_plan, answer_effects, stepped, effects_of}
 use Rattle.px_events.specs.Became.{events_between}
 use Rattle.px_events.specs.Told.{infos_in}
 use Rattle.px_shown.specs.Shown.{telling_of, subscribers_of, given_in, told_between}
-use Rattle.px_core.specs.Events.{scene_of, step_events}
-use Rattle.px_core.proofs.SceneLaws.{events_are, none_events}
+use Rattle.px_state.specs.Events.{scene_of, step_events}
+use Rattle.px_state.proofs.SceneLaws.{events_are, none_events}
 use Rattle.px_core.proofs.EventLaws.{events_no_error}
 use Rattle.px_core.proofs.ListLaws.{all_joined, heads, no_cons}
 use Rattle.px_core.proofs.RowLaws.{Each}

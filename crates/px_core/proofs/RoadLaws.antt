@@ -16,10 +16,10 @@ use Rattle.px_plan.specs.Row.{◌>>=◌, check, present}
 use Rattle.px_plan.specs.Target.{is_clear, target_of as target_in}
 use Rattle.px_ctl_play.specs.Asked.{MOST_ON_SINK}
 use Rattle.px_ctl_play.specs.Move.{feed_to, has_place, sent_off, moved_to, move_input}
-use Rattle.px_core.specs.State.{State, input_of, input_named, bound_for}
+use Rattle.px_state.specs.State.{State, input_of, input_named, bound_for}
 use Rattle.px_core.specs.Keeps.{IsFedAt, GoesTo}
 use Rattle.px_core.specs.Lawful.{MayMove}
-use Rattle.px_core.specs.Plan.{Plan}
+use Rattle.px_state.specs.Plan.{Plan}
 use Rattle.px_core.proofs.AnswerLaws.{IsLawful}
 use Rattle.px_core.proofs.RowLaws.{Each, each_check}
 use Rattle.px_core.proofs.VerbLaws.{by_own}

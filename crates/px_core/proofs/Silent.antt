@@ -6,11 +6,11 @@ use Rattle.px_plan.specs.declared.input.Input.{Input}
 use Rattle.px_ctl_play.specs.declared.data.Frames.{Frames}
 use Rattle.px_ctl_play.specs.Data.{frames_of, written, data_for}
 use Rattle.px_plan.specs.Plan.{Planned}
-use Rattle.px_core.specs.Plan.{plan_effects}
-use Rattle.px_core.specs.State.{State}
-use Rattle.px_core.specs.Events.{step_events}
+use Rattle.px_state.specs.Plan.{plan_effects}
+use Rattle.px_state.specs.State.{State}
+use Rattle.px_state.specs.Events.{step_events}
 use Rattle.px_core.specs.Step.{answered, answer_effects}
-use Rattle.px_core.proofs.SceneLaws.{none_events, quiet_events}
+use Rattle.px_state.proofs.SceneLaws.{none_events, quiet_events}
 
 written_silent : (P : Type 0) (asker : Option ConnId) (frames : Option Frames) (x : Input) (seek : ℕ) (bytes : List ℕ) → plan_effects {P = P} asker (written frames x seek bytes) ≡ []
 written_silent P asker None x seek bytes = refl

@@ -50,15 +50,15 @@ use Rattle.px_msg.specs.View.{sample_spec}
 use Rattle.px_types.specs.declared.ids.InputId.{InputId}
 use Rattle.px_plan.specs.declared.input.Standing.{Standing}
 use Rattle.px_plan.specs.declared.input.Standing.TheVariants.{Settled, Moving, Leaving}
-use Rattle.px_core.specs.State.{State, new_state, goes_on, connection_of, input_named, stream_of}
+use Rattle.px_state.specs.State.{State, new_state, goes_on, connection_of, input_named, stream_of}
 use Rattle.px_core.specs.Command.{default_sink, row, read_answer, is_barred, command_answer, head_answer}
 use Rattle.px_core.specs.Connecting.{is_full, new_connection, joined, connected, ended, going_on}
 use Rattle.px_core.specs.Notice.{is_on, input_on, owner_of, told_of, left_of, arrival_at, arrived_with, given_up_by, given_up, notice_answer}
 use Rattle.px_core.specs.Parcels.{given_by, given_in}
 use Rattle.px_core.specs.Orderly.{inputs_there}
 use Rattle.px_core.specs.Keeps.{AreDistinct, AreInStep, IsKept, IsStep, Spares, handed_out_by}
-use Rattle.px_core.specs.Out.{next_for, handed_out}
-use Rattle.px_core.specs.Plan.{Plan, refused, reply_fits, requested, broken_off}
+use Rattle.px_state.specs.Out.{next_for, handed_out}
+use Rattle.px_state.specs.Plan.{Plan, refused, reply_fits, requested, broken_off}
 use Rattle.px_targets.specs.Sinks.{rate_of, rate_on, depth_of, sink_of, named_by}
 use Rattle.px_core.specs.Step.{Step, connect, frame, broken, close, cut, sweep, notice, out, body_answer, frame_of, answered, answer_of, stepped, stepped_by}
 use Rattle.px_core.proofs.ListLaws.{all_push}

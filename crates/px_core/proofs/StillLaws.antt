@@ -18,12 +18,12 @@ use Rattle.px_plan.specs.declared.input.Standing.{Standing}
 use Rattle.px_plan.specs.declared.input.Standing.TheVariants.{Settled, Moving, Leaving}
 use Rattle.px_plan.specs.declared.change.Change.TheVariants.{Authed, Named, Masked, Defaulted, Made, Described, Leaves, Moves, Arrives, Released, Said, Regrouped, Asked, Answered, Gone, Ended, Forgotten}
 use Rattle.px_plan.specs.Input.{is_moving}
-use Rattle.px_core.specs.declared.delayed.Delayed.{Delayed}
-use Rattle.px_core.specs.Delayed.{is_of, delayed_of_others, Suits, Waits, IsDelayed}
-use Rattle.px_core.specs.State.{State, has_index, input_of}
-use Rattle.px_core.specs.Change.{Change, change_first, drop_first, leaving, with_attr, moving_to, inputs_told, ending, ending_of, saying, saying_of, departs, departs_of, releasing, releasing_of, changed, committed}
+use Rattle.px_state.specs.declared.delayed.Delayed.{Delayed}
+use Rattle.px_state.specs.Delayed.{is_of, delayed_of_others, Suits, Waits, IsDelayed}
+use Rattle.px_state.specs.State.{State, has_index, input_of}
+use Rattle.px_state.specs.Change.{Change, change_first, drop_first, leaving, with_attr, moving_to, inputs_told, ending, ending_of, saying, saying_of, departs, departs_of, releasing, releasing_of, changed, committed}
 use Rattle.px_core.specs.Lawful.{HasLeft, Lawful, AreLawfulOwing, owed_after}
-use Rattle.px_core.specs.Out.{on_way, inputs_past, past}
+use Rattle.px_state.specs.Out.{on_way, inputs_past, past}
 use Rattle.px_core.proofs.ListLaws.{all_weaken, all_drop, all_push, found_test}
 use Rattle.px_core.proofs.VerbLaws.{by_own, none_goes}
 use Rattle.px_inputs.proofs.ByStream.{found-changed, found-dropped}

@@ -27,8 +27,8 @@ use Rattle.px_ctl_play.specs.Control.{cork, flush, trigger, prebuf}
 use Rattle.px_ctl_play.specs.Delete.{delete}
 use Rattle.px_ctl_play.specs.Drain.{drain, drain_answered, drained}
 use Rattle.px_ctl_play.specs.Latency.{latency, latency_answered, measured}
-use Rattle.px_core.specs.State.{State, goes_on, going as still_going, has_index, input_of, input_named, is_stream, stream_of}
-use Rattle.px_core.specs.Change.{inputs_told, saying, saying_of}
+use Rattle.px_state.specs.State.{State, goes_on, going as still_going, has_index, input_of, input_named, is_stream, stream_of}
+use Rattle.px_state.specs.Change.{inputs_told, saying, saying_of}
 use Rattle.px_core.specs.Keeps.{IsInput, IsRising, IsGoing, IsAwaiting}
 use Rattle.px_core.specs.Lawful.{Suits, Lawful}
 use Rattle.px_core.proofs.ListLaws.{found_test, found_all}

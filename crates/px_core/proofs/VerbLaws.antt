@@ -26,13 +26,14 @@ use Rattle.px_plan.specs.declared.input.Standing.TheVariants.{Settled, Moving, L
 use Rattle.px_plan.specs.declared.change.Change.TheVariants.{Authed, Named, Masked, Defaulted, Made, Described, Leaves, Moves, Arrives, Released, Said, Regrouped, Asked, Answered, Gone, Ended, Forgotten}
 use Rattle.px_plan.specs.declared.waiting.Waiting.{Waiting}
 use Rattle.px_ctl_play.specs.Asked.{MOST_ON_SINK}
-use Rattle.px_core.specs.declared.delayed.Delayed.{Delayed}
-use Rattle.px_core.specs.State.{State, has_index, has_number, input_of, settled_on, bound_for, is_as}
-use Rattle.px_core.specs.Change.{Change, change_first, drop_first, authed, marked, with_streams, with_connection, renamed, masked, defaulted, forgotten, posting, regrouping, ending_of, telling, saying, saying_of, departs, departs_of, releasing, releasing_of, changed, committed}
+use Rattle.px_state.specs.declared.delayed.Delayed.{Delayed}
+use Rattle.px_state.specs.State.{State, has_index, has_number, input_of, settled_on, bound_for, is_as}
+use Rattle.px_state.specs.Change.{Change, change_first, drop_first, authed, marked, with_streams, with_connection, renamed, masked, defaulted, forgotten, posting, regrouping, ending_of, telling, saying, saying_of, departs, departs_of, releasing, releasing_of, changed, committed}
 use Rattle.px_core.specs.Orderly.{specs_of}
 use Rattle.px_core.specs.Keeps.{AreDistinct, IsAwaiting, IsInput, IsFedAt, GoesTo, IsSteady}
 use Rattle.px_core.specs.Lawful.{is_of, Brings, IsNew, Suits, AreFor, HasLeft, IsReleased, AreReleased, Lawful, AreLawfulOwing, owed_after}
 use Rattle.px_core.proofs.ListLaws.{all_change, all_drop, all_push, found_all, found_test}
+pub use Rattle.px_state.proofs.Found.{by_own, none_goes}
 use Rattle.px_core.proofs.HandingLaws.{sink_there}
 use Rattle.px_core.proofs.ChangeLaws.{sink_at, held_on, settled_spec, on_own, Tells, telling_keeps, attr_held, attr_keeps, ending_keeps, ending_held, gone_keeps, gone_held, with_input, new_keeps, new_held}
 use Rattle.px_core.proofs.MoveLaws.{departing_keeps, departed_held}
@@ -211,13 +212,6 @@ tells_factors spec_of s there (Query input tag) f = absurd f
 
 -- ---- the changes
 
--- the input with an index is found by its own
-pub by_own : (inputs : List Input) (index : InputId) (x : Input) → input_of inputs index ≡ Some x → input_of inputs x.index ≡ Some x
-by_own inputs index x here = sym (ap (λ n. input_of inputs (record { 0 = n })) (own index.0 x.index.0 (found_test (has_index index) inputs x here))) ∙ here
-  where
-    own : (a b : ℕ) → nat_eq b a ≡ true → a ≡ b
-    own a b e = sym (eqb-true b a e)
-
 leaves_follow : {P : Type 0} (spec_of : P → SampleSpec) (state : State P) → IsSteady spec_of state → (index : InputId) (o : Option Input) → input_of state.inputs index ≡ o → Follows spec_of state (ending_of o state)
 leaves_follow spec_of state h index None e = unchanged h
 leaves_follow spec_of state h index (Some x) e = record {
@@ -228,15 +222,6 @@ leaves_follow spec_of state h index (Some x) e = record {
 said_follow : {P : Type 0} (spec_of : P → SampleSpec) (state : State P) → IsSteady spec_of state → (index : InputId) (m : Msg P) (o : Option Input) → input_of state.inputs index ≡ o → IfSome o (λ x. Suits x m) → Follows spec_of state (saying_of o m state)
 said_follow spec_of state h index m None e suits = unchanged h
 said_follow spec_of state h index m (Some x) e suits = saying_keeps spec_of state x m x.standing h (by_own state.inputs index x e) refl suits
-
--- where none is found, none goes
-pub none_goes : {A : Type 0} (q : A → Bool) (xs : List A) → find q xs ≡ None → drop_first q xs ≡ xs
-none_goes q [] e = refl
-none_goes {A} q (x ∷ xs) e = step (none_goes q xs) (q x) e
-  where
-    step : (find q xs ≡ None → drop_first q xs ≡ xs) → (b : Bool) → cond b (Some x) (find q xs) ≡ None → cond b xs (x ∷ drop_first q xs) ≡ x ∷ xs
-    step later true f = absurd (none-some x (sym f))
-    step later false f = ap (λ ys. x ∷ ys) (later f)
 
 gone_follow : {P : Type 0} (spec_of : P → SampleSpec) (state : State P) → IsSteady spec_of state → (index : InputId) (o : Option Input) → input_of state.inputs index ≡ o → IfSome o HasLeft → Follows spec_of state (changed state (Gone index))
 gone_follow {P} spec_of state h index None e left =

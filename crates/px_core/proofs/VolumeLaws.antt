@@ -18,7 +18,7 @@ use Rattle.px_plan.specs.Target.{is_clear, target_of as target_in}
 use Rattle.px_ctl_vol.specs.Asked.{is_volume, fits}
 use Rattle.px_ctl_vol.specs.Factors.{regrouped}
 use Rattle.px_plan.specs.Input.{is_moving}
-use Rattle.px_core.specs.State.{State, goes_on, going, has_index, input_named, input_of, is_settled, settled_on}
+use Rattle.px_state.specs.State.{State, goes_on, going, has_index, input_named, input_of, is_settled, settled_on}
 use Rattle.px_core.specs.Command.{sink_volume, sink_mute, input_volume, input_mute}
 use Rattle.px_core.specs.Grouped.{IsGroupOf}
 use Rattle.px_core.specs.Keeps.{IsInput, IsKept}

@@ -1,5 +1,5 @@
 -- What a control packet is answered, and in which order it is refused (PulseAudio: `pa_pdispatch_run` and the handlers of pulsecore/protocol-native.c; the order is own).
-use Rattle.std.specs.Prelude.{ℕ, Bool, true, false, not, cond, ◌&&◌, nat_eq, List, is_some, Option, None, Result, Ok, Err}
+use Rattle.std.specs.Prelude.{ℕ, Bool, true, false, not, cond, ◌&&◌, nat_eq, List, is_some, Option, None, Result, Ok, Err, ⊤}
 use Rattle.px_types.specs.declared.error_code.ErrorCode.TheVariants.{Access, Command as UnknownCommand, NotSupported}
 use Rattle.px_tag.specs.declared.fault.TagFault.{TagFault}
 use Rattle.px_tag.specs.Place.{Place, start_of}
@@ -32,9 +32,9 @@ use Rattle.px_ctl_play.specs.Latency.{latency}
 use Rattle.px_ctl_play.specs.Move.{move_input}
 use Rattle.px_ctl_vol.specs.Inputs.{set_input_volume, set_input_mute}
 use Rattle.px_ctl_vol.specs.Sinks.{set_sink_volume, set_sink_mute}
-use Rattle.px_core.specs.State.{State, stream_of, input_named}
+use Rattle.px_state.specs.State.{State, stream_of, input_named}
 use Rattle.px_core.specs.Notice.{owner_of}
-use Rattle.px_core.specs.Plan.{Plan, refused, requested, broken_off}
+use Rattle.px_state.specs.Plan.{Plan, refused, requested, broken_off}
 use Rattle.px_targets.specs.Sinks.{rate_of, depth_of, sink_of, named_as, named_by, group_named, group_under, targets_of}
 
 -- ---- the commands
@@ -108,6 +108,53 @@ row state me tag (commands.UpdateStream stream mode list) = update_stream (strea
 row state me tag (commands.UpdateClient mode list) = update_client (client_on state.names.clients me.conn) me tag mode list
 row state me tag (commands.RemoveStream stream keys) = remove_stream (stream_of state.inputs me.conn stream) state.lists tag keys
 row state me tag (commands.RemoveClient keys) = remove_client (client_on state.names.clients me.conn) me tag keys
+
+-- ---- the families of commands: on a stream of the connection's own
+
+abbrev pub IsOnStream : Command → Type 0
+IsOnStream (commands.Create fields) = ⊤
+IsOnStream (commands.Delete stream) = ⊤
+IsOnStream (commands.Drain stream) = ⊤
+IsOnStream (commands.Latency stream time) = ⊤
+IsOnStream (commands.Cork stream on) = ⊤
+IsOnStream (commands.Flush stream) = ⊤
+IsOnStream (commands.Trigger stream) = ⊤
+IsOnStream (commands.Prebuf stream) = ⊤
+IsOnStream (commands.Attributes stream asked adjust_latency early_requests) = ⊤
+IsOnStream (commands.StreamName stream name) = ⊤
+IsOnStream (commands.UpdateStream stream mode list) = ⊤
+IsOnStream (commands.RemoveStream stream keys) = ⊤
+IsOnStream _ = ⊥
+
+-- on clients, on names or on the server
+abbrev pub IsOnClients : Command → Type 0
+IsOnClients (commands.Auth version cookie) = ⊤
+IsOnClients (commands.SetClientName list) = ⊤
+IsOnClients (commands.EmptyList number) = ⊤
+IsOnClients (commands.Subscribe mask) = ⊤
+IsOnClients (commands.LookupSink name) = ⊤
+IsOnClients (commands.DefaultSink name) = ⊤
+IsOnClients (commands.ClientInfo client) = ⊤
+IsOnClients commands.ClientInfoList = ⊤
+IsOnClients (commands.UpdateClient mode list) = ⊤
+IsOnClients (commands.RemoveClient keys) = ⊤
+IsOnClients commands.ServerInfo = ⊤
+IsOnClients (commands.KillClient client) = ⊤
+IsOnClients _ = ⊥
+
+-- on sinks and inputs, whosever they are
+abbrev pub IsOnSinks : Command → Type 0
+IsOnSinks (commands.SinkInfo sink) = ⊤
+IsOnSinks commands.SinkInfoList = ⊤
+IsOnSinks (commands.InputInfo input) = ⊤
+IsOnSinks commands.InputInfoList = ⊤
+IsOnSinks (commands.KillInput input) = ⊤
+IsOnSinks (commands.SinkVolume sink volume) = ⊤
+IsOnSinks (commands.SinkMute sink on) = ⊤
+IsOnSinks (commands.InputVolume input volume) = ⊤
+IsOnSinks (commands.InputMute input on) = ⊤
+IsOnSinks (commands.Move input sink) = ⊤
+IsOnSinks _ = ⊥
 
 -- ---- the order of refusals
 

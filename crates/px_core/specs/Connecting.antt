@@ -1,19 +1,18 @@
 -- Connections begin and end (PulseAudio: `pa_native_protocol_connect` and `native_connection_unlink` of pulsecore/protocol-native.c; that an ended connection is swept away in a step of its own is own).
-use Rattle.std.specs.Prelude.{ℕ, ◌+◌, Bool, cond, ◌||◌, nat_le, List, [], ◌∷◌, ◌++◌, filter, length, flat_map, Option, None, Some}
+use Rattle.std.specs.Prelude.{ℕ, Bool, cond, ◌||◌, nat_le, List, [], ◌∷◌, ◌++◌, filter, length, flat_map, Option, None, Some}
 use Rattle.px_types.specs.declared.ids.ConnId.{ConnId}
-use Rattle.px_names.specs.Clients.{new_client}
 use Rattle.px_plan.specs.declared.change.Change.TheVariants.{Leaves, Forgotten}
-use Rattle.px_core.specs.declared.effect.Effect.{Effect}
+use Rattle.px_state.specs.declared.effect.Effect.{Effect}
 use Rattle.px_plan.specs.declared.sending.Reason.{Reason}
 use Rattle.px_plan.specs.declared.sending.Reason.TheVariants.{Limit}
 use Rattle.px_plan.specs.declared.input.Connection.{Connection}
 use Rattle.px_plan.specs.declared.input.Input.{Input}
 use Rattle.px_plan.specs.Plan.{idle, changing}
-use Rattle.px_core.specs.Effect.{closed_for}
-use Rattle.px_core.specs.Change.{Change}
-pub use Rattle.px_shown.specs.Scene.{new_connection}
-use Rattle.px_core.specs.State.{State, connection_of, marked_of, is_from}
-use Rattle.px_core.specs.Plan.{Plan, ended_by}
+use Rattle.px_state.specs.Effect.{closed_for}
+use Rattle.px_state.specs.Change.{Change}
+pub use Rattle.px_state.specs.Change.{new_connection, joined}
+use Rattle.px_state.specs.State.{State, connection_of, marked_of, is_from}
+use Rattle.px_state.specs.Plan.{Plan, ended_by}
 
 -- ---- a connection begins
 
@@ -26,14 +25,6 @@ LAST_CLIENT = 0xFFFFFFFF
 
 abbrev pub is_full : {P : Type 0} → State P → Bool
 is_full state = nat_le MOST_CONNECTIONS (length state.connections) || nat_le LAST_CLIENT state.clients_made
-
--- the state with one more connection, and its client
-abbrev pub joined : {P : Type 0} → ConnId → State P → State P
-joined conn state = record state {
-  connections = state.connections ++ new_connection conn state.clients_made ∷ [];
-  names = record state.names { clients = state.names.clients ++ new_client conn state.clients_made ∷ [] };
-  clients_made = state.clients_made + 1;
-}
 
 -- one that is there already changes nothing; where there is no room for more the server ends it
 abbrev pub connected : {P : Type 0} → Option Connection → ConnId → State P → State P

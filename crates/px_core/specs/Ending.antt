@@ -1,11 +1,11 @@
 -- How often the server ends a connection, and how often it begins.
 use Rattle.std.specs.Prelude.{ℕ, Bool, false, cond, nat_eq, ◌+◌, List, [], ◌∷◌, filter, length, is_some, Option, Some, None}
 use Rattle.px_types.specs.declared.ids.ConnId.{ConnId}
-use Rattle.px_core.specs.declared.effect.Effect.{Effect}
-use Rattle.px_core.specs.declared.effect.Effect.TheVariants.{Sent, Closed}
+use Rattle.px_state.specs.declared.effect.Effect.{Effect}
+use Rattle.px_state.specs.declared.effect.Effect.TheVariants.{Sent, Closed}
 use Rattle.px_plan.specs.declared.input.Connection.{Connection}
 use Rattle.px_model.specs.Frame.{SampleSpec}
-use Rattle.px_core.specs.State.{State, connection_of}
+use Rattle.px_state.specs.State.{State, connection_of}
 use Rattle.px_core.specs.Connecting.{going_on}
 use Rattle.px_core.specs.Step.{Step, connect, frame, broken, close, cut, sweep, notice, out, stepped}
 

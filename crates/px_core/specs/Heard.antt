@@ -11,13 +11,13 @@ use Rattle.px_events.specs.Infos.{Infos, Given}
 use Rattle.px_events.specs.Became.{events_between}
 use Rattle.px_events.specs.Told.{infos_in}
 use Rattle.px_shown.specs.Shown.{telling_of, given_in}
-use Rattle.px_core.specs.declared.effect.Effect.{Effect}
-use Rattle.px_core.specs.declared.effect.Effect.TheVariants.{Sent, Closed}
-use Rattle.px_core.specs.Effect.{sent}
-use Rattle.px_core.specs.State.{State, connection_of}
-use Rattle.px_core.specs.Plan.{plan_effects}
+use Rattle.px_state.specs.declared.effect.Effect.{Effect}
+use Rattle.px_state.specs.declared.effect.Effect.TheVariants.{Sent, Closed}
+use Rattle.px_state.specs.Effect.{sent}
+use Rattle.px_state.specs.State.{State, connection_of}
+use Rattle.px_state.specs.Plan.{plan_effects}
 use Rattle.px_core.specs.Connecting.{connect_effects, going_on}
-use Rattle.px_core.specs.Events.{scene_of}
+use Rattle.px_state.specs.Events.{scene_of}
 use Rattle.px_core.specs.Step.{Step, connect, frame, broken, close, cut, sweep, notice, out, answer_of}
 
 -- ---- what became

@@ -4,8 +4,8 @@ use Rattle.std.specs.Option.{option_to_list}
 use Rattle.px_types.specs.declared.ids.SinkId.{SinkId}
 use Rattle.px_model.specs.Frame.{SampleSpec}
 use Rattle.px_msg.specs.declared.message.Msg.{Msg}
-use Rattle.px_core.specs.State.{State}
-use Rattle.px_core.specs.Out.{next_for}
+use Rattle.px_state.specs.State.{State}
+use Rattle.px_state.specs.Out.{next_for}
 use Rattle.px_core.specs.Step.{Step, connect, frame, broken, close, cut, sweep, notice, out, stepped}
 
 -- the message that a step hands out to a sink, if it does

@@ -20,13 +20,13 @@ use Rattle.px_plan.specs.declared.input.Way.TheVariants.{Coming, There, Left}
 use Rattle.px_plan.specs.declared.input.Standing.{Standing}
 use Rattle.px_plan.specs.declared.input.Standing.TheVariants.{Settled, Moving, Leaving}
 use Rattle.px_plan.specs.declared.waiting.Waiting.{Waiting}
-use Rattle.px_core.specs.State.{State, goes_on, input_of, settled_on, bound_for}
+use Rattle.px_state.specs.State.{State, goes_on, input_of, settled_on, bound_for}
 use Rattle.px_ctl_play.specs.Asked.{MOST_ON_SINK}
 use Rattle.px_ctl_play.specs.Move.{feed_to}
-use Rattle.px_core.specs.Delayed.{IsDelayed}
+use Rattle.px_state.specs.Delayed.{IsDelayed}
 use Rattle.px_core.specs.Grouped.{AreGrouped}
 use Rattle.px_core.specs.Orderly.{spec_in, specs_of, is_held_by}
-use Rattle.px_core.specs.Out.{next_for, handed_out}
+use Rattle.px_state.specs.Out.{next_for, handed_out}
 use Rattle.px_core.specs.Step.{Step, connect, frame, broken, close, cut, sweep, notice, out}
 
 -- ---- connections and inputs

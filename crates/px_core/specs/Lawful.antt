@@ -15,10 +15,10 @@ use Rattle.px_plan.specs.declared.input.Input.{Input}
 use Rattle.px_plan.specs.declared.input.Standing.TheVariants.{Settled, Leaving}
 use Rattle.px_plan.specs.declared.input.Way.TheVariants.{Coming, Left}
 use Rattle.px_plan.specs.declared.change.Change.TheVariants.{Authed, Named, Masked, Defaulted, Made, Described, Leaves, Moves, Arrives, Released, Said, Regrouped, Asked, Answered, Gone, Ended, Forgotten}
-use Rattle.px_core.specs.declared.delayed.Delayed.{Delayed}
-pub use Rattle.px_core.specs.Delayed.{is_of, Suits}
-use Rattle.px_core.specs.State.{State, input_of, bound_for}
-use Rattle.px_core.specs.Change.{Change, changed}
+use Rattle.px_state.specs.declared.delayed.Delayed.{Delayed}
+pub use Rattle.px_state.specs.Delayed.{is_of, Suits}
+use Rattle.px_state.specs.State.{State, input_of, bound_for}
+use Rattle.px_state.specs.Change.{Change, changed}
 use Rattle.px_core.specs.Connecting.{going_on}
 use Rattle.px_ctl_play.specs.Asked.{MOST_ON_SINK}
 use Rattle.px_core.specs.Grouped.{IsGroupOf, paid}

@@ -1,15 +1,6 @@
-pub mod Effect
-pub mod Delayed
-pub mod State
-pub mod Tables
-pub mod Change
-pub mod Plan
 pub mod Connecting
 pub mod Notice
 pub mod Command
-pub mod Out
-pub mod Lending
-pub mod Events
 pub mod Step
 pub mod Orderly
 pub mod Grouped

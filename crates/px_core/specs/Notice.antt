@@ -21,10 +21,10 @@ use Rattle.px_ctl_play.specs.declared.timing.Progress.{Progress}
 use Rattle.px_ctl_play.specs.Drain.{drained}
 use Rattle.px_ctl_play.specs.Latency.{measured}
 use Rattle.px_ctl_play.specs.Told.{told, left}
-use Rattle.px_core.specs.State.{State}
+use Rattle.px_state.specs.State.{State}
 use Rattle.px_core.specs.Connecting.{going_on}
-use Rattle.px_core.specs.Plan.{Plan}
-use Rattle.px_core.specs.Delayed.{delayed_of}
+use Rattle.px_state.specs.Plan.{Plan}
+use Rattle.px_state.specs.Delayed.{delayed_of}
 use Rattle.px_targets.specs.Sinks.{rate_on, target_at}
 
 -- the input with an index, where it is on the sink

@@ -9,8 +9,8 @@ use Rattle.px_msg.specs.View.{sample_spec, message_of}
 use Rattle.px_plan.specs.declared.input.Input.{Input}
 use Rattle.px_plan.specs.declared.input.Way.{Way}
 use Rattle.px_plan.specs.declared.input.Way.TheVariants.{Coming, There, Left}
-use Rattle.px_core.specs.State.{State}
-use Rattle.px_core.specs.Out.{waiting_for}
+use Rattle.px_state.specs.State.{State}
+use Rattle.px_state.specs.Out.{waiting_for}
 
 abbrev pub is_there : Way → Bool
 is_there Coming = false

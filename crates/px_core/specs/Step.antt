@@ -13,16 +13,16 @@ use Rattle.px_frame.specs.declared.frame.Body.TheVariants.{Control, Write}
 use Rattle.px_msg.specs.declared.notice.Notice.{Notice}
 use Rattle.px_plan.specs.Plan.{idle}
 use Rattle.px_ctl_play.specs.Data.{data_for}
-use Rattle.px_core.specs.declared.effect.Effect.{Effect}
+use Rattle.px_state.specs.declared.effect.Effect.{Effect}
 use Rattle.px_plan.specs.declared.input.Connection.{Connection}
-use Rattle.px_core.specs.State.{State, connection_of, stream_of}
-use Rattle.px_core.specs.Change.{committed}
-use Rattle.px_core.specs.Plan.{Plan, plan_effects}
-use Rattle.px_core.specs.Events.{step_events}
+use Rattle.px_state.specs.State.{State, connection_of, stream_of}
+use Rattle.px_state.specs.Plan.{Plan, plan_effects}
+use Rattle.px_state.specs.Events.{step_events}
+pub use Rattle.px_state.specs.Answered.{answered, answer_effects}
 use Rattle.px_core.specs.Command.{packet_answer}
 use Rattle.px_core.specs.Connecting.{connected, connect_effects, going_on, ended, sweep_of}
 use Rattle.px_core.specs.Notice.{notice_answer}
-use Rattle.px_core.specs.Out.{handed_out}
+use Rattle.px_state.specs.Out.{handed_out}
 
 -- one frame of a connection that goes on
 abbrev pub body_answer : {P : Type 0} → State P → Connection → ℕ → Body → Plan P
@@ -36,10 +36,6 @@ frame_of state (Some c) frame = body_answer state c frame.at frame.body
 -- a frame; those of a connection that isn't there, or has ended, are ignored
 abbrev pub frame_answer : {P : Type 0} → State P → ConnId → Frame → Plan P
 frame_answer state conn frame = frame_of state (going_on state.connections conn) frame
-
--- the state after a plan
-abbrev pub answered : {P : Type 0} → State P → Plan P → State P
-answered state plan = committed state plan.changes
 
 pub data Step (P : Type 0) : Type 0 where
   -- a client connects
@@ -92,11 +88,7 @@ sender_of sweep = None
 sender_of (notice sink n) = None
 sender_of (out sink) = None
 
--- the effects of a plan, and then what those are told who subscribe after it
-abbrev pub answer_effects : {P : Type 0} → Option ConnId → State P → Plan P → List Effect
-answer_effects asker state plan = plan_effects asker plan ++ step_events state (answered state plan)
-
--- and of a client that connects; where no more are taken it is ended without a plan
+-- the effects of a client that connects; where no more are taken it is ended without a plan
 abbrev pub admitted_effects : {P : Type 0} → Option Connection → ConnId → State P → List Effect
 admitted_effects c conn state = connect_effects c conn state ++ step_events state (connected c conn state)
 

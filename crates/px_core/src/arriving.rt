@@ -1,27 +1,21 @@
 //! A sink has given up the stream of an input that moves: the input is on the sink that it moves to.
 
-ghost use Rattle.std.specs.Prelude.{◌≡◌, [], IfOk, IfErr, OnOk, OnErr, None, Some};
+ghost use Rattle.std.specs.Prelude.{◌≡◌, IfOk, IfErr, OnOk, OnErr, None, Some};
 ghost use Rattle.px_plan.specs.declared.input.Standing.TheVariants.{Moving};
-ghost use Rattle.px_ctl_play.specs.Arrival.{arriving_with};
-ghost use Rattle.px_session.specs.HeaderRules.{AreSinks};
 ghost use Rattle.px_core.specs.Keeps.{IsKept};
 ghost use Rattle.px_core.specs.Notice.{arrival_at, arrived_with};
-ghost use Rattle.px_core.specs.State.{input_of};
+ghost use Rattle.px_state.specs.State.{input_of};
 ghost use Rattle.px_core.specs.Step.{answer_effects, answered};
-ghost use Rattle.px_core.specs.Tables.{state_of};
+ghost use Rattle.px_state.specs.Tables.{state_of};
 
-use crate::commit::{apply, commit, reserve};
-use crate::delayed;
-use crate::effects::{Effects, plan_effects};
-use crate::events::add_arrival_events;
 use crate::notice::owner_of;
-use crate::tables::Tables;
 use px_ctl_play::{Arrival, arrive};
 use px_flat::Group;
 use px_msg::{Msg, Parcel};
-use px_plan::{Change, Input, Plan};
+use px_plan::Input;
+use px_state::{Effects, Tables, delayed_count, finish_arrival};
 use px_targets::{group_on, target_at};
-use px_types::{InputId, Mem, SinkId};
+use px_types::{Mem, SinkId};
 use std::alloc::Global;
 
 // What it does that an input is on a sink, but for its parcel.
@@ -46,7 +40,7 @@ fn arrival_at<P: Parcel + Drop>(
         return Ok(None);
     };
     let owner = owner_of(&tables.connections, &Some(*x));
-    let waited = delayed::count(&tables.delayed, x.index);
+    let waited = delayed_count(&tables.delayed, x.index);
     arrive(
         alloc,
         x,
@@ -57,58 +51,6 @@ fn arrival_at<P: Parcel + Drop>(
         tables.inputs.as_slice(),
         waited,
     )
-}
-
-// The changes of an arrival with this parcel are made. Where there is no memory for them the parcel is handed back, and nothing has
-// changed.
-fn settle<P: Drop>(
-    alloc: Global,
-    tables: &mut Tables<P>,
-    input: InputId,
-    parcel: P,
-    made: Arrival<Msg<P>, Group>,
-) -> Result<Effects, P>
-    requires { AreSinks [] tables.old.sinks }
-    ensures effects { IfOk result (λ effects. effects ≡ answer_effects None (state_of tables.old) (arriving_with input parcel made)) }
-    ensures after { OnOk result (state_of tables.new ≡ answered (state_of tables.old) (arriving_with input parcel made)) }
-    ensures back { IfErr result (λ back. back ≡ parcel) }
-    ensures err { OnErr result (state_of tables.new ≡ state_of tables.old) }
-{
-    let Arrival {
-        feed,
-        factors,
-        told,
-        later,
-    } = made;
-    let plan = Plan {
-        reply: None,
-        errors: Vec::new(alloc),
-        told,
-        changes: later,
-    };
-    let Ok(mut effects) = plan_effects(alloc, None, &plan) else {
-        return Err(parcel);
-    };
-    let Ok(_) = add_arrival_events(alloc, &mut effects, tables, input, &plan.changes) else {
-        return Err(parcel);
-    };
-    let Ok(_) = reserve(tables, plan.changes.len() + 1) else {
-        return Err(parcel);
-    };
-    apply(
-        tables,
-        Change::Arrives(
-            input,
-            Msg::Attach {
-                input,
-                parcel,
-                feed,
-                factors,
-            },
-        ),
-    );
-    commit(tables, plan.changes);
-    Ok(effects)
 }
 
 /// An input that moves to a sink is there with this parcel. Where there is no memory for it the parcel is handed back, and nothing has
@@ -129,7 +71,7 @@ pub(crate) fn take_in<P: Parcel + Drop>(
     ensures err { OnErr result (state_of tables.new ≡ state_of tables.old) }
 {
     match arrival_at(alloc, tables, to, x) {
-        Ok(Some(made)) => settle(alloc, tables, x.index, parcel, made),
+        Ok(Some(made)) => finish_arrival(alloc, tables, x.index, parcel, made),
         Ok(None) => Ok(Effects::new(alloc)),
         Err(_) => Err(parcel),
     }

@@ -1,7 +1,7 @@
 //! Connections begin and end (PulseAudio: `pa_native_protocol_connect` and `native_connection_unlink` of
 //! `pulsecore/protocol-native.c`; that an ended connection is swept away in a step of its own is own).
 
-ghost use Rattle.std.specs.Prelude.{◌≡◌, ◌<◌, ◌++◌, ◌∷◌, [], ℕ, List, Option, None, Some, filter, flat_map, IfOk, OnOk, OnErr};
+ghost use Rattle.std.specs.Prelude.{◌≡◌, ◌++◌, ◌∷◌, [], ℕ, List, Option, None, Some, filter, flat_map, IfOk, OnOk, OnErr};
 ghost use Rattle.std.specs.Option.{option_map};
 ghost use Rattle.px_plan.specs.declared.sending.Reason.{Reason};
 ghost use Rattle.px_plan.specs.declared.sending.Reason.TheVariants.{Protocol};
@@ -10,25 +10,22 @@ ghost use Rattle.px_plan.specs.declared.input.Connection.{Connection};
 ghost use Rattle.px_plan.specs.declared.input.Input.{Input};
 ghost use Rattle.px_plan.specs.Plan.{changing};
 ghost use Rattle.px_session.specs.HeaderRules.{AreSinks};
-ghost use Rattle.px_core.specs.State.{connection_of, marked_of, is_from};
-ghost use Rattle.px_core.specs.Connecting.{is_full, new_connection, joined, connected, going_on, ended, ends, swept, sweep_of};
-ghost use Rattle.px_core.specs.Effect.{closed_at, IsSendable};
-ghost use Rattle.px_core.specs.Plan.{plan_effects};
+ghost use Rattle.px_state.specs.State.{connection_of, marked_of, is_from};
+ghost use Rattle.px_core.specs.Connecting.{is_full, connected, going_on, ended, ends, swept, sweep_of};
+ghost use Rattle.px_state.specs.Effect.{closed_at, IsSendable};
+ghost use Rattle.px_state.specs.Plan.{plan_effects};
 ghost use Rattle.px_core.specs.Step.{answered, answer_effects, admitted_effects};
-ghost use Rattle.px_core.specs.Tables.{state_of};
+ghost use Rattle.px_state.specs.Tables.{state_of};
 
-use crate::change::CoreChange;
-use crate::commit::finish;
-use crate::effect::{Effect, closed_for};
-use crate::effects::Effects;
-use crate::events::joined_events;
 use crate::found::{connection_of, going_on};
-use crate::tables::Tables;
 use px_flat::Group;
 use px_frame::FrameFault;
-use px_inputs::{goes_on, mark};
+use px_inputs::goes_on;
 use px_msg::Msg;
 use px_plan::{Change, Connection, Input, Plan, Reason};
+use px_state::{
+    CoreChange, Effect, Effects, Tables, closed_for, finish, join, joined_events, mark,
+};
 use px_types::{ConnId, Mem};
 use std::alloc::Global;
 
@@ -42,26 +39,6 @@ fn is_full<P>(tables: &Tables<P>) -> bool
     tables.connections.len() >= MOST_CONNECTIONS || tables.clients_made == u32::MAX
 }
 
-// One more connection, and its client.
-fn join<P>(tables: &mut Tables<P>, conn: ConnId) -> Mem<()>
-    requires { tables.old.clients_made < 4294967295 }
-    ensures after { OnOk result (state_of tables.new ≡ joined conn (state_of tables.old)) }
-    ensures err { OnErr result (state_of tables.new ≡ state_of tables.old) }
-{
-    let client = tables.clients_made;
-    tables.connections.reserve(1)?;
-    tables.names.admit(conn, client)?;
-    tables.connections.push_reserved(Connection {
-        conn,
-        client,
-        version: None,
-        streams: 0,
-        marked: false,
-    });
-    tables.clients_made = client + 1;
-    Ok(())
-}
-
 /// A connection ends where it goes on: it is marked, and its number is given. Takes no memory.
 pub(crate) fn end<P>(tables: &mut Tables<P>, conn: ConnId) -> Option<ConnId>
     ensures conn { result ≡ option_map (λ c. c.conn) (going_on tables.old.connections.items conn) }
@@ -71,7 +48,7 @@ pub(crate) fn end<P>(tables: &mut Tables<P>, conn: ConnId) -> Option<ConnId>
     match going_on(&tables.connections, conn) {
         None => None,
         Some(c) => {
-            mark(&mut tables.connections, c.conn);
+            mark(tables, c.conn);
             Some(c.conn)
         }
     }

@@ -1,44 +1,17 @@
 //! Frames that a client writes (PulseAudio: `pstream_memblock_callback` of `pulsecore/protocol-native.c`).
 
 ghost use Rattle.std.specs.Prelude.{◌≡◌, ◌≤◌, Some, length, IfErr, OnOk, OnErr};
-ghost use Rattle.px_ctl_play.specs.Data.{written, data_for};
-ghost use Rattle.px_core.specs.State.{input_of, stream_of};
+ghost use Rattle.px_ctl_play.specs.Data.{data_for};
+ghost use Rattle.px_state.specs.State.{input_of, stream_of};
 ghost use Rattle.px_core.specs.Keeps.{IsRising};
 ghost use Rattle.px_core.specs.Step.{answered};
-ghost use Rattle.px_core.specs.Tables.{state_of};
+ghost use Rattle.px_state.specs.Tables.{state_of};
 
-use crate::commit::{reserve, tell};
-use crate::tables::Tables;
 use px_block::Blocks;
-use px_ctl_play::{Frames, frames_of};
+use px_ctl_play::frames_of;
 use px_plan::Input;
+use px_state::{Tables, post_frames};
 use px_types::ConnId;
-
-// These frames of a stream wait for its sink.
-fn post<P: Drop>(
-    tables: &mut Tables<P>,
-    input: Input,
-    frames: Frames,
-    seek: u8,
-    bytes: Blocks,
-) -> Result<(), Blocks>
-    requires { input_of tables.old.inputs.items input.index ≡ Some input }
-    ensures after { OnOk result (state_of tables.new ≡ answered (state_of tables.old) (written (Some frames) input seek bytes)) }
-    ensures back { IfErr result (λ back. back ≡ bytes) }
-    ensures err { OnErr result (state_of tables.new ≡ state_of tables.old) }
-{
-    match reserve(tables, 1) {
-        Err(_) => Err(bytes),
-        Ok(()) => {
-            tell(
-                tables,
-                &input,
-                px_ctl_play::write(&input, frames, seek, bytes),
-            );
-            Ok(())
-        }
-    }
-}
 
 // Bytes for a stream that is there.
 fn write_to<P: Drop>(
@@ -56,7 +29,7 @@ fn write_to<P: Drop>(
 {
     match frames_of(&input, offset, bytes.len()) {
         None => { Ok(()) }
-        Some(frames) => post(tables, input, frames, seek, bytes),
+        Some(frames) => post_frames(tables, input, frames, seek, bytes),
     }
 }
 

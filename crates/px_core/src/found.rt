@@ -2,7 +2,7 @@
 
 ghost use Rattle.std.specs.Prelude.{◌≡◌};
 ghost use Rattle.std.specs.Option.{option_map};
-ghost use Rattle.px_core.specs.State.{connection_of};
+ghost use Rattle.px_state.specs.State.{connection_of};
 ghost use Rattle.px_core.specs.Connecting.{going_on};
 ghost use Rattle.px_core.specs.Notice.{input_on};
 

@@ -8,16 +8,14 @@ ghost use Rattle.px_core.specs.Command.{packet_answer};
 ghost use Rattle.px_core.specs.Grouped.{AreGrouped};
 ghost use Rattle.px_core.specs.Keeps.{IsInput, IsRising};
 ghost use Rattle.px_core.specs.Step.{answer_effects, answered, body_answer, frame_answer};
-ghost use Rattle.px_core.specs.Tables.{state_of};
+ghost use Rattle.px_state.specs.Tables.{state_of};
 
 use crate::command::packet_answer;
-use crate::commit::finish;
 use crate::data::write;
-use crate::effects::Effects;
 use crate::found::going_on;
-use crate::tables::Tables;
 use px_frame::{Body, Frame};
 use px_plan::Connection;
+use px_state::{Effects, Tables, finish};
 use px_types::{ConnId, Mem};
 use std::alloc::Global;
 

@@ -8,14 +8,14 @@ ghost use Rattle.px_session.specs.HeaderRules.{AreSinks};
 ghost use Rattle.px_ctl_info.specs.Infos.{sink_info, sink_infos, input_info, input_infos};
 ghost use Rattle.px_targets.specs.Sinks.{named_by, targets_of};
 ghost use Rattle.px_core.specs.Keeps.{IsInput};
-ghost use Rattle.px_core.specs.State.{input_named};
+ghost use Rattle.px_state.specs.State.{input_named};
 
-use crate::tables::Tables;
 use px_cmd::SinkRef;
 use px_ctl_info::{input_info, input_infos, sink_info, sink_infos};
 use px_flat::Group;
 use px_msg::Msg;
 use px_plan::{Input, Plan, Refusal};
+use px_state::Tables;
 use px_targets::{named_by, targets_of};
 use std::alloc::Global;
 

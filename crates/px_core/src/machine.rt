@@ -4,23 +4,19 @@ ghost use Rattle.std.specs.Prelude.{◌≡◌, ◌<◌, ◌+◌, length, IfOk, I
 ghost use Rattle.std.specs.Option.{option_to_list};
 ghost use Rattle.px_frame.specs.Frame.{IsBody};
 ghost use Rattle.px_session.specs.HeaderRules.{IsHeader};
-ghost use Rattle.px_core.specs.Effect.{IsSendable};
-ghost use Rattle.px_core.specs.State.{new_state};
+ghost use Rattle.px_state.specs.Effect.{IsSendable};
+ghost use Rattle.px_state.specs.State.{new_state};
 ghost use Rattle.px_core.specs.Step.{Step, stepped, effects_of};
 ghost use Rattle.px_core.specs.Keeps.{IsKept};
-ghost use Rattle.px_core.specs.Out.{waiting_for, next_for, put_back, sent, unsent, room_for};
+ghost use Rattle.px_state.specs.Out.{waiting_for, next_for, put_back, sent, unsent, room_for};
 
 use crate::connecting::{break_off, connect, end, sweep_away};
-use crate::effect::{Effect, closed_for};
-use crate::effects::Effects;
-use crate::out::{hand_out, put_back};
-use crate::start::new_tables;
-use crate::tables::Tables;
-use crate::{frames, notice, queues};
+use crate::{frames, notice};
 use px_frame::{Frame, FrameFault};
 use px_msg::{Msg, Notice, Parcel};
 use px_plan::Reason;
 use px_session::Header;
+use px_state::{Effect, Effects, Tables, closed_for, hand_out, new_tables, outgoing, put_back};
 use px_types::{ConnId, Mem, SinkId};
 use std::alloc::Global;
 use std::marker::Model;
@@ -35,9 +31,9 @@ pub struct Core<P: Parcel> {
 }
 
 impl<P: Parcel> Model for Core<P> {
-    ghost use Rattle.px_core.specs.Out.{Roomy};
+    ghost use Rattle.px_state.specs.Out.{Roomy};
     ghost use Rattle.px_core.specs.Keeps.{IsKept};
-    ghost use Rattle.px_core.specs.Tables.{core_of, state_of};
+    ghost use Rattle.px_state.specs.Tables.{core_of, state_of};
 
     ghost Value = { Roomy P };
 
@@ -132,7 +128,7 @@ impl<P: Parcel + Drop> Core<P> {
     pub fn outgoing(&self, sink: SinkId) -> usize
         ensures { result ≡ length (waiting_for self.now.state sink) }
     {
-        queues::count(&self.tables.posted, sink)
+        outgoing(&self.tables, sink)
     }
 
     /// The first message that waits for a sink, handed out. There is room to put it back, and put back it leaves the very core

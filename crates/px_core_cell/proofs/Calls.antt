@@ -6,9 +6,9 @@ use Rattle.std.proofs.lemmas.Option.{same_Some}
 use Rattle.px_mail.specs.Mailbox.{LastFails}
 use Rattle.px_types.specs.declared.ids.SinkId.{SinkId}
 use Rattle.px_annals.specs.declared.stream.PlainStream.{PlainStream}
-use Rattle.px_core.specs.declared.effect.Effect.{Effect}
-use Rattle.px_core.specs.State.{State}
-use Rattle.px_core.specs.Out.{waiting_for}
+use Rattle.px_state.specs.declared.effect.Effect.{Effect}
+use Rattle.px_state.specs.State.{State}
+use Rattle.px_state.specs.Out.{waiting_for}
 use Rattle.px_core_cell.specs.declared.ends.CoreEnd.{CoreEnd}
 use Rattle.px_core_cell.specs.declared.step.CoreStep.{CoreStep}
 use Rattle.px_core_cell.specs.declared.step.CoreStep.TheVariants as asked

@@ -22,8 +22,8 @@ use Rattle.px_frame.specs.Fault.{code_of}
 use Rattle.px_msg.specs.declared.message.Msg.{Msg}
 use Rattle.px_msg.specs.declared.notice.Notice.{Notice}
 use Rattle.px_msg.specs.declared.notice.Notice.TheVariants.{Request, Overflow, Underflow, Started, Drained, Detached, Latency}
-use Rattle.px_core.specs.declared.effect.Effect.{Effect}
-use Rattle.px_core.specs.State.{State}
+use Rattle.px_state.specs.declared.effect.Effect.{Effect}
+use Rattle.px_state.specs.State.{State}
 use Rattle.px_core.specs.Keeps.{Spares}
 use Rattle.px_core.specs.Hearing.{told_by}
 use Rattle.px_core.specs.Step.{Step, out, stepped, effects_of, stepped_by, effects_by}

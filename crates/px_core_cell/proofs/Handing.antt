@@ -19,8 +19,8 @@ use Rattle.px_msg.specs.View.{sample_spec, message_of}
 use Rattle.px_msg.specs.Letters.{AreLawful}
 use Rattle.px_msg.proofs.Lawful.{joins, inputs}
 use Rattle.px_stream.specs.Kept.{KeptStream}
-use Rattle.px_core.specs.State.{State}
-use Rattle.px_core.specs.Out.{waiting_for, next_for, handed_out}
+use Rattle.px_state.specs.State.{State}
+use Rattle.px_state.specs.Out.{waiting_for, next_for, handed_out}
 use Rattle.px_core.specs.Keeps.{IsKept, IsStep}
 use Rattle.px_core.specs.Hearing.{told_by}
 use Rattle.px_core.specs.Step.{Step, out, stepped, stepped_by}

@@ -16,8 +16,8 @@ use Rattle.px_msg.specs.declared.message.Msg.{Msg}
 use Rattle.px_msg.specs.declared.notice.Notice.{Notice}
 use Rattle.px_msg.specs.View.{sample_spec}
 use Rattle.px_msg.specs.Letters.{AreLawful, inputs_after}
-use Rattle.px_core.specs.declared.effect.Effect.{Effect}
-use Rattle.px_core.specs.State.{State}
+use Rattle.px_state.specs.declared.effect.Effect.{Effect}
+use Rattle.px_state.specs.State.{State}
 use Rattle.px_core.specs.Keeps.{IsKept, IsStep}
 use Rattle.px_core.specs.Orderly.{inputs_there}
 use Rattle.px_core.specs.Hearing.{told_by}

@@ -13,7 +13,7 @@ use Rattle.px_session.specs.HeaderRules.{IsHeader}
 use Rattle.px_msg.specs.declared.notice.Notice.{Notice}
 use Rattle.px_msg.specs.View.{sample_spec}
 use Rattle.px_msg.specs.Letters.{AreLawful, inputs_after}
-use Rattle.px_core.specs.State.{State, new_state}
+use Rattle.px_state.specs.State.{State, new_state}
 use Rattle.px_core.specs.Keeps.{IsKept}
 use Rattle.px_core.specs.Orderly.{inputs_there}
 use Rattle.px_core.specs.Hearing.{told_by}

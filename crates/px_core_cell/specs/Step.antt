@@ -14,9 +14,9 @@ use Rattle.px_frame.specs.Frame.{IsBody}
 use Rattle.px_frame.specs.Fault.{code_of}
 use Rattle.px_msg.specs.declared.message.Msg.{Msg}
 use Rattle.px_msg.specs.declared.notice.Notice.{Notice}
-use Rattle.px_core.specs.declared.effect.Effect.{Effect}
-use Rattle.px_core.specs.State.{State}
-use Rattle.px_core.specs.Out.{waiting_for, next_for, handed_out}
+use Rattle.px_state.specs.declared.effect.Effect.{Effect}
+use Rattle.px_state.specs.State.{State}
+use Rattle.px_state.specs.Out.{waiting_for, next_for, handed_out}
 use Rattle.px_core.specs.Hearing.{told_by}
 use Rattle.px_core.specs.Step.{Step, stepped_by, effects_by}
 use Rattle.px_core_cell.specs.declared.step.CoreStep.{CoreStep}

@@ -9,7 +9,7 @@ use std::sync::ledger::{Ledger, Share};
 pub trait Seats: Ledger {
     ghost use Rattle.std.specs.Prelude.{ℕ, List};
     ghost use Rattle.px_annals.specs.declared.stream.PlainStream.{PlainStream};
-    ghost use Rattle.px_core.specs.State.{State};
+    ghost use Rattle.px_state.specs.State.{State};
     ghost use Rattle.px_core_cell.specs.Boxes.{Boxes};
 
     /// All its parts.

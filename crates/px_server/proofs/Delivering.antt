@@ -30,7 +30,7 @@ use Rattle.px_lane_cell.specs.Meaning.{history_meant}
 use Rattle.px_lane_cell.specs.History.{unturned, IsAfter}
 use Rattle.px_ends.specs.Device.{DeviceState}
 use Rattle.px_session.specs.declared.header.SinkSpec.{SinkSpec}
-use Rattle.px_core.specs.State.{State}
+use Rattle.px_state.specs.State.{State}
 use Rattle.px_core_cell.specs.declared.ends.CoreEnd.{CoreEnd}
 use Rattle.px_core_cell.specs.Boxes.{Boxes, boxes_of}
 use Rattle.px_core_cell.specs.Cell.{SinkEnds, ends_of}

@@ -13,7 +13,7 @@ use Rattle.px_ends.specs.Device.{DeviceState}
 use Rattle.px_ends.specs.Host.{HostState}
 use Rattle.px_session.specs.declared.header.Header.{Header}
 use Rattle.px_session.specs.declared.header.SinkSpec.{SinkSpec}
-use Rattle.px_core.specs.State.{State, new_state}
+use Rattle.px_state.specs.State.{State, new_state}
 use Rattle.px_core_cell.specs.Cause.{IsCaused}
 use Rattle.px_core_cell.specs.Cell.{Cell, SinkEnds}
 use Rattle.px_core_cell.specs.History.{IsReplay, IsTold}

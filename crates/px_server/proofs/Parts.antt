@@ -9,7 +9,7 @@ use Rattle.px_annals.specs.declared.entry.LaneEntry.{LaneEntry}
 use Rattle.px_annals.specs.declared.stream.PlainStream.{PlainStream}
 use Rattle.px_ends.specs.Device.{DeviceState}
 use Rattle.px_model.specs.Sink.{Sink}
-use Rattle.px_core.specs.State.{State}
+use Rattle.px_state.specs.State.{State}
 use Rattle.px_lane_cell.specs.History.{unturned}
 use Rattle.px_server.specs.declared.served.LanePart.{LanePart}
 use Rattle.px_server.specs.Causes.{status_of_met}

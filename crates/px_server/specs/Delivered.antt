@@ -12,7 +12,7 @@ use Rattle.px_model.specs.Deciding.{messages_of, replay_notices}
 use Rattle.px_msg.specs.View.{message_of, notice_of}
 use Rattle.px_stream.specs.Plain.{plain_of}
 use Rattle.px_stream.specs.Samples.{samples}
-use Rattle.px_core.specs.State.{State}
+use Rattle.px_state.specs.State.{State}
 use Rattle.px_core.specs.Hearing.{told_by}
 use Rattle.px_core_cell.specs.Parcel.{spec_of}
 use Rattle.px_core_cell.specs.History.{steps_in, noticed_by}

@@ -12,7 +12,7 @@ use Rattle.px_model.specs.Deciding.{replay_played, IsHistory}
 use Rattle.px_msg.specs.View.{sample_spec}
 use Rattle.px_session.specs.declared.header.SinkSpec.{SinkSpec}
 use Rattle.px_stream.specs.Samples.{samples}
-use Rattle.px_core.specs.State.{State}
+use Rattle.px_state.specs.State.{State}
 use Rattle.px_core_cell.specs.declared.ends.CoreEnd.{CoreEnd}
 use Rattle.px_core_cell.specs.Cell.{ends_of}
 use Rattle.px_core_cell.specs.History.{IsTold}

@@ -10,7 +10,7 @@ use Rattle.px_annals.specs.declared.stream.PlainStream.{PlainStream}
 use Rattle.px_ends.specs.Device.{DeviceState}
 use Rattle.px_ends.specs.Host.{HostState}
 use Rattle.px_session.specs.declared.header.Header.{Header}
-use Rattle.px_core.specs.State.{State, new_state}
+use Rattle.px_state.specs.State.{State, new_state}
 use Rattle.px_core_cell.specs.Cause.{IsCaused}
 use Rattle.px_server.specs.declared.served.LanePart.{LanePart}
 use Rattle.px_server.specs.declared.served.Stop.{Stop}

@@ -2,7 +2,7 @@
 ghost use Rattle.std.specs.Prelude.{◌≡◌, ◌+◌, ◌≤◌, [], length, map, IfOk, IfErr, OnOk, IfSome, None, vec_capacity};
 ghost use Rattle.px_annals.specs.declared.stream.PlainStream.{PlainStream};
 ghost use Rattle.px_session.specs.HeaderRules.{IsHeader};
-ghost use Rattle.px_core.specs.State.{State, new_state};
+ghost use Rattle.px_state.specs.State.{State, new_state};
 ghost use Rattle.px_core_cell.specs.Boxes.{boxes_of};
 ghost use Rattle.px_core_cell.specs.Cell.{ends_of};
 ghost use Rattle.px_core_cell.specs.History.{fresh_ends};

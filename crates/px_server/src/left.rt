@@ -2,7 +2,7 @@
 ghost use Rattle.std.specs.Prelude.{◌≡◌, ◌+◌, ◌≤◌, ◌++◌, [], List, Option, None, length, map, IfSome, vec_len, vec_capacity};
 ghost use Rattle.px_annals.specs.declared.entry.CoreEntry.{CoreEntry as Entry};
 ghost use Rattle.px_annals.specs.declared.stream.PlainStream.{PlainStream};
-ghost use Rattle.px_core.specs.State.{State};
+ghost use Rattle.px_state.specs.State.{State};
 ghost use Rattle.px_core_cell.specs.Boxes.{boxes_of};
 ghost use Rattle.px_core_cell.specs.Cell.{ends_of};
 ghost use Rattle.px_core_cell.specs.History.{IsTold};

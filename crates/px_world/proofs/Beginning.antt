@@ -12,7 +12,7 @@ use Rattle.px_session.specs.HeaderRules.{IsHeader, IsSink, AreSinks}
 use Rattle.px_msg.specs.View.{sample_spec}
 use Rattle.px_model.specs.Stream.{Stream, IsStream}
 use Rattle.px_model.proofs.Rounds.{empty_keeps}
-use Rattle.px_core.specs.State.{State, new_state}
+use Rattle.px_state.specs.State.{State, new_state}
 use Rattle.px_core.proofs.ParcelLaws.{new_carry}
 use Rattle.px_core.proofs.StepLaws.{new_keeps}
 use Rattle.px_targets.proofs.Sinks.{is_of_header}

@@ -3,7 +3,7 @@ use Rattle.std.proofs.Common.{◌≡◌, refl}
 use Rattle.px_tag.specs.Item.{number, text, spec, channel_map, channel_volumes, flag, usec, proplist}
 use Rattle.px_frame.specs.Descriptor.{descriptor_in}
 use Rattle.px_frame.specs.Meaning.{meaning_of}
-use Rattle.px_core.specs.Events.{step_events}
+use Rattle.px_state.specs.Events.{step_events}
 use Rattle.px_world.specs.World.{new_world}
 use Rattle.px_session.specs.Output.{sent_record, closed_record, played_record}
 use Rattle.px_world.specs.Output.{AreAdmitted, output_of}

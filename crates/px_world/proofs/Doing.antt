@@ -13,10 +13,10 @@ use Rattle.px_frame.specs.Frame.{IsBody}
 use Rattle.px_frame.specs.Progress.{GivesBodies}
 use Rattle.px_model.specs.Stream.{Stream, IsStream}
 use Rattle.px_model.specs.Frame.{SampleSpec}
-use Rattle.px_core.specs.declared.effect.Effect.{Effect}
+use Rattle.px_state.specs.declared.effect.Effect.{Effect}
 use Rattle.px_plan.specs.declared.input.Connection.{Connection}
-use Rattle.px_core.specs.State.{State}
-use Rattle.px_core.specs.Plan.{plan_effects}
+use Rattle.px_state.specs.State.{State}
+use Rattle.px_state.specs.Plan.{plan_effects}
 use Rattle.px_core.specs.Connecting.{going_on, ended}
 use Rattle.px_core.specs.Keeps.{IsStep, Spares}
 use Rattle.px_core.specs.Parcels.{Takes}

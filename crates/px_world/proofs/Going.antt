@@ -5,9 +5,9 @@ use Rattle.std.proofs.lemmas.Option.{none-some, same_Some}
 use Rattle.px_types.specs.declared.ids.SinkId.{SinkId}
 use Rattle.px_model.specs.Frame.{SampleSpec}
 use Rattle.px_msg.specs.declared.message.Msg.{Msg}
-use Rattle.px_core.specs.declared.effect.Effect.{Effect}
-use Rattle.px_core.specs.State.{State}
-use Rattle.px_core.specs.Out.{waiting_for, first_of, rest_of, next_for, handed_out}
+use Rattle.px_state.specs.declared.effect.Effect.{Effect}
+use Rattle.px_state.specs.State.{State}
+use Rattle.px_state.specs.Out.{waiting_for, first_of, rest_of, next_for, handed_out}
 use Rattle.px_core.specs.Step.{Step, out, stepped, effects_of, stepped_by, effects_by}
 use Rattle.px_world.proofs.Steps.{steps-join, effects-join, effects-push, waiting-past}
 

@@ -12,7 +12,7 @@ use Rattle.px_model.specs.Sink.{Sink}
 use Rattle.px_model.specs.Turn.{played_by}
 use Rattle.px_model.specs.Deciding.{Entry, turn, stop, sink_after, played_of, replay, replay_played, CanBe, IsHistory}
 use Rattle.px_model.proofs.Replays.{replay_joins, played_join}
-use Rattle.px_core.specs.Out.{waiting_for}
+use Rattle.px_state.specs.Out.{waiting_for}
 use Rattle.px_stream.specs.Samples.{samples}
 use Rattle.px_world.specs.declared.fault.WorldFault.{WorldFault}
 use Rattle.px_world.specs.declared.fault.WorldFault.TheVariants.{TooMany}

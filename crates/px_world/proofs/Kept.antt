@@ -17,9 +17,9 @@ use Rattle.px_model.specs.Turn.{AreFor, BringsStream, turn_notices, stopped_noti
 use Rattle.px_model.proofs.Rounds as rounds
 use Rattle.px_model.proofs.Shown as shown
 use Rattle.px_stream.specs.Samples.{samples}
-use Rattle.px_core.specs.State.{State}
+use Rattle.px_state.specs.State.{State}
 use Rattle.px_core.specs.Orderly.{inputs_there}
-use Rattle.px_core.specs.Out.{waiting_for}
+use Rattle.px_state.specs.Out.{waiting_for}
 use Rattle.px_core.specs.Keeps.{IsKept, IsStep, Spares}
 use Rattle.px_core.specs.Parcels.{Carries, Takes, AllCarry}
 use Rattle.px_core.specs.Hearing.{told_by}

@@ -12,8 +12,8 @@ use Rattle.px_model.specs.Notice.{Notice}
 use Rattle.px_model.specs.Turn.{AreFor}
 use Rattle.px_model.specs.Sink.{IsSink}
 use Rattle.px_msg.specs.View.{message_of, notice_for}
-use Rattle.px_core.specs.State.{State}
-use Rattle.px_core.specs.Out.{waiting_for}
+use Rattle.px_state.specs.State.{State}
+use Rattle.px_state.specs.Out.{waiting_for}
 use Rattle.px_core.specs.Keeps.{IsStep, Spares}
 use Rattle.px_core.specs.Parcels.{Takes}
 use Rattle.px_core.specs.Step.{notice, out, sweep, stepped_by, effects_by}

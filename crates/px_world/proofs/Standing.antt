@@ -3,7 +3,7 @@ use Rattle.std.proofs.Common.{◌≡◌, [], map, None, ap, sym, subst, ◌∙�
 use Rattle.px_session.specs.declared.header.Header.{Header}
 use Rattle.px_session.specs.declared.event.Event.{Event}
 use Rattle.px_model.specs.Stream.{Stream}
-use Rattle.px_core.specs.State.{new_state}
+use Rattle.px_state.specs.State.{new_state}
 use Rattle.px_core.specs.Step.{stepped_by}
 use Rattle.px_world.specs.World.{World, new_mixer, new_world}
 use Rattle.px_world.specs.Admission.{refusal_of}

@@ -4,12 +4,12 @@ use Rattle.std.specs.Prelude.{OnOk}
 use Rattle.std.specs.List.{concat, slice_get}
 use Rattle.px_session.specs.declared.event.Event.{Event}
 use Rattle.px_model.specs.Stream.{Stream}
-use Rattle.px_core.specs.declared.effect.Effect.{Effect}
+use Rattle.px_state.specs.declared.effect.Effect.{Effect}
 use Rattle.px_core.specs.Step.{effects_by}
 use Rattle.px_world.specs.declared.fault.WorldFault.{WorldFault}
 use Rattle.px_world.specs.declared.fault.WorldFault.TheVariants.{Live, NotLive, NoSink, Worn, TooMany, NoMemory}
 use Rattle.px_world.specs.declared.outcome.Outcome.{Outcome}
-use Rattle.px_core.specs.State.{State}
+use Rattle.px_state.specs.State.{State}
 use Rattle.px_world.specs.declared.doors.Door.{Door}
 use Rattle.px_world.specs.World.{World, Mixer}
 use Rattle.px_world.specs.Admission.{refusal_of}

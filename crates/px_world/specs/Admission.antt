@@ -3,7 +3,7 @@ use Rattle.std.specs.Prelude.{ℕ, ◌-◌, ◌^◌, cond, nat_lt, length, Optio
 use Rattle.std.specs.List.{slice_get}
 use Rattle.px_session.specs.declared.event.Event.{Event}
 use Rattle.px_session.specs.declared.event.Event.TheVariants.{Connect, Bytes, Close, Cut, Turn, Collect}
-use Rattle.px_core.specs.Out.{waiting_for}
+use Rattle.px_state.specs.Out.{waiting_for}
 use Rattle.px_world.specs.declared.fault.WorldFault.{WorldFault}
 use Rattle.px_world.specs.declared.fault.WorldFault.TheVariants.{Live, NotLive, NoSink, Worn, TooMany}
 use Rattle.px_world.specs.World.{World, Link, Mixer, link_of}

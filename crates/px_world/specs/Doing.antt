@@ -3,8 +3,8 @@ use Rattle.std.specs.Prelude.{◌≡◌, ℕ, Bool, true, false, cond, List, [],
 use Rattle.std.specs.List.{concat, slice_get}
 use Rattle.px_session.specs.declared.event.Event.{Event}
 use Rattle.px_model.specs.Stream.{Stream}
-use Rattle.px_core.specs.declared.effect.Effect.{Effect}
-use Rattle.px_core.specs.State.{State}
+use Rattle.px_state.specs.declared.effect.Effect.{Effect}
+use Rattle.px_state.specs.State.{State}
 use Rattle.px_core.specs.Step.{stepped_by, effects_by}
 use Rattle.px_world.specs.declared.doors.Door.{Door}
 use Rattle.px_world.specs.declared.fault.WorldFault.{WorldFault}

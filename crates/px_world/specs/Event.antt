@@ -13,8 +13,8 @@ use Rattle.px_model.specs.Turn.{turned, turn_notices, stopped_turn, stopped_noti
 use Rattle.px_stream.specs.Samples.{samples}
 use Rattle.px_model.specs.Notice.{Notice}
 use Rattle.px_msg.specs.View.{message_of, notice_for}
-use Rattle.px_core.specs.declared.effect.Effect.{Effect}
-use Rattle.px_core.specs.Out.{waiting_for}
+use Rattle.px_state.specs.declared.effect.Effect.{Effect}
+use Rattle.px_state.specs.Out.{waiting_for}
 use Rattle.px_core.specs.Step.{Step, connect, frame, broken, close, cut, sweep, notice, out, stepped_by, effects_by}
 use Rattle.px_world.specs.World.{World, Link, Mixer, is_of, link_of, received_of}
 

@@ -6,7 +6,7 @@ use Rattle.px_model.specs.Notice.{Notice}
 use Rattle.px_model.specs.Stream.{Stream, IsStream}
 use Rattle.px_model.specs.Sink.{IsSink, specs_of}
 use Rattle.px_msg.specs.View.{sample_spec, notice_for}
-use Rattle.px_core.specs.State.{State}
+use Rattle.px_state.specs.State.{State}
 use Rattle.px_core.specs.Keeps.{IsKept}
 use Rattle.px_core.specs.Orderly.{inputs_there}
 use Rattle.px_core.specs.Parcels.{given_by, AllCarry}

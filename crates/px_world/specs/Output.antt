@@ -5,9 +5,9 @@ use Rattle.px_session.specs.declared.header.Header.{Header}
 use Rattle.px_session.specs.declared.event.Event.{Event}
 use Rattle.px_session.specs.declared.event.Event.TheVariants.{Connect, Bytes, Close, Cut, Turn, Collect}
 use Rattle.px_session.specs.Output.{sent_record, closed_record, played_record, ended_output}
-use Rattle.px_core.specs.declared.effect.Effect.{Effect}
-use Rattle.px_core.specs.declared.effect.Effect.TheVariants.{Sent, Closed}
-use Rattle.px_core.specs.Effect.{reason_code}
+use Rattle.px_state.specs.declared.effect.Effect.{Effect}
+use Rattle.px_state.specs.declared.effect.Effect.TheVariants.{Sent, Closed}
+use Rattle.px_state.specs.Effect.{reason_code}
 use Rattle.px_world.specs.World.{World, new_world}
 use Rattle.px_world.specs.Admission.{refusal_of}
 use Rattle.px_world.specs.Event.{world_after, effects_after, frames_played}

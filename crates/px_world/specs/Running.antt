@@ -7,7 +7,7 @@ use Rattle.px_frame.specs.declared.frame.Frame.{Frame}
 use Rattle.px_frame.specs.Progress.{HasFed}
 use Rattle.px_frame.specs.Meaning.{frames_in}
 use Rattle.px_model.specs.Stream.{Stream}
-use Rattle.px_core.specs.State.{State}
+use Rattle.px_state.specs.State.{State}
 use Rattle.px_core.specs.Step.{Step, frame, broken}
 use Rattle.px_world.specs.declared.doors.Door.{Door}
 use Rattle.px_world.specs.World.{World, Link, Mixer, link_of}

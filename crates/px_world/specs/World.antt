@@ -8,7 +8,7 @@ use Rattle.px_model.specs.Stream.{Stream}
 use Rattle.px_model.specs.Sink.{Sink, empty_sink}
 use Rattle.px_model.specs.Notice.{Notice}
 use Rattle.px_msg.specs.View.{sample_spec}
-use Rattle.px_core.specs.State.{State, new_state}
+use Rattle.px_state.specs.State.{State, new_state}
 
 -- a connection's number that is named, and all bytes that came from its client
 pub record Link : Type 0 where

@@ -4,7 +4,7 @@ ghost use Rattle.std.specs.Prelude.{◌≡◌, ℕ, List, IfOk, IfSome, OnOk, No
 ghost use Rattle.std.specs.List.{position};
 ghost use Rattle.std.specs.Option.{option_to_list};
 ghost use Rattle.px_session.specs.declared.event.Event.TheVariants.{Connect, Bytes, Close, Cut};
-ghost use Rattle.px_core.specs.Effect.{IsSendable};
+ghost use Rattle.px_state.specs.Effect.{IsSendable};
 ghost use Rattle.px_world.specs.World.{World, Mixer};
 ghost use Rattle.px_world.specs.Running.{is_door, Open, AreDistinct};
 ghost use Rattle.px_world.specs.Keeping.{AreKept};

@@ -7,7 +7,7 @@ ghost use Rattle.px_model.specs.Stream.{Stream as Plain};
 ghost use Rattle.px_model.specs.Sink.{IsSink as IsKeptSink};
 ghost use Rattle.px_model.specs.Turn.{AreFor};
 ghost use Rattle.px_msg.specs.View.{message_of, notice_for};
-ghost use Rattle.px_core.specs.Out.{waiting_for};
+ghost use Rattle.px_state.specs.Out.{waiting_for};
 ghost use Rattle.px_core.specs.Step.{Step, stepped_by, effects_by};
 ghost use Rattle.px_world.specs.World.{World};
 ghost use Rattle.px_world.specs.Admission.{turn_refusal};

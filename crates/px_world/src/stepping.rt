@@ -6,7 +6,7 @@ ghost use Rattle.px_frame.specs.Progress.{GivesBodies};
 ghost use Rattle.px_msg.specs.View.{message_of, notice_for};
 ghost use Rattle.px_model.specs.Stream.{Stream as Plain};
 ghost use Rattle.px_lane.specs.Lists.{plain_notice};
-ghost use Rattle.px_core.specs.Out.{waiting_for};
+ghost use Rattle.px_state.specs.Out.{waiting_for};
 ghost use Rattle.px_core.specs.Step.{Step, stepped, effects_of, stepped_by, effects_by};
 ghost use Rattle.px_world.specs.Running.{IsAnswered, steps_given};
 

@@ -12,7 +12,7 @@ ghost use Rattle.px_world.specs.Frames.{frames_of};
 ghost use Rattle.px_world.specs.Running.{StandsFor};
 ghost use Rattle.px_world.specs.Playing.{mixer_of, IsPlaying};
 ghost use Rattle.px_model.specs.Stream.{Stream as Plain};
-ghost use Rattle.px_core.specs.State.{State};
+ghost use Rattle.px_state.specs.State.{State};
 ghost use Rattle.px_world.specs.Keeping.{AreKept};
 ghost use Rattle.px_world.specs.Doing.{loses, told_to_fail, world_stopping};
 ghost use Rattle.px_world.specs.declared.fault.WorldFault.{WorldFault};

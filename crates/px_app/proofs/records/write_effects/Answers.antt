@@ -1,7 +1,7 @@
 use Rattle.std.proofs.Common.{◌≡◌, ◌++◌, take, drop, suc, sym, subst}
 use Rattle.std.specs.List.{flat_map}
 use Rattle.std.proofs.lemmas.Result.{err_from_is_err_and}
-use Rattle.px_core.specs.declared.effect.Effect.{Effect}
+use Rattle.px_state.specs.declared.effect.Effect.{Effect}
 use Rattle.px_world.specs.Output.{effect_record}
 use Rattle.px_session.proofs.Added.{front_then, flat_map_around}
 use Rattle.px_app.proofs.records.write_effects.Goals as goal

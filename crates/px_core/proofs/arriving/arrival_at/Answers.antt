@@ -1,7 +1,7 @@
 use Rattle.std.proofs.Common.{sym, ap, ◌∙◌}
 use Rattle.std.specs.Prelude.{slice_get}
 use Rattle.px_targets.specs.Sinks.{target_at}
-use Rattle.px_core.specs.Tables.{state_of}
+use Rattle.px_state.specs.Tables.{state_of}
 use Rattle.px_core.proofs.JoinLaws.{some_channel, has_channels, can_join}
 use Rattle.px_core.proofs.arriving.arrival_at.Goals as goal
 

@@ -1,6 +1,6 @@
 use Rattle.std.proofs.Common.{None, sym, ap, ◌∙◌}
 use Rattle.px_core.specs.Notice.{arrival_at, arrived_with}
-use Rattle.px_core.specs.Tables.{state_of}
+use Rattle.px_state.specs.Tables.{state_of}
 use Rattle.px_core.proofs.EventLaws.{ignored}
 use Rattle.px_core.proofs.arriving.take_in.Goals as goal
 

@@ -1,5 +1,5 @@
 use Rattle.std.proofs.Common.{◌≡◌, ◌++◌, drop, filter, flat_map}
-use Rattle.px_core.specs.State.{is_from}
+use Rattle.px_state.specs.State.{is_from}
 use Rattle.px_core.specs.Connecting.{ends}
 use Rattle.px_core.proofs.connecting.add_streams.Given as goal
 

@@ -1,6 +1,6 @@
 use Rattle.std.proofs.Common.{sym, ap, ◌∙◌}
-use Rattle.px_core.specs.State.{connection_of}
-use Rattle.px_core.specs.Tables.{state_of}
+use Rattle.px_state.specs.State.{connection_of}
+use Rattle.px_state.specs.Tables.{state_of}
 use Rattle.px_core.proofs.EventLaws.{is_there, isnt_there, there_admitted, full_admitted, joined_admitted}
 use Rattle.px_core.proofs.connecting.connect.Goals as goal
 

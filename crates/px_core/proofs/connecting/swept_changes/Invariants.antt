@@ -1,5 +1,5 @@
 use Rattle.std.proofs.Common.{◌≡◌, ◌++◌, drop, flat_map}
-use Rattle.px_core.specs.State.{marked_of}
+use Rattle.px_state.specs.State.{marked_of}
 use Rattle.px_core.specs.Connecting.{swept}
 use Rattle.px_core.proofs.connecting.swept_changes.Given as goal
 

@@ -1,5 +1,5 @@
 use Rattle.std.proofs.Common.{sym}
-use Rattle.px_core.specs.State.{is_stream}
+use Rattle.px_state.specs.State.{is_stream}
 use Rattle.px_core.proofs.EntryLaws.{found_by_index}
 use Rattle.px_core.proofs.data.write.Goals as goal
 

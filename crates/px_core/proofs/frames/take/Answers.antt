@@ -1,7 +1,7 @@
 use Rattle.std.proofs.Common.{Some, sym, ap, ◌∙◌}
 use Rattle.px_core.specs.Connecting.{going_on}
 use Rattle.px_core.specs.Step.{frame_of, frame_answer}
-use Rattle.px_core.specs.Tables.{state_of}
+use Rattle.px_state.specs.Tables.{state_of}
 use Rattle.px_core.proofs.EventLaws.{ignored}
 use Rattle.px_core.proofs.frames.take.Goals as goal
 

@@ -1,5 +1,5 @@
 use Rattle.std.proofs.Common.{refl}
-use Rattle.px_core.specs.Out.{waiting_for}
+use Rattle.px_state.specs.Out.{waiting_for}
 use Rattle.px_core.proofs.BackLaws as back
 use Rattle.px_core.proofs.HandingLaws as handing
 use Rattle.px_core.proofs.StepLaws as steps

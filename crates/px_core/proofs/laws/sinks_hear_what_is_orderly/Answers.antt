@@ -1,4 +1,4 @@
-use Rattle.px_core.specs.State.{new_state}
+use Rattle.px_state.specs.State.{new_state}
 use Rattle.px_core.proofs.HearingLaws as hearing
 use Rattle.px_core.proofs.StepLaws as steps
 use Rattle.px_core.proofs.laws.sinks_hear_what_is_orderly.Goals as goal

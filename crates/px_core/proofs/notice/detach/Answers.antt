@@ -1,7 +1,7 @@
 use Rattle.std.proofs.Common.{Some, None, refl, sym, ap, ◌∙◌}
 use Rattle.std.specs.Prelude.{slice_get}
 use Rattle.px_core.specs.Notice.{input_on, given_up}
-use Rattle.px_core.specs.Tables.{state_of}
+use Rattle.px_state.specs.Tables.{state_of}
 use Rattle.px_core.proofs.EventLaws.{ignored}
 use Rattle.px_core.proofs.GroupLaws.{member_there}
 use Rattle.px_core.proofs.notice.detach.Goals as goal

@@ -1,5 +1,5 @@
 use Rattle.std.proofs.Common.{map}
-use Rattle.px_core.specs.State.{new_state}
+use Rattle.px_state.specs.State.{new_state}
 use Rattle.px_core_cell.specs.Boxes.{boxes_of}
 use Rattle.px_server.proofs.call.serve.Given as goal
 

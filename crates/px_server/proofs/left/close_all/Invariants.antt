@@ -3,7 +3,7 @@ use Rattle.std.specs.Prelude.{vec_len, vec_capacity}
 use Rattle.std.specs.Option.{option_or}
 use Rattle.px_annals.specs.declared.entry.CoreEntry.{CoreEntry}
 use Rattle.px_annals.specs.declared.stream.PlainStream.{PlainStream}
-use Rattle.px_core.specs.State.{State}
+use Rattle.px_state.specs.State.{State}
 use Rattle.px_core_cell.specs.Boxes.{boxes_of}
 use Rattle.px_server.specs.Parts.{unworked, AreTold}
 use Rattle.px_server.specs.Serving.{first_met}

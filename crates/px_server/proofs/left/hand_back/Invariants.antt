@@ -1,7 +1,7 @@
 use Rattle.std.proofs.Common.{◌≡◌, ◌+◌, ◌≤◌, None, length}
 use Rattle.std.specs.Prelude.{vec_len, vec_capacity}
 use Rattle.px_annals.specs.declared.stream.PlainStream.{PlainStream}
-use Rattle.px_core.specs.State.{State}
+use Rattle.px_state.specs.State.{State}
 use Rattle.px_server.proofs.Parts.{Handed}
 use Rattle.px_server.proofs.left.hand_back.Given as goal
 

@@ -1,6 +1,6 @@
 use Rattle.std.proofs.Common.{◌<◌, length, get_or, map, take, Some, refl, ap, sym, ◌∙◌, arith}
 use Rattle.px_msg.specs.View.{message_of}
-use Rattle.px_core.specs.Out.{waiting_for}
+use Rattle.px_state.specs.Out.{waiting_for}
 use Rattle.px_world.specs.Admission.{turn_refusal}
 use Rattle.px_world.specs.Event.{mixer_turned}
 use Rattle.px_world.specs.Playing.{mixer_of, IsPlaying}

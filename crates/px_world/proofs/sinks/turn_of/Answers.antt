@@ -3,7 +3,7 @@ use Rattle.px_model.specs.Stream.{Stream}
 use Rattle.px_model.specs.Orderly.{IsOrderly}
 use Rattle.px_model.specs.Sink.{specs_of}
 use Rattle.px_msg.specs.View.{message_of}
-use Rattle.px_core.specs.Out.{waiting_for}
+use Rattle.px_state.specs.Out.{waiting_for}
 use Rattle.px_core.specs.Step.{out, sweep}
 use Rattle.px_world.specs.Event.{mixer_turned}
 use Rattle.px_world.specs.Playing.{mixer_of}

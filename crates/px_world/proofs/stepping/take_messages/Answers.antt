@@ -3,7 +3,7 @@ use Rattle.px_model.specs.Stream.{Stream}
 use Rattle.px_model.specs.Message.{Message}
 use Rattle.px_lane.specs.Lists.{plain_message}
 use Rattle.px_msg.specs.View.{message_of}
-use Rattle.px_core.specs.Out.{waiting_for}
+use Rattle.px_state.specs.Out.{waiting_for}
 use Rattle.px_core.specs.Step.{out, stepped_by}
 use Rattle.px_world.proofs.Going.{outs-next, messages-next, few-next}
 use Rattle.px_world.proofs.stepping.take_messages.Goals as goal

@@ -1,7 +1,7 @@
 use Rattle.std.proofs.Common.{◌≡◌, ◌≤◌, ◌+◌, ◌++◌, length, map, take, replicate}
 use Rattle.px_model.specs.Stream.{Stream}
 use Rattle.px_msg.specs.View.{message_of}
-use Rattle.px_core.specs.Out.{waiting_for}
+use Rattle.px_state.specs.Out.{waiting_for}
 use Rattle.px_core.specs.Step.{out, stepped_by}
 use Rattle.px_world.proofs.stepping.take_messages.Given as goal
 

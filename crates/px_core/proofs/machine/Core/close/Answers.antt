@@ -1,6 +1,6 @@
 use Rattle.std.proofs.Common.{None}
 use Rattle.px_core.specs.Step.{close}
-use Rattle.px_core.specs.Tables.{state_of}
+use Rattle.px_state.specs.Tables.{state_of}
 use Rattle.px_core.proofs.CoreLaws.{done_kept}
 use Rattle.px_core.proofs.machine.Core.close.Goals as goal
 

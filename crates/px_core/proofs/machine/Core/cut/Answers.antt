@@ -1,7 +1,7 @@
 use Rattle.std.proofs.Common.{Some}
 use Rattle.px_plan.specs.declared.sending.Reason.TheVariants.{Cut}
 use Rattle.px_core.specs.Step.{cut}
-use Rattle.px_core.specs.Tables.{state_of}
+use Rattle.px_state.specs.Tables.{state_of}
 use Rattle.px_core.proofs.CoreLaws.{done_kept}
 use Rattle.px_core.proofs.machine.Core.cut.Goals as goal
 

@@ -1,7 +1,7 @@
 use Rattle.std.proofs.Common.{◌≡◌, sym, subst, IfSome}
-use Rattle.px_core.specs.Out.{unsent}
+use Rattle.px_state.specs.Out.{unsent}
 use Rattle.px_core.specs.Keeps.{IsKept}
-use Rattle.px_core.specs.Tables.{state_of, core_of}
+use Rattle.px_state.specs.Tables.{state_of, core_of}
 use Rattle.px_core.proofs.BackLaws.{kept_back, whole_back}
 use Rattle.px_core.proofs.StepLaws.{out_kept}
 use Rattle.px_core.proofs.machine.Core.sent.Goals as goal

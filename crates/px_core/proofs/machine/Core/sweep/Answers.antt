@@ -1,5 +1,5 @@
 use Rattle.px_core.specs.Step.{sweep}
-use Rattle.px_core.specs.Tables.{state_of}
+use Rattle.px_state.specs.Tables.{state_of}
 use Rattle.px_core.proofs.CoreLaws.{step_kept}
 use Rattle.px_core.proofs.machine.Core.sweep.Goals as goal
 

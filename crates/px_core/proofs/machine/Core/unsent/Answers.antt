@@ -1,6 +1,6 @@
 use Rattle.std.proofs.Common.{sym, subst}
 use Rattle.px_core.specs.Keeps.{IsKept}
-use Rattle.px_core.specs.Out.{Roomy, put_back}
+use Rattle.px_state.specs.Out.{Roomy, put_back}
 use Rattle.px_core.proofs.machine.Core.unsent.Goals as goal
 
 pub invariant_of-self : goal.invariant_of-self

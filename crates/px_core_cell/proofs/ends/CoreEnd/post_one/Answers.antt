@@ -4,7 +4,7 @@ use Rattle.px_mail.specs.Mailbox.{key_of, posted_by, taken_by, IsHeldOf}
 use Rattle.px_annals.specs.declared.stream.PlainStream.{PlainStream}
 use Rattle.px_msg.specs.declared.message.Msg.{Msg}
 use Rattle.px_stream.specs.Kept.{KeptStream}
-use Rattle.px_core.specs.Out.{Roomy, unsent}
+use Rattle.px_state.specs.Out.{Roomy, unsent}
 use Rattle.px_core_cell.specs.Cell.{ends_of}
 use Rattle.px_core_cell.specs.Parcel.{seen_message, seen_notice}
 use Rattle.px_core_cell.proofs.Handing.{may_post, held_seen}

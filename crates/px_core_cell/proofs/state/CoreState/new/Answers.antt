@@ -1,7 +1,7 @@
 use Rattle.std.proofs.Common.{map, ap, sym, subst}
 use Rattle.px_annals.specs.declared.stream.PlainStream.{PlainStream}
-use Rattle.px_core.specs.Out.{Roomy}
-use Rattle.px_core.specs.State.{State}
+use Rattle.px_state.specs.Out.{Roomy}
+use Rattle.px_state.specs.State.{State}
 use Rattle.px_core_cell.specs.Cell.{Cell, ends_of, cell_of}
 use Rattle.px_core_cell.specs.History.{IsCell}
 use Rattle.px_core_cell.proofs.Keeping.{begins}

@@ -1,5 +1,0 @@
-use Rattle.px_core.proofs.Undone.{undone}
-use Rattle.px_core.proofs.lending.put_back_undoes_handing_out.Goals as goal
-
-pub returns : goal.returns
-returns g c = λ state. undone state

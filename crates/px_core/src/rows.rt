@@ -1,0 +1,335 @@
+//! The rows of the commands, each on the parts of the state that it reads.
+
+ghost use Rattle.std.specs.Prelude.{◌≡◌, ◌≤◌, [], true, false, IfSome};
+ghost use Rattle.std.specs.List.{AllByRecursion};
+ghost use Rattle.std.specs.Option.{option_map};
+ghost use Rattle.px_plan.specs.declared.input.Connection.{Connection};
+ghost use Rattle.px_plan.specs.Row.{Plans};
+ghost use Rattle.px_plan.specs.Target.{IsNamed};
+ghost use Rattle.px_session.specs.HeaderRules.{AreSinks};
+ghost use Rattle.px_ctl_info.specs.Sinks.{server_info};
+ghost use Rattle.px_ctl_play.specs.Move.{move_input};
+ghost use Rattle.px_targets.specs.Sinks.{named_by};
+ghost use Rattle.px_state.specs.State.{stream_of, input_named};
+ghost use Rattle.px_state.specs.Tables.{state_of};
+ghost use Rattle.px_core.specs.Command.{IsOnStream, IsOnClients, IsOnSinks, new_attributes, create_on, default_sink, killed_input, row};
+ghost use Rattle.px_core.specs.Grouped.{AreGrouped};
+ghost use Rattle.px_core.specs.Keeps.{IsInput};
+
+use crate::found::copied;
+use crate::infos::{told_input, told_inputs, told_sink, told_sinks};
+use crate::notice::owner_of;
+use crate::volumes::{input_mute, input_volume, sink_mute, sink_volume};
+use px_cmd::{Command, CreateFields, SinkRef, Text};
+use px_ctl_info::{
+    SERVER_VERSION, auth, client_info, client_infos, connection_with, empty_list, kill_client,
+    lookup_sink, remove_client, remove_stream, server_info, set_client_name, set_default_sink,
+    set_stream_name, subscribe, update_client, update_stream,
+};
+use px_ctl_play::{
+    attributes, cork, create, delete, drain, flush, kill_input, latency, move_input, prebuf,
+    trigger,
+};
+use px_flat::Group;
+use px_msg::Msg;
+use px_plan::{Connection, Input, Named, Plan, Refusal};
+use px_state::Tables;
+use px_targets::{default_sink, depth_of, group_named, named_by, rate_of, sink_of};
+use std::alloc::Global;
+
+// A text that a command may give.
+fn text_of(text: &Option<Text>) -> Option<&[u8]>
+    ensures { option_map (λ bytes. bytes.now) result ≡ text.now }
+{
+    match text {
+        None => None,
+        Some(text) => Some(text.as_slice()),
+    }
+}
+
+// The input of a connection's stream.
+#[tactic(auto, using(crate::proofs::StreamLaws::has_channels))]
+fn stream_of<P>(tables: &Tables<P>, me: &Connection, stream: u32) -> Option<Input>
+    requires { AllByRecursion (IsInput tables.now.sinks tables.now.inputs_made) tables.now.inputs.items }
+    ensures value { result ≡ stream_of tables.now.inputs.items me.now.conn stream }
+    ensures channels { IfSome result (λ x. 1 ≤ x.spec.channels) }
+{
+    copied(tables.inputs.stream_of(me.conn, stream))
+}
+
+// CREATE_PLAYBACK_STREAM on a sink that was named.
+fn create_by<P: Drop>(
+    alloc: Global,
+    tables: &Tables<P>,
+    me: &Connection,
+    tag: u32,
+    named: Named,
+    fields: &CreateFields,
+) -> Result<Plan<Msg<P>, Group>, Refusal>
+    requires inputs { AllByRecursion (IsInput tables.now.sinks tables.now.inputs_made) tables.now.inputs.items }
+    requires groups { AreGrouped [] tables.now.sinks tables.now.inputs.items tables.now.groups.items }
+    requires value { named ≡ named_by tables.now.names tables.now.sinks fields.now.sink true }
+    requires lawful { IsNamed named }
+    ensures { Plans result (create_on (state_of tables.now) me.now tag fields.now named) }
+{
+    let group = group_named(&tables.groups, &named);
+    let inputs = tables.inputs.as_slice();
+    let count = tables.inputs_made;
+    create(alloc, inputs, count, me, tag, named, group, fields)
+}
+
+// CREATE_PLAYBACK_STREAM on the sink that it names.
+fn create_named<P: Drop>(
+    alloc: Global,
+    tables: &Tables<P>,
+    me: &Connection,
+    tag: u32,
+    fields: &CreateFields,
+) -> Result<Plan<Msg<P>, Group>, Refusal>
+    requires sinks { AreSinks [] tables.now.sinks }
+    requires inputs { AllByRecursion (IsInput tables.now.sinks tables.now.inputs_made) tables.now.inputs.items }
+    requires groups { AreGrouped [] tables.now.sinks tables.now.inputs.items tables.now.groups.items }
+    ensures { Plans result (create_on (state_of tables.now) me.now tag fields.now (named_by tables.now.names tables.now.sinks fields.now.sink true)) }
+{
+    let sinks = tables.sinks.as_slice();
+    let named = named_by(alloc, &tables.names, sinks, &fields.sink, true)?;
+    create_by(alloc, tables, me, tag, named, fields)
+}
+
+// New buffer attributes of a stream, with the latency of its sink.
+fn new_attributes<P: Drop>(
+    alloc: Global,
+    tables: &Tables<P>,
+    stream: Option<Input>,
+    asked: [u32; 4],
+    tag: u32,
+) -> Result<Plan<Msg<P>, Group>, Refusal>
+    requires sinks { AreSinks [] tables.now.sinks }
+    requires channels { IfSome stream (λ x. 1 ≤ x.spec.channels) }
+    ensures { Plans result (new_attributes (state_of tables.now) stream asked tag) }
+{
+    let sink = sink_of(tables.sinks.as_slice(), &stream);
+    attributes(alloc, stream, depth_of(sink), rate_of(sink), asked, tag)
+}
+
+// What the server is.
+fn server<P: Drop>(
+    alloc: Global,
+    tables: &Tables<P>,
+    tag: u32,
+) -> Result<Plan<Msg<P>, Group>, Refusal>
+    requires { AreSinks [] tables.now.sinks }
+    ensures { Plans result (server_info (default_sink (state_of tables.now)) tag) }
+{
+    let named = default_sink(alloc, &tables.names, tables.sinks.as_slice())?;
+    server_info(alloc, named, tag, SERVER_VERSION)
+}
+
+// An input is to be on the sink that is named.
+fn moved<P: Drop>(
+    alloc: Global,
+    tables: &Tables<P>,
+    input: u32,
+    sink: &SinkRef,
+    tag: u32,
+) -> Result<Plan<Msg<P>, Group>, Refusal>
+    requires { AreSinks [] tables.now.sinks }
+    ensures { Plans result (move_input (input_named tables.now.inputs.items input) (named_by tables.now.names tables.now.sinks sink.now false) tables.now.inputs.items tag) }
+{
+    let named = named_by(alloc, &tables.names, tables.sinks.as_slice(), sink, false)?;
+    let x = tables.inputs.input_named(input);
+    move_input(alloc, x, named, tables.inputs.as_slice(), tag)
+}
+
+// An input ends, whose connection is told so where that goes on.
+fn killed_input<P: Drop>(
+    alloc: Global,
+    tables: &Tables<P>,
+    input: Option<Input>,
+    tag: u32,
+) -> Result<Plan<Msg<P>, Group>, Refusal>
+    ensures { Plans result (killed_input (state_of tables.now) input tag) }
+{
+    let owner = owner_of(&tables.connections, &input);
+    kill_input(alloc, input, owner, &tables.waiting, tag)
+}
+
+// The row of a command on a stream of the connection's own.
+fn stream_row<P: Drop>(
+    alloc: Global,
+    tables: &Tables<P>,
+    me: &Connection,
+    tag: u32,
+    command: Command,
+) -> Result<Plan<Msg<P>, Group>, Refusal>
+    requires sinks { AreSinks [] tables.now.sinks }
+    requires inputs { AllByRecursion (IsInput tables.now.sinks tables.now.inputs_made) tables.now.inputs.items }
+    requires groups { AreGrouped [] tables.now.sinks tables.now.inputs.items tables.now.groups.items }
+    requires family { IsOnStream command }
+    ensures { Plans result (row (state_of tables.now) me.now tag command) }
+{
+    match command {
+        Command::Create(fields) => create_named(alloc, tables, me, tag, &fields),
+        Command::Delete { stream } => {
+            let stream = stream_of(tables, me, stream);
+            delete(alloc, stream, &tables.waiting, tag)
+        }
+        Command::Drain { stream } => drain(alloc, stream_of(tables, me, stream), tag),
+        Command::Latency { stream, time } => latency(
+            alloc,
+            stream_of(tables, me, stream),
+            time,
+            tag,
+        ),
+        Command::Cork { stream, on } => cork(alloc, stream_of(tables, me, stream), on, tag),
+        Command::Flush { stream } => flush(alloc, stream_of(tables, me, stream), tag),
+        Command::Trigger { stream } => trigger(alloc, stream_of(tables, me, stream), tag),
+        Command::Prebuf { stream } => prebuf(alloc, stream_of(tables, me, stream), tag),
+        Command::Attributes { stream, asked, .. } => {
+            let stream = stream_of(tables, me, stream);
+            new_attributes(alloc, tables, stream, asked, tag)
+        }
+        Command::StreamName { stream, name } => {
+            let stream = stream_of(tables, me, stream);
+            set_stream_name(alloc, stream, &tables.lists, tag, text_of(&name))
+        }
+        Command::UpdateStream { stream, mode, list } => {
+            let stream = stream_of(tables, me, stream);
+            update_stream(alloc, stream, &tables.lists, tag, mode, &list)
+        }
+        Command::RemoveStream { stream, keys } => {
+            let stream = stream_of(tables, me, stream);
+            remove_stream(alloc, stream, &tables.lists, tag, &keys)
+        }
+        _ => unreachable!(),
+    }
+}
+
+// The row of a command on clients, on names or on the server.
+fn client_row<P: Drop>(
+    alloc: Global,
+    tables: &Tables<P>,
+    me: &Connection,
+    tag: u32,
+    command: Command,
+) -> Result<Plan<Msg<P>, Group>, Refusal>
+    requires sinks { AreSinks [] tables.now.sinks }
+    requires family { IsOnClients command }
+    ensures { Plans result (row (state_of tables.now) me.now tag command) }
+{
+    match command {
+        Command::Auth { version, cookie } => {
+            auth(alloc, &tables.names, me, tag, version, cookie.as_slice())
+        }
+        Command::SetClientName { list } => {
+            let client = tables.names.client_on(me.conn);
+            set_client_name(alloc, client, me, tag, list)
+        }
+        Command::EmptyList { .. } => empty_list(alloc, tag),
+        Command::Subscribe { mask } => subscribe(alloc, me, tag, mask),
+        Command::LookupSink { name } => lookup_sink(alloc, &tables.names, tag, text_of(&name)),
+        Command::DefaultSink { name } => set_default_sink(
+            alloc,
+            &tables.names,
+            tag,
+            text_of(&name),
+        ),
+        Command::ClientInfo { client } => {
+            client_info(alloc, tables.names.client_numbered(client), tag)
+        }
+        Command::ClientInfoList => client_infos(alloc, tables.names.clients(), tag),
+        Command::UpdateClient { mode, list } => {
+            let client = tables.names.client_on(me.conn);
+            update_client(alloc, client, me, tag, mode, &list)
+        }
+        Command::RemoveClient { keys } => {
+            let client = tables.names.client_on(me.conn);
+            remove_client(alloc, client, me, tag, &keys)
+        }
+        Command::ServerInfo => server(alloc, tables, tag),
+        Command::KillClient { client } => {
+            kill_client(alloc, connection_with(&tables.connections, client), tag)
+        }
+        _ => unreachable!(),
+    }
+}
+
+// The row of a command on sinks and inputs, whosever they are.
+fn sink_row<P: Drop>(
+    alloc: Global,
+    tables: &Tables<P>,
+    tag: u32,
+    command: Command,
+) -> Result<Plan<Msg<P>, Group>, Refusal>
+    requires sinks { AreSinks [] tables.now.sinks }
+    requires inputs { AllByRecursion (IsInput tables.now.sinks tables.now.inputs_made) tables.now.inputs.items }
+    requires family { IsOnSinks command }
+    ensures { (me : Connection) → Plans result (row (state_of tables.now) me tag command) }
+{
+    match command {
+        Command::SinkInfo { sink } => told_sink(alloc, tables, &sink, tag),
+        Command::SinkInfoList => told_sinks(alloc, tables, tag),
+        Command::InputInfo { input } => told_input(alloc, tables, input, tag),
+        Command::InputInfoList => told_inputs(alloc, tables, tag),
+        Command::KillInput { input } => {
+            killed_input(alloc, tables, tables.inputs.input_named(input), tag)
+        }
+        Command::SinkVolume { sink, volume } => sink_volume(alloc, tables, &sink, &volume, tag),
+        Command::SinkMute { sink, on } => sink_mute(alloc, tables, &sink, on, tag),
+        Command::InputVolume { input, volume } => input_volume(alloc, tables, input, &volume, tag),
+        Command::InputMute { input, on } => input_mute(alloc, tables, input, on, tag),
+        Command::Move { input, sink } => moved(alloc, tables, input, &sink, tag),
+        _ => unreachable!(),
+    }
+}
+
+/// A command's row: what it gives on the parts of the state that it reads.
+pub(crate) fn row<P: Drop>(
+    alloc: Global,
+    tables: &Tables<P>,
+    me: &Connection,
+    tag: u32,
+    command: Command,
+) -> Result<Plan<Msg<P>, Group>, Refusal>
+    requires sinks { AreSinks [] tables.now.sinks }
+    requires inputs { AllByRecursion (IsInput tables.now.sinks tables.now.inputs_made) tables.now.inputs.items }
+    requires groups { AreGrouped [] tables.now.sinks tables.now.inputs.items tables.now.groups.items }
+    ensures { Plans result (row (state_of tables.now) me.now tag command) }
+{
+    match command {
+        Command::Create(_)
+        | Command::Delete { .. }
+        | Command::Drain { .. }
+        | Command::Latency { .. }
+        | Command::Cork { .. }
+        | Command::Flush { .. }
+        | Command::Trigger { .. }
+        | Command::Prebuf { .. }
+        | Command::Attributes { .. }
+        | Command::StreamName { .. }
+        | Command::UpdateStream { .. }
+        | Command::RemoveStream { .. } => stream_row(alloc, tables, me, tag, command),
+        Command::Auth { .. }
+        | Command::SetClientName { .. }
+        | Command::EmptyList { .. }
+        | Command::Subscribe { .. }
+        | Command::LookupSink { .. }
+        | Command::DefaultSink { .. }
+        | Command::ClientInfo { .. }
+        | Command::ClientInfoList
+        | Command::UpdateClient { .. }
+        | Command::RemoveClient { .. }
+        | Command::ServerInfo
+        | Command::KillClient { .. } => client_row(alloc, tables, me, tag, command),
+        Command::SinkInfo { .. }
+        | Command::SinkInfoList
+        | Command::InputInfo { .. }
+        | Command::InputInfoList
+        | Command::KillInput { .. }
+        | Command::SinkVolume { .. }
+        | Command::SinkMute { .. }
+        | Command::InputVolume { .. }
+        | Command::InputMute { .. }
+        | Command::Move { .. } => sink_row(alloc, tables, tag, command),
+    }
+}

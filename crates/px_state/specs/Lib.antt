@@ -1,0 +1,10 @@
+pub mod Effect
+pub mod Delayed
+pub mod State
+pub mod Tables
+pub mod Change
+pub mod Plan
+pub mod Out
+pub mod Lending
+pub mod Events
+pub mod Answered

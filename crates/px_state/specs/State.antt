@@ -1,0 +1,58 @@
+-- The state of the core: the names, the sinks, the connections with their streams, the requests that are answered later, and the messages that wait for each sink, with its group of volumes (PulseAudio: `pa_core`, and `pa_native_connection` of pulsecore/protocol-native.c; that messages wait as data is own).
+use Rattle.std.specs.Prelude.{ℕ, List, [], map, filter, length, replicate}
+use Rattle.px_names.specs.Names.{Naming}
+use Rattle.px_names.specs.declared.input_lists.InputList.{InputList}
+use Rattle.px_session.specs.declared.header.Header.{Header}
+use Rattle.px_session.specs.declared.header.SinkSpec.{SinkSpec}
+use Rattle.px_flat.specs.FlatVolume.{FlatGroup, new_group}
+use Rattle.px_msg.specs.declared.message.Msg.{Msg}
+use Rattle.px_plan.specs.declared.input.Connection.{Connection}
+use Rattle.px_plan.specs.declared.input.Input.{Input}
+use Rattle.px_plan.specs.declared.waiting.Waiting.{Waiting}
+pub use Rattle.px_plan.specs.Input.{has_number, connection_of, is_leaving, goes_on, belongs_to, is_bound_for, stays_on, is_settled, has_index, input_of, going, input_named, is_stream, stream_of, is_from, settled_on, bound_for, going_of}
+use Rattle.px_state.specs.declared.delayed.Delayed.{Delayed}
+pub use Rattle.px_plan.specs.Waiting.{is_as, waiting_of_others}
+
+-- P is the type of a parcel: a stream on its way from one sink to another
+pub record State (P : Type 0) : Type 0 where
+  -- the cookie, the sinks' names with the default sink, and the clients in order of connecting
+  pub names : Naming
+  -- the sinks in order of index
+  pub sinks : List SinkSpec
+  -- in order of connecting
+  pub connections : List Connection
+  -- in rising index
+  pub inputs : List Input
+  -- the property lists of the inputs
+  pub lists : List InputList
+  -- the requests that are answered later, in the order in which they were asked
+  pub waiting : List Waiting
+  -- for each sink the messages that wait for it, in order
+  pub posted : List (List (Msg P))
+  -- the messages that wait while their inputs move, in order
+  pub delayed : List (Delayed P)
+  -- for each sink its group: its volume, and those of the inputs on it
+  pub groups : List FlatGroup
+  -- how many clients and inputs were ever made: the next index of each
+  pub clients_made : ℕ
+  pub inputs_made : ℕ
+
+-- a core before its first step
+abbrev pub new_state : {P : Type 0} → Header → State P
+new_state header = record {
+  names = record { cookie = header.cookie; sinks = map (λ s. SinkSpec.name s) header.sinks; fallback = record { 0 = 0 }; clients = [] };
+  sinks = header.sinks;
+  connections = [];
+  inputs = [];
+  lists = [];
+  waiting = [];
+  posted = replicate (length header.sinks) [];
+  delayed = [];
+  groups = map (λ s. new_group (SinkSpec.spec s).channels) header.sinks;
+  clients_made = 0;
+  inputs_made = 0;
+}
+
+-- the connections that have ended
+abbrev pub marked_of : List Connection → List Connection
+marked_of connections = filter (λ c. Connection.marked c) connections

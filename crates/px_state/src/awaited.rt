@@ -1,0 +1,54 @@
+//! The requests that are answered later: those that are answered, or whose stream has ended, wait no more. Nothing takes memory.
+
+ghost use Rattle.std.specs.Prelude.{◌≡◌, ◌≤◌, length, vec_capacity};
+ghost use Rattle.std.specs.List.{position};
+ghost use Rattle.px_plan.specs.Waiting.{is_drain};
+ghost use Rattle.px_state.specs.State.{is_as, waiting_of_others};
+ghost use Rattle.px_state.specs.Change.{drop_first};
+
+use px_plan::{Awaited, Waiting};
+use px_types::InputId;
+
+// Whether one asks that a stream be drained, and not how far it is.
+fn is_drain(w: &Waiting) -> bool
+    ensures { result ≡ is_drain w.now.awaited }
+{
+    match w.awaited {
+        Awaited::Drained => true,
+        Awaited::Latency(_) => false,
+    }
+}
+
+// Whether another is as this one: of the same input, under the same tag, and asking for the same.
+fn is_as(w: &Waiting, other: &Waiting) -> bool
+    ensures { result ≡ is_as w.now other.now }
+{
+    other.input.0 == w.input.0 && other.tag == w.tag && is_drain(other) == is_drain(w)
+}
+
+// The place of the first that is as this one.
+fn place_of(waiting: &[Waiting], w: &Waiting) -> Option<usize>
+    ensures { result ≡ position (is_as w.now) waiting.now }
+{
+    waiting.iter().position(|other| is_as(w, other))
+}
+
+/// A request is answered: the first that is as this one waits no more.
+pub(crate) fn answer(waiting: &mut Vec<Waiting>, w: &Waiting)
+    ensures items { waiting.new.items ≡ drop_first (is_as w.now) waiting.old.items }
+    ensures capacity { vec_capacity waiting.new ≡ vec_capacity waiting.old }
+    ensures len { length waiting.new.items ≤ length waiting.old.items }
+{
+    if let Some(place) = place_of(waiting.as_slice(), w) {
+        waiting.remove(place);
+    }
+}
+
+/// An input has ended: what waited of it waits no more.
+pub(crate) fn give_up(waiting: &mut Vec<Waiting>, input: InputId)
+    ensures items { waiting.new.items ≡ waiting_of_others waiting.old.items input }
+    ensures capacity { vec_capacity waiting.new ≡ vec_capacity waiting.old }
+    ensures len { length waiting.new.items ≤ length waiting.old.items }
+{
+    waiting.retain(|w| w.input.0 != input.0);
+}

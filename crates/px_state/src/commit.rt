@@ -1,0 +1,363 @@
+//! Changes are made, one after the other, in room that was reserved for them.
+
+ghost use Rattle.std.specs.Prelude.{◌≡◌, ◌≤◌, ◌+◌, [], ℕ, length, vec_capacity, Some, IfOk, OnOk, OnErr};
+ghost use Rattle.std.specs.List.{find};
+ghost use Rattle.px_plan.specs.declared.change.Change.TheVariants.{Made, Described, Leaves, Moves, Arrives, Released, Said, Regrouped, Asked, Answered, Gone};
+ghost use Rattle.px_session.specs.HeaderRules.{AreSinks};
+ghost use Rattle.px_state.specs.Change.{changed, committed, defaulted, inputs_told, posting, delaying, saying, ending, departs, arrives, releasing};
+ghost use Rattle.px_state.specs.Delayed.{is_of};
+ghost use Rattle.px_state.specs.State.{input_of};
+ghost use Rattle.px_state.specs.Answered.{answered, answer_effects};
+ghost use Rattle.px_state.specs.Tables.{state_of, HasRoom, HavePlaces};
+
+use crate::change::CoreChange;
+use crate::delayed::Delayed;
+use crate::effects::{Effects, plan_effects};
+use crate::events::add_events;
+use crate::tables::Tables;
+use crate::{awaited, delayed, queues};
+use px_flat::Group;
+use px_inputs::InputTable;
+use px_msg::Msg;
+use px_names::Names;
+use px_plan::{Change, Input, Plan, Standing, Waiting};
+use px_tag::PropList;
+use px_targets::set_group;
+use px_types::{ConnId, InputId, Mem, SinkId};
+use std::alloc::Global;
+use std::collections::VecDeque;
+
+/// Room for so many changes. The state stays.
+pub(crate) fn reserve<P>(tables: &mut Tables<P>, more: usize) -> Mem<()>
+    ensures state { state_of tables.new ≡ state_of tables.old }
+    ensures room { OnOk result (HasRoom more tables.new) }
+{
+    tables.inputs.reserve(more)?;
+    tables.lists.reserve(more)?;
+    tables.waiting.reserve(more)?;
+    tables.delayed.reserve(more)?;
+    queues::reserve(&mut tables.posted, more)
+}
+
+// A message waits for a sink, behind the others.
+fn post<P: Drop>(tables: &mut Tables<P>, sink: SinkId, msg: Msg<P>)
+    requires { HavePlaces 1 tables.old.posted.items }
+    ensures state { state_of tables.new ≡ posting sink.0 msg (state_of tables.old) }
+    ensures room { (n : ℕ) → HavePlaces (n + 1) tables.old.posted.items → HavePlaces n tables.new.posted.items }
+    ensures inputs { tables.new.inputs ≡ tables.old.inputs }
+    ensures lists { tables.new.lists ≡ tables.old.lists }
+    ensures waiting { tables.new.waiting ≡ tables.old.waiting }
+    ensures delayed { tables.new.delayed ≡ tables.old.delayed }
+{
+    queues::post(&mut tables.posted, sink, msg);
+}
+
+// New buffer attributes that an input is told of are its own.
+fn note<P>(inputs: &mut InputTable, index: InputId, msg: &Msg<P>)
+    ensures items { inputs.new.items ≡ inputs_told index msg.now inputs.old.items }
+    ensures len { length inputs.new.items ≤ length inputs.old.items }
+    ensures places { inputs.new.places ≡ inputs.old.places }
+    ensures streams { inputs.old.streams ≤ inputs.new.streams + 1 }
+{
+    match msg {
+        Msg::Attr { attr, .. } => inputs.set_attr(index, *attr),
+        _ => {}
+    }
+}
+
+// A message waits while its input moves.
+fn delay<P: Drop>(tables: &mut Tables<P>, input: InputId, message: Msg<P>)
+    requires { length tables.old.delayed.items + 1 ≤ vec_capacity tables.old.delayed }
+    ensures state { state_of tables.new ≡ delaying input message (state_of tables.old) }
+    ensures len { length tables.new.delayed.items ≡ length tables.old.delayed.items + 1 }
+    ensures capacity { vec_capacity tables.new.delayed ≡ vec_capacity tables.old.delayed }
+    ensures posted { tables.new.posted ≡ tables.old.posted }
+    ensures inputs { tables.new.inputs ≡ tables.old.inputs }
+    ensures lists { tables.new.lists ≡ tables.old.lists }
+    ensures waiting { tables.new.waiting ≡ tables.old.waiting }
+{
+    tables.delayed.push_reserved(Delayed { input, message });
+}
+
+/// An input is told something: its sink is, where the input is settled there. Takes one place of the room.
+pub(crate) fn tell<P: Drop>(tables: &mut Tables<P>, x: &Input, msg: Msg<P>)
+    requires { HasRoom 1 tables.old }
+    ensures state { state_of tables.new ≡ saying x.now.standing x.now msg (state_of tables.old) }
+    ensures room { (n : ℕ) → HasRoom (n + 1) tables.old → HasRoom n tables.new }
+{
+    match x.standing {
+        Standing::Settled => {
+            note(&mut tables.inputs, x.index, &msg);
+            post(tables, x.sink, msg);
+        }
+        Standing::Moving(_) => {
+            note(&mut tables.inputs, x.index, &msg);
+            delay(tables, x.index, msg);
+        }
+        Standing::Leaving => {}
+    }
+}
+
+// A message for the sink of the input with an index.
+fn say<P: Drop>(tables: &mut Tables<P>, index: InputId, msg: Msg<P>)
+    requires { HasRoom 1 tables.old }
+    ensures state { state_of tables.new ≡ changed (state_of tables.old) (Said index msg) }
+    ensures room { (n : ℕ) → HasRoom (n + 1) tables.old → HasRoom n tables.new }
+{
+    match tables.inputs.input_of(index) {
+        None => {}
+        Some(x) => tell(tables, &x, msg),
+    }
+}
+
+// An input ends: a settled one's sink is to give up its stream. What waited of it waits no more.
+fn end<P: Drop>(tables: &mut Tables<P>, x: &Input)
+    requires { HasRoom 1 tables.old }
+    ensures state { state_of tables.new ≡ ending x.now.standing x.now (state_of tables.old) }
+    ensures room { (n : ℕ) → HasRoom (n + 1) tables.old → HasRoom n tables.new }
+{
+    match x.standing {
+        Standing::Settled => {
+            tables.inputs.leave(x.index);
+            awaited::give_up(&mut tables.waiting, x.index);
+            delayed::give_up(&mut tables.delayed, x.index);
+            post(tables, x.sink, Msg::Detach { input: x.index });
+        }
+        Standing::Moving(_) => {
+            tables.inputs.leave(x.index);
+            awaited::give_up(&mut tables.waiting, x.index);
+            delayed::give_up(&mut tables.delayed, x.index);
+        }
+        Standing::Leaving => {}
+    }
+}
+
+// The input with an index ends.
+fn leave<P: Drop>(tables: &mut Tables<P>, index: InputId)
+    requires { HasRoom 1 tables.old }
+    ensures state { state_of tables.new ≡ changed (state_of tables.old) (Leaves index) }
+    ensures room { (n : ℕ) → HasRoom (n + 1) tables.old → HasRoom n tables.new }
+{
+    match tables.inputs.input_of(index) {
+        None => {}
+        Some(x) => end(tables, &x),
+    }
+}
+
+// A settled input is to be on a sink: the one that it is on is to give up its stream.
+fn depart<P: Drop>(tables: &mut Tables<P>, x: &Input, to: SinkId)
+    requires here { input_of tables.old.inputs.items x.now.index ≡ Some x.now }
+    requires room { HasRoom 1 tables.old }
+    ensures state { state_of tables.new ≡ departs to x.now.standing x.now (state_of tables.old) }
+    ensures room { (n : ℕ) → HasRoom (n + 1) tables.old → HasRoom n tables.new }
+{
+    match x.standing {
+        Standing::Settled => {
+            tables.inputs.depart(x.index, to);
+            post(tables, x.sink, Msg::Detach { input: x.index });
+        }
+        Standing::Moving(_) => {}
+        Standing::Leaving => {}
+    }
+}
+
+// The input with an index is to be on a sink.
+fn send_off<P: Drop>(tables: &mut Tables<P>, index: InputId, to: SinkId)
+    requires { HasRoom 1 tables.old }
+    ensures state { state_of tables.new ≡ changed (state_of tables.old) (Moves index to) }
+    ensures room { (n : ℕ) → HasRoom (n + 1) tables.old → HasRoom n tables.new }
+{
+    match tables.inputs.input_of(index) {
+        None => {}
+        Some(x) => depart(tables, &x, to),
+    }
+}
+
+// An input that moves is on the sink that it moves to, which is told this.
+fn arrive<P: Drop>(tables: &mut Tables<P>, x: &Input, msg: Msg<P>)
+    requires here { input_of tables.old.inputs.items x.now.index ≡ Some x.now }
+    requires room { HasRoom 1 tables.old }
+    ensures state { state_of tables.new ≡ arrives x.now.standing x.now msg (state_of tables.old) }
+    ensures room { (n : ℕ) → HasRoom (n + 1) tables.old → HasRoom n tables.new }
+{
+    match x.standing {
+        Standing::Moving(to) => {
+            tables.inputs.arrive(x.index, to);
+            post(tables, to, msg);
+        }
+        Standing::Settled => {}
+        Standing::Leaving => {}
+    }
+}
+
+// The input with an index is on the sink that it moves to.
+fn take_in<P: Drop>(tables: &mut Tables<P>, index: InputId, msg: Msg<P>)
+    requires { HasRoom 1 tables.old }
+    ensures state { state_of tables.new ≡ changed (state_of tables.old) (Arrives index msg) }
+    ensures room { (n : ℕ) → HasRoom (n + 1) tables.old → HasRoom n tables.new }
+{
+    match tables.inputs.input_of(index) {
+        None => {}
+        Some(x) => arrive(tables, &x, msg),
+    }
+}
+
+// The first message of an input that waited while it moved waits for the sink that it is on.
+fn release<P: Drop>(tables: &mut Tables<P>, x: &Input)
+    requires { HasRoom 1 tables.old }
+    ensures state { state_of tables.new ≡ releasing x.now (find (is_of x.now.index) tables.old.delayed.items) (state_of tables.old) }
+    ensures room { (n : ℕ) → HasRoom (n + 1) tables.old → HasRoom n tables.new }
+{
+    match delayed::take_first(&mut tables.delayed, x.index) {
+        None => {}
+        Some(msg) => post(tables, x.sink, msg),
+    }
+}
+
+// And of the input with an index.
+fn let_on<P: Drop>(tables: &mut Tables<P>, index: InputId)
+    requires { HasRoom 1 tables.old }
+    ensures state { state_of tables.new ≡ changed (state_of tables.old) (Released index) }
+    ensures room { (n : ℕ) → HasRoom (n + 1) tables.old → HasRoom n tables.new }
+{
+    match tables.inputs.input_of(index) {
+        None => {}
+        Some(x) => release(tables, &x),
+    }
+}
+
+// A new input is there, and its sink is to have its stream.
+fn make<P: Drop>(tables: &mut Tables<P>, x: Input, new: Msg<P>, streams: u32, inputs: u32)
+    requires { HasRoom 1 tables.old }
+    ensures state { state_of tables.new ≡ changed (state_of tables.old) (Made x new streams inputs) }
+    ensures room { (n : ℕ) → HasRoom (n + 1) tables.old → HasRoom n tables.new }
+{
+    let sink = x.sink;
+    px_inputs::set_streams(&mut tables.connections, x.conn, streams);
+    tables.inputs.push(x);
+    tables.inputs_made = inputs;
+    post(tables, sink, new);
+}
+
+// An input has this property list.
+fn describe<P>(tables: &mut Tables<P>, index: InputId, list: PropList)
+    requires { HasRoom 1 tables.old }
+    ensures state { state_of tables.new ≡ changed (state_of tables.old) (Described index list) }
+    ensures room { (n : ℕ) → HasRoom (n + 1) tables.old → HasRoom n tables.new }
+{
+    tables.lists.set(index, list);
+}
+
+// A sink has this group, and is to hear this.
+fn regroup<P: Drop>(tables: &mut Tables<P>, sink: SinkId, group: Group, msg: Msg<P>)
+    requires { HasRoom 1 tables.old }
+    ensures state { state_of tables.new ≡ changed (state_of tables.old) (Regrouped sink group msg) }
+    ensures room { (n : ℕ) → HasRoom (n + 1) tables.old → HasRoom n tables.new }
+{
+    set_group(&mut tables.groups, sink, group);
+    post(tables, sink, msg);
+}
+
+// A request is answered later.
+fn ask<P>(tables: &mut Tables<P>, w: Waiting)
+    requires { HasRoom 1 tables.old }
+    ensures state { state_of tables.new ≡ changed (state_of tables.old) (Asked w) }
+    ensures room { (n : ℕ) → HasRoom (n + 1) tables.old → HasRoom n tables.new }
+{
+    tables.waiting.push_reserved(w);
+}
+
+// A request that waited is answered.
+fn answer<P>(tables: &mut Tables<P>, w: &Waiting)
+    ensures state { state_of tables.new ≡ changed (state_of tables.old) (Answered w.now) }
+    ensures room { (n : ℕ) → HasRoom (n + 1) tables.old → HasRoom n tables.new }
+{
+    awaited::answer(&mut tables.waiting, w);
+}
+
+// An ended input and its property list are given up.
+fn give_up<P: Drop>(tables: &mut Tables<P>, index: InputId)
+    requires { HasRoom 1 tables.old }
+    ensures state { state_of tables.new ≡ changed (state_of tables.old) (Gone index) }
+    ensures room { (n : ℕ) → HasRoom (n + 1) tables.old → HasRoom n tables.new }
+{
+    tables.inputs.remove(index);
+    tables.lists.remove(index);
+}
+
+// A sink that is there is the default sink.
+fn make_default(names: &mut Names, sink: SinkId)
+    ensures { names.new ≡ defaulted sink names.old }
+{
+    if usize::from(sink.0) < names.sinks().as_slice().len() {
+        names.set_default(sink);
+    }
+}
+
+/// One change, which takes one place of the room. Takes no memory.
+pub(crate) fn apply<P: Drop>(tables: &mut Tables<P>, change: CoreChange<P>)
+    requires { HasRoom 1 tables.old }
+    ensures state { state_of tables.new ≡ changed (state_of tables.old) change }
+    ensures room { (n : ℕ) → HasRoom (n + 1) tables.old → HasRoom n tables.new }
+{
+    match change {
+        Change::Authed(conn, version) => {
+            px_inputs::set_version(&mut tables.connections, conn, version);
+        }
+        Change::Named(conn, list) => tables.names.set_list(conn, list),
+        Change::Masked(conn, mask) => tables.names.set_mask(conn, mask),
+        Change::Defaulted(sink) => make_default(&mut tables.names, sink),
+        Change::Made {
+            input,
+            new,
+            streams,
+            inputs,
+        } => make(tables, input, new, streams, inputs),
+        Change::Described(index, list) => describe(tables, index, list),
+        Change::Leaves(index) => leave(tables, index),
+        Change::Moves(index, to) => send_off(tables, index, to),
+        Change::Arrives(index, msg) => take_in(tables, index, msg),
+        Change::Released(index) => let_on(tables, index),
+        Change::Said(index, msg) => say(tables, index, msg),
+        Change::Regrouped(sink, group, msg) => regroup(tables, sink, group, msg),
+        Change::Asked(w) => ask(tables, w),
+        Change::Answered(w) => answer(tables, &w),
+        Change::Gone(index) => give_up(tables, index),
+        Change::Ended { conn, .. } => px_inputs::mark(&mut tables.connections, conn),
+        Change::Forgotten(conn) => {
+            px_inputs::forget(&mut tables.connections, conn);
+            tables.names.forget(conn);
+        }
+    }
+}
+
+/// All changes, in order. Takes no memory.
+pub(crate) fn commit<P: Drop>(tables: &mut Tables<P>, changes: Vec<CoreChange<P>>)
+    requires { HasRoom (length changes.items) tables.old }
+    ensures state { state_of tables.new ≡ committed (state_of tables.old) changes.items }
+{
+    let mut changes = VecDeque::from_vec(changes);
+    while let Some(change) = changes.pop_front() {
+        apply(tables, change);
+    }
+}
+
+/// The changes of a plan are made, and its effects are left; the reply goes to who asked. Where there is no memory for them
+/// nothing has changed.
+pub fn finish<P: Drop>(
+    alloc: Global,
+    tables: &mut Tables<P>,
+    asker: Option<ConnId>,
+    plan: Plan<Msg<P>, Group>,
+) -> Mem<Effects>
+    requires { AreSinks [] tables.old.sinks }
+    ensures effects { IfOk result (λ effects. effects ≡ answer_effects asker (state_of tables.old) plan) }
+    ensures after { OnOk result (state_of tables.new ≡ answered (state_of tables.old) plan) }
+    ensures err { OnErr result (state_of tables.new ≡ state_of tables.old) }
+{
+    let mut effects = plan_effects(alloc, asker, &plan)?;
+    add_events(alloc, &mut effects, tables, &plan.changes)?;
+    reserve(tables, plan.changes.len())?;
+    commit(tables, plan.changes);
+    Ok(effects)
+}

@@ -1,0 +1,92 @@
+//! What a step tells those who subscribed, reckoned before it is made: once it is, nothing may take memory.
+
+ghost use Rattle.std.specs.Prelude.{◌≡◌, ◌++◌, ◌∷◌, [], ◌+◌, ◌<◌, IfOk, OnOk};
+ghost use Rattle.px_session.specs.HeaderRules.{AreSinks};
+ghost use Rattle.px_msg.specs.declared.message.Msg.{Msg};
+ghost use Rattle.px_plan.specs.declared.change.Change.TheVariants.{Arrives};
+ghost use Rattle.px_state.specs.Change.{committed};
+ghost use Rattle.px_state.specs.Change.{joined};
+ghost use Rattle.px_state.specs.Events.{scene_of, step_events};
+ghost use Rattle.px_state.specs.Tables.{state_of};
+
+use crate::change::CoreChange;
+use crate::effects::{Effects, send_all};
+use crate::tables::Tables;
+use px_shown::{Scene, are_deaf, are_quiet, nobody_hears};
+use px_types::{ConnId, InputId, Mem};
+use std::alloc::Global;
+
+// What infos and subscriptions read of the state.
+fn scene_of<P>(alloc: Global, tables: &Tables<P>) -> Mem<Scene>
+    ensures { IfOk result (λ scene. scene ≡ scene_of (state_of tables.now)) }
+{
+    Scene::of(
+        alloc,
+        &tables.names,
+        &tables.connections,
+        tables.inputs.as_slice(),
+        &tables.lists,
+        &tables.groups,
+        tables.inputs_made,
+    )
+}
+
+/// What those are told who subscribe once the changes are made.
+pub(crate) fn add_events<P>(
+    alloc: Global,
+    effects: &mut Effects,
+    tables: &Tables<P>,
+    changes: &[CoreChange<P>],
+) -> Mem<()>
+    requires { AreSinks [] tables.now.sinks }
+    ensures { OnOk result (effects.new ≡ effects.old ++ step_events (state_of tables.now) (committed (state_of tables.now) changes.now)) }
+{
+    if are_quiet(changes) {
+        return Ok(());
+    }
+    if nobody_hears(tables.names.clients(), changes) {
+        return Ok(());
+    }
+    let scene = scene_of(alloc, tables)?;
+    let told = scene.told_of(alloc, tables.sinks.as_slice(), tables.clients_made, changes)?;
+    send_all(alloc, effects, &told)?;
+    Ok(())
+}
+
+/// What those are told who subscribe once an input is on the sink that it moves to, and the changes after that are made.
+pub(crate) fn add_arrival_events<P>(
+    alloc: Global,
+    effects: &mut Effects,
+    tables: &Tables<P>,
+    input: InputId,
+    later: &[CoreChange<P>],
+) -> Mem<()>
+    requires { AreSinks [] tables.now.sinks }
+    ensures { OnOk result ((m : Msg P) → effects.new ≡ effects.old ++ step_events (state_of tables.now) (committed (state_of tables.now) (Arrives input m ∷ later.now))) }
+{
+    if nobody_hears(tables.names.clients(), later) {
+        return Ok(());
+    }
+    let scene = scene_of(alloc, tables)?;
+    let sinks = tables.sinks.as_slice();
+    let told = scene.told_arrived(alloc, sinks, tables.clients_made, input, later)?;
+    send_all(alloc, effects, &told)?;
+    Ok(())
+}
+
+/// What those are told who subscribe, of a client that connects.
+pub fn joined_events<P>(alloc: Global, tables: &Tables<P>, conn: ConnId) -> Mem<Effects>
+    requires sinks { AreSinks [] tables.now.sinks }
+    requires room { tables.now.clients_made < 4294967295 }
+    ensures { IfOk result (λ effects. effects ≡ step_events (state_of tables.now) (joined conn (state_of tables.now))) }
+{
+    if are_deaf(tables.names.clients()) {
+        return Ok(Effects::new(alloc));
+    }
+    let client = tables.clients_made;
+    let scene = scene_of(alloc, tables)?;
+    let told = scene.told_joined(alloc, tables.sinks.as_slice(), client + 1, conn, client)?;
+    let mut effects = Effects::new(alloc);
+    send_all(alloc, &mut effects, &told)?;
+    Ok(effects)
+}

@@ -1,0 +1,67 @@
+//! Messages are handed out to the sinks, and those that were are put back. Own: PulseAudio's `pa_asyncmsgq` keeps its
+//! messages itself.
+
+ghost use Rattle.std.specs.Prelude.{◌≡◌, ◌<◌, length};
+ghost use Rattle.px_state.specs.Out.{inputs_past, inputs_before, waiting_for, next_for, sent, unsent, room_for};
+ghost use Rattle.px_state.specs.Tables.{state_of, core_of, rooms_of};
+
+use crate::queues;
+use crate::tables::Tables;
+use px_inputs::InputTable;
+use px_msg::Msg;
+use px_plan::Way;
+use px_types::SinkId;
+
+// The way of the input that a message names, once it was handed out.
+fn pass<P>(inputs: &mut InputTable, msg: &Msg<P>)
+    ensures { inputs.new.items ≡ inputs_past msg.now inputs.old.items }
+{
+    match msg {
+        Msg::New(stream) => inputs.set_way(stream.input, Way::There),
+        Msg::Attach { input, .. } => inputs.set_way(*input, Way::There),
+        Msg::Detach { input } => inputs.set_way(*input, Way::Left),
+        _ => {}
+    }
+}
+
+// The way of the input that a message names, before it is handed out.
+fn pass_back<P>(inputs: &mut InputTable, msg: &Msg<P>)
+    ensures { inputs.new.items ≡ inputs_before msg.now inputs.old.items }
+{
+    match msg {
+        Msg::New(stream) => inputs.set_way(stream.input, Way::Coming),
+        Msg::Attach { input, .. } => inputs.set_way(*input, Way::Coming),
+        Msg::Detach { input } => inputs.set_way(*input, Way::There),
+        _ => {}
+    }
+}
+
+/// How many messages wait for a sink; 0 for one that isn't there. Takes no memory.
+pub fn outgoing<P>(tables: &Tables<P>, sink: SinkId) -> usize
+    ensures { result ≡ length (waiting_for (state_of tables.now) sink) }
+{
+    queues::count(&tables.posted, sink)
+}
+
+/// The first message that waits for a sink is handed out. Takes no memory.
+pub fn hand_out<P>(tables: &mut Tables<P>, sink: SinkId) -> Option<Msg<P>>
+    ensures next { result ≡ next_for (state_of tables.old) sink }
+    ensures after { core_of tables.new ≡ sent sink (core_of tables.old) }
+{
+    match queues::take_first(&mut tables.posted, sink) {
+        None => None,
+        Some(msg) => {
+            pass(&mut tables.inputs, &msg);
+            Some(msg)
+        }
+    }
+}
+
+/// A message that was handed out is put back, before the others. Takes no memory.
+pub fn put_back<P: Drop>(tables: &mut Tables<P>, sink: SinkId, msg: Msg<P>)
+    requires { 0 < room_for sink (rooms_of tables.old.posted.items) }
+    ensures after { core_of tables.new ≡ unsent sink msg (core_of tables.old) }
+{
+    pass_back(&mut tables.inputs, &msg);
+    queues::put_first(&mut tables.posted, sink, msg);
+}

@@ -1,0 +1,111 @@
+//! The tables of a server before its first step.
+
+ghost use Rattle.std.specs.Prelude.{◌≡◌, ◌++◌, ◌∷◌, [], map, replicate, length, List, IfOk, OnOk};
+ghost use Rattle.px_session.specs.declared.header.SinkSpec.{SinkSpec};
+ghost use Rattle.px_session.specs.HeaderRules.{IsHeader, AreSinks};
+ghost use Rattle.std.specs.List.{AllByRecursion};
+ghost use Rattle.px_flat.specs.FlatVolume.{new_group};
+ghost use Rattle.px_targets.specs.Sinks.{IsOfHeader};
+ghost use Rattle.px_state.specs.State.{new_state};
+ghost use Rattle.px_state.specs.Tables.{lists_of, state_of};
+
+use crate::tables::Tables;
+use px_flat::Group;
+use px_inputs::InputTable;
+use px_msg::Msg;
+use px_names::{InputLists, Names, SinkNames};
+use px_session::{Header, SinkSpec, SinkSpecs};
+use px_types::{Mem, Text};
+use std::alloc::Global;
+use std::collections::VecDeque;
+
+// A sink of the header once more.
+fn copied(alloc: Global, sink: &SinkSpec) -> Mem<SinkSpec>
+    ensures { IfOk result (λ made. made ≡ sink.now) }
+{
+    Ok(SinkSpec {
+        name: Text::copied(alloc, sink.name.as_slice())?,
+        spec: sink.spec,
+        map: sink.map,
+        guard: sink.guard,
+        depth: sink.depth,
+    })
+}
+
+// The sinks of the header once more.
+fn copied_sinks(alloc: Global, sinks: &[SinkSpec]) -> Mem<Vec<SinkSpec>>
+    ensures { IfOk result (λ made. made.items ≡ sinks.now) }
+{
+    let mut made = Vec::new(alloc);
+    for sink in sinks {
+        made.push(copied(alloc, sink)?)?;
+    }
+    Ok(made)
+}
+
+// The names of the sinks.
+fn names_of(alloc: Global, sinks: &[SinkSpec]) -> Mem<Vec<Text>>
+    ensures { IfOk result (λ made. made.items ≡ map (λ s. SinkSpec.name s) sinks.now) }
+{
+    let mut made = Vec::new(alloc);
+    for sink in sinks {
+        made.push(Text::copied(alloc, sink.name.as_slice())?)?;
+    }
+    Ok(made)
+}
+
+// A queue with no message for each sink.
+fn queues_for<P: Drop>(alloc: Global, sinks: &[SinkSpec]) -> Mem<Vec<VecDeque<Msg<P>>>>
+    ensures { IfOk result (λ made. lists_of made.items ≡ replicate (length sinks.now) []) }
+{
+    let mut made = Vec::new(alloc);
+    for _sink in sinks {
+        made.push(VecDeque::new(alloc))?;
+    }
+    Ok(made)
+}
+
+// The group of a sink that no input is on.
+fn group_for(alloc: Global, sink: &SinkSpec) -> Group
+    requires { IsOfHeader sink.now }
+    ensures { result ≡ new_group sink.now.spec.channels }
+{
+    Group::new(alloc, sink.spec.channels)
+}
+
+// Such a group for each sink.
+#[tactic(auto, using(px_targets::proofs::Sinks::next_of_header))]
+fn groups_for(alloc: Global, sinks: &[SinkSpec]) -> Mem<Vec<Group>>
+    requires { AllByRecursion IsOfHeader sinks.now }
+    ensures { IfOk result (λ made. made.items ≡ map (λ s. new_group (SinkSpec.spec s).channels) sinks.now) }
+{
+    let mut made = Vec::new(alloc);
+    for sink in sinks {
+        made.push(group_for(alloc, sink))?;
+    }
+    Ok(made)
+}
+
+/// The tables of a server with this header: no client, no input and no message.
+#[tactic(auto, using(px_targets::proofs::Sinks::each_of_header))]
+pub fn new_tables<P: Drop>(alloc: Global, header: &Header) -> Mem<Tables<P>>
+    requires { IsHeader header.now }
+    ensures state { IfOk result (λ tables. state_of tables ≡ new_state header.now) }
+    ensures sinks { IfOk result (λ tables. AreSinks [] tables.sinks) }
+{
+    let sinks = header.sinks.as_slice();
+    let names = SinkNames::new(names_of(alloc, sinks)?).unwrap();
+    Ok(Tables {
+        names: Names::new(alloc, header.cookie.as_slice(), &names)?,
+        sinks: SinkSpecs::from_vec(copied_sinks(alloc, sinks)?),
+        connections: Vec::new(alloc),
+        inputs: InputTable::new(alloc),
+        lists: InputLists::new(alloc),
+        waiting: Vec::new(alloc),
+        posted: queues_for(alloc, sinks)?,
+        delayed: Vec::new(alloc),
+        groups: groups_for(alloc, sinks)?,
+        clients_made: 0,
+        inputs_made: 0,
+    })
+}

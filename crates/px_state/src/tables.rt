@@ -1,0 +1,35 @@
+//! The tables that the state is kept in.
+
+use crate::delayed::Delayed;
+use px_flat::Group;
+use px_inputs::InputTable;
+use px_msg::Msg;
+use px_names::{InputLists, Names};
+use px_plan::{Connection, Waiting};
+use px_session::SinkSpecs;
+use std::collections::VecDeque;
+
+/// The state of the core. `P` is the type of a parcel: a stream on its way from one sink to another.
+#[derive(Drop)]
+pub struct Tables<P> {
+    pub names: Names,
+    /// In order of index.
+    pub sinks: SinkSpecs,
+    /// In order of connecting.
+    pub connections: Vec<Connection>,
+    /// In rising index.
+    pub inputs: InputTable,
+    /// The property lists of the inputs.
+    pub lists: InputLists,
+    /// The requests that are answered later, in the order in which they were asked.
+    pub waiting: Vec<Waiting>,
+    /// The messages that wait for each sink, in order.
+    pub posted: Vec<VecDeque<Msg<P>>>,
+    /// The messages that wait while their inputs move, in order.
+    pub delayed: Vec<Delayed<P>>,
+    /// The group of volumes of each sink.
+    pub groups: Vec<Group>,
+    /// How many clients were ever made, and how many inputs.
+    pub clients_made: u32,
+    pub inputs_made: u32,
+}
