@@ -1,7 +1,7 @@
 -- A device and the sink whose frames it plays.
-use Rattle.std.proofs.Common.{◌≡◌, ℕ, zero, suc, ◌+◌, ◌-◌, ◌*◌, ◌/◌, ◌^◌, ◌≤◌, List, [], ◌∷◌, ◌++◌, length, take, drop, Option, Some, None, refl, ap, sym, ◌∙◌, subst, arith, length-append, length-take, length-drop}
+use Rattle.std.proofs.Common.{◌≡◌, ℕ, zero, suc, ◌+◌, ◌-◌, ◌*◌, ◌/◌, ◌^◌, ◌≤◌, List, [], ◌∷◌, ◌++◌, length, take, drop, Option, Some, None, refl, ap, sym, ◌∙◌, subst, arith, length-append, length-drop}
 use Rattle.std.proofs.Math.Nat.{add-mul, mul-div_cancel}
-use Rattle.std.proofs.lemmas.List.{take-take, take-append-le, take_all, drop_all, take-append-drop}
+use Rattle.std.proofs.lemmas.List.{take_all, drop_all, take-append-drop}
 use Rattle.std.proofs.lemmas.List.Folds.{concat-append}
 use Rattle.std.proofs.Math.Seq.{drop-append-add, take-append-add}
 use Rattle.std.specs.List.{concat}
@@ -12,7 +12,7 @@ use Rattle.px_model.specs.Message.{Message}
 use Rattle.px_model.specs.Stream.{Stream}
 use Rattle.px_model.specs.Mix.{Samples}
 use Rattle.px_model.specs.Sink.{Sink, IsSink}
-use Rattle.px_model.specs.Turn.{settled, halted, next_horizon, with_messages, turned, played_by, fresh_mix, going_notices, asked_notices, notices_of_messages, turn_notices, stopped_notices}
+use Rattle.px_model.specs.Turn.{settled, halted, next_horizon, with_messages, turned, played_by, going_notices, asked_notices, notices_of_messages, turn_notices, stopped_notices}
 use Rattle.px_model.specs.Notice.{Notice}
 use Rattle.std.specs.Prelude.{flat_map}
 use Rattle.px_lane.specs.Needed.{needed}
@@ -101,41 +101,44 @@ kept_told size k old new are same (Some bytes) h =
     ∙ sym (concat-append (take k new) (drop k new))
     ∙ ap concat (take-append-drop k new)
 
--- the frames below the horizon stay in the buffer
-same_kept : (k : ℕ) (old fresh : List Frame) → k ≤ length old → take k (take k old ++ fresh) ≡ take k old
-same_kept k old fresh fit =
-    take-append-le k (take k old) fresh (omega (arith, length-take k old, fit)) ∙ take-take k k old (omega arith)
-
-put_fits : (d : DeviceState) (sink : Sink) (n k size : ℕ) (new : List Frame) → size ≡ frame_size sink.spec → k ≡ next_horizon sink n - (sink.consumed + n) → IsSink sink → sink.depth ≤ 65536 → 1 ≤ size
-    → n ≤ sink.filled - sink.consumed → sink.filled ≤ 2 ^ 60 → AreFramesOf size new → length new ≡ sink.depth → IsAttached d (settled sink n)
-    → IsPut d (next_horizon sink n) (concat (drop k new)) × (next_horizon sink n + frames_in d (concat (drop k new)) ≡ sink.consumed + n + sink.depth)
-put_fits d sink n k size new width place keeps low some there few are full at =
+put_fits : (d : DeviceState) (sink : Sink) (n stay size : ℕ) (new : List Frame) → size ≡ frame_size sink.spec → IsSink sink → sink.depth ≤ 65536 → 1 ≤ size
+    → n ≤ sink.filled - sink.consumed → stay ≤ sink.filled - next_horizon sink n → sink.filled ≤ 2 ^ 60 → AreFramesOf size new → length new ≡ sink.depth → IsAttached d (settled sink n)
+    → IsPut d (next_horizon sink n + stay) (concat (drop ((next_horizon sink n - (sink.consumed + n)) + stay) new))
+    × (next_horizon sink n + stay + frames_in d (concat (drop ((next_horizon sink n - (sink.consumed + n)) + stay) new)) ≡ sink.consumed + n + sink.depth)
+put_fits d sink n stay size new width keeps low some there within few are full at =
+    let k : ℕ = (next_horizon sink n - (sink.consumed + n)) + stay in
     let frame : d.frame ≡ size = at.frame ∙ sym width in
     let long : length (concat (drop k new)) ≡ length (drop k new) * size = length_concat size (drop k new) (past_whole size k new are) in
     let count : length (concat (drop k new)) / d.frame ≡ length (drop k new) =
     ap (λ (x : ℕ). x / d.frame) long ∙ ap (λ (f : ℕ). length (drop k new) * size / f) frame ∙ mul-div_cancel (length (drop k new)) some in
     let left = length-drop k new in
     let first : sink.consumed ≤ sink.filled = omega (arith, keeps.consumed_first, keeps.horizon_first) in
-    let end : next_horizon sink n + length (concat (drop k new)) / d.frame ≡ sink.consumed + n + sink.depth =
-    omega (arith, count, left, full, place, first, there, keeps.filled_bounded) in (
+    let end : next_horizon sink n + stay + length (concat (drop k new)) / d.frame ≡ sink.consumed + n + sink.depth =
+    omega (arith, count, left, full, first, there, within, keeps.filled_bounded) in (
       record {
         whole = long ∙ sym (ap (λ (x : ℕ). x * d.frame) count ∙ ap (λ (f : ℕ). length (drop k new) * f) frame);
         not_near = omega (arith, at.filled, at.consumed, at.guard);
-        no_gap = omega (arith, at.filled);
+        no_gap = omega (arith, at.filled, within, first, there);
         fit = omega (arith, end, at.consumed, at.depth);
         countable = omega (arith, end, there, first, few, low);
       },
       end,
     )
 
-pub put_there : (samples : Samples) (d : DeviceState) (sink : Sink) (n : ℕ) (messages : List (Message Stream)) → IsLane sink → IsLane (turned samples sink n messages)
-    → n ≤ sink.filled - sink.consumed → sink.filled ≤ 2 ^ 60 → IsAttached d (settled sink n)
-    → IsPut d (next_horizon sink n) (concat (drop (next_horizon sink n - (sink.consumed + n)) (turned samples sink n messages).buffer))
-    × IsAttached (put_at (next_horizon sink n) (concat (drop (next_horizon sink n - (sink.consumed + n)) (turned samples sink n messages).buffer)) d) (turned samples sink n messages)
-put_there samples d sink n messages lane after there few at =
+-- frames are put behind those that stay, and the device has the sink's buffer then
+pub put_there : (samples : Samples) (d : DeviceState) (sink : Sink) (n stay : ℕ) (messages : List (Message Stream)) → IsLane sink → IsLane (turned samples sink n messages)
+    → n ≤ sink.filled - sink.consumed → stay ≤ sink.filled - next_horizon sink n → sink.filled ≤ 2 ^ 60
+    → take ((next_horizon sink n - (sink.consumed + n)) + stay) (turned samples sink n messages).buffer ≡ take ((next_horizon sink n - (sink.consumed + n)) + stay) (drop n sink.buffer)
+    → IsAttached d (settled sink n)
+    → IsPut d (next_horizon sink n + stay) (concat (drop ((next_horizon sink n - (sink.consumed + n)) + stay) (turned samples sink n messages).buffer))
+    × IsAttached (put_at (next_horizon sink n + stay) (concat (drop ((next_horizon sink n - (sink.consumed + n)) + stay) (turned samples sink n messages).buffer)) d) (turned samples sink n messages)
+put_there samples d sink n stay messages lane after there within few same at =
+    let k : ℕ = (next_horizon sink n - (sink.consumed + n)) + stay in
+    let new : List Frame = (turned samples sink n messages).buffer in
     let first : sink.consumed ≤ sink.filled = omega (arith, lane.kept.consumed_first, lane.kept.horizon_first) in
-    let full : length (turned samples sink n messages).buffer ≡ sink.depth = IsSink.buffer_full after.kept ∙ omega arith in
-    let fits = put_fits d sink n (next_horizon sink n - (sink.consumed + n)) (frame_size sink.spec) (turned samples sink n messages).buffer refl refl lane.kept lane.low_depth lane.some_bytes there few after.whole full at in (
+    let full : length new ≡ sink.depth = IsSink.buffer_full after.kept ∙ omega arith in
+    let place : next_horizon sink n + stay - d.consumed ≡ k = omega (arith, at.consumed, first, there, lane.kept.consumed_first, lane.kept.horizon_first) in
+    let fits = put_fits d sink n stay (frame_size sink.spec) new refl lane.kept lane.low_depth lane.some_bytes there within few after.whole full at in (
       fits.0,
       record {
         frame = at.frame;
@@ -143,12 +146,9 @@ put_there samples d sink n messages lane after there few at =
         depth = at.depth;
         consumed = at.consumed;
         filled = fits.1;
-        buffer = subst (λ (c : ℕ). WhereTold (put_from ((next_horizon sink n - c) * d.frame) (concat (drop (next_horizon sink n - (sink.consumed + n)) (turned samples sink n messages).buffer)) d.buffer) (λ bytes. bytes ≡ concat (turned samples sink n messages).buffer)) (sym at.consumed)
-            (subst (λ (w : ℕ). WhereTold (put_from ((next_horizon sink n - (sink.consumed + n)) * w) (concat (drop (next_horizon sink n - (sink.consumed + n)) (turned samples sink n messages).buffer)) d.buffer) (λ bytes. bytes ≡ concat (turned samples sink n messages).buffer)) (sym at.frame)
-            (kept_told (frame_size sink.spec) (next_horizon sink n - (sink.consumed + n)) (drop n sink.buffer) (turned samples sink n messages).buffer (past_whole (frame_size sink.spec) n sink.buffer lane.whole)
-            (same_kept (next_horizon sink n - (sink.consumed + n)) (drop n sink.buffer) (fresh_mix samples (with_messages (settled sink n) messages) (sink.consumed + n + sink.depth - next_horizon sink n))
-            (omega (arith, length-drop n sink.buffer, lane.kept.buffer_full, first, there)))
-            d.buffer at.buffer));
+        buffer = subst (λ (c : ℕ). WhereTold (put_from (c * d.frame) (concat (drop k new)) d.buffer) (λ bytes. bytes ≡ concat new)) (sym place)
+            (subst (λ (w : ℕ). WhereTold (put_from (k * w) (concat (drop k new)) d.buffer) (λ bytes. bytes ≡ concat new)) (sym at.frame)
+            (kept_told (frame_size sink.spec) k (drop n sink.buffer) new (past_whole (frame_size sink.spec) n sink.buffer lane.whole) same d.buffer at.buffer));
       },
     )
 

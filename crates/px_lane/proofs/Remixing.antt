@@ -1,7 +1,8 @@
 -- A sink of which the frames past those that stay are mixed.
-use Rattle.std.proofs.Common.{◌≡◌, ℕ, ◌+◌, ◌-◌, ◌*◌, ◌≤◌, List, ◌++◌, Bool, map, length, take, ap, sym, ◌∙◌, arith, append_assoc}
+use Rattle.std.proofs.Common.{◌≡◌, ℕ, ◌+◌, ◌-◌, ◌*◌, ◌≤◌, List, ◌++◌, Bool, map, length, take, ap, sym, ◌∙◌, arith, append_assoc, length-take}
 use Rattle.std.proofs.Math.Nat.{mul-le-mul_right}
 use Rattle.std.specs.List.{concat, range_with_len}
+use Rattle.std.proofs.lemmas.List.{take-take, take-append-le}
 use Rattle.std.proofs.lemmas.List.FromFn.{length-map-range_with_len}
 use Rattle.px_sample.specs.declared.spec.Spec.{Spec}
 use Rattle.px_sample.specs.Format.{frame_size_of, IsLinear}
@@ -17,6 +18,10 @@ use Rattle.px_lane.proofs.Buffers.{frames_renewed, length_frames}
 use Rattle.px_lane.proofs.Runs.{range_parts}
 use Rattle.px_lane.proofs.Shares.{mixes_sized}
 use Rattle.px_lane.proofs.Staying.{kept_are, remixed_stays}
+
+-- the front of what is taken and what comes behind it
+same_front : (k : ℕ) (old more : List Frame) → k ≤ length old → take k (take k old ++ more) ≡ take k old
+same_front k old more fit = take-append-le k (take k old) more (omega (arith, length-take k old, fit)) ∙ take-take k k old (omega arith)
 
 module _ (spec : Spec) (linear : IsLinear spec.format) (counts : Counts) (order : AreInOrder counts) (stopped : Bool) (old : List ℕ) (inputs : List Input) (n : ℕ)
     (full : length old ≡ counts.depth * frame_size_of spec) (stays : IsUnaltered n (sink_of spec counts stopped old inputs)) where
@@ -57,6 +62,21 @@ module _ (spec : Spec) (linear : IsLinear spec.format) (counts : Counts) (order 
       ∙ ap (λ (fs : List Frame). fs ++ map mix (range_with_len n more)) (kept_are before n order.consumed_first long stays)
       ∙ append_assoc (take below before.buffer) (map mix (range_with_len 0 n)) (map mix (range_with_len n more))
       ∙ ap (λ (fs : List Frame). take below before.buffer ++ fs) (joined (omega arith) (omega (arith, order.consumed_first, order.horizon_first, order.filled_bounded, stays.within))))
+
+  pub front_stays : (new : List ℕ) → new ≡ take ((below + n) * frame_size_of spec) old ++ concat (map mix (range_with_len n more))
+      → take (below + n) (Sink.buffer (sink_of spec (record counts { filled = counts.consumed + counts.depth }) stopped new inputs)) ≡ take (below + n) before.buffer
+  front_stays new made =
+      let size = frame_size_of spec in
+      let few : below + n ≤ counts.depth = omega (arith, order.consumed_first, order.horizon_first, order.filled_bounded, stays.within) in
+      let count : length (map mix (range_with_len n more)) ≡ more = length-map-range_with_len mix n more in
+      let all : (below + n) + more ≡ counts.consumed + counts.depth - counts.consumed = omega (arith, order.consumed_first, order.horizon_first, order.filled_bounded, stays.within) in
+      let was : (below + n) + (counts.filled - counts.horizon - n) ≡ counts.filled - counts.consumed = omega (arith, order.consumed_first, order.horizon_first, stays.within) in
+      ap (take (below + n))
+      (ap (λ (m : ℕ). frames_of (frame_size_of spec) m new) (sym (ap (λ (m : ℕ). (below + n) + m) count ∙ all))
+      ∙ frames_renewed (frame_size_of spec) (below + n) (counts.filled - counts.horizon - n) old new (map mix (range_with_len n more)) made
+      (omega (arith, full, mul-le-mul_right (frame_size_of spec) few)) (mixes_sized spec linear (streams_of inputs) n more)
+      ∙ ap (λ (m : ℕ). take (below + n) (frames_of (frame_size_of spec) m old) ++ map mix (range_with_len n more)) was)
+      ∙ same_front (below + n) before.buffer (map mix (range_with_len n more)) (omega (arith, long, order.consumed_first, order.horizon_first, stays.within))
 
   pub all_stays : IsUnaltered (counts.depth - below) (remixed samples before)
   all_stays = remixed_stays before order.consumed_first order.horizon_first order.filled_bounded long

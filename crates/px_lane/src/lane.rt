@@ -263,8 +263,8 @@ fn play<D: Device, B: BlockSource, T: Ledger>(
     ensures next { (D.now device.new).next ≡ (D.now device.old).next }
 {
     let frames = consumed - mixer.consumed();
-    mixer.play(frames, messages, out, blocks, steps);
-    device.put(mixer.horizon(), mixer.fresh());
+    let stay = mixer.play(frames, messages, out, blocks, steps);
+    device.put(mixer.horizon() + stay, mixer.fresh(stay));
     Turned::Played {
         consumed,
         frames: frames as u32,

@@ -238,28 +238,27 @@ impl SinkMixer {
         self.stopped = true;
     }
 
-    /// Has all frames from the horizon on mixed afresh, up to the depth: those that are altered, and those that are new.
-    pub(crate) fn remix<T: Ledger>(&mut self, steps: &mut Steps<T>)
+    /// Has all frames from the horizon on mixed afresh, up to the depth: those that are altered, and those that are new. Answers how many
+    /// past the horizon stay what they were.
+    pub(crate) fn remix<T: Ledger>(&mut self, steps: &mut Steps<T>) -> u64
         requires streams { AllByRecursion (λ x. IsStreamOf self.old.sink.spec (Stands.stream x)) self.old.sink.inputs }
         requires few { length self.old.sink.inputs ≤ 256 }
         requires countable { self.old.sink.consumed + self.old.sink.depth ≤ 2 ^ 61 }
         ensures value { self.new.sink ≡ remixed samples self.old.sink }
+        ensures within { result ≤ self.old.sink.filled - self.old.sink.horizon }
+        ensures stay { take ((self.old.sink.horizon - self.old.sink.consumed) + result) self.new.sink.buffer ≡ take ((self.old.sink.horizon - self.old.sink.consumed) + result) self.old.sink.buffer }
         ensures whole { AreFramesOf (frame_size self.new.sink.spec) self.new.sink.buffer }
         ensures room { self.new.room ≡ self.old.room }
         ensures block_room { self.new.block_room ≡ self.old.block_room }
     {
         let below = self.horizon - self.consumed;
-        let at = (below + self.unaltered) as usize * self.spec.frame_size();
+        let stay = self.unaltered;
+        let at = (below + stay) as usize * self.spec.frame_size();
         self.inputs.mix((self.depth as u64 - below) as u32, steps);
-        show_behind(
-            &self.inputs,
-            self.unaltered as u32,
-            &mut self.bytes,
-            at,
-            steps,
-        );
+        show_behind(&self.inputs, stay as u32, &mut self.bytes, at, steps);
         self.unaltered = self.depth as u64 - below;
         self.filled = self.consumed + self.depth as u64;
+        stay
     }
 
     /// Of each stream in order tells the drains that are answered, where it has ended, and asks for frames.
@@ -274,18 +273,19 @@ impl SinkMixer {
         self.inputs.ask(self.filled - self.horizon, out);
     }
 
-    /// The bytes of the frames from the horizon on, once they are mixed up to the depth.
-    pub(crate) fn fresh(&self) -> &[u8]
-        requires { self.now.sink.filled ≡ self.now.sink.consumed + self.now.sink.depth }
-        ensures { result.now ≡ concat (drop (self.now.sink.horizon - self.now.sink.consumed) self.now.sink.buffer) }
+    /// The bytes of the frames behind so many past the horizon, once they are mixed up to the depth.
+    pub(crate) fn fresh(&self, stay: u64) -> &[u8]
+        requires full { self.now.sink.filled ≡ self.now.sink.consumed + self.now.sink.depth }
+        requires within { stay ≤ self.now.sink.filled - self.now.sink.horizon }
+        ensures { result.now ≡ concat (drop ((self.now.sink.horizon - self.now.sink.consumed) + stay) self.now.sink.buffer) }
     {
-        let from = (self.horizon - self.consumed) as usize * self.spec.frame_size();
+        let from = (self.horizon - self.consumed + stay) as usize * self.spec.frame_size();
         &self.bytes.as_slice()[from..]
     }
 
     /// A turn whose sync consumed so many frames: these leave the buffer and the streams go forward, the messages are taken, all frames
-    /// from the horizon on are mixed afresh, and the streams ask for more. Takes no memory. (PulseAudio: `pa_sink_render` and
-    /// `pa_sink_process_rewind` of pulsecore/sink.c.)
+    /// from the horizon on are mixed afresh, and the streams ask for more. Answers how many frames past the horizon stay what they were.
+    /// Takes no memory. (PulseAudio: `pa_sink_render` and `pa_sink_process_rewind` of pulsecore/sink.c.)
     pub(crate) fn play<T: Ledger, B: BlockSource>(
         &mut self,
         frames: u64,
@@ -293,7 +293,7 @@ impl SinkMixer {
         out: &mut NoticeList,
         blocks: &mut B,
         steps: &mut Steps<T>,
-    )
+    ) -> u64
         requires lane { IsLane self.old.sink }
         requires there { frames ≤ self.old.sink.filled - self.old.sink.consumed }
         requires countable { self.old.sink.filled ≤ 2 ^ 60 }
@@ -304,6 +304,8 @@ impl SinkMixer {
         requires blocks_come { self.old.block_room ≤ messages.old.block_room }
         requires capacity { length out.old.notices + length (turn_notices samples self.old.sink frames messages.old.messages) ≤ out.old.capacity }
         ensures value { self.new.sink ≡ turned samples self.old.sink frames messages.old.messages }
+        ensures within { result ≤ self.old.sink.filled - next_horizon self.old.sink frames }
+        ensures stay { take ((next_horizon self.old.sink frames - (self.old.sink.consumed + frames)) + result) self.new.sink.buffer ≡ take ((next_horizon self.old.sink frames - (self.old.sink.consumed + frames)) + result) (drop frames self.old.sink.buffer) }
         ensures lane { IsLane self.new.sink }
         ensures notices { out.new.notices ≡ out.old.notices ++ turn_notices samples self.old.sink frames messages.old.messages }
         ensures capacity { out.new.capacity ≡ out.old.capacity }
@@ -312,8 +314,9 @@ impl SinkMixer {
     {
         self.settle(frames, out, blocks);
         self.take_all(messages, out, blocks, steps);
-        self.remix(steps);
+        let stay = self.remix(steps);
         self.ask(out);
+        stay
     }
 
     /// A turn whose sync failed, and each after it: the streams go forward to the horizon, all past it is given up, the messages are

@@ -1,4 +1,4 @@
-use Rattle.std.proofs.Common.{◌≡◌, ℕ, ◌+◌, ◌-◌, ◌≤◌, List, length, drop, ap, sym, ◌∙◌, subst, arith}
+use Rattle.std.proofs.Common.{◌≡◌, ℕ, ◌+◌, ◌-◌, ◌≤◌, List, length, take, drop, ap, sym, ◌∙◌, subst, arith}
 use Rattle.std.specs.List.{concat}
 use Rattle.px_ends.specs.Device.{DeviceState, IsPut, put_at}
 use Rattle.px_model.specs.Sink.{Sink}
@@ -8,9 +8,19 @@ use Rattle.px_lane.specs.Lane.{IsLane, IsAttached}
 use Rattle.px_lane.proofs.Attached.{put_there, turn_room}
 use Rattle.px_lane.proofs.lane.play.Goals as goal
 
-pub play-requires-clause-capacity : goal.play-requires-clause-capacity
-play-requires-clause-capacity g c =
+pub play-stay-requires-clause-capacity : goal.play-stay-requires-clause-capacity
+play-stay-requires-clause-capacity g c =
     turn_room c.args.mixer.now.sink (c.args.consumed - c.consumed.result) (length c.args.out.now.notices) c.args.out.now.capacity c.args.messages.now.messages c.requires.lane.kept c.requires.capacity
+
+pub fresh-requires-clause-within : goal.fresh-requires-clause-within
+fresh-requires-clause-within g c =
+    let sink = c.args.mixer.now.sink in
+    let n = c.args.consumed - sink.consumed in
+    let messages = c.args.messages.now.messages in
+    let state : c.play-stay.new.self.sink ≡ turned samples sink n messages = c.play-stay.ensures.value ∙ ap (λ (from : ℕ). turned samples sink (c.args.consumed - from) messages) c.consumed.ensures in
+    let within : c.play-stay.result ≤ sink.filled - next_horizon sink n = subst (λ (from : ℕ). c.play-stay.result ≤ sink.filled - next_horizon sink (c.args.consumed - from)) c.consumed.ensures c.play-stay.ensures.within in
+    subst (λ (s : Sink). c.play-stay.result ≤ s.filled - s.horizon) (sym state)
+    (omega (arith, within, c.requires.within, c.requires.forward, c.requires.lane.kept.filled_bounded))
 
 pub put-requires : goal.put-requires
 put-requires g c =
@@ -18,14 +28,18 @@ put-requires g c =
     let n = c.args.consumed - sink.consumed in
     let messages = c.args.messages.now.messages in
     let d = g.D.Device.now c.args.device.now in
-    let state : c.play.new.self.sink ≡ turned samples sink n messages = c.play.ensures.value ∙ ap (λ (from : ℕ). turned samples sink (c.args.consumed - from) messages) c.consumed.ensures in
-    let at : c.horizon.result ≡ next_horizon sink n = c.horizon.ensures ∙ ap (λ (s : Sink). s.horizon) state in
-    let bytes : c.fresh.result.now ≡ concat (drop (next_horizon sink n - (sink.consumed + n)) (turned samples sink n messages).buffer) =
-    c.fresh.ensures ∙ ap (λ (s : Sink). concat (drop (s.horizon - s.consumed) s.buffer)) state in
+    let state : c.play-stay.new.self.sink ≡ turned samples sink n messages = c.play-stay.ensures.value ∙ ap (λ (from : ℕ). turned samples sink (c.args.consumed - from) messages) c.consumed.ensures in
+    let stay = c.play-stay.result in
+    let at : c.horizon.result + stay ≡ next_horizon sink n + stay = ap (λ (h : ℕ). h + stay) (c.horizon.ensures ∙ ap (λ (s : Sink). s.horizon) state) in
+    let bytes : c.fresh.result.now ≡ concat (drop ((next_horizon sink n - (sink.consumed + n)) + stay) (turned samples sink n messages).buffer) =
+    c.fresh.ensures ∙ ap (λ (s : Sink). concat (drop ((s.horizon - s.consumed) + stay) s.buffer)) state in
+    let within : stay ≤ sink.filled - next_horizon sink n = subst (λ (from : ℕ). stay ≤ sink.filled - next_horizon sink (c.args.consumed - from)) c.consumed.ensures c.play-stay.ensures.within in
     let there : n ≤ sink.filled - sink.consumed = omega (arith, c.requires.within, c.requires.forward) in
+    let same = subst (λ (s : Sink). take ((next_horizon sink n - (sink.consumed + n)) + stay) s.buffer ≡ take ((next_horizon sink n - (sink.consumed + n)) + stay) (drop n sink.buffer)) state
+    (subst (λ (from : ℕ). take ((next_horizon sink (c.args.consumed - from) - (sink.consumed + (c.args.consumed - from))) + stay) (Sink.buffer c.play-stay.new.self.sink) ≡ take ((next_horizon sink (c.args.consumed - from) - (sink.consumed + (c.args.consumed - from))) + stay) (drop (c.args.consumed - from) sink.buffer)) c.consumed.ensures c.play-stay.ensures.stay) in
     subst (λ (h : ℕ). IsPut d h c.fresh.result.now) (sym at)
-    (subst (λ (b : List ℕ). IsPut d (next_horizon sink n) b) (sym bytes)
-    (put_there samples d sink n messages c.requires.lane (subst IsLane state c.play.ensures.lane) there c.requires.countable c.requires.attached).0)
+    (subst (λ (b : List ℕ). IsPut d (next_horizon sink n + stay) b) (sym bytes)
+    (put_there samples d sink n stay messages c.requires.lane (subst IsLane state c.play-stay.ensures.lane) there within c.requires.countable same c.requires.attached).0)
 
 pub returns-clause-attached : goal.returns-clause-attached
 returns-clause-attached g c =
@@ -33,13 +47,17 @@ returns-clause-attached g c =
     let n = c.args.consumed - sink.consumed in
     let messages = c.args.messages.now.messages in
     let d = g.D.Device.now c.args.device.now in
-    let state : c.play.new.self.sink ≡ turned samples sink n messages = c.play.ensures.value ∙ ap (λ (from : ℕ). turned samples sink (c.args.consumed - from) messages) c.consumed.ensures in
-    let at : c.horizon.result ≡ next_horizon sink n = c.horizon.ensures ∙ ap (λ (s : Sink). s.horizon) state in
-    let bytes : c.fresh.result.now ≡ concat (drop (next_horizon sink n - (sink.consumed + n)) (turned samples sink n messages).buffer) =
-    c.fresh.ensures ∙ ap (λ (s : Sink). concat (drop (s.horizon - s.consumed) s.buffer)) state in
+    let state : c.play-stay.new.self.sink ≡ turned samples sink n messages = c.play-stay.ensures.value ∙ ap (λ (from : ℕ). turned samples sink (c.args.consumed - from) messages) c.consumed.ensures in
+    let stay = c.play-stay.result in
+    let at : c.horizon.result + stay ≡ next_horizon sink n + stay = ap (λ (h : ℕ). h + stay) (c.horizon.ensures ∙ ap (λ (s : Sink). s.horizon) state) in
+    let bytes : c.fresh.result.now ≡ concat (drop ((next_horizon sink n - (sink.consumed + n)) + stay) (turned samples sink n messages).buffer) =
+    c.fresh.ensures ∙ ap (λ (s : Sink). concat (drop ((s.horizon - s.consumed) + stay) s.buffer)) state in
+    let within : stay ≤ sink.filled - next_horizon sink n = subst (λ (from : ℕ). stay ≤ sink.filled - next_horizon sink (c.args.consumed - from)) c.consumed.ensures c.play-stay.ensures.within in
     let there : n ≤ sink.filled - sink.consumed = omega (arith, c.requires.within, c.requires.forward) in
-    let put : g.D.Device.now c.put.new.self ≡ put_at (next_horizon sink n) (concat (drop (next_horizon sink n - (sink.consumed + n)) (turned samples sink n messages).buffer)) d =
-    c.put.ensures.state ∙ ap (λ (h : ℕ). put_at h c.fresh.result.now d) at ∙ ap (λ (b : List ℕ). put_at (next_horizon sink n) b d) bytes in
+    let same = subst (λ (s : Sink). take ((next_horizon sink n - (sink.consumed + n)) + stay) s.buffer ≡ take ((next_horizon sink n - (sink.consumed + n)) + stay) (drop n sink.buffer)) state
+    (subst (λ (from : ℕ). take ((next_horizon sink (c.args.consumed - from) - (sink.consumed + (c.args.consumed - from))) + stay) (Sink.buffer c.play-stay.new.self.sink) ≡ take ((next_horizon sink (c.args.consumed - from) - (sink.consumed + (c.args.consumed - from))) + stay) (drop (c.args.consumed - from) sink.buffer)) c.consumed.ensures c.play-stay.ensures.stay) in
+    let put : g.D.Device.now c.put.new.self ≡ put_at (next_horizon sink n + stay) (concat (drop ((next_horizon sink n - (sink.consumed + n)) + stay) (turned samples sink n messages).buffer)) d =
+    c.put.ensures.state ∙ ap (λ (h : ℕ). put_at h c.fresh.result.now d) at ∙ ap (λ (b : List ℕ). put_at (next_horizon sink n + stay) b d) bytes in
     subst (λ (s : Sink). IsAttached (g.D.Device.now c.put.new.self) s) (sym state)
     (subst (λ (e : DeviceState). IsAttached e (turned samples sink n messages)) (sym put)
-    (put_there samples d sink n messages c.requires.lane (subst IsLane state c.play.ensures.lane) there c.requires.countable c.requires.attached).1)
+    (put_there samples d sink n stay messages c.requires.lane (subst IsLane state c.play-stay.ensures.lane) there within c.requires.countable same c.requires.attached).1)

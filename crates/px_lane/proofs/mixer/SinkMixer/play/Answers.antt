@@ -1,4 +1,4 @@
-use Rattle.std.proofs.Common.{◌≡◌, ◌+◌, ◌-◌, ◌^◌, ◌≤◌, length, ap, sym, ◌∙◌, subst, arith}
+use Rattle.std.proofs.Common.{◌≡◌, ℕ, ◌+◌, ◌-◌, ◌^◌, ◌≤◌, length, take, ap, sym, ◌∙◌, subst, arith}
 use Rattle.std.specs.List.{AllByRecursion}
 use Rattle.px_model.specs.Frame.{frame_size}
 use Rattle.px_model.specs.Sink.{Sink, Input, IsStreamOf}
@@ -25,24 +25,24 @@ take_all-requires-clause-mixes g c =
     subst (λ (s : Sink). CanMixAll s.spec.channels (s.filled - s.horizon) c.args.messages.now.messages s.inputs) (sym c.settle.ensures.value)
     (orderly_mixes sink.spec (next_horizon sink c.args.frames - sink.horizon) (sink.filled - next_horizon sink c.args.frames) c.args.messages.now.messages sink.inputs c.requires.lane.kept.rising c.requires.lane.kept.streams c.requires.lane.few c.requires.messages.orderly)
 
-pub remix-requires-clause-streams : goal.remix-requires-clause-streams
-remix-requires-clause-streams g c =
+pub remix-stay-requires-clause-streams : goal.remix-stay-requires-clause-streams
+remix-stay-requires-clause-streams g c =
     let sink = c.args.self.now.sink in
     let messages = c.args.messages.now.messages in
     let after : c.take_all.new.self.sink ≡ with_messages (settled sink c.args.frames) messages = c.take_all.ensures.value ∙ ap (λ (s : Sink). with_messages s messages) c.settle.ensures.value in
     subst (λ (s : Sink). AllByRecursion (λ x. IsStreamOf s.spec (Input.stream x)) s.inputs) (sym after)
     (told_suit samples sink c.args.frames messages c.requires.lane.kept c.requires.there c.requires.messages)
 
-pub remix-requires-clause-few : goal.remix-requires-clause-few
-remix-requires-clause-few g c =
+pub remix-stay-requires-clause-few : goal.remix-stay-requires-clause-few
+remix-stay-requires-clause-few g c =
     let sink = c.args.self.now.sink in
     let messages = c.args.messages.now.messages in
     let after : c.take_all.new.self.sink ≡ with_messages (settled sink c.args.frames) messages = c.take_all.ensures.value ∙ ap (λ (s : Sink). with_messages s messages) c.settle.ensures.value in
     subst (λ (s : Sink). length s.inputs ≤ 256) (sym after)
     (told_few samples sink c.args.frames messages c.requires.lane c.requires.there c.requires.messages)
 
-pub remix-requires-clause-countable : goal.remix-requires-clause-countable
-remix-requires-clause-countable g c =
+pub remix-stay-requires-clause-countable : goal.remix-stay-requires-clause-countable
+remix-stay-requires-clause-countable g c =
     let sink = c.args.self.now.sink in
     let messages = c.args.messages.now.messages in
     let keeps = c.requires.lane.kept in
@@ -50,12 +50,27 @@ remix-requires-clause-countable g c =
     subst (λ (s : Sink). s.consumed + s.depth ≤ 2 ^ 61) (sym after)
     (omega (arith, c.requires.there, c.requires.countable, c.requires.lane.low_depth, keeps.consumed_first, keeps.horizon_first))
 
+pub returns-clause-within : goal.returns-clause-within
+returns-clause-within g c =
+    let sink = c.args.self.now.sink in
+    let messages = c.args.messages.now.messages in
+    subst (λ (s : Sink). c.remix-stay.result ≤ s.filled - s.horizon) (c.take_all.ensures.value ∙ ap (λ (s : Sink). with_messages s messages) c.settle.ensures.value) c.remix-stay.ensures.within
+
+pub returns-clause-stay : goal.returns-clause-stay
+returns-clause-stay g c =
+    let sink = c.args.self.now.sink in
+    let messages = c.args.messages.now.messages in
+    let after : c.take_all.new.self.sink ≡ with_messages (settled sink c.args.frames) messages = c.take_all.ensures.value ∙ ap (λ (s : Sink). with_messages s messages) c.settle.ensures.value in
+    let at : ℕ = (next_horizon sink c.args.frames - (sink.consumed + c.args.frames)) + c.remix-stay.result in
+    ap (λ (s : Sink). take at s.buffer) c.ask.ensures.value
+    ∙ subst (λ (s : Sink). take ((s.horizon - s.consumed) + c.remix-stay.result) (Sink.buffer c.remix-stay.new.self.sink) ≡ take ((s.horizon - s.consumed) + c.remix-stay.result) s.buffer) after c.remix-stay.ensures.stay
+
 pub returns-clause-lane : goal.returns-clause-lane
 returns-clause-lane g c =
     let sink = c.args.self.now.sink in
     let messages = c.args.messages.now.messages in
-    let mixed : c.remix.new.self.sink ≡ remixed samples (with_messages (settled sink c.args.frames) messages) =
-    c.remix.ensures.value ∙ ap (remixed samples) (c.take_all.ensures.value ∙ ap (λ (s : Sink). with_messages s messages) c.settle.ensures.value) in
+    let mixed : c.remix-stay.new.self.sink ≡ remixed samples (with_messages (settled sink c.args.frames) messages) =
+    c.remix-stay.ensures.value ∙ ap (remixed samples) (c.take_all.ensures.value ∙ ap (λ (s : Sink). with_messages s messages) c.settle.ensures.value) in
     subst IsLane (sym (c.ask.ensures.value ∙ ap asked mixed))
     (turned_lane samples sink c.args.frames messages c.requires.lane c.requires.there c.requires.messages
-    (subst (λ (s : Sink). AreFramesOf (frame_size s.spec) s.buffer) mixed c.remix.ensures.whole))
+    (subst (λ (s : Sink). AreFramesOf (frame_size s.spec) s.buffer) mixed c.remix-stay.ensures.whole))

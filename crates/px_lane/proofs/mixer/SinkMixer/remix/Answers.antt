@@ -11,7 +11,7 @@ use Rattle.px_lane.specs.Mixing.{RoomySink, Counts, sink_of}
 use Rattle.px_lane.specs.Unaltered.{IsUnaltered}
 use Rattle.px_stream.specs.Samples.{samples}
 use Rattle.px_lane.proofs.Shares.{frames_sized}
-use Rattle.px_lane.proofs.Remixing.{remixed_is, all_stays}
+use Rattle.px_lane.proofs.Remixing.{remixed_is, front_stays, all_stays}
 use Rattle.px_lane.proofs.mixer.SinkMixer.remix.Goals as goal
 
 pub mix-requires-clause-more : goal.mix-requires-clause-more
@@ -87,6 +87,26 @@ returns-clause-value g c =
     ap (λ (xs : List Input). sink_of d.spec (record { guard = d.guard; depth = d.depth; consumed = d.consumed; filled = d.consumed + d.depth; horizon = d.horizon }) d.stopped c.show_behind.new.bytes.items xs) c.mix.ensures.inputs
     ∙ remixed_is d.spec c.self.invariant.0.linear counts h d.stopped d.bytes.items d.inputs.inputs d.unaltered c.self.invariant.2 c.self.invariant.3 c.show_behind.new.bytes.items made
     ∙ ap (λ (m : RoomySink). remixed samples m.sink) c.self.view_is
+
+pub returns-clause-within : goal.returns-clause-within
+returns-clause-within g c = subst (λ (m : RoomySink). c.self.inside.unaltered ≤ m.sink.filled - m.sink.horizon) c.self.view_is c.self.invariant.3.within
+
+pub returns-clause-stay : goal.returns-clause-stay
+returns-clause-stay g c =
+    let d = c.self.inside in
+    let h = c.self.invariant.1 in
+    let left : c.mix.new.self.frames - d.unaltered ≡ d.depth - ((d.horizon - d.consumed) + d.unaltered) = omega (arith, c.mix.ensures.frames) in
+    let made : c.show_behind.new.bytes.items ≡ take (((d.horizon - d.consumed) + d.unaltered) * frame_size_of d.spec) d.bytes.items
+    ++ concat (map (mix_of samples (sample_spec d.spec) (streams_of d.inputs.inputs)) (range_with_len d.unaltered (d.depth - ((d.horizon - d.consumed) + d.unaltered)))) =
+    c.show_behind.ensures.bytes
+    ∙ ap (λ (s : Spec). take (((d.horizon - d.consumed) + d.unaltered) * c.frame_size.result) d.bytes.items ++ concat (map (mix_of samples (sample_spec s) (streams_of c.mix.new.self.inputs)) (range_with_len d.unaltered (c.mix.new.self.frames - d.unaltered)))) (c.mix.ensures.spec ∙ c.self.invariant.4)
+    ∙ ap (λ (xs : List Input). take (((d.horizon - d.consumed) + d.unaltered) * c.frame_size.result) d.bytes.items ++ concat (map (mix_of samples (sample_spec d.spec) (streams_of xs)) (range_with_len d.unaltered (c.mix.new.self.frames - d.unaltered)))) c.mix.ensures.inputs
+    ∙ ap (λ (n : ℕ). take (((d.horizon - d.consumed) + d.unaltered) * c.frame_size.result) d.bytes.items ++ concat (map (mix_of samples (sample_spec d.spec) (streams_of d.inputs.inputs)) (range_with_len d.unaltered n))) left
+    ∙ ap (λ (m : ℕ). take (((d.horizon - d.consumed) + d.unaltered) * m) d.bytes.items ++ concat (map (mix_of samples (sample_spec d.spec) (streams_of d.inputs.inputs)) (range_with_len d.unaltered (d.depth - ((d.horizon - d.consumed) + d.unaltered))))) c.frame_size.ensures in
+    let counts : Counts = record { guard = d.guard; depth = d.depth; consumed = d.consumed; filled = d.filled; horizon = d.horizon } in
+    let at : ℕ = (d.horizon - d.consumed) + d.unaltered in
+    subst (λ (m : RoomySink). take ((m.sink.horizon - m.sink.consumed) + d.unaltered) (Sink.buffer (sink_of d.spec (record { guard = d.guard; depth = d.depth; consumed = d.consumed; filled = d.consumed + d.depth; horizon = d.horizon }) d.stopped c.show_behind.new.bytes.items c.mix.new.self.inputs)) ≡ take ((m.sink.horizon - m.sink.consumed) + d.unaltered) m.sink.buffer) c.self.view_is
+    (front_stays d.spec c.self.invariant.0.linear counts h d.stopped d.bytes.items d.inputs.inputs d.unaltered c.self.invariant.2 c.self.invariant.3 c.show_behind.new.bytes.items made)
 
 pub returns-clause-whole : goal.returns-clause-whole
 returns-clause-whole g c =
