@@ -1,6 +1,6 @@
 -- A session that is written piece by piece.
-use Rattle.std.proofs.Common.{◌≡◌, ℕ, ◌+◌, ◌<◌, ◌≤◌, ◌^◌, List, [], ◌∷◌, ◌++◌, length, Option, OnErr, Result, Ok, Err, refl, sym, ap, subst, ◌∙◌, append_assoc, arith}
-use Rattle.std.specs.List.{flat_map, AllByRecursion}
+use Rattle.std.proofs.Common.{◌≡◌, ℕ, List, [], ◌∷◌, ◌++◌, Option, sym, ap, ◌∙◌, append_assoc, arith}
+use Rattle.std.specs.List.{AllByRecursion}
 use Rattle.std.proofs.lemmas.List.{append-nil}
 use Rattle.px_ends.specs.Told.{after_adding}
 use Rattle.px_ends.specs.Whole.{AddsFront}
@@ -10,9 +10,8 @@ use Rattle.px_session.specs.declared.header.Header.{Header}
 use Rattle.px_session.specs.declared.header.SinkSpec.{SinkSpec}
 use Rattle.px_session.specs.EventRules.{IsEvent}
 use Rattle.px_session.specs.HeaderRules.{AreSinks, IsHeader}
-use Rattle.px_session.specs.Spelling.{header, event, end_byte, session}
 use Rattle.px_session.specs.Writing.{FitsSink, FitsHeader, FitsEvent}
-use Rattle.px_session.proofs.Added.{front_then, both_added}
+use Rattle.px_session.proofs.Added.{front_then}
 
 fits : (e : Event) → IsEvent e → FitsEvent e
 fits (Connect conn) is = tt
@@ -33,17 +32,10 @@ names_fit earlier (s ∷ sinks) all = (omega (arith, all.0.name_size.1), names_f
 pub header_fits : (h : Header) → IsHeader h → FitsHeader h
 header_fits h is = record { count = omega (arith, is.count.1); names = names_fit [] h.sinks is.sinks }
 
+-- a front of the first piece was written
 pub longer : (first more : List ℕ) (old new : Option (List ℕ)) → AddsFront first old new → AddsFront (first ++ more) old new
 longer first more old new a = record { front = a.front; rest = a.rest ++ more; joined = ap (λ (l : List ℕ). l ++ more) a.joined ∙ append_assoc a.front a.rest more; held = a.held }
 
--- the events were cut
-pub events_cut : (h : Header) (events : List Event) (old mid new : Option (List ℕ)) → mid ≡ after_adding old (header h) → AddsFront (flat_map event events) mid new
-    → AddsFront (session h events) old new
-events_cut h events old mid new first then = front_then (header h) (flat_map event events) (end_byte ∷ []) (session h events) old mid new first then refl
-
--- the end byte wasn't written
-pub end_cut : (h : Header) (events : List Event) (old mid then new : Option (List ℕ)) → mid ≡ after_adding old (header h) → then ≡ after_adding mid (flat_map event events)
-    → AddsFront (end_byte ∷ []) then new → AddsFront (session h events) old new
-end_cut h events old mid then new first second third =
-    front_then (header h ++ flat_map event events) (end_byte ∷ []) [] (session h events) old then new (both_added (header h) (flat_map event events) old mid then first second) third
-    (sym (append_assoc (header h) (flat_map event events) (end_byte ∷ [])))
+-- a front of the last piece was written behind the first
+pub behind : (done piece : List ℕ) (old mid new : Option (List ℕ)) → mid ≡ after_adding old done → AddsFront piece mid new → AddsFront (done ++ piece) old new
+behind done piece old mid new first then = front_then done piece [] (done ++ piece) old mid new first then (sym (ap (λ (l : List ℕ). done ++ l) (append-nil piece)))

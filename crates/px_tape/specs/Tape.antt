@@ -1,8 +1,14 @@
 -- The events of a tape.
-use Rattle.std.specs.Prelude.{◌≡◌, ℕ, ◌+◌, List, [], ◌∷◌}
+use Rattle.std.specs.Prelude.{◌≡◌, ℕ, ◌+◌, ◌<◌, ◌^◌, List, [], ◌∷◌, ◌++◌, length, Option, None, Some}
 use Rattle.std.specs.List.{flat_map}
+use Rattle.px_session.specs.declared.header.Header.{Header}
 use Rattle.px_session.specs.declared.event.Event.{Event}
 use Rattle.px_session.specs.declared.event.Event.TheVariants.{Connect, Bytes, Close, Cut, Turn, Collect}
+use Rattle.px_session.specs.EventRules.{IsEvent}
+use Rattle.px_session.specs.Spelling.{header, event}
+use Rattle.px_tape.specs.declared.turns.Turn.{Turn as Made}
+use Rattle.px_tape.specs.declared.tape.Mark.{Mark}
+use Rattle.px_tape.specs.declared.tape.Mark.TheVariants as mark
 
 -- a turn counts as one, and no other event counts
 abbrev pub turn_in : Event → ℕ
@@ -31,12 +37,31 @@ bytes_in (Collect sink notices) = []
 abbrev pub all_bytes : List Event → List ℕ
 all_bytes events = flat_map bytes_in events
 
--- the events so far, and how many the list holds without memory
-pub record Taped : Type 0 where
-  pub events : List Event
+-- a session without its end byte
+abbrev pub begun : Header → List Event → List ℕ
+begun h events = header h ++ flat_map event events
+
+-- the turns that a sink made, and for how many there is room
+pub record Turns : Type 0 where
+  pub sink : ℕ
+  pub turns : List Made
   pub capacity : ℕ
 
--- a share in the turns of a tape: its parts, of all that there are, and how many turns were added through it
-pub record Turns : Type 0 where
-  pub parts : ℕ
-  pub turns : ℕ
+-- how many turns some sinks made
+abbrev pub total : List Turns → ℕ
+total [] = 0
+total (t ∷ sinks) = length t.turns + total sinks
+
+abbrev pub count_of : {A : Type 0} → Option A → ℕ
+count_of None = 0
+count_of (Some a) = 1
+
+-- what stands at a place of a tape: an event of a session that is no turn, or a turn of a sink
+abbrev pub IsMark : Mark → Type 0
+IsMark (mark.Made e) = IsEvent e × (turn_in e ≡ 0)
+IsMark (mark.TurnOf sink) = sink < 2 ^ 8
+
+-- the places so far, and how many the tape holds without memory
+pub record Taped : Type 0 where
+  pub marks : List Mark
+  pub capacity : ℕ

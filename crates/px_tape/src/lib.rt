@@ -1,10 +1,13 @@
 //! The tape of a live server: the steps of the core and the turns of the sinks that it made, in their order, as the events of a session.
-//! `pieces` has a client's bytes as events, `tape` the list of them, in which the turns are counted. It exports `Tape` with `TurnSeat`,
-//! `frame_events` and `fault_event`.
+//! `events` has lists of events, `pieces` what comes of a client as events, `turns` the turns that a sink made, and `tape` the order of all. It
+//! exports `Events`, `SinkTurns` and `Tape`.
 #![tactic(auto)]
 
+mod events;
 mod pieces;
 mod tape;
+mod turns;
 
-pub use pieces::{fault_event, frame_events};
-pub use tape::{Tape, TurnSeat};
+pub use events::Events;
+pub use tape::Tape;
+pub use turns::SinkTurns;

@@ -1,14 +1,12 @@
 //! What comes of a client, as events.
-ghost use Rattle.std.specs.Prelude.{◌≡◌, ℕ, List, ◌++◌, ◌∷◌, [], Some, IfOk, OnOk};
-ghost use Rattle.std.specs.List.{concat, AllByRecursion};
+ghost use Rattle.std.specs.Prelude.{◌≡◌, ℕ, List, ◌++◌, ◌∷◌, [], IfOk, OnOk, OnErr};
+ghost use Rattle.std.specs.List.{concat};
 ghost use Rattle.px_block.specs.Kept.{KeptBlock, contents};
-ghost use Rattle.px_frame.specs.declared.descriptor.Descriptor.{Descriptor};
-ghost use Rattle.px_frame.specs.Descriptor.{descriptor_bytes, broken_rule};
 ghost use Rattle.px_frame.specs.Frame.{IsBody};
-ghost use Rattle.px_frame.specs.Reading.{IsRead, Unfinished};
-ghost use Rattle.px_session.specs.EventRules.{IsEvent};
-ghost use Rattle.px_tape.specs.Tape.{turn_in, turns_in, bytes_in, all_bytes};
+ghost use Rattle.px_frame.specs.Reading.{IsRead, Unfinished, Broken};
+ghost use Rattle.px_tape.specs.Tape.{turns_in, all_bytes};
 
+use crate::events::Events;
 use px_block::Block;
 use px_frame::{Body, FrameFault, write_data, write_packet};
 use px_session::Event;
@@ -19,12 +17,11 @@ use std::alloc::Global;
 const MOST_BYTES: usize = 65_536;
 
 // Bytes of a client, cut where an event has no room for more.
-fn cut(alloc: Global, conn: ConnId, bytes: &[u8]) -> Mem<Vec<Event>>
-    ensures lawful { IfOk result (λ events. AllByRecursion IsEvent events.items) }
-    ensures turns { IfOk result (λ events. turns_in events.items ≡ 0) }
-    ensures bytes { IfOk result (λ events. all_bytes events.items ≡ bytes.now) }
+fn cut(alloc: Global, conn: ConnId, bytes: &[u8]) -> Mem<Events>
+    ensures turns { IfOk result (λ events. turns_in events ≡ 0) }
+    ensures bytes { IfOk result (λ events. all_bytes events ≡ bytes.now) }
 {
-    let mut events = Vec::new(alloc);
+    let mut events = Events::new(alloc);
     let mut rest = bytes;
     while !rest.is_empty() {
         let (piece, left) = rest.split_at(rest.len().min(MOST_BYTES));
@@ -70,48 +67,42 @@ fn spelled(alloc: Global, body: &Body) -> Mem<Text>
         }
     };
     match packet {
-        Ok(packet) => Text::copied(alloc, packet.bytes()),
+        Ok(packet) => Ok(Text::from_vec(packet.into_vec())),
         Err(_) => Err(NoMemory),
     }
 }
 
-/// A client's frame as events: their bytes are read as a frame that says this, and nothing else.
-pub fn frame_events(alloc: Global, conn: ConnId, body: &Body) -> Mem<Vec<Event>>
-    requires { IsBody body.now }
-    ensures lawful { IfOk result (λ events. AllByRecursion IsEvent events.items) }
-    ensures turns { IfOk result (λ events. turns_in events.items ≡ 0) }
-    ensures bytes { IfOk result (λ events. IsRead (all_bytes events.items) (record { at = 20; body = body.now } ∷ []) Unfinished) }
-{
-    let bytes = spelled(alloc, body)?;
-    cut(alloc, conn, bytes.as_slice())
-}
-
 // The twenty bytes of a descriptor that breaks this rule, and none before it.
 fn fault_bytes(fault: FrameFault) -> [u8; 20]
-    ensures { (d : Descriptor) × (at : ℕ) × (result ≡ descriptor_bytes d) × (broken_rule d ≡ Some (fault, at)) }
+    ensures { (at : ℕ) × IsRead result [] (Broken fault at) }
 {
     match fault {
         FrameFault::ZeroLength => [0; 20],
-        FrameFault::TooLong => [
-            2, 0, 0, 0, 0, 0, 0, 0, 0, 0, 0, 0, 0, 0, 0, 0, 0, 0, 0, 0,
-        ],
+        FrameFault::TooLong => [2, 0, 0, 0, 0, 0, 0, 0, 0, 0, 0, 0, 0, 0, 0, 0, 0, 0, 0, 0],
         FrameFault::PacketFlags => [
             0, 0, 0, 1, 255, 255, 255, 255, 0, 0, 0, 0, 0, 0, 0, 0, 0, 0, 0, 1,
         ],
-        FrameFault::SharedMemory => [
-            0, 0, 0, 1, 0, 0, 0, 0, 0, 0, 0, 0, 0, 0, 0, 0, 1, 0, 0, 0,
-        ],
-        FrameFault::SeekMode => [
-            0, 0, 0, 1, 0, 0, 0, 0, 0, 0, 0, 0, 0, 0, 0, 0, 0, 0, 0, 4,
-        ],
+        FrameFault::SharedMemory => [0, 0, 0, 1, 0, 0, 0, 0, 0, 0, 0, 0, 0, 0, 0, 0, 1, 0, 0, 0],
+        FrameFault::SeekMode => [0, 0, 0, 1, 0, 0, 0, 0, 0, 0, 0, 0, 0, 0, 0, 0, 0, 0, 0, 4],
     }
 }
 
-/// A fault in a client's bytes as an event: twenty bytes of a descriptor that breaks this rule, and none before it.
-pub fn fault_event(alloc: Global, conn: ConnId, fault: FrameFault) -> Mem<Event>
-    ensures lawful { IfOk result IsEvent }
-    ensures turn { IfOk result (λ event. turn_in event ≡ 0) }
-    ensures bytes { IfOk result (λ event. (d : Descriptor) × (at : ℕ) × (bytes_in event ≡ descriptor_bytes d) × (broken_rule d ≡ Some (fault, at))) }
-{
-    Ok(Event::Bytes(conn, Text::copied(alloc, &fault_bytes(fault))?))
+impl Events {
+    /// A client's frame: its bytes are read as a frame that says this, and nothing else.
+    pub fn frame(alloc: Global, conn: ConnId, body: &Body) -> Mem<Events>
+        requires { IsBody body.now }
+        ensures turns { IfOk result (λ events. turns_in events ≡ 0) }
+        ensures bytes { IfOk result (λ events. IsRead (all_bytes events) (record { at = 20; body = body.now } ∷ []) Unfinished) }
+    {
+        let bytes = spelled(alloc, body)?;
+        cut(alloc, conn, bytes.as_slice())
+    }
+
+    /// A fault in a client's bytes: twenty bytes that are read as no frame, but end by this fault.
+    pub fn fault(alloc: Global, conn: ConnId, fault: FrameFault) -> Mem<Events>
+        ensures turns { IfOk result (λ events. turns_in events ≡ 0) }
+        ensures bytes { IfOk result (λ events. (at : ℕ) × IsRead (all_bytes events) [] (Broken fault at)) }
+    {
+        cut(alloc, conn, &fault_bytes(fault))
+    }
 }

@@ -1,10 +1,10 @@
-use Rattle.std.proofs.Common.{rules, ◌≡◌, ◌∙◌, ◌+◌, ◌++◌, ◌∷◌, [], arith, sym, refl}
-use Rattle.px_tape.specs.Tape.{turn_in}
-use Rattle.px_tape.proofs.Counts.{taped}
+use Rattle.std.proofs.Common.{List, ◌++◌, map, ap, ◌∙◌}
+use Rattle.px_session.specs.declared.event.Event.{Event}
+use Rattle.px_tape.specs.declared.tape.Mark.TheVariants.{Made}
+use Rattle.px_tape.proofs.Counts.{all_marks}
 use Rattle.px_tape.proofs.tape.Tape.add.Goals as goal
 
 pub invariant_of-self : goal.invariant_of-self
-invariant_of-self g c =
-    let more : c.push.new.self.items ≡ c.self.inside.events.items ++ c.args.event ∷ [] = search rules in
-    taped c.self.inside.events.items c.push.new.self.items c.args.event c.self.inside.turns.total c.self.inside.turns.total c.self.invariant.0 c.requires.event c.self.invariant.1 more
-    (omega (arith, c.requires.other))
+invariant_of-self c =
+    let more = c.add_made.ensures ∙ ap (λ (events : List Event). c.self.inside.marks.items ++ map Made events) c.into_vec.ensures.items in
+    all_marks c.self.inside.marks.items c.add_made.new.marks.items c.args.events c.self.invariant c.into_vec.ensures.lawful c.requires.others more

@@ -4,7 +4,7 @@ use Rattle.std.proofs.lemmas.Result.{err_from_is_err_and}
 use Rattle.px_session.specs.declared.event.Event.{Event}
 use Rattle.px_session.specs.Spelling.{event}
 use Rattle.px_session.proofs.Added.{front_then, flat_map_around}
-use Rattle.px_tape.proofs.tape.write_events.Goals as goal
+use Rattle.px_tape.proofs.events.write_events.Goals as goal
 
 pub returns-in_err-write_event-clause-err : goal.returns-in_err-write_event-clause-err
 returns-in_err-write_event-clause-err g c =

@@ -2,7 +2,7 @@ use Rattle.std.proofs.Common.{◌≡◌, take}
 use Rattle.std.specs.List.{flat_map}
 use Rattle.px_ends.specs.Told.{after_adding}
 use Rattle.px_session.specs.Spelling.{event}
-use Rattle.px_tape.proofs.tape.write_events.Given as goal
+use Rattle.px_tape.proofs.events.write_events.Given as goal
 
 -- the events so far were added, and no write has failed
 abbrev pub invariant-loop-event : goal.invariant-loop-event
