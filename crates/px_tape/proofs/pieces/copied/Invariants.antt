@@ -1,0 +1,8 @@
+use Rattle.std.proofs.Common.{◌≡◌, ◌++◌, drop}
+use Rattle.std.specs.List.{concat}
+use Rattle.px_block.specs.Kept.{contents}
+use Rattle.px_tape.proofs.pieces.copied.Given as goal
+
+-- the bytes so far and those of the blocks that are left are all of them
+abbrev pub invariant-loop-block : goal.invariant-loop-block
+invariant-loop-block l = l.bytes ++ concat (contents (drop l.block-index l.blocks)) ≡ concat (contents l.blocks)

@@ -1,0 +1,67 @@
+-- The events of a tape.
+use Rattle.std.specs.Prelude.{◌≡◌, ℕ, ◌+◌, ◌<◌, ◌^◌, List, [], ◌∷◌, ◌++◌, length, Option, None, Some}
+use Rattle.std.specs.List.{flat_map}
+use Rattle.px_session.specs.declared.header.Header.{Header}
+use Rattle.px_session.specs.declared.event.Event.{Event}
+use Rattle.px_session.specs.declared.event.Event.TheVariants.{Connect, Bytes, Close, Cut, Turn, Collect}
+use Rattle.px_session.specs.EventRules.{IsEvent}
+use Rattle.px_session.specs.Spelling.{header, event}
+use Rattle.px_tape.specs.declared.turns.Turn.{Turn as Made}
+use Rattle.px_tape.specs.declared.tape.Mark.{Mark}
+use Rattle.px_tape.specs.declared.tape.Mark.TheVariants as mark
+
+-- a turn counts as one, and no other event counts
+abbrev pub turn_in : Event → ℕ
+turn_in (Connect conn) = 0
+turn_in (Bytes conn bytes) = 0
+turn_in (Close conn) = 0
+turn_in (Cut conn) = 0
+turn_in (Turn sink frames messages) = 1
+turn_in (Collect sink notices) = 0
+
+-- how many turns there are
+abbrev pub turns_in : List Event → ℕ
+turns_in [] = 0
+turns_in (e ∷ events) = turn_in e + turns_in events
+
+-- the bytes that an event brings
+abbrev pub bytes_in : Event → List ℕ
+bytes_in (Connect conn) = []
+bytes_in (Bytes conn bytes) = bytes
+bytes_in (Close conn) = []
+bytes_in (Cut conn) = []
+bytes_in (Turn sink frames messages) = []
+bytes_in (Collect sink notices) = []
+
+-- and all of them, in their order
+abbrev pub all_bytes : List Event → List ℕ
+all_bytes events = flat_map bytes_in events
+
+-- a session without its end byte
+abbrev pub begun : Header → List Event → List ℕ
+begun h events = header h ++ flat_map event events
+
+-- the turns that a sink made, and for how many there is room
+pub record Turns : Type 0 where
+  pub sink : ℕ
+  pub turns : List Made
+  pub capacity : ℕ
+
+-- how many turns some sinks made
+abbrev pub total : List Turns → ℕ
+total [] = 0
+total (t ∷ sinks) = length t.turns + total sinks
+
+abbrev pub count_of : {A : Type 0} → Option A → ℕ
+count_of None = 0
+count_of (Some a) = 1
+
+-- what stands at a place of a tape: an event of a session that is no turn, or a turn of a sink
+abbrev pub IsMark : Mark → Type 0
+IsMark (mark.Made e) = IsEvent e × (turn_in e ≡ 0)
+IsMark (mark.TurnOf sink) = sink < 2 ^ 8
+
+-- the places so far, and how many the tape holds without memory
+pub record Taped : Type 0 where
+  pub marks : List Mark
+  pub capacity : ℕ
