@@ -6,7 +6,7 @@ use Rattle.px_model.specs.Stream.{Stream}
 use Rattle.px_model.specs.Going.{ahead_of}
 use Rattle.px_model.specs.Message.{StreamMessage}
 use Rattle.px_model.specs.Applied.{applied, write_outcome}
-use Rattle.px_model.specs.Write.{Outcome, outcome_of, seek_of, target_of}
+use Rattle.px_model.specs.Write.{outcome_of, seek_of, target_of}
 use Rattle.px_queue.specs.Heard.{unaltered_by}
 use Rattle.px_queue.proofs.Hearing.{heard_before}
 use Rattle.px_queue.proofs.Log.{length_frames}
