@@ -1,9 +1,25 @@
--- What is heard of a queue.
-use Rattle.std.specs.Prelude.{ℕ, Option, None, if◌then◌else◌}
+-- What is heard of a queue, and what of it stays as frames are written.
+use Rattle.std.specs.Prelude.{ℕ, min, ℤ, Bool, true, false, not, List, Option, None, if◌then◌else◌}
 use Rattle.px_model.specs.Frame.{Frame}
 use Rattle.px_model.specs.Held.{place}
+use Rattle.px_model.specs.Index.{above}
 use Rattle.px_model.specs.Queue.{Queue, is_short}
+use Rattle.px_model.specs.Write.{Outcome, stored, overflow, outside, queue_with}
 
 -- the frame that is heard k ahead of the read index; a hole sounds as what lies past the edge, and as one that is short
 abbrev pub heard_of : Queue → ℕ → Option Frame
 heard_of q k = if is_short q then None else place q.held k
+
+abbrev pub is_other : Bool → Bool → Bool
+is_other true b = not b
+is_other false b = b
+
+-- of the next n frames those that a write which goes so far ahead leaves as they are: where the frames are held those before them, and else all
+abbrev pub left_by : Outcome → ℕ → ℕ → ℕ
+left_by stored ahead n = min ahead n
+left_by overflow ahead n = n
+left_by outside ahead n = n
+
+-- how many of the next n frames are heard as before once frames are written at index p: none where the queue was short and isn't, or is and wasn't
+abbrev pub unaltered_by : Outcome → Queue → ℤ → List Frame → ℕ → ℕ
+unaltered_by outcome q p frames n = if is_other (is_short (queue_with outcome q p frames)) (is_short q) then 0 else left_by outcome (above p q.read) n

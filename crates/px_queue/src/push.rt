@@ -1,11 +1,11 @@
 // Frames are written.
-ghost use Rattle.std.specs.Prelude.{◌≡◌, ℕ, ℤ, List, ◌<◌, ◌+◌, ◌*◌, ◌≤◌, ◌-ℤ◌, int_lt, length, ◌==◌, ◌&&◌, ◌||◌, IfOk, IfErr};
+ghost use Rattle.std.specs.Prelude.{◌≡◌, ℕ, ℤ, List, ◌<◌, ◌+◌, ◌*◌, ◌≤◌, ◌-ℤ◌, int_lt, length, ◌==◌, ◌&&◌, ◌||◌, if◌then◌else◌, IfOk, IfErr};
 ghost use Rattle.px_block.specs.Given.{after_giving, blocks_for};
 ghost use Rattle.px_model.specs.Frame.{Frame, frames_of};
 ghost use Rattle.px_model.specs.Index.{onward};
-ghost use Rattle.px_model.specs.Queue.{end_of};
+ghost use Rattle.px_model.specs.Queue.{end_of, is_short};
 ghost use Rattle.px_model.specs.Write.{Outcome, stored, overflow, seek_of, origin_of, target_of, outcome_of, queue_with};
-ghost use Rattle.px_queue.specs.Heard.{heard_of};
+ghost use Rattle.px_queue.specs.Heard.{is_other, unaltered_by};
 ghost use Rattle.px_queue.specs.Pushed.{outcome_for, Carries, IsPlaced, IsMissed};
 
 use crate::FrameQueue;
@@ -72,21 +72,50 @@ impl FrameQueue {
         Pushed::Stored
     }
 
-    /// How many of the next frames are heard as before once frames are written with this seek, however that ends: those before the
-    /// index that it goes to, and none where the queue waits for frames or that is no index.
-    #[tactic(auto, using(crate::proofs::Hearing::heard_before))]
-    pub fn unaltered(&self, seek: u8, offset: i64) -> u64
+    /// How many of the next `mixed` frames are heard as before once so many frames are written with this seek, where at most `limit` may
+    /// wait past the index `ahead`: all of them where the frames aren't held, and those before the frames where they are; none where the
+    /// queue was short and isn't, or is and wasn't.
+    pub fn unaltered(
+        &self,
+        seek: u8,
+        offset: i64,
+        frames: u32,
+        ahead: i64,
+        limit: i64,
+        mixed: u64,
+    ) -> u64
         requires { seek ≤ 3 }
-        ensures { (outcome : Outcome) (frames : List Frame) (k : ℕ) → k < result
-            → heard_of (queue_with outcome self.now.queue (target_of self.now.queue (seek_of seek) offset) frames) k ≡ heard_of self.now.queue k }
+        ensures { (written : List Frame) → length written ≡ frames
+            → result ≡ unaltered_by (outcome_of self.now.queue limit (target_of self.now.queue (seek_of seek) offset) frames ahead) self.now.queue (target_of self.now.queue (seek_of seek) offset) written mixed }
     {
-        if self.hold {
+        match self.place(seek, offset, frames) {
+            Err(_) => mixed,
+            Ok(both) => {
+                let refused = self.overflows(both.1, ahead, limit);
+                self.unaltered_between(both.0, both.1, refused, mixed)
+            }
+        }
+    }
+
+    // The same where the frames begin and end at these indices, by whether they go past the limit.
+    fn unaltered_between(&self, at: Index, end: Index, refused: bool, mixed: u64) -> u64
+        ensures { (written : List Frame) → end ≡ onward at (length written)
+            → result ≡ unaltered_by (if refused then overflow else stored) self.now.queue at written mixed }
+    {
+        if is_other(self.is_short_at(end), self.is_short()) {
             return 0;
         }
-        match self.origin(seek).shifted(offset) {
-            Ok(at) => at.above(self.read),
-            Err(_) => 0,
+        if refused {
+            return mixed;
         }
+        at.above(self.read).min(mixed)
+    }
+
+    // Whether it waits for more frames before it plays with its write index there.
+    fn is_short_at(&self, write: Index) -> bool
+        ensures { result ≡ is_short (record self.now.queue { write = write }) }
+    {
+        self.hold && write.above(self.read) < self.prebuf as u64
     }
 
     // The indices at which so many frames begin and end; the first of the two numbers that is no index.
@@ -151,4 +180,11 @@ impl FrameQueue {
         self.held = self.held.max(reach);
         self.write = end;
     }
+}
+
+// Whether two answers differ.
+fn is_other(one: bool, other: bool) -> bool
+    ensures { result ≡ is_other one other }
+{
+    if one { !other } else { other }
 }

@@ -1,23 +1,51 @@
 // What of a stream sounds as before once a message is applied.
-ghost use Rattle.std.specs.Prelude.{ℕ, ◌<◌};
-ghost use Rattle.px_model.specs.Applied.{applied};
+ghost use Rattle.std.specs.Prelude.{◌≡◌, ◌≤◌, ℕ, List};
+ghost use Rattle.px_model.specs.Message.{StreamMessage};
 ghost use Rattle.px_stream.specs.Messages.{message_of, Suits};
-ghost use Rattle.px_stream.specs.Heard.{SoundsSame};
+ghost use Rattle.px_stream.specs.Heard.{unaltered_of};
 
 use crate::{Stream, StreamMsg};
 
 impl Stream {
-    /// How many of the next frames sound as before once a message is applied, wherever its sink has mixed to: those that lie before
-    /// the frames of a write, all of them where nothing is changed, and none for every other message. Takes no memory.
-    #[tactic(auto, using(crate::proofs::Sounding::written_sounds, crate::proofs::Sounding::same_sounds))]
-    pub fn unaltered(&self, message: &StreamMsg) -> u64
+    /// How many of the next `mixed` frames sound as before once a message is applied, where its sink has mixed so many past its read
+    /// index: all of them where nothing is changed or no frames are held, those before the frames of a write, and none for every other
+    /// message. Takes no memory.
+    pub fn unaltered(&self, message: &StreamMsg, mixed: u64) -> u64
         requires { Suits self.now.stream (message_of message.now) }
-        ensures { (mixed k : ℕ) → k < result → SoundsSame k self.now.stream (applied mixed (message_of message.now) self.now.stream) }
+        ensures { result ≡ unaltered_of mixed (message_of message.now) self.now.stream }
     {
         match message {
-            StreamMsg::Write { seek, offset, .. } => self.queue.unaltered(*seek, *offset),
-            StreamMsg::Query { .. } => u64::MAX,
-            _ => 0,
+            StreamMsg::Write {
+                seek,
+                offset,
+                frames,
+                ..
+            } => self.unwritten(*seek, *offset, *frames, mixed),
+            StreamMsg::Query { .. } => mixed,
+            StreamMsg::Attach { .. }
+            | StreamMsg::Cork { .. }
+            | StreamMsg::Flush
+            | StreamMsg::Trigger
+            | StreamMsg::Prebuf
+            | StreamMsg::Drain { .. }
+            | StreamMsg::Attr { .. }
+            | StreamMsg::Factors { .. } => 0,
         }
+    }
+
+    // Of a write.
+    fn unwritten(&self, seek: u8, offset: i64, frames: u32, mixed: u64) -> u64
+        requires { seek ≤ 3 }
+        ensures { (bytes : List ℕ) → result ≡ unaltered_of mixed (StreamMessage.write seek offset frames bytes) self.now.stream }
+    {
+        let ahead = self.ahead_index(mixed);
+        self.queue.unaltered(
+            seek,
+            offset,
+            frames,
+            ahead,
+            self.maxlength as i64,
+            mixed,
+        )
     }
 }
