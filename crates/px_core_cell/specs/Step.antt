@@ -221,6 +221,12 @@ HandsBack step (Err Worn) = ⊤
 HandsBack step (Err (Recorder why)) = ⊤
 HandsBack step (Err (Owed back)) = back ≡ step
 
+-- there is nothing to do only for a sink's notice, the one step that a sink has a part in and that waits for a sweep
+abbrev pub IsNothing : {A : Type 0} → CoreStep → Result (Option A) StepFault → Type 0
+IsNothing step (Ok None) = (is_own step ≡ false) × (waits step ≡ true)
+IsNothing step (Ok (Some answer)) = ⊤
+IsNothing step (Err fault) = ⊤
+
 -- ---- what its parts answer
 
 -- a step in which no sink has a part, where its core is stepped; none stands for the two others

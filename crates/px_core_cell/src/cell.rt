@@ -5,7 +5,7 @@ ghost use Rattle.px_core_cell.specs.Boxes.{boxes_of};
 ghost use Rattle.px_core_cell.specs.Cell.{ends_of, cell_of};
 ghost use Rattle.px_core_cell.specs.History.{Begins, IsCell};
 ghost use Rattle.px_core_cell.specs.Cause.{IsCaused};
-ghost use Rattle.px_core_cell.specs.Step.{IsAsked, HandsBack};
+ghost use Rattle.px_core_cell.specs.Step.{IsAsked, HandsBack, IsNothing};
 ghost use Rattle.px_core_cell.specs.Seat.{Counts};
 
 use crate::ends::CoreEnds;
@@ -69,6 +69,7 @@ impl<C: Recorder<CoreEntry>, L: Seats> Live<C, L> {
         requires { IsAsked step }
         ensures counts { Counts result seat.old seat.new }
         ensures back { HandsBack step result }
+        ensures nothing { IsNothing step result }
     {
         let answer = self.parts.step(rt, alloc, step)?;
         if answer.is_some() {
@@ -133,7 +134,7 @@ impl<C: Recorder<CoreEntry> + Drop, L: Seats> CoreCell<C, L> {
     }
 
     /// Takes the lock and does one step, as `CoreState::step` says. The seat counts one more exactly where the answer is `Ok(Some)`. `Owed`
-    /// hands the very step back.
+    /// hands the very step back. `None` is answered for the notice of a sink alone.
     pub fn step<R: Wait>(
         &self,
         rt: &R,
@@ -144,6 +145,7 @@ impl<C: Recorder<CoreEntry> + Drop, L: Seats> CoreCell<C, L> {
         requires { IsAsked step }
         ensures counts { Counts result seat.old seat.new }
         ensures back { HandsBack step result }
+        ensures nothing { IsNothing step result }
     {
         let mut slot = self.slot.lock(rt);
         match &mut *slot {

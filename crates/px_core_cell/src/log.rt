@@ -4,7 +4,7 @@ ghost use Rattle.std.specs.Prelude.{◌≡◌, ◌+◌, ◌-◌, ◌^◌, ◌<�
 ghost use Rattle.std.proofs.Props.{props};
 ghost use Rattle.px_annals.specs.History.{noted};
 ghost use Rattle.px_annals.specs.Size.{size_of_core_entry};
-ghost use Rattle.px_core_cell.specs.Cause.{IsCaused, ReadyFails};
+ghost use Rattle.px_core_cell.specs.Cause.{IsCaused, ReadyFails, Says, IsCalm};
 
 use crate::step::StepFault;
 use px_annals::{CoreEntry, RecordFault, Recorder};
@@ -28,6 +28,7 @@ impl<C: Recorder<CoreEntry>> StepLog<C> {
         ensures fault { MatchResult result (λ _. self.new.fault ≡ self.old.fault) (λ e. ReadyFails e self.old.fault self.new.fault) }
         ensures steps { self.new.steps ≡ self.old.steps }
         ensures owed { self.new.owed ≡ self.old.owed }
+        ensures said { Says C.limit C.told C.faults C.fulls result self.old.recorder self.new.recorder }
     {
         match self.recorder.ready(bytes) {
             Ok(()) => Ok(()),
@@ -46,6 +47,7 @@ impl<C: Recorder<CoreEntry>> StepLog<C> {
         ensures fault { self.new.fault ≡ self.old.fault }
         ensures steps { self.new.steps ≡ self.old.steps + 1 }
         ensures owed { self.new.owed ≡ owed }
+        ensures calm { IsCalm C.limit C.told C.faults C.fulls self.old.recorder self.new.recorder }
     {
         self.recorder.note(entry);
         self.steps += 1;

@@ -7,8 +7,9 @@ ghost use Rattle.px_core_cell.specs.declared.step.CoreStep.TheVariants as asked;
 ghost use Rattle.px_core_cell.specs.Cell.{ends_of, desk_of, cell_of, calls_of, calls_in};
 ghost use Rattle.px_core_cell.specs.History.{IsHeard, IsSound, first_cell};
 ghost use Rattle.px_core_cell.specs.Boxes.{boxes_of};
+ghost use Rattle.px_core_cell.specs.Cause.{Says, StepSays};
 ghost use Rattle.px_core_cell.specs.Parcel.{spec_of};
-ghost use Rattle.px_core_cell.specs.Step.{is_own, waits, IsAsked, IsFree, OwnGives, NoticeGives, OutGives, NowhereGives, FreeGives, StepGives, OutStops, NoticeStops, Stops};
+ghost use Rattle.px_core_cell.specs.Step.{is_own, waits, IsAsked, IsFree, OwnGives, NoticeGives, OutGives, NowhereGives, FreeGives, StepGives, OutStops, NoticeStops, Stops, IsNothing};
 
 use crate::act::{act, plain_step};
 use crate::ends::{CoreEnd, CoreEnds};
@@ -40,7 +41,8 @@ fn own_step<C: Recorder<CoreEntry>>(
     requires own { is_own step ≡ true }
     requires asked { IsAsked step }
     requires countable { log.old.steps < 2 ^ 64 - 1 }
-    ensures { OwnGives C.told step (desk_of core.old.state log.old) (desk_of core.new.state log.new) result }
+    ensures gives { OwnGives C.told step (desk_of core.old.state log.old) (desk_of core.new.state log.new) result }
+    ensures said { Says C.limit C.told C.faults C.fulls result log.old.recorder log.new.recorder }
 {
     let owed = waits(&step);
     let entry = CoreEntry {
@@ -64,6 +66,7 @@ fn notice_step<C: Recorder<CoreEntry>, R: Wait>(
     requires countable { log.old.steps < 2 ^ 64 - 1 }
     ensures gives { NoticeGives C.told sink.0 (desk_of core.old.state log.old) (desk_of core.new.state log.new) (ends_of end.old) (ends_of end.new) result }
     ensures stops { NoticeStops (calls_of end.old) (calls_of end.new) result }
+    ensures said { StepSays C.limit C.told C.faults C.fulls result log.old.recorder log.new.recorder }
     ensures boxes { boxes_of end.new ≡ boxes_of end.old }
 {
     end.fetch(rt);
@@ -96,6 +99,7 @@ fn out_step<C: Recorder<CoreEntry>, R: Wait>(
     requires heard { (s : SinkSpec) × (slice_get core.old.state.sinks sink.0 ≡ Some s) × IsHeard core.old.state sink.0 s (ends_of end.old) }
     ensures gives { OutGives C.told sink (desk_of core.old.state log.old) (desk_of core.new.state log.new) (ends_of end.old) (ends_of end.new) result }
     ensures stops { OutStops sink core.new.state (calls_of end.old) (calls_of end.new) result }
+    ensures said { Says C.limit C.told C.faults C.fulls result log.old.recorder log.new.recorder }
     ensures boxes { boxes_of end.new ≡ boxes_of end.old }
 {
     log.ready(64)?;
@@ -120,7 +124,8 @@ fn nowhere_step<C: Recorder<CoreEntry>>(
     sink: SinkId,
 ) -> Result<Effects, StepFault>
     requires countable { log.old.steps < 2 ^ 64 - 1 }
-    ensures { NowhereGives C.told sink.0 log.old log.new result }
+    ensures gives { NowhereGives C.told sink.0 log.old log.new result }
+    ensures said { Says C.limit C.told C.faults C.fulls result log.old.recorder log.new.recorder }
 {
     log.ready(64)?;
     let owed = log.owed;
@@ -164,6 +169,7 @@ impl<C: Recorder<CoreEntry>> CoreParts<C> {
         requires countable { self.old.log.steps < 2 ^ 64 - 1 }
         ensures gives { FreeGives C.told (asked.Notice sink) (cell_of self.old) (cell_of self.new) result }
         ensures stops { Stops (asked.Notice sink) self.new.core.state (calls_in self.old) (calls_in self.new) result }
+        ensures said { StepSays C.limit C.told C.faults C.fulls result self.old.log.recorder self.new.log.recorder }
         ensures boxes { map boxes_of self.new.ends.items ≡ map boxes_of self.old.ends.items }
     {
         let CoreParts { core, log, ends } = self;
@@ -181,6 +187,7 @@ impl<C: Recorder<CoreEntry>> CoreParts<C> {
         requires sound { IsSound (cell_of self.old) }
         ensures gives { MatchResult result (λ effects. FreeGives C.told (asked.Out sink) (cell_of self.old) (cell_of self.new) (Ok (Some effects))) (λ e. FreeGives C.told (asked.Out sink) (cell_of self.old) (cell_of self.new) (Err e)) }
         ensures stops { IfOk result (λ effects. Stops (asked.Out sink) self.new.core.state (calls_in self.old) (calls_in self.new) (Ok (Some effects))) }
+        ensures said { Says C.limit C.told C.faults C.fulls result self.old.log.recorder self.new.log.recorder }
         ensures boxes { map boxes_of self.new.ends.items ≡ map boxes_of self.old.ends.items }
     {
         let CoreParts { core, log, ends } = self;
@@ -198,6 +205,7 @@ impl<C: Recorder<CoreEntry>> CoreParts<C> {
         requires asked { IsAsked step }
         requires countable { self.old.log.steps < 2 ^ 64 - 1 }
         ensures gives { MatchResult result (λ effects. FreeGives C.told step (cell_of self.old) (cell_of self.new) (Ok (Some effects))) (λ e. FreeGives C.told step (cell_of self.old) (cell_of self.new) (Err e)) }
+        ensures said { Says C.limit C.told C.faults C.fulls result self.old.log.recorder self.new.log.recorder }
         ensures boxes { map boxes_of self.new.ends.items ≡ map boxes_of self.old.ends.items }
     {
         let CoreParts { core, log, ends: _ } = self;
@@ -216,6 +224,8 @@ impl<C: Recorder<CoreEntry>> CoreParts<C> {
         requires sound { IsSound (cell_of self.old) }
         ensures gives { FreeGives C.told step (cell_of self.old) (cell_of self.new) result }
         ensures stops { Stops step self.new.core.state (calls_in self.old) (calls_in self.new) result }
+        ensures said { StepSays C.limit C.told C.faults C.fulls result self.old.log.recorder self.new.log.recorder }
+        ensures nothing { IsNothing step result }
         ensures boxes { map boxes_of self.new.ends.items ≡ map boxes_of self.old.ends.items }
     {
         match step {
@@ -242,6 +252,8 @@ impl<C: Recorder<CoreEntry>> CoreParts<C> {
         requires sound { IsSound (cell_of self.old) }
         ensures gives { StepGives C.told step (cell_of self.old) (cell_of self.new) result }
         ensures stops { Stops step self.new.core.state (calls_in self.old) (calls_in self.new) result }
+        ensures said { StepSays C.limit C.told C.faults C.fulls result self.old.log.recorder self.new.log.recorder }
+        ensures nothing { IsNothing step result }
         ensures boxes { map boxes_of self.new.ends.items ≡ map boxes_of self.old.ends.items }
     {
         if self.log.owed && waits(&step) {

@@ -1,6 +1,7 @@
 //! What lies under the core's lock, with what it keeps.
 
 ghost use Rattle.std.specs.Prelude.{◌≡◌, [], map, IfSome};
+ghost use Rattle.px_core_cell.specs.Cause.{StepSays};
 ghost use Rattle.px_core_cell.specs.Cell.{ends_of, calls_of, cell_of};
 ghost use Rattle.px_core_cell.specs.History.{Begins, IsCell, first_cell};
 ghost use Rattle.px_core_cell.specs.Step.{IsAsked, StepGives, Stops};
@@ -63,6 +64,7 @@ impl<C: Recorder<CoreEntry>> CoreState<C> {
         requires asked { IsAsked step }
         ensures gives { StepGives C.told step self.old.cell self.new.cell result }
         ensures stops { Stops step self.new.cell.desk.state self.old.calls self.new.calls result }
+        ensures said { StepSays C.limit C.told C.faults C.fulls result self.old.cell.desk.recorder self.new.cell.desk.recorder }
         ensures began { self.new.began ≡ self.old.began }
         ensures history { IsCell C.told self.new.began self.new.cell }
     {

@@ -5,8 +5,8 @@ use Rattle.px_core_cell.specs.Cell.{desk_of}
 use Rattle.px_core_cell.proofs.Doing.{own_done, own_owes}
 use Rattle.px_core_cell.proofs.parts.own_step.Goals as goal
 
-pub returns : goal.returns
-returns g c =
+pub returns-clause-gives : goal.returns-clause-gives
+returns-clause-gives g c =
     let d = c.in_ok-plain_step.field-0 in
     own_done g.C.Recorder.told c.args.step d (desk_of c.args.core.now.state c.args.log.now) (desk_of c.act.new.core.state c.note.new.self) c.in_ok-effects.effects c.requires.own c.in_ok-plain_step.ensures
     c.in_ok-effects.ensures.after

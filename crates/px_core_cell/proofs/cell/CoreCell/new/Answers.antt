@@ -2,7 +2,7 @@ use Rattle.std.proofs.Common.{◌∙◌, map, ap, sym, subst}
 use Rattle.px_annals.specs.declared.stream.PlainStream.{PlainStream}
 use Rattle.px_state.specs.State.{State}
 use Rattle.px_core_cell.specs.Boxes.{boxes_of}
-use Rattle.px_core_cell.specs.Cell.{Cell, ends_of, cell_of}
+use Rattle.px_core_cell.specs.Cell.{Cell, ends_of}
 use Rattle.px_core_cell.specs.History.{IsCell, first_cell}
 use Rattle.px_core_cell.proofs.Keeping.{begins}
 use Rattle.px_core_cell.proofs.cell.CoreCell.new.Goals as goal

@@ -25,7 +25,7 @@ returns-then-place-len-clause-gives g c =
 pub returns-else-place-len-clause-gives : goal.returns-else-place-len-clause-gives
 returns-else-place-len-clause-gives g c =
     nowhere_gives g.C.Recorder.told c.args.sink c.args.self.now.core.state c.args.self.now.log c.nowhere_step.new.log (map ends_of c.args.self.now.ends.items) c.nowhere_step.result
-    (none_at ends_of c.args.self.now.ends.items c.args.sink.0 c.len.result (c.len.ensures ∙ c.args.self.now.ends.ok.0) c.if-place-len.false) c.nowhere_step.ensures
+    (none_at ends_of c.args.self.now.ends.items c.args.sink.0 c.len.result (c.len.ensures ∙ c.args.self.now.ends.ok.0) c.if-place-len.false) c.nowhere_step.ensures.gives
 
 pub returns-then-place-len-clause-stops : goal.returns-then-place-len-clause-stops
 returns-then-place-len-clause-stops g c =
