@@ -1,10 +1,9 @@
 -- Each lawful change keeps what the state keeps, and so do all of a step.
-use Rattle.std.proofs.Common.{◌≡◌, ◌<◌, ℕ, length, List, [], ◌∷◌, ◌++◌, Option, Some, None, Bool, true, false, refl, ap, sym, subst, ◌∙◌}
-use Rattle.std.specs.Prelude.{cond, nat_eq, IfSome, MatchOption, IsSome, ⊤}
+use Rattle.std.proofs.Common.{◌≡◌, ◌<◌, ℕ, length, List, [], ◌∷◌, ◌++◌, Option, Some, None, Bool, refl, ap, sym, subst, ◌∙◌}
+use Rattle.std.specs.Prelude.{IfSome, MatchOption, IsSome, ⊤}
 use Rattle.std.specs.List.{AllByRecursion, find}
 use Rattle.std.specs.FinMap as finite
 use Rattle.std.proofs.lemmas.Bool.{cond_both, eqb-true}
-use Rattle.std.proofs.lemmas.Option.{none-some}
 use Rattle.px_types.specs.declared.ids.ConnId.{ConnId}
 use Rattle.px_types.specs.declared.ids.InputId.{InputId}
 use Rattle.px_types.specs.declared.ids.SinkId.{SinkId}
