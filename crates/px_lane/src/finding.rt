@@ -85,12 +85,7 @@ pub(crate) fn change_at<B: BlockSource>(
 }
 
 /// How many of the next `mixed` frames the stream of this index, if it is there, gives as before once a message is applied.
-pub(crate) fn unaltered_at(
-    inputs: &[Input],
-    index: InputId,
-    change: &StreamMsg,
-    mixed: u64,
-) -> u64
+pub(crate) fn unaltered_at(inputs: &[Input], index: InputId, change: &StreamMsg, mixed: u64) -> u64
     requires rising { IsRising (inputs_of inputs.now) }
     requires suits { SuitsAt (stream_at index.0 (inputs_of inputs.now)) (message_of change.now) }
     ensures { result ≡ unaltered_there mixed (message_of change.now) (stream_at index.0 (inputs_of inputs.now)) }

@@ -49,8 +49,14 @@ loop-i-preserved g c =
           ∙ ap (λ (es : List InputFactors). with_each_factors (gains f ∷ map gains es) l.self.inputs) behind
           ∙ entry_more c.args.each.now l.i c.index-each-i.result l.self.inputs c.loop-i-test.true c.index-each-i.is ∙ l.invariant.inputs;
       fed = λ channels h. c.set_last-count.ensures.fed channels (l.invariant.fed channels h);
-      count = omega (arith, c.set_last-count.ensures.count, ap (λ (es : List InputFactors). count_others (map gains es) c.set_last-count.new.self.inputs) behind,
-          ap (λ (es : List InputFactors). count_others (gains f ∷ map gains es) l.self.inputs) behind, count_more c.args.each.now l.i c.index-each-i.result l.self.inputs c.loop-i-test.true c.index-each-i.is, l.invariant.count);
+      count = omega (
+        arith,
+        c.set_last-count.ensures.count,
+        ap (λ (es : List InputFactors). count_others (map gains es) c.set_last-count.new.self.inputs) behind,
+        ap (λ (es : List InputFactors). count_others (gains f ∷ map gains es) l.self.inputs) behind,
+        count_more c.args.each.now l.i c.index-each-i.result l.self.inputs c.loop-i-test.true c.index-each-i.is,
+        l.invariant.count,
+      );
       few = omega (arith, c.set_last-count.ensures.few, l.invariant.few);
       none = λ e. c.set_last-count.ensures.none (omega (arith, e)) ∙ l.invariant.none (omega (arith, e));
       spec = c.set_last-count.ensures.spec ∙ l.invariant.spec;

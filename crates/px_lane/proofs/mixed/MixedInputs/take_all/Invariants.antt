@@ -26,7 +26,7 @@ invariant-loop-message g l =
     × (l.self.frames ≡ l.fn.self.frames)
     × CanMixAll l.fn.self.spec.channels l.fn.self.frames l.messages.messages l.self.inputs
     × (l.steps + l.fn.self.spec.channels * (l.fn.self.frames - l.unaltered) + l.fn.self.spec.channels * costs_of l.fn.self.frames l.messages.messages l.self.inputs
-        ≤ l.fn.steps + l.fn.self.spec.channels * costs_of l.fn.self.frames l.fn.messages.messages l.fn.self.inputs)
+    ≤ l.fn.steps + l.fn.self.spec.channels * costs_of l.fn.self.frames l.fn.messages.messages l.fn.self.inputs)
 
 abbrev pub decreases-loop-message : goal.decreases-loop-message
 decreases-loop-message g l = length l.messages.messages
