@@ -1,5 +1,5 @@
 -- Kept sums to which the streams' shares of the frames that come are added.
-use Rattle.std.proofs.Common.{◌≡◌, ℕ, zero, suc, ◌+◌, ◌-◌, ◌*◌, ◌<◌, ◌≤◌, List, [], ◌∷◌, ◌++◌, length, map, take, get_or, length-take, refl, sym, ◌∙◌, ap, subst, arith, ⊎_elim, ℤ, pos, ◌+ℤ◌}
+use Rattle.std.proofs.Common.{◌≡◌, ℕ, suc, ◌+◌, ◌<◌, ◌≤◌, List, [], ◌∷◌, ◌++◌, length, take, get_or, length-take, refl, sym, ◌∙◌, ap, subst, arith, ⊎_elim, ℤ, pos, ◌+ℤ◌}
 use Rattle.std.specs.Prelude.{nat_lt}
 use Rattle.std.specs.List.{AllByRecursion}
 use Rattle.std.proofs.lemmas.Int.{ints}
@@ -14,7 +14,7 @@ use Rattle.px_stream.specs.Samples.{samples}
 use Rattle.px_sums.specs.Kept.{IsSumOf, AddLittle, AreKept, from_on, share_at}
 use Rattle.px_sums.proofs.Added.{added_range}
 use Rattle.px_sums.proofs.Follows as follows
-use Rattle.px_share.specs.Keeping.{IsKept, IsAsLarge, AreSmall, share_in}
+use Rattle.px_share.specs.Keeping.{IsKept, AreSmall, share_in}
 use Rattle.px_lane.specs.declared.input.Input.{Input}
 use Rattle.px_lane.specs.Inputs.{input_of, inputs_of}
 

@@ -20,3 +20,5 @@ pub mod Remixing
 pub mod Sharing
 pub mod Growing
 pub mod Mixable
+pub mod Costs
+pub mod Entries

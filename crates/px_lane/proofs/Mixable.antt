@@ -1,5 +1,5 @@
 -- Inputs that can be mixed, whatever orderly messages come.
-use Rattle.std.proofs.Common.{◌≡◌, ℕ, ◌≤◌, List, [], ◌∷◌, length, map, sym, ◌∙◌, subst, arith}
+use Rattle.std.proofs.Common.{ℕ, ◌≤◌, List, [], ◌∷◌, map, sym, subst, arith}
 use Rattle.std.specs.List.{AllByRecursion}
 use Rattle.std.specs.FinMap as finite
 use Rattle.px_model.specs.Frame.{SampleSpec}
@@ -7,11 +7,10 @@ use Rattle.px_model.specs.Stream.{Stream, IsStream}
 use Rattle.px_model.specs.Going.{after}
 use Rattle.px_model.specs.Message.{Message}
 use Rattle.px_model.specs.Orderly.{Inputs, IsOrderly}
-use Rattle.px_model.specs.Sink.{Input as Stands, IsRising, IsStreamOf, specs_of, with_input, with_stream}
+use Rattle.px_model.specs.Sink.{Input as Stands, IsRising, IsStreamOf, specs_of, with_stream}
 use Rattle.px_model.specs.Turn.{inputs_with}
 use Rattle.px_model.proofs.Inputs.{AreInputs, each_keeps}
 use Rattle.px_lane.specs.Mixed.{CanMix, CanMixAll}
-use Rattle.px_lane.specs.Taking.{AreFed}
 use Rattle.px_lane.proofs.Feeds.{IsFed, after_fed, message_fed, fed_of}
 use Rattle.px_lane.proofs.Orders.{leaves, forward_specs}
 use Rattle.px_lane.proofs.Turning.{length_specs, message_few}

@@ -32,6 +32,7 @@ module _ (input : InputId) (seek : ℕ) (offset : ℤ) (frames : ℕ) (bytes : L
     notices = λ mixed buffered xs. write_notices mixed (stream_at input.0 xs);
     suits = λ xs h. h;
     blocks = refl;
+    costs = λ mixed xs. refl;
   }
 
 pub write_ready : (input : InputId) (seek : ℕ) (offset place : ℤ) (frames : ℕ) (bytes : List ℕ) → place ≡ offset

@@ -16,7 +16,12 @@ use Rattle.px_model.proofs.Places.{place_past}
 use Rattle.px_model.proofs.Streams.{frame_ahead, stream_by}
 use Rattle.px_stream.specs.Samples.{samples}
 use Rattle.px_stream.specs.Heard.{heard_at, SoundsSame}
-use Rattle.px_stream.proofs.Sounding.{same_sounds}
+use Rattle.px_model.specs.Message.{StreamMessage}
+use Rattle.px_model.specs.Applied.{applied}
+use Rattle.px_share.specs.Keeping.{SoundsBefore}
+use Rattle.px_stream.proofs.Sounding.{unaltered_sounds}
+use Rattle.px_lane.specs.Unaltered.{MixesSame}
+use Rattle.px_lane.specs.Costs.{unaltered_there}
 
 -- ---- a stream's share
 
@@ -84,6 +89,9 @@ mix_same sink k xs ys h =
 
 -- ---- one that is changed
 
+same_sounds : (s : Stream) (k : ℕ) → SoundsSame k s s
+same_sounds s k = record { spec = refl; feed = refl; factors = refl; heard = refl }
+
 -- none of the others is changed
 above_sound : (i k : ℕ) (f : Stream → Stream) (xs : List Input) → AllAbove i xs → AllSound k xs (with_change i f xs)
 above_sound i k f [] h = tt
@@ -148,3 +156,14 @@ pub mix_gone : (sink : SampleSpec) (d k : ℕ) (xs : List Input) → AllByRecurs
 mix_gone sink d k xs h =
     mix_by sink (sum_of samples sink (streams_of (map (with_stream (λ s. after s d)) xs)) k) (sum_of samples sink (streams_of xs) (d + k))
     (λ channel. ap (λ (zs : List ℤ). fold ◌+ℤ◌ (pos 0) zs) (gone_shares sink d k channel xs h))
+
+-- ---- a message to one stream
+
+pub sounds_up_to : (n from : ℕ) (m : StreamMessage) (o : Option Stream) → from ≤ unaltered_there n m o → SoundsBefore from (applied n m) o
+sounds_up_to n from m None l = tt
+sounds_up_to n from m (Some s) l = λ k less. unaltered_sounds m s n k (omega (arith, less, l))
+
+pub unaltered_mixes : (sink : SampleSpec) (n : ℕ) (m : StreamMessage) (i : ℕ) (xs : List Input) → IsRising xs → MixesSame sink (unaltered_there n m (stream_at i xs)) xs (with_change i (applied n m) xs)
+unaltered_mixes sink n m i xs rising k l =
+    mix_same sink k xs (with_change i (applied n m) xs)
+    (change_sounds i k (applied n m) xs rising (λ s at. unaltered_sounds m s n k (subst (λ (o : Option Stream). k < unaltered_there n m o) at l)))

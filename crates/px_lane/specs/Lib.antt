@@ -11,3 +11,5 @@ pub mod Lane
 pub mod Turned
 pub mod Unaltered
 pub mod Mixed
+pub mod Costs
+pub mod Rows

@@ -6,9 +6,11 @@ use Rattle.px_msg.specs.View.{sample_spec}
 use Rattle.px_model.specs.Frame.{frames_of}
 use Rattle.px_model.specs.Sink.{Sink, Input}
 
--- a sink, and how many more messages, with how many blocks in all, its inputs take without memory
+-- a sink, how many frames past its horizon are the mix of its streams as they stand, and how many more messages, with how many blocks in all,
+-- its inputs take without memory
 pub record RoomySink : Type 0 where
   pub sink : Sink
+  pub unaltered : ℕ
   pub room : ℕ
   pub block_room : ℕ
 

@@ -16,6 +16,7 @@ use Rattle.px_stream.specs.Messages.{message_of, blocks_with, Suits}
 use Rattle.px_stream.specs.declared.message.Applied.{Applied}
 use Rattle.px_stream.specs.declared.message.Applied.TheVariants.{Quiet, Overflow}
 use Rattle.px_lane.specs.Needed.{blocks_of}
+use Rattle.px_lane.specs.Costs.{ready_cost, cost_of}
 use Rattle.px_lane.specs.declared.ready.Ready.{Ready}
 use Rattle.px_lane.specs.declared.ready.Ready.TheVariants.{Insert, Join, Remove, Change, Each, Answer}
 
@@ -117,3 +118,4 @@ pub record IsReadyFor (ready : Ready) (m : Message Stream) : Type 0 where
   pub notices : (mixed buffered : ℕ) (inputs : List Input) → ready_notices mixed buffered ready inputs ≡ message_notices mixed buffered m inputs
   pub suits : (inputs : List Input) → CanTake m inputs → ReadySuits ready inputs
   pub blocks : ready_blocks ready ≡ blocks_of m
+  pub costs : (mixed : ℕ) (inputs : List Input) → ready_cost mixed ready inputs ≡ cost_of mixed m inputs

@@ -1,21 +1,18 @@
 // Inputs of rising index with the one of an index changed, put in or left out.
 ghost use Rattle.std.specs.Prelude.{ℕ, ◌≡◌, ◌≤◌, ◌<◌, ◌+◌, ◌-◌, ◌*◌, ◌++◌, length, map, slice_index_or, vec_len, vec_capacity, IfOk, IfErr, MatchOption, None, Some};
 ghost use Rattle.std.specs.List.{AllByRecursion};
-ghost use Rattle.px_model.specs.Frame.{SampleSpec};
 ghost use Rattle.px_model.specs.Message.{Message};
 ghost use Rattle.px_model.specs.Sink.{IsRising, stream_at, with_change, with_input, without_input};
 ghost use Rattle.px_model.specs.Notice.{Notice as Told};
 ghost use Rattle.px_model.specs.Turn.{with_each_factors, message_notices, latency_of, is_playing};
 ghost use Rattle.px_msg.specs.View.{gains};
 ghost use Rattle.px_model.specs.Applied.{applied};
-ghost use Rattle.px_model.specs.Stream.{Stream as Plain};
 ghost use Rattle.px_share.specs.Keeping.{AreSmall, IsAsLarge, SharesThere, AreLittleThere};
-ghost use Rattle.px_stream.specs.Heard.{SoundsSame};
 ghost use Rattle.px_stream.specs.Messages.{message_of, room_for, blocks_with};
 ghost use Rattle.px_lane.specs.Taking.{AreFed, FactorsFit, SuitsAt, is_overflow, overflows_at};
 ghost use Rattle.px_lane.specs.Inputs.{inputs_of, HasRoom};
 ghost use Rattle.px_lane.specs.Lists.{plain_notice};
-ghost use Rattle.px_lane.specs.Unaltered.{MixesSame};
+ghost use Rattle.px_lane.specs.Costs.{unaltered_there, has_others};
 ghost use Rattle.px_lane.specs.Places.{AreBelow, IsAt, IsGap};
 ghost use Rattle.px_lane.specs.declared.input.Input.{Input as DeclaredInput};
 
@@ -28,6 +25,7 @@ use px_sample::Spec;
 use px_share::KeptMix;
 use px_stream::{Applied, Stream, StreamMsg};
 use px_types::InputId;
+use px_vol::Factors;
 use std::sync::ledger::Ledger;
 
 // How many of the first indices lie below this one.
@@ -86,16 +84,26 @@ pub(crate) fn change_at<B: BlockSource>(
     }
 }
 
-/// How many frames past the horizon are mixed as before once a message is applied to the stream of this index.
-pub(crate) fn unaltered_at(inputs: &[Input], index: InputId, change: &StreamMsg) -> u64
+/// How many of the next `mixed` frames the stream of this index, if it is there, gives as before once a message is applied.
+pub(crate) fn unaltered_at(inputs: &[Input], index: InputId, change: &StreamMsg, mixed: u64) -> u64
     requires rising { IsRising (inputs_of inputs.now) }
     requires suits { SuitsAt (stream_at index.0 (inputs_of inputs.now)) (message_of change.now) }
-    ensures mixes { (sink : SampleSpec) (mixed : ℕ) → MixesSame sink result (inputs_of inputs.now) (with_change index.0 (applied mixed (message_of change.now)) (inputs_of inputs.now)) }
-    ensures sounds { (mixed k : ℕ) (s : Plain) → k < result → stream_at index.0 (inputs_of inputs.now) ≡ Some s → SoundsSame k s (applied mixed (message_of change.now) s) }
+    ensures { result ≡ unaltered_there mixed (message_of change.now) (stream_at index.0 (inputs_of inputs.now)) }
 {
     match find(inputs, index) {
-        Err(_) => u64::MAX,
-        Ok(place) => inputs[place].stream.unaltered(change),
+        Err(_) => mixed,
+        Ok(place) => inputs[place].stream.unaltered(change, mixed),
+    }
+}
+
+/// Whether the stream of this index, if it is there, has other factors.
+pub(crate) fn has_others_at(inputs: &[Input], index: InputId, factors: &Factors) -> bool
+    requires { IsRising (inputs_of inputs.now) }
+    ensures { result ≡ has_others factors.now (stream_at index.0 (inputs_of inputs.now)) }
+{
+    match find(inputs, index) {
+        Err(_) => false,
+        Ok(place) => factors.values() != inputs[place].stream.factors().values(),
     }
 }
 

@@ -1,9 +1,7 @@
 // The inputs of a sink.
 ghost use Rattle.std.specs.Prelude.{ℕ, ◌≡◌, ◌≤◌, ◌<◌, ◌+◌, ◌-◌, ◌*◌, ◌++◌, [], length, map, flat_map, MatchOption, None, Some, OnOk};
 ghost use Rattle.std.specs.List.{AllByRecursion};
-ghost use Rattle.px_model.specs.Frame.{SampleSpec};
 ghost use Rattle.px_model.specs.Going.{after};
-ghost use Rattle.px_model.specs.Stream.{Stream as Plain};
 ghost use Rattle.px_model.specs.Sink.{IsRising, stream_at, with_input, without_input, with_change, with_stream};
 ghost use Rattle.px_model.specs.Control.{with_factors};
 ghost use Rattle.px_model.specs.Message.{Message, StreamMessage};
@@ -11,15 +9,16 @@ ghost use Rattle.px_msg.specs.View.{gains};
 ghost use Rattle.px_model.specs.Applied.{applied};
 ghost use Rattle.px_model.specs.Turn.{going_notices, asked_stream, asked_notices, with_each_factors, message_notices};
 ghost use Rattle.px_share.specs.Keeping.{AreSmall, IsAsLarge, SharesThere, AreLittleThere};
-ghost use Rattle.px_stream.specs.Heard.{SoundsSame};
 ghost use Rattle.px_stream.specs.Messages.{message_of, blocks_with};
 ghost use Rattle.px_lane.specs.Inputs.{input_of, inputs_of, HasRoom};
 ghost use Rattle.px_lane.specs.Asked.{drained, drained_notices};
-ghost use Rattle.px_lane.specs.Unaltered.{MixesSame};
+ghost use Rattle.px_lane.specs.Costs.{unaltered_there, has_others};
 ghost use Rattle.px_lane.specs.Taking.{AreFed, FactorsFit, SuitsAt, IsRoomy, overflows_at};
 
 use crate::NoticeList;
-use crate::finding::{answer_at, change_at, close_at, open_at, share_at, unaltered_at};
+use crate::finding::{
+    answer_at, change_at, close_at, has_others_at, open_at, share_at, unaltered_at,
+};
 use crate::input::Input;
 use crate::memory::reserve_inputs;
 use px_block::BlockSource;
@@ -138,13 +137,20 @@ impl Inputs {
         change_at(self.items.as_mut_slice(), input, change, mixed, blocks)
     }
 
-    /// How many frames past the horizon are mixed as before once a message is applied to a stream, wherever the sink has mixed to.
-    pub(crate) fn unaltered(&self, input: InputId, change: &StreamMsg) -> u64
+    /// How many of the next `mixed` frames a stream, if it is there, gives as before once a message is applied.
+    pub(crate) fn unaltered(&self, input: InputId, change: &StreamMsg, mixed: u64) -> u64
         requires { SuitsAt (stream_at input.0 self.now.inputs) (message_of change.now) }
-        ensures mixes { (sink : SampleSpec) (mixed : ℕ) → MixesSame sink result self.now.inputs (with_change input.0 (applied mixed (message_of change.now)) self.now.inputs) }
-        ensures sounds { (mixed k : ℕ) (s : Plain) → k < result → stream_at input.0 self.now.inputs ≡ Some s → SoundsSame k s (applied mixed (message_of change.now) s) }
+        ensures { result ≡ unaltered_there mixed (message_of change.now) (stream_at input.0 self.now.inputs) }
     {
-        unaltered_at(self.items.as_slice(), input, change)
+        unaltered_at(self.items.as_slice(), input, change, mixed)
+    }
+
+    /// Whether a stream, if it is there, has other factors.
+    pub(crate) fn has_others(&self, input: InputId, factors: &Factors) -> bool
+        ensures others { result ≡ has_others factors.now (stream_at input.0 self.now.inputs) }
+        ensures rising { IsRising self.now.inputs }
+    {
+        has_others_at(self.items.as_slice(), input, factors)
     }
 
     /// Adds the share of the stream of an input, if it is there, to kept sums from a frame on, or takes it away.

@@ -12,6 +12,7 @@ ghost use Rattle.px_stream.specs.Samples.{samples};
 ghost use Rattle.px_lane.specs.Needed.{needed, blocks_of};
 ghost use Rattle.px_lane.specs.Lane.{IsLane, IsAttached, HasCounted};
 ghost use Rattle.px_lane.specs.Turned.{Turns, Refuses};
+ghost use Rattle.px_lane.specs.Costs.{cost_by, turn_cost};
 ghost use Rattle.px_lane.specs.contracts.lane.Lane.{the_row};
 
 use crate::mixer::SinkMixer;
@@ -23,8 +24,8 @@ use px_kernel::Steps;
 use px_session::SinkSpec;
 use px_types::{Mem, NoMemory};
 use std::alloc::Global;
-use std::marker::{Brand, Model};
-use std::sync::ledger::{Blank, Ledger};
+use std::marker::Model;
+use std::sync::ledger::Ledger;
 
 /// The most frames that may be filled before a turn: the last index of a stream, 2^60.
 const MOST_FILLED: u64 = 1 << 60;
@@ -56,13 +57,14 @@ pub struct Lane<D> {
 }
 
 impl<D> Model for Lane<D> {
+    ghost use Rattle.std.specs.Prelude.{◌≡◌, ◌-◌};
     ghost use Rattle.px_lane.specs.Lane.{Mixer, IsLane, HasCounted};
 
     ghost Value = { Mixer D };
 
     ghost view = { λ l. record { sink = l.mixer.sink; device = l.device; faults = l.faults } };
 
-    ghost invariant = { λ l. IsLane l.mixer.sink × HasCounted l.mixer.sink l.faults };
+    ghost invariant = { λ l. IsLane l.mixer.sink × HasCounted l.mixer.sink l.faults × (l.mixer.unaltered ≡ l.mixer.sink.filled - l.mixer.sink.horizon) };
 }
 
 impl<D: Device + Drop> Lane<D> {
@@ -114,12 +116,13 @@ impl<D: Device + Drop> Lane<D> {
     /// of messages is empty then, and the notices stand behind those that were there. Without memory, and where the sink is worn, nothing
     /// changes: all memory is taken before the sync. The list of messages keeps its room, and that of notices may have more. Blocks that
     /// fall out of use go back to their source. (PulseAudio: `pa_sink_render` and `pa_sink_process_rewind` of pulsecore/sink.c.)
-    pub fn turn<B: BlockSource>(
+    pub fn turn<B: BlockSource, T: Ledger>(
         &mut self,
         alloc: Global,
         messages: &mut MsgList,
         out: &mut NoticeList,
         blocks: &mut B,
+        steps: &mut Steps<T>,
     ) -> Result<Turned, LaneFault>
         requires messages { IsOrderly Plain.spec self.old.sink.spec (specs_of self.old.sink.inputs) messages.old.messages }
         requires attached { IsFalse self.old.sink.stopped → IsAttached (D.now self.old.device) self.old.sink }
@@ -129,6 +132,7 @@ impl<D: Device + Drop> Lane<D> {
         ensures err { OnErr result ((self.new ≡ self.old) × (messages.new ≡ messages.old) × (out.new.notices ≡ out.old.notices)) }
         ensures message_room { messages.new.capacity ≡ messages.old.capacity }
         ensures notice_room { out.old.capacity ≤ out.new.capacity }
+        ensures ticks { MatchResult result (λ turned. steps.new ≤ steps.old + cost_by self.old.sink messages.old.messages turned) (λ fault. steps.new ≡ steps.old) }
     {
         let filled = self.mixer.filled();
         if filled > MOST_FILLED {
@@ -137,54 +141,20 @@ impl<D: Device + Drop> Lane<D> {
         match self.mixer.prepare(alloc, messages, out) {
             Err(NoMemory) => Err(LaneFault::NoMemory),
             Ok(mut prepared) => {
-                let turned = counted::<D, B, Brand>(
-                    Blank::new(1),
+                let turned = run(
                     &mut self.mixer,
                     &mut self.device,
                     &mut self.faults,
                     &mut prepared,
                     out,
                     blocks,
+                    steps,
                 );
                 messages.give_back(prepared);
                 Ok(turned)
             }
         }
     }
-}
-
-// A turn for which all memory was taken, with a count of its steps.
-fn counted<D: Device, B: BlockSource, T: Ledger>(
-    blank: Blank,
-    mixer: &mut SinkMixer,
-    device: &mut D,
-    faults: &mut u64,
-    messages: &mut Prepared,
-    out: &mut NoticeList,
-    blocks: &mut B,
-) -> Turned
-    requires name { blank.name ≡ T.name }
-    requires parts { blank.parts ≡ T.parts }
-    requires some { 0 < T.parts }
-    requires lane { IsLane mixer.old.sink }
-    requires counted { HasCounted mixer.old.sink faults.old }
-    requires attached { IsFalse mixer.old.sink.stopped → IsAttached (D.now device.old) mixer.old.sink }
-    requires countable { mixer.old.sink.filled ≤ 2 ^ 60 }
-    requires messages { AreFor mixer.old.sink messages.old.messages }
-    requires room { length messages.old.messages ≤ mixer.old.room }
-    requires block_room { sum_by blocks_of messages.old.messages ≤ mixer.old.block_room }
-    requires comes { mixer.old.room ≤ messages.old.room }
-    requires blocks_come { mixer.old.block_room ≤ messages.old.block_room }
-    requires capacity { length out.old.notices + needed mixer.old.sink.inputs messages.old.messages ≤ out.old.capacity }
-    ensures turns { Turns D.now (record { sink = mixer.old.sink; device = device.old; faults = faults.old }) (record { sink = mixer.new.sink; device = device.new; faults = faults.new }) messages.old.messages out.old.notices out.new.notices result }
-    ensures lane { IsLane mixer.new.sink }
-    ensures counted { HasCounted mixer.new.sink faults.new }
-    ensures messages { messages.new.messages ≡ [] }
-    ensures list { messages.new.capacity ≡ messages.old.capacity }
-    ensures capacity { out.new.capacity ≡ out.old.capacity }
-{
-    let mut steps = Steps::<T>::new(blank);
-    run(mixer, device, faults, messages, out, blocks, &mut steps)
 }
 
 // A turn for which all memory was taken.
@@ -198,6 +168,7 @@ fn run<D: Device, B: BlockSource, T: Ledger>(
     steps: &mut Steps<T>,
 ) -> Turned
     requires lane { IsLane mixer.old.sink }
+    requires mixed { mixer.old.unaltered ≡ mixer.old.sink.filled - mixer.old.sink.horizon }
     requires counted { HasCounted mixer.old.sink faults.old }
     requires attached { IsFalse mixer.old.sink.stopped → IsAttached (D.now device.old) mixer.old.sink }
     requires countable { mixer.old.sink.filled ≤ 2 ^ 60 }
@@ -209,6 +180,8 @@ fn run<D: Device, B: BlockSource, T: Ledger>(
     requires capacity { length out.old.notices + needed mixer.old.sink.inputs messages.old.messages ≤ out.old.capacity }
     ensures turns { Turns D.now (record { sink = mixer.old.sink; device = device.old; faults = faults.old }) (record { sink = mixer.new.sink; device = device.new; faults = faults.new }) messages.old.messages out.old.notices out.new.notices result }
     ensures lane { IsLane mixer.new.sink }
+    ensures mixed { mixer.new.unaltered ≡ mixer.new.sink.filled - mixer.new.sink.horizon }
+    ensures ticks { steps.new ≤ steps.old + cost_by mixer.old.sink messages.old.messages result }
     ensures counted { HasCounted mixer.new.sink faults.new }
     ensures messages { messages.new.messages ≡ [] }
     ensures list { messages.new.capacity ≡ messages.old.capacity }
@@ -239,6 +212,7 @@ fn play<D: Device, B: BlockSource, T: Ledger>(
     steps: &mut Steps<T>,
 ) -> Turned
     requires lane { IsLane mixer.old.sink }
+    requires mixed { mixer.old.unaltered ≡ mixer.old.sink.filled - mixer.old.sink.horizon }
     requires forward { mixer.old.sink.consumed ≤ consumed }
     requires within { consumed ≤ mixer.old.sink.filled }
     requires attached { IsAttached (D.now device.old) (settled mixer.old.sink (consumed - mixer.old.sink.consumed)) }
@@ -252,6 +226,8 @@ fn play<D: Device, B: BlockSource, T: Ledger>(
     ensures value { mixer.new.sink ≡ turned samples mixer.old.sink (consumed - mixer.old.sink.consumed) messages.old.messages }
     ensures result { result ≡ Turned.Played consumed (consumed - mixer.old.sink.consumed) }
     ensures lane { IsLane mixer.new.sink }
+    ensures mixed { mixer.new.unaltered ≡ mixer.new.sink.filled - mixer.new.sink.horizon }
+    ensures ticks { steps.new ≤ steps.old + turn_cost mixer.old.sink (consumed - mixer.old.sink.consumed) messages.old.messages }
     ensures notices { out.new.notices ≡ out.old.notices ++ turn_notices samples mixer.old.sink (consumed - mixer.old.sink.consumed) messages.old.messages }
     ensures messages { messages.new.messages ≡ [] }
     ensures list { messages.new.capacity ≡ messages.old.capacity }

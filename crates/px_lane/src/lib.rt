@@ -1,7 +1,8 @@
 //! A sink's mixer over a device: its streams, their mix, and a turn. All the memory of a turn is taken before its first message
 //! (`MsgList::prepare`); from then on nothing can fail but the device. `lane` has the turn over a device, `mixer` the sink without it,
-//! `mixed` the inputs with the kept sums of their mix, `taking` the messages to them, `adding` the frames that come, `inputs` the list of
-//! inputs, `lists` what a turn takes and gives. It exports `Lane` with `Turned` and `LaneFault`, and `MsgList` and `NoticeList`.
+//! `mixed` the inputs with the kept sums of their mix, `taking` the messages to them, `setting` their factors, `adding` the frames that
+//! come, `inputs` the list of inputs, `lists` what a turn takes and gives, `rows` what some turns cost. It exports `Lane` with `Turned`
+//! and `LaneFault`, `MsgList` and `NoticeList`, and the law `turns_cost_this`.
 #![tactic(auto)]
 
 mod adding;
@@ -15,7 +16,10 @@ mod mixed;
 mod mixer;
 mod prepared;
 mod ready;
+mod rows;
+mod setting;
 mod taking;
 
 pub use lane::{Lane, LaneFault, Turned};
 pub use lists::{MsgList, NoticeList};
+pub use rows::turns_cost_this;

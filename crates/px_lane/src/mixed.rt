@@ -18,6 +18,7 @@ ghost use Rattle.px_lane.specs.Mixing.{IsMixed};
 ghost use Rattle.px_lane.specs.Mixed.{CanMix};
 ghost use Rattle.px_lane.specs.Needed.{needed, blocks_of, Opens};
 ghost use Rattle.px_lane.specs.Unaltered.{MixesSame};
+ghost use Rattle.px_lane.specs.Costs.{unaltered_there};
 ghost use Rattle.px_lane.specs.Taking.{FactorsFit, SuitsAt, IsRoomy, overflows_at};
 
 use crate::adding::add_each;
@@ -39,10 +40,10 @@ use std::sync::ledger::Ledger;
 /// The inputs of a sink, with what their streams add up to of each frame that is mixed past the horizon.
 #[derive(Debug, Drop)]
 pub(crate) struct MixedInputs {
-    inputs: Inputs,
-    kept: KeptMix,
-    spec: Spec,
-    frames: u32,
+    pub(crate) inputs: Inputs,
+    pub(crate) kept: KeptMix,
+    pub(crate) spec: Spec,
+    pub(crate) frames: u32,
 }
 
 impl Model for MixedInputs {
@@ -171,6 +172,7 @@ impl MixedInputs {
         ensures inputs { self.new.inputs ≡ with_input input.0 stream.stream self.old.inputs }
         ensures room { self.new.room + 1 ≡ self.old.room }
         ensures block_room { self.new.block_room ≡ self.old.block_room }
+        ensures ticks { steps.new ≤ steps.old + self.old.spec.channels * (4 * self.old.frames) }
     {
         self.inputs
             .share(input, &self.spec, 0, false, &mut self.kept, steps);
@@ -192,6 +194,7 @@ impl MixedInputs {
         ensures inputs { self.new.inputs ≡ without_input input.0 self.old.inputs }
         ensures room { self.new.room ≡ self.old.room }
         ensures block_room { self.new.block_room ≡ self.old.block_room }
+        ensures ticks { steps.new ≤ steps.old + self.old.spec.channels * (2 * self.old.frames) }
     {
         self.inputs
             .share(input, &self.spec, 0, false, &mut self.kept, steps);
@@ -216,11 +219,13 @@ impl MixedInputs {
         ensures frames { self.new.frames ≡ self.old.frames }
         ensures inputs { self.new.inputs ≡ with_change input.0 (applied self.old.frames (message_of change)) self.old.inputs }
         ensures overflows { result.refused ≡ overflows_at self.old.frames (message_of change) (stream_at input.0 self.old.inputs) }
-        ensures unaltered { (sink : SampleSpec) → MixesSame sink result.unaltered self.old.inputs self.new.inputs }
+        ensures unaltered { result.unaltered ≡ unaltered_there self.old.frames (message_of change) (stream_at input.0 self.old.inputs) }
+        ensures mixes { (sink : SampleSpec) → MixesSame sink result.unaltered self.old.inputs self.new.inputs }
+        ensures ticks { steps.new ≤ steps.old + self.old.spec.channels * (4 * (self.old.frames - result.unaltered)) }
         ensures room { self.new.room + 1 ≡ self.old.room }
         ensures block_room { self.new.block_room + blocks_with (message_of change) ≡ self.old.block_room }
     {
-        let unaltered = self.inputs.unaltered(input, &change);
+        let unaltered = self.inputs.unaltered(input, &change, self.frames as u64);
         let from = unaltered.min(self.frames as u64) as u32;
         self.inputs
             .share(input, &self.spec, from, false, &mut self.kept, steps);
@@ -230,49 +235,6 @@ impl MixedInputs {
         self.inputs
             .share(input, &self.spec, from, true, &mut self.kept, steps);
         Altered { refused, unaltered }
-    }
-
-    /// Replaces the factors of each of these inputs that is there.
-    pub(crate) fn set_factors<T: Ledger, B: BlockSource>(
-        &mut self,
-        each: &[InputFactors],
-        blocks: &mut B,
-        steps: &mut Steps<T>,
-    )
-        requires { FactorsFit (map gains each.now) self.old.inputs }
-        ensures spec { self.new.spec ≡ self.old.spec }
-        ensures depth { self.new.depth ≡ self.old.depth }
-        ensures frames { self.new.frames ≡ self.old.frames }
-        ensures inputs { self.new.inputs ≡ with_each_factors (map gains each.now) self.old.inputs }
-        ensures room { self.new.room ≡ self.old.room }
-        ensures block_room { self.new.block_room ≡ self.old.block_room }
-    {
-        for f in each {
-            self.set_one(f.input, f.factors, blocks, steps);
-        }
-    }
-
-    // Replaces the factors of a stream, if it is there, and exchanges its share.
-    fn set_one<T: Ledger, B: BlockSource>(
-        &mut self,
-        input: InputId,
-        factors: Factors,
-        blocks: &mut B,
-        steps: &mut Steps<T>,
-    )
-        requires { SuitsAt (stream_at input.0 self.old.inputs) (StreamMessage.factors factors) }
-        ensures spec { self.new.spec ≡ self.old.spec }
-        ensures depth { self.new.depth ≡ self.old.depth }
-        ensures frames { self.new.frames ≡ self.old.frames }
-        ensures inputs { self.new.inputs ≡ with_change input.0 (λ s. with_factors s factors) self.old.inputs }
-        ensures room { self.new.room ≡ self.old.room }
-        ensures block_room { self.new.block_room ≡ self.old.block_room }
-    {
-        self.inputs
-            .share(input, &self.spec, 0, false, &mut self.kept, steps);
-        self.inputs.set_one(input, factors, blocks);
-        self.inputs
-            .share(input, &self.spec, 0, true, &mut self.kept, steps);
     }
 
     /// Of each it tells the drains that are answered, where it has ended, and the frames that it asks for, where so many frames are mixed
@@ -301,6 +263,7 @@ impl MixedInputs {
         ensures inputs { self.new.inputs ≡ self.old.inputs }
         ensures room { self.new.room ≡ self.old.room }
         ensures block_room { self.new.block_room ≡ self.old.block_room }
+        ensures ticks { steps.new ≤ steps.old + length self.old.inputs * (2 * (self.old.spec.channels * (to - self.old.frames))) }
     {
         let from = self.frames;
         self.kept.extend(to);
@@ -318,7 +281,8 @@ impl MixedInputs {
     pub(crate) fn show<T: Ledger>(&self, from: u32, out: &mut [u8], steps: &mut Steps<T>)
         requires from { from ≤ self.now.frames }
         requires whole { length out.old ≡ (self.now.frames - from) * frame_size_of self.now.spec }
-        ensures { out.new ≡ concat (map (mix_of samples (sample_spec self.now.spec) (streams_of self.now.inputs)) (range_with_len from (self.now.frames - from))) }
+        ensures bytes { out.new ≡ concat (map (mix_of samples (sample_spec self.now.spec) (streams_of self.now.inputs)) (range_with_len from (self.now.frames - from))) }
+        ensures ticks { steps.new ≡ steps.old + self.now.spec.channels * (self.now.frames - from) }
     {
         self.kept.show(&self.spec, from, out, steps);
     }

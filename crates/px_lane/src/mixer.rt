@@ -11,6 +11,7 @@ ghost use Rattle.px_stream.specs.Samples.{samples};
 ghost use Rattle.px_lane.specs.Mixed.{CanMixAll};
 ghost use Rattle.px_lane.specs.Taking.{CanTakeAll};
 ghost use Rattle.px_lane.specs.Lane.{IsLane};
+ghost use Rattle.px_lane.specs.Costs.{costs_of, mix_cost, turn_cost};
 ghost use Rattle.px_lane.specs.Needed.{needed, blocks_of, Opens};
 ghost use Rattle.px_lane.specs.Whole.{AreFramesOf};
 ghost use Rattle.px_model.specs.Frame.{frame_size};
@@ -54,6 +55,7 @@ impl Model for SinkMixer {
 
     ghost view = { λ m. record {
       sink = sink_of m.spec (record { guard = m.guard; depth = m.depth; consumed = m.consumed; filled = m.filled; horizon = m.horizon }) m.stopped m.bytes.items m.inputs.inputs;
+      unaltered = m.unaltered;
       room = m.inputs.room;
       block_room = m.inputs.block_room;
     } };
@@ -94,6 +96,7 @@ fn show_behind<T: Ledger>(
     requires size { length bytes.old.items ≡ at + (inputs.now.frames - from) * frame_size_of inputs.now.spec }
     ensures size { length bytes.new.items ≡ length bytes.old.items }
     ensures bytes { bytes.new.items ≡ take at bytes.old.items ++ concat (map (mix_of samples (sample_spec inputs.now.spec) (streams_of inputs.now.inputs)) (range_with_len from (inputs.now.frames - from))) }
+    ensures ticks { steps.new ≡ steps.old + inputs.now.spec.channels * (inputs.now.frames - from) }
 {
     inputs.show(from, &mut bytes.as_mut_slice()[at..], steps);
 }
@@ -103,7 +106,8 @@ impl SinkMixer {
     pub(crate) fn new(alloc: Global, sink: &SinkSpec) -> Mem<SinkMixer>
         requires mixed { IsMixed sink.now.spec }
         requires low_depth { sink.now.depth ≤ 65536 }
-        ensures { IfOk result (λ m. m.sink ≡ empty_sink (sample_spec sink.now.spec) sink.now.guard sink.now.depth) }
+        ensures sink { IfOk result (λ m. m.sink ≡ empty_sink (sample_spec sink.now.spec) sink.now.guard sink.now.depth) }
+        ensures unaltered { IfOk result (λ m. m.unaltered ≡ 0) }
     {
         let size = sink.spec.frame_size();
         Ok(SinkMixer {
@@ -158,6 +162,7 @@ impl SinkMixer {
     ) -> Mem<Prepared>
         requires { AllByRecursion Opens messages.old.messages }
         ensures value { self.new.sink ≡ self.old.sink }
+        ensures unaltered { self.new.unaltered ≡ self.old.unaltered }
         ensures notices { out.new.notices ≡ out.old.notices }
         ensures messages { IfOk result (λ prepared. prepared.messages ≡ messages.old.messages) }
         ensures parcels { AllByRecursion BringsStream messages.old.messages }
@@ -183,6 +188,7 @@ impl SinkMixer {
         requires streams { AllByRecursion (λ x. IsStreamOf self.old.sink.spec (Stands.stream x)) self.old.sink.inputs }
         requires room { length out.old.notices + length (flat_map (going_notices (next_horizon self.old.sink frames - self.old.sink.horizon)) self.old.sink.inputs) ≤ out.old.capacity }
         ensures value { self.new.sink ≡ settled self.old.sink frames }
+        ensures unaltered { self.new.unaltered ≡ self.old.unaltered - (next_horizon self.old.sink frames - self.old.sink.horizon) }
         ensures room { self.new.room ≡ self.old.room }
         ensures block_room { self.new.block_room ≡ self.old.block_room }
         ensures notices { out.new.notices ≡ out.old.notices ++ flat_map (going_notices (next_horizon self.old.sink frames - self.old.sink.horizon)) self.old.sink.inputs }
@@ -214,7 +220,11 @@ impl SinkMixer {
         requires suits { CanTakeAll (self.old.sink.filled - self.old.sink.horizon) messages.old.messages self.old.sink.inputs }
         requires mixes { CanMixAll self.old.sink.spec.channels (self.old.sink.filled - self.old.sink.horizon) messages.old.messages self.old.sink.inputs }
         requires capacity { length out.old.notices + length (notices_of_messages self.old.sink messages.old.messages) ≤ out.old.capacity }
+        requires mixed { self.old.unaltered ≡ self.old.sink.filled - self.old.sink.horizon }
         ensures value { self.new.sink ≡ with_messages self.old.sink messages.old.messages }
+        ensures less { self.new.unaltered ≤ self.old.unaltered }
+        ensures ticks { steps.new + self.old.sink.spec.channels * ((self.old.sink.filled - self.old.sink.horizon) - self.new.unaltered)
+            ≤ steps.old + self.old.sink.spec.channels * costs_of (self.old.sink.filled - self.old.sink.horizon) messages.old.messages self.old.sink.inputs }
         ensures notices { out.new.notices ≡ out.old.notices ++ notices_of_messages self.old.sink messages.old.messages }
         ensures capacity { out.new.capacity ≡ out.old.capacity }
         ensures messages { messages.new.messages ≡ [] }
@@ -228,6 +238,7 @@ impl SinkMixer {
     /// Gives up all frames from the horizon on, for good.
     pub(crate) fn give_up(&mut self)
         ensures value { self.new.sink ≡ given_up self.old.sink }
+        ensures unaltered { self.new.unaltered ≡ 0 }
         ensures whole { AreFramesOf (frame_size self.new.sink.spec) self.new.sink.buffer }
         ensures room { self.new.room ≡ self.old.room }
         ensures block_room { self.new.block_room ≡ self.old.block_room }
@@ -247,6 +258,9 @@ impl SinkMixer {
         ensures value { self.new.sink ≡ remixed samples self.old.sink }
         ensures within { result ≤ self.old.sink.filled - self.old.sink.horizon }
         ensures stay { take ((self.old.sink.horizon - self.old.sink.consumed) + result) self.new.sink.buffer ≡ take ((self.old.sink.horizon - self.old.sink.consumed) + result) self.old.sink.buffer }
+        ensures unaltered { self.new.unaltered ≡ self.new.sink.filled - self.new.sink.horizon }
+        ensures ticks { steps.new ≤ steps.old + self.old.sink.spec.channels * mix_cost (self.old.sink.consumed + self.old.sink.depth - self.old.sink.filled) (length self.old.sink.inputs)
+            + self.old.sink.spec.channels * ((self.old.sink.filled - self.old.sink.horizon) - self.old.unaltered) }
         ensures whole { AreFramesOf (frame_size self.new.sink.spec) self.new.sink.buffer }
         ensures room { self.new.room ≡ self.old.room }
         ensures block_room { self.new.block_room ≡ self.old.block_room }
@@ -265,6 +279,7 @@ impl SinkMixer {
     pub(crate) fn ask(&mut self, out: &mut NoticeList)
         requires { length out.old.notices + length (flat_map (asked_notices (self.old.sink.filled - self.old.sink.horizon)) self.old.sink.inputs) ≤ out.old.capacity }
         ensures value { self.new.sink ≡ asked self.old.sink }
+        ensures unaltered { self.new.unaltered ≡ self.old.unaltered }
         ensures room { self.new.room ≡ self.old.room }
         ensures block_room { self.new.block_room ≡ self.old.block_room }
         ensures notices { out.new.notices ≡ out.old.notices ++ flat_map (asked_notices (self.old.sink.filled - self.old.sink.horizon)) self.old.sink.inputs }
@@ -295,6 +310,7 @@ impl SinkMixer {
         steps: &mut Steps<T>,
     ) -> u64
         requires lane { IsLane self.old.sink }
+        requires mixed { self.old.unaltered ≡ self.old.sink.filled - self.old.sink.horizon }
         requires there { frames ≤ self.old.sink.filled - self.old.sink.consumed }
         requires countable { self.old.sink.filled ≤ 2 ^ 60 }
         requires messages { AreFor self.old.sink messages.old.messages }
@@ -307,6 +323,8 @@ impl SinkMixer {
         ensures within { result ≤ self.old.sink.filled - next_horizon self.old.sink frames }
         ensures stay { take ((next_horizon self.old.sink frames - (self.old.sink.consumed + frames)) + result) self.new.sink.buffer ≡ take ((next_horizon self.old.sink frames - (self.old.sink.consumed + frames)) + result) (drop frames self.old.sink.buffer) }
         ensures lane { IsLane self.new.sink }
+        ensures mixed { self.new.unaltered ≡ self.new.sink.filled - self.new.sink.horizon }
+        ensures ticks { steps.new ≤ steps.old + turn_cost self.old.sink frames messages.old.messages }
         ensures notices { out.new.notices ≡ out.old.notices ++ turn_notices samples self.old.sink frames messages.old.messages }
         ensures capacity { out.new.capacity ≡ out.old.capacity }
         ensures messages { messages.new.messages ≡ [] }
@@ -329,6 +347,7 @@ impl SinkMixer {
         steps: &mut Steps<T>,
     )
         requires lane { IsLane self.old.sink }
+        requires mixed { self.old.unaltered ≡ self.old.sink.filled - self.old.sink.horizon }
         requires messages { AreFor self.old.sink messages.old.messages }
         requires room { length messages.old.messages ≤ self.old.room }
         requires block_room { sum_by blocks_of messages.old.messages ≤ self.old.block_room }
@@ -337,6 +356,8 @@ impl SinkMixer {
         requires capacity { length out.old.notices + length (stopped_notices self.old.sink messages.old.messages) ≤ out.old.capacity }
         ensures value { self.new.sink ≡ stopped_turn self.old.sink messages.old.messages }
         ensures lane { IsLane self.new.sink }
+        ensures mixed { self.new.unaltered ≡ self.new.sink.filled - self.new.sink.horizon }
+        ensures ticks { steps.new ≤ steps.old }
         ensures notices { out.new.notices ≡ out.old.notices ++ stopped_notices self.old.sink messages.old.messages }
         ensures capacity { out.new.capacity ≡ out.old.capacity }
         ensures messages { messages.new.messages ≡ [] }

@@ -1,5 +1,5 @@
 // The messages of a turn, taken by the inputs of a sink with the kept sums of their mix.
-ghost use Rattle.std.specs.Prelude.{◌≡◌, ◌≤◌, ◌+◌, ◌-◌, ◌++◌, [], length};
+ghost use Rattle.std.specs.Prelude.{◌≡◌, ◌≤◌, ◌+◌, ◌-◌, ◌*◌, ◌++◌, [], length};
 ghost use Rattle.std.specs.List.{sum_by};
 ghost use Rattle.px_model.specs.Frame.{SampleSpec};
 ghost use Rattle.px_model.specs.Turn.{inputs_with_all, all_message_notices};
@@ -7,6 +7,7 @@ ghost use Rattle.px_lane.specs.Mixed.{CanMix, CanMixAll};
 ghost use Rattle.px_lane.specs.Needed.{blocks_of};
 ghost use Rattle.px_lane.specs.Taking.{CanTakeAll, HasRoomLeft, ready_blocks, ready_inputs, ready_notices, ReadySuits};
 ghost use Rattle.px_lane.specs.Unaltered.{MixesSame};
+ghost use Rattle.px_lane.specs.Costs.{ready_cost, costs_of};
 
 use crate::NoticeList;
 use crate::mixed::MixedInputs;
@@ -45,6 +46,7 @@ impl MixedInputs {
         ensures notices { out.new.notices ≡ out.old.notices ++ ready_notices self.old.frames buffered message self.old.inputs }
         ensures capacity { out.new.capacity ≡ out.old.capacity }
         ensures unaltered { (sink : SampleSpec) → MixesSame sink result self.old.inputs self.new.inputs }
+        ensures ticks { steps.new + self.old.spec.channels * (self.old.frames - result) ≤ steps.old + self.old.spec.channels * ready_cost self.old.frames message self.old.inputs }
     {
         match message {
             Ready::Insert { input, stream } => self.insert(input, stream, steps),
@@ -70,10 +72,10 @@ impl MixedInputs {
                 }
                 return altered.unaltered;
             }
-            Ready::Each(list) => self.set_factors(list.as_slice(), blocks, steps),
+            Ready::Each(list) => return self.set_factors(list.as_slice(), blocks, steps),
             Ready::Answer { input, tag } => {
                 self.answer(input, tag, buffered, out);
-                return u64::MAX;
+                return self.frames() as u64;
             }
         }
         0
@@ -105,8 +107,9 @@ impl MixedInputs {
         ensures messages { messages.new.messages ≡ [] }
         ensures list { messages.new.capacity ≡ messages.old.capacity }
         ensures unaltered { (sink : SampleSpec) → MixesSame sink result self.old.inputs self.new.inputs }
+        ensures ticks { steps.new + self.old.spec.channels * (self.old.frames - result) ≤ steps.old + self.old.spec.channels * costs_of self.old.frames messages.old.messages self.old.inputs }
     {
-        let mut unaltered = u64::MAX;
+        let mut unaltered = self.frames() as u64;
         while let Some(message) = messages.next() {
             let same = self.take(message, buffered, out, blocks, steps);
             unaltered = unaltered.min(same);

@@ -1,5 +1,5 @@
 // A turn with its entry.
-ghost use Rattle.std.specs.Prelude.{◌≡◌, [], length, IsFalse, IfOk, OnErr};
+ghost use Rattle.std.specs.Prelude.{◌≡◌, ◌<◌, ◌≤◌, ◌^◌, [], length, IsFalse, IfOk, OnOk, OnErr, MatchResult};
 ghost use Rattle.std.specs.Option.{option_map};
 ghost use Rattle.px_annals.specs.History.{noted, sizes_by, ReadyCounts};
 ghost use Rattle.px_annals.specs.Size.{size_of_lane_entry};
@@ -8,6 +8,7 @@ ghost use Rattle.px_model.specs.Orderly.{IsOrderly};
 ghost use Rattle.px_model.specs.Sink.{specs_of};
 ghost use Rattle.px_model.specs.Stream.{Stream as Plain};
 ghost use Rattle.px_lane.specs.Lane.{IsAttached};
+ghost use Rattle.px_lane.specs.Turned.{Turns, Refuses};
 ghost use Rattle.px_lane_cell.specs.Turning.{consumed_in, IsNoted, recorder_said, SaysWhy, IsWorn};
 
 use crate::fault::CellFault;
@@ -15,8 +16,11 @@ use crate::plain::plain_messages;
 use px_annals::{Entry, LaneEntry, Recorder};
 use px_block::BlockSource;
 use px_ends::Device;
+use px_kernel::Steps;
 use px_lane::{Lane, LaneFault, MsgList, NoticeList, Turned};
 use std::alloc::Global;
+use std::marker::Brand;
+use std::sync::ledger::{Blank, Ledger};
 
 // The frames that a turn's sync consumed, none where the sink has stopped.
 fn consumed_in(turned: Turned) -> Option<u32>
@@ -29,6 +33,30 @@ fn consumed_in(turned: Turned) -> Option<u32>
         } => Some(frames),
         Turned::Stopped { faults: _ } => None,
     }
+}
+
+// A turn with a count of the samples that it touches, which ends with it.
+fn counted<D: Device + Drop, B: BlockSource, T: Ledger>(
+    blank: Blank,
+    alloc: Global,
+    lane: &mut Lane<D>,
+    messages: &mut MsgList,
+    notices: &mut NoticeList,
+    blocks: &mut B,
+) -> Result<Turned, LaneFault>
+    requires name { blank.name ≡ T.name }
+    requires parts { blank.parts ≡ T.parts }
+    requires some { 0 < T.parts }
+    requires messages { IsOrderly Plain.spec lane.old.sink.spec (specs_of lane.old.sink.inputs) messages.old.messages }
+    requires attached { IsFalse lane.old.sink.stopped → IsAttached (D.now lane.old.device) lane.old.sink }
+    ensures ok { IfOk result (Turns D.now lane.old lane.new messages.old.messages notices.old.notices notices.new.notices) }
+    ensures empty { OnOk result (messages.new.messages ≡ []) }
+    ensures worn { MatchResult result (λ turned. lane.old.sink.filled ≤ 2 ^ 60) (Refuses lane.old.sink.filled) }
+    ensures err { OnErr result ((lane.new ≡ lane.old) × (messages.new ≡ messages.old) × (notices.new.notices ≡ notices.old.notices)) }
+    ensures message_room { messages.new.capacity ≡ messages.old.capacity }
+{
+    let mut steps = Steps::<T>::new(blank);
+    lane.turn(alloc, messages, notices, blocks, &mut steps)
 }
 
 /// A turn with all of these messages, and its entry noted.
@@ -62,7 +90,7 @@ pub(crate) fn turn_noted<D: Device + Drop, R: Recorder<LaneEntry>, B: BlockSourc
     if let Err(fault) = recorder.ready(entry.size()) {
         return Err(CellFault::Recorder(fault));
     }
-    match lane.turn(alloc, messages, notices, blocks) {
+    match counted::<D, B, Brand>(Blank::new(1), alloc, lane, messages, notices, blocks) {
         Ok(turned) => {
             entry.consumed = consumed_in(turned);
             recorder.note(entry);

@@ -1,6 +1,9 @@
 //! A sink's mixer over its device in memory.
 
-ghost use Rattle.std.specs.Prelude.{◌≡◌, ◌≤◌, ◌-◌, ◌^◌, List, [], length, IfOk, OnOk, Some};
+ghost use Rattle.std.specs.Prelude.{◌≡◌, ◌<◌, ◌≤◌, ◌-◌, ◌^◌, List, [], length, IsFalse, IfOk, OnOk, MatchResult, Some};
+ghost use Rattle.px_ends.specs.MemoryDevice.{state_of};
+ghost use Rattle.px_lane.specs.Lane.{IsAttached};
+ghost use Rattle.px_lane.specs.Turned.{Turns, Refuses};
 ghost use Rattle.std.specs.List.{concat};
 ghost use Rattle.px_session.specs.HeaderRules.{IsSink};
 ghost use Rattle.px_session.specs.declared.header.SinkSpec.{SinkSpec as Spec};
@@ -15,10 +18,13 @@ ghost use Rattle.px_world.specs.Doing.{told_to_fail};
 
 use px_block::Fresh;
 use px_ends::{DeviceShape, MemDevice, Played};
-use px_lane::{Lane, MsgList, NoticeList, Turned};
+use px_kernel::Steps;
+use px_lane::{Lane, LaneFault, MsgList, NoticeList, Turned};
 use px_session::SinkSpec;
 use px_types::{Mem, NoMemory};
 use std::alloc::Global;
+use std::marker::Brand;
+use std::sync::ledger::{Blank, Ledger};
 
 /// A sink's mixer over its device, with the notices that the core hasn't taken yet.
 #[derive(Drop)]
@@ -45,6 +51,27 @@ fn shape_of(sink: &SinkSpec) -> DeviceShape
         guard: sink.guard,
         depth: sink.depth,
     }
+}
+
+// A turn with a count of the samples that it touches, which ends with it.
+fn counted<T: Ledger>(
+    blank: Blank,
+    alloc: Global,
+    lane: &mut Lane<MemDevice>,
+    messages: &mut MsgList,
+    notices: &mut NoticeList,
+    blocks: &mut Fresh,
+) -> Result<Turned, LaneFault>
+    requires name { blank.name ≡ T.name }
+    requires parts { blank.parts ≡ T.parts }
+    requires some { 0 < T.parts }
+    requires messages { IsOrderly Plain.spec lane.old.sink.spec (specs_of lane.old.sink.inputs) messages.old.messages }
+    requires attached { IsFalse lane.old.sink.stopped → IsAttached (state_of lane.old.device) lane.old.sink }
+    ensures ok { IfOk result (Turns state_of lane.old lane.new messages.old.messages notices.old.notices notices.new.notices) }
+    ensures worn { MatchResult result (λ turned. lane.old.sink.filled ≤ 2 ^ 60) (Refuses lane.old.sink.filled) }
+{
+    let mut steps = Steps::<T>::new(blank);
+    lane.turn(alloc, messages, notices, blocks, &mut steps)
 }
 
 // No bytes.
@@ -87,7 +114,14 @@ impl Playing {
         ensures bytes { IfOk result (λ sound. sound.bytes ≡ concat (played_of (Some (mixer_of self.old)) frames)) }
     {
         self.lane.device_mut().arm(frames)?;
-        let Ok(turned) = self.lane.turn(alloc, messages, &mut self.notices, blocks) else {
+        let Ok(turned) = counted::<Brand>(
+            Blank::new(1),
+            alloc,
+            &mut self.lane,
+            messages,
+            &mut self.notices,
+            blocks,
+        ) else {
             return Err(NoMemory);
         };
         let bytes = self.lane.device_mut().take_played(alloc)?;

@@ -1,4 +1,4 @@
-use Rattle.std.proofs.Common.{◌≡◌, ℕ, ◌-◌, ◌≤◌, Bool, length, refl, ap, sym, ◌∙◌, subst, arith, rules}
+use Rattle.std.proofs.Common.{◌≡◌, ℕ, ◌+◌, ◌-◌, ◌≤◌, Bool, length, refl, ap, sym, ◌∙◌, subst, arith, rules}
 use Rattle.std.specs.Prelude.{IsFalse, Option}
 use Rattle.px_ends.specs.Device.{DeviceState, Consumes, Next, is_failing}
 use Rattle.px_model.specs.Sink.{Sink}
@@ -6,6 +6,7 @@ use Rattle.px_lane.specs.declared.lane.Turned.{Turned}
 use Rattle.px_lane.specs.Turned.{Turns}
 use Rattle.px_lane.specs.Lane.{IsAttached}
 use Rattle.px_lane.proofs.Attached.{stop_room, synced, synced_played}
+use Rattle.px_lane.specs.Costs.{cost_by}
 use Rattle.px_lane.proofs.lane.run.Goals as goal
 
 pub stop-requires-clause-capacity : goal.stop-requires-clause-capacity
@@ -56,3 +57,7 @@ returns-in-Ok-clause-turns g c =
 
 pub returns-in-Ok-clause-counted : goal.returns-in-Ok-clause-counted
 returns-in-Ok-clause-counted g c = λ stops. c.requires.counted (sym (ap (λ (s : Sink). s.stopped) c.play.ensures.value) ∙ stops)
+
+pub returns-in-Ok-clause-ticks : goal.returns-in-Ok-clause-ticks
+returns-in-Ok-clause-ticks g c =
+    subst (λ (t : Turned). c.play.new.steps ≤ c.args.steps.now + cost_by c.args.mixer.now.sink c.args.messages.now.messages t) (sym c.play.ensures.result) c.play.ensures.ticks

@@ -8,12 +8,12 @@ use Rattle.px_lane_cell.specs.Meaning.{message_meant}
 use Rattle.px_lane_cell.proofs.Whole.{is_noted}
 use Rattle.px_lane_cell.proofs.turning.turn_noted.Goals as goal
 
-pub returns-in-Ok-turn-clause-ok : goal.returns-in-Ok-turn-clause-ok
-returns-in-Ok-turn-clause-ok g c =
+pub returns-in-Ok-counted-clause-ok : goal.returns-in-Ok-counted-clause-ok
+returns-in-Ok-counted-clause-ok g c =
     let entry : LaneEntry = record { consumed = c.consumed_in-entry.result; messages = c.in-Ok.plain } in (
       entry,
       c.note.ensures.told ∙ ap (noted entry) c.ready.ensures.told,
       sym (length-map c.in-Ok.plain message_meant) ∙ ap (λ (ms : List (Message Stream)). length ms) c.in-Ok.ensures,
-      c.in-Ok-turn.ensures.empty,
-      is_noted g.D.Device.now c.args.lane.now c.turn.new.self c.args.messages.now.messages c.args.notices.now.notices c.turn.new.out.notices c.in-Ok-turn.turned entry c.consumed_in-entry.ensures c.in-Ok.ensures c.in-Ok-turn.ensures.ok,
+      c.in-Ok-counted.ensures.empty,
+      is_noted g.D.Device.now c.args.lane.now c.counted.new.lane c.args.messages.now.messages c.args.notices.now.notices c.counted.new.notices.notices c.in-Ok-counted.turned entry c.consumed_in-entry.ensures c.in-Ok.ensures c.in-Ok-counted.ensures.ok,
     )

@@ -1,4 +1,4 @@
-use Rattle.std.proofs.Common.{◌≡◌, ◌∙◌, List, ap, sym, subst}
+use Rattle.std.proofs.Common.{◌∙◌, List, ap, sym, subst}
 use Rattle.px_model.specs.Sink.{Input as Stands, IsRising, stream_at}
 use Rattle.px_lane.specs.Room.{RoomyInputs}
 use Rattle.px_lane.specs.Inputs.{inputs_of}

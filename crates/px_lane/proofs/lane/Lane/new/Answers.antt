@@ -1,4 +1,4 @@
-use Rattle.std.proofs.Common.{sym, subst, ap, ◌∙◌}
+use Rattle.std.proofs.Common.{◌-◌, sym, subst, ap, ◌∙◌}
 use Rattle.std.proofs.lemmas.Bool.{false≢true}
 use Rattle.px_model.specs.Sink.{Sink}
 use Rattle.px_msg.specs.View.{sample_spec}
@@ -10,6 +10,7 @@ use Rattle.px_lane.proofs.lane.Lane.new.Goals as goal
 pub invariant_of-result : goal.invariant_of-result
 invariant_of-result g c =
     let sink = c.args.sink.now in (
-      subst IsLane (sym c.in_ok-new.ensures) (empty_lane (sample_spec sink.spec) sink.guard sink.depth c.requires.low_depth (some_bytes sink.spec c.requires.mixed.some_channels)),
-      λ stops. absurd (false≢true (sym (ap (λ (s : Sink). s.stopped) c.in_ok-new.ensures) ∙ stops)),
+      subst IsLane (sym c.in_ok-new.ensures.sink) (empty_lane (sample_spec sink.spec) sink.guard sink.depth c.requires.low_depth (some_bytes sink.spec c.requires.mixed.some_channels)),
+      λ stops. absurd (false≢true (sym (ap (λ (s : Sink). s.stopped) c.in_ok-new.ensures.sink) ∙ stops)),
+      c.in_ok-new.ensures.unaltered ∙ sym (ap (λ (s : Sink). s.filled - s.horizon) c.in_ok-new.ensures.sink),
     )

@@ -1,4 +1,4 @@
-use Rattle.std.proofs.Common.{◌≡◌, List, length, refl, ap, sym, ◌∙◌, subst}
+use Rattle.std.proofs.Common.{List, refl, sym, subst}
 use Rattle.px_model.specs.Sink.{Input}
 use Rattle.px_model.specs.Turn.{asked_stream}
 use Rattle.px_share.specs.Keeping.{IsKept}

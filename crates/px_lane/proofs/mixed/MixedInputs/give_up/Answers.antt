@@ -1,4 +1,4 @@
-use Rattle.std.proofs.Common.{◌≡◌, ◌-◌, sym, ◌∙◌, arith}
+use Rattle.std.proofs.Common.{◌∙◌, arith}
 use Rattle.px_lane.proofs.Sharing.{none_kept}
 use Rattle.px_lane.proofs.mixed.MixedInputs.give_up.Goals as goal
 

@@ -1,9 +1,10 @@
-use Rattle.std.proofs.Common.{◌≡◌, ℕ, ◌+◌, ◌-◌, ◌≤◌, List, length, false, true, ap, sym, ◌∙◌, subst, arith}
+use Rattle.std.proofs.Common.{◌+◌, ◌*◌, ◌≤◌, List, false, ap, sym, ◌∙◌, subst, arith}
 use Rattle.px_model.specs.Sink.{Input, stream_at, with_input}
-use Rattle.px_share.specs.Keeping.{AreSmall, AreLittle, IsKept}
+use Rattle.px_share.specs.Keeping.{AreLittle, IsKept}
 use Rattle.px_share.proofs.Exchanging.{small, one_more_small, comes}
 use Rattle.px_lane.specs.Mixed.{SummedInputs, CanMix}
 use Rattle.px_lane.proofs.Sharing.{roomy}
+use Rattle.px_lane.proofs.Costs.{two_shares}
 use Rattle.px_lane.proofs.mixed.MixedInputs.insert.Goals as goal
 
 pub share-requires-clause-room : goal.share-requires-clause-room
@@ -39,3 +40,10 @@ invariant_of-self g c =
           (subst (AreLittle d.spec c.args.stream.stream 0) c.share.ensures.large.frames c.change.ensures.little)),
       c.self.invariant.3 ∙ sym (c.change.ensures.large.frames ∙ c.share.ensures.large.frames),
     )
+
+pub returns-clause-ticks : goal.returns-clause-ticks
+returns-clause-ticks g c =
+    let d = c.self.inside in
+    subst (λ (v : SummedInputs). c.change.new.steps ≤ c.args.steps.now + v.spec.channels * (4 * v.frames)) c.self.view_is
+    (two_shares d.spec.channels d.kept.frames c.share.new.kept.frames 0 d.frames c.args.steps.now c.share.new.steps c.change.new.steps
+    (omega (arith, c.self.invariant.3)) (omega (arith, c.self.invariant.3, c.share.ensures.large.frames)) c.share.ensures.ticks c.change.ensures.ticks)

@@ -1,12 +1,13 @@
-use Rattle.std.proofs.Common.{◌≡◌, ℕ, ◌<◌, ◌≤◌, List, length, ap, sym, ◌∙◌, subst, arith}
+use Rattle.std.proofs.Common.{◌+◌, ◌-◌, ◌*◌, ◌≤◌, List, length, ap, sym, ◌∙◌, subst, arith}
 use Rattle.px_msg.specs.View.{sample_spec}
 use Rattle.px_model.specs.Sink.{Input}
 use Rattle.px_stream.specs.Samples.{samples}
 use Rattle.px_sums.specs.Kept.{AreKept}
 use Rattle.px_mixcache.specs.Cache.{kept_at}
 use Rattle.px_share.specs.Keeping.{IsKept}
-use Rattle.px_lane.specs.Mixed.{CanMix}
 use Rattle.px_lane.proofs.Growing.{extended_kept}
+use Rattle.px_lane.specs.Mixed.{SummedInputs, CanMix}
+use Rattle.px_lane.proofs.Costs.{grown, as_many}
 use Rattle.px_lane.proofs.mixed.MixedInputs.mix.Goals as goal
 
 pub add_each-requires-clause-mixes : goal.add_each-requires-clause-mixes
@@ -29,3 +30,10 @@ invariant_of-self g c =
       subst (λ (xs : List Input). IsKept d.spec xs c.add_each.new.kept) c.as_slice.ensures c.add_each.ensures.kept,
       sym (c.add_each.ensures.large.frames ∙ c.extend.ensures.frames),
     )
+
+pub returns-clause-ticks : goal.returns-clause-ticks
+returns-clause-ticks g c =
+    let d = c.self.inside in
+    subst (λ (v : SummedInputs). c.add_each.new.steps ≤ c.args.steps.now + length v.inputs * (2 * (v.spec.channels * (c.args.to - v.frames)))) c.self.view_is
+    (grown (length c.as_slice.result.now) (length d.inputs.inputs) d.spec.channels c.extend.new.self.frames c.args.to d.frames c.args.steps.now c.add_each.new.steps
+    (as_many c.as_slice.result.now ∙ ap (λ (xs : List Input). length xs) c.as_slice.ensures) c.extend.ensures.frames c.add_each.ensures.ticks)

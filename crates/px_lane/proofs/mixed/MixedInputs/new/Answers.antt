@@ -1,6 +1,4 @@
-use Rattle.std.proofs.Common.{◌≡◌, ℕ, [], List, length, sym, ◌∙◌, subst, arith}
-use Rattle.px_model.specs.Sink.{Input}
-use Rattle.px_share.specs.Keeping.{IsKept}
+use Rattle.std.proofs.Common.{sym, subst, arith}
 use Rattle.px_lane.specs.Mixed.{CanMix}
 use Rattle.px_lane.proofs.Sharing.{none_kept}
 use Rattle.px_lane.proofs.mixed.MixedInputs.new.Goals as goal

@@ -1,14 +1,16 @@
-use Rattle.std.proofs.Common.{◌≡◌, ℕ, ◌<◌, List, Option, length, false, true, ap, sym, ◌∙◌, subst, arith}
+use Rattle.std.proofs.Common.{◌≡◌, ◌+◌, ◌*◌, ◌≤◌, List, Option, Bool, false, true, cond, ap, sym, ◌∙◌, subst, arith}
 use Rattle.px_model.specs.Control.{with_factors}
 use Rattle.px_model.specs.Stream.{Stream}
-use Rattle.px_model.specs.Sink.{Input, IsRising, stream_at, with_change}
+use Rattle.px_model.specs.Sink.{Input, stream_at, with_change}
 use Rattle.px_sums.specs.Kept.{changed_there}
 use Rattle.px_share.specs.Keeping.{AreLittleThere, SharesThere, IsKept}
 use Rattle.px_share.proofs.Exchanging.{small, one_more_small, changes}
 use Rattle.px_lane.specs.Mixed.{SummedInputs, CanMix}
 use Rattle.px_lane.specs.Taking.{AreFed}
-use Rattle.px_lane.proofs.Rising.{rising_change}
 use Rattle.px_lane.proofs.Sharing.{roomy, sounds_there, changed_at_index, can_mix_factors}
+use Rattle.px_lane.specs.Costs.{has_others}
+use Rattle.px_lane.proofs.Entries.{factors_stay}
+use Rattle.px_lane.proofs.Costs.{two_shares}
 use Rattle.px_lane.proofs.mixed.MixedInputs.set_one.Goals as goal
 
 pub share-requires-clause-room : goal.share-requires-clause-room
@@ -49,3 +51,26 @@ invariant_of-self g c =
 
 pub returns-clause-inputs : goal.returns-clause-inputs
 returns-clause-inputs g c = c.set_one.ensures.inputs ∙ ap (λ (v : SummedInputs). with_change c.args.input.0 (λ s. with_factors s c.args.factors) v.inputs) c.self.view_is
+
+pub returns-clause-ticks : goal.returns-clause-ticks
+returns-clause-ticks g c =
+    let d = c.self.inside in
+    subst (λ (v : SummedInputs). c.share-2.new.steps ≤ c.args.steps.now + v.spec.channels * (4 * (v.frames * 1))) c.self.view_is
+    (two_shares d.spec.channels d.kept.frames c.share.new.kept.frames 0 (d.frames * 1) c.args.steps.now c.share.new.steps c.share-2.new.steps
+    (omega (arith, c.self.invariant.3)) (omega (arith, c.self.invariant.3, c.share.ensures.large.frames)) c.share.ensures.ticks c.share-2.ensures.ticks)
+
+pub returns-clause-none : goal.returns-clause-none
+returns-clause-none g c = λ none. absurd (omega (arith, none))
+
+pub returns-clause-count : goal.returns-clause-count
+returns-clause-count g c =
+    let others : has_others c.args.factors (stream_at c.args.input.0 c.args.self.now.inputs) ≡ true =
+    ap (λ (v : SummedInputs). has_others c.args.factors (stream_at c.args.input.0 v.inputs)) (sym c.self.view_is) ∙ sym c.has_others.ensures.others ∙ c.if-not-has_others.false in
+    sym (ap (λ (b : Bool). cond b 1 0) others)
+
+pub returns-then-not-has_others-clause-inputs : goal.returns-then-not-has_others-clause-inputs
+returns-then-not-has_others-clause-inputs g c =
+    let d = c.self.inside in
+    ap (λ (v : SummedInputs). v.inputs) (sym c.self.view_is)
+    ∙ sym (factors_stay c.args.factors c.args.input.0 d.inputs.inputs c.has_others.ensures.rising (sym c.has_others.ensures.others ∙ c.if-not-has_others.true))
+    ∙ ap (λ (v : SummedInputs). with_change c.args.input.0 (λ s. with_factors s c.args.factors) v.inputs) c.self.view_is

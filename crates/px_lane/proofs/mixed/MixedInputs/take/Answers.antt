@@ -1,4 +1,4 @@
-use Rattle.std.proofs.Common.{◌≡◌, length, ap, ◌∙◌, subst}
+use Rattle.std.proofs.Common.{◌+◌, ◌-◌, ◌*◌, ◌≤◌, length, ap, sym, ◌∙◌, subst, arith}
 use Rattle.px_model.specs.Stream.{Stream}
 use Rattle.px_model.specs.Applied.{applied}
 use Rattle.px_model.specs.Message.{StreamMessage}
@@ -6,6 +6,8 @@ use Rattle.px_lane.specs.declared.ready.Ready.{Ready}
 use Rattle.px_lane.specs.Mixed.{CanMix}
 use Rattle.px_lane.specs.Taking.{ready_inputs}
 use Rattle.px_lane.proofs.Sharing.{come_fed}
+use Rattle.px_lane.specs.Costs.{ready_cost}
+use Rattle.px_lane.proofs.Costs.{clipped_too}
 use Rattle.px_lane.proofs.mixed.MixedInputs.take.Goals as goal
 
 pub insert-requires-clause-fed : goal.insert-requires-clause-fed
@@ -19,3 +21,15 @@ insert-requires-in-Join-clause-fed g c =
     ap (λ (s : Stream). length s.feed) c.apply.ensures.stream
     ∙ come_fed c.args.self.now.spec.channels c.in-Join.input.0 (applied c.args.self.now.frames (StreamMessage.attach c.in-Join.feed c.in-Join.factors) c.in-Join.parcel.stream) c.args.self.now.inputs
     (subst (λ (r : Ready). CanMix c.args.self.now.spec.channels (ready_inputs c.args.self.now.frames r c.args.self.now.inputs)) c.in-Join.is c.requires.mixes).fed
+
+pub returns-in-Some-clause-ticks : goal.returns-in-Some-clause-ticks
+returns-in-Some-clause-ticks g c =
+    let m = c.args.self.now in
+    subst (λ (r : Ready). c.remove.new.steps + c.args.self.now.spec.channels * (c.args.self.now.frames - 0) ≤ c.args.steps.now + c.args.self.now.spec.channels * ready_cost c.args.self.now.frames r c.args.self.now.inputs) (sym c.in-Remove.is)
+    (clipped_too m.spec.channels (2 * m.frames) m.frames 0 (5 * m.frames) c.args.steps.now c.remove.new.steps c.remove.ensures.ticks (omega arith))
+
+pub returns-in-None-clause-ticks : goal.returns-in-None-clause-ticks
+returns-in-None-clause-ticks g c =
+    let m = c.args.self.now in
+    subst (λ (r : Ready). c.remove.new.steps + c.args.self.now.spec.channels * (c.args.self.now.frames - 0) ≤ c.args.steps.now + c.args.self.now.spec.channels * ready_cost c.args.self.now.frames r c.args.self.now.inputs) (sym c.in-Remove.is)
+    (clipped_too m.spec.channels (2 * m.frames) m.frames 0 (5 * m.frames) c.args.steps.now c.remove.new.steps c.remove.ensures.ticks (omega arith))

@@ -1,4 +1,4 @@
-use Rattle.std.proofs.Common.{◌≡◌, ℕ, ◌+◌, ◌-◌, ◌≤◌, ◌++◌, List, length, ap, sym, ◌∙◌, subst, arith, append_assoc}
+use Rattle.std.proofs.Common.{◌≡◌, ℕ, ◌+◌, ◌-◌, ◌*◌, ◌≤◌, ◌++◌, List, length, ap, sym, ◌∙◌, subst, arith, append_assoc}
 use Rattle.std.specs.List.{sum_by}
 use Rattle.std.proofs.lemmas.List.Sums.{sum_by-cons}
 use Rattle.px_sample.specs.declared.spec.Spec.{Spec}
@@ -11,7 +11,9 @@ use Rattle.px_lane.specs.Mixed.{CanMix, CanMixAll}
 use Rattle.px_lane.specs.Needed.{blocks_of}
 use Rattle.px_lane.specs.Taking.{CanTakeAll, ready_inputs, ready_notices}
 use Rattle.px_lane.proofs.Readied.{take_fits, left_less}
+use Rattle.px_lane.specs.Costs.{ready_cost, cost_of, costs_of}
 use Rattle.px_lane.proofs.Mixable.{mixes_now}
+use Rattle.px_lane.proofs.Costs.{next_cost}
 use Rattle.px_lane.proofs.mixed.MixedInputs.take_all.Goals as goal
 
 pub take-same-requires-clause-block_room : goal.take-same-requires-clause-block_room
@@ -61,7 +63,11 @@ loop-message-preserved g c =
     let inputs : c.take-same.new.self.inputs ≡ inputs_with mixed m l.self.inputs =
     c.take-same.ensures.inputs ∙ ap (λ (f : ℕ). ready_inputs f c.in-Some.message l.self.inputs) l.invariant.12 ∙ n.2.inputs mixed l.self.inputs in
     let told : c.take-same.new.out.notices ≡ l.out.notices ++ message_notices mixed buffered m l.self.inputs =
-    c.take-same.ensures.notices ∙ ap (λ (f : ℕ). l.out.notices ++ ready_notices f buffered c.in-Some.message l.self.inputs) l.invariant.12 ∙ ap (λ (ns : List (Notice Stream)). l.out.notices ++ ns) (n.2.notices mixed buffered l.self.inputs) in (
+    c.take-same.ensures.notices ∙ ap (λ (f : ℕ). l.out.notices ++ ready_notices f buffered c.in-Some.message l.self.inputs) l.invariant.12 ∙ ap (λ (ns : List (Notice Stream)). l.out.notices ++ ns) (n.2.notices mixed buffered l.self.inputs) in
+    let told_cost : c.take-same.new.steps + c.args.self.now.spec.channels * (mixed - c.take-same.result) ≤ l.steps + c.args.self.now.spec.channels * cost_of mixed m l.self.inputs =
+    subst (λ (x : ℕ). c.take-same.new.steps + c.args.self.now.spec.channels * (mixed - c.take-same.result) ≤ l.steps + c.args.self.now.spec.channels * x) (n.2.costs mixed l.self.inputs)
+    (subst (λ (f : ℕ). c.take-same.new.steps + c.args.self.now.spec.channels * (f - c.take-same.result) ≤ l.steps + c.args.self.now.spec.channels * ready_cost f c.in-Some.message l.self.inputs) l.invariant.12
+    (subst (λ (s : Spec). c.take-same.new.steps + s.channels * (l.self.frames - c.take-same.result) ≤ l.steps + s.channels * ready_cost l.self.frames c.in-Some.message l.self.inputs) l.invariant.10 c.take-same.ensures.ticks)) in (
       ap (λ (xs : List Stands). inputs_with_all mixed rest xs) inputs ∙ ap (λ (ms : List (Message Stream)). inputs_with_all mixed ms l.self.inputs) (sym n.1) ∙ l.invariant.0,
       ap (λ (ns : List (Notice Stream)). ns ++ all_message_notices mixed buffered rest c.take-same.new.self.inputs) told
           ∙ append_assoc l.out.notices (message_notices mixed buffered m l.self.inputs) (all_message_notices mixed buffered rest c.take-same.new.self.inputs)
@@ -80,4 +86,10 @@ loop-message-preserved g c =
       c.take-same.ensures.depth ∙ l.invariant.11,
       c.take-same.ensures.frames ∙ l.invariant.12,
       subst (λ (xs : List Stands). CanMixAll c.args.self.now.spec.channels mixed rest xs) (sym inputs) (subst (λ (ms : List (Message Stream)). CanMixAll c.args.self.now.spec.channels mixed ms l.self.inputs) n.1 l.invariant.13).1,
+      next_cost c.args.self.now.spec.channels mixed l.unaltered c.take-same.result c.min-unaltered.result (cost_of mixed m l.self.inputs) (costs_of mixed rest c.take-same.new.self.inputs)
+          l.steps c.take-same.new.steps (c.args.steps.now + c.args.self.now.spec.channels * costs_of mixed c.args.messages.now.messages c.args.self.now.inputs) c.min-unaltered.ensures told_cost
+          (subst (λ (xs : List Stands). l.steps + c.args.self.now.spec.channels * (mixed - l.unaltered) + c.args.self.now.spec.channels * (cost_of mixed m l.self.inputs + costs_of mixed rest xs)
+          ≤ c.args.steps.now + c.args.self.now.spec.channels * costs_of mixed c.args.messages.now.messages c.args.self.now.inputs) (sym inputs)
+          (subst (λ (ms : List (Message Stream)). l.steps + c.args.self.now.spec.channels * (mixed - l.unaltered) + c.args.self.now.spec.channels * costs_of mixed ms l.self.inputs
+          ≤ c.args.steps.now + c.args.self.now.spec.channels * costs_of mixed c.args.messages.now.messages c.args.self.now.inputs) n.1 l.invariant.14)),
     )

@@ -1,4 +1,4 @@
-use Rattle.std.proofs.Common.{◌≡◌, ◌≤◌, ◌++◌, length}
+use Rattle.std.proofs.Common.{◌≡◌, ◌+◌, ◌-◌, ◌*◌, ◌≤◌, ◌++◌, length}
 use Rattle.std.specs.List.{sum_by}
 use Rattle.px_model.specs.Frame.{SampleSpec}
 use Rattle.px_model.specs.Turn.{inputs_with_all, all_message_notices}
@@ -6,6 +6,7 @@ use Rattle.px_lane.specs.Needed.{blocks_of}
 use Rattle.px_lane.specs.Mixed.{CanMixAll}
 use Rattle.px_lane.specs.Taking.{CanTakeAll}
 use Rattle.px_lane.specs.Unaltered.{MixesSame}
+use Rattle.px_lane.specs.Costs.{costs_of}
 use Rattle.px_lane.proofs.mixed.MixedInputs.take_all.Given as goal
 
 abbrev pub invariant-loop-message : goal.invariant-loop-message
@@ -24,6 +25,8 @@ invariant-loop-message g l =
     × (l.self.depth ≡ l.fn.self.depth)
     × (l.self.frames ≡ l.fn.self.frames)
     × CanMixAll l.fn.self.spec.channels l.fn.self.frames l.messages.messages l.self.inputs
+    × (l.steps + l.fn.self.spec.channels * (l.fn.self.frames - l.unaltered) + l.fn.self.spec.channels * costs_of l.fn.self.frames l.messages.messages l.self.inputs
+    ≤ l.fn.steps + l.fn.self.spec.channels * costs_of l.fn.self.frames l.fn.messages.messages l.fn.self.inputs)
 
 abbrev pub decreases-loop-message : goal.decreases-loop-message
 decreases-loop-message g l = length l.messages.messages

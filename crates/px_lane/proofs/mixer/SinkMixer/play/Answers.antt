@@ -1,4 +1,4 @@
-use Rattle.std.proofs.Common.{◌≡◌, ℕ, ◌+◌, ◌-◌, ◌^◌, ◌≤◌, length, take, ap, sym, ◌∙◌, subst, arith}
+use Rattle.std.proofs.Common.{◌≡◌, ℕ, ◌+◌, ◌-◌, ◌*◌, ◌^◌, ◌≤◌, length, take, ap, sym, ◌∙◌, subst, arith}
 use Rattle.std.specs.List.{AllByRecursion}
 use Rattle.px_model.specs.Frame.{frame_size}
 use Rattle.px_model.specs.Sink.{Sink, Input, IsStreamOf}
@@ -11,6 +11,8 @@ use Rattle.px_lane.specs.Mixed.{CanMixAll}
 use Rattle.px_lane.proofs.Mixable.{orderly_mixes}
 use Rattle.px_lane.proofs.Orders.{orderly_taken}
 use Rattle.px_lane.proofs.Turning.{told_suit, told_few, turned_lane}
+use Rattle.px_lane.specs.Costs.{costs_of, mix_cost, more_frames}
+use Rattle.px_lane.proofs.Costs.{settled_left, turned_cost}
 use Rattle.px_lane.proofs.mixer.SinkMixer.play.Goals as goal
 
 pub take_all-requires-clause-suits : goal.take_all-requires-clause-suits
@@ -74,3 +76,28 @@ returns-clause-lane g c =
     subst IsLane (sym (c.ask.ensures.value ∙ ap asked mixed))
     (turned_lane samples sink c.args.frames messages c.requires.lane c.requires.there c.requires.messages
     (subst (λ (s : Sink). AreFramesOf (frame_size s.spec) s.buffer) mixed c.remix-stay.ensures.whole))
+
+pub take_all-requires-clause-mixed : goal.take_all-requires-clause-mixed
+take_all-requires-clause-mixed g c =
+    let sink = c.args.self.now.sink in
+    let keeps = c.requires.lane.kept in
+    c.settle.ensures.unaltered
+    ∙ ap (λ (n : ℕ). n - (next_horizon sink c.args.frames - sink.horizon)) c.requires.mixed
+    ∙ settled_left sink c.args.frames keeps.horizon_first keeps.horizon_near
+    ∙ sym (ap (λ (s : Sink). s.filled - s.horizon) c.settle.ensures.value)
+
+pub returns-clause-mixed : goal.returns-clause-mixed
+returns-clause-mixed g c = c.ask.ensures.unaltered ∙ c.remix-stay.ensures.unaltered ∙ sym (ap (λ (s : Sink). s.filled - s.horizon) c.ask.ensures.value)
+
+pub returns-clause-ticks : goal.returns-clause-ticks
+returns-clause-ticks g c =
+    let sink = c.args.self.now.sink in
+    let messages = c.args.messages.now.messages in
+    let n : ℕ = sink.filled - next_horizon sink c.args.frames in
+    let after : c.take_all.new.self.sink ≡ with_messages (settled sink c.args.frames) messages = c.take_all.ensures.value ∙ ap (λ (s : Sink). with_messages s messages) c.settle.ensures.value in
+    turned_cost sink.spec.channels (mix_cost (more_frames sink c.args.frames) (length (with_messages (settled sink c.args.frames) messages).inputs)) (costs_of n messages (settled sink c.args.frames).inputs)
+    (sink.spec.channels * (n - c.take_all.new.self.unaltered)) c.args.steps.now c.take_all.new.steps c.remix-stay.new.steps
+    (subst (λ (s : Sink). c.take_all.new.steps + s.spec.channels * ((s.filled - s.horizon) - c.take_all.new.self.unaltered) ≤ c.args.steps.now + s.spec.channels * costs_of (s.filled - s.horizon) messages s.inputs)
+    c.settle.ensures.value c.take_all.ensures.ticks)
+    (subst (λ (s : Sink). c.remix-stay.new.steps ≤ c.take_all.new.steps + s.spec.channels * mix_cost (s.consumed + s.depth - s.filled) (length s.inputs) + s.spec.channels * ((s.filled - s.horizon) - c.take_all.new.self.unaltered))
+    after c.remix-stay.ensures.ticks)

@@ -1,4 +1,4 @@
-use Rattle.std.proofs.Common.{◌≡◌, ℕ, ◌+◌, ◌-◌, ◌*◌, ◌^◌, ◌≤◌, ◌++◌, List, map, take, ap, sym, ◌∙◌, subst, arith}
+use Rattle.std.proofs.Common.{◌≡◌, ℕ, ◌+◌, ◌-◌, ◌*◌, ◌^◌, ◌≤◌, ◌++◌, List, length, map, take, ap, sym, ◌∙◌, subst, arith}
 use Rattle.std.proofs.Math.Nat.{add-mul}
 use Rattle.std.specs.List.{concat, range_with_len}
 use Rattle.px_sample.specs.Format.{frame_size_of}
@@ -12,6 +12,8 @@ use Rattle.px_lane.specs.Unaltered.{IsUnaltered}
 use Rattle.px_stream.specs.Samples.{samples}
 use Rattle.px_lane.proofs.Shares.{frames_sized}
 use Rattle.px_lane.proofs.Remixing.{remixed_is, front_stays, all_stays}
+use Rattle.px_lane.specs.Costs.{mix_cost}
+use Rattle.px_lane.proofs.Costs.{mixed_cost}
 use Rattle.px_lane.proofs.mixer.SinkMixer.remix.Goals as goal
 
 pub mix-requires-clause-more : goal.mix-requires-clause-more
@@ -112,3 +114,22 @@ pub returns-clause-whole : goal.returns-clause-whole
 returns-clause-whole g c =
     let d = c.self.inside in
     frames_sized d.spec (d.consumed + d.depth - d.consumed) d.depth c.show_behind.new.bytes.items (c.show_behind.ensures.size ∙ c.self.invariant.2) (omega arith)
+
+pub returns-clause-ticks : goal.returns-clause-ticks
+returns-clause-ticks g c =
+    let d = c.self.inside in
+    let h = c.self.invariant.1 in
+    let more : d.depth - (d.horizon - d.consumed) - d.inputs.frames ≡ d.consumed + d.depth - d.filled = omega (arith, c.self.invariant.6, h.consumed_first, h.horizon_first, h.filled_bounded) in
+    let added = subst (λ (x : ℕ). c.mix.new.steps ≤ c.args.steps.now + length d.inputs.inputs * (2 * (d.spec.channels * x))) more
+    (subst (λ (s : Spec). c.mix.new.steps ≤ c.args.steps.now + length d.inputs.inputs * (2 * (s.channels * (d.depth - (d.horizon - d.consumed) - d.inputs.frames)))) c.self.invariant.4 c.mix.ensures.ticks) in
+    subst (λ (m : RoomySink). c.show_behind.new.steps ≤ c.args.steps.now + m.sink.spec.channels * mix_cost (m.sink.consumed + m.sink.depth - m.sink.filled) (length m.sink.inputs)
+    + m.sink.spec.channels * ((m.sink.filled - m.sink.horizon) - m.unaltered)) c.self.view_is
+    (mixed_cost d.spec.channels (d.consumed + d.depth - d.filled) (length d.inputs.inputs) (d.filled - d.horizon) d.unaltered (c.mix.new.self.frames - d.unaltered) c.args.steps.now c.mix.new.steps c.show_behind.new.steps
+    (omega (arith, c.mix.ensures.frames, h.consumed_first, h.horizon_first, h.filled_bounded, c.self.invariant.3.within))
+    added
+    (c.show_behind.ensures.ticks ∙ ap (λ (s : Spec). c.mix.new.steps + s.channels * (c.mix.new.self.frames - d.unaltered)) (c.mix.ensures.spec ∙ c.self.invariant.4)))
+
+pub returns-clause-unaltered : goal.returns-clause-unaltered
+returns-clause-unaltered g c =
+    let h = c.self.invariant.1 in
+    omega (arith, h.consumed_first, h.horizon_first, h.filled_bounded)

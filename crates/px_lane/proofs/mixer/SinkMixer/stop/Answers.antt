@@ -1,4 +1,4 @@
-use Rattle.std.proofs.Common.{◌≡◌, ◌-◌, ap, sym, ◌∙◌, subst}
+use Rattle.std.proofs.Common.{◌≡◌, ◌-◌, ap, sym, ◌∙◌, subst, arith}
 use Rattle.px_model.specs.Frame.{frame_size}
 use Rattle.px_model.specs.Sink.{Sink}
 use Rattle.px_model.specs.Turn.{next_horizon, with_messages, asked, halted}
@@ -10,6 +10,7 @@ use Rattle.px_lane.specs.Mixed.{CanMixAll}
 use Rattle.px_lane.proofs.Mixable.{orderly_mixes}
 use Rattle.px_lane.proofs.Orders.{orderly_taken}
 use Rattle.px_lane.proofs.Turning.{stopped_lane, halted_is}
+use Rattle.px_lane.proofs.Costs.{nothing_left, stopped_free}
 use Rattle.px_lane.proofs.mixer.SinkMixer.stop.Goals as goal
 
 pub take_all-requires-clause-suits : goal.take_all-requires-clause-suits
@@ -32,3 +33,26 @@ returns-clause-lane g c =
     subst IsLane (sym (c.ask.ensures.value ∙ ap asked (c.take_all.ensures.value ∙ ap (λ (s : Sink). with_messages s messages) up)))
     (stopped_lane sink messages c.requires.lane c.requires.messages
     (subst (λ (s : Sink). AreFramesOf (frame_size s.spec) s.buffer) up c.give_up.ensures.whole))
+
+pub take_all-requires-clause-mixed : goal.take_all-requires-clause-mixed
+take_all-requires-clause-mixed g c =
+    let sink = c.args.self.now.sink in
+    let up : c.give_up.new.self.sink ≡ halted sink = c.give_up.ensures.value ∙ ap given_up c.settle.ensures.value ∙ halted_is sink in
+    c.give_up.ensures.unaltered ∙ nothing_left (next_horizon sink 0) ∙ sym (ap (λ (s : Sink). s.filled - s.horizon) up)
+
+pub returns-clause-mixed : goal.returns-clause-mixed
+returns-clause-mixed g c =
+    let sink = c.args.self.now.sink in
+    let messages = c.args.messages.now.messages in
+    let up : c.give_up.new.self.sink ≡ halted sink = c.give_up.ensures.value ∙ ap given_up c.settle.ensures.value ∙ halted_is sink in
+    let ends : c.ask.new.self.sink ≡ asked (with_messages (halted sink) messages) = c.ask.ensures.value ∙ ap asked (c.take_all.ensures.value ∙ ap (λ (s : Sink). with_messages s messages) up) in
+    let still : c.take_all.new.self.unaltered ≡ 0 = omega (arith, c.take_all.ensures.less, c.give_up.ensures.unaltered) in
+    c.ask.ensures.unaltered ∙ still ∙ nothing_left (next_horizon sink 0) ∙ sym (ap (λ (s : Sink). s.filled - s.horizon) ends)
+
+pub returns-clause-ticks : goal.returns-clause-ticks
+returns-clause-ticks g c =
+    let sink = c.args.self.now.sink in
+    let there = c.give_up.new.self.sink in
+    let up : c.give_up.new.self.sink ≡ halted sink = c.give_up.ensures.value ∙ ap given_up c.settle.ensures.value ∙ halted_is sink in
+    stopped_free there.spec.channels (there.filled - there.horizon) c.take_all.new.self.unaltered c.args.steps.now c.take_all.new.steps c.args.messages.now.messages there.inputs
+    (ap (λ (s : Sink). s.filled - s.horizon) up ∙ sym (nothing_left (next_horizon sink 0))) c.take_all.ensures.ticks

@@ -1,7 +1,9 @@
-use Rattle.std.proofs.Common.{◌∙◌, arith}
+use Rattle.std.proofs.Common.{◌≡◌, ℕ, ◌+◌, ◌-◌, ◌*◌, ◌≤◌, ◌∙◌, sym, subst, arith}
+use Rattle.px_sample.specs.declared.spec.Spec.{Spec}
 use Rattle.px_msg.specs.View.{sample_spec}
 use Rattle.px_model.specs.Sink.{Sink}
-use Rattle.px_lane.specs.Mixing.{sink_of}
+use Rattle.px_lane.specs.Mixing.{RoomySink, sink_of}
+use Rattle.px_lane.specs.Costs.{costs_of}
 use Rattle.px_lane.proofs.Staying.{told_stays}
 use Rattle.px_lane.proofs.mixer.SinkMixer.take_all.Goals as goal
 
@@ -18,3 +20,20 @@ invariant_of-self g c =
       c.take_all-same.ensures.depth ∙ c.self.invariant.5,
       c.take_all-same.ensures.frames ∙ c.self.invariant.6,
     )
+
+pub returns-clause-ticks : goal.returns-clause-ticks
+returns-clause-ticks g c =
+    let d = c.self.inside in
+    let messages = c.args.messages.now.messages in
+    let n : d.inputs.frames ≡ d.filled - d.horizon = c.self.invariant.6 in
+    let all : d.unaltered ≡ d.filled - d.horizon = subst (λ (m : RoomySink). m.unaltered ≡ m.sink.filled - m.sink.horizon) (sym c.self.view_is) c.requires.mixed in
+    let left : (d.filled - d.horizon) - c.take_all-same.result ≡ (d.filled - d.horizon) - c.min-self-inside.result = omega (arith, all, c.min-self-inside.ensures) in
+    let told = subst (λ (f : ℕ). c.take_all-same.new.steps + d.spec.channels * (f - c.take_all-same.result) ≤ c.args.steps.now + d.spec.channels * costs_of f c.args.messages.now.messages d.inputs.inputs) n
+    (subst (λ (s : Spec). c.take_all-same.new.steps + s.channels * (d.inputs.frames - c.take_all-same.result) ≤ c.args.steps.now + s.channels * costs_of d.inputs.frames c.args.messages.now.messages d.inputs.inputs)
+    c.self.invariant.4 c.take_all-same.ensures.ticks) in
+    subst (λ (m : RoomySink). c.take_all-same.new.steps + m.sink.spec.channels * ((m.sink.filled - m.sink.horizon) - c.min-self-inside.result)
+    ≤ c.args.steps.now + m.sink.spec.channels * costs_of (m.sink.filled - m.sink.horizon) c.args.messages.now.messages m.sink.inputs) c.self.view_is
+    (subst (λ (x : ℕ). c.take_all-same.new.steps + d.spec.channels * x ≤ c.args.steps.now + d.spec.channels * costs_of (d.filled - d.horizon) c.args.messages.now.messages d.inputs.inputs) left told)
+
+pub returns-clause-less : goal.returns-clause-less
+returns-clause-less g c = subst (λ (m : RoomySink). c.min-self-inside.result ≤ m.unaltered) c.self.view_is (omega (arith, c.min-self-inside.ensures))

@@ -14,29 +14,29 @@ armed_is : (c : goal.In-Played) → c.arm.new.self ≡ record c.args.self.now.la
 armed_is c = c.in_ok-arm.ensures.ok ∙ ap (λ (d : MemoryDevice). record d { armed = Some (min c.args.frames d.depth) }) c.device_mut.ensures.value
 
 turns : (c : goal.In-Played) → Turns state_of (record { sink = c.args.self.now.lane.sink; device = record c.args.self.now.lane.device { armed = Some (min c.args.frames c.args.self.now.lane.device.depth) }; faults = c.args.self.now.lane.faults })
-    c.turn.new.self c.args.messages.now.messages c.args.self.now.notices.notices c.turn.new.out.notices (Turned.Played c.in-Played.consumed c.in-Played.frames)
+    c.counted.new.lane c.args.messages.now.messages c.args.self.now.notices.notices c.counted.new.notices.notices (Turned.Played c.in-Played.consumed c.in-Played.frames)
 turns c =
     subst (λ (t : Turned). Turns state_of (record { sink = c.args.self.now.lane.sink; device = record c.args.self.now.lane.device { armed = Some (min c.args.frames c.args.self.now.lane.device.depth) }; faults = c.args.self.now.lane.faults })
-    c.turn.new.self c.args.messages.now.messages c.args.self.now.notices.notices c.turn.new.out.notices t) c.in-Played.is
+    c.counted.new.lane c.args.messages.now.messages c.args.self.now.notices.notices c.counted.new.notices.notices t) c.in-Played.is
     (subst (λ (d : MemoryDevice). Turns state_of (record { sink = c.args.self.now.lane.sink; device = d; faults = c.args.self.now.lane.faults })
-    c.turn.new.self c.args.messages.now.messages c.args.self.now.notices.notices c.turn.new.out.notices c.in-Ok.turned) (armed_is c) c.in-Ok.ensures.ok)
+    c.counted.new.lane c.args.messages.now.messages c.args.self.now.notices.notices c.counted.new.notices.notices c.in-Ok.turned) (armed_is c) c.in-Ok.ensures.ok)
 
-left : (c : goal.In-Played) → Leaves c.args.self.now.lane.sink c.args.self.now.lane.device c.turn.new.self.device c.args.frames c.in-Played.frames
+left : (c : goal.In-Played) → Leaves c.args.self.now.lane.sink c.args.self.now.lane.device c.counted.new.lane.device c.args.frames c.in-Played.frames
 left c =
-    leaves c.args.self.now.lane.sink c.turn.new.self.sink c.args.self.now.lane.device c.turn.new.self.device c.args.frames c.in-Played.consumed c.in-Played.frames c.args.self.now.lane.faults c.turn.new.self.faults c.args.messages.now.messages
+    leaves c.args.self.now.lane.sink c.counted.new.lane.sink c.args.self.now.lane.device c.counted.new.lane.device c.args.frames c.in-Played.consumed c.in-Played.frames c.args.self.now.lane.faults c.counted.new.lane.faults c.args.messages.now.messages
     c.requires.kept c.requires.there c.requires.playing.taken c.requires.playing.attached (turns c).0
 
 pub returns-in-Played-clause-mixer : goal.returns-in-Played-clause-mixer
 returns-in-Played-clause-mixer c =
     let it = left c in
     let fails = c.take_played.new.self.stopping || c.take_played.new.self.failed in
-    let device : fails ≡ c.turn.new.self.device.stopping || c.turn.new.self.device.failed =
+    let device : fails ≡ c.counted.new.lane.device.stopping || c.counted.new.lane.device.failed =
     ap (λ (d : MemoryDevice). d.stopping || d.failed) c.in_ok-bytes.ensures.after ∙ ap (λ (d : MemoryDevice). d.stopping || d.failed) c.device_mut-2.ensures.value in
-    mixer-same (mixer_of c.args.self.now) c.args.frames c.args.messages.now.messages c.turn.new.self.sink c.turn.new.out.notices (cond c.turn.new.self.sink.stopped false fails)
+    mixer-same (mixer_of c.args.self.now) c.args.frames c.args.messages.now.messages c.counted.new.lane.sink c.counted.new.notices.notices (cond c.counted.new.lane.sink.stopped false fails)
     it.going
     ((turns c).0.sink ∙ ap (λ (n : ℕ). after samples c.args.self.now.lane.sink n c.args.messages.now.messages) it.count)
     ((turns c).1 ∙ ap (λ (n : ℕ). c.args.self.now.notices.notices ++ turn_notices samples c.args.self.now.lane.sink n c.args.messages.now.messages) it.count)
-    (unmarked c.turn.new.self.sink.stopped fails (device ∙ it.quiet))
+    (unmarked c.counted.new.lane.sink.stopped fails (device ∙ it.quiet))
 
 pub returns-in-Played-clause-frames : goal.returns-in-Played-clause-frames
 returns-in-Played-clause-frames c =
