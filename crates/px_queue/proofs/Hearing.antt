@@ -1,13 +1,13 @@
 -- What is heard of a queue once frames are written.
 use Rattle.std.proofs.Common.{◌≡◌, ℕ, ◌<◌, List, length, drop, refl, ap, sym, ◌∙◌, subst, Option, None, Bool, true, false, cond, arith}
-use Rattle.std.specs.Prelude.{ℤ, nat_lt, ◌&&◌, min}
+use Rattle.std.specs.Prelude.{ℤ, min}
 use Rattle.px_model.specs.Index.{above, onward}
 use Rattle.px_model.specs.Frame.{Frame}
 use Rattle.px_model.specs.Held.{place, written_over}
 use Rattle.px_model.specs.Queue.{Queue, is_short}
 use Rattle.px_model.specs.Write.{Outcome, stored, overflow, outside, queue_with}
 use Rattle.px_model.proofs.Overlay.{overlay_below}
-use Rattle.px_queue.specs.Heard.{heard_of, is_other, left_by, unaltered_by}
+use Rattle.px_queue.specs.Heard.{heard_of, is_other, unaltered_by}
 
 -- one that is short as it was
 heard_both : (after before : Bool) (a b : Option Frame) (first k : ℕ) → k < cond (is_other after before) 0 first → (k < first → a ≡ b) → cond after None a ≡ cond before None b

@@ -39,13 +39,7 @@ impl Stream {
         ensures { (bytes : List ℕ) → result ≡ unaltered_of mixed (StreamMessage.write seek offset frames bytes) self.now.stream }
     {
         let ahead = self.ahead_index(mixed);
-        self.queue.unaltered(
-            seek,
-            offset,
-            frames,
-            ahead,
-            self.maxlength as i64,
-            mixed,
-        )
+        self.queue
+            .unaltered(seek, offset, frames, ahead, self.maxlength as i64, mixed)
     }
 }
