@@ -1,4 +1,5 @@
 pub mod Channels
 pub mod Each
+pub mod Gone
 pub mod Part
 pub mod Stretches

@@ -10,22 +10,24 @@ use std::alloc::Global;
 use std::marker::Model;
 use std::sync::ledger::Ledger;
 
-/// The sums of a channel, frame by frame, with room for as many as may be held.
+/// The sums of a channel, frame by frame. They stand behind those of frames that were given up, with room for as many of these as may be
+/// held, so that a sum is moved once where as many frames are given up as may be held.
 #[derive(Debug, Drop)]
 pub(crate) struct Run {
     sums: Vec<i64>,
+    gone: usize,
     depth: usize,
 }
 
 impl Model for Run {
-    ghost use Rattle.std.specs.Prelude.{◌≤◌, length, vec_capacity};
+    ghost use Rattle.std.specs.Prelude.{◌≤◌, ◌+◌, ◌*◌, drop, length, vec_capacity};
     ghost use Rattle.px_mixcache.specs.Run.{KeptRun, AreWords};
 
     ghost Value = { KeptRun };
 
-    ghost view = { λ r. record { depth = r.depth; sums = r.sums.items } };
+    ghost view = { λ r. record { depth = r.depth; sums = drop r.gone r.sums.items } };
 
-    ghost invariant = { λ r. (length r.sums.items ≤ r.depth) × (r.depth ≤ vec_capacity r.sums) × AreWords r.sums.items };
+    ghost invariant = { λ r. (r.gone ≤ r.depth) × (r.gone ≤ length r.sums.items) × (length r.sums.items ≤ r.gone + r.depth) × (2 * r.depth ≤ vec_capacity r.sums) × AreWords (drop r.gone r.sums.items) };
 }
 
 // Adds what values give to the sums from place `from` on, or takes it away.
@@ -58,7 +60,8 @@ impl Run {
         ensures { IfOk result (λ r. r ≡ record { depth = depth; sums = [] }) }
     {
         Ok(Run {
-            sums: Vec::with_capacity(alloc, depth as usize)?,
+            sums: Vec::with_capacity(alloc, 2 * depth as usize)?,
+            gone: 0,
             depth: depth as usize,
         })
     }
@@ -68,9 +71,13 @@ impl Run {
         requires { frames ≤ length self.old.sums }
         ensures { self.new ≡ record self.old { sums = drop frames self.old.sums } }
     {
-        let left = self.sums.len() - frames;
-        self.sums.copy_within(frames.., 0);
-        self.sums.truncate(left);
+        self.gone += frames;
+        if self.gone > self.depth {
+            let left = self.sums.len() - self.gone;
+            self.sums.copy_within(self.gone.., 0);
+            self.sums.truncate(left);
+            self.gone = 0;
+        }
     }
 
     /// Puts frames of nothing behind those that are held, so that there are so many.
@@ -79,7 +86,7 @@ impl Run {
         requires fits { to ≤ self.old.depth }
         ensures { self.new ≡ record self.old { sums = self.old.sums ++ replicate (to - length self.old.sums) (pos 0) } }
     {
-        self.sums.resize(to, 0).unwrap();
+        self.sums.resize(self.gone + to, 0).unwrap();
     }
 
     /// Adds what values give to the sums from frame `from` on, by a factor, or takes it away.
@@ -97,7 +104,14 @@ impl Run {
         ensures sums { RunChanges add self.old.sums from values.now factor self.new.sums }
         ensures ticks { steps.new ≡ steps.old + length values.now }
     {
-        change_sums(&mut self.sums, from, values, factor, add, steps);
+        change_sums(
+            &mut self.sums.as_mut_slice()[self.gone..],
+            from,
+            values,
+            factor,
+            add,
+            steps,
+        );
     }
 
     /// The sums.
@@ -105,6 +119,6 @@ impl Run {
         ensures sums { result.now ≡ self.now.sums }
         ensures fit { AreWords self.now.sums }
     {
-        self.sums.as_slice()
+        &self.sums.as_slice()[self.gone..]
     }
 }
