@@ -33,14 +33,14 @@ fn left_by_a_write(
 // Two frames of two bytes.
 const TWO: &[u8] = b"aabb";
 
-// A hundred and one of them, one more than the stream holds.
-const MANY: &[u8] = &[7; 202];
+// A hundred and fifty-one of them: past the fifty that are mixed one more than the stream holds.
+const MANY: &[u8] = &[7; 302];
 
 fn leaves_what_lies_before(alloc: Global, stream: &Stream) -> bool {
     left_by_a_write(alloc, stream, 5, 2, TWO, 50) == Some(5)
         && left_by_a_write(alloc, stream, 5, 2, TWO, 3) == Some(3)
         && left_by_a_write(alloc, stream, -5, 2, TWO, 50) == Some(0)
-        && left_by_a_write(alloc, stream, 0, 101, MANY, 50) == Some(50)
+        && left_by_a_write(alloc, stream, 0, 151, MANY, 50) == Some(50)
         && left_by_a_write(alloc, stream, i64::MAX, 2, TWO, 50) == Some(50)
         && stream.unaltered(&StreamMsg::Query { tag: 1 }, 50) == 50
         && stream.unaltered(&StreamMsg::Cork { on: true }, 50) == 0
@@ -63,7 +63,7 @@ fn a_stream_that_goes_on_waiting_is_left_as_well(rt: HostRuntime) {
             left_by_a_write(rt.alloc(), &stream, 1, 1, b"aa", 50) == Some(1)
                 && left_by_a_write(rt.alloc(), &stream, -1, 2, TWO, 50) == Some(0)
                 && left_by_a_write(rt.alloc(), &stream, 1, 2, TWO, 50) == Some(0)
-                && left_by_a_write(rt.alloc(), &stream, 0, 101, MANY, 50) == Some(0)
+                && left_by_a_write(rt.alloc(), &stream, 0, 151, MANY, 50) == Some(0)
         }
         None => false,
     };
