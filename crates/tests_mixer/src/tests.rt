@@ -1,3 +1,4 @@
 mod attributes;
 mod plain;
 mod queue;
+mod unaltered;

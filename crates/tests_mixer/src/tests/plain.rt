@@ -11,8 +11,8 @@ use px_types::{InputId, Mem};
 use px_vol::Factors;
 use std::alloc::Global;
 
-// A stream of 16 bits, mono, at full volume, that waits for so many frames.
-fn opened(alloc: Global, prebuf: u32) -> Option<Stream>
+/// A stream of 16 bits, mono, at full volume, that waits for so many frames.
+pub(crate) fn opened(alloc: Global, prebuf: u32) -> Option<Stream>
     requires { prebuf ≤ 50 }
 {
     let new = NewStream {
