@@ -6,3 +6,5 @@ pub mod Copying
 pub mod Listed
 pub mod Hearing
 pub mod Rising
+pub mod Behind
+pub mod Room

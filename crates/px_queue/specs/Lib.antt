@@ -4,3 +4,4 @@ pub mod Pushed
 pub mod Peeked
 pub mod Plain
 pub mod Heard
+pub mod Room

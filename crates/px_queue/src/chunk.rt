@@ -1,22 +1,23 @@
-// Frames that were written at once.
-ghost use Rattle.std.specs.Prelude.{◌≡◌, ℕ, ◌+◌, ◌*◌, ◌^◌, ◌<◌, ◌≤◌, length, take, drop, IsTrue, IsFalse, IsSome, None, Some};
+// Frames that were written one behind another.
+ghost use Rattle.std.specs.Prelude.{◌≡◌, ℕ, ◌+◌, ◌*◌, ◌^◌, ◌<◌, ◌≤◌, ◌++◌, length, take, drop, IsTrue, IsFalse, IsSome, None, Some};
 ghost use Rattle.px_block.specs.Given.{after_giving, blocks_for};
 ghost use Rattle.px_model.specs.Index.{onward, IsIndex};
 ghost use Rattle.px_model.specs.Frame.{frames_of};
 ghost use Rattle.px_queue.specs.Written.{end_of, frame_in, reach_of};
 
 use crate::bytes::copy_bytes;
+use crate::gathered::Gathered;
 use crate::index::Index;
 use px_block::{BlockSource, Blocks};
 use std::marker::Model;
 
-/// Frames that were written at once, and the index at which the first of them stands.
+/// Frames that were written at once, or one behind another, and the index at which the first of them stands.
 #[derive(Debug, Drop)]
 pub(crate) struct Chunk {
     at: Index,
     size: u32,
     count: u32,
-    bytes: Blocks,
+    bytes: Gathered,
 }
 
 impl Model for Chunk {
@@ -56,7 +57,7 @@ impl Chunk {
             at,
             size,
             count,
-            bytes,
+            bytes: Gathered::new(bytes),
         }
     }
 
@@ -131,6 +132,42 @@ impl Chunk {
     {
         let start = start(index.above(self.at), self.count, self.size);
         copy_bytes(self.bytes.as_slice(), start, out);
+    }
+
+    /// Holds so many more frames behind its own where they go on at its end and its last block has the room, and answers whether it does.
+    /// Takes no memory.
+    pub(crate) fn append(&mut self, at: Index, count: u32, bytes: &[u8]) -> bool
+        requires whole { length bytes.now ≡ count * self.old.size }
+        requires last { IsIndex (onward at count) }
+        ensures there { IsTrue result → at ≡ end_of self.old }
+        ensures yes { IsTrue result → self.new ≡ record self.old { frames = self.old.frames ++ frames_of self.old.size count bytes.now } }
+        ensures no { IsFalse result → self.new ≡ self.old }
+    {
+        if !self.end().is(at) {
+            return false;
+        }
+        let Some(all) = self.count.checked_add(count) else {
+            return false;
+        };
+        if !self.bytes.append(bytes) {
+            return false;
+        }
+        self.count = all;
+        true
+    }
+
+    /// Takes room for frames that go on at its end, where its last block has few bytes and there is memory.
+    pub(crate) fn open(&mut self)
+        ensures { self.new ≡ self.old }
+    {
+        self.bytes.open();
+    }
+
+    /// Gives back the room for frames that go on at its end.
+    pub(crate) fn close(&mut self)
+        ensures { self.new ≡ self.old }
+    {
+        self.bytes.close();
     }
 
     /// How many blocks its bytes lie in.

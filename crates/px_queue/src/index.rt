@@ -66,6 +66,13 @@ impl Index {
         self.frame < other.frame
     }
 
+    /// Whether it is another.
+    pub(crate) fn is(self, other: Index) -> bool
+        ensures { IsTrue result → other ≡ self }
+    {
+        self.frame == other.frame
+    }
+
     /// The greater of two.
     pub(crate) fn greater(self, other: Index) -> Index
         ensures { result ≡ int_max self other }

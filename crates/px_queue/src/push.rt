@@ -1,8 +1,8 @@
 // Frames are written.
-ghost use Rattle.std.specs.Prelude.{◌≡◌, ℕ, ℤ, List, ◌<◌, ◌+◌, ◌*◌, ◌≤◌, ◌-ℤ◌, int_lt, length, ◌==◌, ◌&&◌, ◌||◌, if◌then◌else◌, IfOk, IfErr};
+ghost use Rattle.std.specs.Prelude.{◌≡◌, ℕ, ℤ, List, ◌<◌, ◌+◌, ◌*◌, ◌≤◌, ◌-ℤ◌, int_lt, length, ◌==◌, ◌&&◌, ◌||◌, if◌then◌else◌, nat_lt, IfOk, IfErr, IsTrue, IsFalse};
 ghost use Rattle.px_block.specs.Given.{after_giving, blocks_for};
 ghost use Rattle.px_model.specs.Frame.{Frame, frames_of};
-ghost use Rattle.px_model.specs.Index.{onward};
+ghost use Rattle.px_model.specs.Index.{above, onward, IsIndex};
 ghost use Rattle.px_model.specs.Queue.{end_of, is_short};
 ghost use Rattle.px_model.specs.Write.{Outcome, stored, overflow, seek_of, origin_of, target_of, outcome_of, queue_with};
 ghost use Rattle.px_queue.specs.Heard.{is_other, unaltered_by};
@@ -11,7 +11,9 @@ ghost use Rattle.px_queue.specs.Pushed.{outcome_for, Carries, IsPlaced, IsMissed
 use crate::FrameQueue;
 use crate::chunk::Chunk;
 use crate::finding::risen;
+use crate::gathered::only;
 use crate::index::Index;
+use crate::newest::{close_newest, extend_newest};
 use px_block::{BlockSource, Blocks};
 
 /// How a write ended.
@@ -29,7 +31,7 @@ pub enum Pushed {
 impl FrameQueue {
     /// Writes so many frames at the index that a seek goes to, where at most `limit` frames may wait past the index `ahead`: the mode of
     /// the seek as on the wire, 0 to 3, and its offset in frames. They replace what is held there; what lies before the read index
-    /// is dropped. Frames that aren't held give their blocks back to the source. Takes room for one write with its blocks, and no memory.
+    /// is dropped. Frames that aren't held, or that are copied behind the newest ones, give their blocks back to the source. Takes room for one write with its blocks, and no memory.
     /// (PulseAudio: `pa_memblockq_seek` and `pa_memblockq_push`; own: the limit counts from the ahead index.)
     pub fn push<B: BlockSource>(
         &mut self,
@@ -67,6 +69,10 @@ impl FrameQueue {
                 end: end.number(),
                 limit,
             };
+        }
+        if self.extend(at, end, frames, &bytes) {
+            bytes.give_back(blocks);
+            return Pushed::Stored;
         }
         self.store(Chunk::new(at, self.frame, frames, bytes));
         Pushed::Stored
@@ -158,6 +164,33 @@ impl FrameQueue {
         self.write = end;
     }
 
+    // Holds frames that go on behind the newest write in its last block, and goes on writing behind them. It does so where they lie in one
+    // block and that one has the room.
+    fn extend(&mut self, at: Index, end: Index, frames: u32, bytes: &Blocks) -> bool
+        requires whole { length bytes.now ≡ frames * self.old.frame }
+        requires first { IsIndex at }
+        requires last { IsIndex (onward at frames) }
+        requires end { end ≡ onward at frames }
+        ensures stored { IsTrue result → self.new.queue ≡ queue_with stored self.old.queue at (frames_of self.old.frame frames bytes.now) }
+        ensures none { IsFalse result → self.new.queue ≡ self.old.queue }
+        ensures frame { self.new.frame ≡ self.old.frame }
+        ensures room { self.new.room ≡ self.old.room }
+        ensures block_room { self.new.block_room ≡ self.old.block_room }
+        ensures blocks { self.new.blocks ≡ self.old.blocks }
+    {
+        let Some(all) = only(bytes) else {
+            return false;
+        };
+        if !extend_newest(&mut self.writes, self.frame, at, frames, all) {
+            return false;
+        }
+        let reach = reach(frames, end, self.read);
+        self.edge = self.edge.greater(end);
+        self.held = self.held.max(reach);
+        self.write = end;
+        true
+    }
+
     // Holds frames over what is held, and goes on writing behind them.
     fn store(&mut self, chunk: Chunk)
         requires room { 1 ≤ self.old.room }
@@ -173,6 +206,7 @@ impl FrameQueue {
         let reach = chunk.reach(self.read);
         let brought = chunk.blocks() as u32;
         self.block_room -= brought;
+        close_newest(&mut self.writes);
         let (rising, edge) = risen(&self.writes, self.rising, self.edge, &chunk);
         self.rising = rising;
         self.edge = edge;
@@ -180,6 +214,13 @@ impl FrameQueue {
         self.held = self.held.max(reach);
         self.write = end;
     }
+}
+
+// How far so many frames reach past a read index, that end there.
+fn reach(frames: u32, end: Index, read: Index) -> u64
+    ensures { result ≡ (if nat_lt 0 frames then above end read else 0) }
+{
+    if frames > 0 { end.above(read) } else { 0 }
 }
 
 // Whether two answers differ.

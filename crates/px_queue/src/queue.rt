@@ -10,6 +10,7 @@ ghost use Rattle.px_queue.specs.Written.{step_by};
 use crate::chunk::Chunk;
 use crate::finding::{forget_all, forget_past};
 use crate::index::Index;
+use crate::newest::open_newest;
 use px_block::BlockSource;
 use px_types::{Mem, NoMemory};
 use std::alloc::Global;
@@ -78,7 +79,8 @@ impl FrameQueue {
     }
 
     /// Takes room for so many more writes, with so many blocks in all. Without memory nothing changes. (A write brings the memory of its
-    /// blocks, so the room in blocks is a number here.)
+    /// blocks, so the room in blocks is a number here.) Where the newest write is small it gets room for others behind it, if there is
+    /// memory: they need no room of their own then.
     pub fn reserve(&mut self, writes: u32, blocks: u32) -> Mem<()>
         ensures ok { OnOk result ((writes ≤ self.new.room) × (blocks ≤ self.new.block_room)) }
         ensures queue { self.new.queue ≡ self.old.queue }
@@ -88,6 +90,9 @@ impl FrameQueue {
         ensures block_room { self.old.block_room ≤ self.new.block_room }
     {
         self.writes.reserve(writes as usize)?;
+        if blocks > 0 {
+            open_newest(&mut self.writes);
+        }
         self.block_room = self.block_room.max(blocks);
         Ok(())
     }

@@ -1,0 +1,15 @@
+use Rattle.std.proofs.Common.{◌≡◌, ℕ, List, length, arith, ap, ◌∙◌}
+use Rattle.std.specs.List.{concat}
+use Rattle.std.specs.Prelude.{vec_len}
+use Rattle.px_block.specs.Given.{after_giving, blocks_for}
+use Rattle.px_block.specs.Kept.{contents}
+use Rattle.px_queue.proofs.Room.{count_is}
+use Rattle.px_queue.proofs.gathered.Gathered.give_back.Goals as goal
+
+pub returns : goal.returns
+returns g c =
+    let blocks = c.self.inside.blocks in
+    let count : vec_len blocks ≡ blocks_for (length (concat (contents blocks.items))) = omega (arith, blocks.ok.0, count_is blocks.items c.self.invariant.0) in
+    c.give_all.ensures
+    ∙ ap (λ (n : ℕ). after_giving (g.B.BlockSource.given c.args.source.now) n) count
+    ∙ ap (λ (bytes : List ℕ). after_giving (g.B.BlockSource.given c.args.source.now) (blocks_for (length bytes))) c.self.view_is
