@@ -1,5 +1,6 @@
-//! Tests of the mixer layer: buffer attributes as the server repairs them, the blocks of a queue, each of which goes back once, and
-//! streams as plain numbers and bytes. Their values were reckoned by hand. The crate has no other items.
+//! Tests of the mixer layer: buffer attributes as the server repairs them, the blocks of a queue, each of which goes back once, streams as
+//! plain numbers and bytes, and a lane's turns, thrown with dice, beside a sink that mixes all afresh. Other values were reckoned by hand.
+//! The crate has no other items.
 #![tactic(auto)]
 
 #[cfg(test)]

@@ -1,4 +1,5 @@
 mod attributes;
 mod plain;
 mod queue;
+mod turns;
 mod unaltered;
