@@ -12,6 +12,7 @@ use Rattle.px_ends.specs.Whole.{AddsFront}
 use Rattle.px_serve.specs.declared.serving.ServeEnd.{ServeEnd}
 use Rattle.px_serve.specs.declared.serving.ServeEnd.TheVariants as serve
 use Rattle.px_serve.specs.Serves.{ServesBy}
+use Rattle.px_serve.specs.Tape.{Output}
 use Rattle.px_app.specs.declared.ending.Ending.TheVariants as ending
 use Rattle.px_app.specs.declared.refusal.Why.TheVariants as why
 use Rattle.px_app.specs.Ends.{Log}
@@ -28,6 +29,7 @@ line_of_status status.Memory = codes "pulse_rw: out of memory\n"
 line_of_status status.Device = codes "pulse_rw: device failed\n"
 line_of_status status.Host = codes "pulse_rw: host failed\n"
 line_of_status status.HistoryFull = codes "pulse_rw: history full\n"
+line_of_status status.WriteFault = codes "pulse_rw: write failed\n"
 line_of_status other = []
 
 -- the log gained the line of a status; or a write of it failed, behind a front of the line
@@ -42,9 +44,9 @@ EndReported serve.Usage answered before after = Reported ending.Usage answered b
 EndReported (serve.Refused at cause) answered before after = Reported (ending.Refused (record { at = at; why = why.Session cause })) answered before after
 EndReported (serve.Ended ended) answered before after = StatusReported ended answered before after
 
--- it was served by these words, and that was reported
+-- it was served by these words, with a tape where they ask for one, and that was reported
 pub record Served {D R C : Type 0} (core_told : C → Option (List CoreEntry)) (core_faults core_fulls : C → ℕ) (now : D → DeviceState) (told : R → Option (List LaneEntry)) (faults fulls : R → ℕ)
-    (texts : List (List ℕ)) (answered : Status) (before after : HostState D R C) (log_before log_after : Log) : Type 0 where
+    (texts : List (List ℕ)) (answered : Status) (before after : HostState D R C) (out_before out_after : Output) (log_before log_after : Log) : Type 0 where
   pub end : ServeEnd
-  pub serves : ServesBy core_told core_faults core_fulls now told faults fulls texts end before after
+  pub serves : ServesBy core_told core_faults core_fulls now told faults fulls texts end before after out_before out_after
   pub reported : EndReported end answered log_before log_after

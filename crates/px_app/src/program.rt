@@ -15,6 +15,7 @@ ghost use Rattle.px_app.specs.Report.{Says};
 ghost use Rattle.px_app.specs.View.{Shown};
 ghost use Rattle.px_app.specs.Replay.{WasRefused, WasUnnamed, InputCounted};
 ghost use Rattle.px_app.specs.Serving.{is_serve, Served};
+ghost use Rattle.px_serve.specs.Tape.{out_end};
 ghost use Rattle.px_app.specs.Words.{Meaning, Replay, Means, AreOther, Ran, DoneWhole, DoneFront, DoneCompletes};
 
 use crate::ending::Ending;
@@ -112,7 +113,7 @@ fn run_alone<S: Source, K: Sink, L: Sink>(
 /// `replay`, `replay --raw SINK` and `summary` replay the session that `input` has: see [`crate::replay`] and [`crate::View`].
 /// `gen NUMBER COUNT` writes the session that a number of 64 bits and a count up to 1,000,000 give, both in decimal digits
 /// alone: see [`px_gen::generate`]. `serve` with its options serves live clients on the sinks of the header that the host reads, and
-/// waits for them: see [`px_serve::serve_by`] and [`px_server::serve`]. Other words are `Usage`, and then nothing is read or written but
+/// waits for them: see [`px_serve::serve_by`] and [`px_server::serve`]; with `--tape` the output then gets a session of what was done. Other words are `Usage`, and then nothing is read or written but
 /// the log's line. Where the log's line can't be written, the status is `WriteFault`.
 pub fn run<R, S, K, L, H>(
     rt: &R,
@@ -132,13 +133,14 @@ where
     H::D: 'static,
     H::R: 'static,
     H::C: 'static,
-    // By the words of `serve` the host was started, served, and given back what it made; nothing was read from the input or written to the output.
+    // By the words of `serve` the host was started, served, and given back what it made, and the tape was written to the output, where the words ask
+    // for one; nothing was read from the input.
     ensures serve { is_serve (map string_bytes words.now) ≡ true → Served H.C.told H.C.faults H.C.fulls H.D.now H.R.told H.R.faults H.R.fulls
         (map string_bytes words.now) result (H.now host.old) (H.now host.new)
+        (out_end (K.held output.old) (K.faults output.old)) (out_end (K.held output.new) (K.faults output.new))
         (log_end (L.held log.old) (L.faults log.old)) (log_end (L.held log.new) (L.faults log.new)) }
     ensures serve_alone { is_serve (map string_bytes words.now) ≡ true
-        → (S.left input.new ≡ S.left input.old) × (S.faults input.new ≡ S.faults input.old)
-        × (K.held output.new ≡ K.held output.old) × (K.faults output.new ≡ K.faults output.old) }
+        → (S.left input.new ≡ S.left input.old) × (S.faults input.new ≡ S.faults input.old) }
     // By all other words the host isn't called.
     ensures unserved { is_serve (map string_bytes words.now) ≡ false → H.now host.new ≡ H.now host.old }
     // What was read and written, which calls failed, and what was reported; the clauses behind it follow from it.
@@ -188,7 +190,7 @@ where
         (ends_of (S.left input.old) (S.faults input.old) (K.held output.old) (K.faults output.old)) }
 {
     if is_serve(words) {
-        serve_reported(rt, rt.alloc(), words, log, host)
+        serve_reported(rt, rt.alloc(), words, output, log, host)
     } else {
         run_alone(rt.alloc(), words, input, output, log)
     }

@@ -2,6 +2,7 @@
 
 ghost use Rattle.std.specs.Prelude.{◌≡◌, map, string_bytes};
 ghost use Rattle.px_app.specs.Ends.{log_end};
+ghost use Rattle.px_serve.specs.Tape.{out_end};
 ghost use Rattle.px_app.specs.Serving.{is_serve, line_of_status, StatusReported, Served};
 
 use crate::ending::Ending;
@@ -34,6 +35,7 @@ fn line_of_status(status: Status) -> &'static [u8]
         Status::Device => b"pulse_rw: device failed\n",
         Status::Host => b"pulse_rw: host failed\n",
         Status::HistoryFull => b"pulse_rw: history full\n",
+        Status::WriteFault => b"pulse_rw: write failed\n",
         _ => b"",
     }
 }
@@ -49,15 +51,17 @@ fn report_status<L: Sink>(status: Status, log: &mut L) -> Status
 }
 
 /// Serves by words, and reports how that ended.
-pub(crate) fn serve_reported<R, L, H>(
+pub(crate) fn serve_reported<R, K, L, H>(
     rt: &R,
     alloc: Global,
     words: &[String],
+    output: &mut K,
     log: &mut L,
     host: &mut H,
 ) -> Status
 where
     R: Threads + Wait + Clock + Copy + Drop + Send + Sync + 'static,
+    K: Sink,
     L: Sink,
     H: Host,
     H::L: 'static,
@@ -65,9 +69,10 @@ where
     H::R: 'static,
     H::C: 'static,
     ensures { Served H.C.told H.C.faults H.C.fulls H.D.now H.R.told H.R.faults H.R.fulls (map string_bytes words.now) result (H.now host.old) (H.now host.new)
+        (out_end (K.held output.old) (K.faults output.old)) (out_end (K.held output.new) (K.faults output.new))
         (log_end (L.held log.old) (L.faults log.old)) (log_end (L.held log.new) (L.faults log.new)) }
 {
-    match serve_by(rt, alloc, words, host) {
+    match serve_by(rt, alloc, words, output, host) {
         ServeEnd::Usage => report(alloc, Ending::Usage, log),
         ServeEnd::Refused { at, cause } => {
             let refusal = Refusal {

@@ -5,29 +5,44 @@ ghost use Rattle.std.specs.Prelude.{◌≡◌};
 use crate::lines::Lines;
 use px_annals::{CoreEntry, Recorder};
 use px_core_cell::{CoreCell, Seats};
+use px_pool::Pool;
+use px_tape::Tape;
 use std::alloc::Global;
-use std::sync::Mutex;
 use std::sync::atomic::AtomicBool;
+use std::sync::{Arc, Mutex};
 
-/// What all workers share: the core, the packets that wait for each client, and whether the sinks' workers may end.
+/// What all workers share: the core, the packets that wait for each client, used blocks, whether the sinks' workers may end, and the tape, with
+/// whether there is one. Where there is one, it is locked during each step of the core and during each turn of a sink.
 #[derive(Drop)]
 pub struct Desk<C: Recorder<CoreEntry>, L: Seats> {
     pub core: CoreCell<C, L>,
     pub(crate) lines: Mutex<Lines>,
+    pub(crate) pool: Arc<Pool>,
     pub(crate) over: AtomicBool,
     pub(crate) sinks: u8,
+    pub tape: Mutex<Tape>,
+    pub(crate) taped: bool,
 }
 
 impl<C: Recorder<CoreEntry>, L: Seats> Desk<C, L> {
-    /// A core of so many sinks, with no clients. Takes no memory.
-    pub fn new(alloc: Global, core: CoreCell<C, L>, sinks: u8) -> Desk<C, L>
+    /// A core of so many sinks, with no clients, a pool for blocks, and whether its steps go onto the tape. Takes no memory.
+    pub fn new(
+        alloc: Global,
+        core: CoreCell<C, L>,
+        pool: Arc<Pool>,
+        sinks: u8,
+        taped: bool,
+    ) -> Desk<C, L>
         ensures { result.core ≡ core }
     {
         Desk {
             core,
             lines: Mutex::new(Lines::new(alloc)),
+            pool,
             over: AtomicBool::new(false),
             sinks,
+            tape: Mutex::new(Tape::new(alloc)),
+            taped,
         }
     }
 }

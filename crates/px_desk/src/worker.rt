@@ -10,11 +10,15 @@ ghost use Rattle.px_core_cell.specs.Step.{IsAsked, HandsBack};
 
 use crate::desk::Desk;
 use crate::lines::Next;
+use crate::step::{step_lined, step_taped};
 use px_annals::{CoreEntry, RecordFault, Recorder};
 use px_core_cell::{CoreParts, CoreSeat, CoreStep, Seats, StepFault};
 use px_frame::{Frame, FrameFault};
-use px_types::{ConnId, Mem, SinkId};
+use px_pool::{Pool, PoolSeat};
+use px_tape::Tape;
+use px_types::{ConnId, Mem, NoMemory, SinkId};
 use std::alloc::Global;
+use std::mem;
 use std::sync::atomic::Ordering;
 use std::sync::{Arc, Wait};
 use std::thread::yield_now;
@@ -60,13 +64,14 @@ fn step_of(step: Plain) -> CoreStep
     }
 }
 
-/// A worker's hold of what all share.
+/// A worker's hold of what all share, with its seat at the pool of blocks.
 #[derive(Drop)]
 pub struct Worker<R, C: Recorder<CoreEntry>, L: Seats> {
     pub rt: R,
     pub alloc: Global,
     pub desk: Arc<Desk<C, L>>,
     pub seat: CoreSeat<L>,
+    pub blocks: PoolSeat<R>,
 }
 
 impl<R: Wait + Copy, C: Recorder<CoreEntry> + Drop, L: Seats> Worker<R, C, L> {
@@ -77,11 +82,15 @@ impl<R: Wait + Copy, C: Recorder<CoreEntry> + Drop, L: Seats> Worker<R, C, L> {
         ensures err { OnErr result (self.new.seat.parts ≡ self.old.seat.parts) }
     {
         let desk = Arc::try_clone(&self.desk)?;
+        let Ok(blocks) = Pool::seat(&self.rt, &self.desk.pool) else {
+            return Err(NoMemory);
+        };
         Ok(Worker {
             rt: self.rt,
             alloc: self.alloc,
             desk,
             seat: self.seat.split(),
+            blocks,
         })
     }
 
@@ -106,25 +115,23 @@ impl<R: Wait + Copy, C: Recorder<CoreEntry> + Drop, L: Seats> Worker<R, C, L> {
         desk.core.take_parts(&rt, seat)
     }
 
-    // Makes a step, and puts what it does to the outside into the clients' lines. The lines are locked meanwhile, so that they
-    // have the packets in the order of the steps.
+    // Makes a step, which goes onto the tape where there is one.
     fn once(&mut self, step: CoreStep) -> Result<bool, StepFault>
         requires lawful { IsAsked step }
         ensures seat { self.new.seat.parts ≡ self.old.seat.parts }
         ensures back { HandsBack step result }
     {
-        let mut lines = self.desk.lines.lock(&self.rt);
-        match self
-            .desk
-            .core
-            .step(&self.rt, self.alloc, step, &mut self.seat)?
-        {
-            Some(effects) => {
-                lines.put(effects);
-                Ok(true)
-            }
-            None => Ok(false),
+        if self.desk.taped {
+            step_taped(&self.rt, self.alloc, &self.desk, step, &mut self.seat)
+        } else {
+            step_lined(&self.rt, self.alloc, &self.desk, step, &mut self.seat)
         }
+    }
+
+    /// The tape, by the one that has it from then on.
+    pub fn take_tape(&self) -> Tape {
+        let mut tape = self.desk.tape.lock(&self.rt);
+        mem::replace(&mut *tape, Tape::new(self.alloc))
     }
 
     // Sweeps, again until there is memory.

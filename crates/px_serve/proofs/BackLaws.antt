@@ -1,5 +1,5 @@
 -- Handing back, part by part.
-use Rattle.std.proofs.Common.{◌≡◌, ℕ, suc, ◌+◌, ◌-◌, ◌≤◌, List, [], ◌∷◌, length, Option, None, Some, IfSome, refl, ap, subst, ◌∙◌, sym, arith}
+use Rattle.std.proofs.Common.{◌≡◌, ℕ, ◌+◌, ◌≤◌, List, [], ◌∷◌, length, Option, None, Some, IfSome, refl, ap, subst, ◌∙◌, sym, arith}
 use Rattle.std.specs.Option.{option_map}
 use Rattle.px_ends.specs.Device.{DeviceState}
 use Rattle.px_ends.specs.Host.{HostState, Lent, TakesPart, HasPart, fewer_parts}

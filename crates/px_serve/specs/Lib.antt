@@ -1,3 +1,4 @@
 pub mod HeaderFile
 pub mod Back
+pub mod Tape
 pub mod Serves

@@ -2,3 +2,4 @@ mod Later
 mod Parts
 mod Delivering
 mod Ending
+mod Taping

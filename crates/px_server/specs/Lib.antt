@@ -4,4 +4,5 @@ pub mod Working
 pub mod Delivered
 pub mod Parts
 pub mod Fresh
+pub mod Taped
 pub mod Serving

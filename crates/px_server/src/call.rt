@@ -1,5 +1,5 @@
 //! The serving call.
-ghost use Rattle.std.specs.Prelude.{◌≡◌, ◌+◌, ◌≤◌, [], length, map, IfOk, IfErr, OnOk, IfSome, None, vec_capacity};
+ghost use Rattle.std.specs.Prelude.{◌≡◌, ◌+◌, ◌≤◌, [], length, map, IfOk, IfErr, OnOk, IfSome, None, true, vec_capacity};
 ghost use Rattle.px_annals.specs.declared.stream.PlainStream.{PlainStream};
 ghost use Rattle.px_session.specs.HeaderRules.{IsHeader};
 ghost use Rattle.px_state.specs.State.{State, new_state};
@@ -10,6 +10,7 @@ ghost use Rattle.px_server.specs.Hosted.{IsLater, HasLent, IsCauseOf};
 ghost use Rattle.px_server.specs.Parts.{start_of, starts_of, unworked, AreParts, IsFrontOf};
 ghost use Rattle.px_server.specs.Serving.{IsServed};
 ghost use Rattle.px_server.specs.Causes.{undecided};
+ghost use Rattle.px_server.specs.Taped.{AreTaping, HasTape};
 ghost use Rattle.px_server.specs.Working.{boxes_in};
 
 use crate::gate::Gate;
@@ -23,8 +24,10 @@ use px_core::Core;
 use px_core_cell::{CoreCell, CoreEnds, Seats};
 use px_desk::{Desk, Worker};
 use px_ends::Host;
+use px_pool::Pool;
 use px_session::Header;
-use px_types::Mem;
+use px_tape::SinkTurns;
+use px_types::{Mem, NoMemory};
 use std::alloc::Global;
 use std::collections::VecDeque;
 use std::marker::Brand;
@@ -35,12 +38,16 @@ use std::thread::Threads;
 // One part for each of 65,535 links, one for each of 16 sinks, and one for the serving call.
 const PARTS: u64 = 65_552;
 
-// What the host makes before the core is there, with the core's ends of the sinks' mailboxes.
+// How many used blocks wait at most to be used again.
+const SPARE_BLOCKS: usize = 1_024;
+
+// What the host makes before the core is there, with the core's ends of the sinks' mailboxes, and room for the sinks' turns.
 #[derive(Drop)]
 struct Made<H: Host> {
     lone: VecDeque<Lone<H::D, H::R>>,
     ends: CoreEnds,
     recorder: H::C,
+    turns: Vec<SinkTurns>,
 }
 
 // A serving call that has made no core.
@@ -54,18 +61,36 @@ fn unserved<H: Host>(
     ensures status { result.status ≡ undecided stop }
     ensures lanes { (began : State PlainStream) → AreParts began None H.D.now H.R.told H.R.faults H.R.fulls (map unworked lone.items) result.lanes.items }
     ensures core { result.core ≡ None }
+    ensures tape { result.tape ≡ None }
 {
     hand_back(&mut lone, &mut lanes);
     Served {
         status: undecided(stop),
         lanes,
         core: None,
+        tape: None,
     }
+}
+
+// Room for what is left of so many sinks, and for their turns.
+fn make_room<D: Drop, E: Drop>(
+    count: usize,
+    lanes: &mut Vec<LanePart<D, E>>,
+    turns: &mut Vec<SinkTurns>,
+) -> Mem<()>
+    ensures room { OnOk result ((count ≤ vec_capacity lanes.new) × (count ≤ vec_capacity turns.new)) }
+    ensures lanes { lanes.new.items ≡ lanes.old.items }
+    ensures turns { turns.new.items ≡ turns.old.items }
+{
+    lanes.reserve(count)?;
+    turns.reserve(count)?;
+    Ok(())
 }
 
 // All that the host makes: the sinks of a header, in order, and the core's recorder.
 fn make_outside<H: Host>(
     alloc: Global,
+    taped: bool,
     header: &Header,
     host: &mut H,
     lone: &mut VecDeque<Lone<H::D, H::R>>,
@@ -80,10 +105,11 @@ fn make_outside<H: Host>(
     ensures made { OnOk result (map start_of lone.new.items ≡ starts_of header.now.sinks) }
     ensures ends { OnOk result (map ends_of ends.new.items ≡ map fresh_ends header.now.sinks) }
     ensures boxes { OnOk result (map boxes_in lone.new.items ≡ map boxes_of ends.new.items) }
+    ensures tapes { OnOk result (taped ≡ true → AreTaping lone.new.items) }
     ensures front { IsFrontOf (map start_of lone.new.items) (starts_of header.now.sinks) }
     ensures none { IfOk result (λ recorder. IfSome (H.C.told recorder) (λ entries. entries ≡ [])) }
 {
-    make_all(alloc, header, host, lone, ends)?;
+    make_all(alloc, taped, header, host, lone, ends)?;
     match host.core_recorder(alloc) {
         Ok(recorder) => Ok(recorder),
         Err(fault) => Err(stop_by(fault)),
@@ -97,6 +123,7 @@ fn worker_of<R, C, L>(
     header: &Header,
     recorder: C,
     ends: CoreEnds,
+    taped: bool,
     blank: Blank,
 ) -> Mem<Worker<R, C, L>>
 where
@@ -114,13 +141,20 @@ where
 {
     let sinks = header.sinks.len() as u8;
     let core = Core::new(alloc, header)?;
+    let Ok(pool) = Pool::new(alloc, SPARE_BLOCKS) else {
+        return Err(NoMemory);
+    };
+    let Ok(blocks) = Pool::seat(rt, &pool) else {
+        return Err(NoMemory);
+    };
     let (core, seat) = CoreCell::<C, L>::new(blank, core, recorder, ends);
-    let desk = Arc::new(alloc, Desk::new(alloc, core, sinks))?;
+    let desk = Arc::new(alloc, Desk::new(alloc, core, pool, sinks, taped))?;
     Ok(Worker {
         rt: *rt,
         alloc,
         desk,
         seat,
+        blocks,
     })
 }
 
@@ -133,6 +167,7 @@ fn serve_made<R, H, G, L>(
     gate: Arc<G>,
     made: Made<H>,
     lanes: Vec<LanePart<H::D, H::R>>,
+    taped: bool,
     blank: Blank,
 ) -> Served<H>
 where
@@ -155,28 +190,35 @@ where
     requires untold { IfSome (H.C.told made.recorder) (λ entries. entries ≡ []) }
     requires none { lanes.items ≡ [] }
     requires room { length made.lone.items ≤ vec_capacity lanes }
+    requires no_turns { made.turns.items ≡ [] }
+    requires turns_room { length made.lone.items ≤ vec_capacity made.turns }
+    requires taping { taped ≡ true → AreTaping made.lone.items }
     requires lent { HasLent (length made.lone.items) 1 (H.now host.old) }
-    ensures { IsServed H.C.told H.C.faults H.C.fulls H.D.now H.R.told H.R.faults H.R.fulls header.now (H.now host.old) (H.now host.new) result.status result.lanes.items result.core }
+    ensures served { IsServed H.C.told H.C.faults H.C.fulls H.D.now H.R.told H.R.faults H.R.fulls header.now (H.now host.old) (H.now host.new) result.status result.lanes.items result.core }
+    ensures tape { HasTape H.R.told taped result.status result.lanes.items result.tape }
 {
     let Made {
         lone,
         ends,
         recorder,
+        turns,
     } = made;
-    match worker_of::<R, H::C, L>(rt, alloc, header, recorder, ends, blank) {
-        Ok(worker) => run(worker, host, gate, lone, lanes),
+    match worker_of::<R, H::C, L>(rt, alloc, header, recorder, ends, taped, blank) {
+        Ok(worker) => run(worker, host, gate, lone, lanes, turns, taped),
         Err(_) => unserved(lanes, lone, Stop::Memory),
     }
 }
 
 /// Serves the clients that the host hands out, on the sinks of a header, until the host says that no more come and all have gone, or
-/// until something fails. What the host made comes back with it. (PulseAudio: `main` of daemon/main.c with its threads.)
+/// until something fails. What the host made comes back with it, and with `taped` the tape: what the server did, as the events of a session.
+/// (PulseAudio: `main` of daemon/main.c with its threads.)
 pub fn serve<R, H, G>(
     rt: &R,
     alloc: Global,
     header: &Header,
     host: &mut H,
     gate: Arc<G>,
+    taped: bool,
 ) -> Served<H>
 where
     R: Threads + Wait + Copy + Drop + Send + Sync + 'static,
@@ -187,23 +229,26 @@ where
     H::C: 'static,
     G: Gate + Drop + Send + Sync + 'static,
     requires { IsHeader header.now }
-    ensures { IsServed H.C.told H.C.faults H.C.fulls H.D.now H.R.told H.R.faults H.R.fulls header.now (H.now host.old) (H.now host.new) result.status result.lanes.items result.core }
+    ensures served { IsServed H.C.told H.C.faults H.C.fulls H.D.now H.R.told H.R.faults H.R.fulls header.now (H.now host.old) (H.now host.new) result.status result.lanes.items result.core }
+    ensures tape { HasTape H.R.told taped result.status result.lanes.items result.tape }
 {
     let mut lanes = Vec::new(alloc);
+    let mut turns = Vec::new(alloc);
     let mut lone = VecDeque::new(alloc);
     let mut ends = Vec::new(alloc);
-    if lanes.reserve(header.sinks.len()).is_err() {
+    if make_room(header.sinks.len(), &mut lanes, &mut turns).is_err() {
         return unserved(lanes, lone, Stop::Memory);
     }
-    match make_outside(alloc, header, host, &mut lone, &mut ends) {
+    match make_outside(alloc, taped, header, host, &mut lone, &mut ends) {
         Ok(recorder) => {
             let made = Made {
                 lone,
                 ends,
                 recorder,
+                turns,
             };
             let blank = Blank::new(PARTS);
-            serve_made::<R, H, G, Brand>(rt, alloc, header, host, gate, made, lanes, blank)
+            serve_made::<R, H, G, Brand>(rt, alloc, header, host, gate, made, lanes, taped, blank)
         }
         Err(stop) => unserved(lanes, lone, stop),
     }

@@ -50,12 +50,13 @@ impl<
 > Model for SinkRun<R, D, E, C, L, G> {
     ghost use Rattle.std.specs.Prelude.{◌≡◌};
     ghost use Rattle.px_jobs.specs.Jobs.{given_to};
-    ghost use Rattle.px_server.specs.Working.{Unworked, IsHonest};
+    ghost use Rattle.px_server.specs.Working.{Unworked, IsHonest, AreTaped};
 
     ghost Value = { Unworked D E };
 
-    ghost view = { λ r. record { sink = (given_to r.running).sink; cell = (given_to r.running).cell; met = (given_to r.running).met } };
+    ghost view = { λ r. record { sink = (given_to r.running).sink; cell = (given_to r.running).cell; met = (given_to r.running).met; turns = (given_to r.running).turns } };
 
     ghost invariant = { λ r. ((given_to r.running).worker.seat.parts ≡ 1)
-        × IsHonest D.now E.faults E.fulls (given_to r.running).cell (given_to r.running).met };
+        × IsHonest D.now E.faults E.fulls (given_to r.running).cell (given_to r.running).met
+        × AreTaped E.told (given_to r.running).cell.recorder (given_to r.running).turns };
 }

@@ -1,5 +1,5 @@
 //! What is left of sinks without workers.
-ghost use Rattle.std.specs.Prelude.{◌≡◌, ◌+◌, ◌≤◌, ◌++◌, [], List, Option, None, length, map, IfSome, vec_len, vec_capacity};
+ghost use Rattle.std.specs.Prelude.{◌≡◌, ◌+◌, ◌≤◌, ◌<◌, ◌++◌, ◌∷◌, [], List, Option, None, length, map, IfSome, vec_len, vec_capacity};
 ghost use Rattle.px_annals.specs.declared.entry.CoreEntry.{CoreEntry as Entry};
 ghost use Rattle.px_annals.specs.declared.stream.PlainStream.{PlainStream};
 ghost use Rattle.px_state.specs.State.{State};
@@ -11,7 +11,9 @@ ghost use Rattle.px_server.specs.declared.sink_work.Met.{Met as Seen};
 ghost use Rattle.px_server.specs.Delivered.{IsDelivered};
 ghost use Rattle.px_server.specs.Parts.{worked, unworked, start_at, IsPart, AreParts, AreTold};
 ghost use Rattle.px_server.specs.Serving.{first_met};
+ghost use Rattle.px_server.specs.Taped.{AreTaping, AreCounted};
 ghost use Rattle.px_server.specs.Working.{IsHonest, boxes_at, boxes_in};
+ghost use Rattle.px_tape.specs.Tape.{Turns, total};
 
 use crate::lone::Lone;
 use crate::served::LanePart;
@@ -20,20 +22,17 @@ use px_annals::{LaneEntry, Recorder};
 use px_core_cell::{CoreEnd, CoreEnds};
 use px_ends::Device;
 use px_lane_cell::{LaneCell, LaneCellParts, LaneEnds, LanePasses};
+use px_tape::SinkTurns;
 use px_types::{SinkId, Status};
 use std::collections::VecDeque;
 
 // What is left of a sink, where there is no core.
-fn part_of<D: Device + Drop, E: Recorder<LaneEntry> + Drop>(
-    sink: SinkId,
-    cell: LaneCell<D, E>,
-) -> LanePart<D, E>
-    ensures { (began : State PlainStream) (met : Seen) → IsHonest D.now E.faults E.fulls cell met
-        → IsPart began None D.now E.told E.faults E.fulls (worked (start_at sink cell.lane.sink) met) result }
+fn part_of<D: Device + Drop, E: Recorder<LaneEntry> + Drop>(lone: Lone<D, E>) -> LanePart<D, E>
+    ensures { (began : State PlainStream) → IsPart began None D.now E.told E.faults E.fulls (unworked lone) result }
 {
-    let parts = cell.into_parts();
+    let parts = lone.cell.into_parts();
     LanePart {
-        sink,
+        sink: lone.sink,
         device: parts.lane.into_device(),
         recorder: parts.recorder,
     }
@@ -48,8 +47,8 @@ pub(crate) fn hand_back<D: Device + Drop, E: Recorder<LaneEntry> + Drop>(
     requires room { length lone.old.items ≤ vec_capacity lanes.old }
     ensures { (began : State PlainStream) → AreParts began None D.now E.told E.faults E.fulls (map unworked lone.old.items) lanes.new.items }
 {
-    while let Some(Lone { sink, cell, .. }) = lone.pop_front() {
-        lanes.push(part_of(sink, cell)).unwrap();
+    while let Some(sink) = lone.pop_front() {
+        lanes.push(part_of(sink)).unwrap();
     }
 }
 
@@ -64,6 +63,7 @@ fn closed<D: Device + Drop, E: Recorder<LaneEntry> + Drop>(
         → IsPart began None D.now E.told E.faults E.fulls (worked (start_at sink cell.lane.sink) met) result }
     ensures delivered { (began : State PlainStream) (entries : List Entry) → IsTold began entries sink.0 (ends_of end)
         → IfSome (E.told result.recorder) (IsDelivered began entries sink (unturned cell.lane.sink)) }
+    ensures recorder { result.recorder ≡ cell.recorder }
 {
     let LaneCellParts {
         lane,
@@ -84,27 +84,51 @@ fn closed<D: Device + Drop, E: Recorder<LaneEntry> + Drop>(
     }
 }
 
+// Keeps the turns of one sink more, where there is a tape.
+fn keep_turns(turns: &mut Vec<SinkTurns>, made: Option<SinkTurns>)
+    requires { vec_len turns.old < vec_capacity turns.old }
+    ensures room { (vec_len turns.new ≤ vec_len turns.old + 1) × (vec_capacity turns.old ≤ vec_capacity turns.new) }
+    ensures more { IfSome made (λ t. turns.new.items ≡ turns.old.items ++ t ∷ []) }
+{
+    if let Some(made) = made {
+        turns.push(made).unwrap();
+    }
+}
+
 /// What is left of the sinks without workers, whose mailboxes are closed with the core's ends of them, and the first status that one of their
-/// workers met. Takes no memory.
+/// workers met. The turns that they made for a tape are kept. Takes no memory.
 pub(crate) fn close_all<D: Device + Drop, E: Recorder<LaneEntry> + Drop>(
     lone: &mut VecDeque<Lone<D, E>>,
     ends: CoreEnds,
     lanes: &mut Vec<LanePart<D, E>>,
+    turns: &mut Vec<SinkTurns>,
 ) -> Option<Status>
     requires boxes { map boxes_in lone.old.items ≡ map boxes_of ends.items }
     requires none { lanes.old.items ≡ [] }
     requires room { length lone.old.items ≤ vec_capacity lanes.old }
+    requires no_turns { turns.old.items ≡ [] }
+    requires turns_room { length lone.old.items ≤ vec_capacity turns.old }
+    ensures turns { AreTaping lone.old.items → AreCounted E.told lanes.new.items (total turns.new.items) }
     ensures met { result ≡ first_met (map unworked lone.old.items) }
     ensures parts { (began : State PlainStream) (core : Option (List Entry)) → AreTold began core lone.old.items ends.items
         → AreParts began core D.now E.told E.faults E.fulls (map unworked lone.old.items) lanes.new.items }
 {
     let mut ends = VecDeque::from_vec(ends);
     let mut first = None;
-    while let Some(Lone { sink, cell, met }) = lone.pop_front() {
+    while let Some(
+        Lone {
+            sink,
+            cell,
+            met,
+            turns: made,
+        },
+    ) = lone.pop_front()
+    {
         let Some(end) = ends.pop_front() else {
             unreachable!()
         };
         first = first.or(status_of_met(met));
+        keep_turns(turns, made);
         lanes.push(closed(sink, cell, end)).unwrap();
     }
     first

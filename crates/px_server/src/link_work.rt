@@ -5,7 +5,6 @@ ghost use Rattle.px_frame.specs.Frame.{IsBody};
 
 use crate::gate::Gate;
 use px_annals::{CoreEntry, Recorder};
-use px_block::Fresh;
 use px_core_cell::Seats;
 use px_desk::{CoreStop, Next, Worker};
 use px_ends::{Link, Recv, Sent};
@@ -111,8 +110,7 @@ where
     fn hear(&mut self, decoder: &mut Decoder, bytes: &[u8]) -> Result<(), CoreStop>
         ensures seat { self.new.worker.seat.parts ≡ self.old.worker.seat.parts }
     {
-        let mut blocks = Fresh::new(self.worker.alloc);
-        match decoder.feed(bytes, &mut blocks) {
+        match decoder.feed(bytes, &mut self.worker.blocks) {
             Ok(frames) => self.take(frames.into_vec()),
             Err(FrameError::Fault { frames, fault, at }) => {
                 self.take(frames.into_vec())?;

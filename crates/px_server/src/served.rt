@@ -6,6 +6,7 @@ ghost use Rattle.px_server.specs.Hosted.{stop_by};
 
 use px_annals::RecordFault;
 use px_ends::{Host, HostFault};
+use px_tape::Events;
 use px_types::{SinkId, Status};
 
 /// What the host made for a sink, once its worker has ended.
@@ -17,12 +18,13 @@ pub struct LanePart<D, R> {
 }
 
 /// What a serving call hands back: how it ended, the parts of its sinks in their order, and the core's recorder, where the host
-/// made one and there was memory for the core.
+/// made one and there was memory for the core. Where a tape was asked for, the events of the server are there too, if their room was.
 #[derive(Drop)]
 pub struct Served<H: Host> {
     pub status: Status,
     pub lanes: Vec<LanePart<H::D, H::R>>,
     pub core: Option<H::C>,
+    pub tape: Option<Events>,
 }
 
 /// Why the serving call itself stops.

@@ -1,11 +1,14 @@
 //! What a serving call has under way: its workers, from their start to their end.
-ghost use Rattle.std.specs.Prelude.{◌≡◌, ◌+◌, ◌≤◌, ◌<◌, ◌++◌, ◌∷◌, [], List, length, map, IfOk, IfErr, OnOk, OnErr, IsSome, vec_capacity};
+ghost use Rattle.std.specs.Prelude.{◌≡◌, ◌+◌, ◌≤◌, ◌<◌, ◌++◌, ◌∷◌, ◌⊎◌, [], List, length, map, true, false, IfOk, IfErr, OnOk, OnErr, IfSome, IsSome, None, vec_capacity};
 ghost use Rattle.std.specs.VecDeque.{deque_capacity};
 ghost use Rattle.px_server.specs.Hosted.{IsLater, IsCauseOf};
 ghost use Rattle.px_session.specs.declared.header.SinkSpec.{SinkSpec};
 ghost use Rattle.px_server.specs.Parts.{start_of, starts_of};
 ghost use Rattle.px_server.specs.Serving.{Ends};
-ghost use Rattle.px_server.specs.Working.{boxes_in};
+ghost use Rattle.px_server.specs.Taped.{AreTaping, HasTape};
+ghost use Rattle.px_server.specs.Working.{boxes_in, tapes_in};
+ghost use Rattle.px_server.specs.declared.served.Stop.TheVariants.{Memory, Over};
+ghost use Rattle.px_tape.specs.Tape.{turns_in, total};
 
 use crate::crew::{Client, SinkRun};
 use crate::gate::Gate;
@@ -19,6 +22,7 @@ use px_core_cell::{CoreParts, Seats};
 use px_desk::{CoreStop, Worker};
 use px_ends::{Accepted, Device, Host, Link};
 use px_jobs::{Spawned, start};
+use px_tape::{Events, SinkTurns, Tape};
 use px_types::{ConnId, Mem, NoMemory};
 use std::alloc::Global;
 use std::collections::VecDeque;
@@ -72,13 +76,19 @@ where
         let Ok(worker) = self.worker.another() else {
             return Err(lone);
         };
-        let Lone { sink, cell, met } = lone;
+        let Lone {
+            sink,
+            cell,
+            met,
+            turns,
+        } = lone;
         let job = SinkWork {
             worker,
             sink,
             cell,
             gate,
             met,
+            turns,
         };
         let rt = self.worker.rt;
         match start(&rt, self.worker.alloc, job) {
@@ -92,10 +102,16 @@ where
                     sink,
                     cell,
                     met,
+                    turns,
                     ..
                 } = job;
                 self.worker.seat.merge(worker.seat);
-                Err(Lone { sink, cell, met })
+                Err(Lone {
+                    sink,
+                    cell,
+                    met,
+                    turns,
+                })
             }
         }
     }
@@ -270,6 +286,7 @@ where
         ensures parts { self.new.worker.seat.parts ≡ self.old.worker.seat.parts + length self.old.sinks.items }
         ensures starts { map start_of lone.new.items ≡ map start_of (self.old.sinks.items ++ lone.old.items) }
         ensures boxes { map boxes_in lone.new.items ≡ map boxes_in (self.old.sinks.items ++ lone.old.items) }
+        ensures tapes { map tapes_in lone.new.items ≡ map tapes_in (self.old.sinks.items ++ lone.old.items) }
     {
         let rt = self.worker.rt;
         while let Some(SinkRun { running }) = self.sinks.pop_back() {
@@ -279,11 +296,42 @@ where
                 sink,
                 cell,
                 met,
+                turns,
                 ..
             } = job;
             self.worker.seat.merge(worker.seat);
-            lone.push_front_reserved(Lone { sink, cell, met });
+            lone.push_front_reserved(Lone {
+                sink,
+                cell,
+                met,
+                turns,
+            });
         }
+    }
+}
+
+// The events of a tape, where there is one. Where there is no memory for them, that ends a call that nothing else has stopped.
+fn woven(
+    alloc: Global,
+    taped: bool,
+    tape: Tape,
+    turns: Vec<SinkTurns>,
+    stop: Stop,
+) -> (Option<Events>, Stop)
+    ensures none { taped ≡ false → result.0 ≡ None }
+    ensures turns { IfSome result.0 (λ events. turns_in events ≡ total turns.items) }
+    ensures whole { taped ≡ true → result.1 ≡ Over → IsSome result.0 }
+    ensures stop { (result.1 ≡ stop) ⊎ ((stop ≡ Over) × (result.1 ≡ Memory)) }
+{
+    if !taped {
+        return (None, stop);
+    }
+    match tape.into_events(alloc, turns) {
+        Ok(events) => (Some(events), stop),
+        Err(_) => match stop {
+            Stop::Over => (None, Stop::Memory),
+            other => (None, other),
+        },
     }
 }
 
@@ -294,6 +342,8 @@ pub(crate) fn run<R, H, G, L>(
     gate: Arc<G>,
     mut lone: VecDeque<Lone<H::D, H::R>>,
     mut lanes: Vec<LanePart<H::D, H::R>>,
+    mut turns: Vec<SinkTurns>,
+    taped: bool,
 ) -> Served<H>
 where
     R: Threads + Wait + Copy + Drop + Send + Sync + 'static,
@@ -310,6 +360,10 @@ where
     requires few { length lone.items ≤ 16 }
     requires none { lanes.items ≡ [] }
     requires room { length lone.items ≤ vec_capacity lanes }
+    requires no_turns { turns.items ≡ [] }
+    requires turns_room { length lone.items ≤ vec_capacity turns }
+    requires taping { taped ≡ true → AreTaping lone.items }
+    ensures tape { HasTape H.R.told taped result.status result.lanes.items result.tape }
     ensures later { IsLater (H.now host.old) (H.now host.new) }
     ensures lent { (H.now host.new).lent ≡ (H.now host.old).lent }
     ensures ends { Ends H.C.told H.C.faults H.C.fulls L.began H.D.now H.R.told H.R.faults H.R.fulls (map start_of lone.items) (H.now host.old) (H.now host.new) result.status result.lanes.items result.core }
@@ -327,11 +381,14 @@ where
     serving.join_clients();
     serving.worker.finish();
     serving.join_sinks(&mut lone);
+    let tape = serving.worker.take_tape();
     let CoreParts { log, ends, .. } = serving.worker.into_core();
-    let met = close_all(&mut lone, ends, &mut lanes);
+    let met = close_all(&mut lone, ends, &mut lanes, &mut turns);
+    let (tape, stop) = woven(alloc, taped, tape, turns, stop);
     Served {
         status: decided(stop, log.fault, met),
         lanes,
         core: Some(log.recorder),
+        tape,
     }
 }

@@ -1,5 +1,6 @@
 //! The sinks of a server: what the host makes for each, and their cells.
-ghost use Rattle.std.specs.Prelude.{◌≡◌, ℕ, ◌+◌, ◌≤◌, ◌<◌, ◌++◌, ◌∷◌, [], List, length, map, IfOk, IfErr, OnOk, OnErr};
+ghost use Rattle.std.specs.Prelude.{◌≡◌, ℕ, ◌+◌, ◌≤◌, ◌<◌, ◌++◌, ◌∷◌, [], List, length, map, IfOk, IfErr, OnOk, OnErr, IfSome, true};
+ghost use Rattle.std.specs.Option.{is_some};
 ghost use Rattle.px_ends.specs.Host.{IsNewDevice, IsNewRecorder};
 ghost use Rattle.px_ends.specs.Device.{IsShape};
 ghost use Rattle.px_sample.specs.Format.{frame_size_of};
@@ -14,6 +15,7 @@ ghost use Rattle.px_server.specs.declared.sink_work.Met.TheVariants.{Nothing};
 ghost use Rattle.px_server.specs.Parts.{start_of, sink_for, starts_of, starts_from, IsFrontOf, Adds};
 ghost use Rattle.px_server.specs.Fresh.{IsFresh};
 ghost use Rattle.px_server.specs.Working.{IsHonest, boxes_at, boxes_in};
+ghost use Rattle.px_server.specs.Taped.{AreTaping};
 
 use crate::lone::Lone;
 use crate::served::{Stop, stop_by};
@@ -27,6 +29,7 @@ use px_mail::Mailbox;
 use px_msg::{Msg, Notice};
 use px_session::{Header, SinkSpec};
 use px_stream::Stream;
+use px_tape::SinkTurns;
 use px_types::{Mem, SinkId};
 use std::alloc::Global;
 use std::collections::VecDeque;
@@ -98,6 +101,7 @@ fn cell_of<D: Device + Drop, E: Recorder<LaneEntry> + Drop>(
     requires fresh { IsFresh sink.now (D.now device) (E.told recorder) (E.faults recorder) (E.fulls recorder) }
     ensures sink { IfOk result (λ made. made.0.lane.sink ≡ sink_for sink.now) }
     ensures honest { IfOk result (λ made. IsHonest D.now E.faults E.fulls made.0 Nothing) }
+    ensures unnoted { IfOk result (λ made. IfSome (E.told made.0.recorder) (λ entries. entries ≡ [])) }
     ensures core { IfOk result (λ made. ends_of made.1 ≡ fresh_ends sink.now) }
     ensures boxes { IfOk result (λ made. boxes_at made.0.ends ≡ boxes_of made.1) }
 {
@@ -107,9 +111,22 @@ fn cell_of<D: Device + Drop, E: Recorder<LaneEntry> + Drop>(
     Ok((cell, core))
 }
 
+// The turns of a sink that has made none, where there is a tape.
+fn turns_of(alloc: Global, sink: SinkId, taped: bool) -> Option<SinkTurns>
+    ensures tapes { is_some result ≡ taped }
+    ensures none { IfSome result (λ turns. turns.turns ≡ []) }
+{
+    if taped {
+        Some(SinkTurns::new(alloc, sink))
+    } else {
+        None
+    }
+}
+
 // One sink. Where it can't be made, those that are there stay.
 fn make_one<H: Host>(
     alloc: Global,
+    taped: bool,
     index: u8,
     sink: &SinkSpec,
     host: &mut H,
@@ -123,6 +140,7 @@ fn make_one<H: Host>(
     ensures made { OnOk result (map start_of lone.new.items ≡ map start_of lone.old.items ++ (record { index = record { 0 = index }; sink = sink_for sink.now }) ∷ []) }
     ensures ends { OnOk result (map ends_of ends.new.items ≡ map ends_of ends.old.items ++ fresh_ends sink.now ∷ []) }
     ensures boxes { OnOk result (map boxes_in lone.old.items ≡ map boxes_of ends.old.items → map boxes_in lone.new.items ≡ map boxes_of ends.new.items) }
+    ensures tapes { OnOk result (taped ≡ true → AreTaping lone.old.items → AreTaping lone.new.items) }
     ensures stays { OnErr result (lone.new.items ≡ lone.old.items) }
 {
     if lone.reserve(1).is_err() || ends.reserve(1).is_err() {
@@ -140,6 +158,7 @@ fn make_one<H: Host>(
         sink,
         cell,
         met: Met::Nothing,
+        turns: turns_of(alloc, sink, taped),
     });
     ends.push(core).unwrap();
     Ok(())
@@ -148,6 +167,7 @@ fn make_one<H: Host>(
 // The sinks of these entries, in order, where the first has this index. Where one can't be made, those before it are there.
 fn make_from<H: Host>(
     alloc: Global,
+    taped: bool,
     index: u8,
     sinks: &[SinkSpec],
     host: &mut H,
@@ -162,13 +182,14 @@ fn make_from<H: Host>(
     ensures made { OnOk result (map start_of lone.new.items ≡ map start_of lone.old.items ++ starts_from index sinks.now) }
     ensures ends { OnOk result (map ends_of ends.new.items ≡ map ends_of ends.old.items ++ map fresh_ends sinks.now) }
     ensures boxes { OnOk result (map boxes_in lone.old.items ≡ map boxes_of ends.old.items → map boxes_in lone.new.items ≡ map boxes_of ends.new.items) }
+    ensures tapes { OnOk result (taped ≡ true → AreTaping lone.old.items → AreTaping lone.new.items) }
     ensures front { Adds (map start_of lone.old.items) (starts_from index sinks.now) (map start_of lone.new.items) }
 {
     match sinks.split_first() {
         None => Ok(()),
         Some((first, rest)) => {
-            make_one(alloc, index, first, host, lone, ends)?;
-            make_from(alloc, index + 1, rest, host, lone, ends)
+            make_one(alloc, taped, index, first, host, lone, ends)?;
+            make_from(alloc, taped, index + 1, rest, host, lone, ends)
         }
     }
 }
@@ -176,6 +197,7 @@ fn make_from<H: Host>(
 /// The sinks of a header, in order. Where one can't be made, those before it are there.
 pub(crate) fn make_all<H: Host>(
     alloc: Global,
+    taped: bool,
     header: &Header,
     host: &mut H,
     lone: &mut VecDeque<Lone<H::D, H::R>>,
@@ -189,7 +211,8 @@ pub(crate) fn make_all<H: Host>(
     ensures made { OnOk result (map start_of lone.new.items ≡ starts_of header.now.sinks) }
     ensures ends { OnOk result (map ends_of ends.new.items ≡ map fresh_ends header.now.sinks) }
     ensures boxes { OnOk result (map boxes_in lone.new.items ≡ map boxes_of ends.new.items) }
+    ensures tapes { OnOk result (taped ≡ true → AreTaping lone.new.items) }
     ensures front { IsFrontOf (map start_of lone.new.items) (starts_of header.now.sinks) }
 {
-    make_from(alloc, 0, header.sinks.as_slice(), host, lone, ends)
+    make_from(alloc, taped, 0, header.sinks.as_slice(), host, lone, ends)
 }

@@ -1,3 +1,4 @@
 mod gates;
 mod hosts;
 mod statuses;
+mod tape;

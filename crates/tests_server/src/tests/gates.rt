@@ -81,6 +81,7 @@ fn a_sink_and_a_client_are_served_side_by_side(rt: HostRuntime) -> Mem<()> {
         &header_read(alloc)?,
         &mut host,
         Arc::try_clone(&gate)?,
+        false,
     );
     assert!(rt; served.status == Status::Ok && gate.met.load(Ordering::SeqCst));
     Ok(())

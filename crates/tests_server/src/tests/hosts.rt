@@ -27,8 +27,8 @@ pub fn header(alloc: Global) -> Mem<Text> {
     Ok(Text::from_vec(bytes))
 }
 
-// The AUTH of a client of version 35 with that cookie, in its frame: 296 bytes.
-fn hello(alloc: Global) -> Mem<Text> {
+/// The AUTH of a client of version 35 with that cookie, in its frame: 296 bytes.
+pub fn hello(alloc: Global) -> Mem<Text> {
     let mut bytes = Vec::new(alloc);
     bytes.extend_from_slice(b"\0\0\x01\x14\xff\xff\xff\xff\0\0\0\0\0\0\0\0\0\0\0\0")?;
     bytes.extend_from_slice(b"L\0\0\0\x08L\0\0\0\0L\xc0\0\0\x23x\0\0\x01\0")?;

@@ -90,13 +90,28 @@ fn is_refused<R: Machine>(rt: &R) -> Mem<bool> {
     )
 }
 
-// Words that aren't a server's.
-fn is_usage<R: Machine>(rt: &R) -> Mem<bool> {
+// Whether a server by these words, with a host that fails at this call, ends so.
+fn says<R: Machine>(rt: &R, more: &[&str], failing: u64, status: Status, line: &[u8]) -> Mem<bool> {
     let alloc = rt.alloc();
     let sent = nothing_sent(alloc)?;
-    let mut host = host(rt, header(alloc)?, sent, 1000, 0)?;
+    let mut host = host(rt, header(alloc)?, sent, 1000, failing)?;
+    Ok(ends(rt, more, &mut host, line)? == Some(status))
+}
+
+// Words that aren't a server's.
+fn is_usage<R: Machine>(rt: &R) -> Mem<bool> {
     let line = b"pulse_rw: usage: replay [--raw SINK], summary, gen NUMBER COUNT, serve OPTIONS\n";
-    Ok(ends(rt, &["--history", "paper"], &mut host, line)? == Some(Status::Usage))
+    says(rt, &["--history", "paper"], 0, Status::Usage, line)
+}
+
+// A tape that can't be written, and one behind a failure of the host, which comes first.
+fn is_unwritten<R: Machine>(rt: &R) -> Mem<bool> {
+    let host_failed = b"pulse_rw: host failed\n";
+    let write_failed = b"pulse_rw: write failed\n";
+    Ok(
+        says(rt, &["--tape"], 0, Status::WriteFault, write_failed)?
+            && says(rt, &["--tape"], 6, Status::Host, host_failed)?,
+    )
 }
 
 #[test]
@@ -105,6 +120,7 @@ fn a_server_tells_why_it_ends(rt: HostRuntime) {
         matches!(is_full(&rt), Ok(true))
             && matches!(is_refused(&rt), Ok(true))
             && matches!(is_usage(&rt), Ok(true))
+            && matches!(is_unwritten(&rt), Ok(true))
     );
 }
 

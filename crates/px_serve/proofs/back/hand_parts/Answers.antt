@@ -1,4 +1,4 @@
-use Rattle.std.proofs.Common.{rules, ◌≡◌, List, [], ◌∷◌, length, sym, subst}
+use Rattle.std.proofs.Common.{rules, ◌≡◌, List, [], length, sym, subst}
 use Rattle.px_server.specs.Hosted.{HasLent}
 use Rattle.px_serve.specs.Back.{TakesParts}
 use Rattle.px_serve.proofs.BackLaws.{lent_part, lent_rest, lent_end, lent_fewer, back_one, back_none}

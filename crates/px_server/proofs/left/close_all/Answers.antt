@@ -5,9 +5,10 @@ use Rattle.px_core_cell.specs.History.{IsTold}
 use Rattle.px_lane_cell.specs.History.{unturned}
 use Rattle.px_server.specs.Delivered.{IsDelivered}
 use Rattle.px_server.specs.Parts.{unworked}
-use Rattle.px_server.specs.Working.{Unworked}
+use Rattle.px_server.specs.Working.{Unworked, AreTaped}
 use Rattle.px_server.proofs.Parts.{part_told, handed_none, handed_one, handed_all, met_one, met_all}
 use Rattle.px_server.proofs.Delivering.{told_one, told_is, boxes_front, boxes_rest}
+use Rattle.px_server.proofs.Taping.{taping_first, counted_none, counted_one}
 use Rattle.px_server.proofs.left.close_all.Goals as goal
 
 pub loop-sink-init : goal.loop-sink-init
@@ -15,12 +16,14 @@ loop-sink-init g c = record {
   room = search rules;
   boxes = search rules;
   met = search rules;
+  turns_room = search rules;
+  turns = λ on. (on, counted_none g.E.Recorder.told c.args.lanes.now.items c.args.turns.now.items c.requires.none c.requires.no_turns);
   parts = λ began core told. (search rules, handed_none began core g.D.Device.now g.E.Recorder.told g.E.Recorder.faults g.E.Recorder.fulls c.args.lone.now.items c.args.lanes.now.items c.requires.none);
 }
 
 pub loop-sink-preserved : goal.loop-sink-preserved
 loop-sink-preserved g c =
-    let one : Unworked g.row.D.Denot g.row.E.Denot = record { sink = c.in-Some.field-0.sink; cell = c.in-Some.field-0.cell; met = c.in-Some.field-0.met } in
+    let one : Unworked g.row.D.Denot g.row.E.Denot = record { sink = c.in-Some.field-0.sink; cell = c.in-Some.field-0.cell; met = c.in-Some.field-0.met; turns = c.in-Some.field-0.turns } in
     let left = c.loop-sink.lone.items in
     let rest = c.pop_front.new.self.items in
     let end = c.in-Some-pop_front.end in
@@ -31,6 +34,15 @@ loop-sink-preserved g c =
       room = search rules;
       boxes = boxes_rest left rest one c.loop-sink.ends.items c.pop_front-in-Some.new.self.items end front next c.loop-sink.invariant.boxes;
       met = met_one c.loop-sink.first c.or-first.result left rest c.args.lone.now.items one front (search rules) c.loop-sink.invariant.met;
+      turns_room = search rules;
+      turns = λ on.
+          let so = c.loop-sink.invariant.turns on in
+          let first = taping_first left rest one front so.0 in
+          let taped : AreTaped g.E.Recorder.told one.cell.recorder one.turns = search rules in (
+            first.1,
+            counted_one g.E.Recorder.told c.loop-sink.lanes.items c.push.new.self.items c.closed.result c.loop-sink.turns.items c.keep_turns.new.turns.items one.cell.recorder one.turns
+                more c.closed.ensures.recorder first.0 taped c.keep_turns.ensures.more so.1,
+          );
       parts = λ began core told.
           let so = c.loop-sink.invariant.parts began core told in
           let all = told_one began core left rest one c.loop-sink.ends.items c.pop_front-in-Some.new.self.items end front next so.0 in (
@@ -53,3 +65,6 @@ returns-clause-parts g c = λ began core told.
     let none : c.loop-sink.lone.items ≡ [] = search rules in
     handed_all began core g.D.Device.now g.E.Recorder.told g.E.Recorder.faults g.E.Recorder.fulls c.args.lone.now.items c.loop-sink.lone.items c.loop-sink.lanes.items none
     (c.loop-sink.invariant.parts began core told).1
+
+pub returns-clause-turns : goal.returns-clause-turns
+returns-clause-turns g c = λ on. (c.loop-sink.invariant.turns on).1

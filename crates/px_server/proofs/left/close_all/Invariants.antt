@@ -7,13 +7,17 @@ use Rattle.px_state.specs.State.{State}
 use Rattle.px_core_cell.specs.Boxes.{boxes_of}
 use Rattle.px_server.specs.Parts.{unworked, AreTold}
 use Rattle.px_server.specs.Serving.{first_met}
+use Rattle.px_server.specs.Taped.{AreTaping, AreCounted}
 use Rattle.px_server.specs.Working.{boxes_in}
+use Rattle.px_tape.specs.Tape.{total}
 use Rattle.px_server.proofs.Parts.{Handed}
 use Rattle.px_server.proofs.left.close_all.Given as goal
 
 abbrev pub invariant-loop-sink : goal.invariant-loop-sink
 invariant-loop-sink g l = record {
   room : vec_len l.lanes + length l.lone.items ≤ vec_capacity l.lanes;
+  turns_room : vec_len l.turns + length l.lone.items ≤ vec_capacity l.turns;
+  turns : AreTaping l.fn.lone.items → AreTaping l.lone.items × AreCounted g.E.Recorder.told l.lanes.items (total l.turns.items);
   boxes : map boxes_in l.lone.items ≡ map boxes_of l.ends.items;
   met : option_or l.first (first_met (map unworked l.lone.items)) ≡ first_met (map unworked l.fn.lone.items);
   parts : (began : State PlainStream) (core : Option (List CoreEntry)) → AreTold began core l.fn.lone.items l.fn.ends.items

@@ -11,13 +11,13 @@ loop-sink-init g c = record {
 
 pub loop-sink-preserved : goal.loop-sink-preserved
 loop-sink-preserved g c =
-    let one : Unworked g.row.D.Denot g.row.E.Denot = record { sink = c.in-Some.field-0.sink; cell = c.in-Some.field-0.cell; met = c.in-Some.field-0.met } in
+    let one : Unworked g.row.D.Denot g.row.E.Denot = c.in-Some.sink in
     let front : c.loop-sink.lone.items ≡ one ∷ c.pop_front.new.self.items = search rules in
     let more : c.push.new.self.items ≡ c.loop-sink.lanes.items ++ c.part_of.result ∷ [] = search rules in
     record {
       room = search rules;
       parts = λ began. handed_one began None g.D.Device.now g.E.Recorder.told g.E.Recorder.faults g.E.Recorder.fulls c.args.lone.now.items c.loop-sink.lone.items c.pop_front.new.self.items one
-          c.loop-sink.lanes.items c.push.new.self.items c.part_of.result front more (c.part_of.ensures began one.met (search rules)) (c.loop-sink.invariant.parts began);
+          c.loop-sink.lanes.items c.push.new.self.items c.part_of.result front more (c.part_of.ensures began) (c.loop-sink.invariant.parts began);
     }
 
 pub returns : goal.returns

@@ -1,7 +1,7 @@
 use Rattle.std.proofs.Common.{◌≡◌, ◌+◌, ◌≤◌, ◌++◌, length, map}
 use Rattle.std.specs.VecDeque.{deque_capacity}
 use Rattle.px_server.specs.Parts.{start_of}
-use Rattle.px_server.specs.Working.{boxes_in}
+use Rattle.px_server.specs.Working.{boxes_in, tapes_in}
 use Rattle.px_server.proofs.serving.Serving.join_sinks.Given as goal
 
 abbrev pub invariant-loop-running : goal.invariant-loop-running
@@ -9,6 +9,7 @@ invariant-loop-running g l = record {
   parts : l.self.worker.seat.parts + length l.self.sinks.items ≡ l.fn.self.worker.seat.parts + length l.fn.self.sinks.items;
   room : length l.self.sinks.items + length l.lone.items ≤ deque_capacity l.lone;
   starts : map start_of (l.self.sinks.items ++ l.lone.items) ≡ map start_of (l.fn.self.sinks.items ++ l.fn.lone.items);
+  tapes : map tapes_in (l.self.sinks.items ++ l.lone.items) ≡ map tapes_in (l.fn.self.sinks.items ++ l.fn.lone.items);
   boxes : map boxes_in (l.self.sinks.items ++ l.lone.items) ≡ map boxes_in (l.fn.self.sinks.items ++ l.fn.lone.items);
 }
 

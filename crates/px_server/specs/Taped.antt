@@ -1,0 +1,37 @@
+-- What a serving call hands back of its tape.
+use Rattle.std.specs.Prelude.{◌≡◌, ℕ, ◌+◌, Bool, true, false, List, [], ◌∷◌, length, map, Option, None, Some, IfSome, IsSome}
+use Rattle.std.specs.List.{AllByRecursion}
+use Rattle.px_types.specs.declared.status.Status.{Status}
+use Rattle.px_types.specs.declared.status.Status.TheVariants as status
+use Rattle.px_annals.specs.declared.entry.LaneEntry.{LaneEntry}
+use Rattle.px_session.specs.declared.event.Event.{Event}
+use Rattle.px_server.specs.declared.served.LanePart.{LanePart}
+use Rattle.px_server.specs.Working.{Unworked, tapes_in}
+use Rattle.px_tape.specs.Tape.{turns_in}
+
+-- all sinks keep their turns for a tape
+abbrev pub AreTaping : {D E : Type 0} → List (Unworked D E) → Type 0
+AreTaping lone = AllByRecursion (λ on. on ≡ true) (map tapes_in lone)
+
+-- one more list, and how many entries all have
+abbrev pub added : Option (List LaneEntry) → Option ℕ → Option ℕ
+added None total = None
+added (Some entries) None = None
+added (Some entries) (Some total) = Some (length entries + total)
+
+module _ {D R : Type 0} (told : R → Option (List LaneEntry)) where
+  -- how many entries the recorders of sinks have together, where all of them tell
+  abbrev pub entries_in : List (LanePart D R) → Option ℕ
+  entries_in [] = Some 0
+  entries_in (part ∷ parts) = added (told part.recorder) (entries_in parts)
+
+  -- they have so many
+  abbrev pub AreCounted : List (LanePart D R) → ℕ → Type 0
+  AreCounted parts count = IfSome (entries_in parts) (λ entries. count ≡ entries)
+
+  -- the events of the tape, where there is one: as many of them are turns as the recorders of the sinks have entries together, where these tell; with
+  -- status Ok they are there
+  pub record HasTape (taped : Bool) (answered : Status) (parts : List (LanePart D R)) (tape : Option (List Event)) : Type 0 where
+    pub none : taped ≡ false → tape ≡ None
+    pub turns : IfSome tape (λ events. AreCounted parts (turns_in events))
+    pub whole : taped ≡ true → answered ≡ status.Ok → IsSome tape
