@@ -1,6 +1,6 @@
 // One block, and the answer for want of memory.
 
-ghost use Rattle.std.specs.Prelude.{◌≡◌, ◌+◌, ◌≤◌, ◌++◌, [], length, take, min, IfOk, OnOk};
+ghost use Rattle.std.specs.Prelude.{◌≡◌, ◌+◌, ◌-◌, ◌≤◌, ◌++◌, [], length, take, min, IfOk, OnOk};
 
 use std::alloc::{AllocError, AllocFailed, Global};
 use std::marker::Model;
@@ -56,6 +56,16 @@ impl Block {
         })
     }
 
+    /// A block with no bytes, and the memory for so many, at most for all that it can have.
+    pub fn with_room(alloc: Global, bytes: usize) -> Mem<Block>
+        ensures bytes { IfOk result (λ block. block.bytes ≡ []) }
+        ensures room { IfOk result (λ block. min bytes BLOCK_SIZE ≤ block.room) }
+    {
+        Ok(Block {
+            bytes: Vec::with_capacity(alloc, bytes.min(BLOCK_SIZE))?,
+        })
+    }
+
     /// Appends the first of these bytes, and answers how many went in: all of them, or as many as there was
     /// room for. Takes no memory.
     pub fn put(&mut self, bytes: &[u8]) -> usize
@@ -92,6 +102,16 @@ impl Block {
         ensures room { self.new.room ≤ self.old.room }
     {
         self.bytes.shrink_to_fit();
+    }
+
+    /// Takes the room for so many bytes more, at most for all that it can have. Without memory nothing changes.
+    pub fn reserve(&mut self, bytes: usize) -> Mem<()>
+        ensures bytes { self.new.bytes ≡ self.old.bytes }
+        ensures ok { OnOk result (min bytes (BLOCK_SIZE - length self.new.bytes) ≤ self.new.room) }
+    {
+        let most = BLOCK_SIZE - self.bytes.len();
+        self.bytes.reserve_exact(bytes.min(most))?;
+        Ok(())
     }
 
     /// Takes the room for all that it can have. Without memory nothing changes.

@@ -1,6 +1,6 @@
 // A run of bytes that lies in blocks.
 
-ghost use Rattle.std.specs.Prelude.{◌≡◌, ℕ, ◌+◌, ◌*◌, ◌-◌, ◌%◌, ◌^◌, ◌<◌, ◌++◌, [], ◌∷◌, length, take, drop, min, vec_len, vec_capacity, IfOk, IfSome, OnOk, OnErr, OnSome, MatchOption};
+ghost use Rattle.std.specs.Prelude.{◌≡◌, ℕ, ◌+◌, ◌*◌, ◌-◌, ◌%◌, ◌^◌, ◌<◌, ◌≤◌, ◌++◌, [], ◌∷◌, length, take, drop, min, vec_len, vec_capacity, IfOk, IfSome, OnOk, OnErr, OnSome, MatchOption};
 ghost use Rattle.std.specs.List.{concat};
 ghost use Rattle.px_block.specs.Kept.{contents};
 ghost use Rattle.px_block.specs.Packed.{IsPacked, AreFull};
@@ -10,6 +10,9 @@ use crate::block::{BLOCK_SIZE, Block, Mem, NoMemory};
 use crate::source::BlockSource;
 use std::alloc::Global;
 use std::marker::Model;
+
+// The most first bytes that wait in a block of their size, until more come.
+const FEW: usize = BLOCK_SIZE / 4;
 
 /// Bytes in blocks, one block after the other (`pa_memchunk`s of one write): each block but the last is
 /// full, and none is empty.
@@ -51,6 +54,10 @@ impl Blocks {
     {
         if bytes.is_empty() {
             return Ok(0);
+        }
+        if self.blocks.is_empty() && bytes.len() <= FEW {
+            put_first(&mut self.blocks, source, bytes)?;
+            return Ok(bytes.len());
         }
         let mut last = take_open(&mut self.blocks, source)?;
         let count = last.put(bytes);
@@ -132,6 +139,20 @@ fn fit_last(blocks: &mut Vec<Block>)
     if let Some(last) = blocks.last_mut() {
         last.fit();
     }
+}
+
+// Puts the first bytes, which are few, into a block with room for them. After an `Err` there is still none.
+fn put_first<B: BlockSource>(blocks: &mut Vec<Block>, source: &mut B, bytes: &[u8]) -> Mem<()>
+    requires none { vec_len blocks.old ≡ 0 }
+    requires few { length bytes.now ≤ BLOCK_SIZE }
+    ensures ok { OnOk result (contents blocks.new.items ≡ bytes.now ∷ []) }
+    ensures err { OnErr result (contents blocks.new.items ≡ contents blocks.old.items) }
+{
+    blocks.reserve(1)?;
+    let mut block = source.take_for(bytes.len())?;
+    block.put(bytes);
+    blocks.push_reserved(block);
+    Ok(())
 }
 
 // Takes the last block out where it isn't full, so that only full ones are left.

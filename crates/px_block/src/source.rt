@@ -1,6 +1,6 @@
 // Where blocks come from, and where they go when they were used.
 
-ghost use Rattle.std.specs.Prelude.{◌≡◌, ℕ, [], Option, None, IfOk};
+ghost use Rattle.std.specs.Prelude.{◌≡◌, ◌≤◌, ℕ, [], Option, None, min, IfOk};
 ghost use Rattle.px_block.specs.declared.block.TheConstants.{BLOCK_SIZE};
 ghost use Rattle.px_block.specs.Given.{after_giving};
 
@@ -16,6 +16,16 @@ pub trait BlockSource {
     fn take(&mut self) -> Mem<Block>
         ensures block { IfOk result (λ block. block ≡ record { bytes = []; room = BLOCK_SIZE }) }
         ensures given { given self.new ≡ given self.old };
+
+    /// A block that shows no bytes either, and has room for so many at least, at most for all that a block can have. Where few bytes are
+    /// to wait in it, a source may make a small one.
+    fn take_for(&mut self, bytes: usize) -> Mem<Block>
+        ensures bytes { IfOk result (λ block. block.bytes ≡ []) }
+        ensures room { IfOk result (λ block. min bytes BLOCK_SIZE ≤ block.room) }
+        ensures given { given self.new ≡ given self.old }
+    {
+        self.take()
+    }
 
     /// Takes back a block that isn't needed any more. Takes no memory.
     fn give(&mut self, block: Block)
@@ -40,6 +50,10 @@ impl BlockSource for Fresh {
 
     fn take(&mut self) -> Mem<Block> {
         Block::new(self.alloc)
+    }
+
+    fn take_for(&mut self, bytes: usize) -> Mem<Block> {
+        Block::with_room(self.alloc, bytes)
     }
 
     fn give(&mut self, block: Block) {

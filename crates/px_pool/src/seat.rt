@@ -41,6 +41,15 @@ impl<R: Wait> BlockSource for PoolSeat<R> {
         Ok(block)
     }
 
+    fn take_for(&mut self, bytes: usize) -> Mem<Block> {
+        let found = self.pool.queue.pop_as::<Finds, R>(&self.rt, &mut self.pass);
+        let Some(mut block) = found else {
+            return Block::with_room(self.pool.alloc, bytes);
+        };
+        block.reserve(bytes)?;
+        Ok(block)
+    }
+
     fn give(&mut self, mut block: Block) {
         block.clear();
         let kept = self
