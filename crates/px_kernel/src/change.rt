@@ -37,21 +37,55 @@ pub fn sub_scaled<T: Ledger>(sums: &mut [i64], values: &[i32], factor: u32, step
     change(sums, values, factor, false);
 }
 
-// Four sums at a time, and then the others. A factor of 32 bits has no lanes: theirs are signed.
+// The factor of a stream that is added as it is, in 65536ths.
+const WHOLE: u32 = 65_536;
+
+// Four sums at a time, and then the others.
 fn change(sums: &mut [i64], values: &[i32], factor: u32, add: bool)
     requires long { length values.now ≡ length sums.old }
     requires ready { AreReady add sums.old values.now factor 0 }
     ensures { Changes add sums.old values.now factor 0 (length sums.old) sums.new }
 {
-    let mut from = 0;
-    if factor <= i32::MAX as u32 {
-        let factors = [factor; 2];
-        while from + 4 <= sums.len() {
-            change_four(sums, values, from, factor_for(&factors, from), add);
-            from += 4;
-        }
-    }
+    let from = if factor == WHOLE {
+        change_whole(sums, values, add)
+    } else if factor <= i32::MAX as u32 {
+        change_fours(sums, values, factor, add)
+    } else {
+        0
+    };
     change_rest(sums, values, from, factor, add);
+}
+
+// Four sums at a time, by a factor of 1, which is known here to whoever compiles it: no number is multiplied. Answers how many were changed.
+fn change_whole(sums: &mut [i64], values: &[i32], add: bool) -> usize
+    requires long { length values.now ≡ length sums.old }
+    requires ready { AreReady add sums.old values.now 65536 0 }
+    ensures inside { result ≤ length sums.old }
+    ensures sums { Changes add sums.old values.now 65536 0 result sums.new }
+{
+    let mut from = 0;
+    while from + 4 <= sums.len() {
+        change_four(sums, values, from, WHOLE, add);
+        from += 4;
+    }
+    from
+}
+
+// The same by any factor that has lanes: one of 32 bits has none, since theirs are signed.
+fn change_fours(sums: &mut [i64], values: &[i32], factor: u32, add: bool) -> usize
+    requires long { length values.now ≡ length sums.old }
+    requires small { factor < 2 ^ 31 }
+    requires ready { AreReady add sums.old values.now factor 0 }
+    ensures inside { result ≤ length sums.old }
+    ensures sums { Changes add sums.old values.now factor 0 result sums.new }
+{
+    let mut from = 0;
+    let factors = [factor; 2];
+    while from + 4 <= sums.len() {
+        change_four(sums, values, from, factor_for(&factors, from), add);
+        from += 4;
+    }
+    from
 }
 
 // One of two equal factors, read anew for each four: so it is seen there to have 32 bits, and two such numbers are multiplied at once.

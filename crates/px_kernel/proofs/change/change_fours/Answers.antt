@@ -1,12 +1,12 @@
 use Rattle.std.proofs.Common.{◌≡◌, ℕ, ◌+◌, arith, refl, sym, subst}
 use Rattle.px_kernel.specs.Kernel.{AreReady, Changes}
 use Rattle.px_kernel.proofs.Changing.{both_changed, ready_behind}
-use Rattle.px_kernel.proofs.change.change.Goals as goal
+use Rattle.px_kernel.proofs.change.change_fours.Goals as goal
 
 pub change_four-requires-clause-small : goal.change_four-requires-clause-small
 change_four-requires-clause-small c =
     let same : c.factor_for.result ≡ c.args.factor = c.factor_for.ensures c.args.factor refl in
-    omega (arith, same, c.if-factor.true)
+    omega (arith, same, c.requires.small)
 
 pub change_four-requires-clause-ready : goal.change_four-requires-clause-ready
 change_four-requires-clause-ready c =
