@@ -81,7 +81,9 @@ fn move_to_front(bytes: &mut Vec<u8>, count: usize)
     ensures size { length bytes.new.items ≡ length bytes.old.items }
     ensures front { take (length bytes.old.items - count) bytes.new.items ≡ drop count bytes.old.items }
 {
-    bytes.copy_within(count.., 0);
+    if count > 0 {
+        bytes.copy_within(count.., 0);
+    }
 }
 
 // Puts the bytes of the frames that are mixed, from one on, in place of the last bytes, those from place `at` on.

@@ -202,6 +202,9 @@ impl KeptMix {
         ensures ticks { steps.new ≤ steps.old + 2 * (sink.now.channels * (self.old.frames - from)) }
     {
         let frames = self.frames - from;
+        if frames == 0 {
+            return;
+        }
         change_over(
             &mut self.cache,
             &mut self.values,

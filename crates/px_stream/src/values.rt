@@ -209,6 +209,47 @@ fn put_channel(
     ensures after { (i : ℕ) → start + frames ≤ i → slice_index_or out.new i (pos 0) ≡ slice_index_or out.old i (pos 0) }
     ensures fit { All (FitsSigned w32) out.old → All (FitsSigned w32) out.new }
 {
+    if channels == 2 {
+        put_of_two(values, channel, start, frames, out);
+    } else {
+        put_of_any(values, channels, channel, start, frames, out);
+    }
+}
+
+// The same of two channels, which is known here to whoever compiles it.
+fn put_of_two(values: &[i32], channel: usize, start: usize, frames: usize, out: &mut [i32])
+    requires channel { channel < 2 }
+    requires whole { frames * 2 ≤ length values.now }
+    requires inside { start + frames ≤ length out.old }
+    requires words { All (FitsSigned w32) values.now }
+    ensures values { (j : ℕ) → j < frames → slice_index_or out.new (start + j) (pos 0) ≡ slice_index_or values.now (j * 2 + channel) (pos 0) }
+    ensures before { (i : ℕ) → i < start → slice_index_or out.new i (pos 0) ≡ slice_index_or out.old i (pos 0) }
+    ensures after { (i : ℕ) → start + frames ≤ i → slice_index_or out.new i (pos 0) ≡ slice_index_or out.old i (pos 0) }
+    ensures fit { All (FitsSigned w32) out.old → All (FitsSigned w32) out.new }
+{
+    for j in 0..frames {
+        out[start + j] = values[j * 2 + channel];
+    }
+}
+
+// The same of any channels.
+fn put_of_any(
+    values: &[i32],
+    channels: usize,
+    channel: usize,
+    start: usize,
+    frames: usize,
+    out: &mut [i32],
+)
+    requires channel { channel < channels }
+    requires whole { frames * channels ≤ length values.now }
+    requires inside { start + frames ≤ length out.old }
+    requires words { All (FitsSigned w32) values.now }
+    ensures values { (j : ℕ) → j < frames → slice_index_or out.new (start + j) (pos 0) ≡ slice_index_or values.now (j * channels + channel) (pos 0) }
+    ensures before { (i : ℕ) → i < start → slice_index_or out.new i (pos 0) ≡ slice_index_or out.old i (pos 0) }
+    ensures after { (i : ℕ) → start + frames ≤ i → slice_index_or out.new i (pos 0) ≡ slice_index_or out.old i (pos 0) }
+    ensures fit { All (FitsSigned w32) out.old → All (FitsSigned w32) out.new }
+{
     for j in 0..frames {
         out[start + j] = values[j * channels + channel];
     }

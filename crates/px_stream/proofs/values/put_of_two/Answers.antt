@@ -3,24 +3,23 @@ use Rattle.std.proofs.Math.ListN.{set}
 use Rattle.std.proofs.lemmas.Int.{to_z-of_z}
 use Rattle.std.proofs.lemmas.List.{get_or-set_other, get_or-set_same}
 use Rattle.px_stream.proofs.Runs.{place_inside, fit_more}
-use Rattle.px_stream.proofs.values.put_channel.Goals as goal
+use Rattle.px_stream.proofs.values.put_of_two.Goals as goal
 
 pub loop-j-preserved : goal.loop-j-preserved
 loop-j-preserved c =
     let j = c.loop-j.j in
     let values = c.args.values.now in
-    let channels = c.args.channels in
     let start = c.args.start in
-    let at = j * channels + c.args.channel in
+    let at = j * 2 + c.args.channel in
     let out = c.loop-j.out in
     let h = c.loop-j.invariant in
-    let there : at < length values = omega (arith, place_inside j c.args.frames channels c.args.channel c.loop-j-test.true c.requires.channel, c.requires.whole, mul_comm channels c.args.frames) in
+    let there : at < length values = omega (arith, place_inside j c.args.frames 2 c.args.channel c.loop-j-test.true c.requires.channel, c.requires.whole, mul_comm 2 c.args.frames) in
     let room : start + j < length out = omega (arith, c.loop-j.auto.out, c.requires.inside, c.loop-j-test.true) in
     let fits : SFits w32 (get_or values at (pos 0)) = c.requires.words at (pos 0) there in
     let value : to_z w32 (of_z w32 (get_or values at (pos 0))) ≡ get_or values at (pos 0) = to_z-of_z w32 (get_or values at (pos 0)) fits in
     let put = to_z w32 (of_z w32 (get_or values at (pos 0))) in
     record {
-      values = λ i less. below_more (λ a. get_or (set out (start + j) put) (start + a) (pos 0) ≡ get_or values (a * channels + c.args.channel) (pos 0)) j
+      values = λ i less. below_more (λ a. get_or (set out (start + j) put) (start + a) (pos 0) ≡ get_or values (a * 2 + c.args.channel) (pos 0)) j
           (λ a below. let other : start + a ≢ start + j = omega (arith, below) in get_or-set_other out (start + j) (start + a) put (pos 0) other ∙ h.values a below)
           (get_or-set_same out (start + j) put (pos 0) room ∙ value)
           i less;
