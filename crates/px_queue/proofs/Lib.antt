@@ -8,3 +8,4 @@ pub mod Hearing
 pub mod Rising
 pub mod Behind
 pub mod Room
+pub mod Under

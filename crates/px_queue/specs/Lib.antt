@@ -1,4 +1,5 @@
 pub mod Written
+pub mod Under
 pub mod Kept
 pub mod Pushed
 pub mod Peeked

@@ -3,6 +3,7 @@ ghost use Rattle.std.specs.Prelude.{◌≡◌, ℕ, ◌+◌, ◌*◌, ◌^◌, �
 ghost use Rattle.px_block.specs.Given.{after_giving, blocks_for};
 ghost use Rattle.px_model.specs.Index.{onward, IsIndex};
 ghost use Rattle.px_model.specs.Frame.{frames_of};
+ghost use Rattle.px_queue.specs.Under.{is_under};
 ghost use Rattle.px_queue.specs.Written.{end_of, frame_in, reach_of};
 
 use crate::bytes::copy_bytes;
@@ -75,6 +76,13 @@ impl Chunk {
         ensures { result ≡ self.now.at }
     {
         self.at
+    }
+
+    /// Whether it begins at or past an index and ends at or before another.
+    pub(crate) fn is_under(&self, from: Index, to: Index) -> bool
+        ensures { result ≡ is_under from to self.now }
+    {
+        !self.at.is_below(from) && !to.is_below(self.end())
     }
 
     /// How far its frames reach past a read index, 0 where it has none.

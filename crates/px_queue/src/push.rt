@@ -10,7 +10,7 @@ ghost use Rattle.px_queue.specs.Pushed.{outcome_for, Carries, IsPlaced, IsMissed
 
 use crate::FrameQueue;
 use crate::chunk::Chunk;
-use crate::finding::risen;
+use crate::covered::make_way;
 use crate::gathered::only;
 use crate::index::Index;
 use crate::newest::{close_newest, extend_newest};
@@ -74,7 +74,7 @@ impl FrameQueue {
             bytes.give_back(blocks);
             return Pushed::Stored;
         }
-        self.store(Chunk::new(at, self.frame, frames, bytes));
+        self.store(Chunk::new(at, self.frame, frames, bytes), blocks);
         Pushed::Stored
     }
 
@@ -191,8 +191,8 @@ impl FrameQueue {
         true
     }
 
-    // Holds frames over what is held, and goes on writing behind them.
-    fn store(&mut self, chunk: Chunk)
+    // Holds frames over what is held, and goes on writing behind them. Writes that lie wholly under a newer one may go.
+    fn store<B: BlockSource>(&mut self, chunk: Chunk, blocks: &mut B)
         requires room { 1 ≤ self.old.room }
         requires block_room { chunk.blocks ≤ self.old.block_room }
         requires size { chunk.size ≡ self.old.frame }
@@ -200,14 +200,14 @@ impl FrameQueue {
         ensures frame { self.new.frame ≡ self.old.frame }
         ensures room { self.old.room ≤ self.new.room + 1 }
         ensures block_room { self.new.block_room + chunk.blocks ≡ self.old.block_room }
-        ensures blocks { self.new.blocks ≡ self.old.blocks + chunk.blocks }
+        ensures given { after_giving (B.given blocks.new) self.new.blocks ≡ after_giving (B.given blocks.old) (self.old.blocks + chunk.blocks) }
     {
         let end = chunk.end();
         let reach = chunk.reach(self.read);
         let brought = chunk.blocks() as u32;
         self.block_room -= brought;
         close_newest(&mut self.writes);
-        let (rising, edge) = risen(&self.writes, self.rising, self.edge, &chunk);
+        let (rising, edge) = make_way(&mut self.writes, self.rising, self.edge, &chunk, blocks);
         self.rising = rising;
         self.edge = edge;
         self.writes.push_back_reserved(chunk);
