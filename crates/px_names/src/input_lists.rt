@@ -1,9 +1,8 @@
 //! The property lists of sink inputs.
 
-ghost use Rattle.std.specs.Prelude.{◌≡◌, ◌+◌, ◌≤◌, ◌++◌, ◌∷◌, List, [], length, vec_len, vec_capacity, IfOk, OnOk};
+ghost use Rattle.std.specs.Prelude.{◌≡◌, ◌+◌, ◌≤◌, ◌++◌, ◌∷◌, [], length, vec_len, vec_capacity, IfOk, OnOk};
 ghost use Rattle.std.specs.List.{find, position};
 ghost use Rattle.std.specs.Option.{option_map};
-ghost use Rattle.px_names.specs.declared.input_lists.InputList.{InputList};
 ghost use Rattle.px_names.specs.InputLists.{is_of, list_of, with_list_of, without_list_of};
 
 use px_tag::PropList;
@@ -69,7 +68,7 @@ fn drop_of(lists: &mut Vec<InputList>, input: InputId)
 
 // One more list.
 fn add_copy(lists: &mut Vec<InputList>, one: &InputList) -> px_tag::Mem<()>
-    ensures { OnOk result ((more : List InputList) → lists.new.items ++ more ≡ lists.old.items ++ one.now ∷ more) }
+    ensures { OnOk result (lists.new.items ≡ lists.old.items ++ one.now ∷ []) }
 {
     lists.push(InputList {
         input: one.input,
@@ -120,7 +119,7 @@ impl InputLists {
         ensures { IfOk result (λ made. made.items ≡ self.now.items) }
     {
         let mut lists = Vec::new(self.alloc);
-        for one in &self.lists {
+        for one in self.lists.iter() {
             add_copy(&mut lists, one)?;
         }
         Ok(InputLists {

@@ -13,6 +13,17 @@ vec_whole len written items same size =
     ∙ ap (take len) (append-nil written)
     ∙ take_all len written (omega (arith, same, size))
 
+-- the first k of a buffer with room are those of a vector that were moved to its front
+pub stays : (k from len : ℕ) (buffer made moved slice items held : List ℕ) → length moved ≡ length items → len ≡ length items → buffer ≡ made → take k made ≡ take k (take len (moved ++ drop (length moved) items)) → take k moved ≡ take k (drop from slice) → slice ≡ items → take k (drop from items) ≡ held
+    → take k buffer ≡ held
+stays k from len buffer made moved slice items held same size with_room kept front whole seen =
+    ap (take k) with_room
+    ∙ kept
+    ∙ ap (take k) (vec_whole len moved items same size)
+    ∙ front
+    ∙ ap (λ (bytes : List ℕ). take k (drop from bytes)) whole
+    ∙ seen
+
 -- so many bytes came behind the first k
 pub came : (k n len : ℕ) (items buffer part : List ℕ) → k ≤ length buffer → n ≤ length part → length part ≡ length (mid_of k (length buffer - k) buffer) → buffer ≡ items → len ≡ length items
     → take ((k + n) - 0) (drop 0 (take len (put_mid k (length buffer - k) buffer part ++ drop (length (put_mid k (length buffer - k) buffer part)) items))) ≡ take k buffer ++ take n part

@@ -1,5 +1,5 @@
 -- What a look at the bytes at hand finds.
-use Rattle.std.specs.Prelude.{◌≡◌, ◌≢◌, ℕ, ◌≤◌, Bool, List, ◌++◌, length, drop, Option, Result, Ok, Err}
+use Rattle.std.specs.Prelude.{◌≡◌, ◌≢◌, ℕ, ◌≤◌, Bool, List, ◌++◌, length, drop, Option, None, Some, Result, Ok, Err}
 use Rattle.px_ends.specs.Told.{before_taking}
 use Rattle.px_session.specs.declared.event.Step.{Step}
 use Rattle.px_session.specs.declared.event.Step.TheVariants as step
@@ -39,6 +39,11 @@ IsOpen (Err e) = (at : ℕ) × (e ≡ error.Refused at cause.Truncated)
 abbrev pub IsClosed : Result Found ReadError → Type 0
 IsClosed (Ok found) = found.step ≢ step.End
 IsClosed (Err e) = (at : ℕ) → e ≢ error.Refused at cause.Truncated
+
+-- what was read, unless more bytes may change it
+abbrev pub Settles : Option (Result Found ReadError) → Result Found ReadError → Type 0
+Settles None read = IsOpen read
+Settles (Some answer) read = (answer ≡ read) × IsClosed answer
 
 -- a look reads no source
 abbrev pub NeverFails : Result Found ReadError → Type 0

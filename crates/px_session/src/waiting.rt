@@ -3,7 +3,7 @@
 ghost use Rattle.std.specs.Prelude.{◌≡◌, ◌<◌, ◌≤◌, ◌^◌, length, IfOk, MatchBool};
 ghost use Rattle.px_session.specs.Place.{Reads};
 ghost use Rattle.px_session.specs.Session.{step_at};
-ghost use Rattle.px_session.specs.Found.{place_at, Finds, IsOpen, IsClosed, Awaits, NeverFails};
+ghost use Rattle.px_session.specs.Found.{place_at, Finds, IsOpen, IsClosed, Settles, Awaits, NeverFails};
 ghost use Rattle.px_session.specs.EventRules.{IsStep};
 ghost use Rattle.px_session.specs.Held.{ReadCounts};
 ghost use Rattle.px_session.specs.Seen.{place_of};
@@ -58,6 +58,13 @@ fn is_open(read: &Result<Found, ReadError>) -> bool
     }
 }
 
+// What was read, where no more bytes can change it.
+fn settled(read: Result<Found, ReadError>) -> Option<Result<Found, ReadError>>
+    ensures { Settles result read }
+{
+    if is_open(&read) { None } else { Some(read) }
+}
+
 /// What stands next, in the bytes that are held and as many more of the source's as that takes.
 pub(crate) fn await_step<S: Source>(
     alloc: Global,
@@ -74,13 +81,12 @@ pub(crate) fn await_step<S: Source>(
     ensures lawful { IfOk result (λ found. IsStep found.step) }
 {
     loop {
-        let read = look(alloc, begun, at, held.as_slice());
-        if !is_open(&read) {
+        if let Some(read) = settled(look(alloc, begun, at, held.as_slice())) {
             return read;
         }
         match held.more(input)? {
             More::Came => {}
-            More::Ended => return read,
+            More::Ended => return look(alloc, begun, at, held.as_slice()),
         }
     }
 }

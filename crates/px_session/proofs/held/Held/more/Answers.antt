@@ -1,5 +1,5 @@
-use Rattle.std.proofs.Common.{ℕ, List, ◌-◌, ◌≤◌, ◌∙◌, ◌++◌, ◌≡◌, length, take, drop, ap, arith, length-take}
-use Rattle.px_session.proofs.Buffer.{vec_whole, came}
+use Rattle.std.proofs.Common.{ℕ, List, ◌-◌, ◌≤◌, ◌∙◌, ◌++◌, ◌≡◌, length, take, ap, arith, length-take}
+use Rattle.px_session.proofs.Buffer.{stays, came}
 use Rattle.px_session.proofs.held.Held.more.Goals as goal
 
 pub returns-in-Bytes-clause-gives : goal.returns-in-Bytes-clause-gives
@@ -13,12 +13,7 @@ returns-in-Bytes-clause-gives g c =
     let moved = c.move_to_front.new.buffer in
     let moved_length : length moved ≡ length inside.buffer.items = c.move_to_front.auto.buffer ∙ ap (length {A = ℕ}) c.deref_mut.ensures.value in
     let kept : take k buffer ≡ c.args.self.now =
-    ap (take k) c.deref_mut-2.ensures.value
-    ∙ c.in_ok-make_room.ensures.same
-    ∙ ap (take k) (vec_whole inside.buffer.len moved inside.buffer.items moved_length inside.buffer.ok.0)
-    ∙ c.move_to_front.ensures
-    ∙ ap (λ (bytes : List ℕ). take k (drop inside.from bytes)) c.deref_mut.ensures.value
-    ∙ c.self.view_is in
+    stays k inside.from inside.buffer.len buffer c.make_room.new.buffer.items moved c.deref_mut.result.now inside.buffer.items c.args.self.now moved_length inside.buffer.ok.0 c.deref_mut-2.ensures.value c.in_ok-make_room.ensures.same c.move_to_front.ensures c.deref_mut.ensures.value c.self.view_is in
     let fits : k ≤ length buffer = omega (arith, c.in_ok-make_room.ensures.size, ap (length {A = ℕ}) c.deref_mut-2.ensures.value) in
     record {
       bytes = take n part;
