@@ -23,6 +23,8 @@ TOP = os.path.dirname(HERE)
 PROGRAM = os.path.join(TOP, "crates", "pulse_rw", "out", "pulse_rw")
 RATE = 48_000
 TICKS = os.sysconf("SC_CLK_TCK")
+# where a file takes memory alone, so that no disk is timed
+PLACE = "/dev/shm" if os.path.isdir("/dev/shm") else None
 
 
 def spent(server):
@@ -105,7 +107,7 @@ def told(name, streams, seconds, result):
 
 def plays(program, counts, seconds):
     for streams in counts:
-        with tempfile.TemporaryDirectory() as folder:
+        with tempfile.TemporaryDirectory(dir=PLACE) as folder:
             # one place more than clients come, so that the server is there when they have gone
             server, environment = ours(folder, program, streams + 1)
             told("pulse_rw", streams, seconds, play(server, environment, folder, streams, seconds))
@@ -117,7 +119,7 @@ def plays(program, counts, seconds):
 
 
 def links(program):
-    with tempfile.TemporaryDirectory() as folder:
+    with tempfile.TemporaryDirectory(dir=PLACE) as folder:
         server, environment = ours(folder, program, 6_500)
         for turn in range(1, 101):
             clients = [subprocess.Popen(["pactl", "info"], env=environment, stdout=subprocess.DEVNULL, stderr=subprocess.DEVNULL) for _ in range(64)]

@@ -23,8 +23,8 @@ const ENTRIES: usize = 65_536;
 
 const BYTES: usize = 268_435_456;
 
-// How long a call of a link waits, in milliseconds.
-const PATIENCE: u64 = 10;
+// How long a call of a link waits, in milliseconds. What the core has for a client meanwhile is sent so much later.
+const PATIENCE: u64 = 20;
 
 /// A host that listens at a Unix socket, makes a device for each sink over a file, and keeps histories in memory or not at all.
 #[derive(Drop)]

@@ -4,7 +4,7 @@ use px_msg::Notice;
 use px_stream::Stream;
 
 /// A notice without what is handed over.
-#[derive(Clone, Copy, Debug, PartialEq, Eq)]
+#[derive(Clone, Copy, PartialEq, Eq)]
 pub enum Told {
     Request {
         input: u32,
