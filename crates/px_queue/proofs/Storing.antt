@@ -74,7 +74,7 @@ over_some read held w i f from some =
     (λ few. found_in read held w i from high few ∙ some)
     (λ past. grind (arith, ints, past, some, frame_there w i high, slice_get_past w.frames (above i w.at) (omega (arith, ints, past, high)))))
 
-take_more : (ws : List Written) (j n : ℕ) (w : Written) → n ≡ suc j → n ≤ length ws → w ≡ get_or ws j w → take n ws ≡ take j ws ++ w ∷ []
+pub take_more : (ws : List Written) (j n : ℕ) (w : Written) → n ≡ suc j → n ≤ length ws → w ≡ get_or ws j w → take n ws ≡ take j ws ++ w ∷ []
 take_more ws j n w e fits is =
     ap (λ (m : ℕ). take m ws) e ∙ take-suc ws j w (omega (arith, e, fits)) ∙ ap (λ (x : Written). take j ws ++ x ∷ []) (sym is)
 

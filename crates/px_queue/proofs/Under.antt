@@ -10,7 +10,7 @@ use Rattle.px_model.specs.Frame.{Frame}
 use Rattle.px_model.specs.Held.{frame_of, IsTrimmed}
 use Rattle.px_model.proofs.Bridge.{frame_below, same_map}
 use Rattle.px_queue.specs.Under.{is_under, outside}
-use Rattle.px_queue.specs.Written.{Written, end_of, over, held_of, blocks_in, AreOf, AreRising, EndBy}
+use Rattle.px_queue.specs.Written.{Written, end_of, over, held_of, blocks_in, AreOf, EndBy}
 use Rattle.px_queue.proofs.Log.{held_more, held_trimmed, found_in, not_found_in}
 use Rattle.px_queue.proofs.Storing.{blocks_more}
 use Rattle.px_queue.proofs.Behind.{by_bool}
@@ -26,14 +26,6 @@ module _ (from to : ℤ) (newer : List Written) where
   all_outside P [] all = all
   all_outside P (x ∷ ws) all = all_by P (is_under from to x) x (outside from to ws) all.0 (all_outside P ws all.1)
 
-  rising_by : (b : Bool) (x : Written) (rest : List Written) → AllByRecursion (λ v. end_of x ≤ℤ Written.at v) (rest ++ newer) → AreRising (rest ++ newer) → AreRising (cond b rest (x ∷ rest) ++ newer)
-  rising_by true x rest low rising = rising
-  rising_by false x rest low rising = (low, rising)
-
-  rising_outside : (ws : List Written) → AreRising (ws ++ newer) → AreRising (outside from to ws ++ newer)
-  rising_outside [] rising = rising
-  rising_outside (x ∷ ws) rising = rising_by (is_under from to x) x (outside from to ws) (all_outside (λ v. end_of x ≤ℤ Written.at v) ws rising.0) (rising_outside ws rising.1)
-
   -- of two lists, the one with all and the one with those that stay
   module _ (old new ws : List Written) (was : old ≡ ws ++ newer) (is : new ≡ outside from to ws ++ newer) where
     pub sizes_kept : (size : ℕ) → AreOf size old → AreOf size new
@@ -41,9 +33,6 @@ module _ (from to : ℤ) (newer : List Written) where
 
     pub ends_kept : (edge : ℤ) → EndBy edge old → EndBy edge new
     ends_kept edge all = subst (λ (vs : List Written). EndBy edge vs) (sym is) (all_outside (λ w. end_of w ≤ℤ edge) ws (subst (λ (vs : List Written). EndBy edge vs) was all))
-
-    pub rising_kept : AreRising old → AreRising new
-    rising_kept rising = subst (λ (vs : List Written). AreRising vs) (sym is) (rising_outside ws (subst (λ (vs : List Written). AreRising vs) was rising))
 
 -- ---- what is held is the same once the newer write is over them
 

@@ -35,14 +35,31 @@ pub(crate) fn make_way<B: BlockSource>(
     }
     forget_older(writes, source);
     forget_under(writes, more.first(), more.end(), source);
-    risen(writes, rising, edge, more)
+    let (rest_rises, rest_top) = rise(writes, edge);
+    risen(writes, rest_rises, rest_top, more)
+}
+
+// Whether these writes rise, and an index that none of them ends past: the end of the newest where they do, else one that is known.
+fn rise(writes: &VecDeque<Chunk>, edge: Index) -> (bool, Index)
+    requires { EndBy edge writes.now.items }
+    ensures rising { IsTrue result.0 → AreRising writes.now.items }
+    ensures ends { EndBy result.1 writes.now.items }
+{
+    let mut top = Index::first();
+    for k in 0..writes.len() {
+        let write = &writes[k];
+        if write.first().is_below(top) {
+            return (false, edge);
+        }
+        top = write.end();
+    }
+    (true, top)
 }
 
 // Lets the writes go that lie wholly under the newest.
 fn forget_older<B: BlockSource>(writes: &mut VecDeque<Chunk>, source: &mut B)
     ensures held { (read : ℤ) → held_of read writes.new.items ≡ held_of read writes.old.items }
     ensures sizes { (size : ℕ) → AreOf size writes.old.items → AreOf size writes.new.items }
-    ensures rising { AreRising writes.old.items → AreRising writes.new.items }
     ensures ends { (edge : ℤ) → EndBy edge writes.old.items → EndBy edge writes.new.items }
     ensures room { deque_capacity writes.old - deque_len writes.old ≤ deque_capacity writes.new - deque_len writes.new }
     ensures given { after_giving (B.given source.new) (blocks_in writes.new.items) ≡ after_giving (B.given source.old) (blocks_in writes.old.items) }

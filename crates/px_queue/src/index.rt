@@ -1,7 +1,7 @@
 // Indices of a stream.
 ghost use Rattle.std.specs.Prelude.{◌≡◌, pos, ◌+ℤ◌, ◌-ℤ◌, ◌<ℤ◌, ◌≤ℤ◌, IsOk, IfOk, IfErr, IsTrue, IsFalse, int_lt, ◌↔◌};
 ghost use Rattle.std.specs.Int.{int_max};
-ghost use Rattle.px_model.specs.Index.{LAST, above, onward, is_index, IsIndex};
+ghost use Rattle.px_model.specs.Index.{FIRST, LAST, above, onward, is_index, IsIndex};
 
 use std::marker::Model;
 
@@ -32,6 +32,13 @@ impl Index {
         ensures { result ≡ pos 0 }
     {
         Index { frame: 0 }
+    }
+
+    /// The least index, -2^60.
+    pub(crate) fn first() -> Index
+        ensures { result ≡ FIRST }
+    {
+        Index { frame: -GREATEST }
     }
 
     /// The greatest index, 2^60.

@@ -1,5 +1,4 @@
 mod attributes;
 mod plain;
-mod queue;
 mod turns;
 mod unaltered;

@@ -2,7 +2,7 @@ use Rattle.std.proofs.Common.{◌≡◌, List, [], ◌∷◌, ◌++◌, ap, sym,
 use Rattle.px_block.specs.Given.{after_giving}
 use Rattle.px_queue.specs.Under.{outside}
 use Rattle.px_queue.specs.Written.{Written, blocks_in}
-use Rattle.px_queue.proofs.Under.{sizes_kept, rising_kept, ends_kept, held_kept, given_with}
+use Rattle.px_queue.proofs.Under.{sizes_kept, ends_kept, held_kept, given_with}
 use Rattle.px_queue.proofs.covered.forget_older.Given.{Over}
 use Rattle.px_queue.proofs.covered.forget_older.Goals as goal
 
@@ -17,10 +17,6 @@ returns-in-Some-clause-held g c = λ read.
 pub returns-in-Some-clause-sizes : goal.returns-in-Some-clause-sizes
 returns-in-Some-clause-sizes g c = λ size all.
     sizes_kept c.first.result c.end.result (c.in-Some.newest ∷ []) c.args.writes.now.items c.push_back_reserved.new.self.items c.pop_back.new.self.items c.in-Some.ensures.items (is_kept g c) size all
-
-pub returns-in-Some-clause-rising : goal.returns-in-Some-clause-rising
-returns-in-Some-clause-rising g c = λ rising.
-    rising_kept c.first.result c.end.result (c.in-Some.newest ∷ []) c.args.writes.now.items c.push_back_reserved.new.self.items c.pop_back.new.self.items c.in-Some.ensures.items (is_kept g c) rising
 
 pub returns-in-Some-clause-ends : goal.returns-in-Some-clause-ends
 returns-in-Some-clause-ends g c = λ edge all.

@@ -4,17 +4,11 @@ use Rattle.px_model.specs.Frame.{Frame}
 use Rattle.px_queue.specs.Under.{outside}
 use Rattle.px_queue.specs.Written.{Written, over}
 use Rattle.px_queue.proofs.Log.{held_more}
-use Rattle.px_queue.proofs.Under.{sizes_kept, rising_kept, ends_kept, held_kept}
+use Rattle.px_queue.proofs.Under.{sizes_kept, ends_kept, held_kept}
 use Rattle.px_queue.proofs.covered.make_way.Goals as goal
 
-pub risen-requires-clause-rising : goal.risen-requires-clause-rising
-risen-requires-clause-rising g c = λ was.
-    let older = c.forget_older.new.writes.items in
-    rising_kept c.first.result c.end.result [] older c.forget_under.new.writes.items older
-    (sym (append-nil older)) (c.forget_under.ensures.items ∙ sym (append-nil (outside c.first.result c.end.result older))) (c.forget_older.ensures.rising (c.requires.rising was))
-
-pub risen-requires-clause-ends : goal.risen-requires-clause-ends
-risen-requires-clause-ends g c =
+pub rise-rest_rises-requires : goal.rise-rest_rises-requires
+rise-rest_rises-requires g c =
     let older = c.forget_older.new.writes.items in
     ends_kept c.first.result c.end.result [] older c.forget_under.new.writes.items older
     (sym (append-nil older)) (c.forget_under.ensures.items ∙ sym (append-nil (outside c.first.result c.end.result older))) c.args.edge (c.forget_older.ensures.ends c.args.edge c.requires.ends)

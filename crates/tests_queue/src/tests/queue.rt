@@ -1,41 +1,10 @@
-ghost use Rattle.std.specs.Prelude.{◌≡◌, ◌+◌, ◌≤◌, None, IfOk, length};
+// Each block goes back once.
+ghost use Rattle.std.specs.Prelude.{◌≡◌, ◌+◌, ◌≤◌, length};
 
-use px_block::{Block, BlockSource, Blocks, Fresh};
+use crate::tests::blocks::{Counting, packed};
 use px_queue::{FrameQueue, Pushed};
-use px_types::{Mem, NoMemory};
+use px_types::Mem;
 use std::alloc::Global;
-
-// A source that counts the blocks that come back.
-#[derive(Drop)]
-struct Counting {
-    inner: Fresh,
-    back: u32,
-}
-
-impl BlockSource for Counting {
-    ghost given = { λ _. None };
-
-    fn take(&mut self) -> px_block::Mem<Block> {
-        self.inner.take()
-    }
-
-    fn give(&mut self, block: Block) {
-        self.back = self.back.saturating_add(1);
-        self.inner.give(block);
-    }
-}
-
-// These bytes in one block.
-fn packed(alloc: Global, bytes: &[u8]) -> Mem<Blocks>
-    requires { length bytes.now ≤ 65536 }
-    ensures { IfOk result (λ made. length made ≡ length bytes.now) }
-{
-    let mut made = Blocks::new(alloc);
-    match made.put(&mut Fresh::new(alloc), bytes) {
-        Ok(_) => Ok(made),
-        Err(_) => Err(NoMemory),
-    }
-}
 
 // Writes frames of one byte at an index, where at most 4 may wait.
 fn write(
@@ -80,10 +49,7 @@ fn go(queue: &mut FrameQueue, source: &mut Counting) -> bool {
 
 #[test]
 fn each_block_is_given_back_once(rt: HostRuntime) -> Mem<()> {
-    let mut source = Counting {
-        inner: Fresh::new(rt.alloc()),
-        back: 0,
-    };
+    let mut source = Counting::new(rt.alloc());
     let mut queue = FrameQueue::new(rt.alloc(), 1);
     queue.reserve(3, 3)?;
     let written = are_written(rt.alloc(), &mut queue, &mut source)?;

@@ -1,0 +1,5 @@
+use Rattle.std.proofs.Common.{◌≡◌}
+use Rattle.tests_queue.proofs.tests.random.written.Given as goal
+
+abbrev pub invariant-loop : goal.invariant-loop
+invariant-loop l = l.queue.frame ≡ 1

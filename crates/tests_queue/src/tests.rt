@@ -1,0 +1,5 @@
+mod again;
+mod blocks;
+mod former;
+mod queue;
+mod random;

@@ -1,0 +1,72 @@
+// Ranges that are written over and over.
+ghost use Rattle.std.specs.Prelude.{◌≡◌, ◌≤◌, length};
+
+use crate::tests::blocks::{Counting, packed};
+use px_queue::{FrameQueue, Pushed};
+use px_types::Mem;
+use std::alloc::Global;
+
+// Forty frames of one byte.
+const FORTY: &[u8] = &[7; 40];
+
+// Writes frames of one byte at an index, and says whether they are held.
+fn write(
+    alloc: Global,
+    queue: &mut FrameQueue,
+    source: &mut Counting,
+    at: i64,
+    bytes: &[u8],
+) -> Mem<bool>
+    requires frame { queue.old.frame ≡ 1 }
+    requires few { length bytes.now ≤ 65536 }
+    ensures { queue.new.frame ≡ 1 }
+{
+    queue.reserve(1, 1)?;
+    let made = packed(alloc, bytes)?;
+    Ok(queue.push(1, at, made, bytes.len() as u32, 0, 200, source) == Pushed::Stored)
+}
+
+// Writes forty frames at index 0 and forty at another, a thousand times in all.
+fn write_over(alloc: Global, queue: &mut FrameQueue, source: &mut Counting, other: i64) -> Mem<bool>
+    requires { queue.old.frame ≡ 1 }
+{
+    let mut held = true;
+    for _ in 0..500 {
+        held = held && write(alloc, queue, source, 0, FORTY)?;
+        held = held && write(alloc, queue, source, other, FORTY)?;
+    }
+    Ok(held)
+}
+
+#[test]
+fn a_range_that_is_written_over_keeps_one_block(rt: HostRuntime) -> Mem<()> {
+    let mut source = Counting::new(rt.alloc());
+    let mut queue = FrameQueue::new(rt.alloc(), 1);
+    let held = write_over(rt.alloc(), &mut queue, &mut source, 0)?;
+    let before = source.back;
+    queue.flush(&mut source);
+    assert!(rt; held && before == 999 && source.back == 1000);
+    Ok(())
+}
+
+#[test]
+fn two_ranges_that_meet_keep_two_blocks(rt: HostRuntime) -> Mem<()> {
+    let mut source = Counting::new(rt.alloc());
+    let mut queue = FrameQueue::new(rt.alloc(), 1);
+    let held = write_over(rt.alloc(), &mut queue, &mut source, 20)?;
+    assert!(rt; held && source.back == 998);
+    Ok(())
+}
+
+// The second write goes on over the first, and the third, which lies inside both, lets the first go.
+#[test]
+fn a_range_that_the_newest_write_grew_over_goes(rt: HostRuntime) -> Mem<()> {
+    let mut source = Counting::new(rt.alloc());
+    let mut queue = FrameQueue::new(rt.alloc(), 1);
+    let first = write(rt.alloc(), &mut queue, &mut source, 10, b"ab")?;
+    let second = write(rt.alloc(), &mut queue, &mut source, 0, b"cdef")?;
+    let grown = write(rt.alloc(), &mut queue, &mut source, 4, FORTY)? && source.back == 1;
+    let inside = write(rt.alloc(), &mut queue, &mut source, 10, b"gh")?;
+    assert!(rt; first && second && grown && inside && source.back == 2);
+    Ok(())
+}
