@@ -1,7 +1,6 @@
 //! A copy of what infos and subscriptions read of the server's state.
 
-ghost use Rattle.std.specs.Prelude.{◌≡◌, ◌++◌, ◌∷◌, List, IfOk, OnOk, cond, nat_lt, set, length};
-ghost use Rattle.px_names.specs.declared.client.Client.{Client};
+ghost use Rattle.std.specs.Prelude.{◌≡◌, ◌++◌, ◌∷◌, [], List, IfOk, OnOk, cond, nat_lt, set, length};
 ghost use Rattle.px_names.specs.Clients.{is_on, change_first as change_client, with_list};
 ghost use Rattle.px_plan.specs.declared.change.Change.{Change};
 ghost use Rattle.px_msg.specs.declared.message.Msg.{Msg};
@@ -58,7 +57,7 @@ impl Model for Scene {
 
 // One more client.
 fn add_client(copies: &mut Vec<Client>, client: &Client) -> Mem<()>
-    ensures { OnOk result ((more : List Client) → copies.new.items ++ more ≡ copies.old.items ++ client.now ∷ more) }
+    ensures { OnOk result (copies.new.items ≡ copies.old.items ++ client.now ∷ []) }
 {
     let Ok(list) = client.list.copy() else {
         return Err(NoMemory);
@@ -76,7 +75,7 @@ fn copy_clients(alloc: Global, clients: &[Client]) -> Mem<Vec<Client>>
     ensures { IfOk result (λ copies. copies.items ≡ clients.now) }
 {
     let mut copies = Vec::new(alloc);
-    for client in clients {
+    for client in clients.iter() {
         add_client(&mut copies, client)?;
     }
     Ok(copies)
@@ -84,7 +83,7 @@ fn copy_clients(alloc: Global, clients: &[Client]) -> Mem<Vec<Client>>
 
 // One more group.
 fn add_group(alloc: Global, copies: &mut Vec<Group>, group: &Group) -> Mem<()>
-    ensures { OnOk result ((more : List FlatGroup) → copies.new.items ++ more ≡ copies.old.items ++ group.now ∷ more) }
+    ensures { OnOk result (copies.new.items ≡ copies.old.items ++ group.now ∷ []) }
 {
     let Ok(copy) = group.copy(alloc) else {
         return Err(NoMemory);
@@ -97,7 +96,7 @@ fn copy_groups(alloc: Global, groups: &[Group]) -> Mem<Vec<Group>>
     ensures { IfOk result (λ copies. copies.items ≡ groups.now) }
 {
     let mut copies = Vec::new(alloc);
-    for group in groups {
+    for group in groups.iter() {
         add_group(alloc, &mut copies, group)?;
     }
     Ok(copies)

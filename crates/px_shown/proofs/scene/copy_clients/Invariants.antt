@@ -1,6 +1,6 @@
-use Rattle.std.proofs.Common.{◌≡◌, ◌++◌, drop}
+use Rattle.std.proofs.Common.{◌≡◌, take}
 use Rattle.px_shown.proofs.scene.copy_clients.Given as goal
 
--- the copies so far, and those that are left, are all
+-- the clients up to the next one were copied
 abbrev pub invariant-loop-client : goal.invariant-loop-client
-invariant-loop-client l = l.copies.items ++ drop l.client-index l.clients ≡ l.clients
+invariant-loop-client l = l.copies.items ≡ take l.client-index l.clients

@@ -1,6 +1,6 @@
-use Rattle.std.proofs.Common.{◌≡◌, ◌++◌, drop}
+use Rattle.std.proofs.Common.{◌≡◌, take}
 use Rattle.px_shown.proofs.scene.copy_groups.Given as goal
 
--- the copies so far, and those that are left, are all
+-- the groups up to the next one were copied
 abbrev pub invariant-loop-group : goal.invariant-loop-group
-invariant-loop-group l = l.copies.items ++ drop l.group-index l.groups ≡ l.groups
+invariant-loop-group l = l.copies.items ≡ take l.group-index l.groups
