@@ -21,14 +21,20 @@ module _ (i : ℕ) where
 
   -- ---- the place
 
-  more_below : (k : ℕ) (items : List Input) (d : Input) → AreBelow i k items → k < length items → (Input.index (slice_index_or items k d)).0 < i → AreBelow i (suc k) items
-  more_below zero [] d h few l = absurd (omega (arith, few))
-  more_below zero (x ∷ items) d h few l = (l, tt)
-  more_below (suc k) [] d h few l = absurd h
-  more_below (suc k) (x ∷ items) d h few l = (h.0, more_below k items d h.1 (omega (arith, few)) l)
+  above_at : (j k : ℕ) (items : List Input) (d : Input) → AllAbove j (inputs_of items) → k < length items → j < (Input.index (slice_index_or items k d)).0
+  above_at j k [] d h few = absurd (omega (arith, few))
+  above_at j zero (x ∷ items) d h few = h.0
+  above_at j (suc k) (x ∷ items) d h few = above_at j k items d h.1 (omega (arith, few))
 
-  pub below_more : (k : ℕ) (items : List Input) (d : Input) → AreBelow i k items → k < length items → (Input.index (slice_index_or items k d)).0 < i → AreBelow i (k + 1) items
-  below_more k items d h few l = let n : suc k ≡ k + 1 = omega arith in subst (λ (m : ℕ). AreBelow i m items) n (more_below k items d h few l)
+  all_below : (k : ℕ) (items : List Input) (d : Input) → IsRising (inputs_of items) → k < length items → (Input.index (slice_index_or items k d)).0 < i → AreBelow i (suc k) items
+  all_below k [] d rising few l = absurd (omega (arith, few))
+  all_below zero (x ∷ items) d rising few l = (l, tt)
+  all_below (suc k) (x ∷ items) d rising few l =
+      (omega (arith, above_at x.index.0 k items d rising.0 (omega (arith, few)), l), all_below k items d rising.1 (omega (arith, few)) l)
+
+  -- those up to one that lies below do
+  pub below_up_to : (k : ℕ) (items : List Input) (d : Input) → IsRising (inputs_of items) → k < length items → (Input.index (slice_index_or items k d)).0 < i → AreBelow i (k + 1) items
+  below_up_to k items d rising few l = let n : suc k ≡ k + 1 = omega arith in subst (λ (m : ℕ). AreBelow i m items) n (all_below k items d rising few l)
 
   above_more : (j : ℕ) (xs : List Stands) → i < j → AllAbove j xs → AllAbove i xs
   above_more j [] l h = tt

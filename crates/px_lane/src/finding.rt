@@ -28,17 +28,24 @@ use px_types::InputId;
 use px_vol::Factors;
 use std::sync::ledger::Ledger;
 
-// How many of the first indices lie below this one.
+// How many of the first indices lie below this one, by halves.
 fn place(inputs: &[Input], index: InputId) -> usize
+    requires { IsRising (inputs_of inputs.now) }
     ensures below { AreBelow index.0 result inputs.now }
     ensures few { result ≤ length inputs.now }
     ensures end { (d : DeclaredInput) → result < length inputs.now → index.0 ≤ (DeclaredInput.index (slice_index_or inputs.now result d)).0 }
 {
-    let mut place = 0;
-    while place < inputs.len() && inputs[place].index.0 < index.0 {
-        place += 1;
+    let mut low = 0;
+    let mut high = inputs.len();
+    while low < high {
+        let middle = low + (high - low) / 2;
+        if inputs[middle].index.0 < index.0 {
+            low = middle + 1;
+        } else {
+            high = middle;
+        }
     }
-    place
+    low
 }
 
 /// The place of this index, or else the one where it belongs.
