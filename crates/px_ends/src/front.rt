@@ -7,6 +7,9 @@ pub fn remove_front(bytes: &mut Vec<u8>, count: usize)
     ensures rest { bytes.new.items ≡ drop count bytes.old.items }
     ensures room { vec_capacity bytes.old ≤ vec_capacity bytes.new }
 {
+    if count == 0 {
+        return;
+    }
     let left = bytes.len() - count;
     bytes.as_mut_slice().copy_within(count.., 0);
     bytes.truncate(left);
