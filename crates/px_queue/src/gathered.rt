@@ -9,8 +9,9 @@ ghost use Rattle.px_queue.specs.Room.{last_room};
 use px_block::{BLOCK_SIZE, Block, BlockSource, Blocks};
 use std::marker::Model;
 
-/// The most bytes of a last block that is given room for more: what can't go behind them any more is less than a quarter of a block then.
-const FEW: usize = BLOCK_SIZE / 5;
+/// The most bytes of a write that is put behind others. More lie in a block of their own, where they came: there they take little more than
+/// themselves, and aren't copied. A last block with no more than so many is given room for others.
+const FEW: usize = 1_024;
 
 /// Bytes in blocks, each but the last full, and how many more the last block surely takes without memory.
 #[derive(Debug, Drop)]
@@ -65,7 +66,7 @@ impl Gathered {
         ensures no { IsFalse result → self.new ≡ self.old }
         ensures blocks { blocks_for (length self.new) ≡ blocks_for (length self.old) }
     {
-        if bytes.is_empty() || self.room < bytes.len() {
+        if bytes.is_empty() || bytes.len() > self.room.min(FEW) {
             return false;
         }
         put_last(&mut self.blocks, bytes);
