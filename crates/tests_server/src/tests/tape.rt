@@ -91,7 +91,7 @@ fn output_of<R: Machine>(
 }
 
 // Whether the tape, replayed, gives the bytes that a sink's device has played, and the client's frames are among them.
-fn replays_to<R: Machine>(rt: &R, tape: &Text, name: &str, part: &mut Retired) -> Mem<bool> {
+fn replays_to<R: Machine>(rt: &R, tape: &Text, name: &str, part: Retired) -> Mem<bool> {
     let alloc = rt.alloc();
     let links = LinkPlans::from_vec(Vec::new(alloc));
     let none = Text::from_vec(Vec::new(alloc));
@@ -99,7 +99,8 @@ fn replays_to<R: Machine>(rt: &R, tape: &Text, name: &str, part: &mut Retired) -
     let mut host = MemHost::new(*rt, alloc, none, links, 0, 0, 0, 0, calls)?;
     let words = ["replay", "--raw", name];
     let copy = Text::copied(alloc, tape.as_slice())?;
-    let played = part.device.take_played(alloc)?;
+    let mut device = part.device;
+    let played = device.take_played(alloc)?;
     match output_of(rt, &words, copy, &mut host)? {
         Some(raw) => Ok(raw.as_slice() == played.as_slice() && raw.len() >= 200),
         None => Ok(false),
@@ -129,8 +130,8 @@ fn is_replayed<R: Machine>(rt: &R) -> Mem<bool> {
     let Some(tape) = output_of(rt, &words, none, &mut host)? else {
         return Ok(false);
     };
-    let mut taken = host.into_taken();
-    let [first, second] = taken.parts.as_mut_slice() else {
+    let mut parts = host.into_taken().parts;
+    let (Some(second), Some(first)) = (parts.pop(), parts.pop()) else {
         return Ok(false);
     };
     Ok(replays_to(rt, &tape, "out", first)? && replays_to(rt, &tape, "two", second)?)
