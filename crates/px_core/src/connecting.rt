@@ -75,14 +75,26 @@ fn add_streams<P: Drop>(changes: &mut Vec<CoreChange<P>>, conn: ConnId, inputs: 
     Ok(())
 }
 
-// The changes of one more connection, where it has ended.
+// The changes that sweep one connection away: the ends of its streams, and its client goes.
+fn add_forgotten<P: Drop>(
+    changes: &mut Vec<CoreChange<P>>,
+    inputs: &[Input],
+    c: &Connection,
+) -> Mem<()>
+    ensures { OnOk result (changes.new.items ≡ changes.old.items ++ swept inputs.now c.now) }
+{
+    add_streams(changes, c.conn, inputs)?;
+    changes.push(Change::Forgotten(c.conn))?;
+    Ok(())
+}
+
+// The changes of one more connection, where it has ended. The others, which are nearly all, cost a look.
 fn add_swept<P: Drop>(changes: &mut Vec<CoreChange<P>>, inputs: &[Input], c: &Connection) -> Mem<()>
     ensures { OnOk result ((more : List Connection) →
         changes.new.items ++ flat_map (swept inputs.now) (marked_of more) ≡ changes.old.items ++ flat_map (swept inputs.now) (marked_of (c.now ∷ more))) }
 {
     if c.marked {
-        add_streams(changes, c.conn, inputs)?;
-        changes.push(Change::Forgotten(c.conn))?;
+        add_forgotten(changes, inputs, c)?;
     }
     Ok(())
 }
