@@ -22,3 +22,4 @@ pub mod Growing
 pub mod Mixable
 pub mod Costs
 pub mod Entries
+pub mod Resting

@@ -252,6 +252,10 @@ fn go_each<B: BlockSource>(inputs: &mut [Input], frames: u64, out: &mut NoticeLi
     ensures notices { out.new.notices ≡ out.old.notices ++ flat_map (going_notices frames) (inputs_of inputs.old) }
     ensures capacity { out.new.capacity ≡ out.old.capacity }
 {
+    // where the horizon stays, streams stay where they are, and have nothing to tell
+    if frames == 0 {
+        return;
+    }
     for input in inputs.iter_mut() {
         go_one(input, frames, out, blocks);
     }

@@ -134,6 +134,9 @@ pub(crate) fn reserve_inputs(inputs: &mut [Input], room: u32, blocks: u32) -> Me
     ensures kept { (old kept : ℕ) → AllByRecursion (HasRoom old kept) inputs.old → AllByRecursion (HasRoom old kept) inputs.new }
     ensures room { OnOk result (AllByRecursion (HasRoom room blocks) inputs.new) }
 {
+    if room == 0 && blocks == 0 {
+        return Ok(());
+    }
     for input in inputs.iter_mut() {
         input.stream.reserve(room, blocks)?;
     }

@@ -266,6 +266,9 @@ impl MixedInputs {
         ensures ticks { steps.new ≤ steps.old + length self.old.inputs * (2 * (self.old.spec.channels * (to - self.old.frames))) }
     {
         let from = self.frames;
+        if to == from {
+            return;
+        }
         self.kept.extend(to);
         add_each(
             &self.spec,

@@ -3,6 +3,8 @@ use Rattle.px_model.specs.Going.{after}
 use Rattle.px_model.specs.Sink.{with_stream}
 use Rattle.px_model.specs.Turn.{going_notices}
 use Rattle.px_lane.proofs.Each.{done_more, done_fits}
+use Rattle.px_lane.specs.Inputs.{inputs_of}
+use Rattle.px_lane.proofs.Resting.{stay, tell_nothing}
 use Rattle.px_lane.proofs.inputs.go_each.Goals as goal
 
 pub go_one-requires : goal.go_one-requires
@@ -21,3 +23,9 @@ loop-input-preserved g c =
           e.input e.room e.block_room e.notices,
       e.capacity ∙ l.invariant.1,
     )
+
+pub returns-then-frames-eq0-clause-inputs : goal.returns-then-frames-eq0-clause-inputs
+returns-then-frames-eq0-clause-inputs g c = stay c.args.frames (inputs_of c.args.inputs.now) c.if-frames-eq0.true
+
+pub returns-then-frames-eq0-clause-notices : goal.returns-then-frames-eq0-clause-notices
+returns-then-frames-eq0-clause-notices g c = tell_nothing c.args.frames (inputs_of c.args.inputs.now) c.args.out.now.notices c.if-frames-eq0.true
