@@ -63,12 +63,38 @@ fn change_whole(sums: &mut [i64], values: &[i32], add: bool) -> usize
     ensures inside { result ≤ length sums.old }
     ensures sums { Changes add sums.old values.now 65536 0 result sums.new }
 {
+    if add {
+        change_sixteens(sums, values, true)
+    } else {
+        change_sixteens(sums, values, false)
+    }
+}
+
+// The same, sixteen sums at a time.
+fn change_sixteens(sums: &mut [i64], values: &[i32], add: bool) -> usize
+    requires long { length values.now ≡ length sums.old }
+    requires ready { AreReady add sums.old values.now 65536 0 }
+    ensures inside { result ≤ length sums.old }
+    ensures sums { Changes add sums.old values.now 65536 0 result sums.new }
+{
     let mut from = 0;
-    while from + 4 <= sums.len() {
-        change_four(sums, values, from, WHOLE, add);
-        from += 4;
+    while from + 16 <= sums.len() {
+        change_eight(sums, values, from, add);
+        change_eight(sums, values, from + 8, add);
+        from += 16;
     }
     from
+}
+
+// Eight sums, from a place on, by a factor of 1.
+fn change_eight(sums: &mut [i64], values: &[i32], from: usize, add: bool)
+    requires inside { from + 8 ≤ length sums.old }
+    requires long { length values.now ≡ length sums.old }
+    requires ready { AreReady add sums.old values.now 65536 from }
+    ensures { Changes add sums.old values.now 65536 from (from + 8) sums.new }
+{
+    change_four(sums, values, from, WHOLE, add);
+    change_four(sums, values, from + 4, WHOLE, add);
 }
 
 // The same by any factor that has lanes: one of 32 bits has none, since theirs are signed.
