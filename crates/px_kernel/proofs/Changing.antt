@@ -58,6 +58,22 @@ ready_behind add old values factor from to new ready changes rises =
           (ready.fit k (omega (arith, above, rises)) (inside k less));
     }
 
+-- eight behind a front that is changed, and eight more
+pub ready_after_eight : (add : Bool) (old values : List ℤ) (factor from : ℕ) (front first : List ℤ)
+    → AreReady add old values factor 0 → Changes add old values factor 0 from front → Changes add front values factor from (from + 8) first
+    → AreReady add first values factor (from + 8)
+ready_after_eight add old values factor from front first ready so_far next =
+    ready_behind add front values factor from (from + 8) first (ready_behind add old values factor 0 from front ready so_far (omega arith)) next (omega arith)
+
+pub sixteen_changed : (add : Bool) (old values : List ℤ) (factor from : ℕ) (front first second : List ℤ)
+    → Changes add old values factor 0 from front → Changes add front values factor from (from + 8) first → Changes add first values factor (from + 8) (from + 8 + 8) second
+    → Changes add old values factor 0 (from + 16) second
+sixteen_changed add old values factor from front first second so_far next last =
+    let same : from + 8 + 8 ≡ from + 16 = omega arith in
+    both_changed add old values factor 0 from (from + 16) front second so_far
+    (both_changed add front values factor from (from + 8) (from + 16) first second next (subst (λ (to : ℕ). Changes add first values factor (from + 8) to second) same last) (omega arith) (omega arith))
+    (omega arith) (omega arith)
+
 -- four that are set to the same
 pub four_set : (xs : List ℤ) (from : ℕ) {a b c d a' b' c' d' : ℤ} → a ≡ a' → b ≡ b' → c ≡ c' → d ≡ d'
     → set (set (set (set xs from a) (from + 1) b) (from + 2) c) (from + 3) d ≡ set (set (set (set xs from a') (from + 1) b') (from + 2) c') (from + 3) d'

@@ -56,7 +56,7 @@ fn change(sums: &mut [i64], values: &[i32], factor: u32, add: bool)
     change_rest(sums, values, from, factor, add);
 }
 
-// Four sums at a time, by a factor of 1, which is known here to whoever compiles it: no number is multiplied. Answers how many were changed.
+// Sixteen sums at a time, by a factor of 1, which is known here to whoever compiles it: no number is multiplied. Answers how many were changed.
 fn change_whole(sums: &mut [i64], values: &[i32], add: bool) -> usize
     requires long { length values.now ≡ length sums.old }
     requires ready { AreReady add sums.old values.now 65536 0 }
@@ -64,23 +64,39 @@ fn change_whole(sums: &mut [i64], values: &[i32], add: bool) -> usize
     ensures sums { Changes add sums.old values.now 65536 0 result sums.new }
 {
     if add {
-        change_sixteens(sums, values, true)
+        add_whole(sums, values)
     } else {
-        change_sixteens(sums, values, false)
+        sub_whole(sums, values)
     }
 }
 
-// The same, sixteen sums at a time.
-fn change_sixteens(sums: &mut [i64], values: &[i32], add: bool) -> usize
+// Of `change_whole`, for whoever compiles it: each value is added.
+fn add_whole(sums: &mut [i64], values: &[i32]) -> usize
     requires long { length values.now ≡ length sums.old }
-    requires ready { AreReady add sums.old values.now 65536 0 }
+    requires ready { AreReady true sums.old values.now 65536 0 }
     ensures inside { result ≤ length sums.old }
-    ensures sums { Changes add sums.old values.now 65536 0 result sums.new }
+    ensures sums { Changes true sums.old values.now 65536 0 result sums.new }
 {
     let mut from = 0;
     while from + 16 <= sums.len() {
-        change_eight(sums, values, from, add);
-        change_eight(sums, values, from + 8, add);
+        change_eight(sums, values, from, true);
+        change_eight(sums, values, from + 8, true);
+        from += 16;
+    }
+    from
+}
+
+// And taken away.
+fn sub_whole(sums: &mut [i64], values: &[i32]) -> usize
+    requires long { length values.now ≡ length sums.old }
+    requires ready { AreReady false sums.old values.now 65536 0 }
+    ensures inside { result ≤ length sums.old }
+    ensures sums { Changes false sums.old values.now 65536 0 result sums.new }
+{
+    let mut from = 0;
+    while from + 16 <= sums.len() {
+        change_eight(sums, values, from, false);
+        change_eight(sums, values, from + 8, false);
         from += 16;
     }
     from
