@@ -30,3 +30,4 @@ pub mod RefusalLaws
 pub mod HearingLaws
 pub mod EventLaws
 pub mod HeardLaws
+pub mod Finding

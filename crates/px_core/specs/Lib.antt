@@ -5,6 +5,7 @@ pub mod Step
 pub mod Orderly
 pub mod Grouped
 pub mod Keeps
+pub mod Places
 pub mod Parcels
 pub mod Lawful
 pub mod Ending

@@ -1,10 +1,13 @@
 //! Connections and inputs by their numbers.
 
-ghost use Rattle.std.specs.Prelude.{◌≡◌};
+ghost use Rattle.std.specs.Prelude.{◌≡◌, ◌<◌, ◌≤◌, length, slice_index_or};
 ghost use Rattle.std.specs.Option.{option_map};
 ghost use Rattle.px_state.specs.State.{connection_of};
 ghost use Rattle.px_core.specs.Connecting.{going_on};
-ghost use Rattle.px_core.specs.Notice.{input_on};
+ghost use Rattle.px_core.specs.Keeps.{IsRising};
+ghost use Rattle.px_core.specs.Notice.{input_on, is_on};
+ghost use Rattle.px_core.specs.Places.{AreBelow};
+ghost use Rattle.px_plan.specs.declared.input.Input.{Input as DeclaredInput};
 
 use px_plan::{Connection, Input};
 use px_types::{ConnId, InputId, SinkId};
@@ -27,20 +30,47 @@ pub(crate) fn going_on(connections: &[Connection], conn: ConnId) -> Option<Conne
     }
 }
 
-// The input with an index, where it is on the sink, as the table has it.
-fn found_on(inputs: &[Input], sink: SinkId, index: InputId) -> Option<&Input>
-    ensures { option_map (λ x. x.now) result ≡ input_on inputs.now sink index }
+// How many of the first indices lie below this one, by halves: a sink tells of its inputs at every turn, and there may be 1,024.
+fn place(inputs: &[Input], index: InputId) -> usize
+    requires { IsRising inputs.now }
+    ensures below { AreBelow index.0 result inputs.now }
+    ensures few { result ≤ length inputs.now }
+    ensures end { (d : DeclaredInput) → result < length inputs.now → index.0 ≤ (DeclaredInput.index (slice_index_or inputs.now result d)).0 }
 {
-    inputs
-        .iter()
-        .find(|x| x.index.0 == index.0 && x.sink.0 == sink.0)
+    let mut low = 0;
+    let mut high = inputs.len();
+    while low < high {
+        let middle = low + (high - low) / 2;
+        if inputs[middle].index.0 < index.0 {
+            low = middle + 1;
+        } else {
+            high = middle;
+        }
+    }
+    low
+}
+
+// Whether it has the index, and is on the sink.
+fn is_on(x: &Input, sink: SinkId, index: InputId) -> bool
+    ensures { result ≡ is_on sink index x.now }
+{
+    x.index.0 == index.0 && x.sink.0 == sink.0
 }
 
 /// The input with an index, where it is on the sink. Takes no memory.
 pub(crate) fn input_on(inputs: &[Input], sink: SinkId, index: InputId) -> Option<Input>
+    requires { IsRising inputs.now }
     ensures { result ≡ input_on inputs.now sink index }
 {
-    copied(found_on(inputs, sink, index))
+    let place = place(inputs, index);
+    if place >= inputs.len() {
+        return None;
+    }
+    let x = inputs[place];
+    if is_on(&x, sink, index) {
+        return Some(x);
+    }
+    None
 }
 
 /// The input itself, where one was found. Takes no memory.

@@ -4,7 +4,7 @@
 ghost use Rattle.std.specs.Prelude.{◌≡◌, [], None, Some, slice_get, IfOk, IfErr, OnOk, OnErr};
 ghost use Rattle.px_session.specs.HeaderRules.{AreSinks};
 ghost use Rattle.px_ctl_play.specs.Told.{IsMemberIn};
-ghost use Rattle.px_core.specs.Keeps.{IsKept};
+ghost use Rattle.px_core.specs.Keeps.{IsKept, IsRising};
 ghost use Rattle.px_core.specs.Notice.{IsNews, owner_of, told_of, drained_of, measured_of, input_on, left_of, given_up, notice_answer};
 ghost use Rattle.px_state.specs.State.{input_of};
 ghost use Rattle.px_core.specs.Step.{answer_effects, answered};
@@ -83,6 +83,7 @@ fn notice_answer<P: Parcel + Drop>(
     notice: &Notice<P>,
 ) -> Mem<Plan<Msg<P>, Group>>
     requires sinks { AreSinks [] tables.now.sinks }
+    requires rising { IsRising tables.now.inputs.items }
     requires news { IsNews notice.now }
     ensures { IfOk result (λ plan. plan ≡ notice_answer P.spec_of (state_of tables.now) sink notice.now) }
 {
@@ -139,6 +140,7 @@ fn take_news<P: Parcel + Drop>(
     notice: Notice<P>,
 ) -> Result<Effects, Notice<P>>
     requires sinks { AreSinks [] tables.old.sinks }
+    requires rising { IsRising tables.old.inputs.items }
     requires news { IsNews notice }
     ensures effects { IfOk result (λ effects. effects ≡ answer_effects None (state_of tables.old) (notice_answer P.spec_of (state_of tables.old) sink notice)) }
     ensures after { OnOk result (state_of tables.new ≡ answered (state_of tables.old) (notice_answer P.spec_of (state_of tables.old) sink notice)) }
