@@ -9,11 +9,13 @@ ghost use Rattle.px_lane_cell.specs.Meaning.{attr_meant, factors_meant, stream_m
 
 use px_annals::{Numbers, PlainFactorList, PlainFactors, PlainMsg, PlainMsgs, PlainStream};
 use px_block::Block;
+use px_chmap::Feed;
 use px_lane::MsgList;
 use px_model::Attr;
 use px_msg::{InputFactors, Msg, NewStream};
 use px_stream::Stream;
-use px_types::{Mem, Text};
+use px_types::{InputId, Mem, Text};
+use px_vol::Factors;
 use std::alloc::Global;
 
 // A copy of numbers.
@@ -100,6 +102,24 @@ fn plain_new(alloc: Global, new: &NewStream) -> Mem<PlainMsg>
     })
 }
 
+// A stream that comes from another sink.
+fn plain_attach(
+    alloc: Global,
+    input: InputId,
+    parcel: &Stream,
+    feed: &Feed,
+    factors: &Factors,
+) -> Mem<PlainMsg>
+    ensures { IfOk result (λ plain. message_meant plain ≡ Message.attach input.0 parcel.now.stream feed.now factors.now) }
+{
+    Ok(PlainMsg::Attach {
+        input: input.0,
+        parcel: plain_stream(alloc, parcel)?,
+        feed: widened(alloc, feed.channels())?,
+        factors: copied(alloc, factors.values())?,
+    })
+}
+
 /// A message to a sink as plain numbers and bytes, as a history keeps it: it means the same message.
 pub fn plain_message(alloc: Global, message: &Msg<Stream>) -> Mem<PlainMsg>
     ensures { IfOk result (λ plain. message_meant plain ≡ plain_message message.now) }
@@ -111,12 +131,7 @@ pub fn plain_message(alloc: Global, message: &Msg<Stream>) -> Mem<PlainMsg>
             parcel,
             feed,
             factors,
-        } => Ok(PlainMsg::Attach {
-            input: input.0,
-            parcel: plain_stream(alloc, parcel)?,
-            feed: widened(alloc, feed.channels())?,
-            factors: copied(alloc, factors.values())?,
-        }),
+        } => plain_attach(alloc, *input, parcel, feed, factors),
         Msg::Detach { input } => Ok(PlainMsg::Detach { input: input.0 }),
         Msg::Write {
             input,

@@ -49,19 +49,13 @@ fn tape<'a>(alloc: Global) -> Arg<'a>
 pub fn command<'a>(alloc: Global) -> Result<Command<'a>, AllocError>
     ensures { IfOk result (λ command. app_of command ≡ serve_command) }
 {
-    let header = path(alloc, "header");
-    let socket = path(alloc, "socket");
-    let out = path(alloc, "out");
-    let accept = accept(alloc);
-    let history = option(alloc, "history");
-    let tape = tape(alloc);
     let empty = Command::new(alloc, "serve").disable_help_flag(true);
     let command = empty
-        .arg(header)?
-        .arg(socket)?
-        .arg(out)?
-        .arg(accept)?
-        .arg(history)?
-        .arg(tape)?;
+        .arg(path(alloc, "header"))?
+        .arg(path(alloc, "socket"))?
+        .arg(path(alloc, "out"))?
+        .arg(accept(alloc))?
+        .arg(option(alloc, "history"))?
+        .arg(tape(alloc))?;
     Ok(command)
 }

@@ -3,7 +3,7 @@ use Rattle.std.proofs.Common.{◌≡◌, ℕ, ◌≤◌, List, [], length, Optio
 use Rattle.px_ends.specs.Host.{HostState, Lent}
 use Rattle.px_server.specs.declared.served.Stop.{Stop}
 use Rattle.px_server.specs.declared.served.Stop.TheVariants.{Over, Memory, Host, Unrecorded}
-use Rattle.px_server.specs.Hosted.{IsLater, HasLent, IsCauseOf}
+use Rattle.px_server.specs.Hosted.{IsLater, HasLent, IsCauseOf, IsOwn}
 
 pub later_refl : {D R C : Type 0} (h : HostState D R C) → IsLater h h
 later_refl h = record {
@@ -39,6 +39,13 @@ cause_later Over a b c later rose = record { later = let one = later.overs in le
 cause_later Memory a b c later cause = tt
 cause_later Host a b c later rose = record { later = let one = later.faults in let two = rose.later in omega arith; more = let one = later.faults in let two = rose.more in omega arith }
 cause_later (Unrecorded fault) a b c later cause = tt
+
+-- a cause that isn't the host's is one between any two moments
+pub cause_own : {D R C : Type 0} (stop : Stop) (before after : HostState D R C) → IsOwn stop → IsCauseOf stop before after
+cause_own Over before after own = absurd own
+cause_own Memory before after own = tt
+cause_own Host before after own = absurd own
+cause_own (Unrecorded fault) before after own = tt
 
 -- what was lent is so as long as that stays
 pub lent_same : {D R C : Type 0} (parts cores : ℕ) (before after : HostState D R C) → after.lent ≡ before.lent → HasLent parts cores before → HasLent parts cores after

@@ -12,6 +12,13 @@ abbrev pub stop_by : HostFault → Stop
 stop_by host_fault.NoMemory = Memory
 stop_by host_fault.Failed = Host
 
+-- a stop whose cause isn't the host's
+abbrev pub IsOwn : Stop → Type 0
+IsOwn Over = ⊥
+IsOwn Memory = ⊤
+IsOwn Host = ⊥
+IsOwn (Unrecorded fault) = ⊤
+
 module _ {D R C : Type 0} where
   -- no count has fallen, and all but the counts of calls is what it was
   pub record IsLater (before after : HostState D R C) : Type 0 where

@@ -1,13 +1,16 @@
 //! What a serving call hands back, and why it stops.
 
-ghost use Rattle.std.specs.Prelude.{◌≡◌};
+ghost use Rattle.std.specs.Prelude.{◌≡◌, ◌+◌, ◌<◌, ◌⊎◌, false, true, IfErr, IfSome, IsSome, None, OnOk};
 ghost use Rattle.px_server.specs.Causes.{status_of_record, decided, undecided};
-ghost use Rattle.px_server.specs.Hosted.{stop_by};
+ghost use Rattle.px_server.specs.Hosted.{stop_by, IsLater, IsCauseOf};
+ghost use Rattle.px_server.specs.declared.served.Stop.TheVariants.{Memory, Over};
+ghost use Rattle.px_tape.specs.Tape.{turns_in, total};
 
 use px_annals::RecordFault;
-use px_ends::{Host, HostFault};
-use px_tape::Events;
+use px_ends::{Accepted, Host, HostFault};
+use px_tape::{Events, SinkTurns, Tape};
 use px_types::{SinkId, Status};
+use std::alloc::Global;
 
 /// What the host made for a sink, once its worker has ended.
 #[derive(Debug, Drop)]
@@ -86,5 +89,51 @@ pub(crate) fn undecided(stop: Stop) -> Status
     match stop {
         Stop::Host => Status::Host,
         Stop::Over | Stop::Memory | Stop::Unrecorded(_) => Status::Memory,
+    }
+}
+
+/// The next client's link, where the host lets its worker start, or why there is none.
+pub(crate) fn next_link<H: Host>(alloc: Global, host: &mut H) -> Result<H::L, Stop>
+    ensures links { OnOk result (((H.now host.old).links < 65535) × ((H.now host.new).links ≡ (H.now host.old).links + 1)) }
+    ensures later { IsLater (H.now host.old) (H.now host.new) }
+    ensures lent { (H.now host.new).lent ≡ (H.now host.old).lent }
+    ensures cause { IfErr result (λ stop. IsCauseOf stop (H.now host.old) (H.now host.new)) }
+{
+    match host.accept(alloc) {
+        Accepted::Link(link) => {
+            if host.may_start() {
+                Ok(link)
+            } else {
+                Err(Stop::Host)
+            }
+        }
+        Accepted::Over => Err(Stop::Over),
+        Accepted::NoMemory => Err(Stop::Memory),
+        Accepted::Failed => Err(Stop::Host),
+    }
+}
+
+/// The events of a tape, where there is one. Where there is no memory for them, that ends a call that nothing else has stopped.
+pub(crate) fn woven(
+    alloc: Global,
+    taped: bool,
+    tape: Tape,
+    turns: Vec<SinkTurns>,
+    stop: Stop,
+) -> (Option<Events>, Stop)
+    ensures none { taped ≡ false → result.0 ≡ None }
+    ensures turns { IfSome result.0 (λ events. turns_in events ≡ total turns.items) }
+    ensures whole { taped ≡ true → result.1 ≡ Over → IsSome result.0 }
+    ensures stop { (result.1 ≡ stop) ⊎ ((stop ≡ Over) × (result.1 ≡ Memory)) }
+{
+    if !taped {
+        return (None, stop);
+    }
+    match tape.into_events(alloc, turns) {
+        Ok(events) => (Some(events), stop),
+        Err(_) => match stop {
+            Stop::Over => (None, Stop::Memory),
+            other => (None, other),
+        },
     }
 }

@@ -1,28 +1,26 @@
 //! What a serving call has under way: its workers, from their start to their end.
-ghost use Rattle.std.specs.Prelude.{◌≡◌, ◌+◌, ◌≤◌, ◌<◌, ◌++◌, ◌∷◌, ◌⊎◌, [], List, length, map, true, false, IfOk, IfErr, OnOk, OnErr, IfSome, IsSome, None, vec_capacity};
+ghost use Rattle.std.specs.Prelude.{◌≡◌, ◌+◌, ◌≤◌, ◌<◌, ◌++◌, ◌∷◌, [], List, length, map, true, IfOk, IfErr, OnOk, OnErr, IsSome, vec_capacity};
 ghost use Rattle.std.specs.VecDeque.{deque_capacity};
-ghost use Rattle.px_server.specs.Hosted.{IsLater, IsCauseOf};
+ghost use Rattle.px_server.specs.Hosted.{IsLater, IsCauseOf, IsOwn};
 ghost use Rattle.px_session.specs.declared.header.SinkSpec.{SinkSpec};
 ghost use Rattle.px_server.specs.Parts.{start_of, starts_of};
 ghost use Rattle.px_server.specs.Serving.{Ends};
 ghost use Rattle.px_server.specs.Taped.{AreTaping, HasTape};
 ghost use Rattle.px_server.specs.Working.{boxes_in, tapes_in};
-ghost use Rattle.px_server.specs.declared.served.Stop.TheVariants.{Memory, Over};
-ghost use Rattle.px_tape.specs.Tape.{turns_in, total};
 
 use crate::crew::{Client, SinkRun};
 use crate::gate::Gate;
 use crate::left::close_all;
 use crate::link_work::LinkWork;
 use crate::lone::Lone;
-use crate::served::{LanePart, Served, Stop, decided};
+use crate::served::{LanePart, Served, Stop, decided, next_link, woven};
 use crate::sink_work::SinkWork;
 use px_annals::{CoreEntry, LaneEntry, Recorder};
 use px_core_cell::{CoreParts, Seats};
 use px_desk::{CoreStop, Worker};
-use px_ends::{Accepted, Device, Host, Link};
+use px_ends::{Device, Host, Link};
 use px_jobs::{Spawned, start};
-use px_tape::{Events, SinkTurns, Tape};
+use px_tape::SinkTurns;
 use px_types::{ConnId, Mem, NoMemory};
 use std::alloc::Global;
 use std::collections::VecDeque;
@@ -206,20 +204,15 @@ where
     }
 
     // Takes in a client.
-    fn admit<H: Host>(&mut self, host: &mut H, link: A) -> Result<(), Stop>
+    fn admit(&mut self, link: A) -> Result<(), Stop>
         requires { 1 < self.old.worker.seat.parts }
         ensures parts { self.new.worker.seat.parts + length self.new.clients.items ≡ self.old.worker.seat.parts + length self.old.clients.items }
         ensures more { length self.new.clients.items ≤ length self.old.clients.items + 1 }
         ensures sinks { self.new.sinks ≡ self.old.sinks }
-        ensures later { IsLater (H.now host.old) (H.now host.new) }
-        ensures lent { (H.now host.new).lent ≡ (H.now host.old).lent }
-        ensures cause { IfErr result (λ stop. IsCauseOf stop (H.now host.old) (H.now host.new)) }
+        ensures cause { IfErr result IsOwn }
     {
         let conn = ConnId(self.next);
         self.next = self.next.wrapping_add(1);
-        if !host.may_start() {
-            return Err(Stop::Host);
-        }
         if self.worker.open_line(conn).is_err() {
             return Err(Stop::Memory);
         }
@@ -235,6 +228,23 @@ where
         Ok(())
     }
 
+    // Takes in the next client, where one comes.
+    #[tactic(auto, using(crate::proofs::Later::cause_own))]
+    fn accept_one<H: Host<L = A>>(&mut self, host: &mut H) -> Result<(), Stop>
+        requires seats { 65536 ≤ self.old.worker.seat.parts + length self.old.clients.items }
+        requires few { length self.old.clients.items ≤ (H.now host.old).links }
+        ensures parts { self.new.worker.seat.parts + length self.new.clients.items ≡ self.old.worker.seat.parts + length self.old.clients.items }
+        ensures few { length self.new.clients.items ≤ (H.now host.new).links }
+        ensures sinks { self.new.sinks ≡ self.old.sinks }
+        ensures later { IsLater (H.now host.old) (H.now host.new) }
+        ensures lent { (H.now host.new).lent ≡ (H.now host.old).lent }
+        ensures cause { IfErr result (λ stop. IsCauseOf stop (H.now host.old) (H.now host.new)) }
+    {
+        self.reap();
+        let link = next_link(self.worker.alloc, host)?;
+        self.admit(link)
+    }
+
     // Takes in clients until no more come.
     fn accept_all<H: Host<L = A>>(&mut self, host: &mut H) -> Stop
         requires seats { 65536 ≤ self.old.worker.seat.parts + length self.old.clients.items }
@@ -247,16 +257,8 @@ where
     {
         let rt = self.worker.rt;
         for _ in rt.forever() {
-            self.reap();
-            match host.accept(self.worker.alloc) {
-                Accepted::Link(link) => {
-                    if let Err(stop) = self.admit(host, link) {
-                        return stop;
-                    }
-                }
-                Accepted::Over => return Stop::Over,
-                Accepted::NoMemory => return Stop::Memory,
-                Accepted::Failed => return Stop::Host,
+            if let Err(stop) = self.accept_one(host) {
+                return stop;
             }
         }
         unreachable!()
@@ -307,31 +309,6 @@ where
                 turns,
             });
         }
-    }
-}
-
-// The events of a tape, where there is one. Where there is no memory for them, that ends a call that nothing else has stopped.
-fn woven(
-    alloc: Global,
-    taped: bool,
-    tape: Tape,
-    turns: Vec<SinkTurns>,
-    stop: Stop,
-) -> (Option<Events>, Stop)
-    ensures none { taped ≡ false → result.0 ≡ None }
-    ensures turns { IfSome result.0 (λ events. turns_in events ≡ total turns.items) }
-    ensures whole { taped ≡ true → result.1 ≡ Over → IsSome result.0 }
-    ensures stop { (result.1 ≡ stop) ⊎ ((stop ≡ Over) × (result.1 ≡ Memory)) }
-{
-    if !taped {
-        return (None, stop);
-    }
-    match tape.into_events(alloc, turns) {
-        Ok(events) => (Some(events), stop),
-        Err(_) => match stop {
-            Stop::Over => (None, Stop::Memory),
-            other => (None, other),
-        },
     }
 }
 

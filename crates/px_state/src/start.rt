@@ -86,6 +86,15 @@ fn groups_for(alloc: Global, sinks: &[SinkSpec]) -> Mem<Vec<Group>>
     Ok(made)
 }
 
+// The names of a server with this header and no client.
+fn names_for(alloc: Global, header: &Header) -> Mem<Names>
+    requires { IsHeader header.now }
+    ensures { IfOk result (λ made. made ≡ record { cookie = header.now.cookie; sinks = map (λ s. SinkSpec.name s) header.now.sinks; fallback = record { 0 = 0 }; clients = [] }) }
+{
+    let sinks = SinkNames::new(names_of(alloc, header.sinks.as_slice())?).unwrap();
+    Names::new(alloc, header.cookie.as_slice(), &sinks)
+}
+
 /// The tables of a server with this header: no client, no input and no message.
 #[tactic(auto, using(px_targets::proofs::Sinks::each_of_header))]
 pub fn new_tables<P: Drop>(alloc: Global, header: &Header) -> Mem<Tables<P>>
@@ -93,18 +102,20 @@ pub fn new_tables<P: Drop>(alloc: Global, header: &Header) -> Mem<Tables<P>>
     ensures state { IfOk result (λ tables. state_of tables ≡ new_state header.now) }
     ensures sinks { IfOk result (λ tables. AreSinks [] tables.sinks) }
 {
-    let sinks = header.sinks.as_slice();
-    let names = SinkNames::new(names_of(alloc, sinks)?).unwrap();
+    let names = names_for(alloc, header)?;
+    let sinks = copied_sinks(alloc, header.sinks.as_slice())?;
+    let posted = queues_for(alloc, header.sinks.as_slice())?;
+    let groups = groups_for(alloc, header.sinks.as_slice())?;
     Ok(Tables {
-        names: Names::new(alloc, header.cookie.as_slice(), &names)?,
-        sinks: SinkSpecs::from_vec(copied_sinks(alloc, sinks)?),
+        names,
+        sinks: SinkSpecs::from_vec(sinks),
         connections: Vec::new(alloc),
         inputs: InputTable::new(alloc),
         lists: InputLists::new(alloc),
         waiting: Vec::new(alloc),
-        posted: queues_for(alloc, sinks)?,
+        posted,
         delayed: Vec::new(alloc),
-        groups: groups_for(alloc, sinks)?,
+        groups,
         clients_made: 0,
         inputs_made: 0,
     })
