@@ -11,12 +11,14 @@
   conformance/reckon.py --volumes NUMBER CALLS > SESSION.session  volumes and mutes of a sink and its streams, with dice
   conformance/reckon.py --full > SESSION.session                  as many sinks as there can be, with as many streams in all
   conformance/reckon.py --crowded > SESSION.session               a sink with as many streams as there can be, and others that would move to it
+  conformance/reckon.py --fronts > SESSION.session                each command cut off at each of its bytes, and with a byte too many
   conformance/reckon.py --loud > SESSION.session                  four such sinks whose streams are as loud as can be
 
 It keeps each sample that was ever written in a map from index to sample, and mixes each frame anew. It knows volumes and mutes,
 the commands of a stream's life and its moves, names and property lists of clients and streams, the infos of sinks, inputs and
 clients, and only sessions that are played to their end and ask for nothing that is refused but by ACCESS, BADSTATE, VERSION,
-INVALID, NOENTITY, TOOLARGE and BUSY, and a stream that is made or moved by NOTSUPPORTED too."""
+INVALID, NOENTITY, TOOLARGE and BUSY, and a stream that is made or moved by NOTSUPPORTED too. Of a packet that it can't read it takes
+the last byte to be too much where it can read the others, and else the packet to be too short."""
 
 import copy
 import os
@@ -27,6 +29,7 @@ sys.dont_write_bytecode = True
 HERE = os.path.dirname(os.path.realpath(__file__))
 sys.path[:0] = [HERE, os.path.join(os.path.dirname(HERE), "tools")]
 
+import fronts
 import infos
 import lanes
 import output
@@ -376,6 +379,9 @@ class Server:
 
     def packet(self, conn, packet):
         client, read = self.clients[conn], read_packet(packet)
+        if read is None:
+            over = read_packet(packet[:-1]) is not None
+            return self.end(conn, 1, 9 if over else 7, client.gone - over)
         command, tag = wire.Items(packet), None
         command, tag = command.number(), int.from_bytes(packet[6:10], "big")
         if not client.known and command != 8:
@@ -935,7 +941,7 @@ def thrown_by(words):
         return THROWS[words[0]](int(words[1]), int(words[2]))
     if len(words) == 3 and words[0] == "--formats":
         return thrown_formats(int(words[1]), words[2])
-    return {"--full": full, "--crowded": crowded, "--loud": lanes.loud}.get(words[0], lambda: None)() if len(words) == 1 else None
+    return {"--full": full, "--crowded": crowded, "--loud": lanes.loud, "--fronts": fronts.thrown_fronts}.get(words[0], lambda: None)() if len(words) == 1 else None
 
 
 def main(words):

@@ -2,34 +2,27 @@ use px_ends::{Accepted, DeviceShape, HeaderRead, Host, HostFault, NoHost, ServeO
 use px_types::Text;
 use std::alloc::Global;
 
-const SMALL: DeviceShape = DeviceShape {
-    frame: 2,
-    rate: 48_000,
-    guard: 1,
-    depth: 4,
-};
-
-fn options(alloc: Global) -> ServeOptions {
-    ServeOptions {
-        header: Text::from_vec(Vec::new(alloc)),
-        socket: Text::from_vec(Vec::new(alloc)),
-        out: Text::from_vec(Vec::new(alloc)),
+fn is_none<H: Host>(alloc: Global, host: &mut H) -> bool {
+    let none = || Text::from_vec(Vec::new(alloc));
+    let options = ServeOptions {
+        header: none(),
+        socket: none(),
+        out: none(),
         accept: 1,
         memory: false,
-    }
-}
-
-fn makes_nothing<H: Host>(alloc: Global, host: &mut H) -> bool {
-    matches!(host.device(alloc, b"out", &SMALL), Err(HostFault::Failed))
+    };
+    let shape = DeviceShape {
+        frame: 2,
+        rate: 48_000,
+        guard: 1,
+        depth: 4,
+    };
+    matches!(host.start(alloc, &options), HeaderRead::Failed)
+        && matches!(host.accept(alloc), Accepted::Failed)
+        && matches!(host.device(alloc, b"out", &shape), Err(HostFault::Failed))
         && matches!(host.lane_recorder(alloc), Err(HostFault::Failed))
         && matches!(host.core_recorder(alloc), Err(HostFault::Failed))
         && !host.may_start()
-}
-
-fn is_none<H: Host>(alloc: Global, host: &mut H) -> bool {
-    matches!(host.start(alloc, &options(alloc)), HeaderRead::Failed)
-        && matches!(host.accept(alloc), Accepted::Failed)
-        && makes_nothing(alloc, host)
 }
 
 #[test]
