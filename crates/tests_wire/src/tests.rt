@@ -1,5 +1,3 @@
-mod commands;
 mod frames;
 mod items;
-mod replies;
 mod sessions;

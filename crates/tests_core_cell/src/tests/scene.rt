@@ -29,12 +29,12 @@ pub(crate) struct Mixer {
     pub ghost posts: { IsPassOf (arc_value outbox).queue post.pass },
 }
 
-// A core before its first step, with its ends and the other sides of its sinks' mailboxes.
+// A core before its first step, with its ends and the other side of its sink's mailboxes.
 #[derive(Drop)]
 pub(crate) struct Scene {
     pub core: CellCore,
     pub ends: CoreEnds,
-    pub mixers: Vec<Mixer>,
+    pub mixer: Mixer,
 }
 
 // A header of one sink `out`: S16LE, mono, 48,000 frames a second, guard 10, depth 100.
@@ -67,17 +67,18 @@ fn sides(alloc: Global, sink: &SinkSpec) -> Mem<(CoreEnd, Mixer)>
     ))
 }
 
-fn all_sides(alloc: Global, sinks: &[SinkSpec]) -> Mem<(CoreEnds, Vec<Mixer>)>
+// Those of all sinks, and the other side of the last one.
+fn all_sides(alloc: Global, sinks: &[SinkSpec]) -> Mem<(CoreEnds, Option<Mixer>)>
     ensures { IfOk result (λ made. map ends_of made.0.items ≡ map fresh_ends sinks.now) }
 {
     let mut ends = Vec::new(alloc);
-    let mut mixers = Vec::new(alloc);
+    let mut last = None;
     for sink in sinks {
         let (end, mixer) = sides(alloc, sink)?;
         ends.push(end)?;
-        mixers.push(mixer)?;
+        last = Some(mixer);
     }
-    Ok((ends, mixers))
+    Ok((ends, last))
 }
 
 fn set_up(alloc: Global, header: &Header) -> Mem<Scene>
@@ -85,8 +86,10 @@ fn set_up(alloc: Global, header: &Header) -> Mem<Scene>
     ensures { IfOk result (λ scene. Begins scene.core.state (map ends_of scene.ends.items)) }
 {
     let core = Core::new(alloc, header)?;
-    let (ends, mixers) = all_sides(alloc, header.sinks.as_slice())?;
-    Ok(Scene { core, ends, mixers })
+    match all_sides(alloc, header.sinks.as_slice())? {
+        (ends, Some(mixer)) => Ok(Scene { core, ends, mixer }),
+        _ => Err(NoMemory),
+    }
 }
 
 pub(crate) fn new_scene(alloc: Global) -> Mem<Scene>
@@ -104,10 +107,4 @@ pub(crate) fn new_scene(alloc: Global) -> Mem<Scene>
 pub(crate) fn taken<R: Wait>(rt: &R, mixer: &mut Mixer) -> Option<Msg<Stream>> {
     let Mixer { inbox, take, .. } = mixer;
     inbox.take(rt, take)
-}
-
-// Whether there was room for a notice of the sink.
-pub(crate) fn told<R: Wait>(rt: &R, mixer: &mut Mixer, notice: Notice<Stream>) -> bool {
-    let Mixer { outbox, post, .. } = mixer;
-    outbox.post(rt, post, notice).is_ok()
 }

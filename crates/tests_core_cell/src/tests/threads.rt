@@ -85,15 +85,9 @@ fn joined<L: Seats>(one: Worked<L>, other: Worked<L>) -> Worked<L>
     ensures { result.seat.parts ≡ one.seat.parts + other.seat.parts }
 {
     let Worked { mut seat, made } = one;
-    let Worked {
-        seat: more,
-        made: also,
-    } = other;
-    seat.merge(more);
-    Worked {
-        seat,
-        made: made.saturating_add(also),
-    }
+    seat.merge(other.seat);
+    let made = made.saturating_add(other.made);
+    Worked { seat, made }
 }
 
 // Two threads.
@@ -177,14 +171,6 @@ fn in_order<R: Wait>(rt: &R, mixer: &mut Mixer) -> bool {
     count == 64
 }
 
-// The same of the first sink.
-fn came_in_order<R: Wait>(rt: &R, mixers: &mut Vec<Mixer>) -> bool {
-    match mixers.first_mut() {
-        Some(mixer) => in_order(rt, mixer),
-        None => false,
-    }
-}
-
 // Eight threads: the lock has made as many steps as it has told them.
 fn in_eight<L: Seats + Send + Sync, R: Threads + Wait + Sync>(
     rt: &R,
@@ -224,10 +210,10 @@ fn among_eight<R: Threads + Wait + Sync>(rt: &R, alloc: Global) -> Mem<bool> {
     let Scene {
         core,
         ends,
-        mut mixers,
+        mut mixer,
     } = new_scene(alloc)?;
     let made = in_eight::<Brand, R>(rt, alloc, core, ends, Blank::new(65_552));
-    Ok(made && came_in_order(rt, &mut mixers))
+    Ok(made && in_order(rt, &mut mixer))
 }
 
 #[test]
