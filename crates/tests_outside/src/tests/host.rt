@@ -21,13 +21,15 @@ const MEBIBYTE: usize = 1_048_576;
 fn sends<L: Link>(link: &mut L) -> bool {
     let mut left = MEBIBYTE;
     for _ in 0..MEBIBYTE {
+        if left == 0 {
+            return true;
+        }
         match link.send(&[7u8; 4096][..left.min(4096)]) {
-            Sent::Bytes(count) if count < left => left -= count,
-            Sent::Bytes(_) => return true,
+            Sent::Bytes(count) => left -= count,
             Sent::NotYet | Sent::Failed => return false,
         }
     }
-    false
+    left == 0
 }
 
 // Whether as many are received.

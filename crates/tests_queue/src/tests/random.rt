@@ -83,21 +83,12 @@ fn write_both(
 
 // Whether so many bytes are those of the frames from an index on.
 fn are_there(former: &Former, from: i64, bytes: &[u8]) -> bool {
-    for (place, byte) in bytes.iter().enumerate() {
-        if former.frame(from.wrapping_add(place as i64)) != Some(*byte) {
-            return false;
-        }
-    }
-    true
+    let mut places = bytes.iter().enumerate();
+    places.all(|(place, byte)| former.frame(from.wrapping_add(place as i64)) == Some(*byte))
 }
 
 fn are_silent(former: &Former, from: i64, count: u32) -> bool {
-    for place in 0..count {
-        if former.frame(from.wrapping_add(place as i64)).is_some() {
-            return false;
-        }
-    }
-    true
+    (0..count).all(|place| former.frame(from.wrapping_add(place as i64)).is_none())
 }
 
 // Whether a peek at this place shows what the writes say, and how many frames it shows.
