@@ -1,4 +1,4 @@
-//! What a live server works with: its words, links, the clock, a device that plays by it, hosts, and jobs in threads. The crate has no
+//! What a live server works with outside of itself: its words, links, the clock, a device that plays by it, and its host. The crate has no
 //! other items.
 #![tactic(auto)]
 

@@ -1,3 +1,2 @@
 mod frames;
 mod items;
-mod sessions;
