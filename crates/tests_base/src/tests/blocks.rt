@@ -52,7 +52,7 @@ fn bytes_go_on_in_the_next_block(rt: HostRuntime) {
         inner: Fresh::new(rt.alloc()),
     };
     let went = matches!(go_on(&mut blocks, &mut source), Ok(true));
-    assert!(rt; went && blocks.len() == 131_072 && are_full(&blocks.into_vec()));
+    assert!(rt; went && are_full(&blocks.into_vec()));
 }
 
 // What comes back from the shelf with its last reference shows no old bytes once it is cleared.
