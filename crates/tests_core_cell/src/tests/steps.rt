@@ -125,10 +125,13 @@ fn sweeps<R: Wait>(rt: &R, alloc: Global, state: &mut CoreState<NoRecorder>) -> 
         && state.steps() == 4
 }
 
-#[test]
-fn a_step_comes_back_for_which_a_sweep_is_owed(rt: HostRuntime) -> Mem<()> {
-    let Scene { core, ends, .. } = new_scene(rt.alloc())?;
+fn is_swept<R: Wait>(rt: &R, alloc: Global) -> Mem<bool> {
+    let Scene { core, ends, .. } = new_scene(alloc)?;
     let mut state = CoreState::new(core, NoRecorder, ends);
-    assert!(rt; sweeps(&rt, rt.alloc(), &mut state));
-    Ok(())
+    Ok(sweeps(rt, alloc, &mut state))
+}
+
+#[test]
+fn a_step_comes_back_for_which_a_sweep_is_owed(rt: HostRuntime) {
+    assert!(rt; matches!(is_swept(&rt, rt.alloc()), Ok(true)));
 }

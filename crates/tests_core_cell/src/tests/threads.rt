@@ -86,13 +86,23 @@ fn places<L: Seats>(alloc: Global, seat: &mut CoreSeat<L>) -> Mem<Vec<Place<L>>>
 }
 
 // Eight threads. Whether all steps were made.
+fn all_made<L: Seats + Send + Sync, R: Threads + Wait + Sync>(
+    rt: &R,
+    alloc: Global,
+    cell: &CoreCell<NoRecorder, L>,
+    places: Vec<Place<L>>,
+) -> bool {
+    let work = move |place: Place<L>| works(rt, alloc, cell, place);
+    matches!(map_vec(rt, places, &work), Ok(made) if made.iter().all(|right| *right))
+}
+
 fn in_eight<L: Seats + Send + Sync, R: Threads + Wait + Sync>(
     rt: &R,
     alloc: Global,
     core: CellCore,
     ends: CoreEnds,
     blank: Blank,
-) -> Mem<bool>
+) -> bool
     requires name { blank.name ≡ L.name }
     requires parts { (blank.parts ≡ L.parts) × (L.parts ≡ L.all) × (L.all ≡ 9) }
     requires began { core.state ≡ L.began }
@@ -100,14 +110,10 @@ fn in_eight<L: Seats + Send + Sync, R: Threads + Wait + Sync>(
     requires boxes { map boxes_of ends.items ≡ L.boxes }
 {
     let (cell, mut seat) = CoreCell::<NoRecorder, L>::new(blank, core, NoRecorder, ends);
-    let places = places(alloc, &mut seat)?;
-    let cell = &cell;
-    let made = map_vec(
-        rt,
-        places,
-        &move |place: Place<L>| works(rt, alloc, cell, place),
-    )?;
-    Ok(made.iter().all(|right| *right))
+    match places(alloc, &mut seat) {
+        Ok(places) => all_made(rt, alloc, &cell, places),
+        Err(_) => false,
+    }
 }
 
 // Whether all drains of the eight clients came to the sink, those of each client in the order of their tags.
@@ -133,7 +139,7 @@ fn among_eight<R: Threads + Wait + Sync>(rt: &R, alloc: Global) -> Mem<bool> {
         ends,
         mut mixer,
     } = new_scene(alloc)?;
-    let made = in_eight::<Brand, R>(rt, alloc, core, ends, Blank::new(9))?;
+    let made = in_eight::<Brand, R>(rt, alloc, core, ends, Blank::new(9));
     Ok(made && in_order(rt, &mut mixer))
 }
 
