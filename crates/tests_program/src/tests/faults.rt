@@ -25,26 +25,24 @@ pub fn session(alloc: Global) -> Mem<Vec<u8>> {
 const OUTPUT: &[u8; 45] =
     b"\x01\0\0\0\x01\0\0\0\x23\0\0\0\x0f\xff\xff\xff\xff\0\0\0\0\0\0\0\0\0\0\0\0L\0\0\0\x02L\0\0\0\0L\0\0\0\x0d\0";
 
-// Whether a replay of the session ends with this status, this much of the output and this line, where the read of a number fails, 0 for
-// none, and the output and the log have room for so many bytes.
-fn ends<R: Machine>(rt: &R, row: &Row) -> Mem<bool> {
-    let (read, [room, more], status, length, line) = *row;
+// How a replay of the session ends whose read of a number fails, 0 for none.
+fn ended<R: Machine>(rt: &R, read: u64, output: &mut MemSink, log: &mut MemSink) -> Mem<Status> {
     let alloc = rt.alloc();
+    let mut input = dripping(alloc, session(alloc)?, read)?;
     let mut words = Vec::new(alloc);
     words.push(String::from_str(alloc, "replay")?)?;
-    let mut input = dripping(alloc, session(alloc)?, read)?;
-    let mut output = MemSink::new(alloc, room, Calls::none(alloc))?;
-    let mut log = MemSink::new(alloc, more, Calls::none(alloc))?;
-    let ended = run(
-        rt,
-        &words,
-        &mut input,
-        &mut output,
-        &mut log,
-        &mut NoHost::new(),
-    );
+    Ok(run(rt, &words, &mut input, output, log, &mut NoHost::new()))
+}
+
+// Whether it ends with this status, this much of the output and this line, where the read of a number fails, and the output and the log
+// have room for so many bytes.
+fn ends<R: Machine>(rt: &R, row: &Row) -> Mem<bool> {
+    let (read, [room, more], status, length, line) = *row;
+    let mut output = MemSink::new(rt.alloc(), room, Calls::none(rt.alloc()))?;
+    let mut log = MemSink::new(rt.alloc(), more, Calls::none(rt.alloc()))?;
+    let ended = ended(rt, read, &mut output, &mut log) == Ok(status);
     Ok(
-        ended == status
+        ended
             && OUTPUT.starts_with(output.bytes())
             && output.bytes().len() == length
             && log.bytes() == line,
