@@ -5,7 +5,7 @@ import random
 import samples
 import wire
 
-FAR = ((1 << 63) - 1, -(1 << 61), 1 << 59)  # bytes: past the last index, before the first, and far too many frames ahead
+FAR = ((1 << 63) - 1, -(1 << 61), 1 << 59)  # bytes: past the last index, before the first or far behind, and far ahead
 VOLUMES = (30_000, 46_341, 65_535, 65_536, 65_536, 65_536, 82_570, 82_570, 1 << 21, 0x7FFFFFFF)
 MAPS = {1: (0,), 2: (1, 2), 4: (1, 2, 0, 3)}
 PLAIN = ("cork", "cork", "flush", "trigger", "prebuf", "drain", "latency", "attributes")
