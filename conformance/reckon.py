@@ -7,14 +7,18 @@
   conformance/reckon.py --formats NUMBER FORMAT > SESSION.session     streams of every format to a sink of this one, with dice
   conformance/reckon.py --sinks NUMBER TURNS > SESSION.session    streams of two clients on three sinks, with dice
   conformance/reckon.py --moves NUMBER TURNS > SESSION.session    streams of two clients that move between three sinks, with dice
+  conformance/reckon.py --lanes NUMBER TURNS > SESSION.session    streams that come, are told everything, move and leave, with dice
   conformance/reckon.py --volumes NUMBER CALLS > SESSION.session  volumes and mutes of a sink and its streams, with dice
   conformance/reckon.py --full > SESSION.session                  as many sinks as there can be, with as many streams in all
   conformance/reckon.py --crowded > SESSION.session               a sink with as many streams as there can be, and others that would move to it
+  conformance/reckon.py --fronts > SESSION.session                each command cut off at each of its bytes, and with a byte too many
+  conformance/reckon.py --loud > SESSION.session                  four such sinks whose streams are as loud as can be
 
 It keeps each sample that was ever written in a map from index to sample, and mixes each frame anew. It knows volumes and mutes,
 the commands of a stream's life and its moves, names and property lists of clients and streams, the infos of sinks, inputs and
 clients, and only sessions that are played to their end and ask for nothing that is refused but by ACCESS, BADSTATE, VERSION,
-INVALID, NOENTITY, TOOLARGE and BUSY, and a stream that is made or moved by NOTSUPPORTED too."""
+INVALID, NOENTITY, TOOLARGE and BUSY, and a stream that is made or moved by NOTSUPPORTED too. Of a packet that it can't read it takes
+the last byte to be too much where it can read the others, and else the packet to be too short."""
 
 import copy
 import os
@@ -25,7 +29,9 @@ sys.dont_write_bytecode = True
 HERE = os.path.dirname(os.path.realpath(__file__))
 sys.path[:0] = [HERE, os.path.join(os.path.dirname(HERE), "tools")]
 
+import fronts
 import infos
+import lanes
 import output
 import samples
 import volumes
@@ -36,6 +42,7 @@ from recording import read_session
 from words import NONE, line_of
 
 WORD = (1 << 32) - 1
+LAST = 1 << 60  # the greatest index of a frame, and the least below 0
 CONTROLS = ("drain", "latency", "cork", "flush", "trigger", "prebuf", "attributes")
 
 
@@ -111,9 +118,11 @@ class Stream:
 
     def take(self, seek, offset, frames, ahead):
         """A write; whether it overflows."""
-        origin = [self.write, 0, self.read, self.end()][seek]
-        self.write = origin + offset
-        last = self.write + len(frames)
+        first = [self.write, 0, self.read, self.end()][seek] + offset
+        last = first + len(frames)
+        if first < -LAST or last > LAST:
+            return True
+        self.write = first
         limit = self.end() if self.held else self.write
         over = last > limit and last - ahead > self.maxlength
         if not over:
@@ -262,7 +271,7 @@ class Server:
     def regroup(self, sink):
         """The sink is told the factors of all inputs on it that neither end nor move away."""
         there = [number for number, stream in sorted(self.inputs.items()) if stream.sink is sink and not (stream.leaving or stream.moving)]
-        sink.waiting.append(("factors", None, {number: sink.group.factors(number) for number in there}))
+        sink.waiting.append(("factors", None, sink.group.factors(*there)))
 
     def post(self, kind, number, more):
         """An input is told something: its sink, or the next one once it is there."""
@@ -277,7 +286,7 @@ class Server:
         feed = samples.plan(stream.positions, list(new.spec.positions), stream.no_remap, stream.no_remix)
         new.group.join(number, member, feed)
         stream.sink, stream.moving = new, None
-        new.waiting.append(("attach", number, (stream, feed, new.group.factors(number))))
+        new.waiting.append(("attach", number, (stream, feed, new.group.factors(number)[number])))
         self.regroup(old)
         self.regroup(new)
         new.waiting += stream.delayed
@@ -370,6 +379,9 @@ class Server:
 
     def packet(self, conn, packet):
         client, read = self.clients[conn], read_packet(packet)
+        if read is None:
+            over = read_packet(packet[:-1]) is not None
+            return self.end(conn, 1, 9 if over else 7, client.gone - over)
         command, tag = wire.Items(packet), None
         command, tag = command.number(), int.from_bytes(packet[6:10], "big")
         if not client.known and command != 8:
@@ -451,7 +463,7 @@ class Server:
         client.made += 1
         volume = list(asked["volume"])
         place.group.attach(number, volume if len(volume) in (1, channels) else [max(volume)], asked["muted"], feed)
-        stream.factors = place.group.factors(number)
+        stream.factors = place.group.factors(number)[number]
         place.waiting.append(("new", number, stream))
         self.regroup(place)
         fields = b"".join(map(wire.number, numbers)) + wire.spec(spec) + wire.channel_map(positions)
@@ -845,6 +857,12 @@ def thrown_volumes(number, count):
     return "\n".join([*lines[: head + 1], *taken(lines[head - 1 : head] + lines[head + 1 :], dice), "end", ""])
 
 
+def thrown_lanes(number, turns):
+    said = [f"# Thrown with the dice of {number}: streams on three sinks that are told everything, {turns} turns. Its output is conformance/reckon.py's.", ""]
+    lines = list(lanes.thrown_lanes(number, turns))
+    return "\n".join([*said, *lines[:3], "", *taken(lines, random.Random(number)), "end", ""])
+
+
 def taken(lines, dice):
     """The events of these lines; each turn takes some of the messages that wait, its sink's first turn plays no frame, and some notices are collected behind it."""
     cookie, sinks, events = read_session(make("\n".join([*lines, "end", ""])))
@@ -912,7 +930,9 @@ def collected(lines, dice):
             yield f"collect {sinks[event[1]].name.decode()} take {count}"
 
 
-THROWS = {"--dice": thrown, "--life": thrown_life, "--sinks": thrown_sinks, "--moves": thrown_moves, "--volumes": thrown_volumes}
+THROWS = {
+    "--dice": thrown, "--life": thrown_life, "--sinks": thrown_sinks, "--moves": thrown_moves, "--volumes": thrown_volumes, "--lanes": thrown_lanes,
+}
 
 
 def thrown_by(words):
@@ -921,7 +941,7 @@ def thrown_by(words):
         return THROWS[words[0]](int(words[1]), int(words[2]))
     if len(words) == 3 and words[0] == "--formats":
         return thrown_formats(int(words[1]), words[2])
-    return {"--full": full, "--crowded": crowded}.get(words[0], lambda: None)() if len(words) == 1 else None
+    return {"--full": full, "--crowded": crowded, "--loud": lanes.loud, "--fronts": fronts.thrown_fronts}.get(words[0], lambda: None)() if len(words) == 1 else None
 
 
 def main(words):

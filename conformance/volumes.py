@@ -87,7 +87,11 @@ class Group:
             member.volume = [multiply(*pair) for pair in zip(member.to_reference, member.fed(self.reference))]
         self.follow()
 
-    def factors(self, number):
-        member = self.members[number]
-        silent = self.muted or member.muted
-        return [0 if silent else cube(multiply(member.to_real[channel], real)) for channel, real in zip(member.feed, self.real())]
+    def factors(self, *numbers):
+        """Those of each of these inputs, one a channel of the sink."""
+        real, of = self.real(), {}
+        for number in numbers:
+            member = self.members[number]
+            silent = self.muted or member.muted
+            of[number] = [0 if silent else cube(multiply(member.to_real[channel], loudest)) for channel, loudest in zip(member.feed, real)]
+        return of

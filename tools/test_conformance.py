@@ -37,7 +37,7 @@ class Running(unittest.TestCase):
 
     def test_what_was_worked_by_hand_is_reckoned(self):
         """The rows of the life of streams, of formats, of moves, of plans, of sinks, of volumes and of infos, and a recorded client."""
-        rows = [f"infos/{name}" for name in ("changed", "clients", "inputs", "pactl_list", "properties", "sink_infos", "streams", "volumes")]
+        rows = [f"infos/{name}" for name in ("changed", "clients", "inputs", "pactl_list", "properties", "sink_infos", "streams", "volumes")] + ["create/repaired"]
         for topic in ("formats", "moves", "plans", "sinks", "streams", "subscriptions", "volumes"):
             names = sorted(os.listdir(os.path.join(TOP, "conformance", topic)))
             rows += [f"{topic}/{name[: -len('.output')]}" for name in names if name.endswith(".output")]
@@ -68,6 +68,17 @@ class Running(unittest.TestCase):
 
 
 class Reckoning(unittest.TestCase):
+    def test_the_loudest_mixes(self):
+        """192 of the greatest samples and 64 of the least are clipped once; with 128 of the former gone, 64 of each are -64. Times 2^31 - 1
+        and divided by 2^16, rounded down, the greatest, the least, 1 and 0 are -2 together at 16 bits and -1 at 32."""
+        ran = runpy.run_path(os.path.join(TOP, "conformance", "reckon.py"))
+        session = ran["make"](ran["thrown_by"](["--loud"]))
+        told = ran["output"].show(ran["reckoned"](session), ran["read_session"](session))[0]
+        played = [line.split()[-1] for line in told.splitlines() if line.startswith("played")]
+        full, most = ["32767", "2147483647"], [str(-2 * 64), str(-64)]
+        left = ["-64", "-64", str(-2 * 32), str(-32)]
+        self.assertEqual(played, [f"{value}x2" for value in full + most] + full + most + [f"{value}x3" for value in left])
+
     def test_a_recorded_client(self):
         """The reckoner gives what another implementation gave for a session of PulseAudio's own paplay."""
         said = []

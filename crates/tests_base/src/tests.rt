@@ -2,7 +2,6 @@ mod blocks;
 mod clock;
 mod device;
 mod ends;
-mod host;
 mod pool;
 mod recorders;
 mod types;

@@ -1,4 +1,1 @@
-mod attributes;
 mod plain;
-mod turns;
-mod unaltered;

@@ -1,4 +1,5 @@
-//! Tests of what a live server works with: its words, a device that plays by a clock, and jobs in threads. The crate has no other items.
+//! What a live server works with outside of itself: its words, links, the clock, a device that plays by it, and its host. The crate has no
+//! other items.
 #![tactic(auto)]
 
 #[cfg(test)]

@@ -1,6 +1,4 @@
 mod host;
-mod jobs;
-mod memory_host;
 mod paced;
 mod system_host;
 mod words;

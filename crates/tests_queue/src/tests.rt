@@ -1,5 +1,4 @@
 mod again;
 mod blocks;
 mod former;
-mod queue;
 mod random;

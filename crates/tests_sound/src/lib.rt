@@ -1,5 +1,4 @@
-//! Tests of the sound layer: samples, channel maps and volumes, with values from the standards and from arithmetic by hand. The
-//! crate has no other items.
+//! Arithmetic on volumes, with values reckoned by hand, some of which no session leads to. The crate has no other items.
 #![tactic(auto)]
 
 #[cfg(test)]

@@ -1,5 +1,1 @@
-mod channels;
-mod groups;
-mod kept;
-mod samples;
 mod volumes;

@@ -1,5 +1,5 @@
-//! Tests of the wire layer: items, frames, commands, replies, and recorded sessions. Bytes and what they mean were worked out by
-//! hand from the protocol, or recorded from PulseAudio's clients. The crate has no other items.
+//! Items that no packet of a session has, what a decoder says behind a fault, and the longest frame. Bytes were worked out by hand from the
+//! protocol. The crate has no other items.
 #![tactic(auto)]
 
 #[cfg(test)]

@@ -1,5 +1,2 @@
-mod commands;
 mod frames;
 mod items;
-mod replies;
-mod sessions;

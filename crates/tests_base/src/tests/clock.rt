@@ -2,26 +2,20 @@ use px_ends::{Clock, MemClock, Moments};
 use px_types::Mem;
 use std::alloc::Global;
 
-fn clock(alloc: Global, moments: &[u64]) -> Mem<MemClock> {
+// Whether a clock of these moments tells those, call by call.
+fn tells(alloc: Global, moments: &[u64], told: &[u64]) -> Mem<bool> {
     let mut list = Vec::new(alloc);
     list.extend_from_slice(moments)?;
-    Ok(MemClock::new(Moments::from_vec(list)))
-}
-
-// What a clock tells, call by call.
-fn tells<C: Clock>(clock: &mut C, moments: &[u64]) -> bool {
-    for moment in moments {
-        if clock.now() != *moment {
-            return false;
-        }
+    let mut clock = MemClock::new(Moments::from_vec(list));
+    let mut right = true;
+    for moment in told {
+        right = clock.now() == *moment && right;
     }
-    true
+    Ok(right)
 }
 
 #[test]
-fn a_clock_tells_its_moments_and_then_the_last_again(rt: HostRuntime) -> Mem<()> {
-    let rises = tells(&mut clock(rt.alloc(), &[3, 3, 7])?, &[3, 3, 7, 7, 7]);
-    let falls = tells(&mut clock(rt.alloc(), &[5, 2, 9])?, &[5, 5, 9, 9]);
-    assert!(rt; rises && falls && tells(&mut clock(rt.alloc(), &[])?, &[0, 0]));
-    Ok(())
+fn a_clock_tells_its_moments_and_then_the_last_again(rt: HostRuntime) {
+    let falls = tells(rt.alloc(), &[3, 3, 7, 2, 9], &[3, 3, 7, 7, 9, 9]);
+    assert!(rt; matches!(falls, Ok(true)) && matches!(tells(rt.alloc(), &[], &[0, 0]), Ok(true)));
 }

@@ -24,10 +24,7 @@ fn played(alloc: Global) -> Mem<MemDevice> {
 
 // What was played since the last take is just these bytes.
 fn gives(alloc: Global, device: &mut MemDevice, bytes: &[u8]) -> bool {
-    match device.take_played(alloc) {
-        Ok(played) => played.as_slice() == bytes,
-        Err(_) => false,
-    }
+    matches!(device.take_played(alloc), Ok(played) if played.as_slice() == bytes)
 }
 
 // Two frames, one more as the run has an end, and none; what was played is there once, and the device stays stopped.

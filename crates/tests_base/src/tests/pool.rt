@@ -1,4 +1,4 @@
-use px_block::{Block, BlockSource, Mem};
+use px_block::{BlockSource, Mem};
 use px_pool::{Pool, PoolSeat};
 use std::alloc::Global;
 use std::sync::{Arc, Wait};
@@ -8,37 +8,21 @@ use std::thread::Threads;
 // How often each of two threads takes a block and gives it back.
 const ROUNDS: u32 = 20_000;
 
-// A block that comes back to a pool of one is the next one taken, and shows only what is put then.
-fn is_used_again<R: Wait>(seat: &mut PoolSeat<R>, mut block: Block) -> Mem<bool> {
-    let filled = block.put(&[1, 2, 3, 4]) == 4;
-    seat.give(block);
-    let kept = seat.spare() == 1;
-    let mut again = seat.take()?;
-    let taken = seat.spare() == 0;
-    Ok(filled && kept && taken && again.put(&[5, 6]) == 2 && again.bytes() == [5, 6].as_slice())
-}
-
-#[test]
-fn a_block_from_the_pool_shows_what_was_put_since(rt: HostRuntime) -> Mem<()> {
-    let pool = Pool::new(rt.alloc(), 1)?;
-    let mut seat = Pool::seat(&rt, &pool)?;
-    let block = seat.take()?;
-    let held = is_used_again(&mut seat, block)?;
-    assert!(rt; held);
-    Ok(())
-}
-
-// Two blocks are given to a pool of one, which keeps one; then one is found, and one is made.
+// An empty pool makes a block. Of two that come back to a pool of one it keeps the first, which was fitted to its bytes: taken again it
+// shows nothing and has its room, and the next block is made.
 fn keeps_one<R: Wait>(seat: &mut PoolSeat<R>) -> Mem<bool> {
-    let first = seat.take()?;
+    let mut first = seat.take()?;
     let second = seat.take()?;
-    let empty = seat.spare() == 0;
+    let filled = seat.spare() == 0 && first.put(&[7; 40_000]) == 40_000;
+    first.fit();
     seat.give(first);
     seat.give(second);
     let full = seat.spare() == 1;
-    let found = seat.take()?;
+    let mut found = seat.take()?;
     let made = seat.take()?;
-    Ok(empty && full && seat.spare() == 0 && found.bytes().is_empty() && made.bytes().is_empty())
+    let empty = seat.spare() == 0 && found.bytes().is_empty() && made.bytes().is_empty();
+    let whole = found.put(&[8; 65_536]) == 65_536;
+    Ok(filled && full && empty && whole && found.bytes().iter().all(|byte| *byte == 8))
 }
 
 #[test]
@@ -46,26 +30,6 @@ fn a_full_pool_drops_and_an_empty_one_makes(rt: HostRuntime) -> Mem<()> {
     let pool = Pool::new(rt.alloc(), 1)?;
     let mut seat = Pool::seat(&rt, &pool)?;
     let held = keeps_one(&mut seat)?;
-    assert!(rt; held);
-    Ok(())
-}
-
-// A block with less room than it can have has all of it when it is taken again.
-fn has_its_room<R: Wait>(seat: &mut PoolSeat<R>, mut block: Block) -> Mem<bool> {
-    let filled = block.put(&[7; 40_000]) == 40_000;
-    block.fit();
-    seat.give(block);
-    let mut again = seat.take()?;
-    let whole = again.put(&[8; 40_000]) == 40_000 && again.put(&[8; 40_000]) == 25_536;
-    Ok(filled && whole && again.bytes().iter().all(|byte| *byte == 8))
-}
-
-#[test]
-fn a_fitted_block_has_its_room_again(rt: HostRuntime) -> Mem<()> {
-    let pool = Pool::new(rt.alloc(), 2)?;
-    let mut seat = Pool::seat(&rt, &pool)?;
-    let block = seat.take()?;
-    let held = has_its_room(&mut seat, block)?;
     assert!(rt; held);
     Ok(())
 }

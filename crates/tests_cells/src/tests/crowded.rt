@@ -1,7 +1,6 @@
 ghost use Rattle.std.specs.Prelude.{◌≡◌, []};
 
-use crate::tests::lane::counted;
-use px_annals::{LaneEntry, RecordFault, Recorder};
+use px_annals::{LaneEntry, PlainMsg, RecordFault, Recorder};
 use std::alloc::Global;
 
 /// A recorder that says once that it is full, when it holds so many entries.
@@ -10,6 +9,14 @@ pub struct Crowded {
     entries: Vec<LaneEntry>,
     full_at: usize,
     fulls: u64,
+}
+
+// Whether a message has the factors for the input of a number.
+fn is_for(message: &PlainMsg, number: u32) -> bool {
+    match message {
+        PlainMsg::Factors(list) => matches!(list.as_slice(), [one] if one.input == number),
+        _ => false,
+    }
 }
 
 impl Crowded {
@@ -27,13 +34,14 @@ impl Crowded {
     pub fn recorded(&self) -> Option<u32> {
         let mut number = 0;
         for entry in self.entries.as_slice() {
-            number = counted(entry, number)?;
+            for message in entry.messages.as_slice() {
+                if !is_for(message, number) {
+                    return None;
+                }
+                number = number.checked_add(1)?;
+            }
         }
         Some(number)
-    }
-
-    pub fn len(&self) -> usize {
-        self.entries.len()
     }
 
     pub fn fulls(&self) -> u64 {

@@ -1,15 +1,15 @@
-ghost use Rattle.std.specs.Prelude.{◌≡◌, [], IfSome, IfOk};
+ghost use Rattle.std.specs.Prelude.{◌≡◌, [], Some, IfOk};
 ghost use Rattle.std.specs.Arc.{arc_value};
 ghost use Rattle.crossbeam_queue.specs.Passes.{IsPassOf};
-ghost use Rattle.px_mail.specs.Mailbox.{key_of, posted_by};
+ghost use Rattle.px_mail.specs.Mailbox.{key_of, posted_by, taken_by};
 ghost use Rattle.tests_cells.specs.Gains.{IsGain, IsNew, Sends};
 
-use px_annals::{LaneEntry, MemRecorder, PlainMsg, Recorder};
+use crate::tests::crowded::Crowded;
 use px_chmap::Map;
 use px_ends::{DeviceShape, MemDevice};
 use px_lane::Lane;
 use px_lane_cell::{Boxes, LaneCell, LaneEnds, LanePasses};
-use px_mail::{Full, Mailbox, PostPass};
+use px_mail::{Full, Letter, Mailbox, PostPass, TakePass};
 use px_msg::{FactorList, InputFactors, Msg, Notice};
 use px_sample::{Format, Spec};
 use px_session::SinkSpec;
@@ -22,7 +22,7 @@ use std::thread;
 
 pub type Inbox = Arc<Mailbox<Msg<Stream>>>;
 
-pub type Cell = LaneCell<MemDevice, MemRecorder<LaneEntry>>;
+pub type Cell = LaneCell<MemDevice, Crowded>;
 
 // 16 bits, mono.
 const SPEC: Spec = Spec {
@@ -55,30 +55,27 @@ fn mixer(alloc: Global) -> Mem<Lane<MemDevice>>
     Lane::new(alloc, &sink, MemDevice::new(alloc, &SHAPE)?)
 }
 
-/// A cell with a recorder of so many entries, its inbox, and what is at the other end of it.
-pub fn opened(alloc: Global, entries: usize) -> Mem<(Cell, Inbox, PostPass<Msg<Stream>>)>
-    ensures pass { IfOk result (λ made. IsPassOf (arc_value made.1).queue made.2.pass) }
-    ensures sends { IfOk result (λ made. Sends (key_of made.2.pass) (posted_by made.2.pass)) }
+// A mailbox that two hold, and its passes.
+type Shared<T> = (Arc<Mailbox<T>>, Arc<Mailbox<T>>, PostPass<T>, TakePass<T>);
+
+fn shared<T: Letter + Drop>(alloc: Global, key: T::Key) -> Mem<Shared<T>>
+    ensures one { IfOk result (λ made. arc_value made.1 ≡ arc_value made.0) }
+    ensures post { IfOk result (λ made. IsPassOf (arc_value made.0).queue made.2.pass × (key_of made.2.pass ≡ Some key) × (posted_by made.2.pass ≡ [])) }
+    ensures take { IfOk result (λ made. IsPassOf (arc_value made.0).queue made.3.pass × (key_of made.3.pass ≡ Some key) × (taken_by made.3.pass ≡ [])) }
 {
-    opened_with(alloc, MemRecorder::new(alloc, entries, 268_435_456)?)
+    let (mailbox, post, take) = Mailbox::<T>::new(alloc, key)?;
+    let ours = Arc::new(alloc, mailbox)?;
+    let theirs = Arc::try_clone(&ours)?;
+    Ok((ours, theirs, post, take))
 }
 
-/// A cell with a recorder that holds nothing, its inbox, and what is at the other end of it.
-pub fn opened_with<C: Recorder<LaneEntry> + Drop>(
-    alloc: Global,
-    recorder: C,
-) -> Mem<(LaneCell<MemDevice, C>, Inbox, PostPass<Msg<Stream>>)>
-    requires { IfSome (C.told recorder) (λ entries. entries ≡ []) }
+/// A cell with a recorder that is full once, at so many entries, its inbox, and what is at the other end of it.
+pub fn opened(alloc: Global, full_at: usize) -> Mem<(Cell, Inbox, PostPass<Msg<Stream>>)>
     ensures pass { IfOk result (λ made. IsPassOf (arc_value made.1).queue made.2.pass) }
     ensures sends { IfOk result (λ made. Sends (key_of made.2.pass) (posted_by made.2.pass)) }
 {
-    let (inbox, theirs, take) = Mailbox::<Msg<Stream>>::new(alloc, SPEC)?;
-    let (outbox, post, _notices) = Mailbox::<Notice<Stream>>::new(alloc, ())?;
-    let inbox = Arc::new(alloc, inbox)?;
-    let outbox = Arc::new(alloc, outbox)?;
-    let Ok(ours) = Arc::try_clone(&inbox) else {
-        return Err(NoMemory);
-    };
+    let (inbox, ours, theirs, take) = shared::<Msg<Stream>>(alloc, SPEC)?;
+    let (outbox, _, post, _) = shared::<Notice<Stream>>(alloc, ())?;
     let ends = LaneEnds {
         boxes: Boxes {
             inbox: ours,
@@ -87,7 +84,7 @@ pub fn opened_with<C: Recorder<LaneEntry> + Drop>(
         passes: LanePasses { take, post },
     };
     let lane = mixer(alloc)?;
-    let cell = LaneCell::new(alloc, lane, recorder, ends)?;
+    let cell = LaneCell::new(alloc, lane, Crowded::new(alloc, full_at), ends)?;
     Ok((cell, inbox, theirs))
 }
 
@@ -104,35 +101,6 @@ pub fn factors_for(alloc: Global, number: u32) -> Mem<Msg<Stream>>
         factors,
     })?;
     Ok(Msg::Factors(FactorList::from_vec(list)))
-}
-
-// Whether a message has the factors for the input of a number.
-fn is_for(message: &PlainMsg, number: u32) -> bool {
-    match message {
-        PlainMsg::Factors(list) => matches!(list.as_slice(), [one] if one.input == number),
-        _ => false,
-    }
-}
-
-/// How many of the messages from this number on an entry has, in order; `None` where it has another.
-pub fn counted(entry: &LaneEntry, first: u32) -> Option<u32> {
-    let mut number = first;
-    for message in entry.messages.as_slice() {
-        if !is_for(message, number) {
-            return None;
-        }
-        number = number.checked_add(1)?;
-    }
-    Some(number)
-}
-
-/// How many messages the entries have, where they are numbered from 0 in order.
-pub fn recorded(recorder: &MemRecorder<LaneEntry>) -> Option<u32> {
-    let mut number = 0;
-    for at in 0..recorder.len() {
-        number = counted(recorder.entry(at)?, number)?;
-    }
-    Some(number)
 }
 
 /// Posts one message, again for as long as the inbox is full.

@@ -3,7 +3,7 @@ ghost use Rattle.crossbeam_queue.specs.Passes.{IsPassOf};
 ghost use Rattle.px_mail.specs.Mailbox.{key_of, posted_by};
 ghost use Rattle.tests_cells.specs.Gains.{Sends};
 
-use crate::tests::lane::{Cell, factors_for, opened, recorded, sent};
+use crate::tests::lane::{Cell, factors_for, opened, sent};
 use px_block::Fresh;
 use px_mail::{Mailbox, PostPass};
 use px_msg::Msg;
@@ -53,7 +53,7 @@ fn turns<R: Wait>(rt: &R, alloc: Global, mut cell: Cell) -> (Cell, u32) {
 }
 
 fn exchanges<R: Threads + Wait + Sync>(rt: &R, alloc: Global) -> Mem<bool> {
-    let (cell, inbox, post) = opened(alloc, 1_000_000)?;
+    let (cell, inbox, post) = opened(alloc, usize::MAX)?;
     let shared: &Mailbox<Msg<Stream>> = &inbox;
     let (_post, (cell, taken)) = thread::join(
         rt,
@@ -64,7 +64,7 @@ fn exchanges<R: Threads + Wait + Sync>(rt: &R, alloc: Global) -> Mem<bool> {
         move || -> (Cell, u32) { turns(rt, alloc, cell) },
     );
     let parts = cell.into_parts();
-    Ok(taken == MESSAGES && recorded(&parts.recorder) == Some(MESSAGES))
+    Ok(taken == MESSAGES && parts.recorder.recorded() == Some(MESSAGES))
 }
 
 #[test]

@@ -1,6 +1,6 @@
 ghost use Rattle.std.specs.Prelude.{◌≡◌, []};
 
-use px_annals::{CoreEntry, Entry, PlainStep, RecordFault, Recorder};
+use px_annals::{CoreEntry, Entry, RecordFault, Recorder};
 use std::alloc::Global;
 
 // A recorder that says once that it is full, when it holds so many entries.
@@ -9,20 +9,6 @@ pub(crate) struct Crowded {
     entries: Vec<CoreEntry>,
     full_at: usize,
     fulls: u64,
-}
-
-// What an entry is of.
-fn kind(entry: &CoreEntry) -> u64 {
-    match &entry.step {
-        PlainStep::Connect { .. } => 1,
-        PlainStep::Frame { .. } => 2,
-        PlainStep::Broken { .. } => 3,
-        PlainStep::Close { .. } => 4,
-        PlainStep::Cut { .. } => 5,
-        PlainStep::Sweep => 6,
-        PlainStep::Notice { .. } => 7,
-        PlainStep::Out { count, .. } => count.saturating_add(8),
-    }
 }
 
 impl Crowded {
@@ -36,22 +22,10 @@ impl Crowded {
         }
     }
 
-    // Whether both keep entries of the same kinds and sizes, in order.
+    // Whether both keep entries of the same sizes, in order.
     pub fn matches(&self, other: &Crowded) -> bool {
-        if self.entries.len() != other.entries.len() {
-            return false;
-        }
-        for place in 0..self.entries.len() {
-            if place >= other.entries.len() {
-                return false;
-            }
-            let one = &self.entries[place];
-            let two = &other.entries[place];
-            if kind(one) != kind(two) || one.size() != two.size() {
-                return false;
-            }
-        }
-        true
+        let mut pairs = self.entries.iter().zip(other.entries.iter());
+        self.len() == other.len() && pairs.all(|(one, two)| one.size() == two.size())
     }
 
     pub fn len(&self) -> usize {

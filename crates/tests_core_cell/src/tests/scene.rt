@@ -1,6 +1,7 @@
-ghost use Rattle.std.specs.Prelude.{◌≡◌, [], map, IfOk};
+ghost use Rattle.std.specs.Prelude.{◌≡◌, [], map, Some, IfOk};
 ghost use Rattle.std.specs.Arc.{arc_value};
 ghost use Rattle.crossbeam_queue.specs.Passes.{IsPassOf};
+ghost use Rattle.px_mail.specs.Mailbox.{key_of, posted_by, taken_by};
 ghost use Rattle.px_session.specs.HeaderRules.{IsHeader};
 ghost use Rattle.px_core_cell.specs.Cell.{ends_of};
 ghost use Rattle.px_core_cell.specs.History.{Begins, fresh_ends};
@@ -8,7 +9,7 @@ ghost use Rattle.px_core_cell.specs.History.{Begins, fresh_ends};
 use px_core::Core;
 use px_core_cell::{CellCore, CoreEnd, CoreEnds};
 use px_ends::{Calls, MemSource};
-use px_mail::{Mailbox, PostPass, TakePass};
+use px_mail::{Letter, Mailbox, PostPass, TakePass};
 use px_msg::{Msg, Notice};
 use px_session::{Header, Reader, SinkSpec, Step};
 use px_stream::Stream;
@@ -29,12 +30,12 @@ pub(crate) struct Mixer {
     pub ghost posts: { IsPassOf (arc_value outbox).queue post.pass },
 }
 
-// A core before its first step, with its ends and the other sides of its sinks' mailboxes.
+// A core before its first step, with its ends and the other side of its sink's mailboxes.
 #[derive(Drop)]
 pub(crate) struct Scene {
     pub core: CellCore,
     pub ends: CoreEnds,
-    pub mixers: Vec<Mixer>,
+    pub mixer: Mixer,
 }
 
 // A header of one sink `out`: S16LE, mono, 48,000 frames a second, guard 10, depth 100.
@@ -46,38 +47,48 @@ fn header(alloc: Global) -> Mem<Text> {
     Ok(Text::from_vec(bytes))
 }
 
+// A mailbox that two hold, and its passes.
+type Shared<T> = (Arc<Mailbox<T>>, Arc<Mailbox<T>>, PostPass<T>, TakePass<T>);
+
+fn shared<T: Letter + Drop>(alloc: Global, key: T::Key) -> Mem<Shared<T>>
+    ensures one { IfOk result (λ made. arc_value made.1 ≡ arc_value made.0) }
+    ensures post { IfOk result (λ made. IsPassOf (arc_value made.0).queue made.2.pass × (key_of made.2.pass ≡ Some key) × (posted_by made.2.pass ≡ [])) }
+    ensures take { IfOk result (λ made. IsPassOf (arc_value made.0).queue made.3.pass × (taken_by made.3.pass ≡ [])) }
+{
+    let (mailbox, post, take) = Mailbox::<T>::new(alloc, key)?;
+    let ours = Arc::new(alloc, mailbox)?;
+    let theirs = Arc::try_clone(&ours)?;
+    Ok((ours, theirs, post, take))
+}
+
 // The two sides of a sink's mailboxes.
 fn sides(alloc: Global, sink: &SinkSpec) -> Mem<(CoreEnd, Mixer)>
     ensures { IfOk result (λ made. ends_of made.0 ≡ fresh_ends sink.now) }
 {
-    let (inbox, post, take) = Mailbox::<Msg<Stream>>::new(alloc, sink.spec)?;
-    let (outbox, told, collect) = Mailbox::<Notice<Stream>>::new(alloc, ())?;
-    let inbox = Arc::new(alloc, inbox)?;
-    let outbox = Arc::new(alloc, outbox)?;
-    let their_inbox = Arc::try_clone(&inbox)?;
-    let their_outbox = Arc::try_clone(&outbox)?;
-    Ok((
-        CoreEnd::new(inbox, outbox, post, collect),
-        Mixer {
-            inbox: their_inbox,
-            outbox: their_outbox,
-            take,
-            post: told,
-        },
-    ))
+    let (ours, inbox, posts, take) = shared::<Msg<Stream>>(alloc, sink.spec)?;
+    let (outbox, theirs, post, takes) = shared::<Notice<Stream>>(alloc, ())?;
+    let end = CoreEnd::new(ours, theirs, posts, takes);
+    let mixer = Mixer {
+        inbox,
+        outbox,
+        take,
+        post,
+    };
+    Ok((end, mixer))
 }
 
-fn all_sides(alloc: Global, sinks: &[SinkSpec]) -> Mem<(CoreEnds, Vec<Mixer>)>
+// Those of all sinks, and the other side of the last one.
+fn all_sides(alloc: Global, sinks: &[SinkSpec]) -> Mem<(CoreEnds, Option<Mixer>)>
     ensures { IfOk result (λ made. map ends_of made.0.items ≡ map fresh_ends sinks.now) }
 {
     let mut ends = Vec::new(alloc);
-    let mut mixers = Vec::new(alloc);
+    let mut last = None;
     for sink in sinks {
         let (end, mixer) = sides(alloc, sink)?;
         ends.push(end)?;
-        mixers.push(mixer)?;
+        last = Some(mixer);
     }
-    Ok((ends, mixers))
+    Ok((ends, last))
 }
 
 fn set_up(alloc: Global, header: &Header) -> Mem<Scene>
@@ -85,8 +96,10 @@ fn set_up(alloc: Global, header: &Header) -> Mem<Scene>
     ensures { IfOk result (λ scene. Begins scene.core.state (map ends_of scene.ends.items)) }
 {
     let core = Core::new(alloc, header)?;
-    let (ends, mixers) = all_sides(alloc, header.sinks.as_slice())?;
-    Ok(Scene { core, ends, mixers })
+    match all_sides(alloc, header.sinks.as_slice())? {
+        (ends, Some(mixer)) => Ok(Scene { core, ends, mixer }),
+        _ => Err(NoMemory),
+    }
 }
 
 pub(crate) fn new_scene(alloc: Global) -> Mem<Scene>
@@ -104,10 +117,4 @@ pub(crate) fn new_scene(alloc: Global) -> Mem<Scene>
 pub(crate) fn taken<R: Wait>(rt: &R, mixer: &mut Mixer) -> Option<Msg<Stream>> {
     let Mixer { inbox, take, .. } = mixer;
     inbox.take(rt, take)
-}
-
-// Whether there was room for a notice of the sink.
-pub(crate) fn told<R: Wait>(rt: &R, mixer: &mut Mixer, notice: Notice<Stream>) -> bool {
-    let Mixer { outbox, post, .. } = mixer;
-    outbox.post(rt, post, notice).is_ok()
 }

@@ -3,7 +3,7 @@ ghost use Rattle.px_core_cell.specs.Step.{IsAsked};
 
 use crate::tests::asking::{AUTH, CREATE, framed};
 use crate::tests::recorder::Crowded;
-use crate::tests::scene::{Mixer, OUT, Scene, new_scene, taken, told};
+use crate::tests::scene::{Mixer, OUT, Scene, new_scene, taken};
 use px_annals::{CoreEntry, NoRecorder, Recorder};
 use px_core_cell::{CoreState, CoreStep, StepFault};
 use px_msg::Notice;
@@ -51,69 +51,44 @@ fn goes_on<R: Wait>(rt: &R, alloc: Global, state: &mut CoreState<Crowded>, place
     }
 }
 
-// Whether all steps of the run are done, each asked for again where it wasn't.
-fn all_done<R: Wait>(rt: &R, alloc: Global, state: &mut CoreState<Crowded>) -> bool {
-    let mut right = true;
-    for place in 0..STEPS {
-        right = right && (goes_on(rt, alloc, state, place) || goes_on(rt, alloc, state, place));
-    }
-    right
-}
-
-// How many messages came to the sink.
-fn arrived<R: Wait>(rt: &R, mixer: &mut Mixer) -> u32 {
-    let mut count: u32 = 0;
-    for _ in 0..100 {
-        if taken(rt, mixer).is_some() {
-            count = count.saturating_add(1);
-        }
-    }
-    count
-}
-
-// How many messages come to the first sink in the whole run, for which it has one notice; 0 where a step isn't done.
-fn messages<R: Wait>(
+// Whether all steps of the run are done, each asked for again where it wasn't, and three messages come to the sink, which has one notice.
+fn all_done<R: Wait>(
     rt: &R,
     alloc: Global,
     state: &mut CoreState<Crowded>,
-    mixers: &mut Vec<Mixer>,
-) -> u32 {
-    let Some(mixer) = mixers.first_mut() else {
-        return 0;
-    };
-    if told(rt, mixer, Notice::Started { input: InputId(0) }) && all_done(rt, alloc, state) {
-        arrived(rt, mixer)
-    } else {
-        0
+    mixer: &mut Mixer,
+) -> bool {
+    let notice = Notice::Started { input: InputId(0) };
+    let Mixer { outbox, post, .. } = mixer;
+    let mut right = outbox.post(rt, post, notice).is_ok();
+    for place in 0..STEPS {
+        right = right && (goes_on(rt, alloc, state, place) || goes_on(rt, alloc, state, place));
     }
+    for _ in 0..3 {
+        right = taken(rt, mixer).is_some() && right;
+    }
+    right && taken(rt, mixer).is_none()
 }
 
-// The whole run, with a recorder that is full once at so many entries: what it keeps then, and how many messages came to the sink.
-fn run<R: Wait>(rt: &R, alloc: Global, full_at: usize) -> Mem<(Crowded, u32)> {
+// What is kept of the whole run by a recorder that is full once at so many entries, and whether all of it is done.
+fn run<R: Wait>(rt: &R, alloc: Global, full_at: usize) -> Mem<(Crowded, bool)> {
     let Scene {
         core,
         ends,
-        mut mixers,
+        mut mixer,
     } = new_scene(alloc)?;
     let mut state = CoreState::new(core, Crowded::new(alloc, full_at), ends);
-    let came = messages(rt, alloc, &mut state, &mut mixers);
-    Ok((state.into_parts().log.recorder, came))
+    let done = all_done(rt, alloc, &mut state, &mut mixer);
+    Ok((state.into_parts().log.recorder, done))
 }
 
-// Whether a run whose recorder is full once keeps what one keeps whose recorder never is, and posts as many messages.
-fn keeps_all<R: Wait>(rt: &R, alloc: Global, whole: &Crowded, full_at: usize) -> bool {
-    match run(rt, alloc, full_at) {
-        Ok((other, came)) => other.fulls() == 1 && other.matches(whole) && came == 3,
-        Err(_) => false,
-    }
-}
-
-// The same for each place of the run. Its messages are New, Factors and Detach.
+// Whether a run whose recorder is full at each place once keeps what one keeps whose recorder never is.
 fn misses_nothing<R: Wait>(rt: &R, alloc: Global) -> Mem<bool> {
-    let (whole, came) = run(rt, alloc, STEPS)?;
-    let mut right = whole.len() == STEPS && whole.fulls() == 0 && came == 3;
+    let (whole, done) = run(rt, alloc, STEPS)?;
+    let mut right = done && whole.len() == STEPS && whole.fulls() == 0;
     for full_at in 0..STEPS {
-        right = right && keeps_all(rt, alloc, &whole, full_at);
+        right = right
+            && matches!(run(rt, alloc, full_at), Ok((other, true)) if other.fulls() == 1 && other.matches(&whole));
     }
     Ok(right)
 }
@@ -132,39 +107,31 @@ fn comes_back<R: Wait>(
 ) -> bool
     requires { IsAsked step }
 {
-    match state.step(rt, alloc, step) {
-        Err(StepFault::Owed(back)) => matches!(
-            back,
-            CoreStep::Close(CLIENT) | CoreStep::Notice(OUT)
-        ),
-        _ => false,
-    }
+    matches!(
+        state.step(rt, alloc, step),
+        Err(StepFault::Owed(CoreStep::Close(CLIENT) | CoreStep::Notice(OUT)))
+    )
 }
 
-// Whether the sink has no notice.
-fn has_none<R: Wait>(rt: &R, alloc: Global, state: &mut CoreState<NoRecorder>) -> bool {
-    matches!(state.step(rt, alloc, CoreStep::Notice(OUT)), Ok(None))
-}
-
-// Whether steps for which a sweep is owed come back, and are done behind it.
-fn waits_for_sweeps<R: Wait>(rt: &R, alloc: Global, state: &mut CoreState<NoRecorder>) -> bool {
+// Whether steps for which a sweep is owed come back, and are done behind it. The sink has no notice.
+fn sweeps<R: Wait>(rt: &R, alloc: Global, state: &mut CoreState<NoRecorder>) -> bool {
     is_done(rt, alloc, state, CoreStep::Connect(CLIENT))
         && comes_back(rt, alloc, state, CoreStep::Close(CLIENT))
         && is_done(rt, alloc, state, CoreStep::Out(OUT))
         && comes_back(rt, alloc, state, CoreStep::Notice(OUT))
         && is_done(rt, alloc, state, CoreStep::Sweep)
-        && has_none(rt, alloc, state)
+        && matches!(state.step(rt, alloc, CoreStep::Notice(OUT)), Ok(None))
         && is_done(rt, alloc, state, CoreStep::Close(CLIENT))
         && state.steps() == 4
 }
 
-fn sweeps<R: Wait>(rt: &R, alloc: Global) -> Mem<bool> {
+fn is_swept<R: Wait>(rt: &R, alloc: Global) -> Mem<bool> {
     let Scene { core, ends, .. } = new_scene(alloc)?;
     let mut state = CoreState::new(core, NoRecorder, ends);
-    Ok(waits_for_sweeps(rt, alloc, &mut state))
+    Ok(sweeps(rt, alloc, &mut state))
 }
 
 #[test]
 fn a_step_comes_back_for_which_a_sweep_is_owed(rt: HostRuntime) {
-    assert!(rt; matches!(sweeps(&rt, rt.alloc()), Ok(true)));
+    assert!(rt; matches!(is_swept(&rt, rt.alloc()), Ok(true)));
 }

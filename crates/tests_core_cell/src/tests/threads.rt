@@ -1,4 +1,4 @@
-ghost use Rattle.std.specs.Prelude.{◌≡◌, ◌+◌, ◌<◌, map, IfOk};
+ghost use Rattle.std.specs.Prelude.{◌≡◌, ◌<◌, map, IfOk};
 ghost use Rattle.px_core_cell.specs.Boxes.{boxes_of};
 ghost use Rattle.px_core_cell.specs.Cell.{ends_of};
 ghost use Rattle.px_core_cell.specs.History.{Begins};
@@ -14,36 +14,27 @@ use std::alloc::Global;
 use std::marker::Brand;
 use std::sync::Wait;
 use std::sync::ledger::Blank;
-use std::thread::{Threads, join};
+use std::thread::{Threads, map_vec};
 
-// A seat that a thread hands back, and how many steps it was told were made.
-#[derive(Drop)]
-struct Worked<L: Seats> {
-    seat: CoreSeat<L>,
-    made: u64,
-}
-
-// A step of a thread's client, once no sweep is owed any more. How many steps were made for it.
-fn makes<L: Seats, R: Wait>(
+// A step of a thread's client, once no sweep is owed any more. Whether it was made.
+fn is_made<L: Seats, R: Wait>(
     rt: &R,
     alloc: Global,
     cell: &CoreCell<NoRecorder, L>,
     seat: &mut CoreSeat<L>,
     step: CoreStep,
-) -> u64
+) -> bool
     requires { IsAsked step }
-    ensures { seat.new.parts ≡ seat.old.parts }
 {
-    let mut made: u64 = 0;
     let mut next = step;
     for _ in rt.forever() {
         match cell.step(rt, alloc, next, seat) {
-            Ok(Some(_)) => return made.saturating_add(1),
+            Ok(Some(_)) => return true,
             Err(StepFault::Owed(back)) => next = back,
-            _ => return 0,
+            _ => return false,
         }
-        if matches!(cell.step(rt, alloc, CoreStep::Sweep, seat), Ok(Some(_))) {
-            made = made.saturating_add(1);
+        if cell.step(rt, alloc, CoreStep::Sweep, seat).is_err() {
+            return false;
         }
     }
     unreachable!()
@@ -62,102 +53,67 @@ fn step_at(alloc: Global, conn: ConnId, place: u8) -> Mem<CoreStep>
     }
 }
 
-// All steps of one thread.
+// What a thread works with: its seat, and its client.
+type Place<L> = (CoreSeat<L>, ConnId);
+
+// All steps of one thread. Whether they were made.
 fn works<L: Seats, R: Wait>(
     rt: &R,
     alloc: Global,
     cell: &CoreCell<NoRecorder, L>,
-    mut seat: CoreSeat<L>,
-    conn: u32,
-) -> Worked<L>
-    ensures { result.seat.parts ≡ seat.parts }
-{
-    let mut made: u64 = 0;
+    place: Place<L>,
+) -> bool {
+    let (mut seat, conn) = place;
+    let mut right = true;
     for place in 0..14 {
-        if let Ok(step) = step_at(alloc, ConnId(conn), place) {
-            made = made.saturating_add(makes(rt, alloc, cell, &mut seat, step));
-        }
+        right = match step_at(alloc, conn, place) {
+            Ok(step) => is_made(rt, alloc, cell, &mut seat, step) && right,
+            Err(_) => false,
+        };
     }
-    Worked { seat, made }
+    right
 }
 
-fn joined<L: Seats>(one: Worked<L>, other: Worked<L>) -> Worked<L>
-    ensures { result.seat.parts ≡ one.seat.parts + other.seat.parts }
+// Eight of them.
+fn places<L: Seats>(alloc: Global, seat: &mut CoreSeat<L>) -> Mem<Vec<Place<L>>>
+    requires { 8 < seat.old.parts }
 {
-    let Worked { mut seat, made } = one;
-    let Worked {
-        seat: more,
-        made: also,
-    } = other;
-    seat.merge(more);
-    Worked {
-        seat,
-        made: made.saturating_add(also),
+    let mut all = Vec::new(alloc);
+    for number in 0..8 {
+        all.push((seat.split(), ConnId(number)))?;
     }
+    Ok(all)
 }
 
-// Two threads.
-fn in_two<L: Seats + Send + Sync, R: Threads + Wait + Sync>(
+// Eight threads. Whether all steps were made.
+fn all_made<L: Seats + Send + Sync, R: Threads + Wait + Sync>(
     rt: &R,
     alloc: Global,
     cell: &CoreCell<NoRecorder, L>,
-    one: CoreSeat<L>,
-    other: CoreSeat<L>,
-    conn: u32,
-) -> Worked<L>
-    ensures { result.seat.parts ≡ one.parts + other.parts }
-{
-    let (a, b) = join(
-        rt,
-        move || -> Worked<L>
-            ensures { result.seat.parts ≡ one.parts }
-        { works(rt, alloc, cell, one, conn) },
-        move || -> Worked<L>
-            ensures { result.seat.parts ≡ other.parts }
-        { works(rt, alloc, cell, other, conn.saturating_add(1)) },
-    );
-    joined(a, b)
+    places: Vec<Place<L>>,
+) -> bool {
+    let work = move |place: Place<L>| works(rt, alloc, cell, place);
+    matches!(map_vec(rt, places, &work), Ok(made) if made.iter().all(|right| *right))
 }
 
-// Four threads.
-fn in_four<L: Seats + Send + Sync, R: Threads + Wait + Sync>(
+fn in_eight<L: Seats + Send + Sync, R: Threads + Wait + Sync>(
     rt: &R,
     alloc: Global,
-    cell: &CoreCell<NoRecorder, L>,
-    mut seat: CoreSeat<L>,
-    conn: u32,
-) -> Worked<L>
-    requires { seat.parts ≡ 4 }
-    ensures { result.seat.parts ≡ 4 }
+    core: CellCore,
+    ends: CoreEnds,
+    blank: Blank,
+) -> bool
+    requires name { blank.name ≡ L.name }
+    requires parts { (blank.parts ≡ L.parts) × (L.parts ≡ L.all) × (L.all ≡ 9) }
+    requires began { core.state ≡ L.began }
+    requires begins { Begins core.state (map ends_of ends.items) }
+    requires boxes { map boxes_of ends.items ≡ L.boxes }
 {
-    let one = seat.split();
-    let two = seat.split();
-    let three = seat.split();
-    let (a, b) = join(
-        rt,
-        move || -> Worked<L>
-            requires { (seat.parts ≡ 1) × (one.parts ≡ 1) }
-            ensures { result.seat.parts ≡ 2 }
-        { in_two(rt, alloc, cell, seat, one, conn) },
-        move || -> Worked<L>
-            requires { (two.parts ≡ 1) × (three.parts ≡ 1) }
-            ensures { result.seat.parts ≡ 2 }
-        { in_two(rt, alloc, cell, two, three, conn.saturating_add(2)) },
-    );
-    joined(a, b)
-}
-
-// A seat of four parts, cut off one.
-fn four_of<L: Seats>(seat: &mut CoreSeat<L>) -> CoreSeat<L>
-    requires { 4 < seat.old.parts }
-    ensures parts { result.parts ≡ 4 }
-    ensures rest { seat.new.parts + 4 ≡ seat.old.parts }
-{
-    let mut four = seat.split();
-    four.merge(seat.split());
-    four.merge(seat.split());
-    four.merge(seat.split());
-    four
+    let (cell, mut seat) = CoreCell::<NoRecorder, L>::new(blank, core, NoRecorder, ends);
+    match places(alloc, &mut seat) {
+        Ok(places) => all_made(rt, alloc, &cell, places),
+        Err(_) => false,
+    }
 }
 
 // Whether all drains of the eight clients came to the sink, those of each client in the order of their tags.
@@ -177,57 +133,14 @@ fn in_order<R: Wait>(rt: &R, mixer: &mut Mixer) -> bool {
     count == 64
 }
 
-// The same of the first sink.
-fn came_in_order<R: Wait>(rt: &R, mixers: &mut Vec<Mixer>) -> bool {
-    match mixers.first_mut() {
-        Some(mixer) => in_order(rt, mixer),
-        None => false,
-    }
-}
-
-// Eight threads: the lock has made as many steps as it has told them.
-fn in_eight<L: Seats + Send + Sync, R: Threads + Wait + Sync>(
-    rt: &R,
-    alloc: Global,
-    core: CellCore,
-    ends: CoreEnds,
-    blank: Blank,
-) -> bool
-    requires name { blank.name ≡ L.name }
-    requires parts { (blank.parts ≡ L.parts) × (L.parts ≡ L.all) × (L.all ≡ 65552) }
-    requires began { core.state ≡ L.began }
-    requires begins { Begins core.state (map ends_of ends.items) }
-    requires boxes { map boxes_of ends.items ≡ L.boxes }
-{
-    let (cell, mut seat) = CoreCell::<NoRecorder, L>::new(blank, core, NoRecorder, ends);
-    let one = four_of(&mut seat);
-    let other = four_of(&mut seat);
-    let cell = &cell;
-    let (a, b) = join(
-        rt,
-        move || -> Worked<L>
-            requires { one.parts ≡ 4 }
-            ensures { result.seat.parts ≡ 4 }
-        { in_four(rt, alloc, cell, one, 0) },
-        move || -> Worked<L>
-            requires { other.parts ≡ 4 }
-            ensures { result.seat.parts ≡ 4 }
-        { in_four(rt, alloc, cell, other, 4) },
-    );
-    let Worked { seat: worked, made } = joined(a, b);
-    seat.merge(worked);
-    let parts = cell.take_parts(rt, seat);
-    made == parts.log.steps
-}
-
 fn among_eight<R: Threads + Wait + Sync>(rt: &R, alloc: Global) -> Mem<bool> {
     let Scene {
         core,
         ends,
-        mut mixers,
+        mut mixer,
     } = new_scene(alloc)?;
-    let made = in_eight::<Brand, R>(rt, alloc, core, ends, Blank::new(65_552));
-    Ok(made && came_in_order(rt, &mut mixers))
+    let made = in_eight::<Brand, R>(rt, alloc, core, ends, Blank::new(9));
+    Ok(made && in_order(rt, &mut mixer))
 }
 
 #[test]

@@ -1,32 +1,8 @@
-use px_ends::{Clock, Got, Link, Recv, Sent, Sink, Source, Took};
-use px_host::{Connected, Reading, SystemClock, Writing};
+use px_ends::{Clock, Link, Recv, Sent};
+use px_host::{Connected, SystemClock};
 use std::os::unix::net::UnixStream;
 use std::thread::Threads;
 use std::{io, thread};
-
-// A reader's bytes, and its end.
-fn reads<S: Source>(source: &mut S) -> bool {
-    let mut buffer = [0u8; 4];
-    source.read(&mut buffer) == Got::Bytes(3)
-        && &buffer[..3] == b"abc".as_slice()
-        && source.read(&mut buffer) == Got::End
-}
-
-#[test]
-fn a_reader_is_a_source(rt: HostRuntime) {
-    assert!(rt; reads(&mut Reading::new(b"abc".as_slice())));
-}
-
-// Three places, and then none.
-fn writes<K: Sink>(sink: &mut K) -> bool {
-    sink.write(b"abcd") == Took::Bytes(3) && sink.write(b"d") == Took::Failed
-}
-
-#[test]
-fn a_writer_is_a_sink(rt: HostRuntime) {
-    let mut room = [0u8; 3];
-    assert!(rt; writes(&mut Writing::new(room.as_mut_slice())));
-}
 
 // Two moments, of which none is before the other.
 fn goes_on<C: Clock>(clock: &mut C) -> bool {
@@ -41,15 +17,14 @@ fn the_system_has_a_clock(rt: HostRuntime) {
 
 const MEBIBYTE: usize = 1_048_576;
 
-// Sends so many sevens.
+// Whether so many sevens are sent.
 fn sends<L: Link>(link: &mut L) -> bool {
-    let piece = [7u8; 4096];
     let mut left = MEBIBYTE;
     for _ in 0..MEBIBYTE {
         if left == 0 {
             return true;
         }
-        match link.send(&piece[..left.min(4096)]) {
+        match link.send(&[7u8; 4096][..left.min(4096)]) {
             Sent::Bytes(count) => left -= count,
             Sent::NotYet | Sent::Failed => return false,
         }
@@ -57,25 +32,19 @@ fn sends<L: Link>(link: &mut L) -> bool {
     left == 0
 }
 
-// Receives as many.
+// Whether as many are received.
 fn receives<L: Link>(link: &mut L) -> bool {
     let mut piece = [0u8; 4096];
     let mut left = MEBIBYTE;
     for _ in 0..MEBIBYTE {
-        if left == 0 {
-            return true;
-        }
         match link.recv(&mut piece) {
-            Recv::Bytes(count) => {
-                if count > left || piece[..count].iter().any(|byte| *byte != 7) {
-                    return false;
-                }
-                left -= count;
-            }
+            Recv::Bytes(count) if piece[..count].iter().any(|byte| *byte != 7) => return false,
+            Recv::Bytes(count) if count < left => left -= count,
+            Recv::Bytes(count) => return count == left,
             Recv::End | Recv::NotYet | Recv::Failed => return false,
         }
     }
-    left == 0
+    false
 }
 
 // One end sends and then receives, in a thread of its own, and the other the other way round; then the first is gone.

@@ -3,8 +3,6 @@ use px_paced::PacedSink;
 use px_types::Mem;
 use std::alloc::Global;
 
-type Paced = PacedSink<MemSink, MemClock>;
-
 // Mono in 16 bits, with room for a hundred frames.
 const SHAPE: DeviceShape = DeviceShape {
     frame: 2,
@@ -13,101 +11,69 @@ const SHAPE: DeviceShape = DeviceShape {
     depth: 100,
 };
 
+const TEN: &[u64] = &[0, 1_000, 10_000];
+
+const ONE: &[u64] = &[0, 1_000];
+
+const MINUTE: &[u64] = &[7, 60_000_007];
+
+const STOP: Result<u64, DeviceFault> = Err(DeviceFault);
+
+// What the clock tells, the sink's room and the write of it that fails, 0 for none; what each sync answers, how many bytes were written
+// then, and how many frames were skipped.
+type Row = (
+    &'static [u64],
+    usize,
+    u64,
+    &'static [Result<u64, DeviceFault>],
+    usize,
+    u64,
+);
+
+// 48 frames are due after a millisecond and 480 after ten, when 100 are there. After a sync that failed each fails, with no byte more.
+const ROWS: [Row; 7] = [
+    (ONE, 200, 0, &[Ok(0), Ok(48)], 96, 0),
+    (TEN, 200, 0, &[Ok(0), Ok(48), Ok(100)], 200, 380),
+    (TEN, 200, 0, &[Ok(0), Ok(48), Ok(100), Ok(100)], 200, 380),
+    (MINUTE, 200, 0, &[Ok(0), Ok(100), Ok(100)], 200, 2_879_900),
+    (TEN, 200, 1, &[Ok(0), STOP, STOP], 0, 0),
+    (TEN, 200, 2, &[Ok(0), Ok(48), STOP, STOP], 96, 0),
+    (TEN, 150, 0, &[Ok(0), Ok(48), STOP], 150, 0),
+];
+
 fn listed(alloc: Global, numbers: &[u64]) -> Mem<Vec<u64>> {
     let mut list = Vec::new(alloc);
     list.extend_from_slice(numbers)?;
     Ok(list)
 }
 
-// Two hundred bytes, each its number.
-fn frames() -> [u8; 200] {
+// Whether a device in which a hundred frames wait, whose bytes are their numbers, plays so.
+fn plays(alloc: Global, row: &Row) -> Mem<bool> {
+    let (moments, room, failing, answers, written, skipped) = row;
+    let out = MemSink::new(alloc, *room, Calls::from_vec(listed(alloc, &[*failing])?))?;
+    let clock = MemClock::new(Moments::from_vec(listed(alloc, moments)?));
     let mut bytes = [0u8; 200];
     for number in 0..200 {
         bytes[number] = number as u8;
     }
-    bytes
-}
-
-// A hundred frames wait. Its clock tells these moments, and its sink has so much room and fails at these writes.
-fn device(alloc: Global, moments: &[u64], room: usize, failing: &[u64]) -> Mem<Paced> {
-    let failing = Calls::from_vec(listed(alloc, failing)?);
-    let out = MemSink::new(alloc, room, failing)?;
-    let clock = MemClock::new(Moments::from_vec(listed(alloc, moments)?));
     let mut device = PacedSink::new(alloc, &SHAPE, out, clock)?;
-    device.put(0, &frames());
-    Ok(device)
-}
-
-// The sink has the first so many bytes.
-fn has(device: &Paced, count: usize) -> bool {
-    match frames().get(..count) {
-        Some(front) => device.out().bytes() == front,
-        None => false,
+    device.put(0, &bytes);
+    let mut right = true;
+    for answer in *answers {
+        right = device.sync() == *answer && right;
     }
-}
-
-// Nothing at first, 48 frames after a millisecond, and the other 52 after ten, when 480 are due.
-fn plays(device: &mut Paced) -> bool {
-    device.sync() == Ok(0)
-        && device.sync() == Ok(48)
-        && has(device, 96)
-        && device.sync() == Ok(100)
-        && device.skipped() == 380
-        && device.sync() == Ok(100)
-        && device.skipped() == 380
-        && has(device, 200)
+    Ok(
+        right
+            && bytes.starts_with(device.out().bytes())
+            && device.out().bytes().len() == *written
+            && device.skipped() == *skipped,
+    )
 }
 
 #[test]
-fn what_is_due_is_played_and_what_is_missing_is_skipped(rt: HostRuntime) -> Mem<()> {
-    assert!(rt; plays(&mut device(rt.alloc(), &[0, 1_000, 10_000], 200, &[])?));
-    Ok(())
-}
-
-fn jumps(device: &mut Paced) -> bool {
-    device.sync() == Ok(0)
-        && device.sync() == Ok(100)
-        && device.skipped() == 2_879_900
-        && device.sync() == Ok(100)
-        && has(device, 200)
-}
-
-#[test]
-fn a_clock_may_jump_a_minute(rt: HostRuntime) -> Mem<()> {
-    assert!(rt; jumps(&mut device(rt.alloc(), &[7, 60_000_007], 200, &[])?));
-    Ok(())
-}
-
-// The write that fails is the first, and so does each sync from then on, with no byte more.
-fn fails_at_once(device: &mut Paced) -> bool {
-    device.sync() == Ok(0)
-        && device.sync() == Err(DeviceFault)
-        && device.sync() == Err(DeviceFault)
-        && has(device, 0)
-}
-
-// It is the second.
-fn fails_later(device: &mut Paced) -> bool {
-    device.sync() == Ok(0)
-        && device.sync() == Ok(48)
-        && device.sync() == Err(DeviceFault)
-        && device.sync() == Err(DeviceFault)
-        && has(device, 96)
-}
-
-// The sink takes 150 bytes.
-fn fills_up(device: &mut Paced) -> bool {
-    device.sync() == Ok(0)
-        && device.sync() == Ok(48)
-        && device.sync() == Err(DeviceFault)
-        && has(device, 150)
-}
-
-#[test]
-fn a_write_that_fails_ends_the_playing(rt: HostRuntime) -> Mem<()> {
-    let moments = [0, 1_000, 10_000];
-    let first = fails_at_once(&mut device(rt.alloc(), &moments, 200, &[1])?);
-    let second = fails_later(&mut device(rt.alloc(), &moments, 200, &[2])?);
-    assert!(rt; first && second && fills_up(&mut device(rt.alloc(), &moments, 150, &[])?));
-    Ok(())
+fn what_is_due_is_played_and_what_is_missing_is_skipped(rt: HostRuntime) {
+    assert!(rt;
+        ROWS.iter()
+            .all(|row| matches!(plays(rt.alloc(), row), Ok(true)))
+    );
 }

@@ -28,12 +28,10 @@ fn options(alloc: Global) -> Mem<ServeOptions> {
 }
 
 fn starts<H: Host>(alloc: Global, host: &mut H) -> bool {
-    match options(alloc) {
-        Ok(options) => {
-            matches!(host.start(alloc, &options), HeaderRead::Bytes(text) if text.as_slice() == b"PRS1".as_slice())
-        }
-        Err(_) => false,
-    }
+    let Ok(options) = options(alloc) else {
+        return false;
+    };
+    matches!(host.start(alloc, &options), HeaderRead::Bytes(text) if text.as_slice() == b"PRS1".as_slice())
 }
 
 fn hears<L: Link + Drop>(mut link: L) -> bool {
@@ -54,40 +52,39 @@ fn accepts<H: Host>(alloc: Global, host: &mut H, client: &UnixStream) -> bool {
     written && heard && matches!(host.accept(alloc), Accepted::Over)
 }
 
-// While one listens no other can, and behind it another does.
-#[test]
-fn a_client_is_heard_and_a_stale_socket_is_replaced(rt: HostRuntime) -> io::Result<()> {
-    fs::write(&rt, "header", b"PRS1")?;
-    let mut host = SystemHost::new(rt.alloc(), rt);
-    let started = starts(rt.alloc(), &mut host);
-    let client = UnixStream::connect(&rt, "socket")?;
-    let accepted = accepts(rt.alloc(), &mut host, &client);
-    let second = starts(rt.alloc(), &mut SystemHost::new(rt.alloc(), rt));
-    drop(host);
-    let third = starts(rt.alloc(), &mut SystemHost::new(rt.alloc(), rt));
-    assert!(rt; started && accepted && !second && third);
-    Ok(())
-}
-
+// A device that plays into a file of its sink's name, and none outside of the folder.
 fn makes<H: Host>(alloc: Global, host: &mut H) -> bool {
-    let device = match host.device(alloc, b"front", &SHAPE) {
+    let plays = match host.device(alloc, b"front", &SHAPE) {
         Ok(mut device) => device.sync() == Ok(0),
         Err(_) => false,
     };
-    let outside = matches!(
-        host.device(alloc, b"../front", &SHAPE),
-        Err(HostFault::Failed)
-    );
-    device && outside && host.lane_recorder(alloc).is_ok() && host.core_recorder(alloc).is_ok()
+    let outside = host.device(alloc, b"../front", &SHAPE);
+    plays
+        && matches!(outside, Err(HostFault::Failed))
+        && host.lane_recorder(alloc).is_ok()
+        && host.core_recorder(alloc).is_ok()
 }
 
+// While one listens no other can, and behind it another does.
 #[test]
-fn a_sink_plays_into_a_file_of_its_name(rt: HostRuntime) -> io::Result<()> {
+fn a_client_is_heard_a_sink_has_a_file_and_a_stale_socket_is_replaced(
+    rt: HostRuntime,
+) -> io::Result<()> {
     fs::write(&rt, "header", b"PRS1")?;
     fs::create_dir(&rt, "sound")?;
     let mut host = SystemHost::new(rt.alloc(), rt);
-    let made = starts(rt.alloc(), &mut host) && makes(rt.alloc(), &mut host);
-    let there = fs::exists(&rt, "sound/front.raw")?;
-    assert!(rt; made && there);
+    let started = starts(rt.alloc(), &mut host);
+    let client = UnixStream::connect(&rt, "socket")?;
+    let served = accepts(rt.alloc(), &mut host, &client) && makes(rt.alloc(), &mut host);
+    let second = starts(rt.alloc(), &mut SystemHost::new(rt.alloc(), rt));
+    drop(host);
+    let third = starts(rt.alloc(), &mut SystemHost::new(rt.alloc(), rt));
+    assert!(rt;
+        started
+            && served
+            && !second
+            && third
+            && matches!(fs::exists(&rt, "sound/front.raw"), Ok(true))
+    );
     Ok(())
 }

@@ -45,49 +45,39 @@ fn said(alloc: Global, line: &str) -> Option<(u16, bool, bool)> {
     let named = said.options.header.as_slice() == b"h".as_slice()
         && said.options.socket.as_slice() == b"s".as_slice()
         && said.options.out.as_slice() == b"o".as_slice();
-    if !named {
-        return None;
-    }
-    Some((said.options.accept, said.options.memory, said.tape))
+    named.then_some((said.options.accept, said.options.memory, said.tape))
 }
 
-fn all_wrong(alloc: Global, lines: &[&str]) -> bool {
-    for line in lines {
-        if !matches!(read(alloc, *line), Err(WordsFault::Usage)) {
-            return false;
-        }
-    }
-    true
-}
-
-#[test]
-fn plain_words_in_any_order(rt: HostRuntime) {
-    let alloc = rt.alloc();
-    let least = said(alloc, "serve --header h --socket s --out o --accept 64");
-    let most = said(
-        alloc,
+// A line, and what it says; the last two only clap takes.
+const RIGHT: [(&str, (u16, bool, bool)); 5] = [
+    (
+        "serve --header h --socket s --out o --accept 64",
+        (64, false, false),
+    ),
+    (
         "serve --tape --accept 1 --out o --history memory --socket s --header h",
-    );
-    let mixed = said(
-        alloc,
+        (1, true, true),
+    ),
+    (
         "serve --history none --header h --tape --accept 65535 --socket s --out o",
-    );
+        (65_535, false, true),
+    ),
+    (
+        "serve --header=h --socket=s --out=o --accept=64",
+        (64, false, false),
+    ),
+    (
+        "serve --header h --socket s --out o --accept 007",
+        (7, false, false),
+    ),
+];
+
+#[test]
+fn words_are_read_in_any_order_or_wrong(rt: HostRuntime) {
     assert!(rt;
-        least == Some((64, false, false))
-            && most == Some((1, true, true))
-            && mixed == Some((65_535, false, true))
+        RIGHT
+            .iter()
+            .all(|(line, wanted)| said(rt.alloc(), line) == Some(*wanted))
+            && WRONG.iter().all(|line| matches!(read(rt.alloc(), line), Err(WordsFault::Usage)))
     );
-}
-
-#[test]
-fn words_that_only_clap_takes(rt: HostRuntime) {
-    let alloc = rt.alloc();
-    let attached = said(alloc, "serve --header=h --socket=s --out=o --accept=64");
-    let zeros = said(alloc, "serve --header h --socket s --out o --accept 007");
-    assert!(rt; attached == Some((64, false, false)) && zeros == Some((7, false, false)));
-}
-
-#[test]
-fn wrong_words(rt: HostRuntime) {
-    assert!(rt; all_wrong(rt.alloc(), WRONG.as_slice()));
 }

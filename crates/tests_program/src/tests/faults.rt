@@ -25,87 +25,57 @@ pub fn session(alloc: Global) -> Mem<Vec<u8>> {
 const OUTPUT: &[u8; 45] =
     b"\x01\0\0\0\x01\0\0\0\x23\0\0\0\x0f\xff\xff\xff\xff\0\0\0\0\0\0\0\0\0\0\0\0L\0\0\0\x02L\0\0\0\0L\0\0\0\x0d\0";
 
-fn words(alloc: Global) -> Mem<Vec<String>> {
-    let mut words = Vec::new(alloc);
-    words.push(String::from_str(alloc, "replay")?)?;
-    Ok(words)
-}
-
-// How a replay of the session ends.
+// How a replay of the session ends whose read of a number fails, 0 for none.
 fn ended<R: Machine>(rt: &R, read: u64, output: &mut MemSink, log: &mut MemSink) -> Mem<Status> {
     let alloc = rt.alloc();
-    let words = words(alloc)?;
     let mut input = dripping(alloc, session(alloc)?, read)?;
+    let mut words = Vec::new(alloc);
+    words.push(String::from_str(alloc, "replay")?)?;
     Ok(run(rt, &words, &mut input, output, log, &mut NoHost::new()))
 }
 
-// Whether it ends with this status, this much of the output and this line, where the read of a number fails, 0 for none, and the
-// output and the log have room for so many bytes.
-fn ends<R: Machine>(
-    rt: &R,
-    read: u64,
-    room: [usize; 2],
-    status: Status,
-    length: usize,
-    line: &[u8],
-) -> Mem<bool> {
-    let alloc = rt.alloc();
-    let mut output = MemSink::new(alloc, room[0], Calls::none(alloc))?;
-    let mut log = MemSink::new(alloc, room[1], Calls::none(alloc))?;
-    let ended = ended(rt, read, &mut output, &mut log)?;
+// Whether it ends with this status, this much of the output and this line, where the read of a number fails, and the output and the log
+// have room for so many bytes.
+fn ends<R: Machine>(rt: &R, row: &Row) -> Mem<bool> {
+    let (read, [room, more], status, length, line) = *row;
+    let mut output = MemSink::new(rt.alloc(), room, Calls::none(rt.alloc()))?;
+    let mut log = MemSink::new(rt.alloc(), more, Calls::none(rt.alloc()))?;
+    let ended = ended(rt, read, &mut output, &mut log) == Ok(status);
     Ok(
-        ended == status
+        ended
             && OUTPUT.starts_with(output.bytes())
             && output.bytes().len() == length
             && log.bytes() == line,
     )
 }
 
-fn is_played<R: Machine>(rt: &R) -> bool {
-    matches!(ends(rt, 0, [45, 0], Status::Ok, 45, b""), Ok(true))
-}
+type Row = (u64, [usize; 2], Status, usize, &'static [u8]);
 
-// A read fails in the header, between events, within the one that is answered, and before the end byte.
-fn reads_fail<R: Machine>(rt: &R) -> bool {
-    let line = b"pulse_rw: read failed\n";
-    [(1, 0), (281, 0), (400, 0), (590, 0), (591, 44)]
-        .iter()
-        .all(|(read, length)| {
-            matches!(
-                ends(rt, *read, [45, 99], Status::ReadFault, *length, line),
-                Ok(true)
-            )
-        })
-}
+const READ: &[u8] = b"pulse_rw: read failed\n";
 
-// A read fails, and then the write of what waits: the first cause is told, and what was written stands.
-fn both_fail<R: Machine>(rt: &R) -> bool {
-    let line = b"pulse_rw: read failed\n";
-    matches!(ends(rt, 591, [7, 99], Status::ReadFault, 7, line), Ok(true))
-}
+// The whole run; a read that fails in the header, between events, within the one that is answered, and before the end byte; there with
+// the write of what waits behind it, where the first cause is told; and a log that fails within its line, which the status tells of.
+const ROWS: [Row; 8] = [
+    (0, [45, 0], Status::Ok, 45, b""),
+    (1, [45, 99], Status::ReadFault, 0, READ),
+    (281, [45, 99], Status::ReadFault, 0, READ),
+    (400, [45, 99], Status::ReadFault, 0, READ),
+    (590, [45, 99], Status::ReadFault, 0, READ),
+    (591, [45, 99], Status::ReadFault, 44, READ),
+    (591, [7, 99], Status::ReadFault, 7, READ),
+    (1, [45, 9], Status::WriteFault, 0, b"pulse_rw:"),
+];
 
-// A write fails after each number of bytes: they stand.
-fn writes_fail<R: Machine>(rt: &R) -> bool {
+// A write that fails after so many bytes: they stand.
+fn cut_at(length: usize) -> Row {
     let line = b"pulse_rw: write failed\n";
-    (0..45).all(|length| {
-        matches!(
-            ends(rt, 0, [length, 99], Status::WriteFault, length, line),
-            Ok(true)
-        )
-    })
-}
-
-// The log fails within its line: a front of it stands, and the status tells of the log.
-fn log_fails<R: Machine>(rt: &R) -> bool {
-    matches!(
-        ends(rt, 1, [45, 9], Status::WriteFault, 0, b"pulse_rw:"),
-        Ok(true)
-    )
+    (0, [length, 99], Status::WriteFault, length, line)
 }
 
 #[test]
 fn runs_end_where_a_call_fails(rt: HostRuntime) {
     assert!(rt;
-        is_played(&rt) && reads_fail(&rt) && both_fail(&rt) && writes_fail(&rt) && log_fails(&rt)
+        ROWS.iter().all(|row| matches!(ends(&rt, row), Ok(true)))
+            && (0..45).all(|length| matches!(ends(&rt, &cut_at(length)), Ok(true)))
     );
 }

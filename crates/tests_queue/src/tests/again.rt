@@ -29,6 +29,7 @@ fn write(
 // Writes forty frames at index 0 and forty at another, a thousand times in all.
 fn write_over(alloc: Global, queue: &mut FrameQueue, source: &mut Counting, other: i64) -> Mem<bool>
     requires { queue.old.frame ≡ 1 }
+    ensures { queue.new.frame ≡ 1 }
 {
     let mut held = true;
     for _ in 0..500 {
@@ -38,23 +39,15 @@ fn write_over(alloc: Global, queue: &mut FrameQueue, source: &mut Counting, othe
     Ok(held)
 }
 
+// A range that is written over keeps one block, and two ranges that meet keep two.
 #[test]
-fn a_range_that_is_written_over_keeps_one_block(rt: HostRuntime) -> Mem<()> {
+fn ranges_that_are_written_over_go_back(rt: HostRuntime) -> Mem<()> {
     let mut source = Counting::new(rt.alloc());
     let mut queue = FrameQueue::new(rt.alloc(), 1);
-    let held = write_over(rt.alloc(), &mut queue, &mut source, 0)?;
-    let before = source.back;
+    let one = write_over(rt.alloc(), &mut queue, &mut source, 0)? && source.back == 999;
     queue.flush(&mut source);
-    assert!(rt; held && before == 999 && source.back == 1000);
-    Ok(())
-}
-
-#[test]
-fn two_ranges_that_meet_keep_two_blocks(rt: HostRuntime) -> Mem<()> {
-    let mut source = Counting::new(rt.alloc());
-    let mut queue = FrameQueue::new(rt.alloc(), 1);
-    let held = write_over(rt.alloc(), &mut queue, &mut source, 20)?;
-    assert!(rt; held && source.back == 998);
+    let two = write_over(rt.alloc(), &mut queue, &mut source, 20)? && source.back == 1_998;
+    assert!(rt; one && two);
     Ok(())
 }
 

@@ -8,25 +8,17 @@ use px_queue::{FrameQueue, Pushed, Span};
 use px_types::Mem;
 use std::alloc::Global;
 
-// Numbers that look random, by a rule of George Marsaglia (xorshift, 2003).
-#[derive(Clone, Copy)]
-struct Dice {
-    state: u64,
-}
-
-impl Dice {
-    // A number below `sides`.
-    fn throw(&mut self, sides: u64) -> u64
-        requires { 1 ≤ sides }
-        ensures { result < sides }
-    {
-        let mut x = self.state;
-        x ^= x << 13;
-        x ^= x >> 7;
-        x ^= x << 17;
-        self.state = x;
-        (x >> 11) % sides
-    }
+// A number below `sides` that looks random, by a rule of George Marsaglia (xorshift, 2003).
+fn throw(dice: &mut u64, sides: u64) -> u64
+    requires { 1 ≤ sides }
+    ensures { result < sides }
+{
+    let mut x = *dice;
+    x ^= x << 13;
+    x ^= x >> 7;
+    x ^= x << 17;
+    *dice = x;
+    (x >> 11) % sides
 }
 
 // So many bytes that count on from one, in one block.
@@ -54,7 +46,7 @@ fn ending_of(pushed: Pushed) -> Ended {
 // Writes the same frames into both, and says whether it ended alike.
 fn write_both(
     alloc: Global,
-    dice: &mut Dice,
+    dice: &mut u64,
     queue: &mut FrameQueue,
     former: &mut Former,
     source: &mut Counting,
@@ -62,17 +54,13 @@ fn write_both(
     requires { queue.old.frame ≡ 1 }
     ensures { queue.new.frame ≡ 1 }
 {
-    let goes_on = dice.throw(4) > 0;
-    let seek = if goes_on { 0 } else { dice.throw(4) as u8 };
-    let offset = if goes_on {
-        0
-    } else if dice.throw(32) == 0 {
-        LAST
-    } else {
-        dice.throw(80) as i64 - 40
+    let (seek, offset) = match throw(dice, 128) {
+        0 => (throw(dice, 4) as u8, LAST),
+        1..=31 => (throw(dice, 4) as u8, throw(dice, 80) as i64 - 40),
+        _ => (0, 0),
     };
-    let count = dice.throw(41) as u32;
-    let byte = dice.throw(256) as u8;
+    let count = throw(dice, 41) as u32;
+    let byte = throw(dice, 256) as u8;
     let ahead = former.read;
     queue.reserve(1, 1)?;
     let made = counted(alloc, count, byte)?;
@@ -83,21 +71,12 @@ fn write_both(
 
 // Whether so many bytes are those of the frames from an index on.
 fn are_there(former: &Former, from: i64, bytes: &[u8]) -> bool {
-    for (place, byte) in bytes.iter().enumerate() {
-        if former.frame(from.wrapping_add(place as i64)) != Some(*byte) {
-            return false;
-        }
-    }
-    true
+    let mut places = bytes.iter().enumerate();
+    places.all(|(place, byte)| former.frame(from.wrapping_add(place as i64)) == Some(*byte))
 }
 
 fn are_silent(former: &Former, from: i64, count: u32) -> bool {
-    for place in 0..count {
-        if former.frame(from.wrapping_add(place as i64)).is_some() {
-            return false;
-        }
-    }
-    true
+    (0..count).all(|place| former.frame(from.wrapping_add(place as i64)).is_none())
 }
 
 // Whether a peek at this place shows what the writes say, and how many frames it shows.
@@ -144,9 +123,7 @@ fn written(
 ) -> Mem<(bool, u32)>
     requires { queue.old.frame ≡ 1 }
 {
-    let mut dice = Dice {
-        state: 88_172_645_463_325_252,
-    };
+    let mut dice = 88_172_645_463_325_252;
     let mut former = Former::new(alloc);
     let mut alike = true;
     let mut brought = 0u32;
@@ -154,7 +131,7 @@ fn written(
         let (same, more) = write_both(alloc, &mut dice, queue, &mut former, source)?;
         brought = brought.saturating_add(more);
         alike = alike && same && agree(queue, &former);
-        let frames = dice.throw(30);
+        let frames = throw(&mut dice, 30);
         queue.settle(frames, source);
         former.settle(frames as i64);
         alike = alike && agree(queue, &former);

@@ -2,7 +2,7 @@
 ghost use Rattle.std.specs.Prelude.{IfOk};
 ghost use Rattle.px_session.specs.HeaderRules.{IsHeader};
 
-use super::hosts::{header, host, nothing_sent};
+use super::hosts::{header, host, nothing_sent, one_client};
 use px_serve::header_in;
 use px_server::{Gate, serve};
 use px_session::Header;
@@ -74,7 +74,8 @@ fn a_sink_and_a_client_are_served_side_by_side(rt: HostRuntime) -> Mem<()> {
     };
     let gate = Arc::new(alloc, meeting)?;
     let header_bytes = header(alloc)?;
-    let mut host = host(&rt, header_bytes, nothing_sent(alloc)?, 1000, 0)?;
+    let links = one_client(alloc, 0, nothing_sent(alloc)?)?;
+    let mut host = host(&rt, header_bytes, links, 0, 1000, 0)?;
     let served = serve(
         &rt,
         alloc,

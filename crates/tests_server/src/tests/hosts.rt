@@ -1,9 +1,10 @@
 //! Hosts in memory with one client.
 ghost use Rattle.std.specs.Prelude.{◌≤◌, length, IfOk};
 
-use px_ends::Calls;
+use px_app::run;
+use px_ends::{Calls, MemSink, MemSource};
 use px_mem_host::{LinkPlan, LinkPlans, MemHost};
-use px_types::{Mem, Text};
+use px_types::{Mem, Status, Text};
 use std::alloc::Global;
 use std::rt::Clock;
 use std::sync::{Arc, Mutex, Wait};
@@ -41,44 +42,73 @@ pub fn nothing_sent(alloc: Global) -> Mem<Arc<Mutex<Text>>> {
     Ok(Arc::new(alloc, Mutex::new(Text::from_vec(Vec::new(alloc))))?)
 }
 
-// One client that says hello, and hangs up once it was sent the reply.
-fn one_client(alloc: Global, sent: Arc<Mutex<Text>>) -> Mem<LinkPlans>
+fn listed(alloc: Global, numbers: &[u64]) -> Mem<Calls> {
+    let mut list = Vec::new(alloc);
+    list.extend_from_slice(numbers)?;
+    Ok(Calls::from_vec(list))
+}
+
+/// A client that sends this, and hangs up once it was sent so much. Its link is late at its calls 1 and 3, and fails at one; 0 for none.
+pub fn client(
+    alloc: Global,
+    bytes: Text,
+    end_after: usize,
+    failing: u64,
+    sent: Arc<Mutex<Text>>,
+) -> Mem<LinkPlan> {
+    Ok(LinkPlan {
+        bytes,
+        room: 9999,
+        late: listed(alloc, &[1, 3])?,
+        fail: listed(alloc, &[failing])?,
+        end_after,
+        sent,
+    })
+}
+
+/// One client that says hello, and hangs up once it was sent the reply.
+pub fn one_client(alloc: Global, failing: u64, sent: Arc<Mutex<Text>>) -> Mem<LinkPlans>
     ensures { IfOk result (λ plans. length plans ≤ 65535) }
 {
     let mut plans = Vec::new(alloc);
-    plans.push(LinkPlan {
-        bytes: hello(alloc)?,
-        room: 99,
-        late: Calls::none(alloc),
-        fail: Calls::none(alloc),
-        end_after: REPLY.len(),
-        sent,
-    })?;
+    let client = client(alloc, hello(alloc)?, REPLY.len(), failing, sent)?;
+    plans.push(client)?;
     Ok(LinkPlans::from_vec(plans))
 }
 
-/// A host with these bytes as header file and with one client, whose recorders hold so many entries, and whose call of this number fails; 0
-/// for none. Its devices consume nothing.
+/// A host with these bytes as header file, whose devices consume so many frames at a sync, whose recorders hold so many entries, and whose
+/// call of this number fails; 0 for none.
 pub fn host<R: Machine>(
     rt: &R,
     header: Text,
-    sent: Arc<Mutex<Text>>,
+    links: LinkPlans,
+    frames: u32,
     entries: usize,
     failing: u64,
-) -> Mem<MemHost<R>> {
+) -> Mem<MemHost<R>>
+    requires { length links ≤ 65535 }
+{
     let alloc = rt.alloc();
-    let links = one_client(alloc, sent)?;
-    let mut calls = Vec::new(alloc);
-    calls.push(failing)?;
+    let (most, calls) = (usize::MAX, listed(alloc, &[failing])?);
     MemHost::new(
-        *rt,
-        alloc,
-        header,
-        links,
-        0,
-        0,
-        entries,
-        usize::MAX,
-        Calls::from_vec(calls),
+        *rt, alloc, header, links, frames, 100_000, entries, most, calls,
     )
+}
+
+/// How a run by the words of a line ends, with this input.
+pub fn ended<R: Machine>(
+    rt: &R,
+    line: &str,
+    input: Text,
+    output: &mut MemSink,
+    log: &mut MemSink,
+    host: &mut MemHost<R>,
+) -> Mem<Status> {
+    let alloc = rt.alloc();
+    let mut words = Vec::new(alloc);
+    for word in line.split(' ') {
+        words.push(String::from_str(alloc, word)?)?;
+    }
+    let mut input = MemSource::new(input, Calls::none(alloc));
+    Ok(run(rt, &words, &mut input, output, log, host))
 }

@@ -1,126 +1,81 @@
-use super::hosts::{Machine, REPLY, header, host, nothing_sent};
-use px_app::run;
-use px_ends::{Calls, MemSink, MemSource};
+use super::hosts::{Machine, REPLY, ended, header, host, nothing_sent, one_client};
+use px_ends::{Calls, MemSink};
 use px_mem_host::{MemHost, Taken};
+use px_types::Status::{HistoryFull, Host, Refused, Usage, WriteFault};
 use px_types::{Mem, Status, Text};
 use std::alloc::Global;
 use std::sync::Arc;
 
-// The words of a server, and so many more of them as `more` has.
-fn words(alloc: Global, more: &[&str]) -> Mem<Vec<String>> {
-    let mut words = Vec::new(alloc);
-    for word in [
-        "serve", "--header", "h", "--socket", "s", "--out", "o", "--accept", "1",
-    ] {
-        words.push(String::from_str(alloc, word)?)?;
-    }
-    for word in more {
-        words.push(String::from_str(alloc, word)?)?;
-    }
-    Ok(words)
-}
-
-// How a server by these words ends, and whether its log has just this line.
+// How a server by the words of a line ends, where nothing can be written, and whether its log has just this line.
 fn ends<R: Machine>(
     rt: &R,
-    more: &[&str],
+    words: &str,
     host: &mut MemHost<R>,
     line: &[u8],
 ) -> Mem<Option<Status>> {
-    let alloc = rt.alloc();
-    let words = words(alloc, more)?;
-    let mut input = MemSource::new(Text::from_vec(Vec::new(alloc)), Calls::none(alloc));
-    let mut output = MemSink::new(alloc, 0, Calls::none(alloc))?;
-    let mut log = MemSink::new(alloc, 99, Calls::none(alloc))?;
-    let status = run(rt, &words, &mut input, &mut output, &mut log, host);
+    let input = Text::from_vec(Vec::new(rt.alloc()));
+    let mut output = MemSink::new(rt.alloc(), 0, Calls::none(rt.alloc()))?;
+    let mut log = MemSink::new(rt.alloc(), 99, Calls::none(rt.alloc()))?;
+    let status = ended(rt, words, input, &mut output, &mut log, host)?;
     Ok((log.bytes() == line).then_some(status))
 }
 
-// Whether a server with this header file, with recorders of so many entries and with a host that fails at this call, ends so.
-fn serves<R: Machine>(
-    rt: &R,
-    header: Text,
-    entries: usize,
-    failing: u64,
-    status: Status,
-    line: &[u8],
-) -> Mem<bool> {
-    let sent = nothing_sent(rt.alloc())?;
-    let mut host = host(rt, header, sent, entries, failing)?;
-    Ok(ends(rt, &[], &mut host, line)? == Some(status))
+const PLAIN: &str = "serve --header h --socket s --out o --accept 1";
+
+const PAPER: &str = "serve --header h --socket s --out o --accept 1 --history paper";
+
+const TAPED: &str = "serve --header h --socket s --out o --accept 1 --tape";
+
+// The words, how many bytes the header file has, with a zero behind its 280, how many entries the recorders hold, the call of the host that
+// fails, 0 for none, and how the server ends: its status, and its log's line without the name and the line feed.
+type Row = (&'static str, usize, usize, u64, Status, &'static [u8]);
+
+const USAGE: &[u8] = b"usage: replay [--raw SINK], summary, gen NUMBER COUNT, serve OPTIONS";
+
+// Of a tape that can't be written and a failure of the host the host's comes first.
+const ROWS: [Row; 6] = [
+    (PLAIN, 280, 0, 0, HistoryFull, b"history full"),
+    (PLAIN, 4, 9, 0, Refused, b"refused at 4: truncated"),
+    (PLAIN, 281, 9, 0, Refused, b"refused at 280: trailing"),
+    (PAPER, 280, 9, 0, Usage, USAGE),
+    (TAPED, 280, 99, 0, WriteFault, b"write failed"),
+    (TAPED, 280, 99, 6, Host, b"host failed"),
+];
+
+fn line_of(alloc: Global, said: &[u8]) -> Mem<Vec<u8>> {
+    let mut line = Vec::new(alloc);
+    line.extend_from_slice(b"pulse_rw: ")?;
+    line.extend_from_slice(said)?;
+    line.push(b'\n')?;
+    Ok(line)
 }
 
-// Whether the call of each of these numbers fails the server when it fails.
-fn host_fails<R: Machine>(rt: &R, calls: &[u64]) -> bool {
-    let line = b"pulse_rw: host failed\n";
-    calls.iter().all(|call| match header(rt.alloc()) {
-        Ok(header) => matches!(
-            serves(rt, header, 1000, *call, Status::Host, line),
-            Ok(true)
-        ),
-        Err(_) => false,
-    })
+fn serves<R: Machine>(rt: &R, row: &Row) -> Mem<bool> {
+    let (words, length, entries, failing, status, said) = *row;
+    let line = line_of(rt.alloc(), said)?;
+    let mut bytes = header(rt.alloc())?.into_vec();
+    bytes.push(0)?;
+    bytes.truncate(length);
+    let links = one_client(rt.alloc(), 0, nothing_sent(rt.alloc())?)?;
+    let mut host = host(rt, Text::from_vec(bytes), links, 0, entries, failing)?;
+    Ok(ends(rt, words, &mut host, line.as_slice()) == Ok(Some(status)))
+}
+
+#[test]
+fn a_server_tells_why_it_ends(rt: HostRuntime) {
+    assert!(rt; ROWS.iter().all(|row| matches!(serves(&rt, row), Ok(true))));
 }
 
 // A start, a sink's device, its recorder and its thread, the core's recorder, a client, its thread, and the end of the clients.
 #[test]
 fn a_server_ends_where_its_host_fails(rt: HostRuntime) {
-    assert!(rt; host_fails(&rt, &[1, 2, 3, 4, 5, 6, 7, 8]));
-}
-
-// A history without room ends the server at its client's first step.
-fn is_full<R: Machine>(rt: &R) -> Mem<bool> {
-    let line = b"pulse_rw: history full\n";
-    serves(rt, header(rt.alloc())?, 0, 0, Status::HistoryFull, line)
-}
-
-// A header file that is cut off, and one with a byte too many.
-fn is_refused<R: Machine>(rt: &R) -> Mem<bool> {
-    let alloc = rt.alloc();
-    let cut = Text::copied(alloc, b"PRS1")?;
-    let mut long = Vec::new(alloc);
-    long.extend_from_slice(header(alloc)?.as_slice())?;
-    long.push(0)?;
-    let long = Text::from_vec(long);
-    let cut_off = b"pulse_rw: refused at 4: truncated\n";
-    let trailing = b"pulse_rw: refused at 280: trailing\n";
-    Ok(
-        serves(rt, cut, 1000, 0, Status::Refused, cut_off)?
-            && serves(rt, long, 1000, 0, Status::Refused, trailing)?,
-    )
-}
-
-// Whether a server by these words, with a host that fails at this call, ends so.
-fn says<R: Machine>(rt: &R, more: &[&str], failing: u64, status: Status, line: &[u8]) -> Mem<bool> {
-    let alloc = rt.alloc();
-    let sent = nothing_sent(alloc)?;
-    let mut host = host(rt, header(alloc)?, sent, 1000, failing)?;
-    Ok(ends(rt, more, &mut host, line)? == Some(status))
-}
-
-// Words that aren't a server's.
-fn is_usage<R: Machine>(rt: &R) -> Mem<bool> {
-    let line = b"pulse_rw: usage: replay [--raw SINK], summary, gen NUMBER COUNT, serve OPTIONS\n";
-    says(rt, &["--history", "paper"], 0, Status::Usage, line)
-}
-
-// A tape that can't be written, and one behind a failure of the host, which comes first.
-fn is_unwritten<R: Machine>(rt: &R) -> Mem<bool> {
-    let host_failed = b"pulse_rw: host failed\n";
-    let write_failed = b"pulse_rw: write failed\n";
-    Ok(
-        says(rt, &["--tape"], 0, Status::WriteFault, write_failed)?
-            && says(rt, &["--tape"], 6, Status::Host, host_failed)?,
-    )
-}
-
-#[test]
-fn a_server_tells_why_it_ends(rt: HostRuntime) {
     assert!(rt;
-        matches!(is_full(&rt), Ok(true))
-            && matches!(is_refused(&rt), Ok(true))
-            && matches!(is_usage(&rt), Ok(true))
-            && matches!(is_unwritten(&rt), Ok(true))
+        (1..9).all(|call| {
+            matches!(
+                serves(&rt, &(PLAIN, 280, 9999, call, Status::Host, b"host failed")),
+                Ok(true)
+            )
+        })
     );
 }
 
@@ -129,13 +84,18 @@ fn is_whole(taken: &Taken) -> bool {
     taken.started.len() == 1 && taken.parts.len() == 1 && taken.core_recorders.len() == 1
 }
 
-#[test]
-fn a_client_is_sent_its_reply_and_nothing_else(rt: HostRuntime) -> Mem<()> {
+// Whether a server ends well whose client's link fails at a call, and was sent this.
+fn sends<R: Machine>(rt: &R, failing: u64, wanted: &[u8]) -> Mem<bool> {
     let alloc = rt.alloc();
     let sent = nothing_sent(alloc)?;
-    let mut host = host(&rt, header(alloc)?, Arc::try_clone(&sent)?, 1000, 0)?;
-    let ended = ends(&rt, &[], &mut host, b"")?;
-    let is_sent = sent.lock(&rt).as_slice() == REPLY.as_slice();
-    assert!(rt; ended == Some(Status::Ok) && is_sent && is_whole(&host.into_taken()));
-    Ok(())
+    let links = one_client(alloc, failing, Arc::try_clone(&sent)?)?;
+    let mut host = host(rt, header(alloc)?, links, 0, 9999, 0)?;
+    let is_well = ends(rt, PLAIN, &mut host, b"") == Ok(Some(Status::Ok));
+    let is_sent = sent.lock(rt).as_slice() == wanted;
+    Ok(is_well && is_sent && is_whole(&host.into_taken()))
+}
+
+#[test]
+fn a_client_is_sent_its_reply_alone_and_nothing_where_its_link_fails(rt: HostRuntime) {
+    assert!(rt; matches!(sends(&rt, 0, REPLY), Ok(true)) && matches!(sends(&rt, 2, b""), Ok(true)));
 }

@@ -1,10 +1,9 @@
 //! A server's tape, replayed.
 ghost use Rattle.std.specs.Prelude.{◌≤◌, length, IfOk};
 
-use super::hosts::{Machine, hello, nothing_sent};
-use px_app::run;
-use px_ends::{Calls, MemSink, MemSource};
-use px_mem_host::{LinkPlan, LinkPlans, MemHost, Retired};
+use super::hosts::{Machine, client, ended, hello, host, nothing_sent};
+use px_ends::{Calls, MemSink};
+use px_mem_host::{LinkPlans, MemHost, Retired};
 use px_types::{Mem, Status, Text};
 use std::alloc::Global;
 
@@ -46,62 +45,42 @@ fn player(alloc: Global, sink: &[u8], sample: &[u8]) -> Mem<Text> {
     Ok(Text::from_vec(bytes))
 }
 
-// A client that sends this, and hangs up once it was sent the reply to its DRAIN.
-fn client(alloc: Global, bytes: Text) -> Mem<LinkPlan> {
-    Ok(LinkPlan {
-        bytes,
-        room: 9999,
-        late: Calls::none(alloc),
-        fail: Calls::none(alloc),
-        end_after: DRAINED,
-        sent: nothing_sent(alloc)?,
-    })
-}
-
-// Two of them, one a sink.
+// Two clients, one a sink, each of which hangs up once it was sent the reply to its DRAIN.
 fn clients(alloc: Global) -> Mem<LinkPlans>
     ensures { IfOk result (λ plans. length plans ≤ 65535) }
 {
     let mut plans = Vec::new(alloc);
-    plans.push(client(alloc, player(alloc, b"out", b"\xe8\x03")?)?)?;
-    plans.push(client(alloc, player(alloc, b"two", b"\x30\xf8")?)?)?;
+    let first = player(alloc, b"out", b"\xe8\x03")?;
+    plans.push(client(alloc, first, DRAINED, 0, nothing_sent(alloc)?)?)?;
+    let second = player(alloc, b"two", b"\x30\xf8")?;
+    plans.push(client(alloc, second, DRAINED, 0, nothing_sent(alloc)?)?)?;
     Ok(LinkPlans::from_vec(plans))
 }
 
-// What a run by these words writes to its output, if it ends well.
+// What a run by the words of a line writes to its output, if it ends well.
 fn output_of<R: Machine>(
     rt: &R,
-    words: &[&str],
+    line: &str,
     input: Text,
     host: &mut MemHost<R>,
 ) -> Mem<Option<Text>> {
-    let alloc = rt.alloc();
-    let mut said = Vec::new(alloc);
-    for word in words {
-        said.push(String::from_str(alloc, word)?)?;
+    let mut output = MemSink::new(rt.alloc(), 1_000_000, Calls::none(rt.alloc()))?;
+    let mut log = MemSink::new(rt.alloc(), 99, Calls::none(rt.alloc()))?;
+    match ended(rt, line, input, &mut output, &mut log, host)? {
+        Status::Ok => Ok(Some(Text::copied(rt.alloc(), output.bytes())?)),
+        _ => Ok(None),
     }
-    let mut input = MemSource::new(input, Calls::none(alloc));
-    let mut output = MemSink::new(alloc, 1_000_000, Calls::none(alloc))?;
-    let mut log = MemSink::new(alloc, 99, Calls::none(alloc))?;
-    let status = run(rt, &said, &mut input, &mut output, &mut log, host);
-    if status != Status::Ok {
-        return Ok(None);
-    }
-    Ok(Some(Text::copied(alloc, output.bytes())?))
 }
 
 // Whether the tape, replayed, gives the bytes that a sink's device has played, and the client's frames are among them.
-fn replays_to<R: Machine>(rt: &R, tape: &Text, name: &str, part: Retired) -> Mem<bool> {
+fn replays_to<R: Machine>(rt: &R, tape: &Text, line: &str, part: Retired) -> Mem<bool> {
     let alloc = rt.alloc();
-    let links = LinkPlans::from_vec(Vec::new(alloc));
     let none = Text::from_vec(Vec::new(alloc));
-    let calls = Calls::none(alloc);
-    let mut host = MemHost::new(*rt, alloc, none, links, 0, 0, 0, 0, calls)?;
-    let words = ["replay", "--raw", name];
+    let mut host = host(rt, none, LinkPlans::from_vec(Vec::new(alloc)), 0, 0, 0)?;
     let copy = Text::copied(alloc, tape.as_slice())?;
     let mut device = part.device;
     let played = device.take_played(alloc)?;
-    match output_of(rt, &words, copy, &mut host)? {
+    match output_of(rt, line, copy, &mut host)? {
         Some(raw) => Ok(raw.as_slice() == played.as_slice() && raw.len() >= 200),
         None => Ok(false),
     }
@@ -110,31 +89,20 @@ fn replays_to<R: Machine>(rt: &R, tape: &Text, name: &str, part: Retired) -> Mem
 // Two clients of two sinks whose devices consume 10 frames a turn, with a tape.
 fn is_replayed<R: Machine>(rt: &R) -> Mem<bool> {
     let alloc = rt.alloc();
-    let links = clients(alloc)?;
-    let calls = Calls::none(alloc);
-    let mut host = MemHost::new(
-        *rt,
-        alloc,
-        two_sinks(alloc)?,
-        links,
-        10,
-        100_000,
-        1_000_000,
-        usize::MAX,
-        calls,
-    )?;
-    let words = [
-        "serve", "--header", "h", "--socket", "s", "--out", "o", "--accept", "2", "--tape",
-    ];
+    let mut host = host(rt, two_sinks(alloc)?, clients(alloc)?, 10, 1_000_000, 0)?;
+    let line = "serve --header h --socket s --out o --accept 2 --tape";
     let none = Text::from_vec(Vec::new(alloc));
-    let Some(tape) = output_of(rt, &words, none, &mut host)? else {
+    let Some(tape) = output_of(rt, line, none, &mut host)? else {
         return Ok(false);
     };
     let mut parts = host.into_taken().parts;
     let (Some(second), Some(first)) = (parts.pop(), parts.pop()) else {
         return Ok(false);
     };
-    Ok(replays_to(rt, &tape, "out", first)? && replays_to(rt, &tape, "two", second)?)
+    Ok(
+        replays_to(rt, &tape, "replay --raw out", first)?
+            && replays_to(rt, &tape, "replay --raw two", second)?,
+    )
 }
 
 #[test]

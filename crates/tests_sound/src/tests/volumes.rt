@@ -1,4 +1,4 @@
-use px_vol::{CVolume, Factors, MAX, MUTED, NORM, cube, divide, dividing_is_undone, multiply};
+use px_vol::{MAX, MUTED, NORM, cube, divide, dividing_is_undone, multiply};
 
 const PRODUCTS: [(u32, u32, u32); 6] = [
     (49_152, 49_152, 36_864),
@@ -43,26 +43,4 @@ fn volumes_multiply_divide_and_cube(rt: HostRuntime) {
                 .iter()
                 .all(|(volume, factor)| cube(*volume) == *factor)
     );
-}
-
-fn is_volume(values: &[u32]) -> bool {
-    matches!(CVolume::new(values), Some(volume) if volume.values() == values)
-}
-
-fn are_factors(values: &[u32]) -> bool {
-    matches!(Factors::new(values), Some(factors) if factors.values() == values)
-}
-
-#[test]
-fn up_to_32_channels_have_a_volume_each(rt: HostRuntime) {
-    let items = [NORM; 33];
-    let all = is_volume(&items[..32])
-        && is_volume(&[MAX])
-        && are_factors(&items[..32])
-        && are_factors(&[]);
-    let none = is_volume(&[])
-        || is_volume(&items)
-        || is_volume(&[NORM, 0x8000_0000])
-        || are_factors(&items);
-    assert!(rt; all && !none);
 }

@@ -25,7 +25,7 @@ new-requires-3 c =
           minreq_bounded = omega arith;
           tlength_bounded = omega arith;
           maxlength_bounded = omega arith;
-          prebuf_bounded = omega (arith, c.requires);
+          prebuf_bounded = omega arith;
         };
       },
     )

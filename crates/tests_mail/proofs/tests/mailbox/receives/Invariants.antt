@@ -1,0 +1,5 @@
+use Rattle.crossbeam_queue.specs.Passes.{IsPassOf}
+use Rattle.tests_mail.proofs.tests.mailbox.receives.Given as goal
+
+abbrev pub invariant-loop : goal.invariant-loop
+invariant-loop g l = IsPassOf l.mailbox.queue l.take.pass
