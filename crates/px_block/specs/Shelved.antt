@@ -1,5 +1,5 @@
 -- Blocks that stand under keys, each with the number of its references.
-use Rattle.std.specs.Prelude.{◌≡◌, ◌≢◌, ℕ, ◌+◌, ◌-◌, ◌==◌, List, [], Option, Some, None, slice_index_or, if◌then◌else◌}
+use Rattle.std.specs.Prelude.{◌≡◌, ◌≢◌, ℕ, ◌+◌, ◌-◌, ◌==◌, List, [], ◌∷◌, ◌++◌, Option, Some, None, slice_index_or, if◌then◌else◌}
 
 pub record Shelved : Type 0 where
   pub bytes : List ℕ
@@ -19,10 +19,28 @@ abbrev pub references_to : Option Shelved → ℕ
 references_to None = 0
 references_to (Some b) = b.references
 
+-- how many blocks stand there, one or none
+abbrev pub one_of : Option Shelved → ℕ
+one_of None = 0
+one_of (Some b) = 1
+
+abbrev pub count_of : List (Option Shelved) → ℕ
+count_of [] = 0
+count_of (o ∷ slots) = one_of o + count_of slots
+
+-- how many blocks stand on the shelf
+abbrev pub blocks_on : Shelves → ℕ
+blocks_on s = count_of s.slots
+
 -- its bytes
 abbrev pub bytes_of : Option Shelved → List ℕ
 bytes_of None = []
 bytes_of (Some b) = b.bytes
+
+-- more bytes behind its own
+abbrev pub appended : Option Shelved → List ℕ → Option Shelved
+appended None bytes = None
+appended (Some b) bytes = Some (record b { bytes = b.bytes ++ bytes })
 
 -- one reference more
 abbrev pub retained : Option Shelved → Option Shelved

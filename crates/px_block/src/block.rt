@@ -74,10 +74,16 @@ impl Block {
         ensures room { self.old.room ≤ self.new.room + result }
         ensures size { length self.new.bytes ≤ BLOCK_SIZE }
     {
-        let room = self.bytes.capacity().min(BLOCK_SIZE) - self.bytes.len();
-        let count = bytes.len().min(room);
+        let count = bytes.len().min(self.room());
         self.bytes.extend_from_slice(&bytes[..count]).unwrap();
         count
+    }
+
+    /// How many more bytes it takes without memory.
+    pub fn room(&self) -> usize
+        ensures { result ≡ self.now.room }
+    {
+        self.bytes.capacity().min(BLOCK_SIZE) - self.bytes.len()
     }
 
     /// The bytes that were put, in order. Takes no memory.

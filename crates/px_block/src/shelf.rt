@@ -1,9 +1,9 @@
 // Blocks that are shared by count.
 
-ghost use Rattle.std.specs.Prelude.{◌≡◌, ◌+◌, ◌-◌, ◌^◌, ◌<◌, ◌≤◌, ◌==◌, [], length, take, drop, Some, None, IfOk, IfErr, IsOk, OnOk, OnErr, OnSome, MatchOption};
-ghost use Rattle.px_block.specs.Shelved.{under, references_to, bytes_of, retained, released, SetsOnly};
+ghost use Rattle.std.specs.Prelude.{◌≡◌, ◌+◌, ◌-◌, ◌^◌, ◌<◌, ◌≤◌, ◌==◌, ◌++◌, [], if◌then◌else◌, length, take, drop, Some, None, IfOk, IfErr, IsOk, OnOk, OnErr, OnSome, MatchOption};
+ghost use Rattle.px_block.specs.Shelved.{under, references_to, bytes_of, retained, released, appended, SetsOnly};
 
-use crate::block::{Block, Mem};
+use crate::block::{BLOCK_SIZE, Block, Mem};
 use slab::Slab;
 use std::alloc::Global;
 use std::marker::Model;
@@ -37,7 +37,8 @@ impl Counted {
     }
 
     fn bytes(&self) -> &[u8]
-        ensures { result.now ≡ self.now.bytes }
+        ensures bytes { result.now ≡ self.now.bytes }
+        ensures few { length self.now.bytes ≤ BLOCK_SIZE }
     {
         self.block.bytes()
     }
@@ -60,6 +61,29 @@ impl Counted {
         ensures { self.new ≡ record self.old { references = self.old.references - 1 } }
     {
         self.references -= 1;
+    }
+
+    fn append(&mut self, bytes: &[u8]) -> bool
+        ensures bytes { self.new.bytes ≡ self.old.bytes ++ (if result then bytes.now else []) }
+        ensures references { self.new.references ≡ self.old.references }
+    {
+        if self.block.room() < bytes.len() {
+            return false;
+        }
+        self.block.put(bytes);
+        true
+    }
+
+    fn open(&mut self)
+        ensures { self.new ≡ self.old }
+    {
+        let _opened = self.block.open();
+    }
+
+    fn fit(&mut self)
+        ensures { self.new ≡ self.old }
+    {
+        self.block.fit();
     }
 
     fn into_block(self) -> Block
@@ -156,5 +180,43 @@ impl Shelf {
     {
         let bytes = self.blocks[key].bytes();
         &bytes[from..from + len]
+    }
+
+    /// How many bytes the block under a key has, which is there. Takes no memory.
+    pub fn len_of(&self, key: usize) -> usize
+        requires { 1 ≤ references_to (under self.now key) }
+        ensures value { result ≡ length (bytes_of (under self.now key)) }
+        ensures few { result ≤ BLOCK_SIZE }
+    {
+        self.blocks[key].bytes().len()
+    }
+
+    /// Appends bytes to the block under a key, which is there, where it has the room for all of them, and answers whether it has. Takes no
+    /// memory.
+    pub fn append(&mut self, key: usize, bytes: &[u8]) -> bool
+        requires { 1 ≤ references_to (under self.old key) }
+        ensures slots { SetsOnly self.old self.new key (appended (under self.old key) (if result then bytes.now else [])) }
+        ensures room { self.new.room ≡ self.old.room }
+    {
+        self.blocks[key].append(bytes)
+    }
+
+    /// Takes room in the block under a key, which is there, for all that it can have, if there is memory.
+    pub fn open(&mut self, key: usize)
+        requires { 1 ≤ references_to (under self.old key) }
+        ensures slots { SetsOnly self.old self.new key (under self.old key) }
+        ensures room { self.new.room ≡ self.old.room }
+    {
+        self.blocks[key].open();
+    }
+
+    /// Gives back the memory that the bytes of the block under a key don't use, where one is there. Takes no memory.
+    pub fn fit(&mut self, key: usize)
+        ensures slots { SetsOnly self.old self.new key (under self.old key) }
+        ensures room { self.new.room ≡ self.old.room }
+    {
+        if let Some(counted) = self.blocks.get_mut(key) {
+            counted.fit();
+        }
     }
 }

@@ -1,73 +1,86 @@
--- Frames are copied one behind another.
-use Rattle.std.proofs.Common.{◌≡◌, ℕ, ◌+◌, ◌-◌, ◌*◌, ◌<◌, ◌≤◌, List, ◌++◌, length, take, drop, Option, Some, ap, sym, ◌∙◌, arith, ⊎_elim, length-drop}
-use Rattle.std.proofs.Math.Nat.{add-mul, mul-le-mul_right}
-use Rattle.std.proofs.Math.Seq.{drop-append-add}
-use Rattle.std.proofs.lemmas.Bool.{cases_lt}
-use Rattle.std.proofs.lemmas.List.{append-nil, take-append-le, drop-append-le, drop_all, take-take, drop-take, length-take-le, drop-drop}
-use borrow.Rule.Slice.PartMut.{put_mid}
-use Rattle.px_model.specs.Frame.{Frame}
+-- Frames are copied out of runs of bytes.
+use Rattle.std.proofs.Common.{◌≡◌, ℕ, zero, suc, ◌+◌, ◌-◌, ◌*◌, ◌/◌, ◌<◌, ◌≤◌, List, ◌++◌, length, take, drop, refl, ap, sym, ◌∙◌, subst, arith, Option, Some, None, max, ◌⊎◌, inl, inr, ⊎_elim, length-drop, length-append}
+use Rattle.std.specs.Prelude.{slice_get, IsSome, ℤ, ◌≤ℤ◌}
+use Rattle.std.proofs.lemmas.Int.{ints}
+use Rattle.std.proofs.lemmas.Bool.{cases_lt, false≢true}
+use Rattle.std.proofs.Math.Nat.{add-mul, mul-le-mul_right, mul_comm}
+use Rattle.px_model.specs.Index.{onward, FIRST}
 use Rattle.px_model.specs.Held.{place}
+use Rattle.px_model.proofs.Places.{get_left, get-drop}
+use Rattle.px_queue.specs.Pieces.{Piece, byte_at}
+use Rattle.px_queue.specs.Framed.{joined, bytes_from, byte_index, held_from, EndsBy}
+use Rattle.px_queue.proofs.Framing.{whole_from, none_from, place_onward, held_place}
 
--- a frame of a run, by its bytes
-pub run_frame : (size k j count : ℕ) (bytes : List ℕ) → j < count → take size (drop ((k + j) * size) bytes) ≡ take size (drop (j * size) (take (count * size) (drop (k * size) bytes)))
-run_frame size k j count bytes less =
-    let next : j + 1 ≤ count = omega (arith, less) in
-    let fit : j * size + size ≤ count * size = omega (arith, mul-le-mul_right size next, add-mul j 1 size) in
-    let from = drop (k * size) bytes in
-    ap (λ (m : ℕ). take size (drop m bytes)) (add-mul k j size)
-    ∙ ap (take size) (sym (drop-drop (j * size) (k * size) bytes))
-    ∙ sym (drop-take (j * size) size from)
-    ∙ ap (drop (j * size)) (sym (take-take (j * size + size) (count * size) from fit))
-    ∙ drop-take (j * size) size (take (count * size) from)
+-- how many frames so many bytes are
+pub quotient : (r size : ℕ) → 1 ≤ size → (r / size * size ≤ r) × (r < r / size * size + size)
+quotient r size some =
+    let e : size * (r / size) ≡ r / size * size = mul_comm size (r / size) in
+    (omega (arith, e), omega (arith, e))
 
--- a frame of the front of bytes
-pub front_frame : (size j : ℕ) (part rest : List ℕ) → j * size + size ≤ length part → take size (drop (j * size) (part ++ rest)) ≡ take size (drop (j * size) part)
-front_frame size j part rest fit =
-    ap (take size) (drop-append-le (j * size) part rest (omega (arith, fit)))
-    ∙ take-append-le size (drop (j * size) part) rest (omega (arith, fit, length-drop (j * size) part))
+-- the byte index of a frame behind the one at place k
+pub next_place : (size : ℕ) (read : ℤ) (k j from : ℕ) → FIRST ≤ℤ read → from ≡ byte_index size (onward read k) → byte_index size (onward read (k + j)) ≡ from + j * size
+next_place size read k j from low is =
+    let there : onward (onward read k) j ≡ onward read (k + j) = omega (arith, ints) in
+    ap (byte_index size) (sym there) ∙ place_onward size (onward read k) j (omega (arith, ints, low)) ∙ ap (λ (n : ℕ). n + j * size) (sym is)
 
--- the rest of bytes from a place on was written
-pub put_behind : (at : ℕ) (out part : List ℕ) → put_mid at (length out - at) out part ≡ take at out ++ part
-put_behind at out part =
-    ap (λ (rest : List ℕ). take at out ++ (part ++ rest)) (drop_all (length out - at) (drop at out) (omega (arith, length-drop at out)))
-    ∙ ap (λ (p : List ℕ). take at out ++ p) (append-nil part)
+module _ (size : ℕ) (ps : List Piece) (read : ℤ) (n : ℕ) (ends : EndsBy size ps read n) (low : FIRST ≤ℤ read) (k from : ℕ) (is : from ≡ byte_index size (onward read k)) where
+  pub run_frames : (part rest : List ℕ) (m : ℕ) → length part ≡ m * size → ((t : ℕ) → t < length part → byte_at ps (from + t) ≡ slice_get part t)
+      → (j : ℕ) → j < m → place (held_from size ps read n) (k + j) ≡ Some (take size (drop (j * size) (part ++ rest)))
+  run_frames part rest m long bytes j few =
+      let next : j + 1 ≤ m = omega arith in
+      let fit : j * size + size ≤ length part = omega (arith, long, mul-le-mul_right size next, add-mul j 1 size) in
+      held_place size ps read n ends (k + j)
+      ∙ ap (λ (i : ℕ). bytes_from (byte_at ps) i size) (next_place size read k j from low is)
+      ∙ whole_from (byte_at ps) (from + j * size) size (drop (j * size) (part ++ rest))
+      (λ t less.
+      let there : from + j * size + t ≡ from + (j * size + t) = omega arith in
+      ap (byte_at ps) there ∙ bytes (j * size + t) (omega (arith, fit, less))
+      ∙ sym (get_left part rest (j * size + t) (omega (arith, fit, less)))
+      ∙ sym (get-drop (j * size) (part ++ rest) t (j * size + t) refl))
+      (omega (arith, length-drop (j * size) (part ++ rest), length-append part rest, fit))
 
--- a run is copied behind the frames that were
-module _ (size count at : ℕ) (out part : List ℕ) (is : at ≡ count * size) (inside : at ≤ length out) where
-  front_long : length (take at out) ≡ at
-  front_long = length-take-le at out inside
+  -- a frame with a byte that isn't there
+  pub run_end : (j r : ℕ) → j * size ≤ r → r < j * size + size → byte_at ps (from + r) ≡ None → place (held_from size ps read n) (k + j) ≡ None
+  run_end j r up few none =
+      let there : from + j * size + (r - j * size) ≡ from + r = omega (arith, up) in
+      held_place size ps read n ends (k + j)
+      ∙ ap (λ (i : ℕ). bytes_from (byte_at ps) i size) (next_place size read k j from low is)
+      ∙ none_from (byte_at ps) (from + j * size) size (r - j * size) (omega (arith, up, few)) (ap (byte_at ps) there ∙ none)
 
-  before_run : (j : ℕ) → j < count → take size (drop (j * size) (take at out ++ part)) ≡ take size (drop (j * size) out)
-  before_run j less =
-      let next : j + 1 ≤ count = omega (arith, less) in
-      let fit : j * size + size ≤ at = omega (arith, is, mul-le-mul_right size next, add-mul j 1 size) in
-      sym (drop-take (j * size) size (take at out ++ part))
-      ∙ ap (drop (j * size)) (take-append-le (j * size + size) (take at out) part (omega (arith, fit, front_long)) ∙ take-take (j * size + size) at out fit)
-      ∙ drop-take (j * size) size out
+  pub run_some : ((t : ℕ) → t < size → IsSome (byte_at ps (from + t))) → IsSome (place (held_from size ps read n) k)
+  run_some bytes =
+      subst (λ (o : Option (List ℕ)). IsSome o) (sym (held_place size ps read n ends k ∙ ap (λ (i : ℕ). bytes_from (byte_at ps) i size) (sym is))) (some_from (byte_at ps) from size bytes)
+    where
+      both : (o : Option ℕ) (p : Option (List ℕ)) → IsSome o → IsSome p → IsSome (joined o p)
+      both None p s t = absurd (false≢true s)
+      both (Some b) None s t = absurd (false≢true t)
+      both (Some b) (Some bs) s t = refl
 
-  past_run : (i : ℕ) → drop ((count + i) * size) (take at out ++ part) ≡ drop (i * size) part
-  past_run i =
-      ap (λ (n : ℕ). drop n (take at out ++ part)) (omega (arith, is, front_long, add-mul count i size))
-      ∙ drop-append-add (take at out) part (i * size)
+      some_from : (f : ℕ → Option ℕ) (i m : ℕ) → ((t : ℕ) → t < m → IsSome (f (i + t))) → IsSome (bytes_from f i m)
+      some_from f i zero s = refl
+      some_from f i (suc m) s =
+          let here : i + 0 ≡ i = omega arith in
+          both (f i) (bytes_from f (i + 1) m) (subst (λ (x : ℕ). IsSome (f x)) here (s 0 (omega arith)))
+          (some_from f (i + 1) m (λ t few. let there : i + suc t ≡ i + 1 + t = omega arith in subst (λ (x : ℕ). IsSome (f x)) there (s (suc t) (omega arith))))
 
-  pub run_frames : (held : List (Option Frame)) (k n : ℕ) → ((j : ℕ) → j < count → place held (k + j) ≡ Some (take size (drop (j * size) out)))
-      → ((j : ℕ) → j < n → place held (k + count + j) ≡ Some (take size (drop (j * size) part)))
-      → (j : ℕ) → j < count + n → place held (k + j) ≡ Some (take size (drop (j * size) (take at out ++ part)))
-  run_frames held k n before run j few =
-      ⊎_elim
-      (λ (less : j < count). before j less ∙ ap Some (sym (before_run j less)))
-      (λ (more : count ≤ j).
-      let there : k + j ≡ k + count + (j - count) = omega (arith, more) in
-      let same : count + (j - count) ≡ j = omega (arith, more) in
-      ap (place held) there ∙ run (j - count) (omega (arith, few, more))
-      ∙ ap Some (ap (take size) (sym (past_run (j - count))) ∙ ap (λ (m : ℕ). take size (drop (m * size) (take at out ++ part))) same))
-      (cases_lt j count)
+-- ---- gaps
 
-  pub run_rest : (old : List ℕ) (n : ℕ) → drop (n * size) part ≡ drop (n * size) (drop at out) → drop (count * size) out ≡ drop (count * size) old
-      → drop ((count + n) * size) (take at out ++ part) ≡ drop ((count + n) * size) old
-  run_rest old n kept before =
-      past_run n ∙ kept
-      ∙ ap (λ (m : ℕ). drop (n * size) (drop m out)) is
-      ∙ ap (drop (n * size)) before
-      ∙ drop-drop (n * size) (count * size) old
-      ∙ ap (λ (m : ℕ). drop m old) (sym (add-mul count n size))
+pub held_gap : (ps : List Piece) (from gap : ℕ) → byte_at ps from ≡ None → (gap ≡ 0 → IsSome (byte_at ps from)) → 0 < gap
+held_gap ps from gap none some =
+    ⊎_elim
+    (λ (less : 0 < gap). less)
+    (λ (few : gap ≤ 0). absurd (false≢true (subst (λ (o : Option ℕ). IsSome o) none (some (omega arith)))))
+    (cases_lt 0 gap)
+
+pub wide : (most size : ℕ) → 1 ≤ most → 1 ≤ size → 0 < most * size
+wide most size some large = let more : 1 * size ≤ most * size = mul-le-mul_right size some in omega (arith, more, large)
+
+pub gap_fits : (j gap size : ℕ) → 0 < gap → 1 ≤ size → (j < gap / size) ⊎ (j ≡ 0) → j * size < gap
+gap_fits j gap size some large (inl few) =
+    let next : j + 1 ≤ gap / size = omega arith in
+    omega (arith, (quotient gap size large).0, mul-le-mul_right size next, add-mul j 1 size, large)
+gap_fits j gap size some large (inr none) = subst (λ (n : ℕ). n * size < gap) (sym none) (omega arith)
+
+pub first_or_fits : (j n m : ℕ) → j < n → n ≡ max m 1 → (j < m) ⊎ (j ≡ 0)
+first_or_fits j n m less is =
+    ⊎_elim (λ (few : j < m). inl few) (λ (past : m ≤ j). inr (omega arith)) (cases_lt j m)

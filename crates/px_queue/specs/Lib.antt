@@ -1,8 +1,8 @@
-pub mod Written
-pub mod Under
+pub mod Pieces
+pub mod Laid
+pub mod Framed
 pub mod Kept
 pub mod Pushed
 pub mod Peeked
 pub mod Plain
 pub mod Heard
-pub mod Room

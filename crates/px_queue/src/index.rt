@@ -1,7 +1,8 @@
 // Indices of a stream.
-ghost use Rattle.std.specs.Prelude.{◌≡◌, pos, ◌+ℤ◌, ◌-ℤ◌, ◌<ℤ◌, ◌≤ℤ◌, IsOk, IfOk, IfErr, IsTrue, IsFalse, int_lt, ◌↔◌};
-ghost use Rattle.std.specs.Int.{int_max};
+ghost use Rattle.std.specs.Prelude.{◌≡◌, pos, ◌+ℤ◌, ◌-ℤ◌, ◌<ℤ◌, ◌≤ℤ◌, ◌*◌, ◌^◌, ◌≤◌, IsOk, IfOk, IfErr, IsTrue, IsFalse, int_lt, ◌↔◌};
 ghost use Rattle.px_model.specs.Index.{FIRST, LAST, above, onward, is_index, IsIndex};
+ghost use Rattle.px_queue.specs.Framed.{byte_index};
+ghost use Rattle.px_queue.specs.Laid.{TOP};
 
 use std::marker::Model;
 
@@ -73,20 +74,6 @@ impl Index {
         self.frame < other.frame
     }
 
-    /// Whether it is another.
-    pub(crate) fn is(self, other: Index) -> bool
-        ensures { IsTrue result → other ≡ self }
-    {
-        self.frame == other.frame
-    }
-
-    /// The greater of two.
-    pub(crate) fn greater(self, other: Index) -> Index
-        ensures { result ≡ int_max self other }
-    {
-        if self.is_below(other) { other } else { self }
-    }
-
     /// Whether it lies more than so many frames above a number.
     pub(crate) fn is_past(self, number: i64, frames: i64) -> bool
         ensures { result ≡ int_lt frames (self -ℤ number) }
@@ -141,4 +128,21 @@ impl Index {
             frame: self.frame + frames as i64,
         }
     }
+
+    /// The byte index of the first byte of the frame at it, of frames of so many bytes.
+    pub(crate) fn byte_index(self, size: u32) -> u128
+        ensures value { result ≡ byte_index size self }
+        ensures few { result ≤ TOP }
+    {
+        first_byte(self.above(Index::first()), size)
+    }
+}
+
+// The byte index of the first byte of a frame, by its number from the least index on.
+fn first_byte(number: u64, size: u32) -> u128
+    requires { number ≤ 2 ^ 61 }
+    ensures value { result ≡ number * size }
+    ensures few { result ≤ TOP }
+{
+    number as u128 * size as u128
 }

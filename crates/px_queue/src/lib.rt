@@ -1,15 +1,15 @@
 //! The frames of a stream that wait to be played (PulseAudio: `pa_memblockq` of pulsecore/memblockq.c): two indices, what is held from
-//! the read index on, and prebuffering. It keeps the list of its writes, each with its blocks; small ones that go on one behind another
-//! are gathered into one. Each block goes back to its source once its write is past, given up, refused or gathered, and where writes don't rise, once it lies wholly under a newer one. It exports `FrameQueue` with its answers `Pushed` and `Span`.
+//! the read index on, and prebuffering. Its bytes lie in chunks (`pa_memchunk`), which rise and none of which lies over another,
+//! on a shelf of blocks that counts how many chunks lie in each. A block goes back to its source with the last of them. It exports `FrameQueue` with its answers `Pushed` and `Span`.
 #![tactic(auto)]
 
-mod bytes;
 mod chunk;
-mod covered;
-mod finding;
-mod gathered;
+mod chunks;
+mod find;
 mod index;
-mod newest;
+mod lay;
+mod over;
+mod past;
 mod peek;
 mod plain;
 mod push;

@@ -1,10 +1,9 @@
 // Frames are copied out.
-ghost use Rattle.std.specs.Prelude.{◌≡◌, ℕ, ◌+◌, ◌*◌, ◌/◌, ◌<◌, ◌≤◌, length, take, drop, IsTrue, IsFalse, IsSome, None, Some};
+ghost use Rattle.std.specs.Prelude.{◌≡◌, ℕ, ◌+◌, ◌*◌, ◌/◌, ◌<◌, ◌≤◌, length, take, drop, IsSome, None, Some};
 ghost use Rattle.px_model.specs.Held.{place};
 ghost use Rattle.px_queue.specs.Peeked.{Peeks, Copies};
 
 use crate::FrameQueue;
-use crate::finding::newest_run;
 
 /// What stands at a place ahead of the read index.
 #[derive(Clone, Copy, Debug, PartialEq, Eq)]
@@ -33,7 +32,7 @@ impl FrameQueue {
         let most = frames_in(out.len(), self.frame as usize)
             .min(u32::MAX as usize)
             .min((left - k as u64) as usize) as u32;
-        let frames = self.copy_frames(k, most, out);
+        let frames = self.copy_frames(k as u64, most, out);
         if frames > 0 {
             return Span::Frames(frames);
         }
@@ -41,54 +40,21 @@ impl FrameQueue {
     }
 
     // Copies the frames held from place k on, one after another, at most so many, and answers how many there are.
-    fn copy_frames(&self, k: u32, most: u32, out: &mut [u8]) -> u32
+    fn copy_frames(&self, k: u64, most: u32, out: &mut [u8]) -> u32
         requires { most * self.now.frame ≤ length out.old }
         ensures few { result ≤ most }
         ensures frames { (j : ℕ) → j < result → place self.now.queue.held (k + j) ≡ Some (take self.now.frame (drop (j * self.now.frame) out.new)) }
         ensures rest { drop (result * self.now.frame) out.new ≡ drop (result * self.now.frame) out.old }
         ensures end { result < most → place self.now.queue.held (k + result) ≡ None }
     {
-        let size = self.frame as usize;
-        let mut count: u32 = 0;
-        let mut near = 0;
-        while count < most {
-            let at = count as usize * size;
-            let run = self.copy_run(
-                k as u64 + count as u64,
-                most - count,
-                &mut near,
-                &mut out[at..],
-            );
-            if run == 0 {
-                return count;
-            }
-            count += run;
-        }
-        count
-    }
-
-    // Copies the frames held from a place on that one write has, at most so many, and answers how many they are: none only where none is
-    // held at that place. It looks behind the first `near` writes first, and the next frames are likely behind as many as it leaves there.
-    fn copy_run(&self, k: u64, most: u32, near: &mut usize, out: &mut [u8]) -> u32
-        requires room { most * self.now.frame ≤ length out.old }
-        requires some { 1 ≤ most }
-        ensures few { result ≤ most }
-        ensures frames { (j : ℕ) → j < result → place self.now.queue.held (k + j) ≡ Some (take self.now.frame (drop (j * self.now.frame) out.new)) }
-        ensures rest { drop (result * self.now.frame) out.new ≡ drop (result * self.now.frame) out.old }
-        ensures none { result ≡ 0 → place self.now.queue.held k ≡ None }
-    {
         if k >= self.held {
             return 0;
         }
-        let index = self.read.onward(k);
-        let (place, run) = newest_run(&self.writes, self.rising, *near, self.read, index, most);
-        *near = place;
-        if place == 0 {
-            return 0;
-        }
-        let end = run as usize * self.frame as usize;
-        self.writes[place - 1].copy_run(index, run, &mut out[..end]);
-        run
+        let size = self.frame as usize;
+        let from = self.read.onward(k).byte_index(self.frame);
+        let frames = self.chunks.run(from, most as usize * size) / size;
+        self.chunks.copy_from(from, &mut out[..frames * size]);
+        frames as u32
     }
 
     // How many places from place k on have no frame, one after another, at most so many.
@@ -108,7 +74,7 @@ impl FrameQueue {
         count
     }
 
-    // How many places from a place on no write has, at most so many: none only where a frame is held at that place.
+    // How many places from a place on have no frame, at most so many: none only where a frame is held at that place.
     fn hole(&self, k: u64, most: u32) -> u32
         requires some { 1 ≤ most }
         ensures few { result ≤ most }
@@ -118,12 +84,17 @@ impl FrameQueue {
         if k >= self.held {
             return most;
         }
-        let index = self.read.onward(k);
-        let (place, run) = newest_run(&self.writes, self.rising, 0, self.read, index, most);
-        if place == 0 {
-            return run;
+        let size = self.frame as usize;
+        let from = self.read.onward(k).byte_index(self.frame);
+        let run = self.chunks.run(from, size);
+        if run == size {
+            return 0;
         }
-        0
+        if run > 0 {
+            return 1;
+        }
+        let gap = self.chunks.gap(from, most as usize * size) / size;
+        gap.max(1) as u32
     }
 
     /// Copies the frame held at a place past the read index, and answers whether one is.
@@ -131,7 +102,7 @@ impl FrameQueue {
         requires { length out.old ≡ self.now.frame }
         ensures { Copies result (place self.now.queue.held k) out.old out.new }
     {
-        self.copy_run(k, 1, &mut 0, out) > 0
+        self.copy_frames(k, 1, out) > 0
     }
 }
 

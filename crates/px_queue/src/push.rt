@@ -1,19 +1,15 @@
 // Frames are written.
-ghost use Rattle.std.specs.Prelude.{◌≡◌, ℕ, ℤ, List, ◌<◌, ◌+◌, ◌*◌, ◌≤◌, ◌-ℤ◌, int_lt, length, ◌==◌, ◌&&◌, ◌||◌, if◌then◌else◌, nat_lt, IfOk, IfErr, IsTrue, IsFalse};
+ghost use Rattle.std.specs.Prelude.{◌≡◌, ℤ, List, ◌<◌, ◌+◌, ◌*◌, ◌≤◌, ◌-ℤ◌, int_lt, length, ◌==◌, ◌&&◌, ◌||◌, if◌then◌else◌, nat_lt, IfOk, IfErr};
 ghost use Rattle.px_block.specs.Given.{after_giving, blocks_for};
 ghost use Rattle.px_model.specs.Frame.{Frame, frames_of};
 ghost use Rattle.px_model.specs.Index.{above, onward, IsIndex};
 ghost use Rattle.px_model.specs.Queue.{end_of, is_short};
-ghost use Rattle.px_model.specs.Write.{Outcome, stored, overflow, seek_of, origin_of, target_of, outcome_of, queue_with};
+ghost use Rattle.px_model.specs.Write.{stored, overflow, seek_of, origin_of, target_of, outcome_of, queue_with};
 ghost use Rattle.px_queue.specs.Heard.{is_other, unaltered_by};
 ghost use Rattle.px_queue.specs.Pushed.{outcome_for, Carries, IsPlaced, IsMissed};
 
 use crate::FrameQueue;
-use crate::chunk::Chunk;
-use crate::covered::make_way;
-use crate::gathered::only;
 use crate::index::Index;
-use crate::newest::{close_newest, extend_newest};
 use px_block::{BlockSource, Blocks};
 
 /// How a write ended.
@@ -31,7 +27,8 @@ pub enum Pushed {
 impl FrameQueue {
     /// Writes so many frames at the index that a seek goes to, where at most `limit` frames may wait past the index `ahead`: the mode of
     /// the seek as on the wire, 0 to 3, and its offset in frames. They replace what is held there; what lies before the read index
-    /// is dropped. Frames that aren't held, or that are copied behind the newest ones, give their blocks back to the source. Takes room for one write with its blocks, and no memory.
+    /// is dropped. A block that isn't kept, or no longer, goes back to the source: one of frames that aren't held, that are copied behind others, or that
+    /// all are written over. Takes room for one write with its blocks, and no memory.
     /// (PulseAudio: `pa_memblockq_seek` and `pa_memblockq_push`; own: the limit counts from the ahead index.)
     pub fn push<B: BlockSource>(
         &mut self,
@@ -70,11 +67,7 @@ impl FrameQueue {
                 limit,
             };
         }
-        if self.extend(at, end, frames, &bytes) {
-            bytes.give_back(blocks);
-            return Pushed::Stored;
-        }
-        self.store(Chunk::new(at, self.frame, frames, bytes), blocks);
+        self.store(at, end, frames, bytes, blocks);
         Pushed::Stored
     }
 
@@ -164,53 +157,38 @@ impl FrameQueue {
         self.write = end;
     }
 
-    // Holds frames that go on behind the newest write in its last block, and goes on writing behind them. It does so where they lie in one
-    // block and that one has the room.
-    fn extend(&mut self, at: Index, end: Index, frames: u32, bytes: &Blocks) -> bool
-        requires whole { length bytes.now ≡ frames * self.old.frame }
-        requires first { IsIndex at }
-        requires last { IsIndex (onward at frames) }
-        requires end { end ≡ onward at frames }
-        ensures stored { IsTrue result → self.new.queue ≡ queue_with stored self.old.queue at (frames_of self.old.frame frames bytes.now) }
-        ensures none { IsFalse result → self.new.queue ≡ self.old.queue }
-        ensures frame { self.new.frame ≡ self.old.frame }
-        ensures room { self.new.room ≡ self.old.room }
-        ensures block_room { self.new.block_room ≡ self.old.block_room }
-        ensures blocks { self.new.blocks ≡ self.old.blocks }
-    {
-        let Some(all) = only(bytes) else {
-            return false;
-        };
-        if !extend_newest(&mut self.writes, self.frame, at, frames, all) {
-            return false;
-        }
-        let reach = reach(frames, end, self.read);
-        self.edge = self.edge.greater(end);
-        self.held = self.held.max(reach);
-        self.write = end;
-        true
-    }
-
-    // Holds frames over what is held, and goes on writing behind them. Writes that lie wholly under a newer one may go.
-    fn store<B: BlockSource>(&mut self, chunk: Chunk, blocks: &mut B)
+    // Holds frames over what is held, and goes on writing behind them.
+    fn store<B: BlockSource>(
+        &mut self,
+        at: Index,
+        end: Index,
+        frames: u32,
+        bytes: Blocks,
+        blocks: &mut B,
+    )
         requires room { 1 ≤ self.old.room }
-        requires block_room { chunk.blocks ≤ self.old.block_room }
-        requires size { chunk.size ≡ self.old.frame }
-        ensures queue { self.new.queue ≡ queue_with stored self.old.queue chunk.at chunk.frames }
+        requires block_room { blocks_for (length bytes) ≤ self.old.block_room }
+        requires whole { length bytes ≡ frames * self.old.frame }
+        requires first { IsIndex at }
+        requires last { IsIndex end }
+        requires end { end ≡ onward at frames }
+        ensures queue { self.new.queue ≡ queue_with stored self.old.queue at (frames_of self.old.frame frames bytes) }
         ensures frame { self.new.frame ≡ self.old.frame }
         ensures room { self.old.room ≤ self.new.room + 1 }
-        ensures block_room { self.new.block_room + chunk.blocks ≡ self.old.block_room }
-        ensures given { after_giving (B.given blocks.new) self.new.blocks ≡ after_giving (B.given blocks.old) (self.old.blocks + chunk.blocks) }
+        ensures block_room { self.old.block_room ≤ self.new.block_room + blocks_for (length bytes) }
+        ensures given { after_giving (B.given blocks.new) self.new.blocks ≡ after_giving (B.given blocks.old) (self.old.blocks + blocks_for (length bytes)) }
     {
-        let end = chunk.end();
-        let reach = chunk.reach(self.read);
-        let brought = chunk.blocks() as u32;
+        let reach = reach(frames, end, self.read);
+        let brought = bytes.count() as u32;
+        self.chunks.write(
+            at.byte_index(self.frame),
+            end.byte_index(self.frame),
+            bytes,
+            blocks,
+        );
+        self.chunks.forget(self.read.byte_index(self.frame), blocks);
+        self.room -= 1;
         self.block_room -= brought;
-        close_newest(&mut self.writes);
-        let (rising, edge) = make_way(&mut self.writes, self.rising, self.edge, &chunk, blocks);
-        self.rising = rising;
-        self.edge = edge;
-        self.writes.push_back_reserved(chunk);
         self.held = self.held.max(reach);
         self.write = end;
     }

@@ -5,26 +5,22 @@ ghost use Rattle.px_model.specs.Queue.{end_of, edge_of, left_of, is_short};
 ghost use Rattle.px_model.specs.Going.{queue_given, queue_after};
 ghost use Rattle.px_model.specs.Control.{new_queue, emptied, with_prebuf};
 ghost use Rattle.px_queue.specs.Kept.{with_hold};
-ghost use Rattle.px_queue.specs.Written.{step_by};
+ghost use Rattle.px_queue.specs.Framed.{step_by};
 
-use crate::chunk::Chunk;
-use crate::finding::{forget_all, forget_past};
+use crate::chunks::Chunks;
 use crate::index::Index;
-use crate::newest::open_newest;
 use px_block::BlockSource;
 use px_types::{Mem, NoMemory};
 use std::alloc::Global;
-use std::collections::VecDeque;
 use std::marker::Model;
 
-/// A queue of frames (PulseAudio: `pa_memblockq`). Indices are frames, and its bytes whole frames of one size. It knows an index at or past
-/// the end of each write, and of writes that rise that they do: each begins at or past the end of all before it.
+/// A queue of frames (PulseAudio: `pa_memblockq`). Indices are frames, and its bytes whole frames of one size. It counts the places from
+/// the read index to the last frame held, and the writes and blocks that it has room for.
 #[derive(Debug, Drop)]
 pub struct FrameQueue {
     pub(crate) frame: u32,
-    pub(crate) writes: VecDeque<Chunk>,
-    pub(crate) rising: bool,
-    pub(crate) edge: Index,
+    pub(crate) chunks: Chunks,
+    pub(crate) room: u32,
     pub(crate) block_room: u32,
     pub(crate) read: Index,
     pub(crate) write: Index,
@@ -34,26 +30,24 @@ pub struct FrameQueue {
 }
 
 impl Model for FrameQueue {
-    ghost use Rattle.std.specs.Prelude.{◌≡◌, ◌≤◌, ◌-◌, length, IsTrue};
-    ghost use Rattle.std.specs.VecDeque.{deque_len, deque_capacity};
+    ghost use Rattle.std.specs.Prelude.{◌≡◌, length};
     ghost use Rattle.px_model.specs.Queue.{IsQueue};
     ghost use Rattle.px_queue.specs.Kept.{KeptQueue};
-    ghost use Rattle.px_queue.specs.Written.{held_of, queue_of, blocks_in, AreOf, AreRising, EndBy};
+    ghost use Rattle.px_queue.specs.Framed.{held_from, queue_of, IsLaid};
 
     ghost Value = { KeptQueue };
 
     ghost view = { λ q. record {
-      queue = queue_of q.writes.items q.read q.write q.hold q.prebuf;
+      queue = queue_of q.frame q.chunks.before q.read q.held q.write q.hold q.prebuf;
       frame = q.frame;
-      room = deque_capacity q.writes - deque_len q.writes;
+      room = q.room;
       block_room = q.block_room;
-      blocks = blocks_in q.writes.items;
+      blocks = q.chunks.blocks;
     } };
 
-    ghost invariant = { λ q. (q.held ≡ length (held_of q.read q.writes.items))
-        × IsQueue (queue_of q.writes.items q.read q.write q.hold q.prebuf)
-        × (1 ≤ q.frame) × AreOf q.frame q.writes.items
-        × EndBy q.edge q.writes.items × (IsTrue q.rising → AreRising q.writes.items) };
+    ghost invariant = { λ q. (q.held ≡ length (held_from q.frame q.chunks.before q.read q.held))
+        × IsQueue (queue_of q.frame q.chunks.before q.read q.held q.write q.hold q.prebuf)
+        × IsLaid q.frame q.chunks q.read q.held q.room q.block_room };
 }
 
 impl FrameQueue {
@@ -66,9 +60,8 @@ impl FrameQueue {
     {
         FrameQueue {
             frame: frame_size,
-            writes: VecDeque::new(alloc),
-            rising: true,
-            edge: Index::zero(),
+            chunks: Chunks::new(alloc),
+            room: 0,
             block_room: 0,
             read: Index::zero(),
             write: Index::zero(),
@@ -79,8 +72,8 @@ impl FrameQueue {
     }
 
     /// Takes room for so many more writes, with so many blocks in all. Without memory nothing changes. (A write brings the memory of its
-    /// blocks, so the room in blocks is a number here.) Where the newest write is small it gets room for others behind it, if there is
-    /// memory: they need no room of their own then.
+    /// blocks: the room is for what names their parts.) Where the newest block has few bytes it gets room for others behind them, if there
+    /// is memory.
     pub fn reserve(&mut self, writes: u32, blocks: u32) -> Mem<()>
         ensures ok { OnOk result ((writes ≤ self.new.room) × (blocks ≤ self.new.block_room)) }
         ensures queue { self.new.queue ≡ self.old.queue }
@@ -89,11 +82,18 @@ impl FrameQueue {
         ensures room { self.old.room ≤ self.new.room }
         ensures block_room { self.old.block_room ≤ self.new.block_room }
     {
-        self.writes.reserve(writes as usize)?;
-        if blocks > 0 {
-            open_newest(&mut self.writes);
+        let writes = self.room.max(writes);
+        let most = self.block_room.max(blocks);
+        // A write may split one chunk in two, and brings one for each of its blocks.
+        let chunks = writes as usize + most as usize;
+        if self.chunks.reserve(chunks, most as usize).is_err() {
+            return Err(NoMemory);
         }
-        self.block_room = self.block_room.max(blocks);
+        if blocks > 0 {
+            self.chunks.open_at(self.write.byte_index(self.frame));
+        }
+        self.room = writes;
+        self.block_room = most;
         Ok(())
     }
 
@@ -176,8 +176,8 @@ impl FrameQueue {
         self.read.onward(step)
     }
 
-    /// Goes so many frames of its sink forward, and answers how many of them it gave, the first ones. The oldest writes go while they lie
-    /// wholly before the read index. Takes no memory. (PulseAudio: `pa_memblockq_drop`.)
+    /// Goes so many frames of its sink forward, and answers how many of them it gave, the first ones. What lies before the read index goes.
+    /// Takes no memory. (PulseAudio: `pa_memblockq_drop`.)
     pub fn settle<B: BlockSource>(&mut self, frames: u64, blocks: &mut B) -> u64
         ensures value { result ≡ queue_given self.old.queue frames }
         ensures queue { self.new.queue ≡ queue_after self.old.queue frames }
@@ -210,7 +210,7 @@ impl FrameQueue {
         self.read = self.read.onward(step);
     }
 
-    // Lets go of the oldest writes that lie wholly before the read index.
+    // Lets go of what lies before the read index.
     fn forget<B: BlockSource>(&mut self, blocks: &mut B)
         ensures queue { self.new.queue ≡ self.old.queue }
         ensures frame { self.new.frame ≡ self.old.frame }
@@ -218,7 +218,7 @@ impl FrameQueue {
         ensures block_room { self.old.block_room ≤ self.new.block_room }
         ensures given { after_giving (B.given blocks.new) self.new.blocks ≡ after_giving (B.given blocks.old) self.old.blocks }
     {
-        forget_past(&mut self.writes, self.read, blocks);
+        self.chunks.forget(self.read.byte_index(self.frame), blocks);
     }
 
     /// Drops all that is held, and waits again, where it has prebuffering. Each block goes back to its source. Takes no memory.
@@ -231,7 +231,7 @@ impl FrameQueue {
         ensures none { self.new.blocks ≡ 0 }
         ensures given { B.given blocks.new ≡ after_giving (B.given blocks.old) self.old.blocks }
     {
-        forget_all(&mut self.writes, blocks);
+        self.chunks.forget_all(blocks);
         self.held = 0;
         self.write = self.read;
         self.hold = self.prebuf > 0;

@@ -9,7 +9,7 @@ use Rattle.px_model.specs.Applied.{applied, write_outcome}
 use Rattle.px_model.specs.Write.{outcome_of, seek_of, target_of}
 use Rattle.px_queue.specs.Heard.{unaltered_by}
 use Rattle.px_queue.proofs.Hearing.{heard_before}
-use Rattle.px_queue.proofs.Log.{length_frames}
+use Rattle.px_queue.proofs.Storing.{length_frames}
 use Rattle.px_stream.specs.Heard.{SoundsSame, unaltered_of}
 
 -- what stays once a message is applied

@@ -7,7 +7,7 @@ use Rattle.px_model.specs.Stream.{Stream}
 use Rattle.px_model.specs.Going.{ahead_of}
 use Rattle.px_model.specs.Write.{Outcome, outcome_of, target_of, seek_of, queue_with, requested_with}
 use Rattle.px_model.specs.Applied.{written_by, write_outcome}
-use Rattle.px_queue.proofs.Log.{length_frames}
+use Rattle.px_queue.proofs.Storing.{length_frames}
 
 module _ (s : Stream) (seek : ℕ) (offset : ℤ) (frames : ℕ) (bytes : List ℕ) (mixed : ℕ) where
   place : ℤ

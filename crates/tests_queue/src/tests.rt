@@ -1,3 +1,4 @@
+mod across;
 mod again;
 mod blocks;
 mod former;

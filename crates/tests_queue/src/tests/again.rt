@@ -51,15 +51,17 @@ fn ranges_that_are_written_over_go_back(rt: HostRuntime) -> Mem<()> {
     Ok(())
 }
 
-// The second write goes on over the first, and the third, which lies inside both, lets the first go.
+// The second write goes on over the first, whose block goes, and as few bytes in the block of its own; the third lies inside, and what
+// is left on both sides of it shares a block. Each of the four goes back once.
 #[test]
-fn a_range_that_the_newest_write_grew_over_goes(rt: HostRuntime) -> Mem<()> {
+fn what_is_left_on_both_sides_of_a_write_shares_a_block(rt: HostRuntime) -> Mem<()> {
     let mut source = Counting::new(rt.alloc());
     let mut queue = FrameQueue::new(rt.alloc(), 1);
     let first = write(rt.alloc(), &mut queue, &mut source, 10, b"ab")?;
     let second = write(rt.alloc(), &mut queue, &mut source, 0, b"cdef")?;
-    let grown = write(rt.alloc(), &mut queue, &mut source, 4, FORTY)? && source.back == 1;
-    let inside = write(rt.alloc(), &mut queue, &mut source, 10, b"gh")?;
-    assert!(rt; first && second && grown && inside && source.back == 2);
+    let grown = write(rt.alloc(), &mut queue, &mut source, 4, FORTY)? && source.back == 2;
+    let inside = write(rt.alloc(), &mut queue, &mut source, 10, b"gh")? && source.back == 2;
+    queue.flush(&mut source);
+    assert!(rt; first && second && grown && inside && source.back == 4);
     Ok(())
 }

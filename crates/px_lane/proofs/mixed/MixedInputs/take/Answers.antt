@@ -33,3 +33,9 @@ returns-in-None-clause-ticks g c =
     let m = c.args.self.now in
     subst (λ (r : Ready). c.remove.new.steps + c.args.self.now.spec.channels * (c.args.self.now.frames - 0) ≤ c.args.steps.now + c.args.self.now.spec.channels * ready_cost c.args.self.now.frames r c.args.self.now.inputs) (sym c.in-Remove.is)
     (clipped_too m.spec.channels (2 * m.frames) m.frames 0 (5 * m.frames) c.args.steps.now c.remove.new.steps c.remove.ensures.ticks (omega arith))
+
+pub returns-in-Join-clause-ticks : goal.returns-in-Join-clause-ticks
+returns-in-Join-clause-ticks g c =
+    let m = c.args.self.now in
+    subst (λ (r : Ready). c.insert-in-Join.new.steps + c.args.self.now.spec.channels * (c.args.self.now.frames - 0) ≤ c.args.steps.now + c.args.self.now.spec.channels * ready_cost c.args.self.now.frames r c.args.self.now.inputs) (sym c.in-Join.is)
+    (clipped_too m.spec.channels (4 * m.frames) m.frames 0 (5 * m.frames) c.args.steps.now c.insert-in-Join.new.steps c.insert-in-Join.ensures.ticks (omega arith))

@@ -1,6 +1,6 @@
 use Rattle.std.specs.Prelude.{◌-ℤ◌}
 use Rattle.std.proofs.lemmas.Int.{to_z-of_z}
-use Rattle.px_queue.proofs.Storing.{past_is}
+use Rattle.px_queue.proofs.Ending.{past_is}
 use Rattle.px_queue.proofs.index.Index.is_past.Goals as goal
 
 pub returns : goal.returns

@@ -1,47 +1,53 @@
-use Rattle.std.proofs.Common.{◌≡◌, ℕ, ◌+◌, ◌-◌, ◌*◌, ◌<◌, ◌≤◌, List, length, take, drop, Some, ap, sym, subst, ◌∙◌, arith, length-take, length-drop}
+use Rattle.std.proofs.Common.{◌≡◌, ◌+◌, ◌*◌, ◌/◌, ◌<◌, ◌≤◌, ℕ, ap, sym, subst, ◌∙◌, List, ◌++◌, Some, None, arith, take, drop, length, length-take}
+use Rattle.std.specs.Prelude.{◌≤ℤ◌}
 use Rattle.std.proofs.Math.Nat.{add-mul, mul-le-mul_right}
-use Rattle.std.proofs.lemmas.List.{take_all}
+use Rattle.px_model.specs.Index.{onward, FIRST}
 use Rattle.px_model.specs.Held.{place}
+use Rattle.px_model.proofs.Places.{place_past}
 use Rattle.px_queue.specs.Kept.{KeptQueue}
-use Rattle.px_queue.proofs.Copying.{put_behind, run_frames, run_rest}
+use Rattle.px_queue.specs.Pieces.{Piece}
+use Rattle.px_queue.specs.Framed.{byte_index, held_from}
+use Rattle.px_queue.proofs.Framing.{held_length}
+use Rattle.px_queue.proofs.Copying.{quotient, run_frames, run_end}
 use Rattle.px_queue.proofs.queue.FrameQueue.copy_frames.Goals as goal
 
-pub copy_run-run-requires-clause-room : goal.copy_run-run-requires-clause-room
-copy_run-run-requires-clause-room c =
-    let count = c.loop-count.count in
-    let size = c.args.self.now.frame in
-    let out = c.loop-count.out in
-    let left = c.args.most - count in
-    let at = count * c.self.inside.frame in
-    let is : at ≡ count * size = ap (λ (v : KeptQueue). count * v.frame) c.self.view_is in
-    let all : left + count ≡ c.args.most = omega (arith, c.loop-count-test.true) in
-    omega (
-      arith,
-      is,
-      sym (add-mul left count size) ∙ ap (λ (n : ℕ). n * size) all,
-      c.requires,
-      c.loop-count.auto.out,
-      length-take (length out - at) (drop at out),
-      length-drop at out,
-    )
+pub returns-then-k-self-clause-end : goal.returns-then-k-self-clause-end
+returns-then-k-self-clause-end c =
+    let d = c.self.inside in
+    let ps : List Piece = d.chunks.before in
+    λ _. subst (λ (v : KeptQueue). place v.queue.held (c.args.k + 0) ≡ None) c.self.view_is
+    (place_past (held_from d.frame ps d.read d.held) (c.args.k + 0) (omega (arith, held_length d.frame ps d.read d.held, c.if-k-self.true)))
 
-pub loop-count-preserved : goal.loop-count-preserved
-loop-count-preserved c =
-    let count = c.loop-count.count in
-    let size = c.args.self.now.frame in
-    let out = c.loop-count.out in
-    let part = c.copy_run-run.new.out in
-    let n = c.copy_run-run.result in
-    let at = count * c.self.inside.frame in
-    let is : at ≡ count * size = ap (λ (v : KeptQueue). count * v.frame) c.self.view_is in
-    let few : count ≤ c.args.most = omega (arith, c.loop-count-test.true) in
-    let inside : at ≤ length out = omega (arith, is, mul-le-mul_right size few, c.requires, c.loop-count.auto.out) in
-    let kept : drop (n * size) part ≡ drop (n * size) (drop at out) =
-    c.copy_run-run.ensures.rest ∙ ap (λ (xs : List ℕ). drop (n * size) xs) (take_all (length out - at) (drop at out) (omega (arith, length-drop at out))) in
-    record {
-      few = omega (arith, c.copy_run-run.ensures.few, few);
-      frames = subst (λ (xs : List ℕ). (j : ℕ) → j < count + n → place c.args.self.now.queue.held (c.args.k + j) ≡ Some (take size (drop (j * size) xs))) (sym (put_behind at out part))
-          (run_frames size count at out part is inside c.args.self.now.queue.held c.args.k n c.loop-count.invariant.frames c.copy_run-run.ensures.frames);
-      rest = ap (λ (xs : List ℕ). drop ((count + n) * size) xs) (put_behind at out part)
-          ∙ run_rest size count at out part is inside c.args.out.now n kept c.loop-count.invariant.rest;
-    }
+pub returns-clause-frames : goal.returns-clause-frames
+returns-clause-frames c =
+    let d = c.self.inside in
+    let ps : List Piece = d.chunks.before in
+    let laid = c.self.invariant.2 in
+    let low : FIRST ≤ℤ d.read = c.self.invariant.1.read_in_range.0 in
+    let from : c.byte_index-from.result ≡ byte_index d.frame (onward d.read c.args.k) = c.byte_index-from.ensures.value ∙ ap (byte_index d.frame) c.onward.ensures in
+    let m : ℕ = c.run.result / d.frame in
+    let part : List ℕ = c.copy_from.new.out in
+    let rest : List ℕ = drop (m * d.frame) c.args.out.now in
+    let frame : d.frame ≡ c.args.self.now.frame = ap (λ (v : KeptQueue). v.frame) c.self.view_is in
+    let near = quotient c.run.result d.frame laid.some in
+    let fits : c.args.most * d.frame ≤ length c.args.out.now = subst (λ (n : ℕ). c.args.most * n ≤ length c.args.out.now) (sym frame) c.requires in
+    let long : length (take (m * d.frame) c.args.out.now) ≡ m * d.frame = omega (arith, length-take (m * d.frame) c.args.out.now, near.0, c.run.ensures.few, fits) in
+    let same : length part ≡ m * d.frame = c.copy_from.auto.out ∙ long in
+    λ j few. subst (λ (v : KeptQueue). place v.queue.held (c.args.k + j) ≡ Some (take v.frame (drop (j * v.frame) (part ++ rest)))) c.self.view_is
+    (run_frames d.frame ps d.read d.held laid.ends low c.args.k c.byte_index-from.result from part rest m same (λ t less. c.copy_from.ensures t (omega (arith, less, same, long))) j few)
+
+pub returns-clause-end : goal.returns-clause-end
+returns-clause-end c =
+    let d = c.self.inside in
+    let ps : List Piece = d.chunks.before in
+    let laid = c.self.invariant.2 in
+    let low : FIRST ≤ℤ d.read = c.self.invariant.1.read_in_range.0 in
+    let from : c.byte_index-from.result ≡ byte_index d.frame (onward d.read c.args.k) = c.byte_index-from.ensures.value ∙ ap (byte_index d.frame) c.onward.ensures in
+    let r : ℕ = c.run.result in
+    let m : ℕ = r / d.frame in
+    let near = quotient r d.frame laid.some in
+    λ few.
+    let next : m + 1 ≤ c.args.most = omega arith in
+    let less : r < c.args.most * d.frame = omega (arith, near.1, mul-le-mul_right d.frame next, add-mul m 1 d.frame) in
+    subst (λ (v : KeptQueue). place v.queue.held (c.args.k + m) ≡ None) c.self.view_is
+    (run_end d.frame ps d.read d.held laid.ends low c.args.k c.byte_index-from.result from m r near.0 near.1 (c.run.ensures.end less))

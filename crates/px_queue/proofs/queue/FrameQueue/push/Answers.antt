@@ -1,16 +1,13 @@
-use Rattle.std.proofs.Common.{◌≡◌, ℕ, Bool, Option, length, ap, sym, ◌∙◌, cond, arith}
+use Rattle.std.proofs.Common.{ℕ, Bool, cond, ap, sym, ◌∙◌, Option, arith, length}
 use Rattle.std.specs.Prelude.{ℤ}
 use Rattle.std.proofs.lemmas.Int.{to_z-of_z}
 use Rattle.px_block.specs.Given.{after_giving, blocks_for}
 use Rattle.px_block.proofs.Giving.{giving_both}
 use Rattle.px_model.specs.Frame.{frames_of}
 use Rattle.px_model.specs.Index.{onward}
-use Rattle.px_model.specs.Write.{overflow, stored, target_of, seek_of, queue_with}
-use Rattle.px_model.specs.Queue.{Queue}
-use Rattle.px_queue.specs.Kept.{KeptQueue}
-use Rattle.px_queue.specs.Written.{Written}
-use Rattle.px_queue.proofs.Log.{length_frames}
-use Rattle.px_queue.proofs.Storing.{ends_by}
+use Rattle.px_model.specs.Write.{stored, overflow, queue_with, target_of, seek_of}
+use Rattle.px_queue.proofs.Storing.{length_frames}
+use Rattle.px_queue.proofs.Ending.{ends_by}
 use Rattle.px_queue.proofs.queue.FrameQueue.push.Goals as goal
 
 pub returns-then-overflows-clause-outcome : goal.returns-then-overflows-clause-outcome
@@ -47,38 +44,8 @@ returns-clause-outcome g c =
     sym (ends_by q c.args.limit (target_of q (seek_of c.args.seek) c.args.offset) c.args.frames c.args.ahead c.in-Ok.both.1 c.overflows.result begins ends last (simp (to_z-of_z, c.ranges.ahead, c.ranges.limit) at c.overflows.ensures)
     ∙ ap (λ (b : Bool). cond b overflow stored) c.if-overflows.false)
 
-pub returns-then-extend-clause-outcome : goal.returns-then-extend-clause-outcome
-returns-then-extend-clause-outcome g c =
-    let q = c.args.self.now.queue in
-    let begins = simp (to_z-of_z, c.ranges.offset) at c.in-Ok.ensures.ok.begins in
-    let ends = simp (to_z-of_z, c.ranges.offset) at c.in-Ok.ensures.ok.ends in
-    let last = simp (to_z-of_z, c.ranges.offset) at c.in-Ok.ensures.ok.last in
-    sym (ends_by q c.args.limit (target_of q (seek_of c.args.seek) c.args.offset) c.args.frames c.args.ahead c.in-Ok.both.1 c.overflows.result begins ends last (simp (to_z-of_z, c.ranges.ahead, c.ranges.limit) at c.overflows.ensures)
-    ∙ ap (λ (b : Bool). cond b overflow stored) c.if-overflows.false)
-
-pub returns-then-extend-clause-queue : goal.returns-then-extend-clause-queue
-returns-then-extend-clause-queue g c =
-    let q = c.args.self.now.queue in
-    let first = simp (to_z-of_z, c.ranges.offset) at c.in-Ok.ensures.ok.first in
-    c.extend.ensures.stored c.if-extend.true
-    ∙ ap (λ (i : ℤ). queue_with stored q i (frames_of c.args.self.now.frame c.args.frames c.args.bytes)) first
-
-pub returns-then-extend-clause-given : goal.returns-then-extend-clause-given
-returns-then-extend-clause-given g c =
-    let given = g.B.BlockSource.given c.args.blocks.now in
-    let n = blocks_for (length c.args.bytes) in
-    ap (λ (o : Option ℕ). after_giving o c.extend.new.self.blocks) c.give_back-then-extend.ensures
-    ∙ giving_both given n c.extend.new.self.blocks
-    ∙ ap (λ (m : ℕ). after_giving given m) (omega (arith, c.extend.ensures.blocks))
-
 pub returns-clause-queue : goal.returns-clause-queue
 returns-clause-queue g c =
     let q = c.args.self.now.queue in
-    let size = c.store.inside.frame in
     let first = simp (to_z-of_z, c.ranges.offset) at c.in-Ok.ensures.ok.first in
-    let frame : size ≡ c.args.self.now.frame = ap (λ (v : KeptQueue). v.frame) c.store.view_is ∙ c.extend.ensures.frame in
-    c.store-2.ensures.queue
-    ∙ ap (λ (v : Queue). queue_with stored v c.new.result.at c.new.result.frames) (c.extend.ensures.none c.if-extend.false)
-    ∙ ap (λ (w : Written). queue_with stored q w.at w.frames) c.new.ensures
-    ∙ ap (λ (i : ℤ). queue_with stored q i (frames_of size c.args.frames c.args.bytes)) first
-    ∙ ap (λ (s : ℕ). queue_with stored q (target_of q (seek_of c.args.seek) c.args.offset) (frames_of s c.args.frames c.args.bytes)) frame
+    c.store.ensures.queue ∙ ap (λ (i : ℤ). queue_with stored q i (frames_of c.args.self.now.frame c.args.frames c.args.bytes)) first

@@ -1,6 +1,6 @@
 use Rattle.std.proofs.lemmas.Int.{to_z-of_z}
 use Rattle.px_model.specs.Write.{target_of, seek_of, outcome_of}
-use Rattle.px_queue.proofs.Storing.{ends_by, ends_outside}
+use Rattle.px_queue.proofs.Ending.{ends_by, ends_outside}
 use Rattle.px_queue.proofs.Hearing.{all_stay, placed_stay}
 use Rattle.px_queue.proofs.queue.FrameQueue.unaltered.Goals as goal
 

@@ -1,0 +1,59 @@
+use Rattle.std.proofs.Common.{◌+◌, ◌<◌, ◌≤◌, ℕ, sym, subst, List, [], Option, arith, length}
+use Rattle.std.specs.Prelude.{slice_index_or, IsSome}
+use Rattle.px_queue.specs.Laid.{TOP}
+use Rattle.px_queue.specs.Pieces.{Piece, end_of}
+use Rattle.px_queue.proofs.Finding.{found, found_some, all_past, in_gap}
+use Rattle.px_queue.proofs.chunks.Chunks.part_at.Goals as goal
+
+pub returns-then-place-len-clause-none : goal.returns-then-place-len-clause-none
+returns-then-place-len-clause-none c =
+    let d : Piece = record { at = 0; bytes = [] } in
+    let v : List Piece = c.args.self.now.before in
+    let k : ℕ = c.ended-place.result in
+    let same : c.args.from ≤ c.args.from = omega arith in
+    λ _ some. all_past 0 TOP v k c.args.from c.args.from (omega (arith, c.len.ensures, c.if-place-len.true)) c.ended-place.ensures.before same
+
+pub returns-then-first-from-clause-none : goal.returns-then-first-from-clause-none
+returns-then-first-from-clause-none c =
+    let d : Piece = record { at = 0; bytes = [] } in
+    let v : List Piece = c.args.self.now.before in
+    let k : ℕ = c.ended-place.result in
+    let same : c.args.from ≤ c.args.from = omega arith in
+    let few : k < length v = omega (arith, c.len.ensures, c.if-place-len.false, c.ended-place.ensures.few) in
+    λ _ some. in_gap 0 TOP v k c.args.from c.args.from d c.requires c.ended-place.ensures.before same few (omega (arith, c.first.ensures.value d, c.if-first-from.true))
+
+pub overflow_sub-end : goal.overflow_sub-end
+overflow_sub-end c =
+    let d : Piece = record { at = 0; bytes = [] } in
+    let v : List Piece = c.args.self.now.before in
+    let k : ℕ = c.ended-place.result in
+    let few : k < length v = omega (arith, c.len.ensures, c.if-place-len.false, c.ended-place.ensures.few) in
+    omega (arith, c.end.ensures.value d, c.ended-place.ensures.behind d few)
+
+pub returns-clause-bytes : goal.returns-clause-bytes
+returns-clause-bytes c =
+    let d : Piece = record { at = 0; bytes = [] } in
+    let v : List Piece = c.args.self.now.before in
+    let k : ℕ = c.ended-place.result in
+    let few : k < length v = omega (arith, c.len.ensures, c.if-place-len.false, c.ended-place.ensures.few) in
+    λ e j less. found 0 TOP v k c.args.from (c.args.from + j) e c.requires c.ended-place.ensures.before (omega arith) few (omega (arith, c.end.ensures.value e, c.least.ensures, less))
+
+pub returns-clause-held : goal.returns-clause-held
+returns-clause-held c =
+    let d : Piece = record { at = 0; bytes = [] } in
+    let v : List Piece = c.args.self.now.before in
+    let k : ℕ = c.ended-place.result in
+    let few : k < length v = omega (arith, c.len.ensures, c.if-place-len.false, c.ended-place.ensures.few) in
+    λ j less.
+    let high : c.args.from + j < end_of (slice_index_or v k d) = omega (arith, c.end.ensures.value d, c.least.ensures, less) in
+    let low : (slice_index_or v k d).at ≤ c.args.from + j = omega (arith, c.first.ensures.value d, c.if-first-from.false) in
+    subst (λ (o : Option ℕ). IsSome o) (sym (found 0 TOP v k c.args.from (c.args.from + j) d c.requires c.ended-place.ensures.before (omega arith) few high)) (found_some (slice_index_or v k d) (c.args.from + j) low high)
+
+pub returns-clause-none : goal.returns-clause-none
+returns-clause-none c =
+    let d : Piece = record { at = 0; bytes = [] } in
+    let v : List Piece = c.args.self.now.before in
+    let k : ℕ = c.ended-place.result in
+    let few : k < length v = omega (arith, c.len.ensures, c.if-place-len.false, c.ended-place.ensures.few) in
+    let high : c.args.from < end_of (slice_index_or v k d) = c.ended-place.ensures.behind d few in
+    λ none some. absurd (omega (arith, c.least.ensures, c.end.ensures.value d, high, none, some))

@@ -1,0 +1,47 @@
+-- Chunks: parts of blocks on a shelf, laid from a byte index on.
+use Rattle.std.specs.Prelude.{◌≡◌, ℕ, ◌+◌, ◌^◌, ◌≤◌, ◌==◌, List, [], ◌∷◌, length, map, take, drop, if◌then◌else◌}
+use Rattle.std.specs.List.{AllByRecursion}
+use Rattle.px_block.specs.Shelved.{Shelves, under, references_to, one_of, bytes_of}
+use Rattle.px_queue.specs.Pieces.{Piece}
+
+-- so many bytes of the block under a key, from a place in it on, laid from byte index `at` on
+pub record Laid : Type 0 where
+  pub at : ℕ
+  pub key : ℕ
+  pub place : ℕ
+  pub len : ℕ
+
+-- no byte index lies past this one
+abbrev pub TOP : ℕ
+TOP = 2 ^ 100
+
+-- its bytes
+abbrev pub piece_of : Shelves → Laid → Piece
+piece_of s c = record { at = c.at; bytes = take c.len (drop c.place (bytes_of (under s c.key))) }
+
+abbrev pub pieces_of : Shelves → List Laid → List Piece
+pieces_of s chunks = map (piece_of s) chunks
+
+-- its block has the bytes
+abbrev pub IsOn : Shelves → Laid → Type 0
+IsOn s c = c.place + c.len ≤ length (bytes_of (under s c.key))
+
+-- how many of these refer to the block under a key
+abbrev pub refs_of : ℕ → List Laid → ℕ
+refs_of key [] = 0
+refs_of key (c ∷ chunks) = (if c.key == key then 1 else 0) + refs_of key chunks
+
+-- each lies in a block of the shelf, which counts them; and no other block stands there
+pub record IsTied (s : Shelves) (chunks : List Laid) : Type 0 where
+  pub on : AllByRecursion (IsOn s) chunks
+  pub counted : (key : ℕ) → references_to (under s key) ≡ refs_of key chunks
+  pub used : (key : ℕ) → one_of (under s key) ≤ references_to (under s key)
+
+-- what a list of chunks keeps: the pieces before a byte index and behind it, how many blocks they lie in, and how many more chunks and blocks
+-- there is room for
+pub record Chunked : Type 0 where
+  pub before : List Piece
+  pub behind : List Piece
+  pub blocks : ℕ
+  pub room : ℕ
+  pub block_room : ℕ

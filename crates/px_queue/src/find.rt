@@ -1,0 +1,165 @@
+// Bytes are found by their indices, and copied out.
+ghost use Rattle.std.specs.Prelude.{◌≡◌, ℕ, ◌+◌, ◌-◌, ◌<◌, ◌≤◌, length, min, take, slice_get, slice_index_or, IsTrue, IsSome, None};
+ghost use Rattle.px_queue.specs.Pieces.{Piece, byte_in, byte_at, end_of, Rise};
+ghost use Rattle.px_queue.specs.Laid.{TOP};
+
+use crate::chunks::Chunks;
+
+impl Chunks {
+    /// How many bytes lie one after another from a byte index on, at most so many.
+    pub(crate) fn run(&self, from: u128, most: usize) -> usize
+        requires rising { Rise 0 TOP self.now.before }
+        requires top { from ≤ TOP }
+        ensures few { result ≤ most }
+        ensures held { (j : ℕ) → j < result → IsSome (byte_at self.now.before (from + j)) }
+        ensures end { result < most → byte_at self.now.before (from + result) ≡ None }
+    {
+        let mut near = 0;
+        let mut count = 0;
+        while count < most {
+            let (place, more) = self.part_at(near, from + count as u128, most - count);
+            if more == 0 {
+                return count;
+            }
+            count += more;
+            near = place.saturating_add(1);
+        }
+        count
+    }
+
+    /// Fills a slice with the bytes from a byte index on, which lie there.
+    pub(crate) fn copy_from(&self, from: u128, out: &mut [u8])
+        requires rising { Rise 0 TOP self.now.before }
+        requires top { from ≤ TOP }
+        requires held { (j : ℕ) → j < length out.old → IsSome (byte_at self.now.before (from + j)) }
+        ensures { (j : ℕ) → j < length out.old → byte_at self.now.before (from + j) ≡ slice_get out.new j }
+    {
+        let mut near = 0;
+        let mut count = 0;
+        while count < out.len() {
+            let at = from + count as u128;
+            let (place, more) = self.part_at(near, at, out.len() - count);
+            self.copy(place, at, &mut out[count..count + more]);
+            count += more;
+            near = place.saturating_add(1);
+        }
+    }
+
+    /// How many byte indices from one on have no byte, at most so many.
+    pub(crate) fn gap(&self, from: u128, most: usize) -> usize
+        requires { Rise 0 TOP self.now.before }
+        ensures few { result ≤ most }
+        ensures none { (j : ℕ) → j < result → byte_at self.now.before (from + j) ≡ None }
+        ensures some { result ≡ 0 → 0 < most → IsSome (byte_at self.now.before from) }
+    {
+        let place = self.ended(0, from);
+        if place == self.len() {
+            return most;
+        }
+        let first = self.first(place);
+        if first <= from {
+            return 0;
+        }
+        least(most, first - from)
+    }
+
+    /// Takes room in the block that ends at a byte index, where it has few bytes and no other has such room, if there is memory.
+    pub(crate) fn open_at(&mut self, at: u128)
+        requires { Rise 0 TOP self.old.before }
+        ensures { self.new ≡ self.old }
+    {
+        if self.is_open() {
+            return;
+        }
+        let count = self.ended(0, at);
+        if count > 0 && self.end(count - 1) == at {
+            self.open(count - 1);
+        }
+    }
+
+    // The number of the chunk with the byte at an index, and how many bytes it has from there on, at most so many: none where no byte
+    // lies there. So many chunks before it are tried first.
+    fn part_at(&self, near: usize, from: u128, most: usize) -> (usize, usize)
+        requires { Rise 0 TOP self.now.before }
+        ensures few { result.1 ≤ most }
+        ensures some { 0 < result.1 → result.0 < length self.now.before }
+        ensures first { (d : Piece) → 0 < result.1 → (slice_index_or self.now.before result.0 d).at ≤ from }
+        ensures inside { (d : Piece) → 0 < result.1 → from + result.1 ≤ end_of (slice_index_or self.now.before result.0 d) }
+        ensures bytes { (d : Piece) (j : ℕ) → j < result.1 → byte_at self.now.before (from + j) ≡ byte_in (slice_index_or self.now.before result.0 d) (from + j) }
+        ensures held { (j : ℕ) → j < result.1 → IsSome (byte_at self.now.before (from + j)) }
+        ensures none { result.1 ≡ 0 → 0 < most → byte_at self.now.before from ≡ None }
+    {
+        let place = self.ended(near, from);
+        if place == self.len() {
+            return (place, 0);
+        }
+        if self.first(place) > from {
+            return (place, 0);
+        }
+        (place, least(most, self.end(place) - from))
+    }
+
+    // How many of the first ones end at or before a byte index; they rise, so no other does. So many is tried first.
+    fn ended(&self, near: usize, from: u128) -> usize
+        requires { Rise 0 TOP self.now.before }
+        ensures few { result ≤ length self.now.before }
+        ensures before { Rise 0 from (take result self.now.before) }
+        ensures behind { (d : Piece) → result < length self.now.before → from < end_of (slice_index_or self.now.before result d) }
+    {
+        if self.parts(near, from) {
+            near
+        } else {
+            self.halved(from)
+        }
+    }
+
+    // Whether exactly so many of the first ones end at or before a byte index, and there are more.
+    fn parts(&self, near: usize, from: u128) -> bool
+        requires { Rise 0 TOP self.now.before }
+        ensures more { IsTrue result → near < length self.now.before }
+        ensures before { IsTrue result → Rise 0 from (take near self.now.before) }
+        ensures behind { (d : Piece) → IsTrue result → from < end_of (slice_index_or self.now.before near d) }
+    {
+        if near >= self.len() {
+            return false;
+        }
+        if self.end(near) <= from {
+            return false;
+        }
+        if near == 0 {
+            return true;
+        }
+        self.end(near - 1) <= from
+    }
+
+    // How many of the first ones end at or before a byte index, by halves.
+    fn halved(&self, from: u128) -> usize
+        requires { Rise 0 TOP self.now.before }
+        ensures few { result ≤ length self.now.before }
+        ensures before { Rise 0 from (take result self.now.before) }
+        ensures behind { (d : Piece) → result < length self.now.before → from < end_of (slice_index_or self.now.before result d) }
+    {
+        let mut low = 0;
+        let mut high = self.len();
+        while low < high {
+            let middle = low + (high - low) / 2;
+            if self.end(middle) <= from {
+                low = middle + 1;
+            } else {
+                high = middle;
+            }
+        }
+        low
+    }
+}
+
+// The lesser of two.
+fn least(most: usize, bytes: u128) -> usize
+    ensures { result ≡ min most bytes }
+{
+    if bytes < most as u128 {
+        bytes as usize
+    } else {
+        most
+    }
+}

@@ -1,0 +1,56 @@
+// A frame that lies in two blocks.
+ghost use Rattle.std.specs.Prelude.{◌≡◌, ◌+◌, ◌≤◌, length, IfOk, OnOk};
+
+use crate::tests::blocks::Counting;
+use px_block::{Blocks, Fresh};
+use px_queue::{FrameQueue, Pushed, Span};
+use px_types::{Mem, NoMemory};
+use std::alloc::Global;
+
+// Frames of three bytes, of which the last but one begins with the last byte of the first block.
+const FRAMES: u32 = 21_847;
+
+// Appends bytes, as many as the last block takes.
+fn put(alloc: Global, made: &mut Blocks, bytes: &[u8]) -> Mem<()>
+    ensures { OnOk result (length made.new ≤ length made.old + length bytes.now) }
+{
+    match made.put(&mut Fresh::new(alloc), bytes) {
+        Ok(_) => Ok(()),
+        Err(_) => Err(NoMemory),
+    }
+}
+
+// Zeros up to the last byte of the first block, which is a, and bcdef in the second.
+fn in_two(alloc: Global) -> Mem<Blocks>
+    ensures { IfOk result (λ made. length made ≤ 65_541) }
+{
+    let zeros = vec![in alloc; 0; 65_535]?;
+    let mut made = Blocks::new(alloc);
+    put(alloc, &mut made, zeros.as_slice())?;
+    put(alloc, &mut made, b"a")?;
+    put(alloc, &mut made, b"bcdef")?;
+    Ok(made)
+}
+
+// Both frames at the end are read, the first of them out of both blocks; as it goes, so does the first block.
+fn are_read(queue: &mut FrameQueue, source: &mut Counting) -> bool
+    requires { queue.old.frame ≡ 3 }
+{
+    let mut out = [0; 6];
+    let read = queue.peek(FRAMES - 2, &mut out) == Span::Frames(2) && out == *b"abcdef";
+    let some = queue.settle((FRAMES - 2) as u64, source) > 0 && source.back == 0;
+    let past = queue.settle(1, source) == 1 && source.back == 1;
+    read && some && past
+}
+
+#[test]
+fn a_frame_in_two_blocks_is_read_whole(rt: HostRuntime) -> Mem<()> {
+    let mut source = Counting::new(rt.alloc());
+    let mut queue = FrameQueue::new(rt.alloc(), 3);
+    queue.reserve(1, 2)?;
+    let made = in_two(rt.alloc())?;
+    let held = made.len() == 65_541
+        && queue.push(1, 0, made, FRAMES, 0, i64::MAX, &mut source) == Pushed::Stored;
+    assert!(rt; held && are_read(&mut queue, &mut source));
+    Ok(())
+}
