@@ -84,7 +84,6 @@ impl FrameQueue {
     {
         let writes = self.room.max(writes);
         let most = self.block_room.max(blocks);
-        // A write may split one chunk in two, and brings one for each of its blocks.
         let chunks = writes as usize + most as usize;
         if self.chunks.reserve(chunks, most as usize).is_err() {
             return Err(NoMemory);
