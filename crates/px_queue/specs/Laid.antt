@@ -37,6 +37,11 @@ pub record IsTied (s : Shelves) (chunks : List Laid) : Type 0 where
   pub counted : (key : ℕ) → references_to (under s key) ≡ refs_of key chunks
   pub used : (key : ℕ) → one_of (under s key) ≤ references_to (under s key)
 
+-- chunks in a line, and how many there is room for in all
+pub record Lined : Type 0 where
+  pub items : List Laid
+  pub capacity : ℕ
+
 -- what a list of chunks keeps: the pieces before a byte index and behind it, how many blocks they lie in, and how many more chunks and blocks
 -- there is room for
 pub record Chunked : Type 0 where

@@ -6,9 +6,9 @@ ghost use Rattle.px_queue.specs.Pieces.{Piece, last_of, front_of, head_to, tail_
 ghost use Rattle.px_queue.specs.Laid.{TOP};
 
 use crate::chunk::Chunk;
+use crate::line::Line;
 use px_block::{Block, BlockSource, Mem, Shelf};
 use std::alloc::Global;
-use std::collections::VecDeque;
 use std::marker::Model;
 
 /// The most bytes of a write that is put behind others. More lie in a block of their own, where they came: there they take little more than
@@ -20,14 +20,13 @@ const FEW: usize = 1_024;
 #[derive(Debug, Drop)]
 pub(crate) struct Chunks {
     shelf: Shelf,
-    before: VecDeque<Chunk>,
-    behind: VecDeque<Chunk>,
+    before: Line,
+    behind: Line,
     open: Option<usize>,
 }
 
 impl Model for Chunks {
-    ghost use Rattle.std.specs.Prelude.{◌++◌, ◌+◌, ◌-◌, ◌≤◌, min};
-    ghost use Rattle.std.specs.VecDeque.{deque_len, deque_capacity};
+    ghost use Rattle.std.specs.Prelude.{◌++◌, ◌+◌, ◌-◌, ◌≤◌, length, min};
     ghost use Rattle.px_block.specs.Shelved.{blocks_on};
     ghost use Rattle.px_queue.specs.Laid.{Chunked, pieces_of, IsTied};
 
@@ -37,12 +36,12 @@ impl Model for Chunks {
       before = pieces_of c.shelf c.before.items;
       behind = pieces_of c.shelf c.behind.items;
       blocks = blocks_on c.shelf;
-      room = min (deque_capacity c.before) (deque_capacity c.behind) - (deque_len c.before + deque_len c.behind);
+      room = min c.before.capacity c.behind.capacity - (length c.before.items + length c.behind.items);
       block_room = c.shelf.room;
     } };
 
     ghost invariant = { λ c. IsTied c.shelf (c.before.items ++ c.behind.items)
-        × (deque_len c.before + deque_len c.behind ≤ min (deque_capacity c.before) (deque_capacity c.behind)) };
+        × (length c.before.items + length c.behind.items ≤ min c.before.capacity c.behind.capacity) };
 }
 
 impl Chunks {
@@ -54,8 +53,8 @@ impl Chunks {
     {
         Chunks {
             shelf: Shelf::new(alloc),
-            before: VecDeque::new(alloc),
-            behind: VecDeque::new(alloc),
+            before: Line::new(alloc),
+            behind: Line::new(alloc),
             open: None,
         }
     }
@@ -89,7 +88,7 @@ impl Chunks {
         ensures value { (d : Piece) → result ≡ (slice_index_or self.now.before k d).at }
         ensures few { result ≤ TOP }
     {
-        self.before[k].first()
+        self.before.get(k).first()
     }
 
     /// The byte index at which it ends, one past its last byte.
@@ -98,7 +97,7 @@ impl Chunks {
         ensures value { (d : Piece) → result ≡ end_of (slice_index_or self.now.before k d) }
         ensures few { result ≤ TOP }
     {
-        self.before[k].end()
+        self.before.get(k).end()
     }
 
     /// The byte index at which the last one before begins.
@@ -281,7 +280,7 @@ impl Chunks {
         requires { k < length self.old.before }
         ensures { self.new ≡ self.old }
     {
-        let chunk = self.before[k];
+        let chunk = self.before.get(k);
         let end = chunk.place() + chunk.len();
         let key = chunk.key();
         if end > FEW || self.shelf.len_of(key) != end {
@@ -313,7 +312,7 @@ impl Chunks {
         requires inside { (d : Piece) → from + length out.old ≤ end_of (slice_index_or self.now.before k d) }
         ensures { (d : Piece) → out.new ≡ take (length out.old) (drop (from - (slice_index_or self.now.before k d).at) (slice_index_or self.now.before k d).bytes) }
     {
-        let chunk = &self.before[k];
+        let chunk = self.before.get(k);
         let place = chunk.place() + (from - chunk.first()) as usize;
         out.copy_from_slice(self.shelf.bytes(chunk.key(), place, out.len()));
     }

@@ -8,6 +8,7 @@ mod chunks;
 mod find;
 mod index;
 mod lay;
+mod line;
 mod over;
 mod past;
 mod peek;

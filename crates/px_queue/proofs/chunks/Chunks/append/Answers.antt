@@ -48,7 +48,7 @@ invariant_of-self-then-grow c =
     let key : d.key ≡ w.key = ap (λ (x : Laid). x.key) c.longer.ensures in
     let on : IsOn t d = longer_on t w d (bytes_of (under s w.key)) more bytes whole c.longer.ensures in (
       tied_whole t c.push_back_reserved.new.self.items xs ys d c.push_back_reserved.ensures.items (tied_other t xs ys w d (tied_grown s t (xs ++ w ∷ ys) w.key more tied there set) key on),
-      omega (arith, c.self.invariant.1, c.pop_back.ensures.capacity, c.push_back_reserved.ensures.capacity, c.push_back_reserved.ensures.len, c.self.inside.before.ok.0, c.pop_back.new.self.ok.0, ap length split, length-append xs (w ∷ [])),
+      omega (arith, c.self.invariant.1, c.pop_back.ensures.capacity, c.push_back_reserved.ensures.capacity, ap length c.push_back_reserved.ensures.items, ap length split, length-append xs (w ∷ []), length-append xs (d ∷ [])),
     )
 
 pub returns-then-grow-clause-there : goal.returns-then-grow-clause-there
@@ -161,7 +161,7 @@ invariant_of-self-2 c =
     let set : SetsOnly s t w.key (appended (under s w.key) []) = subst (λ (b : Bool). SetsOnly s t w.key (appended (under s w.key) (cond b c.args.bytes.now []))) c.if-grow.false c.grow.ensures.slots in
     let ext : Extends s t (xs ++ w ∷ ys) = grown_extends s t (xs ++ w ∷ ys) w.key [] tied there set in (
       tied_whole t c.push_back_reserved-2.new.self.items xs ys w c.push_back_reserved-2.ensures.items (tied_grown s t (xs ++ w ∷ ys) w.key [] tied there set),
-      omega (arith, c.self.invariant.1, c.pop_back.ensures.capacity, c.push_back_reserved-2.ensures.capacity, c.push_back_reserved-2.ensures.len, c.self.inside.before.ok.0, c.pop_back.new.self.ok.0, ap length split, length-append xs (w ∷ [])),
+      omega (arith, c.self.invariant.1, c.pop_back.ensures.capacity, c.push_back_reserved-2.ensures.capacity, ap length c.push_back_reserved-2.ensures.items, ap length split, length-append xs (w ∷ [])),
     )
 
 pub returns-clause-no : goal.returns-clause-no

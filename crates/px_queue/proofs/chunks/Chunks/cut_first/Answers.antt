@@ -72,7 +72,7 @@ invariant_of-self c =
     let key : d.key ≡ w.key = ap (λ (x : Laid). x.key) c.tail.ensures in
     let on_d : IsOn s d = subst (λ (k : ℕ). d.place + d.len ≤ length (bytes_of (under s k))) (sym key) (omega arith) in (
       subst (λ (zs : List Laid). IsTied s (zs ++ ys)) (sym c.push_front_reserved.ensures.items) (tied_other s [] (xs ++ ys) w d tied key on_d),
-      omega (arith, c.self.invariant.1, c.pop_front.ensures.capacity, c.push_front_reserved.ensures.capacity, c.push_front_reserved.ensures.len, c.self.inside.before.ok.0, c.pop_front.new.self.ok.0, ap length split),
+      omega (arith, c.self.invariant.1, c.pop_front.ensures.capacity, c.push_front_reserved.ensures.capacity, ap length c.push_front_reserved.ensures.items, ap length split),
     )
 
 pub returns-clause-before : goal.returns-clause-before

@@ -61,7 +61,7 @@ invariant_of-self c =
     let key : d.key ≡ w.key = ap (λ (x : Laid). x.key) c.head.ensures in
     let on_d : IsOn s d = subst (λ (k : ℕ). d.place + d.len ≤ length (bytes_of (under s k))) (sym key) (omega arith) in (
       tied_whole s c.push_back_reserved.new.self.items xs ys d c.push_back_reserved.ensures.items (tied_other s xs ys w d tied key on_d),
-      omega (arith, c.self.invariant.1, c.pop_back.ensures.capacity, c.push_back_reserved.ensures.capacity, c.push_back_reserved.ensures.len, c.self.inside.before.ok.0, c.pop_back.new.self.ok.0, ap length split, length-append xs (w ∷ [])),
+      omega (arith, c.self.invariant.1, c.pop_back.ensures.capacity, c.push_back_reserved.ensures.capacity, ap length c.push_back_reserved.ensures.items, ap length split, length-append xs (w ∷ []), length-append xs (c.head.result ∷ [])),
     )
 
 pub returns-clause-before : goal.returns-clause-before

@@ -37,7 +37,7 @@ invariant_of-self g c =
     let tied : IsTied s (w ∷ (xs ++ ys)) = subst (λ (zs : List Laid). IsTied s (zs ++ ys)) split c.self.invariant.0 in
     let t : Shelves = c.let_go.new.shelf in
     let set : SetsOnly s t w.key (released (under s w.key)) = subst (λ (k : ℕ). SetsOnly s t k (released (under s k))) c.key.ensures c.let_go.ensures.slots in
-    (tied_less s t [] (xs ++ ys) w tied set, omega (arith, c.self.invariant.1, c.pop_front.ensures.capacity, c.self.inside.before.ok.0, c.pop_front.new.self.ok.0, ap length split))
+    (tied_less s t [] (xs ++ ys) w tied set, omega (arith, c.self.invariant.1, c.pop_front.ensures.capacity, ap length split))
 
 pub returns-clause-before : goal.returns-clause-before
 returns-clause-before g c =

@@ -14,9 +14,9 @@ returns-clause-value c =
     let ys : List Laid = c.self.inside.behind.items in
     let v : List Piece = c.args.self.now.before in
     let is : pieces_of s items ≡ v = ap (λ (k : Chunked). k.before) c.self.view_is in
-    let w : Laid = c.index.result.now in
+    let w : Laid = c.get.result in
     let few : c.args.k < length items = omega (arith, some_pieces s items v is, c.requires) in
-    let on : IsOn s w = on_get s items c.args.k w (all_left (IsOn s) items ys c.self.invariant.0.on) few c.index.ensures in
+    let on : IsOn s w = on_get s items c.args.k w (all_left (IsOn s) items ys c.self.invariant.0.on) few c.get.ensures in
     λ d. c.end.ensures.value ∙ (let long : length (Piece.bytes (piece_of s w)) ≡ w.len = long_piece s w on in
-    let same : end_of (piece_of s w) ≡ end_of (slice_index_or v c.args.k d) = ap end_of (piece_get s items c.args.k w v d is few c.index.ensures) in
+    let same : end_of (piece_of s w) ≡ end_of (slice_index_or v c.args.k d) = ap end_of (piece_get s items c.args.k w v d is few c.get.ensures) in
     omega arith)

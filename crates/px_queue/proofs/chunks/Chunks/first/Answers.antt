@@ -12,6 +12,6 @@ returns-clause-value c =
     let ys : List Laid = c.self.inside.behind.items in
     let v : List Piece = c.args.self.now.before in
     let is : pieces_of s items ≡ v = ap (λ (k : Chunked). k.before) c.self.view_is in
-    let w : Laid = c.index.result.now in
+    let w : Laid = c.get.result in
     let few : c.args.k < length items = omega (arith, some_pieces s items v is, c.requires) in
-    λ d. c.first.ensures.value ∙ ap Piece.at (piece_get s items c.args.k w v d is few c.index.ensures)
+    λ d. c.first.ensures.value ∙ ap Piece.at (piece_get s items c.args.k w v d is few c.get.ensures)

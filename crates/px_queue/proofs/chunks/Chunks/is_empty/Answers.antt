@@ -12,6 +12,6 @@ returns-clause-blocks c =
     let items : List Laid = c.self.inside.before.items in
     let ys : List Laid = c.self.inside.behind.items in
     λ yes none.
-    let first : length items ≡ 0 = grind (arith, c.self.inside.before.ok.0, c.is_empty.ensures, yes) in
+    let first : length items ≡ 0 = grind (arith, c.is_empty.ensures, yes) in
     let rest : length ys ≡ 0 = some_pieces s ys c.args.self.now.behind (ap (λ (k : Chunked). k.behind) c.self.view_is) ∙ ap (λ (ps : List Piece). length ps) none in
     sym (ap (λ (k : Chunked). k.blocks) c.self.view_is) ∙ nothing_tied s items ys c.self.invariant.0 first rest

@@ -1,4 +1,4 @@
-use Rattle.std.proofs.Common.{◌≡◌, ◌+◌, ℕ, ap, sym, subst, ◌∙◌, List, ◌∷◌, [], ◌++◌, Some, None, arith, length}
+use Rattle.std.proofs.Common.{◌≡◌, ◌+◌, ℕ, ap, sym, subst, ◌∙◌, List, ◌∷◌, [], ◌++◌, Some, None, arith, length, length-append}
 use Rattle.std.specs.Prelude.{Result, IfOk}
 use Rattle.px_block.specs.Kept.{KeptBlock}
 use Rattle.px_block.specs.Shelved.{Shelves, under, SetsOnly}
@@ -28,7 +28,7 @@ invariant_of-self c =
     let whole : (d.place ≡ 0) × (d.len ≡ length bytes) = (ap (λ (x : Laid). x.place) c.new.ensures, len) in
     let tied : IsTied t (items ++ d ∷ ys) = tied_laid s t items ys d bytes c.self.invariant.0 free set whole in (
       tied_whole t c.push_back_reserved.new.self.items items ys d c.push_back_reserved.ensures.items tied,
-      omega (arith, c.self.invariant.1, ap (λ (k : Chunked). k.room) c.self.view_is, c.requires.room, c.push_back_reserved.ensures.capacity, c.push_back_reserved.ensures.len),
+      omega (arith, c.self.invariant.1, ap (λ (k : Chunked). k.room) c.self.view_is, c.requires.room, c.push_back_reserved.ensures.capacity, ap length c.push_back_reserved.ensures.items, length-append items (d ∷ [])),
     )
 
 pub returns-clause-before : goal.returns-clause-before

@@ -14,9 +14,9 @@ len_of-requires c =
     let ys : List Laid = c.self.inside.behind.items in
     let v : List Piece = c.args.self.now.before in
     let is : pieces_of s items ≡ v = ap (λ (k : Chunked). k.before) c.self.view_is in
-    let w : Laid = c.index.result.now in
+    let w : Laid = c.get-chunk.result in
     let few : c.args.k < length items = omega (arith, some_pieces s items v is, c.requires) in
-    let there : 1 ≤ references_to (under s c.key-key.result) = subst (λ (k : ℕ). 1 ≤ references_to (under s k)) (sym c.key-key.ensures) (there_get s items ys c.args.k w c.self.invariant.0 few c.index.ensures) in
+    let there : 1 ≤ references_to (under s c.key-key.result) = subst (λ (k : ℕ). 1 ≤ references_to (under s k)) (sym c.key-key.ensures) (there_get s items ys c.args.k w c.self.invariant.0 few c.get-chunk.ensures) in
     there
 
 pub open-requires : goal.open-requires
@@ -26,9 +26,9 @@ open-requires c =
     let ys : List Laid = c.self.inside.behind.items in
     let v : List Piece = c.args.self.now.before in
     let is : pieces_of s items ≡ v = ap (λ (k : Chunked). k.before) c.self.view_is in
-    let w : Laid = c.index.result.now in
+    let w : Laid = c.get-chunk.result in
     let few : c.args.k < length items = omega (arith, some_pieces s items v is, c.requires) in
-    let there : 1 ≤ references_to (under s c.key-key.result) = subst (λ (k : ℕ). 1 ≤ references_to (under s k)) (sym c.key-key.ensures) (there_get s items ys c.args.k w c.self.invariant.0 few c.index.ensures) in
+    let there : 1 ≤ references_to (under s c.key-key.result) = subst (λ (k : ℕ). 1 ≤ references_to (under s k)) (sym c.key-key.ensures) (there_get s items ys c.args.k w c.self.invariant.0 few c.get-chunk.ensures) in
     there
 
 pub invariant_of-self : goal.invariant_of-self
@@ -38,9 +38,9 @@ invariant_of-self c =
     let ys : List Laid = c.self.inside.behind.items in
     let v : List Piece = c.args.self.now.before in
     let is : pieces_of s items ≡ v = ap (λ (k : Chunked). k.before) c.self.view_is in
-    let w : Laid = c.index.result.now in
+    let w : Laid = c.get-chunk.result in
     let few : c.args.k < length items = omega (arith, some_pieces s items v is, c.requires) in
-    let there : 1 ≤ references_to (under s c.key-key.result) = subst (λ (k : ℕ). 1 ≤ references_to (under s k)) (sym c.key-key.ensures) (there_get s items ys c.args.k w c.self.invariant.0 few c.index.ensures) in
+    let there : 1 ≤ references_to (under s c.key-key.result) = subst (λ (k : ℕ). 1 ≤ references_to (under s k)) (sym c.key-key.ensures) (there_get s items ys c.args.k w c.self.invariant.0 few c.get-chunk.ensures) in
     let t : Shelves = c.open.new.self in
     let set : SetsOnly s t c.key-key.result (appended (under s c.key-key.result) []) = no_longer s t c.key-key.result c.open.ensures.slots in
     let tied = c.self.invariant.0 in
@@ -54,9 +54,9 @@ returns c =
     let ys : List Laid = c.self.inside.behind.items in
     let v : List Piece = c.args.self.now.before in
     let is : pieces_of s items ≡ v = ap (λ (k : Chunked). k.before) c.self.view_is in
-    let w : Laid = c.index.result.now in
+    let w : Laid = c.get-chunk.result in
     let few : c.args.k < length items = omega (arith, some_pieces s items v is, c.requires) in
-    let there : 1 ≤ references_to (under s c.key-key.result) = subst (λ (k : ℕ). 1 ≤ references_to (under s k)) (sym c.key-key.ensures) (there_get s items ys c.args.k w c.self.invariant.0 few c.index.ensures) in
+    let there : 1 ≤ references_to (under s c.key-key.result) = subst (λ (k : ℕ). 1 ≤ references_to (under s k)) (sym c.key-key.ensures) (there_get s items ys c.args.k w c.self.invariant.0 few c.get-chunk.ensures) in
     let t : Shelves = c.open.new.self in
     let set : SetsOnly s t c.key-key.result (appended (under s c.key-key.result) []) = no_longer s t c.key-key.result c.open.ensures.slots in
     let tied = c.self.invariant.0 in

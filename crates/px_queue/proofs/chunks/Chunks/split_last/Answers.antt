@@ -35,7 +35,7 @@ retain-requires-clause-countable c =
     let is : pieces_of s items ≡ v = ap (λ (k : Chunked). k.before) c.self.view_is in
     let rest : pieces_of s ys ≡ u = ap (λ (k : Chunked). k.behind) c.self.view_is in
     let split : items ≡ xs ++ w ∷ [] = c.pop_back.ensures.items ∙ ap (λ (o : Option Laid). xs ++ option_to_list o) c.unwrap-last.ensures in
-    omega (arith, refs_countable s (items ++ ys) c.key.result c.self.invariant.0, length-append items ys, c.self.inside.before.ok.0, c.self.inside.behind.ok.0, c.self.inside.before.small, c.self.inside.behind.small)
+    omega (arith, refs_countable s (items ++ ys) c.key.result c.self.invariant.0, length-append items ys, c.self.invariant.1, c.pop_back.ensures.few)
 
 pub head-requires-clause-from : goal.head-requires-clause-from
 head-requires-clause-from c =
@@ -131,7 +131,7 @@ invariant_of-self c =
     let on_r : IsOn s r = subst (λ (k : ℕ). r.place + r.len ≤ length (bytes_of (under s k))) (sym right) (omega arith) in (
       subst (λ (zs : List Laid). IsTied t (c.push_back_reserved.new.self.items ++ zs)) (sym c.push_front_reserved.ensures.items)
           (tied_whole t c.push_back_reserved.new.self.items xs (r ∷ ys) l c.push_back_reserved.ensures.items (tied_split s t xs ys w l r tied set left right on_l on_r)),
-      omega (arith, c.self.invariant.1, ap (λ (k : Chunked). k.room) c.self.view_is, c.requires.room, c.pop_back.ensures.capacity, c.push_back_reserved.ensures.capacity, c.push_back_reserved.ensures.len, c.push_front_reserved.ensures.capacity, c.push_front_reserved.ensures.len, c.self.inside.before.ok.0, c.pop_back.new.self.ok.0, ap length split, length-append xs (w ∷ [])),
+      omega (arith, c.self.invariant.1, ap (λ (k : Chunked). k.room) c.self.view_is, c.requires.room, c.pop_back.ensures.capacity, c.push_back_reserved.ensures.capacity, ap length c.push_back_reserved.ensures.items, c.push_front_reserved.ensures.capacity, ap length c.push_front_reserved.ensures.items, ap length split, length-append xs (w ∷ []), length-append xs (c.head.result ∷ [])),
     )
 
 pub returns-clause-before : goal.returns-clause-before

@@ -1,4 +1,4 @@
-use Rattle.std.proofs.Common.{◌≡◌, ap, sym, subst, ◌∙◌, List, ◌∷◌, [], ◌++◌, Option, arith, length, append_assoc}
+use Rattle.std.proofs.Common.{◌≡◌, ap, sym, subst, ◌∙◌, List, ◌∷◌, [], ◌++◌, Option, arith, length, append_assoc, length-append}
 use Rattle.std.specs.Option.{option_to_list}
 use Rattle.std.proofs.lemmas.List.{length-map}
 use Rattle.px_block.specs.Shelved.{Shelves}
@@ -20,7 +20,7 @@ invariant_of-self c =
     let rest : pieces_of s ys ≡ u = ap (λ (k : Chunked). k.behind) c.self.view_is in
     let split : ys ≡ w ∷ xs = c.pop_front.ensures.items ∙ ap (λ (o : Option Laid). option_to_list o ++ xs) c.unwrap-first.ensures in (
       subst (IsTied s) (ap (λ (zs : List Laid). items ++ zs) split ∙ sym (append_assoc items (w ∷ []) xs) ∙ ap (λ (zs : List Laid). zs ++ xs) (sym c.push_back_reserved.ensures.items)) c.self.invariant.0,
-      omega (arith, c.self.invariant.1, c.pop_front.ensures.capacity, c.push_back_reserved.ensures.capacity, c.push_back_reserved.ensures.len, c.self.inside.behind.ok.0, c.pop_front.new.self.ok.0, ap length split),
+      omega (arith, c.self.invariant.1, c.pop_front.ensures.capacity, c.push_back_reserved.ensures.capacity, ap length c.push_back_reserved.ensures.items, length-append items (w ∷ []), ap length split),
     )
 
 pub returns-clause-all : goal.returns-clause-all

@@ -1,0 +1,148 @@
+// Chunks in a line, over one piece of memory.
+ghost use Rattle.std.specs.Prelude.{◌≡◌, ◌+◌, ◌<◌, ◌≤◌, ◌^◌, ◌==◌, [], ◌∷◌, ◌++◌, length, drop, slice_index_or, vec_len, vec_capacity, OnOk, ◌↔◌, IsSome};
+ghost use Rattle.std.specs.Option.{option_to_list};
+
+use crate::chunk::Chunk;
+use std::alloc::{AllocError, Global};
+use std::marker::Model;
+
+/// So many chunks may have gone from the front before the others move there: few enough that their places stay near.
+const MOST_GONE: usize = 32;
+
+/// Chunks in order, which come at the back and go at the front. Those that have gone from the front leave their places free for a while, and
+/// the others move there once as many have gone as are left. So a line with few chunks keeps to the front of its memory, however much room
+/// it has, where a ring would wander through all of it.
+#[derive(Debug, Drop)]
+pub(crate) struct Line {
+    chunks: Vec<Chunk>,
+    gone: usize,
+}
+
+impl Model for Line {
+    ghost use Rattle.std.specs.Prelude.{◌≤◌, drop, vec_len, vec_capacity};
+    ghost use Rattle.px_queue.specs.Laid.{Lined};
+
+    ghost Value = { Lined };
+
+    ghost view = { λ l. record { items = drop l.gone l.chunks.items; capacity = vec_capacity l.chunks } };
+
+    ghost invariant = { λ l. l.gone ≤ vec_len l.chunks };
+}
+
+impl Line {
+    /// None, without room. Takes no memory.
+    pub(crate) fn new(alloc: Global) -> Line
+        ensures items { result.items ≡ [] }
+        ensures capacity { result.capacity ≡ 0 }
+    {
+        Line {
+            chunks: Vec::new(alloc),
+            gone: 0,
+        }
+    }
+
+    /// How many there are.
+    pub(crate) fn len(&self) -> usize
+        ensures { result ≡ length self.now.items }
+    {
+        self.chunks.len() - self.gone
+    }
+
+    /// Whether there is none.
+    pub(crate) fn is_empty(&self) -> bool
+        ensures { result ≡ (length self.now.items == 0) }
+    {
+        self.chunks.len() == self.gone
+    }
+
+    /// One, by its number.
+    pub(crate) fn get(&self, k: usize) -> Chunk
+        requires { k < length self.now.items }
+        ensures { result ≡ slice_index_or self.now.items k result }
+    {
+        self.chunks[self.gone + k]
+    }
+
+    /// Takes the first one out.
+    pub(crate) fn pop_front(&mut self) -> Option<Chunk>
+        ensures items { self.old.items ≡ option_to_list result ++ self.new.items }
+        ensures variant { IsSome result ↔ (0 < length self.old.items) }
+        ensures capacity { self.new.capacity ≡ self.old.capacity }
+    {
+        if self.is_empty() {
+            return None;
+        }
+        let first = self.chunks[self.gone];
+        self.gone += 1;
+        if self.gone >= MOST_GONE && self.gone >= self.len() {
+            move_up(&mut self.chunks, self.gone);
+            self.gone = 0;
+        }
+        Some(first)
+    }
+
+    /// Takes the last one out.
+    pub(crate) fn pop_back(&mut self) -> Option<Chunk>
+        ensures items { self.old.items ≡ self.new.items ++ option_to_list result }
+        ensures variant { IsSome result ↔ (0 < length self.old.items) }
+        ensures capacity { self.new.capacity ≡ self.old.capacity }
+        ensures few { self.old.capacity < 2 ^ 63 }
+    {
+        if self.is_empty() {
+            return None;
+        }
+        self.chunks.pop()
+    }
+
+    /// Puts one behind the others, where there is room. Takes no memory.
+    pub(crate) fn push_back_reserved(&mut self, chunk: Chunk)
+        requires { length self.old.items < self.old.capacity }
+        ensures items { self.new.items ≡ self.old.items ++ chunk ∷ [] }
+        ensures capacity { self.new.capacity ≡ self.old.capacity }
+    {
+        if self.chunks.len() == self.chunks.capacity() {
+            move_up(&mut self.chunks, self.gone);
+            self.gone = 0;
+        }
+        self.chunks.push_reserved(chunk);
+    }
+
+    /// Puts one before the others, where there is room. Takes no memory.
+    pub(crate) fn push_front_reserved(&mut self, chunk: Chunk)
+        requires { length self.old.items < self.old.capacity }
+        ensures items { self.new.items ≡ chunk ∷ self.old.items }
+        ensures capacity { self.new.capacity ≡ self.old.capacity }
+    {
+        if self.gone == 0 {
+            self.chunks.insert(0, chunk).unwrap();
+            return;
+        }
+        self.gone -= 1;
+        self.chunks[self.gone] = chunk;
+    }
+
+    /// Takes room for so many more. Without memory nothing changes.
+    pub(crate) fn reserve(&mut self, more: usize) -> Result<(), AllocError>
+        ensures items { self.new.items ≡ self.old.items }
+        ensures capacity { self.old.capacity ≤ self.new.capacity }
+        ensures ok { OnOk result (length self.new.items + more ≤ self.new.capacity) }
+        ensures few { self.new.capacity < 2 ^ 63 }
+    {
+        if more > self.chunks.capacity() - self.chunks.len() {
+            move_up(&mut self.chunks, self.gone);
+            self.gone = 0;
+        }
+        self.chunks.reserve(more)
+    }
+}
+
+// Moves the chunks from a place on to the front, and the others go.
+fn move_up(chunks: &mut Vec<Chunk>, gone: usize)
+    requires { gone ≤ vec_len chunks.old }
+    ensures items { chunks.new.items ≡ drop gone chunks.old.items }
+    ensures capacity { vec_capacity chunks.new ≡ vec_capacity chunks.old }
+{
+    let left = chunks.len() - gone;
+    chunks.copy_within(gone.., 0);
+    chunks.truncate(left);
+}
