@@ -1,12 +1,15 @@
 -- Frames are copied out of runs of bytes.
-use Rattle.std.proofs.Common.{◌≡◌, ℕ, zero, suc, ◌+◌, ◌-◌, ◌*◌, ◌/◌, ◌<◌, ◌≤◌, List, ◌++◌, length, take, drop, refl, ap, sym, ◌∙◌, subst, arith, Option, Some, None, max, ◌⊎◌, inl, inr, ⊎_elim, length-drop, length-append}
-use Rattle.std.specs.Prelude.{slice_get, IsSome, ℤ, ◌≤ℤ◌}
+use Rattle.std.proofs.Common.{◌≡◌, ℕ, zero, suc, ◌+◌, ◌-◌, ◌*◌, ◌/◌, ◌<◌, ◌≤◌, List, [], ◌++◌, length, take, drop, refl, ap, sym, ◌∙◌, subst, arith, Option, Some, None, max, ◌⊎◌, inl, inr, ⊎_elim, length-drop, length-append, Bool, false, cond}
+use Rattle.std.specs.Prelude.{slice_get, IsSome, nat_lt, ℤ, ◌≤ℤ◌}
 use Rattle.std.proofs.lemmas.Int.{ints}
-use Rattle.std.proofs.lemmas.Bool.{cases_lt, false≢true}
+use Rattle.std.proofs.lemmas.Bool.{cases_lt, false≢true, lt-ltb}
+use Rattle.std.proofs.lemmas.List.{append-nil}
 use Rattle.std.proofs.Math.Nat.{add-mul, mul-le-mul_right, mul_comm}
+use Rattle.px_model.specs.Frame.{Frame}
 use Rattle.px_model.specs.Index.{onward, FIRST}
+use Rattle.px_model.specs.Queue.{Queue, left_of, is_short, nothing, sound, sound_of, queue_frame}
 use Rattle.px_model.specs.Held.{place}
-use Rattle.px_model.proofs.Places.{get_left, get-drop}
+use Rattle.px_model.proofs.Places.{get_left, get-drop, place_past}
 use Rattle.px_queue.specs.Pieces.{Piece, byte_at}
 use Rattle.px_queue.specs.Framed.{joined, bytes_from, byte_index, held_from, EndsBy}
 use Rattle.px_queue.proofs.Framing.{whole_from, none_from, place_onward, held_place}
@@ -39,6 +42,12 @@ module _ (size : ℕ) (ps : List Piece) (read : ℤ) (n : ℕ) (ends : EndsBy si
       ∙ sym (get-drop (j * size) (part ++ rest) t (j * size + t) refl))
       (omega (arith, length-drop (j * size) (part ++ rest), length-append part rest, fit))
 
+  -- the same where nothing stands behind them
+  pub run_lent : (part : List ℕ) (m : ℕ) → length part ≡ m * size → ((t : ℕ) → t < length part → byte_at ps (from + t) ≡ slice_get part t)
+      → (j : ℕ) → j < m → place (held_from size ps read n) (k + j) ≡ Some (take size (drop (j * size) part))
+  run_lent part m long bytes j few =
+      run_frames part [] m long bytes j few ∙ ap (λ (xs : List ℕ). Some (take size (drop (j * size) xs))) (append-nil part)
+
   -- a frame with a byte that isn't there
   pub run_end : (j r : ℕ) → j * size ≤ r → r < j * size + size → byte_at ps (from + r) ≡ None → place (held_from size ps read n) (k + j) ≡ None
   run_end j r up few none =
@@ -62,6 +71,30 @@ module _ (size : ℕ) (ps : List Piece) (read : ℤ) (n : ℕ) (ends : EndsBy si
           let here : i + 0 ≡ i = omega arith in
           both (f i) (bytes_from f (i + 1) m) (subst (λ (x : ℕ). IsSome (f x)) here (s 0 (omega arith)))
           (some_from f (i + 1) m (λ t few. let there : i + suc t ≡ i + 1 + t = omega arith in subst (λ (x : ℕ). IsSome (f x)) there (s (suc t) (omega arith))))
+
+-- ---- frames that are lent
+
+-- a frame that is held is heard, unless the queue is short
+pub held_sounds : (q : Queue) (i : ℕ) (f : Frame) → is_short q ≡ false → place q.held i ≡ Some f → queue_frame q i ≡ sound f
+held_sounds q i f long is =
+    let inside : i < left_of q =
+    ⊎_elim
+    (λ (less : i < length q.held). omega arith)
+    (λ (past : length q.held ≤ i). absurd (false≢true (subst (λ (o : Option Frame). IsSome o) (sym is ∙ place_past q.held i past) refl)))
+    (cases_lt i (length q.held)) in
+    ap (λ (b : Bool). cond b nothing (cond (nat_lt i (left_of q)) (sound_of (place q.held i)) nothing)) long
+    ∙ ap (λ (b : Bool). cond b (sound_of (place q.held i)) nothing) (lt-ltb i (left_of q) inside)
+    ∙ ap sound_of is
+
+-- no more frames than their bytes fit in
+pub lent_few : (m most size : ℕ) → m * size ≤ most * size → 1 ≤ size → m ≤ most
+lent_few m most size fit some =
+    ⊎_elim
+    (λ (more : most < m).
+    let next : most + 1 ≤ m = omega arith in
+    absurd (omega (arith, fit, some, mul-le-mul_right size next, add-mul most 1 size)))
+    (λ (few : m ≤ most). few)
+    (cases_lt most m)
 
 -- ---- gaps
 

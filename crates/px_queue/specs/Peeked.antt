@@ -1,4 +1,4 @@
--- What a peek answers, and what it copies.
+-- What a peek answers, what it copies, and what is lent.
 use Rattle.std.specs.Prelude.{◌≡◌, ◌≢◌, ℕ, ◌+◌, ◌*◌, ◌/◌, ◌^◌, ◌-◌, ◌<◌, ◌≤◌, min, Bool, true, false, List, length, take, drop, Option, None, Some}
 use Rattle.px_model.specs.Frame.{Frame}
 use Rattle.px_model.specs.Queue.{nothing, silence, sound, queue_frame}
@@ -18,6 +18,12 @@ pub record GivesFrames (q : KeptQueue) (k n : ℕ) (old new : List ℕ) : Type 0
   pub rest : drop (n * q.frame) new ≡ drop (n * q.frame) old
   pub size : length new ≡ length old
   pub greatest : n < frames_in (length old) q.frame → (f : Frame) → queue_frame q.queue (k + n) ≢ sound f
+
+-- these are the bytes of n frames that are held from place k on, at most so many
+pub record LendsFrames (q : KeptQueue) (k most n : ℕ) (bytes : List ℕ) : Type 0 where
+  pub few : n ≤ most
+  pub size : length bytes ≡ n * q.frame
+  pub frames : (j : ℕ) → j < n → queue_frame q.queue (k + j) ≡ sound (take q.frame (drop (j * q.frame) bytes))
 
 -- n places from place k on are silent, and there is no further one, or no place for it
 pub record GivesSilence (q : KeptQueue) (k n : ℕ) (old new : List ℕ) : Type 0 where

@@ -305,6 +305,19 @@ impl Chunks {
         }
     }
 
+    /// So many bytes of one before, by its number, from a byte index inside on.
+    pub(crate) fn bytes(&self, k: usize, from: u128, len: usize) -> &[u8]
+        requires some { k < length self.now.before }
+        requires from { (d : Piece) → (slice_index_or self.now.before k d).at ≤ from }
+        requires inside { (d : Piece) → from + len ≤ end_of (slice_index_or self.now.before k d) }
+        ensures value { (d : Piece) → result.now ≡ take len (drop (from - (slice_index_or self.now.before k d).at) (slice_index_or self.now.before k d).bytes) }
+        ensures size { length result.now ≡ len }
+    {
+        let chunk = self.before.get(k);
+        let place = chunk.place() + (from - chunk.first()) as usize;
+        self.shelf.bytes(chunk.key(), place, len)
+    }
+
     /// Fills a slice with bytes of one before, by its number, from a byte index inside on.
     pub(crate) fn copy(&self, k: usize, from: u128, out: &mut [u8])
         requires some { k < length self.now.before }
@@ -312,9 +325,7 @@ impl Chunks {
         requires inside { (d : Piece) → from + length out.old ≤ end_of (slice_index_or self.now.before k d) }
         ensures { (d : Piece) → out.new ≡ take (length out.old) (drop (from - (slice_index_or self.now.before k d).at) (slice_index_or self.now.before k d).bytes) }
     {
-        let chunk = self.before.get(k);
-        let place = chunk.place() + (from - chunk.first()) as usize;
-        out.copy_from_slice(self.shelf.bytes(chunk.key(), place, out.len()));
+        out.copy_from_slice(self.bytes(k, from, out.len()));
     }
 }
 

@@ -1,4 +1,4 @@
-// Bytes are found by their indices, and copied out.
+// Bytes are found by their indices, and copied out or lent.
 ghost use Rattle.std.specs.Prelude.{◌≡◌, ℕ, ◌+◌, ◌-◌, ◌<◌, ◌≤◌, length, min, take, slice_get, slice_index_or, IsTrue, IsSome, None};
 ghost use Rattle.px_queue.specs.Pieces.{Piece, byte_in, byte_at, end_of, Rise};
 ghost use Rattle.px_queue.specs.Laid.{TOP};
@@ -43,6 +43,19 @@ impl Chunks {
             count += more;
             near = place.saturating_add(1);
         }
+    }
+
+    /// Lends the bytes from a byte index on that lie in one block, at most so many: none where no byte lies there.
+    pub(crate) fn lend(&self, from: u128, most: usize) -> &[u8]
+        requires { Rise 0 TOP self.now.before }
+        ensures few { length result.now ≤ most }
+        ensures bytes { (j : ℕ) → j < length result.now → byte_at self.now.before (from + j) ≡ slice_get result.now j }
+    {
+        let (place, len) = self.part_at(0, from, most);
+        if len == 0 {
+            return &[];
+        }
+        self.bytes(place, from, len)
     }
 
     /// How many byte indices from one on have no byte, at most so many.

@@ -1,7 +1,7 @@
-// Frames are copied out.
+// Frames are copied out, or lent.
 ghost use Rattle.std.specs.Prelude.{◌≡◌, ℕ, ◌+◌, ◌*◌, ◌/◌, ◌<◌, ◌≤◌, length, take, drop, IsSome, None, Some};
 ghost use Rattle.px_model.specs.Held.{place};
-ghost use Rattle.px_queue.specs.Peeked.{Peeks, Copies};
+ghost use Rattle.px_queue.specs.Peeked.{Peeks, LendsFrames, Copies};
 
 use crate::FrameQueue;
 
@@ -37,6 +37,21 @@ impl FrameQueue {
             return Span::Frames(frames);
         }
         Span::Silence(self.holes(k, most))
+    }
+
+    /// Lends the bytes of the frames that are held from `k` frames past the read index on, one after another: at most so many, and as many of
+    /// them as lie whole in the block that has the first byte. Empty where that is none: the queue waits for more frames, it ends before, no
+    /// frame is held there, or the frame lies in two blocks. Takes no memory. (PulseAudio: `pa_memblockq_peek`.)
+    pub fn lend(&self, k: u32, most: u32) -> &[u8]
+        ensures { (n : ℕ) × LendsFrames self.now k most n result.now }
+    {
+        if self.is_short() || self.held <= k as u64 {
+            return &[];
+        }
+        let size = self.frame as usize;
+        let from = self.read.onward(k as u64).byte_index(self.frame);
+        let bytes = self.chunks.lend(from, most as usize * size);
+        &bytes[..bytes.len() / size * size]
     }
 
     // Copies the frames held from place k on, one after another, at most so many, and answers how many there are.
