@@ -1,6 +1,6 @@
 -- Places of runs that stand one behind another.
 use Rattle.std.proofs.Common.{◌≡◌, ◌≢◌, ℕ, ◌+◌, ◌*◌, ◌/◌, ◌%◌, ◌<◌, ◌≤◌, List, length, get_or, arith, sym, ap, ◌∙◌, subst, mul_comm, ⊎_elim, ℤ, pos, All, w32, SFits}
-use Rattle.std.proofs.Math.Nat.{add-mul, mul-le-mul_right, mul-div_cancel}
+use Rattle.std.proofs.Math.Nat.{add-mul, mul-le-mul_right, mul-div_cancel, mul_assoc}
 use Rattle.std.proofs.Math.ListN.{set}
 use Rattle.std.proofs.lemmas.Nat.{mod-mul-add}
 use Rattle.std.proofs.lemmas.Bool.{cases_lt}
@@ -56,6 +56,12 @@ others_more out old value c run place inside before i away =
 -- so many runs of one length, none without a place
 pub run_is : (total n count : ℕ) → 0 < count → total ≡ n * count → total / count ≡ n
 run_is total n count some whole = ap (λ (x : ℕ). x / count) whole ∙ mul-div_cancel n some
+
+-- so many frames of samples of two bytes
+pub frames_are : (total n channels : ℕ) → 1 ≤ channels → total ≡ 2 * (n * channels) → total / (2 * channels) ≡ n
+frames_are total n channels some whole =
+    run_is total n (2 * channels) (omega (arith, some))
+    (whole ∙ sym (sym (mul_assoc n 2 channels) ∙ ap (λ (m : ℕ). m * channels) (mul_comm n 2) ∙ mul_assoc 2 n channels))
 
 -- the values of one frame more, and the places past it
 module _ (run place : ℕ) (out new : List ℤ) (inside : place < run) (kept : (i : ℕ) → i % run ≢ place → get_or new i (pos 0) ≡ get_or out i (pos 0)) where

@@ -13,11 +13,13 @@ use Rattle.px_sample.specs.Format.{code_of, format_with, size_of, width_of, fram
 use Rattle.px_sample.specs.WorkValue.{work_value_of, work_values_of, at_width}
 use Rattle.px_sample.proofs.FormatLemmas.{size_of-some}
 use Rattle.px_sample.proofs.RunLemmas.{whole_samples, next_fits}
+use Rattle.px_sample.proofs.WidthLemmas.{same_width}
 use Rattle.px_model.specs.Frame.{Frame, SampleSpec, frame_size, sample_size, sample_of}
 use Rattle.px_model.specs.Stream.{Stream}
 use Rattle.px_msg.specs.View.{sample_spec}
 use Rattle.px_stream.specs.Samples.{samples, bit_width, work_width}
 use Rattle.px_stream.specs.Values.{value_in}
+use Rattle.px_stream.specs.Lent.{sample_at}
 
 -- ---- formats and their codes
 
@@ -73,6 +75,13 @@ length_chunks : (size n : ℕ) (bytes : List ℕ) → length (first_chunks size 
 length_chunks size zero bytes = refl
 length_chunks size (suc n) bytes = omega (arith, length_chunks size n (drop size bytes))
 
+-- a chunk of many, by its number
+pub chunk_got : (count i : ℕ) (bytes : List ℕ) (chunks : List (List ℕ)) → chunks ≡ first_chunks 2 (length bytes / 2) bytes → length bytes ≡ 2 * count → i < count
+    → get_or chunks i [] ≡ take 2 (drop (i * 2) bytes)
+chunk_got count i bytes chunks is size less =
+    let many : length bytes / 2 ≡ count = whole_samples 2 count (length bytes) (omega arith) size in
+    ap (λ (xs : List (List ℕ)). get_or xs i []) is ∙ chunk_at 2 (length bytes / 2) i bytes (omega (arith, less, many))
+
 -- the value of channel i at a width, out of a frame's bytes
 pub value_got : (format : Format) (channels i : ℕ) (to : Width) (frame : List ℕ) → length frame ≡ size_of format * channels → i < channels
     → get_or (map (at_width (width_of format) to) (work_values_of format frame)) i (pos 0)
@@ -119,6 +128,27 @@ sample_in size channels j i bytes less =
     ∙ ap (λ (xs : List ℕ). take size xs) (drop-take (i * size) (size * channels - i * size) (drop (j * (size * channels)) bytes))
     ∙ take_take size (size * channels - i * size) (drop (i * size) (drop (j * (size * channels)) bytes)) (omega (arith, room))
     ∙ ap (λ (xs : List ℕ). take size xs) (drop-drop (i * size) (j * (size * channels)) bytes ∙ ap (λ (n : ℕ). drop n bytes) at)
+
+-- the value of a channel in frame j of these, by its sample's bytes
+pub value_there : (spec : Spec) (to : Width) (s : Stream) (c j : ℕ) (bytes : List ℕ) → sample_spec spec ≡ s.spec → slice_index s.feed c < spec.channels
+    → value_in to s c (take (frame_size_of spec) (drop (j * frame_size_of spec) bytes))
+    ≡ at_width (width_of spec.format) to (work_value_of spec.format (take (size_of spec.format) (drop ((j * spec.channels + slice_index s.feed c) * size_of spec.format) bytes)))
+value_there spec to s c j bytes is channel =
+    let i = slice_index s.feed c in
+    let frame : Frame = take (frame_size_of spec) (drop (j * frame_size_of spec) bytes) in
+    ap (λ (t : SampleSpec). samples.to (samples.width t.format) (bit_width to) (samples.work t.format (sample_of t frame i))) (sym is)
+    ∙ value_known spec to i frame
+    ∙ ap (λ (xs : List ℕ). at_width (width_of spec.format) to (work_value_of spec.format xs)) (sample_in (size_of spec.format) spec.channels j i bytes channel)
+
+-- a sample of 16 bits is its own value at that width
+pub value_lent : (spec : Spec) (to : Width) (s : Stream) (c j : ℕ) (bytes : List ℕ) → sample_spec spec ≡ s.spec → slice_index s.feed c < spec.channels → spec.format ≡ S16Le → to ≡ W16
+    → sample_at bytes (j * spec.channels + slice_index s.feed c) ≡ value_in to s c (take (frame_size_of spec) (drop (j * frame_size_of spec) bytes))
+value_lent spec to s c j bytes is channel format width =
+    let i : ℕ = j * spec.channels + slice_index s.feed c in
+    sym (value_there spec to s c j bytes is channel
+    ∙ ap (λ (f : Format). at_width (width_of f) to (work_value_of f (take (size_of f) (drop (i * size_of f) bytes)))) format
+    ∙ ap (λ (w : Width). at_width W16 w (sample_at bytes i)) width
+    ∙ ap (λ (xs : List ℤ). get_or xs 0 (pos 0)) (same_width W16 W16 (sample_at bytes i ∷ []) refl))
 
 -- the value in frame j of the channel that feeds a channel of the sink
 pub value_by : (spec : Spec) (to : Width) (s : Stream) (c j total : ℕ) (bytes : List ℕ) (values : List ℤ) → sample_spec spec ≡ s.spec → length bytes ≡ size_of spec.format * total

@@ -8,6 +8,7 @@ ghost use Rattle.px_model.specs.Stream.{frame_at};
 ghost use Rattle.px_stream.specs.Values.{GivesValues, value_at};
 
 use crate::Stream;
+use crate::lent::scatter_samples;
 use px_kernel::Steps;
 use px_queue::Span;
 use px_sample::{Format, Spec, Width, to_work, unpack};
@@ -59,8 +60,42 @@ impl Stream {
     }
 
     // Puts the values of the frames from a place past the read index on at places of each run one after another, at most so many, and
-    // answers how many frames it gave.
+    // answers how many frames it gave. There are two ways. Most streams have samples of 16 bits, which at that width have only to be put
+    // where they belong, and most frames lie whole in one block: these are read where they lie. Others go through scratch arrays, which takes
+    // any format to any width, and joins a frame that lies in two blocks.
     fn put_values(
+        &self,
+        k: u32,
+        width: Width,
+        run: usize,
+        place: usize,
+        most: usize,
+        out: &mut [i32],
+    ) -> u32
+        requires some { 1 ≤ most }
+        requires inside { place + most ≤ run }
+        requires runs { length out.old ≡ run * length self.now.stream.feed }
+        ensures few { result ≤ most }
+        ensures none { result ≡ 0 → frame_at self.now.stream k ≡ nothing }
+        ensures there { (j : ℕ) → j < result → frame_at self.now.stream (k + j) ≢ nothing }
+        ensures values { (c j : ℕ) → c < length self.now.stream.feed → j < result → slice_index_or out.new (c * run + place + j) (pos 0) ≡ value_at width self.now.stream c (frame_at self.now.stream (k + j)) }
+        ensures before { (c i : ℕ) → c < length self.now.stream.feed → i < place → slice_index_or out.new (c * run + i) (pos 0) ≡ slice_index_or out.old (c * run + i) (pos 0) }
+        ensures after { (c i : ℕ) → c < length self.now.stream.feed → place + result ≤ i → i < run → slice_index_or out.new (c * run + i) (pos 0) ≡ slice_index_or out.old (c * run + i) (pos 0) }
+        ensures fit { All (FitsSigned w32) out.old → All (FitsSigned w32) out.new }
+    {
+        let bytes = self.lent(k, width, most);
+        if bytes.is_empty() {
+            return self.put_read(k, width, run, place, most, out);
+        }
+        let channels = self.spec.channels as usize;
+        let frames = frames_in(bytes.len(), channels);
+        let feed = self.feed.channels();
+        scatter_samples(bytes, channels, feed, run, place, frames, out);
+        frames as u32
+    }
+
+    // The same through scratch arrays, of at most as many frames as these have room for.
+    fn put_read(
         &self,
         k: u32,
         width: Width,
@@ -136,6 +171,19 @@ fn run_of(places: usize, runs: usize) -> usize
     ensures { result ≡ places / runs }
 {
     if places == runs { 1 } else { places / runs }
+}
+
+// How many frames of so many samples of 16 bits there are in these bytes. Of two channels they are found without a division.
+fn frames_in(bytes: usize, channels: usize) -> usize
+    requires some { 1 ≤ channels }
+    requires few { channels < 256 }
+    ensures { result ≡ bytes / (2 * channels) }
+{
+    if channels == 2 {
+        bytes / 4
+    } else {
+        bytes / (2 * channels)
+    }
 }
 
 // How many bytes so many frames have.
