@@ -11,12 +11,15 @@ use std::alloc::Global;
 use std::sync::atomic::AtomicBool;
 use std::sync::{Arc, Mutex};
 
-/// What all workers share: the core, the packets that wait for each client, used blocks, whether the sinks' workers may end, and the tape, with
-/// whether there is one. Where there is one, it is locked during each step of the core and during each turn of a sink.
+/// What all workers share: the core, the packets that wait for each client, whether one may have found no memory, used blocks, whether the
+/// sinks' workers may end, and the tape, with whether there is one. Where there is one, it is locked during each step of the core and during
+/// each turn of a sink.
 #[derive(Drop)]
 pub struct Desk<C: Recorder<CoreEntry>, L: Seats> {
     pub core: CoreCell<C, L>,
     pub(crate) lines: Mutex<Lines>,
+    // True where a packet in some line found no memory. It changes under the lines' lock, and is read without it.
+    pub(crate) short: AtomicBool,
     pub(crate) pool: Arc<Pool>,
     pub(crate) over: AtomicBool,
     pub(crate) sinks: u8,
@@ -38,6 +41,7 @@ impl<C: Recorder<CoreEntry>, L: Seats> Desk<C, L> {
         Desk {
             core,
             lines: Mutex::new(Lines::new(alloc)),
+            short: AtomicBool::new(false),
             pool,
             over: AtomicBool::new(false),
             sinks,

@@ -88,20 +88,25 @@ impl Lines {
         Some(line.conn)
     }
 
-    /// Puts what a step does to the outside behind what waits. A packet that finds no memory marks its line.
-    pub(crate) fn put(&mut self, effects: Effects) {
+    /// Puts what a step does to the outside behind what waits. A packet that finds no memory marks its line. Whether there was memory for all.
+    pub(crate) fn put(&mut self, effects: Effects) -> bool {
+        let mut whole = true;
         for effect in effects.into_vec() {
-            self.put_one(effect);
+            if !self.put_one(effect) {
+                whole = false;
+            }
         }
+        whole
     }
 
-    // Puts one effect.
-    fn put_one(&mut self, effect: Effect) {
+    // Puts one effect. Whether there was memory for it.
+    fn put_one(&mut self, effect: Effect) -> bool {
         match effect {
             Effect::Sent { conn, packet } => {
                 if let Some(line) = self.lines.iter_mut().find(|line| line.conn == conn) {
                     if line.packets.push_back(packet).is_err() {
                         line.short = true;
+                        return false;
                     }
                 }
             }
@@ -111,5 +116,6 @@ impl Lines {
                 }
             }
         }
+        true
     }
 }

@@ -12,6 +12,7 @@ use px_tape::Events;
 use px_types::Mem;
 use std::alloc::Global;
 use std::sync::Wait;
+use std::sync::atomic::Ordering;
 
 // The events that a step is on a tape. Sweeps have none there, since a session's events are each swept after, and neither have the messages
 // that are posted.
@@ -47,7 +48,9 @@ pub(crate) fn step_lined<W: Wait, C: Recorder<CoreEntry> + Drop, L: Seats>(
     let mut lines = desk.lines.lock(rt);
     match desk.core.step(rt, alloc, step, seat)? {
         Some(effects) => {
-            lines.put(effects);
+            if !lines.put(effects) {
+                desk.short.store(true, Ordering::SeqCst);
+            }
             Ok(true)
         }
         None => Ok(false),

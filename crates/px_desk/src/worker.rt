@@ -192,11 +192,20 @@ impl<R: Wait + Copy, C: Recorder<CoreEntry> + Drop, L: Seats> Worker<R, C, L> {
         unreachable!()
     }
 
-    // A client in whose line a packet found no memory.
+    // A client in whose line a packet found no memory. Whoever made the step looks behind it, so a step that another makes meanwhile isn't
+    // waited for.
     fn short(&mut self) -> Option<ConnId>
         ensures seat { self.new.seat.parts ≡ self.old.seat.parts }
     {
-        self.desk.lines.lock(&self.rt).take_short()
+        if !self.desk.short.load(Ordering::SeqCst) {
+            return None;
+        }
+        let mut lines = self.desk.lines.lock(&self.rt);
+        let short = lines.take_short();
+        if short.is_none() {
+            self.desk.short.store(false, Ordering::SeqCst);
+        }
+        short
     }
 
     // Ends the connections of clients in whose lines a packet found no memory.
@@ -288,16 +297,31 @@ impl<R: Wait + Copy, C: Recorder<CoreEntry> + Drop, L: Seats> Worker<R, C, L> {
         }
     }
 
-    /// All notices that a sink's mixer has posted.
+    // The next notice that a sink's mixer has posted, with the sweep that its step owes. Whether there was one.
+    fn notice(&mut self, sink: SinkId) -> Result<bool, CoreStop>
+        ensures seat { self.new.seat.parts ≡ self.old.seat.parts }
+    {
+        if !self.insist(Plain::Notice(sink))? {
+            return Ok(false);
+        }
+        self.sweep()?;
+        Ok(true)
+    }
+
+    /// All notices that a sink's mixer has posted. Where there was one, connections that found no memory end behind the last, and what waits for
+    /// the sinks is posted.
     pub fn notices(&mut self, sink: SinkId) -> Result<(), CoreStop>
         ensures seat { self.new.seat.parts ≡ self.old.seat.parts }
     {
+        if !self.notice(sink)? {
+            return Ok(());
+        }
         let rt = self.rt;
         for _ in rt.forever() {
-            if !self.insist(Plain::Notice(sink))? {
-                return Ok(());
+            if !self.notice(sink)? {
+                self.cut_short()?;
+                return self.post_all();
             }
-            self.follow()?;
         }
         unreachable!()
     }

@@ -32,6 +32,8 @@ pub record Cell (D R : Type 0) : Type 0 where
   pub notices : BoundedNotices
   -- how many messages the last turn took
   pub taken : ℕ
+  -- how many notices stood behind it
+  pub given : ℕ
 
 -- ---- its mailboxes
 

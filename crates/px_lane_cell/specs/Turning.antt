@@ -43,6 +43,7 @@ pub record Makes {D R : Type 0} (now : D → DeviceState) (told : R → Option (
   pub turn : IsNoted now before.lane after.lane messages before.notices.notices notices turned entry
   pub recorded : told after.recorder ≡ noted entry (told before.recorder)
   pub counted : after.taken ≡ length entry.messages
+  pub given : after.given ≡ length notices
   pub none_kept : after.messages.messages ≡ []
   pub posts : Posts (posted_in before.ends) (posted_in after.ends) notices after.notices.notices
   pub gone : AreGone (stored_in before.ends) (stored_in after.ends) (posted_in after.ends) after.notices.notices
@@ -53,6 +54,7 @@ pub record Keeps {D R : Type 0} (told : R → Option (List LaneEntry)) (before a
   pub lane : after.lane ≡ before.lane
   pub recorded : told after.recorder ≡ told before.recorder
   pub counted : after.taken ≡ before.taken
+  pub given : after.given ≡ before.given
   pub notices : after.notices.notices ≡ before.notices.notices
   pub posted : after.ends.passes.post ≡ before.ends.passes.post
 

@@ -32,6 +32,7 @@ pub struct LaneCell<D: Device, R: Recorder<LaneEntry>> {
     messages: MsgList,
     notices: NoticeList,
     taken: u32,
+    given: usize,
 }
 
 impl<D: Device, R: Recorder<LaneEntry>> Model for LaneCell<D, R> {
@@ -39,9 +40,9 @@ impl<D: Device, R: Recorder<LaneEntry>> Model for LaneCell<D, R> {
 
     ghost Value = { Cell D R };
 
-    ghost view = { λ c. record { lane = c.lane; recorder = c.recorder; ends = c.ends; messages = c.messages; notices = c.notices; taken = c.taken } };
+    ghost view = { λ c. record { lane = c.lane; recorder = c.recorder; ends = c.ends; messages = c.messages; notices = c.notices; taken = c.taken; given = c.given } };
 
-    ghost invariant = { λ c. IsCell D.now R.told (record { lane = c.lane; recorder = c.recorder; ends = c.ends; messages = c.messages; notices = c.notices; taken = c.taken }) };
+    ghost invariant = { λ c. IsCell D.now R.told (record { lane = c.lane; recorder = c.recorder; ends = c.ends; messages = c.messages; notices = c.notices; taken = c.taken; given = c.given }) };
 }
 
 /// What a cell was made of, with the messages and the notices that it kept.
@@ -69,6 +70,7 @@ impl<D: Device + Drop, R: Recorder<LaneEntry> + Drop> LaneCell<D, R> {
         ensures recorder { IfOk result (λ cell. cell.recorder ≡ recorder) }
         ensures ends { IfOk result (λ cell. cell.ends ≡ ends) }
         ensures taken { IfOk result (λ cell. cell.taken ≡ 0) }
+        ensures given { IfOk result (λ cell. cell.given ≡ 0) }
         ensures kept { IfOk result (λ cell. (cell.messages.messages ≡ []) × (cell.notices.notices ≡ [])) }
     {
         let mut messages = MsgList::new(alloc);
@@ -80,6 +82,7 @@ impl<D: Device + Drop, R: Recorder<LaneEntry> + Drop> LaneCell<D, R> {
             messages,
             notices: NoticeList::new(alloc),
             taken: 0,
+            given: 0,
         })
     }
 
@@ -109,11 +112,14 @@ impl<D: Device + Drop, R: Recorder<LaneEntry> + Drop> LaneCell<D, R> {
             messages,
             notices,
             taken,
+            given,
         } = self;
         take_messages(rt, &ends.boxes.inbox, &mut ends.passes.take, messages);
         let count = messages.len() as u32;
         let turned = turn_noted(alloc, lane, recorder, messages, notices, blocks)?;
         *taken = count;
+        let all = notices.len();
+        *given = all;
         post_notices(rt, &ends.boxes.outbox, &mut ends.passes.post, notices);
         Ok(turned)
     }
@@ -124,6 +130,14 @@ impl<D: Device + Drop, R: Recorder<LaneEntry> + Drop> LaneCell<D, R> {
         ensures kept { IsCell D.now R.told self.now }
     {
         self.taken
+    }
+
+    /// How many notices stood behind the last turn that was made, those kept before it among them, 0 before the first. Each of them was posted or
+    /// is kept.
+    pub fn given(&self) -> usize
+        ensures count { result ≡ self.now.given }
+    {
+        self.given
     }
 
     /// The mixer, the recorder, the mailboxes with their passes, and the messages and notices that are kept. Takes no memory.

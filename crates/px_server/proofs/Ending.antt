@@ -40,14 +40,14 @@ replay_told began cell (Some entries) replay i e is =
 
 module _ {D R C : Type 0} (now : D → DeviceState) (told : R → Option (List LaneEntry)) (faults fulls : R → ℕ) (core_told : C → Option (List CoreEntry)) (core_faults core_fulls : C → ℕ) where
   -- a call whose workers were joined
-  pub run_ends : (began : State PlainStream) (lone last : List (Unworked D R)) (before after : HostState D R C)
+  pub run_ends : (began : State PlainStream) (lone : List (Unworked D R)) (before after : HostState D R C)
       (stop : Stop) (fault : Option RecordFault) (met : Option Status) (answered : Status) (parts : List (LanePart D R)) (recorder : C)
-      → map start_of last ≡ map start_of lone → AreParts began (core_told recorder) now told faults fulls (map unworked last) parts → met ≡ first_met (map unworked last)
+      → AreParts began (core_told recorder) now told faults fulls (map unworked lone) parts → met ≡ first_met (map unworked lone)
       → IsCauseOf stop before after → IsCaused fault (core_faults recorder) (core_fulls recorder) → answered ≡ decided stop fault met
       → Ends core_told core_faults core_fulls began now told faults fulls (map start_of lone) before after answered parts (Some recorder)
-  run_ends began lone last before after stop fault met answered parts recorder starts all first cause caused is = record {
-    works = map unworked last;
-    all = starts_unworked last ∙ starts;
+  run_ends began lone before after stop fault met answered parts recorder all first cause caused is = record {
+    works = map unworked lone;
+    all = starts_unworked lone;
     lanes = all;
     decided = record {
       stop = stop;
@@ -57,6 +57,12 @@ module _ {D R C : Type 0} (now : D → DeviceState) (told : R → Option (List L
       status = is ∙ ap (decided stop fault) first;
     };
   }
+
+  -- its sinks, by how they began before their workers had them
+  pub ends_since : (began : State PlainStream) (starts begun : List Start) (before after : HostState D R C) (answered : Status) (parts : List (LanePart D R)) (core : Option C)
+      → starts ≡ begun → Ends core_told core_faults core_fulls began now told faults fulls starts before after answered parts core
+      → Ends core_told core_faults core_fulls began now told faults fulls begun before after answered parts core
+  ends_since began starts begun before after answered parts core same e = record { works = e.works; all = e.all ∙ same; lanes = e.lanes; decided = e.decided }
 
   -- a call that has made no core is decided by what made it stop
   pub undecided_is : (before after : HostState D R C) (stop : Stop) (works : List Worked) → IsCauseOf stop before after

@@ -90,12 +90,6 @@ met_all first left all none so = sym (or_none first) ∙ ap (λ (l : List _). op
 pub adds_none : {X : Type 0} (f : X → Start) (before after : List X) (more : List Start) → after ≡ before → Adds (map f before) more (map f after)
 adds_none f before after more same = ([], (more, refl), ap (map f) same ∙ sym (append-nil (map f before)))
 
--- one was started, of those that are to be
-pub started_one : {X : Type 0} (sinks next all lone rest : List X) (one : X)
-    → lone ≡ one ∷ rest → next ≡ sinks ++ one ∷ [] → sinks ++ lone ≡ all → next ++ rest ≡ all
-started_one sinks next all lone rest one front more so =
-    ap (λ (l : List _). l ++ rest) more ∙ append_assoc sinks (one ∷ []) rest ∙ ap (λ (l : List _). sinks ++ l) (sym front) ∙ so
-
 -- one was joined, and stands before those that no worker had
 pub joined_one : {X Y : Type 0} (f : X → Y) (sinks rest lone next : List X) (given back : X)
     → sinks ≡ rest ++ given ∷ [] → next ≡ back ∷ lone → f back ≡ f given → map f (rest ++ next) ≡ map f (sinks ++ lone)
@@ -106,14 +100,6 @@ joined_one f sinks rest lone next given back behind front same =
     ∙ sym (map-append f rest (given ∷ lone))
     ∙ ap (map f) (sym (append_assoc rest (given ∷ []) lone))
     ∙ ap (λ (l : List _). map f (l ++ lone)) (sym behind)
-
--- each that is started takes a share
-pub seats_one : {X Y : Type 0} (lone rest : List X) (one : X) (sinks next : List Y) (more : Y) (parts left : ℕ)
-    → lone ≡ one ∷ rest → next ≡ sinks ++ more ∷ [] → left + length next ≡ parts + length sinks → length lone + 1 < parts → length rest + 1 < left
-seats_one lone rest one sinks next more parts left front behind whole room =
-    let fewer : length lone ≡ suc (length rest) = ap length front in
-    let longer : length next ≡ length sinks + 1 = ap length behind ∙ length-append sinks (more ∷ []) in
-    omega (arith, fewer, longer, whole, room)
 
 abbrev pub begun : SinkId → Sink → Start
 begun index sink = record { index = index; sink = sink }

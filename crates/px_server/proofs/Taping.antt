@@ -56,6 +56,10 @@ AreOn ons = AllByRecursion (λ on. on ≡ true) ons
 pub taping_none : {D E : Type 0} (lone : List (Unworked D E)) → lone ≡ [] → AreTaping lone
 taping_none lone none = subst AreTaping (sym none) tt
 
+-- sinks keep theirs where they did before
+pub taping_since : {D E : Type 0} (lone last : List (Unworked D E)) → map tapes_in last ≡ map tapes_in lone → AreTaping lone → AreTaping last
+taping_since lone last same all = subst AreOn (sym same) all
+
 pub taping_more : {D E : Type 0} (lone next : List (Unworked D E)) (one : Unworked D E) → next ≡ lone ++ one ∷ [] → is_some one.turns ≡ true → AreTaping lone → AreTaping next
 taping_more lone next one more on all = subst AreTaping (sym more) (behind lone all) where
   behind : (lone : List (Unworked _ _)) → AreTaping lone → AreTaping (lone ++ one ∷ [])
@@ -148,21 +152,21 @@ module _ {D R : Type 0} (told : R → Option (List LaneEntry)) where
   counts parts count None are woven = tt
   counts parts count (Some events) are woven = subst (AreCounted told parts) (sym woven) are
 
-  pub tape_is : (taped : Bool) (lone last : List (Unworked D R)) (turns : List Turns) (parts : List (LanePart D R)) (tape : Option (List Event))
+  pub tape_is : (taped : Bool) (lone : List (Unworked D R)) (turns : List Turns) (parts : List (LanePart D R)) (tape : Option (List Event))
       (stop : Stop) (fault : Option RecordFault) (met : Option Status) (answered : Status)
-      → (taped ≡ true → AreTaping lone) → map tapes_in last ≡ map tapes_in lone → (AreTaping last → AreCounted told parts (total turns))
+      → (taped ≡ true → AreTaping lone) → (AreTaping lone → AreCounted told parts (total turns))
       → (taped ≡ false → tape ≡ None) → IfSome tape (λ events. turns_in events ≡ total turns) → (taped ≡ true → stop ≡ stops.Over → IsSome tape) → answered ≡ decided stop fault met
       → HasTape told taped answered parts tape
-  tape_is false lone last turns parts tape stop fault met answered taping same counted none woven whole is = record {
+  tape_is false lone turns parts tape stop fault met answered taping counted none woven whole is = record {
     none = none;
     turns = subst (λ (o : Option (List Event)). IfSome o (λ events. AreCounted told parts (turns_in events))) (sym (none refl)) tt;
     whole = λ on. absurd (off on);
   } where
     off : false ≡ true → ⊥
     off is = search rules
-  tape_is true lone last turns parts tape stop fault met answered taping same counted none woven whole is = record {
+  tape_is true lone turns parts tape stop fault met answered taping counted none woven whole is = record {
     none = none;
-    turns = counts parts (total turns) tape (counted (subst AreOn (sym same) (taping refl))) woven;
+    turns = counts parts (total turns) tape (counted (taping refl)) woven;
     whole = λ on fine. whole on (fine_over stop fault met (sym is ∙ fine));
   }
 

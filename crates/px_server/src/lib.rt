@@ -1,6 +1,6 @@
 //! The server: the core under its lock, a worker for each client's link and for each sink, and what goes between them. `gate` says when
 //! workers go on, `link_work` and `sink_work` have the work at a link and of a sink, `sinks` what is made for the sinks, `left` what is left of
-//! them, `serving` what is under way, and `call` the call itself. It exports `serve` with `Served` and `LanePart`, and `Gate` with `PaceGate`.
+//! them, `starting` the starts of workers, `serving` what is under way, and `call` the call itself. It exports `serve` with `Served` and `LanePart`, and `Gate` with `PaceGate`.
 #![tactic(auto)]
 
 mod call;
@@ -13,6 +13,7 @@ mod served;
 mod serving;
 mod sink_work;
 mod sinks;
+mod starting;
 
 pub use call::serve;
 pub use gate::{Gate, PaceGate};

@@ -14,7 +14,7 @@ use crate::left::close_all;
 use crate::link_work::LinkWork;
 use crate::lone::Lone;
 use crate::served::{LanePart, Served, Stop, decided, next_link, woven};
-use crate::sink_work::SinkWork;
+use crate::starting::{new_worker, start_sinks, taken_apart};
 use px_annals::{CoreEntry, LaneEntry, Recorder};
 use px_core_cell::{CoreParts, Seats};
 use px_desk::{CoreStop, Worker};
@@ -56,92 +56,6 @@ where
     L: Seats + Send + Sync + 'static,
     G: Gate + Drop + Send + Sync + 'static,
 {
-    // Starts the worker of one sink. Where that can't be, the sink comes back.
-    fn start_sink(&mut self, lone: Lone<D, E>) -> Result<(), Lone<D, E>>
-        requires { 1 < self.old.worker.seat.parts }
-        ensures parts { self.new.worker.seat.parts + length self.new.sinks.items ≡ self.old.worker.seat.parts + length self.old.sinks.items }
-        ensures ok { OnOk result (self.new.sinks.items ≡ self.old.sinks.items ++ lone ∷ []) }
-        ensures back { IfErr result (λ back. back ≡ lone) }
-        ensures err { OnErr result (self.new.sinks.items ≡ self.old.sinks.items) }
-        ensures clients { self.new.clients ≡ self.old.clients }
-    {
-        if self.sinks.reserve(1).is_err() {
-            return Err(lone);
-        }
-        let Ok(gate) = Arc::try_clone(&self.gate) else {
-            return Err(lone);
-        };
-        let Ok(worker) = self.worker.another() else {
-            return Err(lone);
-        };
-        let Lone {
-            sink,
-            cell,
-            met,
-            turns,
-        } = lone;
-        let job = SinkWork {
-            worker,
-            sink,
-            cell,
-            gate,
-            met,
-            turns,
-        };
-        let rt = self.worker.rt;
-        match start(&rt, self.worker.alloc, job) {
-            Spawned::Started(running) => {
-                self.sinks.push_back_reserved(SinkRun { running });
-                Ok(())
-            }
-            Spawned::Refused(job) | Spawned::NoMemory(job) => {
-                let SinkWork {
-                    worker,
-                    sink,
-                    cell,
-                    met,
-                    turns,
-                    ..
-                } = job;
-                self.worker.seat.merge(worker.seat);
-                Err(Lone {
-                    sink,
-                    cell,
-                    met,
-                    turns,
-                })
-            }
-        }
-    }
-
-    // Starts the workers of the sinks, in order, as far as that can be.
-    fn start_sinks<H: Host>(
-        &mut self,
-        host: &mut H,
-        lone: &mut VecDeque<Lone<D, E>>,
-    ) -> Result<(), Stop>
-        requires { length lone.old.items + 1 < self.old.worker.seat.parts }
-        ensures parts { self.new.worker.seat.parts + length self.new.sinks.items ≡ self.old.worker.seat.parts + length self.old.sinks.items }
-        ensures all { self.new.sinks.items ++ lone.new.items ≡ self.old.sinks.items ++ lone.old.items }
-        ensures capacity { deque_capacity lone.new ≡ deque_capacity lone.old }
-        ensures clients { self.new.clients ≡ self.old.clients }
-        ensures later { IsLater (H.now host.old) (H.now host.new) }
-        ensures lent { (H.now host.new).lent ≡ (H.now host.old).lent }
-        ensures cause { IfErr result (λ stop. IsCauseOf stop (H.now host.old) (H.now host.new)) }
-    {
-        while let Some(one) = lone.pop_front() {
-            if !host.may_start() {
-                lone.push_front_reserved(one);
-                return Err(Stop::Host);
-            }
-            if let Err(one) = self.start_sink(one) {
-                lone.push_front_reserved(one);
-                return Err(Stop::Memory);
-            }
-        }
-        Ok(())
-    }
-
     // Joins the workers of clients that have gone.
     fn reap(&mut self)
         ensures parts { self.new.worker.seat.parts + length self.new.clients.items ≡ self.old.worker.seat.parts + length self.old.clients.items }
@@ -182,8 +96,7 @@ where
         ensures sinks { self.new.sinks ≡ self.old.sinks }
     {
         self.clients.reserve(1)?;
-        let gate = Arc::try_clone(&self.gate)?;
-        let worker = self.worker.another()?;
+        let (worker, gate) = new_worker(&mut self.worker, &self.gate)?;
         let job = LinkWork {
             worker,
             conn,
@@ -276,7 +189,7 @@ where
         ensures lent { (H.now host.new).lent ≡ (H.now host.old).lent }
         ensures cause { IsCauseOf result (H.now host.old) (H.now host.new) }
     {
-        match self.start_sinks(host, lone) {
+        match start_sinks(&mut self.worker, &self.gate, &mut self.sinks, lone, host) {
             Ok(()) => self.accept_all(host),
             Err(stop) => stop,
         }
@@ -293,22 +206,89 @@ where
         let rt = self.worker.rt;
         while let Some(SinkRun { running }) = self.sinks.pop_back() {
             let job = running.join(&rt);
-            let SinkWork {
-                worker,
-                sink,
-                cell,
-                met,
-                turns,
-                ..
-            } = job;
+            let (worker, one) = taken_apart(job);
             self.worker.seat.merge(worker.seat);
-            lone.push_front_reserved(Lone {
-                sink,
-                cell,
-                met,
-                turns,
-            });
+            lone.push_front_reserved(one);
         }
+    }
+}
+
+// All that workers do, from their start to their end. What is left is the call's own hold of the core, with all shares, and why it stopped.
+fn worked<R, H, G, L>(
+    worker: Worker<R, H::C, L>,
+    host: &mut H,
+    gate: Arc<G>,
+    lone: &mut VecDeque<Lone<H::D, H::R>>,
+) -> (Worker<R, H::C, L>, Stop)
+where
+    R: Threads + Wait + Copy + Drop + Send + Sync + 'static,
+    H: Host,
+    H::L: 'static,
+    H::D: 'static,
+    H::R: 'static,
+    H::C: 'static,
+    G: Gate + Drop + Send + Sync + 'static,
+    L: Seats + Send + Sync + 'static,
+    requires seats { worker.seat.parts ≡ 65552 }
+    requires few { length lone.old.items ≤ 16 }
+    ensures seats { result.0.seat.parts ≡ 65552 }
+    ensures starts { map start_of lone.new.items ≡ map start_of lone.old.items }
+    ensures boxes { map boxes_in lone.new.items ≡ map boxes_in lone.old.items }
+    ensures tapes { map tapes_in lone.new.items ≡ map tapes_in lone.old.items }
+    ensures later { IsLater (H.now host.old) (H.now host.new) }
+    ensures lent { (H.now host.new).lent ≡ (H.now host.old).lent }
+    ensures cause { IsCauseOf result.1 (H.now host.old) (H.now host.new) }
+{
+    let alloc = worker.alloc;
+    let mut serving = Serving::<R, H::L, H::D, H::R, H::C, L, G> {
+        worker,
+        gate,
+        sinks: VecDeque::new(alloc),
+        clients: VecDeque::new(alloc),
+        next: 0,
+    };
+    let stop = serving.work(host, lone);
+    serving.join_clients();
+    serving.worker.finish();
+    serving.join_sinks(lone);
+    (serving.worker, stop)
+}
+
+// What a call hands back that stopped so and whose workers have ended.
+fn ended<R, H, L>(
+    worker: Worker<R, H::C, L>,
+    stop: Stop,
+    mut lone: VecDeque<Lone<H::D, H::R>>,
+    mut lanes: Vec<LanePart<H::D, H::R>>,
+    mut turns: Vec<SinkTurns>,
+    taped: bool,
+) -> Served<H>
+where
+    R: Wait + Copy + Drop,
+    H: Host,
+    L: Seats,
+    requires seats { worker.seat.parts ≡ L.all }
+    requires sinks { (sinks : List SinkSpec) × (map start_of lone.items ≡ starts_of sinks) }
+    requires boxes { map boxes_in lone.items ≡ L.boxes }
+    requires none { lanes.items ≡ [] }
+    requires room { length lone.items ≤ vec_capacity lanes }
+    requires no_turns { turns.items ≡ [] }
+    requires turns_room { length lone.items ≤ vec_capacity turns }
+    requires taping { taped ≡ true → AreTaping lone.items }
+    ensures tape { HasTape H.R.told taped result.status result.lanes.items result.tape }
+    ensures ends { (before after : _) → IsCauseOf stop before after → Ends H.C.told H.C.faults H.C.fulls L.began H.D.now H.R.told H.R.faults H.R.fulls (map start_of lone.items) before after result.status result.lanes.items result.core }
+    ensures core { IsSome result.core }
+{
+    let alloc = worker.alloc;
+    let tape = worker.take_tape();
+    let CoreParts { log, ends, .. } = worker.into_core();
+    let met = close_all(&mut lone, ends, &mut lanes, &mut turns);
+    let (tape, stop) = woven(alloc, taped, tape, turns, stop);
+    Served {
+        status: decided(stop, log.fault, met),
+        lanes,
+        core: Some(log.recorder),
+        tape,
     }
 }
 
@@ -318,8 +298,8 @@ pub(crate) fn run<R, H, G, L>(
     host: &mut H,
     gate: Arc<G>,
     mut lone: VecDeque<Lone<H::D, H::R>>,
-    mut lanes: Vec<LanePart<H::D, H::R>>,
-    mut turns: Vec<SinkTurns>,
+    lanes: Vec<LanePart<H::D, H::R>>,
+    turns: Vec<SinkTurns>,
     taped: bool,
 ) -> Served<H>
 where
@@ -346,26 +326,6 @@ where
     ensures ends { Ends H.C.told H.C.faults H.C.fulls L.began H.D.now H.R.told H.R.faults H.R.fulls (map start_of lone.items) (H.now host.old) (H.now host.new) result.status result.lanes.items result.core }
     ensures core { IsSome result.core }
 {
-    let alloc = worker.alloc;
-    let mut serving = Serving::<R, H::L, H::D, H::R, H::C, L, G> {
-        worker,
-        gate,
-        sinks: VecDeque::new(alloc),
-        clients: VecDeque::new(alloc),
-        next: 0,
-    };
-    let stop = serving.work(host, &mut lone);
-    serving.join_clients();
-    serving.worker.finish();
-    serving.join_sinks(&mut lone);
-    let tape = serving.worker.take_tape();
-    let CoreParts { log, ends, .. } = serving.worker.into_core();
-    let met = close_all(&mut lone, ends, &mut lanes, &mut turns);
-    let (tape, stop) = woven(alloc, taped, tape, turns, stop);
-    Served {
-        status: decided(stop, log.fault, met),
-        lanes,
-        core: Some(log.recorder),
-        tape,
-    }
+    let (worker, stop) = worked(worker, host, gate, &mut lone);
+    ended(worker, stop, lone, lanes, turns, taped)
 }

@@ -183,6 +183,9 @@ where
         if self.cell.taken() == FULL {
             self.worker.post(self.sink)?;
         }
+        if self.cell.given() == 0 {
+            return Ok(());
+        }
         self.worker.notices(self.sink)
     }
 

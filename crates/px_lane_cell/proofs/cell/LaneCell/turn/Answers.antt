@@ -31,10 +31,10 @@ invariant_of-self-2 g c =
     let p = c.post_notices in
     let ok = c.in_ok-turned.ensures.ok in
     let before : Cell g.row.D.Denot g.row.R.Denot =
-    record { lane = i.lane; recorder = i.recorder; ends = i.ends; messages = i.messages; notices = i.notices; taken = i.taken } in
+    record { lane = i.lane; recorder = i.recorder; ends = i.ends; messages = i.messages; notices = i.notices; taken = i.taken; given = i.given } in
     let ends : LaneEnds = record { boxes = i.ends.boxes; passes = record { take = t.new.pass; post = p.new.pass } } in
     let after : Cell g.row.D.Denot g.row.R.Denot =
-    record { lane = n.new.lane; recorder = n.new.recorder; ends = ends; messages = n.new.messages; notices = p.new.notices; taken = c.len-count.result } in
+    record { lane = n.new.lane; recorder = n.new.recorder; ends = ends; messages = n.new.messages; notices = p.new.notices; taken = c.len-count.result; given = c.len-all.result } in
     let makes : Makes g.D.Device.now g.R.Recorder.told before after c.in_ok-turned.turned = record {
       entry = ok.0;
       messages = t.new.messages.messages;
@@ -44,6 +44,7 @@ invariant_of-self-2 g c =
       turn = ok.4;
       recorded = ok.1;
       counted = c.len-count.ensures.count ∙ sym ok.2;
+      given = c.len-all.ensures;
       none_kept = ok.3;
       posts = p.ensures.posts;
       gone = p.ensures.gone;

@@ -1,0 +1,197 @@
+//! The starts of workers.
+ghost use Rattle.std.specs.Prelude.{◌≡◌, ◌+◌, ◌<◌, ◌++◌, ◌∷◌, [], length, IfOk, IfErr, OnOk, OnErr};
+ghost use Rattle.std.specs.VecDeque.{deque_capacity};
+ghost use Rattle.px_server.specs.Hosted.{IsLater, IsCauseOf};
+ghost use Rattle.px_server.specs.Working.{IsHonest, AreTaped};
+
+use crate::crew::SinkRun;
+use crate::gate::Gate;
+use crate::lone::Lone;
+use crate::served::Stop;
+use crate::sink_work::SinkWork;
+use px_annals::{CoreEntry, LaneEntry, Recorder};
+use px_core_cell::Seats;
+use px_desk::Worker;
+use px_ends::{Device, Host};
+use px_jobs::{Spawned, start};
+use px_types::{Mem, NoMemory};
+use std::collections::VecDeque;
+use std::sync::{Arc, Wait};
+use std::thread::Threads;
+
+/// Another worker with one share of this one's, and the gate for it.
+pub(crate) fn new_worker<R, C, L, G>(
+    worker: &mut Worker<R, C, L>,
+    gate: &Arc<G>,
+) -> Mem<(Worker<R, C, L>, Arc<G>)>
+where
+    R: Wait + Copy,
+    C: Recorder<CoreEntry> + Drop,
+    L: Seats,
+    G: Drop,
+    requires { 1 < worker.old.seat.parts }
+    ensures ok { IfOk result (λ made. (made.0.seat.parts ≡ 1) × (worker.new.seat.parts + 1 ≡ worker.old.seat.parts)) }
+    ensures err { OnErr result (worker.new.seat.parts ≡ worker.old.seat.parts) }
+{
+    let gate = Arc::try_clone(gate)?;
+    let other = worker.another()?;
+    Ok((other, gate))
+}
+
+/// The worker and the sink of a job that no thread works at.
+pub(crate) fn taken_apart<R, D, E, C, L, G>(
+    job: SinkWork<R, D, E, C, L, G>,
+) -> (Worker<R, C, L>, Lone<D, E>)
+where
+    D: Device,
+    E: Recorder<LaneEntry>,
+    C: Recorder<CoreEntry>,
+    L: Seats,
+    G: Drop,
+    requires honest { IsHonest D.now E.faults E.fulls job.cell job.met }
+    requires taped { AreTaped E.told job.cell.recorder job.turns }
+    ensures worker { result.0 ≡ job.worker }
+    ensures sink { result.1 ≡ record { sink = job.sink; cell = job.cell; met = job.met; turns = job.turns } }
+{
+    let SinkWork {
+        worker,
+        sink,
+        cell,
+        met,
+        turns,
+        ..
+    } = job;
+    (
+        worker,
+        Lone {
+            sink,
+            cell,
+            met,
+            turns,
+        },
+    )
+}
+
+// Starts a worker with a sink. Where that can't be, both come back.
+fn start_with<R, D, E, C, L, G>(
+    worker: Worker<R, C, L>,
+    gate: Arc<G>,
+    lone: Lone<D, E>,
+) -> Result<SinkRun<R, D, E, C, L, G>, (Worker<R, C, L>, Lone<D, E>)>
+where
+    R: Threads + Wait + Copy + Drop + Send + Sync + 'static,
+    D: Device + Drop + Send + 'static,
+    E: Recorder<LaneEntry> + Drop + Send + 'static,
+    C: Recorder<CoreEntry> + Drop + Send + 'static,
+    L: Seats + Send + Sync + 'static,
+    G: Gate + Drop + Send + Sync + 'static,
+    requires { worker.seat.parts ≡ 1 }
+    ensures ok { IfOk result (λ run. run ≡ lone) }
+    ensures err { IfErr result (λ back. (back.0.seat.parts ≡ 1) × (back.1 ≡ lone)) }
+{
+    let rt = worker.rt;
+    let alloc = worker.alloc;
+    let Lone {
+        sink,
+        cell,
+        met,
+        turns,
+    } = lone;
+    let job = SinkWork {
+        worker,
+        sink,
+        cell,
+        gate,
+        met,
+        turns,
+    };
+    match start(&rt, alloc, job) {
+        Spawned::Started(running) => Ok(SinkRun { running }),
+        Spawned::Refused(job) | Spawned::NoMemory(job) => Err(taken_apart(job)),
+    }
+}
+
+// Starts the worker of the next sink, of those that there are. Where that can't be, the sink stays.
+fn start_next<R, D, E, C, L, G>(
+    worker: &mut Worker<R, C, L>,
+    gate: &Arc<G>,
+    sinks: &mut VecDeque<SinkRun<R, D, E, C, L, G>>,
+    lone: &mut VecDeque<Lone<D, E>>,
+) -> Mem<()>
+where
+    R: Threads + Wait + Copy + Drop + Send + Sync + 'static,
+    D: Device + Drop + Send + 'static,
+    E: Recorder<LaneEntry> + Drop + Send + 'static,
+    C: Recorder<CoreEntry> + Drop + Send + 'static,
+    L: Seats + Send + Sync + 'static,
+    G: Gate + Drop + Send + Sync + 'static,
+    requires seats { 1 < worker.old.seat.parts }
+    requires some { 0 < length lone.old.items }
+    ensures parts { worker.new.seat.parts + length lone.old.items ≡ worker.old.seat.parts + length lone.new.items }
+    ensures all { sinks.new.items ++ lone.new.items ≡ sinks.old.items ++ lone.old.items }
+    ensures capacity { deque_capacity lone.new ≡ deque_capacity lone.old }
+    ensures fewer { OnOk result (length lone.new.items < length lone.old.items) }
+{
+    sinks.reserve(1)?;
+    let (other, gate) = new_worker(worker, gate)?;
+    let Some(one) = lone.pop_front() else {
+        unreachable!()
+    };
+    match start_with(other, gate, one) {
+        Ok(run) => {
+            sinks.push_back_reserved(run);
+            Ok(())
+        }
+        Err((other, one)) => {
+            worker.seat.merge(other.seat);
+            lone.push_front_reserved(one);
+            Err(NoMemory)
+        }
+    }
+}
+
+// Whether the host lets one more worker start.
+fn ask<H: Host>(host: &mut H) -> Result<(), Stop>
+    ensures later { IsLater (H.now host.old) (H.now host.new) }
+    ensures lent { (H.now host.new).lent ≡ (H.now host.old).lent }
+    ensures cause { IfErr result (λ stop. IsCauseOf stop (H.now host.old) (H.now host.new)) }
+{
+    if host.may_start() {
+        Ok(())
+    } else {
+        Err(Stop::Host)
+    }
+}
+
+/// Starts the workers of the sinks, in order, as far as that can be.
+pub(crate) fn start_sinks<R, D, E, C, L, G, H>(
+    worker: &mut Worker<R, C, L>,
+    gate: &Arc<G>,
+    sinks: &mut VecDeque<SinkRun<R, D, E, C, L, G>>,
+    lone: &mut VecDeque<Lone<D, E>>,
+    host: &mut H,
+) -> Result<(), Stop>
+where
+    R: Threads + Wait + Copy + Drop + Send + Sync + 'static,
+    D: Device + Drop + Send + 'static,
+    E: Recorder<LaneEntry> + Drop + Send + 'static,
+    C: Recorder<CoreEntry> + Drop + Send + 'static,
+    L: Seats + Send + Sync + 'static,
+    G: Gate + Drop + Send + Sync + 'static,
+    H: Host,
+    requires { length lone.old.items < worker.old.seat.parts }
+    ensures parts { worker.new.seat.parts + length lone.old.items ≡ worker.old.seat.parts + length lone.new.items }
+    ensures all { sinks.new.items ++ lone.new.items ≡ sinks.old.items ++ lone.old.items }
+    ensures capacity { deque_capacity lone.new ≡ deque_capacity lone.old }
+    ensures later { IsLater (H.now host.old) (H.now host.new) }
+    ensures lent { (H.now host.new).lent ≡ (H.now host.old).lent }
+    ensures cause { IfErr result (λ stop. IsCauseOf stop (H.now host.old) (H.now host.new)) }
+{
+    while !lone.is_empty() {
+        ask(host)?;
+        if start_next(worker, gate, sinks, lone).is_err() {
+            return Err(Stop::Memory);
+        }
+    }
+    Ok(())
+}
