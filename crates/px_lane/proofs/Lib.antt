@@ -4,6 +4,7 @@ pub mod Summed
 pub mod Each
 pub mod Whole
 pub mod Buffers
+pub mod Gone
 pub mod Places
 pub mod Rising
 pub mod Readied

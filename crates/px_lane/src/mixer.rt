@@ -1,10 +1,8 @@
 // What a sink mixes.
-ghost use Rattle.std.specs.Prelude.{◌≡◌, ◌≤◌, ◌+◌, ◌-◌, ◌*◌, ◌^◌, ◌<◌, ◌++◌, length, map, take, drop, flat_map, [], IfOk, OnOk, OnErr};
-ghost use Rattle.std.specs.List.{AllByRecursion, concat, range_with_len, sum_by};
-ghost use Rattle.px_sample.specs.Format.{frame_size_of};
+ghost use Rattle.std.specs.Prelude.{◌≡◌, ◌≤◌, ◌+◌, ◌-◌, ◌*◌, ◌^◌, ◌<◌, ◌++◌, length, take, drop, flat_map, [], IfOk, OnOk, OnErr};
+ghost use Rattle.std.specs.List.{AllByRecursion, concat, sum_by};
 ghost use Rattle.px_msg.specs.View.{sample_spec};
-ghost use Rattle.px_model.specs.Sink.{Input as Stands, IsStreamOf, streams_of, empty_sink};
-ghost use Rattle.px_model.specs.Mix.{mix_of};
+ghost use Rattle.px_model.specs.Sink.{Input as Stands, IsStreamOf, empty_sink};
 ghost use Rattle.px_model.specs.Turn.{next_horizon, settled, with_messages, notices_of_messages, remixed, asked, going_notices, asked_notices, AreFor, BringsStream, turned, turn_notices, stopped_turn, stopped_notices};
 ghost use Rattle.px_lane.specs.Mixing.{RoomySink, IsMixed, given_up};
 ghost use Rattle.px_stream.specs.Samples.{samples};
@@ -16,6 +14,7 @@ ghost use Rattle.px_lane.specs.Needed.{needed, blocks_of, Opens};
 ghost use Rattle.px_lane.specs.Whole.{AreFramesOf};
 ghost use Rattle.px_model.specs.Frame.{frame_size};
 
+use crate::buffer::Buffer;
 use crate::mixed::MixedInputs;
 use crate::prepared::Prepared;
 use crate::{MsgList, NoticeList};
@@ -39,7 +38,7 @@ pub(crate) struct SinkMixer {
     filled: u64,
     horizon: u64,
     stopped: bool,
-    bytes: Vec<u8>,
+    bytes: Buffer,
     // how many frames past the horizon are the mix of the streams as they stand
     unaltered: u64,
     inputs: MixedInputs,
@@ -54,7 +53,7 @@ impl Model for SinkMixer {
     ghost Value = { RoomySink };
 
     ghost view = { λ m. record {
-      sink = sink_of m.spec (record { guard = m.guard; depth = m.depth; consumed = m.consumed; filled = m.filled; horizon = m.horizon }) m.stopped m.bytes.items m.inputs.inputs;
+      sink = sink_of m.spec (record { guard = m.guard; depth = m.depth; consumed = m.consumed; filled = m.filled; horizon = m.horizon }) m.stopped m.bytes m.inputs.inputs;
       unaltered = m.unaltered;
       room = m.inputs.room;
       block_room = m.inputs.block_room;
@@ -62,45 +61,9 @@ impl Model for SinkMixer {
 
     ghost invariant = { λ m. IsMixed m.spec
         × AreInOrder (record { guard = m.guard; depth = m.depth; consumed = m.consumed; filled = m.filled; horizon = m.horizon })
-        × (length m.bytes.items ≡ m.depth * frame_size_of m.spec)
-        × IsUnaltered m.unaltered (sink_of m.spec (record { guard = m.guard; depth = m.depth; consumed = m.consumed; filled = m.filled; horizon = m.horizon }) m.stopped m.bytes.items m.inputs.inputs)
+        × (length m.bytes ≡ m.depth * frame_size_of m.spec)
+        × IsUnaltered m.unaltered (sink_of m.spec (record { guard = m.guard; depth = m.depth; consumed = m.consumed; filled = m.filled; horizon = m.horizon }) m.stopped m.bytes m.inputs.inputs)
         × (m.inputs.spec ≡ m.spec) × (m.inputs.depth ≡ m.depth) × (m.inputs.frames ≡ m.filled - m.horizon) };
-}
-
-// So many bytes of zero.
-fn zeros(alloc: Global, count: usize) -> Mem<Vec<u8>>
-    ensures { IfOk result (λ bytes. length bytes.items ≡ count) }
-{
-    let bytes = vec![in alloc; 0; count]?;
-    Ok(bytes)
-}
-
-// Moves the bytes behind the first so many to the front. What stands behind them then is left over.
-fn move_to_front(bytes: &mut Vec<u8>, count: usize)
-    requires { count ≤ length bytes.old.items }
-    ensures size { length bytes.new.items ≡ length bytes.old.items }
-    ensures front { take (length bytes.old.items - count) bytes.new.items ≡ drop count bytes.old.items }
-{
-    if count > 0 {
-        bytes.copy_within(count.., 0);
-    }
-}
-
-// Puts the bytes of the frames that are mixed, from one on, in place of the last bytes, those from place `at` on.
-fn show_behind<T: Ledger>(
-    inputs: &MixedInputs,
-    from: u32,
-    bytes: &mut Vec<u8>,
-    at: usize,
-    steps: &mut Steps<T>,
-)
-    requires from { from ≤ inputs.now.frames }
-    requires size { length bytes.old.items ≡ at + (inputs.now.frames - from) * frame_size_of inputs.now.spec }
-    ensures size { length bytes.new.items ≡ length bytes.old.items }
-    ensures bytes { bytes.new.items ≡ take at bytes.old.items ++ concat (map (mix_of samples (sample_spec inputs.now.spec) (streams_of inputs.now.inputs)) (range_with_len from (inputs.now.frames - from))) }
-    ensures ticks { steps.new ≡ steps.old + inputs.now.spec.channels * (inputs.now.frames - from) }
-{
-    inputs.show(from, &mut bytes.as_mut_slice()[at..], steps);
 }
 
 impl SinkMixer {
@@ -120,7 +83,7 @@ impl SinkMixer {
             filled: 0,
             horizon: 0,
             stopped: false,
-            bytes: zeros(alloc, sink.depth as usize * size)?,
+            bytes: Buffer::new(alloc, sink.depth as usize * size)?,
             unaltered: 0,
             inputs: MixedInputs::new(alloc, sink.spec, sink.depth)?,
         })
@@ -201,7 +164,7 @@ impl SinkMixer {
         let horizon = self.filled.min(consumed + self.guard as u64);
         let gone = horizon - self.horizon;
         self.inputs.go(gone, out, blocks);
-        move_to_front(&mut self.bytes, frames as usize * size);
+        self.bytes.advance(frames as usize * size);
         self.unaltered = self.unaltered.saturating_sub(gone);
         self.consumed = consumed;
         self.horizon = horizon;
@@ -271,7 +234,7 @@ impl SinkMixer {
         let stay = self.unaltered;
         let at = (below + stay) as usize * self.spec.frame_size();
         self.inputs.mix((self.depth as u64 - below) as u32, steps);
-        show_behind(&self.inputs, stay as u32, &mut self.bytes, at, steps);
+        self.bytes.show(&self.inputs, stay as u32, at, steps);
         self.unaltered = self.depth as u64 - below;
         self.filled = self.consumed + self.depth as u64;
         stay

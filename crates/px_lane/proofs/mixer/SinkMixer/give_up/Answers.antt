@@ -14,15 +14,15 @@ returns-clause-value c =
     let h = c.self.invariant.1 in
     let kept = d.horizon - d.consumed in
     let all : kept + (d.filled - d.horizon) ≡ d.filled - d.consumed = omega (arith, h.consumed_first, h.horizon_first) in
-    let before : Sink = sink_of d.spec (record { guard = d.guard; depth = d.depth; consumed = d.consumed; filled = d.filled; horizon = d.horizon }) d.stopped d.bytes.items d.inputs.inputs in
-    ap (λ (xs : List Input). sink_of d.spec (record { guard = d.guard; depth = d.depth; consumed = d.consumed; filled = d.horizon; horizon = d.horizon }) true d.bytes.items xs) c.give_up.ensures.inputs
+    let before : Sink = sink_of d.spec (record { guard = d.guard; depth = d.depth; consumed = d.consumed; filled = d.filled; horizon = d.horizon }) d.stopped d.bytes d.inputs.inputs in
+    ap (λ (xs : List Input). sink_of d.spec (record { guard = d.guard; depth = d.depth; consumed = d.consumed; filled = d.horizon; horizon = d.horizon }) true d.bytes xs) c.give_up.ensures.inputs
     ∙ ap (λ (frames : List Frame). let s : Sink = record (given_up before) { buffer = frames } in s)
-    (sym (frames_kept (frame_size_of d.spec) (d.horizon - d.consumed) (d.filled - d.horizon) d.bytes.items)
-    ∙ ap (λ (n : ℕ). take (d.horizon - d.consumed) (frames_of (frame_size_of d.spec) n d.bytes.items)) all)
+    (sym (frames_kept (frame_size_of d.spec) (d.horizon - d.consumed) (d.filled - d.horizon) d.bytes)
+    ∙ ap (λ (n : ℕ). take (d.horizon - d.consumed) (frames_of (frame_size_of d.spec) n d.bytes)) all)
     ∙ ap (λ (m : RoomySink). given_up m.sink) c.self.view_is
 
 pub returns-clause-whole : goal.returns-clause-whole
 returns-clause-whole c =
     let d = c.self.inside in
     let h = c.self.invariant.1 in
-    frames_sized d.spec (d.horizon - d.consumed) d.depth d.bytes.items c.self.invariant.2 (omega (arith, h.consumed_first, h.horizon_first, h.filled_bounded))
+    frames_sized d.spec (d.horizon - d.consumed) d.depth d.bytes c.self.invariant.2 (omega (arith, h.consumed_first, h.horizon_first, h.filled_bounded))

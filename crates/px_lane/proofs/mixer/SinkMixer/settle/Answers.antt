@@ -31,7 +31,7 @@ invariant_of-self g c =
     let d = c.self.inside in
     let h = c.self.invariant.1 in
     let n = c.args.frames in
-    let before : Sink = sink_of d.spec (record { guard = d.guard; depth = d.depth; consumed = d.consumed; filled = d.filled; horizon = d.horizon }) d.stopped d.bytes.items d.inputs.inputs in
+    let before : Sink = sink_of d.spec (record { guard = d.guard; depth = d.depth; consumed = d.consumed; filled = d.filled; horizon = d.horizon }) d.stopped d.bytes d.inputs.inputs in
     let there : n ≤ d.filled - d.consumed = subst (λ (m : RoomySink). n ≤ m.sink.filled - m.sink.consumed) (sym c.self.view_is) c.requires.there in
     let streams = subst (λ (m : RoomySink). AllByRecursion (λ x. IsStreamOf m.sink.spec (Input.stream x)) m.sink.inputs) (sym c.self.view_is) c.requires.streams in
     let all : n + (d.filled - (d.consumed + n)) ≡ d.filled - d.consumed = omega (arith, there) in
@@ -47,14 +47,14 @@ invariant_of-self g c =
         depth_bounded = h.depth_bounded;
         countable = h.countable;
       },
-      c.move_to_front.ensures.size ∙ c.self.invariant.2,
+      c.advance.ensures.size ∙ c.self.invariant.2,
       subst (λ (s : Sink). IsUnaltered c.saturating_sub-self-inside.result s)
-          (sym (same_parts (settled before n) c.min-horizon.result (next_horizon before n) (frames_of (frame_size_of d.spec) (d.filled - (d.consumed + n)) c.move_to_front.new.bytes.items) (settled before n).buffer
+          (sym (same_parts (settled before n) c.min-horizon.result (next_horizon before n) (frames_of (frame_size_of d.spec) (d.filled - (d.consumed + n)) c.advance.new.self) (settled before n).buffer
           c.go.new.self.inputs (settled before n).inputs c.min-horizon.ensures
-          (frames_moved (frame_size_of d.spec) n (d.filled - (d.consumed + n)) d.bytes.items c.move_to_front.new.bytes.items
-          (subst (λ (m : ℕ). take (length d.bytes.items - n * m) c.move_to_front.new.bytes.items ≡ drop (n * m) d.bytes.items) c.frame_size-size.ensures c.move_to_front.ensures.front)
+          (frames_moved (frame_size_of d.spec) n (d.filled - (d.consumed + n)) d.bytes c.advance.new.self
+          (subst (λ (m : ℕ). take (length d.bytes - n * m) c.advance.new.self ≡ drop (n * m) d.bytes) c.frame_size-size.ensures c.advance.ensures.front)
           (omega (arith, c.self.invariant.2, mul-le-mul_right (frame_size_of d.spec) fit))
-          ∙ ap (λ (m : ℕ). drop n (frames_of (frame_size_of d.spec) m d.bytes.items)) all)
+          ∙ ap (λ (m : ℕ). drop n (frames_of (frame_size_of d.spec) m d.bytes)) all)
           (c.go.ensures.inputs ∙ ap (λ (to : ℕ). map (with_stream (λ s. after s (to - d.horizon))) d.inputs.inputs) c.min-horizon.ensures)))
           (subst (λ (m : ℕ). IsUnaltered m (settled before n)) (sym left)
           (settled_stays before d.unaltered n h.consumed_first h.horizon_first h.horizon_near there streams c.self.invariant.3)),
@@ -68,15 +68,15 @@ returns-clause-value g c =
     let d = c.self.inside in
     let h = c.self.invariant.1 in
     let n = c.args.frames in
-    let before : Sink = sink_of d.spec (record { guard = d.guard; depth = d.depth; consumed = d.consumed; filled = d.filled; horizon = d.horizon }) d.stopped d.bytes.items d.inputs.inputs in
+    let before : Sink = sink_of d.spec (record { guard = d.guard; depth = d.depth; consumed = d.consumed; filled = d.filled; horizon = d.horizon }) d.stopped d.bytes d.inputs.inputs in
     let there : n ≤ d.filled - d.consumed = subst (λ (m : RoomySink). n ≤ m.sink.filled - m.sink.consumed) (sym c.self.view_is) c.requires.there in
     let all : n + (d.filled - (d.consumed + n)) ≡ d.filled - d.consumed = omega (arith, there) in
     let fit : n + (d.filled - (d.consumed + n)) ≤ d.depth = omega (arith, all, h.filled_bounded) in
-    same_parts (settled before n) c.min-horizon.result (next_horizon before n) (frames_of (frame_size_of d.spec) (d.filled - (d.consumed + n)) c.move_to_front.new.bytes.items) (settled before n).buffer
+    same_parts (settled before n) c.min-horizon.result (next_horizon before n) (frames_of (frame_size_of d.spec) (d.filled - (d.consumed + n)) c.advance.new.self) (settled before n).buffer
     c.go.new.self.inputs (settled before n).inputs c.min-horizon.ensures
-    (frames_moved (frame_size_of d.spec) n (d.filled - (d.consumed + n)) d.bytes.items c.move_to_front.new.bytes.items
-    (subst (λ (m : ℕ). take (length d.bytes.items - n * m) c.move_to_front.new.bytes.items ≡ drop (n * m) d.bytes.items) c.frame_size-size.ensures c.move_to_front.ensures.front)
+    (frames_moved (frame_size_of d.spec) n (d.filled - (d.consumed + n)) d.bytes c.advance.new.self
+    (subst (λ (m : ℕ). take (length d.bytes - n * m) c.advance.new.self ≡ drop (n * m) d.bytes) c.frame_size-size.ensures c.advance.ensures.front)
     (omega (arith, c.self.invariant.2, mul-le-mul_right (frame_size_of d.spec) fit))
-    ∙ ap (λ (m : ℕ). drop n (frames_of (frame_size_of d.spec) m d.bytes.items)) all)
+    ∙ ap (λ (m : ℕ). drop n (frames_of (frame_size_of d.spec) m d.bytes)) all)
     (c.go.ensures.inputs ∙ ap (λ (to : ℕ). map (with_stream (λ s. after s (to - d.horizon))) d.inputs.inputs) c.min-horizon.ensures)
     ∙ ap (λ (m : RoomySink). settled m.sink n) c.self.view_is

@@ -10,7 +10,7 @@ use Rattle.px_lane.proofs.mixer.SinkMixer.take_all.Goals as goal
 pub invariant_of-self : goal.invariant_of-self
 invariant_of-self g c =
     let d = c.self.inside in
-    let before : Sink = sink_of d.spec (record { guard = d.guard; depth = d.depth; consumed = d.consumed; filled = d.filled; horizon = d.horizon }) d.stopped d.bytes.items d.inputs.inputs in (
+    let before : Sink = sink_of d.spec (record { guard = d.guard; depth = d.depth; consumed = d.consumed; filled = d.filled; horizon = d.horizon }) d.stopped d.bytes d.inputs.inputs in (
       c.self.invariant.0,
       c.self.invariant.1,
       c.self.invariant.2,

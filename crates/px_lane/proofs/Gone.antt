@@ -1,0 +1,49 @@
+-- Bytes behind those that were given up.
+use Rattle.std.proofs.Common.{◌≡◌, ℕ, ◌+◌, ◌-◌, ◌*◌, ◌≤◌, List, ◌++◌, length, take, drop, ap, sym, ◌∙◌, arith, drop-drop, append_assoc, length-append, length-drop}
+use Rattle.std.proofs.lemmas.List.{take-take, drop-take, take-append-le, drop-append-le, take_all, length-take-le}
+
+-- of the bytes that are held those behind the first ones
+pub held_behind : (size gone count : ℕ) (bytes : List ℕ) → count ≤ size
+    → drop count (take size (drop gone bytes)) ≡ take (size - count) (drop (gone + count) bytes)
+held_behind size gone count bytes few =
+    let all : size ≡ count + (size - count) = omega (arith, few) in
+    ap (λ (n : ℕ). drop count (take n (drop gone bytes))) all
+    ∙ drop-take count (size - count) (drop gone bytes)
+    ∙ ap (λ (xs : List ℕ). take (size - count) xs) (drop-drop count gone bytes)
+
+-- where so many more are given up, the others stay
+pub left_behind : (size gone count : ℕ) (bytes : List ℕ) → count ≤ size
+    → take (size - count) (take size (drop (gone + count) bytes)) ≡ drop count (take size (drop gone bytes))
+left_behind size gone count bytes few =
+    take-take (size - count) size (drop (gone + count) bytes) (omega arith) ∙ sym (held_behind size gone count bytes few)
+
+-- so many are held
+pub held_all : (size gone : ℕ) (bytes : List ℕ) → gone ≤ size → length bytes ≡ 2 * size → length (take size (drop gone bytes)) ≡ size
+held_all size gone bytes near long = length-take-le size (drop gone bytes) (omega (arith, near, long, length-drop gone bytes))
+
+-- others in place of the last ones that are held
+pub shown_behind : (size gone at : ℕ) (old shown : List ℕ) → gone ≤ size → length old ≡ 2 * size → at + length shown ≡ size
+    → take size (drop gone (take (gone + at) old ++ (shown ++ drop (gone + size) old))) ≡ take at (take size (drop gone old)) ++ shown
+shown_behind size gone at old shown near long fit =
+    let front : length (take (gone + at) old) ≡ gone + at = length-take-le (gone + at) old (omega (arith, near, long, fit)) in
+    let kept : length (take at (drop gone old)) ≡ at = length-take-le at (drop gone old) (omega (arith, near, long, fit, length-drop gone old)) in
+    let both : length (take at (drop gone old) ++ shown) ≡ size = length-append (take at (drop gone old)) shown ∙ ap (λ (n : ℕ). n + length shown) kept ∙ fit in
+    ap (λ (xs : List ℕ). take size xs)
+    (drop-append-le gone (take (gone + at) old) (shown ++ drop (gone + size) old) (omega (arith, front))
+    ∙ ap (λ (xs : List ℕ). xs ++ (shown ++ drop (gone + size) old)) (drop-take gone at old)
+    ∙ sym (append_assoc (take at (drop gone old)) shown (drop (gone + size) old)))
+    ∙ take-append-le size (take at (drop gone old) ++ shown) (drop (gone + size) old) (omega (arith, both))
+    ∙ take_all size (take at (drop gone old) ++ shown) (omega (arith, both))
+    ∙ ap (λ (xs : List ℕ). xs ++ shown) (sym (take-take at size (drop gone old) (omega (arith, fit))))
+
+-- the same of what the bytes are then
+pub shown_in_place : (size gone at : ℕ) (old new shown : List ℕ) → gone ≤ size → length old ≡ 2 * size → at ≤ size → length new ≡ length old
+    → new ≡ take (gone + at) old ++ (shown ++ drop (gone + size) old) → take size (drop gone new) ≡ take at (take size (drop gone old)) ++ shown
+shown_in_place size gone at old new shown near long inside same made =
+    let front : length (take (gone + at) old) ≡ gone + at = length-take-le (gone + at) old (omega (arith, near, long, inside)) in
+    let whole : length new ≡ length (take (gone + at) old) + (length shown + length (drop (gone + size) old)) =
+    ap (λ (xs : List ℕ). length xs) made
+    ∙ length-append (take (gone + at) old) (shown ++ drop (gone + size) old)
+    ∙ ap (λ (n : ℕ). length (take (gone + at) old) + n) (length-append shown (drop (gone + size) old)) in
+    let fit : at + length shown ≡ size = omega (arith, near, long, same, front, whole, length-drop (gone + size) old) in
+    ap (λ (xs : List ℕ). take size (drop gone xs)) made ∙ shown_behind size gone at old shown near long fit

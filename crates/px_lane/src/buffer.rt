@@ -1,0 +1,122 @@
+// The bytes of a sink's buffer.
+ghost use Rattle.std.specs.Prelude.{◌≡◌, ◌≤◌, ◌+◌, ◌-◌, ◌*◌, ◌^◌, ◌++◌, length, map, take, drop, IfOk};
+ghost use Rattle.std.specs.List.{concat, range_with_len};
+ghost use Rattle.px_sample.specs.Format.{frame_size_of};
+ghost use Rattle.px_msg.specs.View.{sample_spec};
+ghost use Rattle.px_model.specs.Mix.{mix_of};
+ghost use Rattle.px_model.specs.Sink.{streams_of};
+ghost use Rattle.px_stream.specs.Samples.{samples};
+
+use crate::mixed::MixedInputs;
+use px_kernel::Steps;
+use px_types::{Mem, NoMemory};
+use std::alloc::Global;
+use std::marker::Model;
+use std::sync::ledger::Ledger;
+
+/// As many bytes as the depth of a sink has room for. They stand behind those that were given up at the front, with room for as many of
+/// these again, so that a byte is moved once where as many are given up as the depth has.
+#[derive(Debug, Drop)]
+pub(crate) struct Buffer {
+    bytes: Vec<u8>,
+    gone: usize,
+    size: usize,
+}
+
+impl Model for Buffer {
+    ghost use Rattle.std.specs.Prelude.{ℕ, List, ◌≡◌, ◌≤◌, ◌*◌, take, drop, length};
+
+    ghost Value = { List ℕ };
+
+    ghost view = { λ b. take b.size (drop b.gone b.bytes.items) };
+
+    ghost invariant = { λ b. (b.gone ≤ b.size) × (length b.bytes.items ≡ 2 * b.size) };
+}
+
+// So many bytes of zero.
+fn zeros(alloc: Global, count: usize) -> Mem<Vec<u8>>
+    ensures { IfOk result (λ bytes. length bytes.items ≡ count) }
+{
+    let bytes = vec![in alloc; 0; count]?;
+    Ok(bytes)
+}
+
+// Moves the bytes behind the first so many to the front. What stands behind them then is left over.
+fn move_to_front(bytes: &mut Vec<u8>, count: usize)
+    requires { count ≤ length bytes.old.items }
+    ensures size { length bytes.new.items ≡ length bytes.old.items }
+    ensures front { take (length bytes.old.items - count) bytes.new.items ≡ drop count bytes.old.items }
+{
+    bytes.copy_within(count.., 0);
+}
+
+// Puts the bytes of the frames that are mixed, from one on, in place of those from place `at` up to place `to`.
+fn show_between<T: Ledger>(
+    inputs: &MixedInputs,
+    from: u32,
+    bytes: &mut Vec<u8>,
+    at: usize,
+    to: usize,
+    steps: &mut Steps<T>,
+)
+    requires from { from ≤ inputs.now.frames }
+    requires size { to ≡ at + (inputs.now.frames - from) * frame_size_of inputs.now.spec }
+    requires inside { to ≤ length bytes.old.items }
+    ensures size { length bytes.new.items ≡ length bytes.old.items }
+    ensures bytes { bytes.new.items ≡ take at bytes.old.items ++ (concat (map (mix_of samples (sample_spec inputs.now.spec) (streams_of inputs.now.inputs)) (range_with_len from (inputs.now.frames - from))) ++ drop to bytes.old.items) }
+    ensures ticks { steps.new ≡ steps.old + inputs.now.spec.channels * (inputs.now.frames - from) }
+{
+    inputs.show(from, &mut bytes.as_mut_slice()[at..to], steps);
+}
+
+impl Buffer {
+    /// So many bytes of zero. Takes its room.
+    pub(crate) fn new(alloc: Global, size: usize) -> Mem<Buffer>
+        requires { size ≤ 2 ^ 32 }
+        ensures { IfOk result (λ b. length b ≡ size) }
+    {
+        Ok(Buffer {
+            bytes: zeros(alloc, 2 * size)?,
+            gone: 0,
+            size,
+        })
+    }
+
+    /// Gives up the first so many bytes. As many come in at the end, and these are left over.
+    pub(crate) fn advance(&mut self, count: usize)
+        requires { count ≤ length self.old }
+        ensures size { length self.new ≡ length self.old }
+        ensures front { take (length self.old - count) self.new ≡ drop count self.old }
+    {
+        self.gone += count;
+        if self.gone > self.size {
+            move_to_front(&mut self.bytes, self.gone);
+            self.gone = 0;
+        }
+    }
+
+    /// Puts the bytes of the frames that are mixed, from one on, in place of the last bytes, those from place `at` on.
+    pub(crate) fn show<T: Ledger>(
+        &mut self,
+        inputs: &MixedInputs,
+        from: u32,
+        at: usize,
+        steps: &mut Steps<T>,
+    )
+        requires from { from ≤ inputs.now.frames }
+        requires size { length self.old ≡ at + (inputs.now.frames - from) * frame_size_of inputs.now.spec }
+        ensures size { length self.new ≡ length self.old }
+        ensures bytes { self.new ≡ take at self.old ++ concat (map (mix_of samples (sample_spec inputs.now.spec) (streams_of inputs.now.inputs)) (range_with_len from (inputs.now.frames - from))) }
+        ensures ticks { steps.new ≡ steps.old + inputs.now.spec.channels * (inputs.now.frames - from) }
+    {
+        let to = self.gone + self.size;
+        show_between(inputs, from, &mut self.bytes, self.gone + at, to, steps);
+    }
+
+    /// The bytes.
+    pub(crate) fn as_slice(&self) -> &[u8]
+        ensures { result.now ≡ self.now }
+    {
+        &self.bytes.as_slice()[self.gone..self.gone + self.size]
+    }
+}
