@@ -121,7 +121,8 @@ impl Line {
         self.chunks[self.gone] = chunk;
     }
 
-    /// Takes room for so many more. Without memory nothing changes.
+    /// Takes room for so many more, and for half as many as are there: so the others move to the front once in as many as those. Without
+    /// memory nothing changes.
     pub(crate) fn reserve(&mut self, more: usize) -> Result<(), AllocError>
         ensures items { self.new.items ≡ self.old.items }
         ensures capacity { self.old.capacity ≤ self.new.capacity }
@@ -132,7 +133,8 @@ impl Line {
             move_up(&mut self.chunks, self.gone);
             self.gone = 0;
         }
-        self.chunks.reserve(more)
+        self.chunks
+            .reserve(more.saturating_add(self.chunks.len() / 2))
     }
 }
 
