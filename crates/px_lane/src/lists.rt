@@ -2,6 +2,7 @@
 ghost use Rattle.std.specs.Prelude.{◌≡◌, ◌≤◌, ◌<◌, ◌+◌, ◌++◌, [], ◌∷◌, length, map, flat_map, MatchOption, IfOk, OnOk, OnErr, OnSome, slice_get};
 ghost use Rattle.std.specs.Option.{option_map};
 ghost use Rattle.std.specs.List.{AllByRecursion, sum_by};
+ghost use Rattle.std.specs.VecDeque.{deque_len, deque_capacity};
 ghost use Rattle.px_model.specs.Turn.{BringsStream};
 ghost use Rattle.px_stream.specs.Kept.{KeptStream};
 ghost use Rattle.px_lane.specs.Inputs.{inputs_of};
@@ -78,7 +79,9 @@ impl NoticeList {
         ensures value { MatchOption result ((self.old.notices ≡ []) × (self.new.notices ≡ [])) (λ first. self.old.notices ≡ plain_notice first ∷ self.new.notices) }
         ensures capacity { self.new.capacity ≡ self.old.capacity }
     {
-        self.items.pop_front()
+        let first = self.items.pop_front();
+        begin_anew(&mut self.items);
+        first
     }
 
     /// Puts a notice in front of the others, where there is room for it. Takes no memory.
@@ -88,6 +91,20 @@ impl NoticeList {
         ensures capacity { self.new.capacity ≡ self.old.capacity }
     {
         self.items.push_front_reserved(notice);
+    }
+}
+
+// Lets a queue that is empty begin at the front of its room again: so notices that come and go stay in a small part of it, however many once
+// waited. Takes no memory.
+fn begin_anew<T>(queue: &mut VecDeque<T>)
+    ensures items { queue.new.items ≡ queue.old.items }
+    ensures len { deque_len queue.new ≡ deque_len queue.old }
+    ensures capacity { deque_capacity queue.new ≡ deque_capacity queue.old }
+{
+    if queue.is_empty() {
+        let none = VecDeque::new(*queue.allocator());
+        let room = replace(queue, none).into_vec();
+        replace(queue, VecDeque::from_vec(room)).destroy_empty();
     }
 }
 

@@ -70,12 +70,12 @@ impl Prepared {
         }
     }
 
-    /// The list of the messages, once all are taken. Takes no memory.
+    /// The list of the messages, once all are taken: it begins at the front of its room again. Takes no memory.
     pub(crate) fn into_items(self) -> VecDeque<Msg<Stream>>
         ensures messages { messages_of result.items ≡ self.messages }
         ensures capacity { deque_capacity result ≡ self.capacity }
     {
-        self.items
+        VecDeque::from_vec(self.items.into_vec())
     }
 
     /// Takes the first message. Takes no memory.
