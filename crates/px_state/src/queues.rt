@@ -1,6 +1,8 @@
 //! The messages that wait for each sink, a queue a sink.
 
-ghost use Rattle.std.specs.Prelude.{◌≡◌, ◌<◌, ◌+◌, ◌∷◌, [], ℕ, length, get_or, set, IsSome, IsNone, OnOk};
+ghost use Rattle.std.specs.Prelude.{◌≡◌, ◌<◌, ◌+◌, ◌∷◌, ◌++◌, [], ℕ, length, drop, get_or, set, IsSome, IsNone, OnOk};
+ghost use Rattle.std.specs.Option.{option_to_list};
+ghost use Rattle.std.specs.VecDeque.{deque_len, deque_capacity};
 ghost use Rattle.px_state.specs.Change.{posted_to};
 ghost use Rattle.px_state.specs.Out.{first_of, rest_of, room_for, room_past, with_less_room};
 ghost use Rattle.px_state.specs.Tables.{lists_of, rooms_of, HavePlaces};
@@ -8,6 +10,7 @@ ghost use Rattle.px_state.specs.Tables.{lists_of, rooms_of, HavePlaces};
 use px_msg::Msg;
 use px_types::{Mem, SinkId};
 use std::collections::VecDeque;
+use std::mem::replace;
 
 /// A message waits for a sink, behind the others. Takes no memory.
 pub(crate) fn post<P: Drop>(queues: &mut [VecDeque<Msg<P>>], sink: SinkId, msg: Msg<P>)
@@ -42,9 +45,35 @@ pub(crate) fn take_first<P>(queues: &mut [VecDeque<Msg<P>>], sink: SinkId) -> Op
 {
     let place = sink.0 as usize;
     if place < queues.len() {
-        queues[place].pop_front()
+        take_front(&mut queues[place])
     } else {
         None
+    }
+}
+
+// Takes the first item out of a queue, if there is one. A queue that is empty then begins at the front of its room again: so messages that come
+// and go stay in a small part of it, however many once waited. Takes no memory.
+fn take_front<T>(queue: &mut VecDeque<T>) -> Option<T>
+    ensures items { queue.old.items ≡ option_to_list result ++ queue.new.items }
+    ensures rest { queue.new.items ≡ drop 1 queue.old.items }
+    ensures len { deque_len queue.new + length (option_to_list result) ≡ deque_len queue.old }
+    ensures capacity { deque_capacity queue.new ≡ deque_capacity queue.old }
+{
+    let first = queue.pop_front();
+    begin_anew(queue);
+    first
+}
+
+// Lets a queue that is empty begin at the front of its room again.
+fn begin_anew<T>(queue: &mut VecDeque<T>)
+    ensures items { queue.new.items ≡ queue.old.items }
+    ensures len { deque_len queue.new ≡ deque_len queue.old }
+    ensures capacity { deque_capacity queue.new ≡ deque_capacity queue.old }
+{
+    if queue.is_empty() {
+        let none = VecDeque::new(*queue.allocator());
+        let room = replace(queue, none).into_vec();
+        replace(queue, VecDeque::from_vec(room)).destroy_empty();
     }
 }
 

@@ -10,18 +10,18 @@ returns-then-place-queues-clause-rest g c = λ _.
     let i = c.args.sink.0 in
     let d = c.index-queues-place.result in
     let q = get_or xs i d in
-    set_lists_to xs i c.pop_front.new.self (rest_of (get_or (lists_of xs) i [])) (rw (get_lists xs i d c.if-place-queues.true, ← rest_is_dropped q.items) c.pop_front.ensures.rest)
+    set_lists_to xs i c.take_front.new.queue (rest_of (get_or (lists_of xs) i [])) (rw (get_lists xs i d c.if-place-queues.true, ← rest_is_dropped q.items) c.take_front.ensures.rest)
 
 pub returns-then-place-queues-clause-none : goal.returns-then-place-queues-clause-none
 returns-then-place-queues-clause-none g c = λ none.
     let xs = c.args.queues.now in
     let i = c.args.sink.0 in
     let d = c.index-queues-place.result in
-    same_lists xs i d c.pop_front.new.self (none_left c.pop_front.result (get_or xs i d).items c.pop_front.new.self.items c.pop_front.ensures.items none)
+    same_lists xs i d c.take_front.new.queue (none_left c.take_front.result (get_or xs i d).items c.take_front.new.queue.items c.take_front.ensures.items none)
 
 pub returns-then-place-queues-clause-room : goal.returns-then-place-queues-clause-room
 returns-then-place-queues-clause-room g c =
     let xs = c.args.queues.now in
     let d = c.index-queues-place.result in
     let q = get_or xs c.args.sink.0 d in
-    room_popped c.pop_front.result xs c.args.sink d c.pop_front.new.self c.if-place-queues.true c.pop_front.ensures.capacity c.pop_front.ensures.len (omega (arith, q.small.1))
+    room_popped c.take_front.result xs c.args.sink d c.take_front.new.queue c.if-place-queues.true c.take_front.ensures.capacity c.take_front.ensures.len (omega (arith, q.small.1))
