@@ -7,6 +7,7 @@ ghost use Rattle.std.specs.Option.{option_map};
 ghost use Rattle.px_plan.specs.Row.{Plans};
 ghost use Rattle.px_plan.specs.declared.change.Change.TheVariants.{Described};
 ghost use Rattle.px_tag.specs.PropList.{with_value};
+ghost use Rattle.px_names.specs.InputLists.{list_of};
 ghost use Rattle.px_ctl_info.specs.Properties.{STREAM_NAME, update_stream, remove_stream, name_in, with_name, set_stream_name};
 
 use crate::properties::{has_keys, mode_of, remove_all};
@@ -86,7 +87,7 @@ fn name_in(name: Option<&[u8]>) -> Option<&[u8]>
 }
 
 // A text and a zero byte behind it.
-fn ended(alloc: Global, name: &[u8]) -> Mem<Vec<u8>>
+fn ended(alloc: Global, name: &[u8]) -> px_tag::Mem<Vec<u8>>
     ensures { IfOk result (λ bytes. bytes.items ≡ name.now ++ 0 ∷ []) }
 {
     let mut bytes = Vec::new(alloc);
@@ -101,6 +102,22 @@ fn put_name(list: &mut PropList, name: &[u8]) -> px_tag::Mem<()>
     ensures { OnOk result (list.new ≡ with_value list.old STREAM_NAME name.now) }
 {
     list.set(b"media.name", name)
+}
+
+// The list of an input once more, with this name.
+fn list_with_name(
+    alloc: Global,
+    lists: &InputLists,
+    input: InputId,
+    name: &[u8],
+) -> px_tag::Mem<PropList>
+    requires { length name.now ≤ 65535 }
+    ensures { IfOk result (λ list. list ≡ with_name (list_of lists.now.items input) name.now) }
+{
+    let mut list = lists.copy_of(input)?;
+    let text = ended(alloc, name)?;
+    put_name(&mut list, text.as_slice())?;
+    Ok(list)
 }
 
 /// SET_PLAYBACK_STREAM_NAME of a stream with this input: its list's `media.name` is the name and a zero byte. Refused:
@@ -118,9 +135,7 @@ pub fn set_stream_name<M: Drop, G: Drop>(
     let Some(name) = name_in(name) else {
         return Err(Refusal::Code(ErrorCode::Invalid));
     };
-    let mut made = lists.copy_of(x.index)?;
-    let text = ended(alloc, name)?;
-    put_name(&mut made, text.as_slice())?;
+    let made = list_with_name(alloc, lists, x.index, name)?;
     let reply = px_reply::plain(alloc, tag)?;
     let changes = described(alloc, x.index, made)?;
     Ok(Plan::replied(alloc, reply, changes))

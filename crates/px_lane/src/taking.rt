@@ -1,25 +1,114 @@
 // The messages of a turn, taken by the inputs of a sink with the kept sums of their mix.
-ghost use Rattle.std.specs.Prelude.{◌≡◌, ◌≤◌, ◌+◌, ◌-◌, ◌*◌, ◌++◌, [], length};
+ghost use Rattle.std.specs.Prelude.{◌≡◌, ◌≤◌, ◌+◌, ◌-◌, ◌*◌, ◌++◌, ◌∷◌, [], length};
 ghost use Rattle.std.specs.List.{sum_by};
 ghost use Rattle.px_model.specs.Frame.{SampleSpec};
-ghost use Rattle.px_model.specs.Turn.{inputs_with_all, all_message_notices};
+ghost use Rattle.px_model.specs.Applied.{applied};
+ghost use Rattle.px_model.specs.Message.{StreamMessage};
+ghost use Rattle.px_model.specs.Notice.{Notice as Notices};
+ghost use Rattle.px_model.specs.Sink.{stream_at, with_input, without_input, with_change};
+ghost use Rattle.px_model.specs.Turn.{inputs_with_all, all_message_notices, notices_from};
+ghost use Rattle.px_stream.specs.Messages.{message_of, blocks_with, Suits};
 ghost use Rattle.px_lane.specs.Mixed.{CanMix, CanMixAll};
 ghost use Rattle.px_lane.specs.Needed.{blocks_of};
-ghost use Rattle.px_lane.specs.Taking.{CanTakeAll, HasRoomLeft, ready_blocks, ready_inputs, ready_notices, ReadySuits};
+ghost use Rattle.px_lane.specs.Taking.{CanTakeAll, HasRoomLeft, IsRoomy, SuitsAt, overflows_at, overflow_if, ready_blocks, ready_inputs, ready_notices, ReadySuits};
 ghost use Rattle.px_lane.specs.Unaltered.{MixesSame};
-ghost use Rattle.px_lane.specs.Costs.{ready_cost, costs_of};
+ghost use Rattle.px_lane.specs.Costs.{change_cost, ready_cost, costs_of};
 
 use crate::NoticeList;
 use crate::mixed::MixedInputs;
 use crate::prepared::Prepared;
 use crate::ready::Ready;
 use px_block::BlockSource;
+use px_chmap::Feed;
 use px_kernel::Steps;
 use px_msg::Notice;
-use px_stream::StreamMsg;
+use px_stream::{Stream, StreamMsg};
+use px_types::InputId;
+use px_vol::Factors;
 use std::sync::ledger::Ledger;
 
 impl MixedInputs {
+    // A stream comes from another sink, with a feed and factors for this one.
+    fn join<T: Ledger, B: BlockSource>(
+        &mut self,
+        input: InputId,
+        parcel: Stream,
+        feed: Feed,
+        factors: Factors,
+        blocks: &mut B,
+        steps: &mut Steps<T>,
+    )
+        requires room { 1 ≤ self.old.room }
+        requires comes { IsRoomy (self.old.room - 1) self.old.block_room parcel }
+        requires suits { Suits parcel.stream (StreamMessage.attach feed factors) }
+        requires mixes { CanMix self.old.spec.channels (with_input input.0 (applied self.old.frames (StreamMessage.attach feed factors) parcel.stream) self.old.inputs) }
+        ensures spec { self.new.spec ≡ self.old.spec }
+        ensures depth { self.new.depth ≡ self.old.depth }
+        ensures frames { self.new.frames ≡ self.old.frames }
+        ensures inputs { self.new.inputs ≡ with_input input.0 (applied self.old.frames (StreamMessage.attach feed factors) parcel.stream) self.old.inputs }
+        ensures room { self.new.room + 1 ≡ self.old.room }
+        ensures block_room { self.new.block_room ≡ self.old.block_room }
+        ensures ticks { steps.new ≤ steps.old + self.old.spec.channels * (4 * self.old.frames) }
+    {
+        let mut stream = parcel;
+        let mixed = self.frames() as u64;
+        stream.apply(StreamMsg::Attach { feed, factors }, mixed, blocks);
+        self.insert(input, stream, steps);
+    }
+
+    // A stream leaves, if it is there, and is told to have left.
+    fn leave<T: Ledger>(&mut self, input: InputId, out: &mut NoticeList, steps: &mut Steps<T>)
+        requires mixes { CanMix self.old.spec.channels (without_input input.0 self.old.inputs) }
+        requires capacity { length out.old.notices + length (notices_from (stream_at input.0 self.old.inputs) (λ s. Notices.detached input.0 s ∷ [])) ≤ out.old.capacity }
+        ensures spec { self.new.spec ≡ self.old.spec }
+        ensures depth { self.new.depth ≡ self.old.depth }
+        ensures frames { self.new.frames ≡ self.old.frames }
+        ensures inputs { self.new.inputs ≡ without_input input.0 self.old.inputs }
+        ensures room { self.new.room ≡ self.old.room }
+        ensures block_room { self.new.block_room ≡ self.old.block_room }
+        ensures notices { out.new.notices ≡ out.old.notices ++ notices_from (stream_at input.0 self.old.inputs) (λ s. Notices.detached input.0 s ∷ []) }
+        ensures capacity { out.new.capacity ≡ out.old.capacity }
+        ensures ticks { steps.new ≤ steps.old + self.old.spec.channels * (2 * self.old.frames) }
+    {
+        match self.remove(input, steps) {
+            Some(parcel) => out.push(Notice::Detached { input, parcel }),
+            None => {}
+        }
+    }
+
+    // A stream is changed, if it is there, and frames that aren't held are told. Answers how many frames past the horizon are mixed as
+    // before.
+    fn alter<T: Ledger, B: BlockSource>(
+        &mut self,
+        input: InputId,
+        change: StreamMsg,
+        out: &mut NoticeList,
+        blocks: &mut B,
+        steps: &mut Steps<T>,
+    ) -> u64
+        requires room { 1 ≤ self.old.room }
+        requires block_room { blocks_with (message_of change) ≤ self.old.block_room }
+        requires suits { SuitsAt (stream_at input.0 self.old.inputs) (message_of change) }
+        requires mixes { CanMix self.old.spec.channels (with_change input.0 (applied self.old.frames (message_of change)) self.old.inputs) }
+        requires capacity { length out.old.notices + length (overflow_if input.0 (overflows_at self.old.frames (message_of change) (stream_at input.0 self.old.inputs))) ≤ out.old.capacity }
+        ensures spec { self.new.spec ≡ self.old.spec }
+        ensures depth { self.new.depth ≡ self.old.depth }
+        ensures frames { self.new.frames ≡ self.old.frames }
+        ensures inputs { self.new.inputs ≡ with_change input.0 (applied self.old.frames (message_of change)) self.old.inputs }
+        ensures room { self.new.room + 1 ≡ self.old.room }
+        ensures block_room { self.new.block_room + blocks_with (message_of change) ≡ self.old.block_room }
+        ensures notices { out.new.notices ≡ out.old.notices ++ overflow_if input.0 (overflows_at self.old.frames (message_of change) (stream_at input.0 self.old.inputs)) }
+        ensures capacity { out.new.capacity ≡ out.old.capacity }
+        ensures unaltered { (sink : SampleSpec) → MixesSame sink result self.old.inputs self.new.inputs }
+        ensures ticks { steps.new + self.old.spec.channels * (self.old.frames - result) ≤ steps.old + self.old.spec.channels * change_cost self.old.frames (message_of change) (stream_at input.0 self.old.inputs) }
+    {
+        let altered = self.change(input, change, blocks, steps);
+        if altered.refused {
+            out.push(Notice::Overflow { input });
+        }
+        altered.unaltered
+    }
+
     /// Takes a message, where so many frames are in the sink's buffer, and tells what it has to tell. Answers how many frames past the
     /// horizon are mixed as before. Takes room for one message with its blocks, and no memory.
     pub(crate) fn take<T: Ledger, B: BlockSource>(
@@ -55,22 +144,10 @@ impl MixedInputs {
                 parcel,
                 feed,
                 factors,
-            } => {
-                let mut stream = parcel;
-                let mixed = self.frames() as u64;
-                stream.apply(StreamMsg::Attach { feed, factors }, mixed, blocks);
-                self.insert(input, stream, steps);
-            }
-            Ready::Remove(input) => match self.remove(input, steps) {
-                Some(parcel) => out.push(Notice::Detached { input, parcel }),
-                None => {}
-            },
+            } => self.join(input, parcel, feed, factors, blocks, steps),
+            Ready::Remove(input) => self.leave(input, out, steps),
             Ready::Change { input, change } => {
-                let altered = self.change(input, change, blocks, steps);
-                if altered.refused {
-                    out.push(Notice::Overflow { input });
-                }
-                return altered.unaltered;
+                return self.alter(input, change, out, blocks, steps);
             }
             Ready::Each(list) => return self.set_factors(list.as_slice(), blocks, steps),
             Ready::Answer { input, tag } => {
