@@ -11,6 +11,18 @@ use Rattle.px_server.proofs.serving.ended.Goals as goal
 pub close_all-met-requires-clause-boxes : goal.close_all-met-requires-clause-boxes
 close_all-met-requires-clause-boxes g c = c.requires.boxes ∙ sym c.into_core-log.ensures.boxes
 
+pub close_all-met-requires-clause-none : goal.close_all-met-requires-clause-none
+close_all-met-requires-clause-none g c = c.requires.none
+
+pub close_all-met-requires-clause-room : goal.close_all-met-requires-clause-room
+close_all-met-requires-clause-room g c = c.requires.room
+
+pub close_all-met-requires-clause-no_turns : goal.close_all-met-requires-clause-no_turns
+close_all-met-requires-clause-no_turns g c = c.requires.no_turns
+
+pub close_all-met-requires-clause-turns_room : goal.close_all-met-requires-clause-turns_room
+close_all-met-requires-clause-turns_room g c = c.requires.turns_room
+
 pub returns-clause-tape : goal.returns-clause-tape
 returns-clause-tape g c =
     tape_is g.H.R.Recorder.told c.args.taped c.args.lone.items c.close_all-met.new.turns.items c.close_all-met.new.lanes.items c.woven-tape.result.0
