@@ -32,6 +32,13 @@ fn in_two(alloc: Global) -> Mem<Blocks>
     Ok(made)
 }
 
+// Frames are lent as far as they lie whole in one block: the last of those in the first, none of that in both, and the one in the second.
+fn are_lent(queue: &FrameQueue) -> bool {
+    let first = queue.lend(FRAMES - 3, 3) == b"\0\0\0".as_slice();
+    let both = queue.lend(FRAMES - 2, 2).is_empty();
+    first && both && queue.lend(FRAMES - 1, 2) == b"def".as_slice()
+}
+
 // Both frames at the end are read, the first of them out of both blocks; as it goes, so does the first block.
 fn are_read(queue: &mut FrameQueue, source: &mut Counting) -> bool
     requires { queue.old.frame ≡ 3 }
@@ -50,7 +57,8 @@ fn a_frame_in_two_blocks_is_read_whole(rt: HostRuntime) -> Mem<()> {
     queue.reserve(1, 2)?;
     let made = in_two(rt.alloc())?;
     let held = made.len() == 65_541
-        && queue.push(1, 0, made, FRAMES, 0, i64::MAX, &mut source) == Pushed::Stored;
+        && queue.push(1, 0, made, FRAMES, 0, i64::MAX, &mut source) == Pushed::Stored
+        && are_lent(&queue);
     assert!(rt; held && are_read(&mut queue, &mut source));
     Ok(())
 }
