@@ -1,7 +1,7 @@
 //! Connections begin and end (PulseAudio: `pa_native_protocol_connect` and `native_connection_unlink` of
 //! `pulsecore/protocol-native.c`; that an ended connection is swept away in a step of its own is own).
 
-ghost use Rattle.std.specs.Prelude.{◌≡◌, ◌++◌, ◌∷◌, [], ℕ, List, Option, None, Some, filter, flat_map, IfOk, OnOk, OnErr};
+ghost use Rattle.std.specs.Prelude.{◌≡◌, ◌++◌, ◌∷◌, [], ℕ, List, Option, None, Some, filter, flat_map, IsFalse, IfOk, OnOk, OnErr};
 ghost use Rattle.std.specs.Option.{option_map};
 ghost use Rattle.px_plan.specs.declared.sending.Reason.{Reason};
 ghost use Rattle.px_plan.specs.declared.sending.Reason.TheVariants.{Protocol};
@@ -126,13 +126,29 @@ fn sweep<P: Drop>(
     Ok(Plan::changing(alloc, changes))
 }
 
-/// The connections that have ended are swept away. Where there is no memory for it nothing has changed.
+// Whether any connection has ended.
+fn has_marked(connections: &[Connection]) -> bool
+    ensures { IsFalse result → marked_of connections.now ≡ [] }
+{
+    for c in connections {
+        if c.marked {
+            return true;
+        }
+    }
+    false
+}
+
+/// The connections that have ended are swept away. Where there is no memory for it nothing has changed. Most sweeps find none, and end
+/// with that look.
 pub(crate) fn sweep_away<P: Drop>(alloc: Global, tables: &mut Tables<P>) -> Mem<Effects>
     requires { AreSinks [] tables.old.sinks }
     ensures effects { IfOk result (λ effects. effects ≡ answer_effects None (state_of tables.old) (sweep_of (state_of tables.old))) }
     ensures after { OnOk result (state_of tables.new ≡ answered (state_of tables.old) (sweep_of (state_of tables.old))) }
     ensures err { OnErr result (state_of tables.new ≡ state_of tables.old) }
 {
+    if !has_marked(&tables.connections) {
+        return Ok(Effects::new(alloc));
+    }
     let plan = sweep(alloc, &tables.connections, tables.inputs.as_slice())?;
     finish(alloc, tables, None, plan)
 }
