@@ -114,8 +114,7 @@ impl Line {
         ensures capacity { self.new.capacity ≡ self.old.capacity }
     {
         if self.gone == 0 {
-            self.chunks.insert(0, chunk).unwrap();
-            return;
+            self.gone = free_front(&mut self.chunks, chunk);
         }
         self.gone -= 1;
         self.chunks[self.gone] = chunk;
@@ -147,4 +146,22 @@ fn move_up(chunks: &mut Vec<Chunk>, gone: usize)
     let left = chunks.len() - gone;
     chunks.copy_within(gone.., 0);
     chunks.truncate(left);
+}
+
+// Moves the chunks away from the front, and answers by how many places: half as many as there are, as far as there is room, so that those
+// that come to the front one after another seldom move them. A chunk stands in the places that are free.
+fn free_front(chunks: &mut Vec<Chunk>, chunk: Chunk) -> usize
+    requires { vec_len chunks.old < vec_capacity chunks.old }
+    ensures some { 1 ≤ result }
+    ensures fits { result ≤ vec_len chunks.new }
+    ensures items { drop result chunks.new.items ≡ chunks.old.items }
+    ensures capacity { vec_capacity chunks.new ≡ vec_capacity chunks.old }
+{
+    let len = chunks.len();
+    let places = (len / 2 + 1).min(chunks.capacity() - len);
+    for _ in 0..places {
+        chunks.push_reserved(chunk);
+    }
+    chunks.copy_within(..len, places);
+    places
 }
