@@ -18,14 +18,14 @@ use std::sync::{Arc, Wait};
 const PIECE: usize = 16_384;
 
 // How far the packet is sent that is on its way.
-#[derive(Debug, Drop)]
+#[derive(Drop)]
 struct Sending {
     packet: Option<Packet>,
     at: usize,
 }
 
 // Whether a client is still there.
-#[derive(Clone, Copy, Debug, PartialEq, Eq)]
+#[derive(Clone, Copy, PartialEq, Eq)]
 enum Flow {
     On,
     Ended,

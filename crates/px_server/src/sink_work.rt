@@ -45,7 +45,7 @@ pub(crate) fn status_of_met(met: Met) -> Option<Status>
 }
 
 /// What became of a turn.
-#[derive(Clone, Copy, Debug, PartialEq, Eq)]
+#[derive(Clone, Copy, PartialEq, Eq)]
 pub(crate) enum Went {
     /// It was made, and the sink's device consumed so many frames in it, none where the sink has stopped.
     Made(u32),
