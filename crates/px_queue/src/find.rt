@@ -50,6 +50,7 @@ impl Chunks {
         requires { Rise 0 TOP self.now.before }
         ensures few { length result.now ≤ most }
         ensures bytes { (j : ℕ) → j < length result.now → byte_at self.now.before (from + j) ≡ slice_get result.now j }
+        ensures none { length result.now ≡ 0 → 0 < most → byte_at self.now.before from ≡ None }
     {
         let (place, len) = self.part_at(0, from, most);
         if len == 0 {
