@@ -36,6 +36,13 @@ module _ (i : ℕ) where
   pub below_up_to : (k : ℕ) (items : List Input) (d : Input) → IsRising (inputs_of items) → k < length items → (Input.index (slice_index_or items k d)).0 < i → AreBelow i (k + 1) items
   below_up_to k items d rising few l = let n : suc k ≡ k + 1 = omega arith in subst (λ (m : ℕ). AreBelow i m items) n (all_below k items d rising few l)
 
+  -- those before one that is it do
+  pub below_before : (k : ℕ) (items : List Input) → IsRising (inputs_of items) → k < length items → ((d : Input) → (Input.index (slice_index_or items k d)).0 ≡ i) → AreBelow i k items
+  below_before zero items rising few e = tt
+  below_before (suc k) [] rising few e = absurd (omega (arith, few))
+  below_before (suc k) (x ∷ items) rising few e =
+      (omega (arith, above_at x.index.0 k items x rising.0 (omega (arith, few)), e x), below_before k items rising.1 (omega (arith, few)) e)
+
   above_more : (j : ℕ) (xs : List Stands) → i < j → AllAbove j xs → AllAbove i xs
   above_more j [] l h = tt
   above_more j (x ∷ xs) l h = (omega (arith, l, h.0), above_more j xs l h.1)

@@ -1,5 +1,5 @@
 // Inputs of rising index with the one of an index changed, put in or left out.
-ghost use Rattle.std.specs.Prelude.{ℕ, ◌≡◌, ◌≤◌, ◌<◌, ◌+◌, ◌-◌, ◌*◌, ◌++◌, length, map, slice_index_or, vec_len, vec_capacity, IfOk, IfErr, MatchOption, None, Some};
+ghost use Rattle.std.specs.Prelude.{ℕ, ◌≡◌, ◌≤◌, ◌<◌, ◌+◌, ◌-◌, ◌*◌, ◌++◌, length, map, slice_index_or, vec_len, vec_capacity, IsTrue, IfOk, IfErr, MatchOption, None, Some};
 ghost use Rattle.std.specs.List.{AllByRecursion};
 ghost use Rattle.px_model.specs.Message.{Message};
 ghost use Rattle.px_model.specs.Sink.{IsRising, stream_at, with_change, with_input, without_input};
@@ -28,8 +28,41 @@ use px_types::InputId;
 use px_vol::Factors;
 use std::sync::ledger::Ledger;
 
-// How many of the first indices lie below this one, by halves.
+// The place of an index where those of all inputs follow one another, as they do until a stream leaves or goes to another sink.
+fn place_in_a_row(inputs: &[Input], index: InputId) -> usize {
+    match inputs.first() {
+        Some(first) => index.0.saturating_sub(first.index.0) as usize,
+        None => 0,
+    }
+}
+
+// Whether an index stands at a place.
+fn is_at(inputs: &[Input], place: usize, index: InputId) -> bool
+    ensures inside { IsTrue result → place < length inputs.now }
+    ensures same { (d : DeclaredInput) → IsTrue result → (DeclaredInput.index (slice_index_or inputs.now place d)).0 ≡ index.0 }
+{
+    if place >= inputs.len() {
+        return false;
+    }
+    inputs[place].index.0 == index.0
+}
+
+// How many of the first indices lie below this one. It is looked for by halves where it doesn't stand in a row with the first.
 fn place(inputs: &[Input], index: InputId) -> usize
+    requires { IsRising (inputs_of inputs.now) }
+    ensures below { AreBelow index.0 result inputs.now }
+    ensures few { result ≤ length inputs.now }
+    ensures end { (d : DeclaredInput) → result < length inputs.now → index.0 ≤ (DeclaredInput.index (slice_index_or inputs.now result d)).0 }
+{
+    let near = place_in_a_row(inputs, index);
+    if is_at(inputs, near, index) {
+        return near;
+    }
+    halved(inputs, index)
+}
+
+// The same by halves.
+fn halved(inputs: &[Input], index: InputId) -> usize
     requires { IsRising (inputs_of inputs.now) }
     ensures below { AreBelow index.0 result inputs.now }
     ensures few { result ≤ length inputs.now }

@@ -2,7 +2,7 @@ use Rattle.std.proofs.Common.{◌-◌, ◌<◌, ◌≤◌, length}
 use Rattle.std.specs.Prelude.{slice_index_or}
 use Rattle.px_lane.specs.declared.input.Input.{Input}
 use Rattle.px_lane.specs.Places.{AreBelow}
-use Rattle.px_lane.proofs.finding.place.Given as goal
+use Rattle.px_lane.proofs.finding.halved.Given as goal
 
 abbrev pub invariant-loop-low : goal.invariant-loop-low
 invariant-loop-low l =
