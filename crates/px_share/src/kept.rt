@@ -1,5 +1,5 @@
 // The kept sums of a sink's mix.
-ghost use Rattle.std.specs.Prelude.{◌≡◌, ℕ, ◌+◌, ◌-◌, ◌*◌, ◌<◌, ◌≤◌, List, length, map, All, FitsSigned, IfOk, pos, slice_index, slice_index_or};
+ghost use Rattle.std.specs.Prelude.{◌≡◌, ℕ, ◌+◌, ◌-◌, ◌*◌, ◌<◌, ◌≤◌, List, length, map, replicate, All, FitsSigned, IfOk, pos, slice_index, slice_index_or};
 ghost use Rattle.std.specs.Int.{w32};
 ghost use Rattle.std.specs.List.{concat, range_with_len};
 ghost use Rattle.px_sample.specs.Format.{frame_size_of, IsLinear};
@@ -9,12 +9,13 @@ ghost use Rattle.px_model.specs.Sink.{Input, streams_of};
 ghost use Rattle.px_kernel.specs.Kernel.{changed, scaled};
 ghost use Rattle.px_mixcache.specs.Cache.{KeptSums, kept_at};
 ghost use Rattle.px_stream.specs.Samples.{samples};
+ghost use Rattle.px_stream.specs.Values.{GivesValues};
 ghost use Rattle.px_sums.specs.Kept.{IsSumOf, from_on};
 ghost use Rattle.px_share.specs.Keeping.{IsKept, IsAsLarge, AreSmall, Shares, AreLittle};
 
 use px_kernel::Steps;
 use px_mixcache::MixCache;
-use px_sample::Spec;
+use px_sample::{Spec, Width};
 use px_stream::Stream;
 use px_types::{Mem, NoMemory};
 use px_vol::Factors;
@@ -33,20 +34,76 @@ pub struct KeptMix {
 }
 
 impl Model for KeptMix {
-    ghost use Rattle.std.specs.Prelude.{◌≡◌, ◌*◌, ◌≤◌, length};
+    ghost use Rattle.std.specs.Prelude.{◌≡◌, ◌*◌, ◌≤◌, length, All, FitsSigned};
+    ghost use Rattle.std.specs.Int.{w32};
     ghost use Rattle.px_mixcache.specs.Cache.{KeptSums};
 
     ghost Value = { KeptSums };
 
     ghost view = { λ k. k.cache };
 
-    ghost invariant = { λ k. (k.frames ≡ k.cache.frames) × (k.cache.frames ≤ k.cache.depth) × (k.cache.depth ≤ 65536) × (1 ≤ length k.cache.runs) × (length k.values.items ≡ length k.cache.runs * k.cache.depth) };
+    ghost invariant = { λ k. (k.frames ≡ k.cache.frames) × (k.cache.frames ≤ k.cache.depth) × (k.cache.depth ≤ 65536) × (1 ≤ length k.cache.runs) × (length k.values.items ≡ length k.cache.runs * k.cache.depth) × All (FitsSigned w32) k.values.items };
+}
+
+// Silences places, from one up to another.
+fn silence(values: &mut [i32], from: usize, to: usize)
+    requires order { from ≤ to }
+    requires inside { to ≤ length values.old }
+    ensures size { length values.new ≡ length values.old }
+    ensures silent { (i : ℕ) → from ≤ i → i < to → slice_index_or values.new i (pos 0) ≡ pos 0 }
+    ensures before { (i : ℕ) → i < from → slice_index_or values.new i (pos 0) ≡ slice_index_or values.old i (pos 0) }
+    ensures after { (i : ℕ) → to ≤ i → slice_index_or values.new i (pos 0) ≡ slice_index_or values.old i (pos 0) }
+    ensures words { All (FitsSigned w32) values.old → All (FitsSigned w32) values.new }
+{
+    for i in from..to {
+        values[i] = 0;
+    }
+}
+
+// Silences the places of each run behind the first so many.
+fn silence_behind(values: &mut [i32], runs: usize, run: usize, given: usize)
+    requires runs { length values.old ≡ run * runs }
+    requires few { given ≤ run }
+    ensures size { length values.new ≡ length values.old }
+    ensures before { (c j : ℕ) → c < runs → j < given → slice_index_or values.new (c * run + j) (pos 0) ≡ slice_index_or values.old (c * run + j) (pos 0) }
+    ensures silent { (c j : ℕ) → c < runs → given ≤ j → j < run → slice_index_or values.new (c * run + j) (pos 0) ≡ pos 0 }
+    ensures words { All (FitsSigned w32) values.old → All (FitsSigned w32) values.new }
+{
+    if given == run {
+        return;
+    }
+    for c in 0..runs {
+        silence(values, c * run + given, c * run + run);
+    }
+}
+
+// Gives the work values of a stream's frames from one on, so many of each run, whatever stands there: silence and nothing are 0. A run that the
+// stream fills, as most do, isn't cleared. Answers how many frames it gives.
+fn read<T: Ledger>(
+    stream: &Stream,
+    from: u32,
+    width: Width,
+    run: usize,
+    values: &mut [i32],
+    steps: &mut Steps<T>,
+) -> u32
+    requires runs { length values.old ≡ run * length stream.now.stream.feed }
+    requires words { All (FitsSigned w32) values.old }
+    ensures values { GivesValues width stream.now.stream from run result (replicate (length values.old) (pos 0)) values.new }
+    ensures words { All (FitsSigned w32) values.new }
+    ensures ticks { steps.new ≡ steps.old + length stream.now.stream.feed * result }
+{
+    let given = stream.frame_values(from, width, values, steps);
+    let runs = stream.factors().values().len();
+    silence_behind(values, runs, run, given as usize);
+    given
 }
 
 // Adds to the sums from a frame on what a stream gives there, or takes it away. The values are of as many frames.
 fn change<T: Ledger>(
     cache: &mut MixCache,
     values: &mut [i32],
+    frames: usize,
     sink: &Spec,
     stream: &Stream,
     from: u32,
@@ -56,17 +113,19 @@ fn change<T: Ledger>(
     requires channels { length cache.old.runs ≡ sink.now.channels }
     requires some { 1 ≤ sink.now.channels }
     requires fed { length stream.now.stream.feed ≡ sink.now.channels }
-    requires from { from ≤ cache.old.frames }
+    requires from { from + frames ≡ cache.old.frames }
     requires near { cache.old.frames ≤ 65536 }
-    requires size { length values.old ≡ sink.now.channels * (cache.old.frames - from) }
+    requires size { length values.old ≡ sink.now.channels * frames }
+    requires words { All (FitsSigned w32) values.old }
     requires room { AreSmall 258 cache.old }
+    ensures size { length values.new ≡ length values.old }
+    ensures words { All (FitsSigned w32) values.new }
     ensures large { IsAsLarge cache.old cache.new }
     ensures sums { Shares add sink.now stream.now.stream from cache.old cache.new }
     ensures little { AreLittle sink.now stream.now.stream from cache.old.frames }
-    ensures ticks { steps.new ≤ steps.old + 2 * (sink.now.channels * (cache.old.frames - from)) }
+    ensures ticks { steps.new ≤ steps.old + 2 * (sink.now.channels * frames) }
 {
-    values.fill(0);
-    stream.frame_values(from, sink.format.width(), values, steps);
+    read(stream, from, sink.format.width(), frames, values, steps);
     put(
         cache,
         values,
@@ -106,7 +165,7 @@ fn put<T: Ledger>(
 // The same over the first places for values, of so many frames.
 fn change_over<T: Ledger>(
     cache: &mut MixCache,
-    values: &mut Vec<i32>,
+    values: &mut [i32],
     frames: usize,
     sink: &Spec,
     stream: &Stream,
@@ -119,9 +178,11 @@ fn change_over<T: Ledger>(
     requires fed { length stream.now.stream.feed ≡ sink.now.channels }
     requires from { from + frames ≡ cache.old.frames }
     requires near { cache.old.frames ≤ 65536 }
-    requires size { sink.now.channels * frames ≤ length values.old.items }
+    requires size { sink.now.channels * frames ≤ length values.old }
+    requires words { All (FitsSigned w32) values.old }
     requires room { AreSmall 258 cache.old }
-    ensures size { length values.new.items ≡ length values.old.items }
+    ensures size { length values.new ≡ length values.old }
+    ensures words { All (FitsSigned w32) values.new }
     ensures large { IsAsLarge cache.old cache.new }
     ensures sums { Shares add sink.now stream.now.stream from cache.old cache.new }
     ensures little { AreLittle sink.now stream.now.stream from cache.old.frames }
@@ -130,7 +191,8 @@ fn change_over<T: Ledger>(
     let places = sink.channels as usize * frames;
     change(
         cache,
-        &mut values.as_mut_slice()[..places],
+        &mut values[..places],
+        frames,
         sink,
         stream,
         from,
@@ -207,7 +269,7 @@ impl KeptMix {
         }
         change_over(
             &mut self.cache,
-            &mut self.values,
+            self.values.as_mut_slice(),
             frames as usize,
             sink,
             stream,
