@@ -1,6 +1,7 @@
 #!/usr/bin/env python3
 """What serving costs, beside PulseAudio where it is installed: processor seconds and resident memory of the server alone, while pacat
-plays so many streams at once for some seconds, at 100 ms of latency; both play into a file or nowhere at the same pace.
+plays so many streams at once for some seconds, at 100 ms of latency, at the same pace: this one into a file, which takes memory alone, and
+nowhere, as the other does.
 
   bench/serve.py [--program FILE] [--seconds N] [STREAMS..]
 
@@ -52,8 +53,10 @@ def waited_for(path, server):
     time.sleep(0.5)
 
 
-def ours(folder, program, clients):
-    """This server, with a sink whose guard and depth are those of the other."""
+def ours(folder, program, clients, nowhere):
+    """This server, with a sink whose guard and depth are those of the other. It plays nowhere where its file is the null device."""
+    if nowhere:
+        os.symlink(os.devnull, os.path.join(folder, "out.raw"))
     cookie, header, socket = (os.path.join(folder, name) for name in ("cookie", "desk.hdr", "pulse.sock"))
     with open(cookie, "wb") as file:
         file.write(os.urandom(256))
@@ -107,12 +110,14 @@ def told(name, streams, seconds, result):
 
 def plays(program, counts, seconds):
     for streams in counts:
-        with tempfile.TemporaryDirectory(dir=PLACE) as folder:
-            # one place more than clients come, so that the server is there when they have gone
-            server, environment = ours(folder, program, streams + 1)
-            told("pulse_rw", streams, seconds, play(server, environment, folder, streams, seconds))
-            ended(server)
-            if shutil.which("pulseaudio"):
+        for name, nowhere in (("pulse_rw", False), ("nowhere", True)):
+            with tempfile.TemporaryDirectory(dir=PLACE) as folder:
+                # one place more than clients come, so that the server is there when they have gone
+                server, environment = ours(folder, program, streams + 1, nowhere)
+                told(name, streams, seconds, play(server, environment, folder, streams, seconds))
+                ended(server)
+        if shutil.which("pulseaudio"):
+            with tempfile.TemporaryDirectory(dir=PLACE) as folder:
                 server, environment = theirs(folder)
                 told("PulseAudio", streams, seconds, play(server, environment, folder, streams, seconds))
                 ended(server)
@@ -120,7 +125,7 @@ def plays(program, counts, seconds):
 
 def links(program):
     with tempfile.TemporaryDirectory(dir=PLACE) as folder:
-        server, environment = ours(folder, program, 6_500)
+        server, environment = ours(folder, program, 6_500, False)
         for turn in range(1, 101):
             clients = [subprocess.Popen(["pactl", "info"], env=environment, stdout=subprocess.DEVNULL, stderr=subprocess.DEVNULL) for _ in range(64)]
             failed = sum(client.wait() != 0 for client in clients)
