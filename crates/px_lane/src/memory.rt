@@ -102,7 +102,7 @@ fn stream_of(alloc: Global, fresh: &NewStream, room: u32, blocks: u32) -> Mem<St
     ensures stream { IfOk result (λ s. s.stream ≡ new_stream (sample_spec fresh.now.spec) fresh.now.feed fresh.now.factors fresh.now.attr fresh.now.corked) }
     ensures room { IfOk result (λ s. IsRoomy room blocks s) }
 {
-    let mut stream = Stream::new(alloc, fresh);
+    let mut stream = Stream::new(alloc, fresh)?;
     stream.reserve(room, blocks)?;
     Ok(stream)
 }

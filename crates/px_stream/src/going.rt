@@ -6,9 +6,8 @@ ghost use Rattle.px_model.specs.Index.{above};
 ghost use Rattle.px_model.specs.Turn.{is_playing, has_ended, has_started, has_run_out, missing_of, request_of};
 ghost use Rattle.px_stream.specs.Kept.{IsMixable};
 
-use crate::Stream;
 use crate::run::run_after;
-use crate::stream::less;
+use crate::state::{StreamState, less};
 use px_block::BlockSource;
 use px_model::Run;
 
@@ -30,9 +29,9 @@ pub struct Ahead {
     pub run: Run,
 }
 
-impl Stream {
-    /// Goes so many frames of its sink forward. Blocks that fall out of use go back to their source. Takes no memory.
-    pub fn settle<B: BlockSource>(&mut self, frames: u64, blocks: &mut B) -> Settled
+impl StreamState {
+    /// As `Stream::settle`.
+    pub(crate) fn settle<B: BlockSource>(&mut self, frames: u64, blocks: &mut B) -> Settled
         ensures started { result.started ≡ has_started self.old.stream frames }
         ensures underflow { result.underflow ≡ has_run_out self.old.stream frames }
         ensures stream { self.new.stream ≡ after self.old.stream frames }
@@ -98,8 +97,8 @@ impl Stream {
         }
     }
 
-    /// Where it stands once so many frames more of its sink are given.
-    pub fn ahead(&self, frames: u64) -> Ahead
+    /// As `Stream::ahead`.
+    pub(crate) fn ahead(&self, frames: u64) -> Ahead
         ensures read { result.read ≡ ahead_of self.now.stream frames }
         ensures run { result.run ≡ (after self.now.stream frames).run }
     {
@@ -119,9 +118,8 @@ impl Stream {
         }
     }
 
-    /// The frames that it asks for where so many are mixed past its read index: all that are missing of `tlength`, where they are at
-    /// least `minreq`, else 0.
-    pub fn request(&mut self, mixed: u64) -> u32
+    /// As `Stream::request`.
+    pub(crate) fn request(&mut self, mixed: u64) -> u32
         ensures frames { result ≡ request_of self.old.stream mixed }
         ensures asked { nat_lt 0 result ≡ nat_le self.old.stream.minreq (missing_of self.old.stream mixed) }
         ensures stream { self.new.stream ≡ record self.old.stream { requested = self.old.stream.requested + request_of self.old.stream mixed } }
@@ -148,9 +146,8 @@ impl Stream {
         less(less(self.tlength, waiting), self.requested as u64)
     }
 
-    /// The first tag of the drains that wait for an answer, which then waits no more. `None` where frames are left to play, or no tag
-    /// waits. Takes no memory.
-    pub fn drained(&mut self) -> Option<u32>
+    /// As `Stream::drained`.
+    pub(crate) fn drained(&mut self) -> Option<u32>
         ensures tag { MatchOption result (((has_ended self.old.stream ≡ false) ⊎ (self.old.stream.draining ≡ [])) × (self.new.stream ≡ self.old.stream))
             (λ tag. (has_ended self.old.stream ≡ true) × (self.old.stream.draining ≡ tag ∷ self.new.stream.draining)
             × (self.new.stream ≡ record self.old.stream { draining = self.new.stream.draining })) }
@@ -164,8 +161,8 @@ impl Stream {
         Some(self.draining.remove(0))
     }
 
-    /// How many drains wait for an answer.
-    pub fn draining(&self) -> usize
+    /// As `Stream::draining`.
+    pub(crate) fn draining(&self) -> usize
         ensures count { result ≡ length self.now.stream.draining }
         ensures kept { IsMixable self.now.stream }
     {

@@ -4,13 +4,12 @@ ghost use Rattle.px_model.specs.Message.{StreamMessage};
 ghost use Rattle.px_stream.specs.Messages.{message_of, Suits};
 ghost use Rattle.px_stream.specs.Heard.{unaltered_of};
 
-use crate::{Stream, StreamMsg};
+use crate::StreamMsg;
+use crate::state::StreamState;
 
-impl Stream {
-    /// How many of the next `mixed` frames sound as before once a message is applied, where its sink has mixed so many past its read
-    /// index: all of them where nothing is changed or no frames are held, those before the frames of a write, and none for every other
-    /// message. Takes no memory.
-    pub fn unaltered(&self, message: &StreamMsg, mixed: u64) -> u64
+impl StreamState {
+    /// As `Stream::unaltered`.
+    pub(crate) fn unaltered(&self, message: &StreamMsg, mixed: u64) -> u64
         requires { Suits self.now.stream (message_of message.now) }
         ensures { result ≡ unaltered_of mixed (message_of message.now) self.now.stream }
     {

@@ -6,10 +6,10 @@ ghost use Rattle.px_sample.specs.declared.format.Width.TheVariants.{W16};
 ghost use Rattle.px_sample.specs.WorkValue.{work_value_of};
 ghost use Rattle.px_stream.specs.Lent.{LendsValues, sample_at};
 
-use crate::Stream;
+use crate::state::StreamState;
 use px_sample::{Format, Width};
 
-impl Stream {
+impl StreamState {
     /// The bytes of the frames from a place past the read index on, at most so many, as many as lie whole in the block that has the first of
     /// them, where a sample is its own work value at the width. Empty where none lies so, or a sample isn't.
     pub(crate) fn lent(&self, k: u32, width: Width, most: usize) -> &[u8]

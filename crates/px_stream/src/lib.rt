@@ -1,6 +1,6 @@
 //! A stream of a sink (PulseAudio: `pa_sink_input` with its playback stream): a queue of frames with what a client and the core set.
-//! `stream` has it and what a message does to it, `going` its way forward with its sink, `values` its work values for a mix, `lent`
-//! those that are read where its frames lie, `run` how long it has played or been silent. It exports `Stream` with `StreamMsg`, `Applied`, `Settled` and `Ahead`.
+//! `stream` has it, `state` what it keeps and what a message does to that, `going` its way forward with its sink, `values` its work values
+//! for a mix, `lent` those that are read where its frames lie, `run` how long it has played or been silent. It exports `Stream` with `StreamMsg`, `Applied`, `Settled` and `Ahead`.
 #![tactic(auto)]
 
 mod going;
@@ -9,6 +9,7 @@ mod lent;
 mod message;
 mod plain;
 mod run;
+mod state;
 mod stream;
 mod values;
 

@@ -2,7 +2,7 @@
 ghost use Rattle.std.specs.Prelude.{◌≡◌, IfOk};
 ghost use Rattle.px_stream.specs.Plain.{plain_run, plain_of};
 
-use crate::Stream;
+use crate::state::StreamState;
 use px_annals::{Numbers, PlainRun, PlainStream};
 use px_model::Run;
 use px_types::Mem;
@@ -38,9 +38,9 @@ fn widened(alloc: Global, channels: &[u8]) -> Mem<Numbers>
     Ok(Numbers::from_vec(numbers))
 }
 
-impl Stream {
-    /// All that it is, as plain numbers and bytes.
-    pub fn plain(&self, alloc: Global) -> Mem<PlainStream>
+impl StreamState {
+    /// As `Stream::plain`.
+    pub(crate) fn plain(&self, alloc: Global) -> Mem<PlainStream>
         ensures { IfOk result (λ plain. plain ≡ plain_of self.now.stream) }
     {
         Ok(PlainStream {

@@ -1,86 +1,57 @@
-// A stream, and what a message does to it.
-ghost use Rattle.std.specs.Prelude.{◌≡◌, ◌≤◌, ◌+◌, ◌-◌, ◌*◌, ℕ, length, All, ◌<◌, OnOk};
-ghost use Rattle.px_block.specs.Given.{after_giving, blocks_for};
+// A stream, as those who have one hold it.
+ghost use Rattle.std.specs.Prelude.{◌≡◌, ◌≤◌, ◌+◌, ◌*◌, ◌∷◌, ◌⊎◌, [], ℕ, true, false, nat_lt, nat_le, length, All, FitsSigned, MatchOption, IfOk, OnOk};
+ghost use Rattle.std.specs.Int.{w32};
+ghost use Rattle.px_block.specs.Given.{after_giving};
 ghost use Rattle.px_msg.specs.View.{sample_spec, opened};
-ghost use Rattle.px_model.specs.Applied.{applied, overflows, written_by, write_outcome, is_refused};
-ghost use Rattle.px_model.specs.Control.{new_stream, drained_by, flushed, triggered, prebuffered, with_attr, attached, with_factors, corked_to};
-ghost use Rattle.px_model.specs.Frame.{SampleSpec, frame_size};
-ghost use Rattle.px_model.specs.Orderly.{IsNewStream, IsRepaired};
+ghost use Rattle.px_model.specs.Applied.{applied, overflows};
+ghost use Rattle.px_model.specs.Control.{new_stream};
+ghost use Rattle.px_model.specs.Frame.{SampleSpec};
+ghost use Rattle.px_model.specs.Going.{after, ahead_of};
+ghost use Rattle.px_model.specs.Orderly.{IsNewStream};
+ghost use Rattle.px_model.specs.Turn.{has_ended, has_started, has_run_out, missing_of, request_of};
+ghost use Rattle.px_stream.specs.Heard.{unaltered_of};
+ghost use Rattle.px_stream.specs.Kept.{IsMixable};
 ghost use Rattle.px_stream.specs.Messages.{message_of, Suits, blocks_with, room_for, answer_for};
+ghost use Rattle.px_stream.specs.Plain.{plain_of};
+ghost use Rattle.px_stream.specs.Values.{GivesValues};
 
-use crate::{Applied, StreamMsg};
-use px_block::{BlockSource, Blocks};
-use px_chmap::Feed;
-use px_model::{Attr, Run};
+use crate::state::StreamState;
+use crate::{Ahead, Applied, Settled, StreamMsg};
+use px_annals::PlainStream;
+use px_block::BlockSource;
+use px_kernel::Steps;
 use px_msg::{NewStream, Parcel};
-use px_queue::{FrameQueue, Pushed};
-use px_sample::Spec;
-use px_types::{Mem, NoMemory};
+use px_sample::{Spec, Width};
+use px_types::Mem;
 use px_vol::Factors;
 use std::alloc::Global;
 use std::marker::Model;
+use std::sync::ledger::Ledger;
 
-/// A stream (PulseAudio: `pa_sink_input` with its playback stream): a queue of frames with what a client and the core set. All counts are
-/// frames.
+/// A stream (PulseAudio: `pa_sink_input` with its playback stream). It keeps its state in a place of its own, so that a stream, and each message
+/// that may bring one, is cheap to move. All counts are frames.
 #[derive(Debug, Drop)]
 pub struct Stream {
-    pub(crate) queue: FrameQueue,
-    pub(crate) corked: bool,
-    pub(crate) maxlength: u32,
-    pub(crate) tlength: u32,
-    pub(crate) minreq: u32,
-    prebuf: u32,
-    pub(crate) requested: u32,
-    pub(crate) draining: Vec<u32>,
-    pub(crate) run: Run,
-    pub(crate) spec: Spec,
-    pub(crate) feed: Feed,
-    pub(crate) factors: Factors,
+    state: Box<StreamState>,
 }
 
 impl Model for Stream {
-    ghost use Rattle.std.specs.Prelude.{◌≡◌, ◌-◌, min, vec_len, vec_capacity};
-    ghost use Rattle.px_msg.specs.View.{sample_spec};
-    ghost use Rattle.px_model.specs.Frame.{frame_size};
-    ghost use Rattle.px_stream.specs.Kept.{KeptStream, stream_of, IsMixable};
+    ghost use Rattle.px_stream.specs.Kept.{KeptStream};
 
     ghost Value = { KeptStream };
 
-    ghost view = { λ s. record {
-      stream = stream_of s.queue.queue s.corked s.maxlength s.tlength s.minreq s.requested s.draining.items s.run (sample_spec s.spec) s.feed s.factors;
-      room = min s.queue.room (vec_capacity s.draining - vec_len s.draining);
-      block_room = s.queue.block_room;
-      blocks = s.queue.blocks;
-    } };
-
-    ghost invariant = { λ s. IsMixable (stream_of s.queue.queue s.corked s.maxlength s.tlength s.minreq s.requested s.draining.items s.run (sample_spec s.spec) s.feed s.factors)
-        × (s.queue.frame ≡ frame_size (sample_spec s.spec)) × (s.queue.queue.prebuf ≡ s.prebuf) };
+    ghost view = { λ s. s.state.value };
 }
 
 impl Stream {
-    /// A new stream, with nothing written and `tlength` frames asked for. It fits a sink. Takes no memory.
-    pub fn new(alloc: Global, new: &NewStream) -> Stream
+    /// A new stream, with nothing written and `tlength` frames asked for. It fits a sink.
+    pub fn new(alloc: Global, new: &NewStream) -> Mem<Stream>
         requires { (sink : SampleSpec) × IsNewStream sink (opened new.now) }
-        ensures stream { result.stream ≡ new_stream (sample_spec new.now.spec) new.now.feed new.now.factors new.now.attr new.now.corked }
-        ensures blocks { result.blocks ≡ 0 }
+        ensures stream { IfOk result (λ s. s.stream ≡ new_stream (sample_spec new.now.spec) new.now.feed new.now.factors new.now.attr new.now.corked) }
+        ensures blocks { IfOk result (λ s. s.blocks ≡ 0) }
     {
-        let mut queue = FrameQueue::new(alloc, new.spec.frame_size() as u32);
-        queue.set_prebuf(new.attr.prebuf);
-        queue.set_hold(new.attr.prebuf > 0);
-        Stream {
-            queue,
-            corked: new.corked,
-            maxlength: new.attr.maxlength,
-            tlength: new.attr.tlength,
-            minreq: new.attr.minreq,
-            prebuf: new.attr.prebuf,
-            requested: new.attr.tlength,
-            draining: Vec::new(alloc),
-            run: Run::Quiet(0),
-            spec: new.spec,
-            feed: new.feed,
-            factors: new.factors,
-        }
+        let state = Box::new(alloc, StreamState::new(alloc, new))?;
+        Ok(Stream { state })
     }
 
     /// Takes room for so many messages more, with so many blocks in all. Without memory the stream stays what it is.
@@ -91,9 +62,7 @@ impl Stream {
         ensures room { self.old.room ≤ self.new.room }
         ensures block_room { self.old.block_room ≤ self.new.block_room }
     {
-        self.queue.reserve(messages, blocks)?;
-        self.draining.reserve(messages as usize)?;
-        Ok(())
+        self.state.reserve(messages, blocks)
     }
 
     /// Applies a message, where so many frames of its sink are mixed past its read index. It fits the stream. Blocks that fall out of
@@ -113,159 +82,103 @@ impl Stream {
         ensures block_room { self.old.block_room ≤ self.new.block_room + blocks_with (message_of message) }
         ensures given { after_giving (B.given blocks.new) self.new.blocks ≡ after_giving (B.given blocks.old) (self.old.blocks + blocks_with (message_of message)) }
     {
-        match message {
-            StreamMsg::Write {
-                seek,
-                offset,
-                frames,
-                bytes,
-            } => return self.write(seek, offset, frames, bytes, mixed, blocks),
-            StreamMsg::Attach { feed, factors } => self.attach(feed, factors),
-            StreamMsg::Cork { on } => self.cork(on),
-            StreamMsg::Flush => self.flush(blocks),
-            StreamMsg::Trigger => self.trigger(),
-            StreamMsg::Prebuf => self.wait_again(),
-            StreamMsg::Drain { tag } => self.drain(tag),
-            StreamMsg::Attr { attr } => self.set_attr(&attr),
-            StreamMsg::Factors { factors } => self.set_factors(factors),
-            StreamMsg::Query { tag: _ } => {}
-        }
-        Applied::Quiet
+        self.state.apply(message, mixed, blocks)
     }
 
-    // Writes frames, and answers whether they aren't held.
-    fn write<B: BlockSource>(
-        &mut self,
-        seek: u8,
-        offset: i64,
-        frames: u32,
-        bytes: Blocks,
-        mixed: u64,
-        blocks: &mut B,
-    ) -> Applied
-        requires room { 1 ≤ self.old.room }
-        requires block_room { blocks_for (length bytes) ≤ self.old.block_room }
-        requires seek { seek ≤ 3 }
-        requires whole { length bytes ≡ frames * frame_size self.old.stream.spec }
-        ensures stream { self.new.stream ≡ written_by seek offset frames bytes mixed self.old.stream }
-        ensures answer { result ≡ answer_for (is_refused (write_outcome self.old.stream seek offset frames bytes mixed)) }
-        ensures room { self.old.room ≤ self.new.room + 1 }
-        ensures block_room { self.old.block_room ≤ self.new.block_room + blocks_for (length bytes) }
-        ensures given { after_giving (B.given blocks.new) self.new.blocks ≡ after_giving (B.given blocks.old) (self.old.blocks + blocks_for (length bytes)) }
+    /// How many of the next `mixed` frames sound as before once a message is applied, where its sink has mixed so many past its read
+    /// index: all of them where nothing is changed or no frames are held, those before the frames of a write, and none for every other
+    /// message. Takes no memory.
+    pub fn unaltered(&self, message: &StreamMsg, mixed: u64) -> u64
+        requires { Suits self.now.stream (message_of message.now) }
+        ensures { result ≡ unaltered_of mixed (message_of message.now) self.now.stream }
     {
-        let ahead = self.ahead_index(mixed);
-        let limit = self.maxlength as i64;
-        match self
-            .queue
-            .push(seek, offset, bytes, frames, ahead, limit, blocks)
-        {
-            Pushed::Stored => {
-                self.requested = less(self.requested, frames as u64);
-                Applied::Quiet
-            }
-            Pushed::Overflow { .. } => {
-                self.requested = less(self.requested, frames as u64);
-                Applied::Overflow
-            }
-            Pushed::Outside { .. } => Applied::Overflow,
-        }
+        self.state.unaltered(message, mixed)
     }
 
-    fn attach(&mut self, feed: Feed, factors: Factors)
-        requires feed { All (λ channel. channel < self.old.stream.spec.channels) feed }
-        requires factors { length factors ≡ length feed }
-        ensures stream { self.new.stream ≡ attached self.old.stream feed factors }
-        ensures room { self.new.room ≡ self.old.room }
-        ensures block_room { self.new.block_room ≡ self.old.block_room }
-        ensures blocks { self.new.blocks ≡ self.old.blocks }
-    {
-        self.feed = feed;
-        self.factors = factors;
-    }
-
-    fn cork(&mut self, on: bool)
-        ensures stream { self.new.stream ≡ corked_to self.old.stream on }
-        ensures room { self.new.room ≡ self.old.room }
-        ensures block_room { self.new.block_room ≡ self.old.block_room }
-        ensures blocks { self.new.blocks ≡ self.old.blocks }
-    {
-        self.corked = on;
-    }
-
-    fn flush<B: BlockSource>(&mut self, blocks: &mut B)
-        ensures stream { self.new.stream ≡ flushed self.old.stream }
+    /// Goes so many frames of its sink forward. Blocks that fall out of use go back to their source. Takes no memory.
+    pub fn settle<B: BlockSource>(&mut self, frames: u64, blocks: &mut B) -> Settled
+        ensures started { result.started ≡ has_started self.old.stream frames }
+        ensures underflow { result.underflow ≡ has_run_out self.old.stream frames }
+        ensures stream { self.new.stream ≡ after self.old.stream frames }
         ensures room { self.old.room ≤ self.new.room }
         ensures block_room { self.old.block_room ≤ self.new.block_room }
         ensures given { after_giving (B.given blocks.new) self.new.blocks ≡ after_giving (B.given blocks.old) self.old.blocks }
     {
-        self.queue.flush(blocks);
+        self.state.settle(frames, blocks)
     }
 
-    fn trigger(&mut self)
-        ensures stream { self.new.stream ≡ triggered self.old.stream }
+    /// Where it stands once so many frames more of its sink are given.
+    pub fn ahead(&self, frames: u64) -> Ahead
+        ensures read { result.read ≡ ahead_of self.now.stream frames }
+        ensures run { result.run ≡ (after self.now.stream frames).run }
+    {
+        self.state.ahead(frames)
+    }
+
+    /// The frames that it asks for where so many are mixed past its read index: all that are missing of `tlength`, where they are at
+    /// least `minreq`, else 0.
+    pub fn request(&mut self, mixed: u64) -> u32
+        ensures frames { result ≡ request_of self.old.stream mixed }
+        ensures asked { nat_lt 0 result ≡ nat_le self.old.stream.minreq (missing_of self.old.stream mixed) }
+        ensures stream { self.new.stream ≡ record self.old.stream { requested = self.old.stream.requested + request_of self.old.stream mixed } }
         ensures room { self.new.room ≡ self.old.room }
         ensures block_room { self.new.block_room ≡ self.old.block_room }
         ensures blocks { self.new.blocks ≡ self.old.blocks }
     {
-        self.queue.set_hold(false);
+        self.state.request(mixed)
     }
 
-    fn wait_again(&mut self)
-        ensures stream { self.new.stream ≡ prebuffered self.old.stream }
-        ensures room { self.new.room ≡ self.old.room }
-        ensures block_room { self.new.block_room ≡ self.old.block_room }
+    /// The first tag of the drains that wait for an answer, which then waits no more. `None` where frames are left to play, or no tag
+    /// waits. Takes no memory.
+    pub fn drained(&mut self) -> Option<u32>
+        ensures tag { MatchOption result (((has_ended self.old.stream ≡ false) ⊎ (self.old.stream.draining ≡ [])) × (self.new.stream ≡ self.old.stream))
+            (λ tag. (has_ended self.old.stream ≡ true) × (self.old.stream.draining ≡ tag ∷ self.new.stream.draining)
+            × (self.new.stream ≡ record self.old.stream { draining = self.new.stream.draining })) }
+        ensures room { self.old.room ≤ self.new.room }
+        ensures block_room { self.old.block_room ≤ self.new.block_room }
         ensures blocks { self.new.blocks ≡ self.old.blocks }
     {
-        self.queue.set_hold(self.prebuf > 0);
+        self.state.drained()
     }
 
-    fn drain(&mut self, tag: u32)
-        requires { 1 ≤ self.old.room }
-        ensures stream { self.new.stream ≡ drained_by self.old.stream tag }
-        ensures room { self.old.room ≤ self.new.room + 1 }
-        ensures block_room { self.new.block_room ≡ self.old.block_room }
-        ensures blocks { self.new.blocks ≡ self.old.blocks }
+    /// How many drains wait for an answer.
+    pub fn draining(&self) -> usize
+        ensures count { result ≡ length self.now.stream.draining }
+        ensures kept { IsMixable self.now.stream }
     {
-        self.draining.push_reserved(tag);
-        self.queue.set_hold(false);
+        self.state.draining()
     }
 
-    fn set_attr(&mut self, attr: &Attr)
-        requires { IsRepaired attr.now }
-        ensures stream { self.new.stream ≡ with_attr self.old.stream attr.now }
-        ensures room { self.new.room ≡ self.old.room }
-        ensures block_room { self.new.block_room ≡ self.old.block_room }
-        ensures blocks { self.new.blocks ≡ self.old.blocks }
+    /// Gives the work values of the frames from `from` frames past the read index on, at a width: `out` has one run for each channel of
+    /// the sink, all of one length, and the frames fill a front of each run, from the stream's channel that feeds it. Silence is 0.
+    /// Answers how many frames it gave, and counts a step for each of them in each run. Takes no memory.
+    pub fn frame_values<T: Ledger>(
+        &self,
+        from: u32,
+        width: Width,
+        out: &mut [i32],
+        steps: &mut Steps<T>,
+    ) -> u32
+        requires { (n : ℕ) × (length out.old ≡ n * length self.now.stream.feed) }
+        ensures values { (n : ℕ) → length out.old ≡ n * length self.now.stream.feed → GivesValues width self.now.stream from n result out.old out.new }
+        ensures words { All (FitsSigned w32) out.old → All (FitsSigned w32) out.new }
+        ensures ticks { steps.new ≡ steps.old + length self.now.stream.feed * result }
     {
-        self.queue.set_prebuf(attr.prebuf);
-        self.prebuf = attr.prebuf;
-        self.maxlength = attr.maxlength;
-        self.tlength = attr.tlength;
-        self.minreq = attr.minreq;
-    }
-
-    fn set_factors(&mut self, factors: Factors)
-        requires { length factors ≡ length self.old.stream.feed }
-        ensures stream { self.new.stream ≡ with_factors self.old.stream factors }
-        ensures room { self.new.room ≡ self.old.room }
-        ensures block_room { self.new.block_room ≡ self.old.block_room }
-        ensures blocks { self.new.blocks ≡ self.old.blocks }
-    {
-        self.factors = factors;
+        self.state.frame_values(from, width, out, steps)
     }
 
     /// The next frame to write.
     pub fn write_index(&self) -> i64
         ensures { result ≡ self.now.stream.queue.write }
     {
-        self.queue.write_index()
+        self.state.write_index()
     }
 
     /// Whether it is corked.
     pub fn corked(&self) -> bool
         ensures { result ≡ self.now.stream.corked }
     {
-        self.corked
+        self.state.corked()
     }
 
     /// For each channel of the sink the factor of the stream there, in 65536ths.
@@ -273,7 +186,14 @@ impl Stream {
         ensures value { result.now ≡ self.now.stream.factors }
         ensures places { length self.now.stream.factors ≡ length self.now.stream.feed }
     {
-        &self.factors
+        self.state.factors()
+    }
+
+    /// All that it is, as plain numbers and bytes.
+    pub fn plain(&self, alloc: Global) -> Mem<PlainStream>
+        ensures { IfOk result (λ plain. plain ≡ plain_of self.now.stream) }
+    {
+        self.state.plain(alloc)
     }
 }
 
@@ -281,17 +201,6 @@ impl Parcel for Stream {
     ghost spec_of = { λ s. s.stream.spec };
 
     fn spec(&self) -> Spec {
-        self.spec
-    }
-}
-
-// What is left of a count once so many frames are taken off.
-pub(crate) fn less(count: u32, frames: u64) -> u32
-    ensures { result ≡ count - frames }
-{
-    if frames >= count as u64 {
-        0
-    } else {
-        count - frames as u32
+        self.state.spec()
     }
 }

@@ -7,8 +7,8 @@ ghost use Rattle.px_model.specs.Queue.{nothing};
 ghost use Rattle.px_model.specs.Stream.{frame_at};
 ghost use Rattle.px_stream.specs.Values.{GivesValues, value_at};
 
-use crate::Stream;
 use crate::lent::scatter_samples;
+use crate::state::StreamState;
 use px_kernel::Steps;
 use px_queue::Span;
 use px_sample::{Format, Spec, Width, to_work, unpack};
@@ -19,11 +19,9 @@ const MOST_SAMPLES: usize = 256;
 
 const MOST_BYTES: usize = 1024;
 
-impl Stream {
-    /// Gives the work values of the frames from `from` frames past the read index on, at a width: `out` has one run for each channel of
-    /// the sink, all of one length, and the frames fill a front of each run, from the stream's channel that feeds it. Silence is 0.
-    /// Answers how many frames it gave, and counts a step for each of them in each run. Takes no memory.
-    pub fn frame_values<T: Ledger>(
+impl StreamState {
+    /// As `Stream::frame_values`.
+    pub(crate) fn frame_values<T: Ledger>(
         &self,
         from: u32,
         width: Width,

@@ -28,7 +28,7 @@ fn opened(alloc: Global) -> Option<Stream> {
         },
         corked: false,
     };
-    Some(Stream::new(alloc, &new))
+    Stream::new(alloc, &new).ok()
 }
 
 // Two frames, so many past the write index.

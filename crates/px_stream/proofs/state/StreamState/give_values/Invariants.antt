@@ -2,7 +2,7 @@ use Rattle.std.proofs.Common.{◌≡◌, ◌≢◌, ℕ, ◌+◌, ◌-◌, ◌*�
 use Rattle.px_model.specs.Queue.{nothing}
 use Rattle.px_model.specs.Stream.{frame_at}
 use Rattle.px_stream.specs.Values.{value_at}
-use Rattle.px_stream.proofs.stream.Stream.give_values.Given as goal
+use Rattle.px_stream.proofs.state.StreamState.give_values.Given as goal
 
 abbrev pub invariant-loop-count : goal.invariant-loop-count
 invariant-loop-count l = record {

@@ -3,7 +3,7 @@ use Rattle.std.specs.Prelude.{slice_index}
 use Rattle.px_stream.specs.Kept.{KeptStream}
 use Rattle.px_stream.specs.Lent.{sample_at}
 use Rattle.px_stream.proofs.Runs.{frames_are}
-use Rattle.px_stream.proofs.stream.Stream.put_values.Goals as goal
+use Rattle.px_stream.proofs.state.StreamState.put_values.Goals as goal
 
 pub scatter_samples-requires-clause-whole : goal.scatter_samples-requires-clause-whole
 scatter_samples-requires-clause-whole c =

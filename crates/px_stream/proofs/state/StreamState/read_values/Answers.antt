@@ -11,7 +11,7 @@ use Rattle.px_stream.proofs.Reading.{frame_open, peeked_few, then_is}
 use Rattle.px_stream.proofs.Runs.{place_inside}
 use Rattle.px_stream.proofs.Sounds.{value_by, frame_some}
 use Rattle.px_msg.proofs.Sizes.{same_frame_size}
-use Rattle.px_stream.proofs.stream.Stream.read_values.Goals as goal
+use Rattle.px_stream.proofs.state.StreamState.read_values.Goals as goal
 
 pub peek-requires-clause-whole : goal.peek-requires-clause-whole
 peek-requires-clause-whole c =

@@ -9,7 +9,7 @@ use Rattle.px_stream.specs.Kept.{KeptStream, stream_of}
 use Rattle.px_stream.specs.Heard.{unaltered_of}
 use Rattle.px_stream.proofs.Keeping.{ahead_fits}
 use Rattle.px_stream.proofs.Sounding.{unwritten_is}
-use Rattle.px_stream.proofs.stream.Stream.unwritten.Goals as goal
+use Rattle.px_stream.proofs.state.StreamState.unwritten.Goals as goal
 
 pub returns : goal.returns
 returns c = λ bytes.

@@ -7,7 +7,7 @@ use Rattle.px_model.specs.Going.{queue_after, run_after}
 use Rattle.px_model.proofs.Streams.{after_open, after_keeps}
 use Rattle.px_stream.specs.Kept.{stream_of}
 use Rattle.px_stream.proofs.Keeping.{mixable_as, after_prebuf}
-use Rattle.px_stream.proofs.stream.Stream.go.Goals as goal
+use Rattle.px_stream.proofs.state.StreamState.go.Goals as goal
 
 pub invariant_of-self : goal.invariant_of-self
 invariant_of-self g c =

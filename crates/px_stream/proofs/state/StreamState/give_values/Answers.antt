@@ -5,7 +5,7 @@ use Rattle.px_model.specs.Stream.{frame_at}
 use Rattle.px_stream.specs.Kept.{KeptStream}
 use Rattle.px_stream.specs.Values.{value_at, GivesValues}
 use Rattle.px_stream.proofs.Runs.{run_is}
-use Rattle.px_stream.proofs.stream.Stream.give_values.Goals as goal
+use Rattle.px_stream.proofs.state.StreamState.give_values.Goals as goal
 
 pub put_values-given-requires-clause-runs : goal.put_values-given-requires-clause-runs
 put_values-given-requires-clause-runs c =

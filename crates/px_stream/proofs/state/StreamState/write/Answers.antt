@@ -13,7 +13,7 @@ use Rattle.px_stream.specs.Kept.{KeptStream, stream_of}
 use Rattle.px_stream.specs.Messages.{answer_for}
 use Rattle.px_stream.proofs.Keeping.{mixable_as, written_prebuf, ahead_fits}
 use Rattle.px_stream.proofs.Writing.{outcome_is, written_is}
-use Rattle.px_stream.proofs.stream.Stream.write.Goals as goal
+use Rattle.px_stream.proofs.state.StreamState.write.Goals as goal
 
 pub returns-in-Stored-clause-stream : goal.returns-in-Stored-clause-stream
 returns-in-Stored-clause-stream g c =

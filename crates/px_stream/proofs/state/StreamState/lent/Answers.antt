@@ -12,7 +12,7 @@ use Rattle.px_stream.specs.Values.{value_at}
 use Rattle.px_stream.specs.Lent.{LendsValues}
 use Rattle.px_stream.proofs.Reading.{frame_open, not_nothing}
 use Rattle.px_stream.proofs.Sounds.{bytes_are, value_lent}
-use Rattle.px_stream.proofs.stream.Stream.lent.Goals as goal
+use Rattle.px_stream.proofs.state.StreamState.lent.Goals as goal
 
 pub returns : goal.returns
 returns c =

@@ -5,7 +5,7 @@ use Rattle.px_model.specs.Message.{StreamMessage}
 use Rattle.px_stream.specs.Messages.{message_of, Suits}
 use Rattle.px_stream.specs.Heard.{unaltered_of}
 use Rattle.px_stream.specs.declared.message.StreamMsg.{StreamMsg}
-use Rattle.px_stream.proofs.stream.Stream.unaltered.Goals as goal
+use Rattle.px_stream.proofs.state.StreamState.unaltered.Goals as goal
 
 pub unwritten-requires : goal.unwritten-requires
 unwritten-requires c = (subst (λ (m : StreamMsg). Suits c.args.self.now.stream (message_of m)) c.in-Write.is c.requires).0
