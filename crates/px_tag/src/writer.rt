@@ -30,6 +30,9 @@ impl Model for TagWriter {
     ghost view = { λ writer. writer.bytes.items };
 }
 
+// The first bytes that a packet takes room for: as many as a message of two numbers has, so that most packets take memory once.
+const FIRST_ROOM: usize = 32;
+
 // Appends a head, a body and a tail, or nothing.
 fn append(bytes: &mut Vec<u8>, head: &[u8], body: &[u8], tail: &[u8]) -> Mem<()>
     requires head { length head.now ≤ 8 }
@@ -71,6 +74,9 @@ impl TagWriter {
         ensures appended { OnOk result (self.new ≡ self.old ++ number v) }
         ensures unchanged { OnErr result (self.new ≡ self.old) }
     {
+        if self.bytes.capacity() == 0 {
+            self.bytes.reserve(FIRST_ROOM)?;
+        }
         let [a, b, c, d] = v.to_be_bytes();
         self.bytes.extend_from_slice(&[tag::NUMBER, a, b, c, d])?;
         Ok(())
