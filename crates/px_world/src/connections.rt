@@ -13,8 +13,8 @@ ghost use Rattle.px_world.specs.Doing.{Does, Answered, IsRefused};
 
 use crate::WorldFault;
 use crate::doors::{Door, add, drop_at, feed, place_of};
+use crate::spares::Spares;
 use crate::stepping::{WorldCore, swept, take_given};
-use px_block::Fresh;
 use px_core::{Effect, Effects};
 use px_types::{ConnId, Mem};
 use std::alloc::Global;
@@ -56,13 +56,13 @@ fn hear(
     conn: ConnId,
     place: usize,
     bytes: &[u8],
+    spares: &mut Spares,
 ) -> Mem<Effects>
     requires { position (is_door conn) doors.old ≡ Some place }
     ensures done { IfOk result (λ effects. (w : World) → Open doors.old w.links → AreDistinct w.links → Does core.old.state core.new.state doors.new w (Bytes conn bytes.now) effects) }
     ensures kept { OnOk result ((mixers : List Mixer) → AreKept core.old.state mixers → AreKept core.new.state mixers) }
 {
-    let mut blocks = Fresh::new(alloc);
-    let given = feed(doors, place, bytes, &mut blocks);
+    let given = feed(doors, place, bytes, spares);
     let first = take_given(core, alloc, conn, given)?;
     let effects = swept(core, first)?;
     Ok(effects)
@@ -75,6 +75,7 @@ pub(crate) fn bytes(
     alloc: Global,
     conn: ConnId,
     bytes: &[u8],
+    spares: &mut Spares,
 ) -> Result<Effects, WorldFault>
     ensures done { (w : World) → Open doors.old w.links → AreDistinct w.links → Answered result (Does core.old.state core.new.state doors.new w (Bytes conn bytes.now)) (IsRefused w (Bytes conn bytes.now)) }
     ensures stays { Answered result (λ _. Unit {0}) (λ _. (core.new.state ≡ core.old.state) × (doors.new ≡ doors.old)) }
@@ -82,7 +83,7 @@ pub(crate) fn bytes(
 {
     match place_of(doors, conn) {
         None => Err(WorldFault::NotLive),
-        Some(place) => Ok(hear(core, doors, alloc, conn, place, bytes)?),
+        Some(place) => Ok(hear(core, doors, alloc, conn, place, bytes, spares)?),
     }
 }
 

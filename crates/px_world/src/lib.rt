@@ -13,6 +13,7 @@ mod parcel;
 mod playing;
 mod run;
 mod sinks;
+mod spares;
 mod stepping;
 mod world;
 

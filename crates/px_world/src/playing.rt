@@ -16,7 +16,7 @@ ghost use Rattle.px_world.specs.World.{new_mixer};
 ghost use Rattle.px_world.specs.Playing.{mixer_of, IsPlaying};
 ghost use Rattle.px_world.specs.Doing.{told_to_fail};
 
-use px_block::Fresh;
+use crate::spares::Spares;
 use px_ends::{DeviceShape, MemDevice, Played};
 use px_kernel::Steps;
 use px_lane::{Lane, LaneFault, MsgList, NoticeList, Turned};
@@ -60,7 +60,7 @@ fn counted<T: Ledger>(
     lane: &mut Lane<MemDevice>,
     messages: &mut MsgList,
     notices: &mut NoticeList,
-    blocks: &mut Fresh,
+    blocks: &mut Spares,
 ) -> Result<Turned, LaneFault>
     requires name { blank.name ≡ T.name }
     requires parts { blank.parts ≡ T.parts }
@@ -101,7 +101,7 @@ impl Playing {
         alloc: Global,
         frames: u32,
         messages: &mut MsgList,
-        blocks: &mut Fresh,
+        blocks: &mut Spares,
     ) -> Mem<Sound>
         requires kept { IsKeptSink self.old.lane.sink }
         requires playing { IsPlaying self.old }

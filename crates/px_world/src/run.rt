@@ -12,6 +12,7 @@ use crate::connections::{bytes, close, connect, cut};
 use crate::doors::Door;
 use crate::playing::Playing;
 use crate::sinks::{collect, silence, turn};
+use crate::spares::Spares;
 use crate::stepping::WorldCore;
 use crate::{Outcome, WorldFault};
 use px_core::Effects;
@@ -37,6 +38,7 @@ pub(crate) fn run(
     core: &mut WorldCore,
     doors: &mut Vec<Door>,
     mixers: &mut Vec<Playing>,
+    spares: &mut Spares,
     alloc: Global,
     e: Event,
 ) -> Result<Outcome, WorldFault>
@@ -50,10 +52,13 @@ pub(crate) fn run(
 {
     match e {
         Event::Connect(conn) => silent(alloc, connect(core, doors, alloc, conn)),
-        Event::Bytes(conn, text) => silent(alloc, bytes(core, doors, alloc, conn, text.as_slice())),
+        Event::Bytes(conn, text) => silent(
+            alloc,
+            bytes(core, doors, alloc, conn, text.as_slice(), spares),
+        ),
         Event::Close(conn) => silent(alloc, close(core, doors, alloc, conn)),
         Event::Cut(conn) => silent(alloc, cut(core, doors, alloc, conn)),
-        Event::Turn { sink, frames, take } => turn(core, mixers, alloc, sink, frames, take),
+        Event::Turn { sink, frames, take } => turn(core, mixers, alloc, sink, frames, take, spares),
         Event::Collect { sink, take } => collect(core, mixers, alloc, sink, take),
     }
 }

@@ -17,9 +17,9 @@ ghost use Rattle.px_world.specs.Keeping.{AreKept};
 ghost use Rattle.px_world.specs.Doing.{Answered, IsRefused, Plays};
 
 use crate::playing::Playing;
+use crate::spares::Spares;
 use crate::stepping::{WorldCore, swept, take_messages, take_notices};
 use crate::{Outcome, WorldFault};
-use px_block::Fresh;
 use px_core::Effects;
 use px_ends::Played;
 use px_lane::{MsgList, NoticeList};
@@ -134,6 +134,7 @@ fn turn_of(
     sink: SinkId,
     frames: u32,
     count: u32,
+    spares: &mut Spares,
 ) -> Mem<Outcome>
     requires kept { IsKeptSink playing.old.lane.sink }
     requires playing { IsPlaying playing.old }
@@ -150,8 +151,7 @@ fn turn_of(
 {
     let mut messages = MsgList::new(alloc);
     take_messages(core, sink, count, &mut messages)?;
-    let mut blocks = Fresh::new(alloc);
-    let sound = playing.turn(alloc, frames, &mut messages, &mut blocks)?;
+    let sound = playing.turn(alloc, frames, &mut messages, spares)?;
     let none = Effects::new(alloc);
     let effects = swept(core, none)?;
     Ok(Outcome {
@@ -169,6 +169,7 @@ pub(crate) fn turn(
     sink: u8,
     frames: u32,
     count: u32,
+    spares: &mut Spares,
 ) -> Result<Outcome, WorldFault>
     requires kept { AreKept core.old.state (map mixer_of mixers.old) }
     requires playing { AllByRecursion IsPlaying mixers.old }
@@ -186,7 +187,15 @@ pub(crate) fn turn(
     match turn_fault(&mixers[place], frames, count, waiting) {
         Some(fault) => Err(fault),
         None => {
-            let outcome = turn_of(core, &mut mixers[place], alloc, SinkId(sink), frames, count)?;
+            let outcome = turn_of(
+                core,
+                &mut mixers[place],
+                alloc,
+                SinkId(sink),
+                frames,
+                count,
+                spares,
+            )?;
             Ok(outcome)
         }
     }

@@ -21,6 +21,7 @@ ghost use Rattle.px_world.specs.declared.fault.WorldFault.TheVariants.{NoMemory}
 use crate::doors::Door;
 use crate::playing::Playing;
 use crate::run::run;
+use crate::spares::Spares;
 use crate::stepping::WorldCore;
 use crate::{Frames, Outcome, WorldFault};
 use px_core::Core;
@@ -36,6 +37,8 @@ pub struct World {
     core: WorldCore,
     doors: Vec<Door>,
     mixers: Vec<Playing>,
+    // those that streams are done with, for what clients send
+    spares: Spares,
     // There was no memory for an event: what was under way is lost.
     lost: bool,
 }
@@ -89,10 +92,12 @@ impl World {
         let core = Core::new(alloc, header)?;
         let mixers = new_mixers(alloc, header.sinks.as_slice())?;
         let doors = Vec::new(alloc);
+        let spares = Spares::new(alloc)?;
         Ok(World {
             core,
             doors,
             mixers,
+            spares,
             lost: false,
         })
     }
@@ -108,7 +113,14 @@ impl World {
         if self.lost {
             return Err(WorldFault::NoMemory);
         }
-        match run(&mut self.core, &mut self.doors, &mut self.mixers, alloc, e) {
+        match run(
+            &mut self.core,
+            &mut self.doors,
+            &mut self.mixers,
+            &mut self.spares,
+            alloc,
+            e,
+        ) {
             Ok(outcome) => Ok(outcome),
             Err(fault) => {
                 self.lost = is_want(fault);

@@ -1,0 +1,57 @@
+//! Blocks that were used, which wait to be used again.
+
+ghost use Rattle.std.specs.Prelude.{None};
+
+use px_block::{Block, BlockSource};
+use px_types::Mem;
+use std::alloc::Global;
+
+// How many wait at the most: a block for each stream that a sink can have.
+const MOST: usize = 256;
+
+/// Used blocks that wait to be used again (PulseAudio: the free list of a `pa_mempool`), at most 256 of them. A block that is taken is one of
+/// these, emptied, or a new one where none waits; one that comes back is kept, or dropped where so many wait. It doesn't tell how many came
+/// back.
+#[derive(Drop)]
+pub(crate) struct Spares {
+    alloc: Global,
+    blocks: Vec<Block>,
+}
+
+impl Spares {
+    /// No blocks. Takes the memory for their places, and not for the blocks.
+    pub(crate) fn new(alloc: Global) -> Mem<Spares> {
+        Ok(Spares {
+            alloc,
+            blocks: Vec::with_capacity(alloc, MOST)?,
+        })
+    }
+}
+
+impl BlockSource for Spares {
+    ghost given = { λ _. None };
+
+    fn take(&mut self) -> px_block::Mem<Block> {
+        let Some(mut block) = self.blocks.pop() else {
+            return Block::new(self.alloc);
+        };
+        block.clear();
+        block.open()?;
+        Ok(block)
+    }
+
+    fn take_for(&mut self, bytes: usize) -> px_block::Mem<Block> {
+        let Some(mut block) = self.blocks.pop() else {
+            return Block::with_room(self.alloc, bytes);
+        };
+        block.clear();
+        block.reserve(bytes)?;
+        Ok(block)
+    }
+
+    fn give(&mut self, block: Block) {
+        if self.blocks.len() < self.blocks.capacity() {
+            self.blocks.push_reserved(block);
+        }
+    }
+}
