@@ -211,6 +211,21 @@ where
             lone.push_front_reserved(one);
         }
     }
+
+    // Joins all workers, those of the clients first. What is left is the call's own hold of the core, with all shares.
+    fn joined(mut self, lone: &mut VecDeque<Lone<D, E>>) -> Worker<R, C, L>
+        requires parts { self.worker.seat.parts + length self.sinks.items + length self.clients.items ≡ 65552 }
+        requires room { length self.sinks.items + length lone.old.items ≤ deque_capacity lone.old }
+        ensures seats { result.seat.parts ≡ 65552 }
+        ensures starts { map start_of lone.new.items ≡ map start_of (self.sinks.items ++ lone.old.items) }
+        ensures boxes { map boxes_in lone.new.items ≡ map boxes_in (self.sinks.items ++ lone.old.items) }
+        ensures tapes { map tapes_in lone.new.items ≡ map tapes_in (self.sinks.items ++ lone.old.items) }
+    {
+        self.join_clients();
+        self.worker.finish();
+        self.join_sinks(lone);
+        self.worker
+    }
 }
 
 // All that workers do, from their start to their end. What is left is the call's own hold of the core, with all shares, and why it stopped.
@@ -248,10 +263,7 @@ where
         next: 0,
     };
     let stop = serving.work(host, lone);
-    serving.join_clients();
-    serving.worker.finish();
-    serving.join_sinks(lone);
-    (serving.worker, stop)
+    (serving.joined(lone), stop)
 }
 
 // What a call hands back that stopped so and whose workers have ended.
