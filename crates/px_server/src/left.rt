@@ -3,13 +3,15 @@ ghost use Rattle.std.specs.Prelude.{◌≡◌, ◌+◌, ◌≤◌, ◌<◌, ◌+
 ghost use Rattle.px_annals.specs.declared.entry.CoreEntry.{CoreEntry as Entry};
 ghost use Rattle.px_annals.specs.declared.stream.PlainStream.{PlainStream};
 ghost use Rattle.px_state.specs.State.{State};
+ghost use Rattle.px_session.specs.declared.header.SinkSpec.{SinkSpec};
 ghost use Rattle.px_core_cell.specs.Boxes.{boxes_of};
+ghost use Rattle.px_core_cell.specs.Cause.{IsCaused};
 ghost use Rattle.px_core_cell.specs.Cell.{ends_of};
 ghost use Rattle.px_core_cell.specs.History.{IsTold};
 ghost use Rattle.px_lane_cell.specs.History.{unturned};
 ghost use Rattle.px_server.specs.declared.sink_work.Met.{Met as Seen};
 ghost use Rattle.px_server.specs.Delivered.{IsDelivered};
-ghost use Rattle.px_server.specs.Parts.{worked, unworked, start_at, IsPart, AreParts, AreTold};
+ghost use Rattle.px_server.specs.Parts.{worked, unworked, start_at, start_of, starts_of, IsPart, AreParts, AreTold};
 ghost use Rattle.px_server.specs.Serving.{first_met};
 ghost use Rattle.px_server.specs.Taped.{AreTaping, AreCounted};
 ghost use Rattle.px_server.specs.Working.{IsHonest, boxes_at, boxes_in};
@@ -18,13 +20,15 @@ ghost use Rattle.px_tape.specs.Tape.{Turns, total};
 use crate::lone::Lone;
 use crate::served::LanePart;
 use crate::sink_work::status_of_met;
-use px_annals::{LaneEntry, Recorder};
-use px_core_cell::{CoreEnd, CoreEnds};
+use px_annals::{CoreEntry, LaneEntry, RecordFault, Recorder};
+use px_core_cell::{CoreEnd, CoreEnds, CoreParts, Seats};
+use px_desk::Worker;
 use px_ends::Device;
 use px_lane_cell::{LaneCell, LaneCellParts, LaneEnds, LanePasses};
 use px_tape::SinkTurns;
 use px_types::{SinkId, Status};
 use std::collections::VecDeque;
+use std::sync::Wait;
 
 // What is left of a sink, where there is no core.
 fn part_of<D: Device + Drop, E: Recorder<LaneEntry> + Drop>(lone: Lone<D, E>) -> LanePart<D, E>
@@ -95,9 +99,9 @@ fn keep_turns(turns: &mut Vec<SinkTurns>, made: Option<SinkTurns>)
     }
 }
 
-/// What is left of the sinks without workers, whose mailboxes are closed with the core's ends of them, and the first status that one of their
-/// workers met. The turns that they made for a tape are kept. Takes no memory.
-pub(crate) fn close_all<D: Device + Drop, E: Recorder<LaneEntry> + Drop>(
+// What is left of the sinks without workers, whose mailboxes are closed with the core's ends of them, and the first status that one of their
+// workers met. The turns that they made for a tape are kept. Takes no memory.
+fn close_all<D: Device + Drop, E: Recorder<LaneEntry> + Drop>(
     lone: &mut VecDeque<Lone<D, E>>,
     ends: CoreEnds,
     lanes: &mut Vec<LanePart<D, E>>,
@@ -132,4 +136,46 @@ pub(crate) fn close_all<D: Device + Drop, E: Recorder<LaneEntry> + Drop>(
         lanes.push(closed(sink, cell, end)).unwrap();
     }
     first
+}
+
+/// What lay under the core's lock besides its ends of the mailboxes, and what the sinks' workers met first.
+#[derive(Drop)]
+pub(crate) struct CoreLeft<C> {
+    pub recorder: C,
+    pub fault: Option<RecordFault>,
+    pub met: Option<Status>,
+}
+
+/// What is left of the core, and of the sinks without workers (`close_all`), by a worker with all shares. Takes no memory.
+pub(crate) fn close_with<R, D, E, C, L>(
+    worker: Worker<R, C, L>,
+    lone: &mut VecDeque<Lone<D, E>>,
+    lanes: &mut Vec<LanePart<D, E>>,
+    turns: &mut Vec<SinkTurns>,
+) -> CoreLeft<C>
+where
+    R: Wait + Copy + Drop,
+    D: Device + Drop,
+    E: Recorder<LaneEntry> + Drop,
+    C: Recorder<CoreEntry> + Drop,
+    L: Seats,
+    requires seats { worker.seat.parts ≡ L.all }
+    requires sinks { (sinks : List SinkSpec) × (map start_of lone.old.items ≡ starts_of sinks) }
+    requires boxes { map boxes_in lone.old.items ≡ L.boxes }
+    requires none { lanes.old.items ≡ [] }
+    requires room { length lone.old.items ≤ vec_capacity lanes.old }
+    requires no_turns { turns.old.items ≡ [] }
+    requires turns_room { length lone.old.items ≤ vec_capacity turns.old }
+    ensures turns { AreTaping lone.old.items → AreCounted E.told lanes.new.items (total turns.new.items) }
+    ensures met { result.met ≡ first_met (map unworked lone.old.items) }
+    ensures parts { AreParts L.began (C.told result.recorder) D.now E.told E.faults E.fulls (map unworked lone.old.items) lanes.new.items }
+    ensures caused { IsCaused result.fault (C.faults result.recorder) (C.fulls result.recorder) }
+{
+    let CoreParts { log, ends, .. } = worker.into_core();
+    let met = close_all(lone, ends, lanes, turns);
+    CoreLeft {
+        recorder: log.recorder,
+        fault: log.fault,
+        met,
+    }
 }

@@ -10,13 +10,13 @@ ghost use Rattle.px_server.specs.Working.{boxes_in, tapes_in};
 
 use crate::crew::{Client, SinkRun};
 use crate::gate::Gate;
-use crate::left::close_all;
+use crate::left::close_with;
 use crate::link_work::LinkWork;
 use crate::lone::Lone;
 use crate::served::{LanePart, Served, Stop, decided, next_link, woven};
 use crate::starting::{new_worker, start_sinks, taken_apart};
 use px_annals::{CoreEntry, LaneEntry, Recorder};
-use px_core_cell::{CoreParts, Seats};
+use px_core_cell::Seats;
 use px_desk::{CoreStop, Worker};
 use px_ends::{Device, Host, Link};
 use px_jobs::{Spawned, start};
@@ -293,13 +293,12 @@ where
 {
     let alloc = worker.alloc;
     let tape = worker.take_tape();
-    let CoreParts { log, ends, .. } = worker.into_core();
-    let met = close_all(&mut lone, ends, &mut lanes, &mut turns);
+    let core = close_with(worker, &mut lone, &mut lanes, &mut turns);
     let (tape, stop) = woven(alloc, taped, tape, turns, stop);
     Served {
-        status: decided(stop, log.fault, met),
+        status: decided(stop, core.fault, core.met),
         lanes,
-        core: Some(log.recorder),
+        core: Some(core.recorder),
         tape,
     }
 }

@@ -1,0 +1,43 @@
+use Rattle.std.proofs.Common.{◌∙◌, sym}
+use Rattle.px_core_cell.specs.Boxes.{boxes_of}
+use Rattle.px_core_cell.specs.Cell.{cell_of}
+use Rattle.px_server.specs.Parts.{AreTold}
+use Rattle.px_server.specs.Working.{boxes_in}
+use Rattle.px_server.proofs.Delivering.{all_told, same_count}
+use Rattle.px_server.proofs.Ending.{replay_told}
+use Rattle.px_server.proofs.left.close_with.Goals as goal
+
+pub close_all-met-requires-clause-boxes : goal.close_all-met-requires-clause-boxes
+close_all-met-requires-clause-boxes g c = c.requires.boxes ∙ sym c.into_core-log.ensures.boxes
+
+pub close_all-met-requires-clause-none : goal.close_all-met-requires-clause-none
+close_all-met-requires-clause-none g c = c.requires.none
+
+pub close_all-met-requires-clause-room : goal.close_all-met-requires-clause-room
+close_all-met-requires-clause-room g c = c.requires.room
+
+pub close_all-met-requires-clause-no_turns : goal.close_all-met-requires-clause-no_turns
+close_all-met-requires-clause-no_turns g c = c.requires.no_turns
+
+pub close_all-met-requires-clause-turns_room : goal.close_all-met-requires-clause-turns_room
+close_all-met-requires-clause-turns_room g c = c.requires.turns_room
+
+pub returns-clause-turns : goal.returns-clause-turns
+returns-clause-turns g c = c.close_all-met.ensures.turns
+
+pub returns-clause-met : goal.returns-clause-met
+returns-clause-met g c = c.close_all-met.ensures.met
+
+pub returns-clause-parts : goal.returns-clause-parts
+returns-clause-parts g c =
+    let lone = c.args.lone.now.items in
+    let core = c.into_core-log.result in
+    let recorded = g.C.Recorder.told core.log.recorder in
+    let boxes = c.requires.boxes ∙ sym c.into_core-log.ensures.boxes in
+    let told : AreTold g.L.Seats.began recorded lone core.ends.items =
+    all_told g.L.Seats.began recorded 0 lone core.ends.items c.requires.sinks.0 c.requires.sinks.1 (same_count boxes_in boxes_of lone core.ends.items boxes)
+    (replay_told g.L.Seats.began (cell_of core) recorded c.into_core-log.ensures.history.replay) in
+    c.close_all-met.ensures.parts g.L.Seats.began recorded told
+
+pub returns-clause-caused : goal.returns-clause-caused
+returns-clause-caused g c = c.into_core-log.ensures.caused
