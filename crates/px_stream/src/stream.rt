@@ -44,7 +44,7 @@ impl Model for Stream {
 }
 
 impl Stream {
-    /// A new stream, with nothing written and `tlength` frames asked for. It fits a sink.
+    /// A new stream, with nothing written and `tlength` frames asked for. It fits a sink. Takes the memory of what it keeps.
     pub fn new(alloc: Global, new: &NewStream) -> Mem<Stream>
         requires { (sink : SampleSpec) × IsNewStream sink (opened new.now) }
         ensures stream { IfOk result (λ s. s.stream ≡ new_stream (sample_spec new.now.spec) new.now.feed new.now.factors new.now.attr new.now.corked) }
