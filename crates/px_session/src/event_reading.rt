@@ -9,8 +9,8 @@ ghost use Rattle.px_session.specs.Seen.{place_of};
 use crate::event::{Event, Step};
 use crate::fault::{Cause, ReadError};
 use crate::place::Place;
-use px_types::{ConnId, Text};
-use std::alloc::Global;
+use crate::supply::Supply;
+use px_types::ConnId;
 
 /// The most bytes of a Bytes event.
 const MOST_BYTES: u32 = 65_536;
@@ -43,13 +43,13 @@ fn sized(kind_at: u64, size: u32, place: Place<'_>) -> Result<(&[u8], Place<'_>)
 }
 
 #[tactic(auto, unfolding(crate::specs::EventReading::data_at, crate::specs::Place::and_then))]
-fn data(alloc: Global, kind_at: u64, place: &mut Place<'_>) -> Result<Step, ReadError>
+fn data(supply: &mut Supply, kind_at: u64, place: &mut Place<'_>) -> Result<Step, ReadError>
     ensures { Reads (λ step. step) result (place_of place.new) (data_at kind_at (place_of place.old)) }
 {
     let (conn, rest) = place.word()?;
     let (size, rest) = rest.word()?;
     let (bytes, rest) = sized(kind_at, size, rest)?;
-    let bytes = Text::copied(alloc, bytes)?;
+    let bytes = supply.copied(bytes)?;
     *place = rest;
     Ok(Step::Event(Event::Bytes(ConnId(conn), bytes)))
 }
@@ -86,13 +86,18 @@ fn conn(place: &mut Place<'_>) -> Result<ConnId, ReadError>
 }
 
 #[tactic(auto, unfolding(crate::specs::EventReading::fields_at, crate::specs::EventReading::conn_at, crate::specs::Place::and_then))]
-fn fields(alloc: Global, kind_at: u64, kind: u8, place: &mut Place<'_>) -> Result<Step, ReadError>
+fn fields(
+    supply: &mut Supply,
+    kind_at: u64,
+    kind: u8,
+    place: &mut Place<'_>,
+) -> Result<Step, ReadError>
     ensures { Reads (λ step. step) result (place_of place.new) (fields_at kind_at kind (place_of place.old)) }
 {
     match kind {
         0 => end(place),
         1 => Ok(Step::Event(Event::Connect(conn(place)?))),
-        2 => data(alloc, kind_at, place),
+        2 => data(supply, kind_at, place),
         3 => Ok(Step::Event(Event::Close(conn(place)?))),
         4 => Ok(Step::Event(Event::Cut(conn(place)?))),
         5 => turn(place),
@@ -106,11 +111,11 @@ fn fields(alloc: Global, kind_at: u64, kind: u8, place: &mut Place<'_>) -> Resul
 
 /// The event or the end that stands at the place, which is then behind it.
 #[tactic(auto, unfolding(crate::specs::EventReading::event_at))]
-pub(crate) fn event(alloc: Global, place: &mut Place<'_>) -> Result<Step, ReadError>
+pub(crate) fn event(supply: &mut Supply, place: &mut Place<'_>) -> Result<Step, ReadError>
     ensures { Reads (λ step. step) result (place_of place.new) (event_at (place_of place.old)) }
 {
     let kind_at = place.at;
     let (kind, rest) = place.byte()?;
     *place = rest;
-    fields(alloc, kind_at, kind, place)
+    fields(supply, kind_at, kind, place)
 }

@@ -14,6 +14,7 @@ mod law;
 mod output;
 mod place;
 mod reader;
+mod supply;
 mod waiting;
 mod writer;
 

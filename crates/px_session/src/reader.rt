@@ -9,9 +9,10 @@ ghost use Rattle.px_session.specs.Held.{ReadCounts};
 use crate::event::Step;
 use crate::fault::ReadError;
 use crate::held::Held;
+use crate::supply::Supply;
 use crate::waiting::await_step;
 use px_ends::Source;
-use px_types::Mem;
+use px_types::{Mem, Text};
 use std::alloc::Global;
 use std::marker::Model;
 
@@ -20,7 +21,7 @@ use std::marker::Model;
 /// takes at most 64 KiB at once. Own: PulseAudio records no sessions.
 #[derive(Debug, Drop)]
 pub struct Reader {
-    alloc: Global,
+    supply: Supply,
     held: Held,
     at: u64,
     begun: bool,
@@ -43,7 +44,7 @@ impl Reader {
         ensures { IfOk result (λ reader. reader ≡ record { at = 0; ahead = []; begun = false }) }
     {
         Ok(Reader {
-            alloc,
+            supply: Supply::new(alloc),
             held: Held::new(alloc)?,
             at: 0,
             begun: false,
@@ -57,6 +58,14 @@ impl Reader {
         self.at
     }
 
+    /// Takes back the bytes of an event that are done with, so that the next event's bytes may have their memory. One text is
+    /// kept: the last that came. Takes no memory.
+    pub fn reuse(&mut self, text: Text)
+        ensures { self.new ≡ self.old }
+    {
+        self.supply.keep(text);
+    }
+
     // What stands next in the bytes that it took from the source.
     fn advance<S: Source>(&mut self, input: &mut S) -> Result<Step, ReadError>
         ensures takes { Takes result self.old self.new (S.left input.old) (S.left input.new) }
@@ -64,7 +73,7 @@ impl Reader {
         ensures forward { OnOk result ((self.old.at < self.new.at) × (self.new.at ≤ 2 ^ 40)) }
         ensures counts { ReadCounts result (S.faults input.old) (S.faults input.new) }
     {
-        let found = await_step(self.alloc, self.begun, self.at, &mut self.held, input)?;
+        let found = await_step(&mut self.supply, self.begun, self.at, &mut self.held, input)?;
         self.held.use_front(found.used);
         self.at = found.at;
         self.begun = true;
@@ -73,7 +82,8 @@ impl Reader {
 
     /// What stands next: first the header, then events, then the end. `Refused` gives the first rule that the bytes break, and
     /// the offset. `Failed` comes only where a read of the source failed. After `End` or an `Err` it isn't called again. It
-    /// takes the memory of what it gives, and a few KiB beside its buffer where an event is longer than that.
+    /// takes the memory of what it gives, where no text that came back has room for it, and a few KiB beside its buffer where an
+    /// event is longer than that.
     pub fn next<S: Source>(&mut self, input: &mut S) -> Result<Step, ReadError>
         // Where the source tells, the answer is what stands next in all bytes ahead, whatever the pieces.
         ensures gives { Gives result self.old self.new (all_ahead self.old (S.left input.old)) (all_ahead self.new (S.left input.new)) }

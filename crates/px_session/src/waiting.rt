@@ -15,22 +15,22 @@ use crate::found::Found;
 use crate::header_reading::header;
 use crate::held::{Held, More};
 use crate::place::Place;
+use crate::supply::Supply;
 use px_ends::Source;
-use std::alloc::Global;
 
 // The header, or where it was read an event or the end.
 #[tactic(auto, unfolding(crate::specs::Session::first_at, crate::specs::Place::and_then))]
-fn step(alloc: Global, begun: bool, place: &mut Place<'_>) -> Result<Step, ReadError>
+fn step(supply: &mut Supply, begun: bool, place: &mut Place<'_>) -> Result<Step, ReadError>
     ensures { Reads (λ step. step) result (place_of place.new) (step_at begun (place_of place.old)) }
 {
     if begun {
-        event(alloc, place)
+        event(supply, place)
     } else {
-        Ok(Step::Header(header(alloc, place)?))
+        Ok(Step::Header(header(supply.alloc(), place)?))
     }
 }
 
-fn look(alloc: Global, begun: bool, at: u64, bytes: &[u8]) -> Result<Found, ReadError>
+fn look(supply: &mut Supply, begun: bool, at: u64, bytes: &[u8]) -> Result<Found, ReadError>
     requires { at ≤ 2 ^ 40 }
     ensures finds { Finds result bytes.now (step_at begun (place_at at bytes.now)) }
     ensures within { IfOk result (λ found. found.at ≤ 2 ^ 40) }
@@ -39,7 +39,7 @@ fn look(alloc: Global, begun: bool, at: u64, bytes: &[u8]) -> Result<Found, Read
     ensures never { NeverFails result }
 {
     let mut place = Place { at, rest: bytes };
-    let step = step(alloc, begun, &mut place)?;
+    let step = step(supply, begun, &mut place)?;
     Ok(Found {
         step,
         used: bytes.len() - place.rest.len(),
@@ -67,7 +67,7 @@ fn settled(read: Result<Found, ReadError>) -> Option<Result<Found, ReadError>>
 
 /// What stands next, in the bytes that are held and as many more of the source's as that takes.
 pub(crate) fn await_step<S: Source>(
-    alloc: Global,
+    supply: &mut Supply,
     begun: bool,
     at: u64,
     held: &mut Held,
@@ -81,12 +81,12 @@ pub(crate) fn await_step<S: Source>(
     ensures lawful { IfOk result (λ found. IsStep found.step) }
 {
     loop {
-        if let Some(read) = settled(look(alloc, begun, at, held.as_slice())) {
+        if let Some(read) = settled(look(supply, begun, at, held.as_slice())) {
             return read;
         }
         match held.more(input)? {
             More::Came => {}
-            More::Ended => return look(alloc, begun, at, held.as_slice()),
+            More::Ended => return look(supply, begun, at, held.as_slice()),
         }
     }
 }
