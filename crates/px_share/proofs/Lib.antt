@@ -1,4 +1,5 @@
 pub mod Exchanging
+pub mod Moving
 pub mod Putting
 pub mod Ranges
 pub mod Reading

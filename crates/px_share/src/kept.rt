@@ -1,16 +1,18 @@
 // The kept sums of a sink's mix.
-ghost use Rattle.std.specs.Prelude.{◌≡◌, ℕ, ◌+◌, ◌-◌, ◌*◌, ◌<◌, ◌≤◌, List, length, map, replicate, All, FitsSigned, IfOk, pos, slice_index, slice_index_or};
+ghost use Rattle.std.specs.Prelude.{◌≡◌, ℕ, ◌+◌, ◌-◌, ◌*◌, ◌/◌, ◌^◌, ◌<◌, ◌≤◌, ◌⊎◌, List, length, map, All, FitsSigned, IfOk, pos, slice_index_or};
 ghost use Rattle.std.specs.Int.{w32};
 ghost use Rattle.std.specs.List.{concat, range_with_len};
 ghost use Rattle.px_sample.specs.Format.{frame_size_of, IsLinear};
 ghost use Rattle.px_msg.specs.View.{sample_spec};
 ghost use Rattle.px_model.specs.Mix.{mix_of};
 ghost use Rattle.px_model.specs.Sink.{Input, streams_of};
-ghost use Rattle.px_kernel.specs.Kernel.{changed, scaled};
-ghost use Rattle.px_mixcache.specs.Cache.{KeptSums, kept_at};
+ghost use Rattle.px_model.specs.Queue.{nothing};
+ghost use Rattle.px_model.specs.Stream.{frame_at};
+ghost use Rattle.px_kernel.specs.Kernel.{changed};
+ghost use Rattle.px_mixcache.specs.Cache.{KeptSums, kept_at, part_at};
 ghost use Rattle.px_stream.specs.Samples.{samples};
-ghost use Rattle.px_stream.specs.Values.{GivesValues};
-ghost use Rattle.px_sums.specs.Kept.{IsSumOf, from_on};
+ghost use Rattle.px_stream.specs.Values.{value_at};
+ghost use Rattle.px_sums.specs.Kept.{IsSumOf};
 ghost use Rattle.px_share.specs.Keeping.{IsKept, IsAsLarge, AreSmall, Shares, AreLittle};
 
 use px_kernel::Steps;
@@ -60,7 +62,7 @@ fn silence(values: &mut [i32], from: usize, to: usize)
     }
 }
 
-// Silences the places of each run behind the first so many.
+// Silences the places of each run behind the first so many. A run that is full isn't cleared.
 fn silence_behind(values: &mut [i32], runs: usize, run: usize, given: usize)
     requires runs { length values.old ≡ run * runs }
     requires few { given ≤ run }
@@ -77,8 +79,42 @@ fn silence_behind(values: &mut [i32], runs: usize, run: usize, given: usize)
     }
 }
 
-// Gives the work values of a stream's frames from one on, so many of each run, whatever stands there: silence and nothing are 0. A run that the
-// stream fills, as most do, isn't cleared. Answers how many frames it gives.
+// Moves the first so many values of each run together, so that as many runs of these stand at the front.
+fn close_up(values: &mut [i32], runs: usize, run: usize, given: usize)
+    requires runs { length values.old ≡ run * runs }
+    requires few { given ≤ run }
+    ensures size { length values.new ≡ length values.old }
+    ensures values { (c j : ℕ) → c < runs → j < given → slice_index_or values.new (c * given + j) (pos 0) ≡ slice_index_or values.old (c * run + j) (pos 0) }
+    ensures words { All (FitsSigned w32) values.old → All (FitsSigned w32) values.new }
+{
+    for c in 1..runs {
+        let start = c * run;
+        values.copy_within(start..start + given, c * given);
+    }
+}
+
+// Makes runs of the first so many values of each run, and of nothing behind them, at the front, and answers how many places of a run are left.
+// Runs that are nearly full are left as long as they are, since to silence the rest costs less there than to move what is given.
+fn shorten(values: &mut [i32], runs: usize, run: usize, given: usize) -> usize
+    requires runs { length values.old ≡ run * runs }
+    requires few { given ≤ run }
+    ensures size { length values.new ≡ length values.old }
+    ensures left { (result ≡ given) ⊎ (result ≡ run) }
+    ensures values { (c j : ℕ) → c < runs → j < given → slice_index_or values.new (c * result + j) (pos 0) ≡ slice_index_or values.old (c * run + j) (pos 0) }
+    ensures silent { (c j : ℕ) → c < runs → given ≤ j → j < result → slice_index_or values.new (c * result + j) (pos 0) ≡ pos 0 }
+    ensures words { All (FitsSigned w32) values.old → All (FitsSigned w32) values.new }
+{
+    if given > run / 4 * 3 {
+        silence_behind(values, runs, run, given);
+        run
+    } else {
+        close_up(values, runs, run, given);
+        given
+    }
+}
+
+// Gives the work values of a stream's frames from one on, at most so many of each run, at the front, and answers how many there are of each. Silence
+// is 0, and so is nothing, which is all that the stream gives behind them.
 fn read<T: Ledger>(
     stream: &Stream,
     from: u32,
@@ -86,20 +122,24 @@ fn read<T: Ledger>(
     run: usize,
     values: &mut [i32],
     steps: &mut Steps<T>,
-) -> u32
+) -> usize
     requires runs { length values.old ≡ run * length stream.now.stream.feed }
     requires words { All (FitsSigned w32) values.old }
-    ensures values { GivesValues width stream.now.stream from run result (replicate (length values.old) (pos 0)) values.new }
+    requires near { from + run < 2 ^ 32 }
+    ensures size { length values.new ≡ length values.old }
+    ensures few { result ≤ run }
+    ensures values { (c j : ℕ) → c < length stream.now.stream.feed → j < result → slice_index_or values.new (c * result + j) (pos 0) ≡ value_at width stream.now.stream c (frame_at stream.now.stream (from + j)) }
+    ensures end { (j : ℕ) → result ≤ j → j < run → frame_at stream.now.stream (from + j) ≡ nothing }
     ensures words { All (FitsSigned w32) values.new }
-    ensures ticks { steps.new ≡ steps.old + length stream.now.stream.feed * result }
+    ensures ticks { steps.new ≤ steps.old + length stream.now.stream.feed * result }
 {
     let given = stream.frame_values(from, width, values, steps);
     let runs = stream.factors().values().len();
-    silence_behind(values, runs, run, given as usize);
-    given
+    shorten(values, runs, run, given as usize)
 }
 
-// Adds to the sums from a frame on what a stream gives there, or takes it away. The values are of as many frames.
+// Adds to the sums from a frame on what a stream gives there, or takes it away. There is room for the values of as many frames; where the stream
+// gives none, nothing is added.
 fn change<T: Ledger>(
     cache: &mut MixCache,
     values: &mut [i32],
@@ -125,10 +165,11 @@ fn change<T: Ledger>(
     ensures little { AreLittle sink.now stream.now.stream from cache.old.frames }
     ensures ticks { steps.new ≤ steps.old + 2 * (sink.now.channels * frames) }
 {
-    read(stream, from, sink.format.width(), frames, values, steps);
+    let given = read(stream, from, sink.format.width(), frames, values, steps);
+    let places = sink.channels as usize * given;
     put(
         cache,
-        values,
+        &values[..places],
         stream.factors(),
         stream.factors().values(),
         from,
@@ -148,15 +189,14 @@ fn put<T: Ledger>(
     steps: &mut Steps<T>,
 )
     requires same { numbers.now ≡ factors.now }
-    requires some { 1 ≤ length cache.old.runs }
     requires channels { length factors.now ≡ length cache.old.runs }
-    requires from { from ≤ cache.old.frames }
-    requires size { length values.now ≡ length cache.old.runs * (cache.old.frames - from) }
+    requires whole { length values.now ≡ length cache.old.runs * (length values.now / length cache.old.runs) }
+    requires inside { from + length values.now / length cache.old.runs ≤ cache.old.frames }
     requires words { All (FitsSigned w32) values.now }
     requires room { AreSmall 258 cache.old }
     ensures large { IsAsLarge cache.old cache.new }
-    ensures sums { (c k : ℕ) → c < length cache.old.runs → k < cache.old.frames → kept_at cache.new c k ≡ changed add (kept_at cache.old c k) (from_on from k (scaled (slice_index_or values.now (c * (cache.old.frames - from) + (k - from)) (pos 0)) (slice_index factors.now c))) }
-    ensures little { (c k : ℕ) → c < length cache.old.runs → from ≤ k → k < cache.old.frames → IsSumOf 1 (scaled (slice_index_or values.now (c * (cache.old.frames - from) + (k - from)) (pos 0)) (slice_index factors.now c)) }
+    ensures sums { (c k : ℕ) → c < length cache.old.runs → k < cache.old.frames → kept_at cache.new c k ≡ changed add (kept_at cache.old c k) (part_at from (length values.now / length cache.old.runs) values.now factors.now c k) }
+    ensures little { (c k : ℕ) → c < length cache.old.runs → IsSumOf 1 (part_at from (length values.now / length cache.old.runs) values.now factors.now c k) }
     ensures ticks { steps.new ≡ steps.old + length values.now }
 {
     cache.change(from, values, factors, add, steps);
