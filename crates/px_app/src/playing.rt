@@ -181,6 +181,15 @@ impl Playing {
         }
     }
 
+    // Gives the reader the text of an event back whose bytes the world is done with.
+    fn hand_back(&mut self)
+        ensures { self.new ≡ self.old }
+    {
+        if let Some(text) = self.world.used_text() {
+            self.reader.reuse(text);
+        }
+    }
+
     // Writes what waits, where the replay ends so.
     fn finish<K: Sink>(&mut self, ended: Ending, output: &mut K) -> Ending
         ensures played { (shown : Shown) (first : Ends) (left : Option (List ℕ)) (read written : ℕ)
@@ -210,6 +219,7 @@ impl Playing {
             if let Err(ended) = self.step(alloc, input) {
                 return self.finish(ended, output);
             }
+            self.hand_back();
             if self.pieces.is_piece() && self.pieces.flush(output).is_err() {
                 return Ending::WriteFault;
             }

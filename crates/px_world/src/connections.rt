@@ -16,7 +16,7 @@ use crate::doors::{Door, add, drop_at, feed, place_of};
 use crate::spares::Spares;
 use crate::stepping::{WorldCore, swept, take_given};
 use px_core::{Effect, Effects};
-use px_types::{ConnId, Mem};
+use px_types::{ConnId, Mem, Text};
 use std::alloc::Global;
 
 // A client connects whose number isn't named.
@@ -68,8 +68,8 @@ fn hear(
     Ok(effects)
 }
 
-/// Bytes come from a client.
-pub(crate) fn bytes(
+// Bytes come from a client, if it is named.
+fn receive(
     core: &mut WorldCore,
     doors: &mut [Door],
     alloc: Global,
@@ -85,6 +85,24 @@ pub(crate) fn bytes(
         None => Err(WorldFault::NotLive),
         Some(place) => Ok(hear(core, doors, alloc, conn, place, bytes, spares)?),
     }
+}
+
+/// Bytes come from a client. The text that has them then waits to be used again.
+pub(crate) fn bytes(
+    core: &mut WorldCore,
+    doors: &mut [Door],
+    alloc: Global,
+    conn: ConnId,
+    text: Text,
+    spares: &mut Spares,
+) -> Result<Effects, WorldFault>
+    ensures done { (w : World) → Open doors.old w.links → AreDistinct w.links → Answered result (Does core.old.state core.new.state doors.new w (Bytes conn text)) (IsRefused w (Bytes conn text)) }
+    ensures stays { Answered result (λ _. Unit {0}) (λ _. (core.new.state ≡ core.old.state) × (doors.new ≡ doors.old)) }
+    ensures kept { OnOk result ((mixers : List Mixer) → AreKept core.old.state mixers → AreKept core.new.state mixers) }
+{
+    let done = receive(core, doors, alloc, conn, text.as_slice(), spares);
+    spares.keep_text(text);
+    done
 }
 
 // The client behind the door at a place has closed its connection.

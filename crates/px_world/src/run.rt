@@ -52,10 +52,7 @@ pub(crate) fn run(
 {
     match e {
         Event::Connect(conn) => silent(alloc, connect(core, doors, alloc, conn)),
-        Event::Bytes(conn, text) => silent(
-            alloc,
-            bytes(core, doors, alloc, conn, text.as_slice(), spares),
-        ),
+        Event::Bytes(conn, text) => silent(alloc, bytes(core, doors, alloc, conn, text, spares)),
         Event::Close(conn) => silent(alloc, close(core, doors, alloc, conn)),
         Event::Cut(conn) => silent(alloc, cut(core, doors, alloc, conn)),
         Event::Turn { sink, frames, take } => turn(core, mixers, alloc, sink, frames, take, spares),

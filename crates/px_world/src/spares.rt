@@ -1,9 +1,9 @@
-//! Blocks that were used, which wait to be used again.
+//! Blocks that were used, and a text, which wait to be used again.
 
-ghost use Rattle.std.specs.Prelude.{None};
+ghost use Rattle.std.specs.Prelude.{◌≡◌, Some, None};
 
 use px_block::{Block, BlockSource};
-use px_types::Mem;
+use px_types::{Mem, Text};
 use std::alloc::Global;
 
 // How many wait at the most: a block for each stream that a sink can have.
@@ -11,11 +11,12 @@ const MOST: usize = 256;
 
 /// Used blocks that wait to be used again (PulseAudio: the free list of a `pa_mempool`), at most 256 of them. A block that is taken is one of
 /// these, emptied, or a new one where none waits; one that comes back is kept, or dropped where so many wait. It doesn't tell how many came
-/// back.
+/// back. Beside them waits the text of the last bytes of a client, for who reads the session.
 #[derive(Drop)]
 pub(crate) struct Spares {
     alloc: Global,
     blocks: Vec<Block>,
+    text: Option<Text>,
 }
 
 impl Spares {
@@ -24,7 +25,22 @@ impl Spares {
         Ok(Spares {
             alloc,
             blocks: Vec::with_capacity(alloc, MOST)?,
+            text: None,
         })
+    }
+
+    /// Keeps a text whose bytes are done with, in place of one that it kept before. Takes no memory.
+    pub(crate) fn keep_text(&mut self, text: Text)
+        ensures { self.new.text ≡ Some text }
+    {
+        self.text = Some(text);
+    }
+
+    /// The text that it keeps, if there is one. Takes no memory.
+    pub(crate) fn take_text(&mut self) -> Option<Text>
+        ensures { result ≡ self.old.text }
+    {
+        self.text.take()
     }
 }
 

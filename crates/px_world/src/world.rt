@@ -26,7 +26,7 @@ use crate::stepping::WorldCore;
 use crate::{Frames, Outcome, WorldFault};
 use px_core::Core;
 use px_session::{Event, Header, SinkSpec};
-use px_types::{Mem, SinkId};
+use px_types::{Mem, SinkId, Text};
 use std::alloc::Global;
 use std::marker::Model;
 
@@ -127,6 +127,14 @@ impl World {
                 Err(fault)
             }
         }
+    }
+
+    /// The text of the last event that had bytes, whose bytes are done with: it can have those of another. `None` where there was no
+    /// such event since it was taken. Takes no memory.
+    pub fn used_text(&mut self) -> Option<Text>
+        ensures { self.new ≡ self.old }
+    {
+        self.spares.take_text()
     }
 
     /// How far the sink with an index is, if it is there. Takes no memory.

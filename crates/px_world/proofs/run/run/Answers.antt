@@ -1,4 +1,4 @@
-use Rattle.std.proofs.Common.{◌≡◌, List, ℕ, length, map, refl, ap, sym, subst, ◌∙◌, arith}
+use Rattle.std.proofs.Common.{◌≡◌, List, length, map, refl, ap, sym, subst, ◌∙◌, arith}
 use Rattle.std.specs.Vec.{with_items}
 use Rattle.std.proofs.lemmas.List.{with_items_is}
 use Rattle.px_session.specs.declared.event.Event.{Event}
@@ -20,14 +20,12 @@ returns-in-Connect-clause-done c = λ w s.
 pub returns-in-Bytes-clause-done : goal.returns-in-Bytes-clause-done
 returns-in-Bytes-clause-done c = λ w s.
     let whole : length c.bytes.new.doors ≡ c.args.doors.now.len = search (arith, c.bytes.auto.doors, c.deref_mut.ensures.len, c.deref_mut.ensures.value) in
-    let same : c.as_slice.result.now ≡ c.in-Bytes.text = search (c.as_slice.ensures) in
     subst (λ (e : Event). Answered c.silent-in-Bytes.result (Runs (running_of c.bytes.new.core.state (with_items c.args.doors.now c.bytes.new.doors).items c.args.mixers.now.items) w e) (IsRefused w e)) (sym c.in-Bytes.is)
     (runs-connection (running_of c.args.core.now.state c.args.doors.now.items c.args.mixers.now.items)
     (running_of c.bytes.new.core.state (with_items c.args.doors.now c.bytes.new.doors).items c.args.mixers.now.items)
     w (Bytes c.in-Bytes.conn c.in-Bytes.text) s c.bytes.result c.silent-in-Bytes.result c.silent-in-Bytes.ensures
     (subst (λ (ds : List Door). Answered c.bytes.result (Does c.args.core.now.state c.bytes.new.core.state ds w (Bytes c.in-Bytes.conn c.in-Bytes.text)) (IsRefused w (Bytes c.in-Bytes.conn c.in-Bytes.text))) (sym (with_items_is c.args.doors.now c.bytes.new.doors whole))
-    (subst (λ (t : List ℕ). Answered c.bytes.result (Does c.args.core.now.state c.bytes.new.core.state c.bytes.new.doors w (Bytes c.in-Bytes.conn t)) (IsRefused w (Bytes c.in-Bytes.conn t))) same
-    (c.bytes.ensures.done w (subst (λ (ds : List Door). Open ds w.links) (sym c.deref_mut.ensures.value) s.doors) s.distinct)))
+    (c.bytes.ensures.done w (subst (λ (ds : List Door). Open ds w.links) (sym c.deref_mut.ensures.value) s.doors) s.distinct))
     refl refl refl)
 
 pub returns-in-Close-clause-done : goal.returns-in-Close-clause-done
