@@ -148,7 +148,7 @@ fn put_first<B: BlockSource>(blocks: &mut Vec<Block>, source: &mut B, bytes: &[u
     ensures ok { OnOk result (contents blocks.new.items ≡ bytes.now ∷ []) }
     ensures err { OnErr result (contents blocks.new.items ≡ contents blocks.old.items) }
 {
-    blocks.reserve(1)?;
+    blocks.reserve_exact(1)?;
     let mut block = source.take_for(bytes.len())?;
     block.put(bytes);
     blocks.push_reserved(block);

@@ -63,7 +63,7 @@ fn add_settled(
     Ok(())
 }
 
-// The factors of the inputs that are settled on a sink with this group.
+// The factors of the inputs that are settled on a sink with this group, and room for one more.
 fn settled_factors(
     alloc: Global,
     sink: SinkId,
@@ -74,7 +74,7 @@ fn settled_factors(
     requires { real.now ≡ real_of group.now }
     ensures { IfOk result (λ list. list.items ≡ factor_list group.now (settled_on inputs.now sink)) }
 {
-    let mut list = Vec::new(alloc);
+    let mut list = Vec::with_capacity(alloc, inputs.len().saturating_add(1))?;
     for input in inputs {
         add_settled(&mut list, sink, group, real, input)?;
     }
@@ -119,7 +119,7 @@ fn settled_factors_with(
     requires { real.now ≡ real_of group.now }
     ensures { IfOk result (λ list. list.items ≡ factor_list group.now (settled_with inputs.now sink index)) }
 {
-    let mut list = Vec::new(alloc);
+    let mut list = Vec::with_capacity(alloc, inputs.len())?;
     for input in inputs {
         add_settled_with(&mut list, sink, index, group, real, input)?;
     }
