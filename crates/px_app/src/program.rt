@@ -130,6 +130,7 @@ where
     L: Sink,
     H: Host,
     H::L: 'static,
+    H::O: 'static,
     H::D: 'static,
     H::R: 'static,
     H::C: 'static,

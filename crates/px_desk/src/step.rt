@@ -6,8 +6,10 @@ ghost use Rattle.px_desk.specs.Taped.{AreEventsOf};
 ghost use Rattle.px_tape.specs.Tape.{turns_in};
 
 use crate::desk::Desk;
+use crate::lines::Lines;
 use px_annals::{CoreEntry, Recorder};
 use px_core_cell::{CoreSeat, CoreStep, Seats, StepFault};
+use px_ends::Outlet;
 use px_tape::Events;
 use px_types::Mem;
 use std::alloc::Global;
@@ -32,12 +34,23 @@ fn events_of(alloc: Global, step: &CoreStep) -> Mem<Events>
     }
 }
 
-/// Makes a step, and puts what it does to the outside into the clients' lines. The lines are locked meanwhile, so that they have the
-/// packets in the order of the steps. Whether there was something to do.
-pub(crate) fn step_lined<W: Wait, C: Recorder<CoreEntry> + Drop, L: Seats>(
+/// What became of a step.
+#[derive(Clone, Copy, Debug, PartialEq, Eq)]
+pub(crate) enum Stepped {
+    /// It was done.
+    Done,
+    /// It was done, and the sweep that it owed behind it.
+    Swept,
+    /// There was nothing to do.
+    Nothing,
+}
+
+// Makes a step, and puts what it does to the outside behind what waits in the clients' lines. Whether there was something to do.
+fn step_in<W: Wait, C: Recorder<CoreEntry> + Drop, L: Seats, O: Outlet + Drop>(
     rt: &W,
     alloc: Global,
-    desk: &Desk<C, L>,
+    desk: &Desk<C, L, O>,
+    lines: &mut Lines<O>,
     step: CoreStep,
     seat: &mut CoreSeat<L>,
 ) -> Result<bool, StepFault>
@@ -45,9 +58,11 @@ pub(crate) fn step_lined<W: Wait, C: Recorder<CoreEntry> + Drop, L: Seats>(
     ensures seat { seat.new.parts ≡ seat.old.parts }
     ensures back { HandsBack step result }
 {
-    let mut lines = desk.lines.lock(rt);
     match desk.core.step(rt, alloc, step, seat)? {
         Some(effects) => {
+            if !effects.as_slice().is_empty() {
+                desk.waiting.store(true, Ordering::SeqCst);
+            }
             if !lines.put(effects) {
                 desk.short.store(true, Ordering::SeqCst);
             }
@@ -57,14 +72,60 @@ pub(crate) fn step_lined<W: Wait, C: Recorder<CoreEntry> + Drop, L: Seats>(
     }
 }
 
-/// Makes a step, whose events go onto the tape where it was done. The tape is locked meanwhile, and has room for them before.
-pub(crate) fn step_taped<W: Wait, C: Recorder<CoreEntry> + Drop, L: Seats>(
+// Makes the sweep that a step owes. Where that can't be, it is owed still.
+fn sweep_in<W: Wait, C: Recorder<CoreEntry> + Drop, L: Seats, O: Outlet + Drop>(
     rt: &W,
     alloc: Global,
-    desk: &Desk<C, L>,
+    desk: &Desk<C, L, O>,
+    lines: &mut Lines<O>,
+    seat: &mut CoreSeat<L>,
+) -> Stepped
+    ensures seat { seat.new.parts ≡ seat.old.parts }
+{
+    match step_in(rt, alloc, desk, lines, CoreStep::Sweep, seat) {
+        Ok(_) => Stepped::Swept,
+        Err(_) => Stepped::Done,
+    }
+}
+
+/// Makes a step, and what it does to the outside comes into the clients' lines; so does what the sweep does that it owes. The lines are locked
+/// meanwhile, so that they have the packets in the order of the steps.
+pub(crate) fn step_lined<W: Wait, C: Recorder<CoreEntry> + Drop, L: Seats, O: Outlet + Drop>(
+    rt: &W,
+    alloc: Global,
+    desk: &Desk<C, L, O>,
     step: CoreStep,
     seat: &mut CoreSeat<L>,
-) -> Result<bool, StepFault>
+) -> Result<Stepped, StepFault>
+    requires lawful { IsAsked step }
+    ensures seat { seat.new.parts ≡ seat.old.parts }
+    ensures back { HandsBack step result }
+{
+    let owes = owes_sweep(&step);
+    let mut lines = desk.lines.lock(rt);
+    if !step_in(rt, alloc, desk, &mut lines, step, seat)? {
+        return Ok(Stepped::Nothing);
+    }
+    if owes {
+        Ok(sweep_in(rt, alloc, desk, &mut lines, seat))
+    } else {
+        Ok(Stepped::Done)
+    }
+}
+
+// Whether a sweep is owed behind a step.
+fn owes_sweep(step: &CoreStep) -> bool {
+    !matches!(step, CoreStep::Sweep | CoreStep::Out(_))
+}
+
+/// Makes a step, whose events go onto the tape where it was done. The tape is locked meanwhile, and has room for them before.
+pub(crate) fn step_taped<W: Wait, C: Recorder<CoreEntry> + Drop, L: Seats, O: Outlet + Drop>(
+    rt: &W,
+    alloc: Global,
+    desk: &Desk<C, L, O>,
+    step: CoreStep,
+    seat: &mut CoreSeat<L>,
+) -> Result<Stepped, StepFault>
     requires lawful { IsAsked step }
     ensures seat { seat.new.parts ≡ seat.old.parts }
     ensures back { HandsBack step result }
@@ -72,9 +133,9 @@ pub(crate) fn step_taped<W: Wait, C: Recorder<CoreEntry> + Drop, L: Seats>(
     let mut tape = desk.tape.lock(rt);
     let events = events_of(alloc, &step)?;
     tape.ready(events.len())?;
-    let done = step_lined(rt, alloc, desk, step, seat)?;
-    if done {
+    let stepped = step_lined(rt, alloc, desk, step, seat)?;
+    if stepped != Stepped::Nothing {
         tape.add(events);
     }
-    Ok(done)
+    Ok(stepped)
 }

@@ -8,11 +8,13 @@ ghost use Rattle.px_core_cell.specs.Cell.{cell_of};
 ghost use Rattle.px_core_cell.specs.History.{IsCell};
 ghost use Rattle.px_core_cell.specs.Step.{IsAsked, HandsBack};
 
+use crate::asked::{Plain, step_of};
 use crate::desk::Desk;
-use crate::lines::Next;
-use crate::step::{step_lined, step_taped};
+use crate::lines::{Errand, Next, Rest};
+use crate::step::{Stepped, step_lined, step_taped};
 use px_annals::{CoreEntry, RecordFault, Recorder};
 use px_core_cell::{CoreParts, CoreSeat, CoreStep, Seats, StepFault};
+use px_ends::Outlet;
 use px_frame::{Frame, FrameFault};
 use px_pool::{Pool, PoolSeat};
 use px_tape::Tape;
@@ -26,10 +28,8 @@ use std::thread::yield_now;
 // What became of a step.
 #[derive(Clone, Copy, Debug, PartialEq, Eq)]
 enum Made {
-    // It was done.
-    Done,
-    // There was nothing to do.
-    Nothing,
+    // It was done, or there was nothing to do.
+    Stepped(Stepped),
     // There was no memory for it.
     NoMemory,
 }
@@ -43,40 +43,19 @@ pub enum CoreStop {
     Unrecorded(RecordFault),
 }
 
-// A step that can be asked for again.
-#[derive(Clone, Copy, Debug)]
-enum Plain {
-    Connect(ConnId),
-    Close(ConnId),
-    Cut(ConnId),
-    Notice(SinkId),
-}
-
-// The step that is asked for.
-fn step_of(step: Plain) -> CoreStep
-    ensures { IsAsked result }
-{
-    match step {
-        Plain::Connect(conn) => CoreStep::Connect(conn),
-        Plain::Close(conn) => CoreStep::Close(conn),
-        Plain::Cut(conn) => CoreStep::Cut(conn),
-        Plain::Notice(sink) => CoreStep::Notice(sink),
-    }
-}
-
 /// A worker's hold of what all share, with its seat at the pool of blocks.
 #[derive(Drop)]
-pub struct Worker<R, C: Recorder<CoreEntry>, L: Seats> {
+pub struct Worker<R, C: Recorder<CoreEntry>, L: Seats, O> {
     pub rt: R,
     pub alloc: Global,
-    pub desk: Arc<Desk<C, L>>,
+    pub desk: Arc<Desk<C, L, O>>,
     pub seat: CoreSeat<L>,
     pub blocks: PoolSeat<R>,
 }
 
-impl<R: Wait + Copy, C: Recorder<CoreEntry> + Drop, L: Seats> Worker<R, C, L> {
+impl<R: Wait + Copy, C: Recorder<CoreEntry> + Drop, L: Seats, O: Outlet + Drop> Worker<R, C, L, O> {
     /// Another worker with one share of this one's. Where there is no memory there is none.
-    pub fn another(&mut self) -> Mem<Worker<R, C, L>>
+    pub fn another(&mut self) -> Mem<Worker<R, C, L, O>>
         requires { 1 < self.old.seat.parts }
         ensures ok { IfOk result (λ other. (other.seat.parts ≡ 1) × (self.new.seat.parts + 1 ≡ self.old.seat.parts)) }
         ensures err { OnErr result (self.new.seat.parts ≡ self.old.seat.parts) }
@@ -116,7 +95,7 @@ impl<R: Wait + Copy, C: Recorder<CoreEntry> + Drop, L: Seats> Worker<R, C, L> {
     }
 
     // Makes a step, which goes onto the tape where there is one.
-    fn once(&mut self, step: CoreStep) -> Result<bool, StepFault>
+    fn once(&mut self, step: CoreStep) -> Result<Stepped, StepFault>
         requires lawful { IsAsked step }
         ensures seat { self.new.seat.parts ≡ self.old.seat.parts }
         ensures back { HandsBack step result }
@@ -152,6 +131,16 @@ impl<R: Wait + Copy, C: Recorder<CoreEntry> + Drop, L: Seats> Worker<R, C, L> {
         unreachable!()
     }
 
+    // Makes the sweep that a step still owes.
+    fn settle(&mut self, stepped: Stepped) -> Result<(), CoreStop>
+        ensures seat { self.new.seat.parts ≡ self.old.seat.parts }
+    {
+        match stepped {
+            Stepped::Done => self.sweep(),
+            Stepped::Swept | Stepped::Nothing => Ok(()),
+        }
+    }
+
     // Makes a step. Where a sweep is owed, that is made first.
     fn make(&mut self, step: CoreStep) -> Result<Made, CoreStop>
         requires lawful { IsAsked step }
@@ -161,8 +150,7 @@ impl<R: Wait + Copy, C: Recorder<CoreEntry> + Drop, L: Seats> Worker<R, C, L> {
         let mut step = step;
         for _ in rt.forever() {
             match self.once(step) {
-                Ok(true) => return Ok(Made::Done),
-                Ok(false) => return Ok(Made::Nothing),
+                Ok(stepped) => return Ok(Made::Stepped(stepped)),
                 Err(StepFault::NoMemory) | Err(StepFault::Recorder(RecordFault::NoMemory)) => {
                     return Ok(Made::NoMemory);
                 }
@@ -177,15 +165,14 @@ impl<R: Wait + Copy, C: Recorder<CoreEntry> + Drop, L: Seats> Worker<R, C, L> {
         unreachable!()
     }
 
-    // Makes a step that isn't a client's frame or a fault in its bytes, again until there is memory. Whether there was something to do.
-    fn insist(&mut self, step: Plain) -> Result<bool, CoreStop>
+    // Makes a step that isn't a client's frame or a fault in its bytes, again until there is memory.
+    fn insist(&mut self, step: Plain) -> Result<Stepped, CoreStop>
         ensures seat { self.new.seat.parts ≡ self.old.seat.parts }
     {
         let rt = self.rt;
         for _ in rt.forever() {
             match self.make(step_of(step))? {
-                Made::Done => return Ok(true),
-                Made::Nothing => return Ok(false),
+                Made::Stepped(stepped) => return Ok(stepped),
                 Made::NoMemory => yield_now(),
             }
         }
@@ -216,8 +203,8 @@ impl<R: Wait + Copy, C: Recorder<CoreEntry> + Drop, L: Seats> Worker<R, C, L> {
         for _ in rt.forever() {
             match self.short() {
                 Some(conn) => {
-                    self.insist(Plain::Cut(conn))?;
-                    self.sweep()?;
+                    let cut = self.insist(Plain::Cut(conn))?;
+                    self.settle(cut)?;
                 }
                 None => return Ok(()),
             }
@@ -235,13 +222,59 @@ impl<R: Wait + Copy, C: Recorder<CoreEntry> + Drop, L: Seats> Worker<R, C, L> {
         Ok(())
     }
 
-    /// What follows a step: the sweep that it owes, the ends of connections that found no memory, and what waits for the sinks.
-    pub fn follow(&mut self) -> Result<(), CoreStop>
+    // The next packet that waits for a client and that anyone may send.
+    fn errand(&mut self) -> Option<Errand<O>>
         ensures seat { self.new.seat.parts ≡ self.old.seat.parts }
     {
-        self.sweep()?;
+        self.desk.lines.lock(&self.rt).take_out()
+    }
+
+    // Puts back the outlet that an errand had.
+    fn put_back(&mut self, conn: ConnId, outlet: O, rest: Option<Rest>)
+        ensures seat { self.new.seat.parts ≡ self.old.seat.parts }
+    {
+        if rest.is_some() {
+            self.desk.own.store(true, Ordering::SeqCst);
+        }
+        self.desk.lines.lock(&self.rt).put_back(conn, outlet, rest);
+    }
+
+    // Sends what waits for the clients, as far as their links are ready. Nothing is locked while a packet is sent.
+    fn send(&mut self)
+        ensures seat { self.new.seat.parts ≡ self.old.seat.parts }
+    {
+        if !self.desk.waiting.load(Ordering::SeqCst) {
+            return;
+        }
+        self.desk.waiting.store(false, Ordering::SeqCst);
+        let rt = self.rt;
+        for _ in rt.forever() {
+            let Some(errand) = self.errand() else {
+                return;
+            };
+            let (conn, outlet, rest) = errand.run();
+            self.put_back(conn, outlet, rest);
+        }
+        unreachable!()
+    }
+
+    // Ends the connections that found no memory, posts what waits for the sinks, and sends what waits for the clients.
+    fn tell(&mut self) -> Result<(), CoreStop>
+        ensures seat { self.new.seat.parts ≡ self.old.seat.parts }
+    {
         self.cut_short()?;
-        self.post_all()
+        self.post_all()?;
+        self.send();
+        Ok(())
+    }
+
+    // What follows a step: the sweep that it owes, the ends of connections that found no memory, what waits for the sinks, and what waits for
+    // the clients.
+    fn follow(&mut self, stepped: Stepped) -> Result<(), CoreStop>
+        ensures seat { self.new.seat.parts ≡ self.old.seat.parts }
+    {
+        self.settle(stepped)?;
+        self.tell()
     }
 
     /// Posts to a sink what waits for it. Where there is no memory it waits for the next time.
@@ -256,24 +289,24 @@ impl<R: Wait + Copy, C: Recorder<CoreEntry> + Drop, L: Seats> Worker<R, C, L> {
     pub fn connect(&mut self, conn: ConnId) -> Result<(), CoreStop>
         ensures seat { self.new.seat.parts ≡ self.old.seat.parts }
     {
-        self.insist(Plain::Connect(conn))?;
-        self.follow()
+        let stepped = self.insist(Plain::Connect(conn))?;
+        self.follow(stepped)
     }
 
     /// The server ends a connection.
     pub fn cut(&mut self, conn: ConnId) -> Result<(), CoreStop>
         ensures seat { self.new.seat.parts ≡ self.old.seat.parts }
     {
-        self.insist(Plain::Cut(conn))?;
-        self.follow()
+        let stepped = self.insist(Plain::Cut(conn))?;
+        self.follow(stepped)
     }
 
     /// A client has closed its connection.
     pub fn close(&mut self, conn: ConnId) -> Result<(), CoreStop>
         ensures seat { self.new.seat.parts ≡ self.old.seat.parts }
     {
-        self.insist(Plain::Close(conn))?;
-        self.follow()
+        let stepped = self.insist(Plain::Close(conn))?;
+        self.follow(stepped)
     }
 
     /// A frame of a client. One that finds no memory ends its connection.
@@ -282,7 +315,7 @@ impl<R: Wait + Copy, C: Recorder<CoreEntry> + Drop, L: Seats> Worker<R, C, L> {
         ensures seat { self.new.seat.parts ≡ self.old.seat.parts }
     {
         match self.make(CoreStep::Frame(conn, frame))? {
-            Made::Done | Made::Nothing => self.follow(),
+            Made::Stepped(stepped) => self.follow(stepped),
             Made::NoMemory => self.cut(conn),
         }
     }
@@ -292,7 +325,7 @@ impl<R: Wait + Copy, C: Recorder<CoreEntry> + Drop, L: Seats> Worker<R, C, L> {
         ensures seat { self.new.seat.parts ≡ self.old.seat.parts }
     {
         match self.make(CoreStep::Broken(conn, fault, at))? {
-            Made::Done | Made::Nothing => self.follow(),
+            Made::Stepped(stepped) => self.follow(stepped),
             Made::NoMemory => self.cut(conn),
         }
     }
@@ -301,15 +334,13 @@ impl<R: Wait + Copy, C: Recorder<CoreEntry> + Drop, L: Seats> Worker<R, C, L> {
     fn notice(&mut self, sink: SinkId) -> Result<bool, CoreStop>
         ensures seat { self.new.seat.parts ≡ self.old.seat.parts }
     {
-        if !self.insist(Plain::Notice(sink))? {
-            return Ok(false);
-        }
-        self.sweep()?;
-        Ok(true)
+        let stepped = self.insist(Plain::Notice(sink))?;
+        self.settle(stepped)?;
+        Ok(stepped != Stepped::Nothing)
     }
 
-    /// All notices that a sink's mixer has posted. Where there was one, connections that found no memory end behind the last, and what waits for
-    /// the sinks is posted.
+    /// All notices that a sink's mixer has posted. Where there was one, connections that found no memory end behind the last, what waits for the
+    /// sinks is posted, and what waits for the clients is sent.
     pub fn notices(&mut self, sink: SinkId) -> Result<(), CoreStop>
         ensures seat { self.new.seat.parts ≡ self.old.seat.parts }
     {
@@ -319,21 +350,23 @@ impl<R: Wait + Copy, C: Recorder<CoreEntry> + Drop, L: Seats> Worker<R, C, L> {
         let rt = self.rt;
         for _ in rt.forever() {
             if !self.notice(sink)? {
-                self.cut_short()?;
-                return self.post_all();
+                return self.tell();
             }
         }
         unreachable!()
     }
 
-    /// A line for a client's packets.
-    pub fn open_line(&mut self, conn: ConnId) -> Mem<()>
+    /// A line for a client's packets, with the half of its link that sends, where it has one.
+    pub fn open_line(&mut self, conn: ConnId, outlet: Option<O>) -> Mem<()>
         ensures seat { self.new.seat.parts ≡ self.old.seat.parts }
     {
-        self.desk.lines.lock(&self.rt).open(conn)
+        if outlet.is_none() {
+            self.desk.own.store(true, Ordering::SeqCst);
+        }
+        self.desk.lines.lock(&self.rt).open(conn, outlet)
     }
 
-    /// A client's line goes.
+    /// A client's line goes, and the client is told the end.
     pub fn shut_line(&mut self, conn: ConnId)
         ensures seat { self.new.seat.parts ≡ self.old.seat.parts }
     {
@@ -343,6 +376,11 @@ impl<R: Wait + Copy, C: Recorder<CoreEntry> + Drop, L: Seats> Worker<R, C, L> {
     /// Whether a client has a line.
     pub fn has_line(&self, conn: ConnId) -> bool {
         self.desk.lines.lock(&self.rt).has(conn)
+    }
+
+    /// Whether a client's own worker may have to send what waits for it. Else whoever makes a step sends what that has for clients.
+    pub fn is_sender(&self) -> bool {
+        self.desk.own.load(Ordering::SeqCst)
     }
 
     /// What stands first in a client's line.

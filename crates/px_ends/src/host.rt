@@ -3,7 +3,7 @@ ghost use Rattle.std.specs.Prelude.{◌≡◌, IsTrue, IsFalse, IfOk};
 ghost use Rattle.px_ends.specs.Device.{IsShape};
 ghost use Rattle.px_ends.specs.Host.{HostState, FailsOnce, Starts, Accepts, Makes, IsNewDevice, IsNewRecorder, one_device, one_recorder, one_core, HasPart, HasCore, TakesPart, TakesCore};
 
-use crate::{Device, DeviceShape, Link};
+use crate::{Device, DeviceShape, Link, Outlet};
 use px_annals::{CoreEntry, LaneEntry, Recorder};
 use px_types::{SinkId, Text};
 use std::alloc::Global;
@@ -60,6 +60,8 @@ pub enum HostFault {
 pub trait Host {
     type L: Link + Drop + Send;
 
+    type O: Outlet + Drop + Send;
+
     type D: Device + Drop + Send;
 
     type R: Recorder<LaneEntry> + Drop + Send;
@@ -76,6 +78,14 @@ pub trait Host {
     /// Waits for the next client, with what the host itself has for that. At most 65,535 links are handed out.
     fn accept(&mut self, alloc: Global) -> Accepted<Self::L>
         ensures { Accepts result (now self.old) (now self.new) };
+
+    /// The half of a link that sends, for others. `None` where it has none: then whoever has the link sends through it, and nobody else. What
+    /// is sent through that half isn't told by the link.
+    fn outlet(&mut self, link: &mut Self::L) -> Option<Self::O>
+        ensures host { now self.new ≡ now self.old }
+        ensures left { Self.L.left link.new ≡ Self.L.left link.old }
+        ensures sent { Self.L.sent link.new ≡ Self.L.sent link.old }
+        ensures counts { Self.L.counts link.new ≡ Self.L.counts link.old };
 
     /// A device for the sink of a name, which has consumed and played nothing.
     fn device(

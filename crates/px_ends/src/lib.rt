@@ -1,6 +1,6 @@
 //! The outside as traits, each with its told content and a count of faults that never falls, and their forms in memory for
-//! replays and tests. It exports `Source`, `Sink`, `Link`, `Clock`, `Device` and `Host`, their answers and shapes, `Calls`, `MemSource`,
-//! `MemSink`, `MemLink`, `MemClock`, `MemDevice` with `Played`, and `NoHost`, and the loops that fill a buffer or write all bytes.
+//! replays and tests. It exports `Source`, `Sink`, `Link`, `Outlet`, `Clock`, `Device` and `Host`, their answers and shapes, `Calls`,
+//! `MemSource`, `MemSink`, `MemLink`, `MemClock`, `MemDevice` with `Played`, `NoHost` and `NoOutlet`, and the loops that fill a buffer or write all bytes.
 #![tactic(auto)]
 
 mod bytes;
@@ -16,6 +16,7 @@ mod memory_link;
 mod memory_sink;
 mod memory_source;
 mod no_host;
+mod no_outlet;
 mod played;
 mod whole;
 
@@ -24,12 +25,13 @@ pub use calls::Calls;
 pub use clock::Clock;
 pub use device::{Device, DeviceFault, DeviceShape};
 pub use host::{Accepted, HeaderRead, Host, HostFault, ServeOptions};
-pub use link::{Link, Recv, Sent};
+pub use link::{Link, Outlet, Recv, Sent};
 pub use memory_clock::{MemClock, Moments};
 pub use memory_device::MemDevice;
 pub use memory_link::MemLink;
 pub use memory_sink::MemSink;
 pub use memory_source::MemSource;
 pub use no_host::NoHost;
+pub use no_outlet::NoOutlet;
 pub use played::Played;
 pub use whole::{Filled, WriteFailed, fill, write_all};

@@ -1,4 +1,4 @@
-// Both directions at once: a client's connection.
+// Both directions at once: a client's connection, and the half of it that sends.
 ghost use Rattle.std.specs.Prelude.{◌≡◌, ℕ, ◌<◌, List, Option, length};
 ghost use Rattle.px_ends.specs.Links.{LinkCounts, RecvGives, RecvCounts, SendTakes, SendCounts};
 
@@ -24,6 +24,27 @@ pub enum Sent {
     NotYet,
     /// The send failed, or there is no room. Nothing was taken.
     Failed,
+}
+
+/// The half of a connection that sends, for those who have something for its client. What goes through it comes to the client behind what
+/// went through the connection before, and the other way round. Own.
+pub trait Outlet {
+    /// The bytes that were sent through it, where it tells.
+    ghost sent: { Self → Option (List ℕ) };
+
+    /// How often its calls failed or weren't ready. No count falls.
+    ghost counts: { Self → LinkCounts };
+
+    /// Takes the first of these bytes.
+    fn send(&mut self, bytes: &[u8]) -> Sent
+        requires { 0 < length bytes.now }
+        ensures bytes { SendTakes result bytes.now (sent self.old) (sent self.new) }
+        ensures count { SendCounts result (counts self.old) (counts self.new) };
+
+    /// Ends both halves: the client finds the end behind what it was sent, and nothing more is received of it.
+    fn shut(&mut self)
+        ensures bytes { sent self.new ≡ sent self.old }
+        ensures count { counts self.new ≡ counts self.old };
 }
 
 /// A connection to a client.

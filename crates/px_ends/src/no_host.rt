@@ -2,7 +2,9 @@
 ghost use Rattle.std.specs.Prelude.{◌≡◌};
 ghost use Rattle.px_types.specs.Faults.{Rose};
 
-use crate::{Accepted, DeviceShape, HeaderRead, Host, HostFault, MemDevice, MemLink, ServeOptions};
+use crate::{
+    Accepted, DeviceShape, HeaderRead, Host, HostFault, MemDevice, MemLink, NoOutlet, ServeOptions,
+};
 use px_annals::NoRecorder;
 use px_types::SinkId;
 use std::alloc::Global;
@@ -39,6 +41,8 @@ impl Host for NoHost {
 
     type L = MemLink;
 
+    type O = NoOutlet;
+
     type D = MemDevice;
 
     type R = NoRecorder;
@@ -67,6 +71,10 @@ impl Host for NoHost {
     fn accept(&mut self, _alloc: Global) -> Accepted<MemLink> {
         self.fail();
         Accepted::Failed
+    }
+
+    fn outlet(&mut self, _link: &mut MemLink) -> Option<NoOutlet> {
+        None
     }
 
     fn device(

@@ -1,15 +1,26 @@
-// A client's connection over a stream of std.
-ghost use Rattle.std.specs.Prelude.{◌≡◌};
+// A client's connection over a socket, and the half of it that sends.
+ghost use Rattle.std.specs.Prelude.{◌≡◌, ◌<◌, length, None};
+ghost use Rattle.px_ends.specs.Links.{SendTakes};
 
-use px_ends::{Link, Recv, Sent};
+use px_ends::{Link, Outlet, Recv, Sent};
 use std::io::{ErrorKind, Read, Write};
+use std::net::Shutdown;
+use std::os::unix::net::UnixStream;
 
-/// A link over a stream, as a socket is. A call that would wait, where the stream doesn't wait or not that long, finds it not ready.
+/// A link over a socket. A call that would wait, where the socket doesn't wait or not that long, finds it not ready.
 #[derive(Drop)]
-pub struct Connected<S: Read + Write> {
-    stream: S,
+pub struct Connected {
+    stream: UnixStream,
     faults: u64,
     ends: u64,
+    not_yets: u64,
+}
+
+/// The half of a link that sends, over the link's own socket.
+#[derive(Drop)]
+pub struct Outgoing {
+    stream: UnixStream,
+    faults: u64,
     not_yets: u64,
 }
 
@@ -21,9 +32,22 @@ fn is_waiting(kind: ErrorKind) -> bool {
     )
 }
 
-impl<S: Read + Write> Connected<S> {
-    /// A link over a stream, none of whose calls has failed. Takes no memory.
-    pub fn new(stream: S) -> Connected<S>
+// Sends the first of these bytes. A socket that takes nothing of some bytes has failed.
+fn send(stream: &mut UnixStream, bytes: &[u8]) -> Sent
+    requires { 0 < length bytes.now }
+    ensures { SendTakes result bytes.now None None }
+{
+    match stream.write(bytes) {
+        Ok(count) if count > 0 => Sent::Bytes(count),
+        Ok(_) => Sent::Failed,
+        Err(error) if is_waiting(error.kind()) => Sent::NotYet,
+        Err(_) => Sent::Failed,
+    }
+}
+
+impl Connected {
+    /// A link over a socket, none of whose calls has failed. Takes no memory.
+    pub fn new(stream: UnixStream) -> Connected
         ensures { (result.faults ≡ 0) × (result.ends ≡ 0) × (result.not_yets ≡ 0) }
     {
         Connected {
@@ -33,9 +57,21 @@ impl<S: Read + Write> Connected<S> {
             not_yets: 0,
         }
     }
+
+    /// The half of it that sends. `None` where the system has no descriptor to spare. Takes no memory.
+    pub fn outlet(&self) -> Option<Outgoing> {
+        match self.stream.try_clone() {
+            Ok(stream) => Some(Outgoing {
+                stream,
+                faults: 0,
+                not_yets: 0,
+            }),
+            Err(_) => None,
+        }
+    }
 }
 
-impl<S: Read + Write> Link for Connected<S> {
+impl Link for Connected {
     ghost use Rattle.std.specs.Prelude.{None};
 
     ghost left = { λ _. None };
@@ -63,23 +99,36 @@ impl<S: Read + Write> Link for Connected<S> {
         }
     }
 
-    // A stream that takes nothing of some bytes has failed.
     fn send(&mut self, bytes: &[u8]) -> Sent {
-        match self.stream.write(bytes) {
-            Ok(count) if count > 0 => Sent::Bytes(count),
-            Ok(_) => {
-                self.faults = self.faults.saturating_add(1);
-                Sent::Failed
-            }
-            Err(error) => {
-                if is_waiting(error.kind()) {
-                    self.not_yets = self.not_yets.saturating_add(1);
-                    Sent::NotYet
-                } else {
-                    self.faults = self.faults.saturating_add(1);
-                    Sent::Failed
-                }
-            }
+        let sent = send(&mut self.stream, bytes);
+        match sent {
+            Sent::Bytes(_) => {}
+            Sent::NotYet => self.not_yets = self.not_yets.saturating_add(1),
+            Sent::Failed => self.faults = self.faults.saturating_add(1),
         }
+        sent
+    }
+}
+
+impl Outlet for Outgoing {
+    ghost use Rattle.std.specs.Prelude.{None};
+
+    ghost sent = { λ _. None };
+
+    ghost counts = { λ o. record { faults = o.faults; ends = 0; not_yets = o.not_yets } };
+
+    fn send(&mut self, bytes: &[u8]) -> Sent {
+        let sent = send(&mut self.stream, bytes);
+        match sent {
+            Sent::Bytes(_) => {}
+            Sent::NotYet => self.not_yets = self.not_yets.saturating_add(1),
+            Sent::Failed => self.faults = self.faults.saturating_add(1),
+        }
+        sent
+    }
+
+    // A socket that can't be shut is shut already, or its peer has gone.
+    fn shut(&mut self) {
+        let _shut = self.stream.shutdown(Shutdown::Both);
     }
 }

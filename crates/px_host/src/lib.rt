@@ -1,5 +1,5 @@
 //! The real outside: adapters of a few lines over std's readers, writers, streams and clock. Each keeps a count of its faults and tells
-//! nothing of content. It exports `Reading`, `Writing`, `Connected`, `SystemClock`, `History` and
+//! nothing of content. It exports `Reading`, `Writing`, `Connected` with `Outgoing`, `SystemClock`, `History` and
 //! `SystemHost`.
 #![tactic(auto)]
 
@@ -9,7 +9,7 @@ mod standard;
 mod system_clock;
 mod system_host;
 
-pub use connected::Connected;
+pub use connected::{Connected, Outgoing};
 pub use history::History;
 pub use standard::{Reading, Writing};
 pub use system_clock::SystemClock;

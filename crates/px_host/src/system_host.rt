@@ -4,7 +4,7 @@ ghost use Rattle.px_types.specs.Faults.{Rose};
 ghost use Rattle.px_ends.specs.Host.{IsNewRecorder};
 ghost use Rattle.px_host.specs.History.{told_by, fulls_of};
 
-use crate::{Connected, History, SystemClock, Writing};
+use crate::{Connected, History, Outgoing, SystemClock, Writing};
 use px_annals::{CoreEntry, Entry, LaneEntry, MemRecorder};
 use px_ends::{Accepted, DeviceShape, HeaderRead, Host, HostFault, ServeOptions};
 use px_paced::PacedSink;
@@ -23,8 +23,12 @@ const ENTRIES: usize = 65_536;
 
 const BYTES: usize = 268_435_456;
 
-// How long a call of a link waits, in milliseconds. What the core has for a client meanwhile is sent so much later.
-const PATIENCE: u64 = 20;
+// How long a receive of a link waits, in milliseconds. What a client wasn't ready for is tried again that often; all else is sent by whoever
+// has it for the client, so nothing waits for a receive to end.
+const PATIENCE: u64 = 100;
+
+// How long a send waits, in milliseconds: whoever sends may hold up others.
+const HASTE: u64 = 1;
 
 /// A host that listens at a Unix socket, makes a device for each sink over a file, and keeps histories in memory or not at all.
 #[derive(Drop)]
@@ -77,10 +81,10 @@ fn begin<R: Files + Net + AllocGlobal>(
 }
 
 // A client, whose link's calls don't wait long.
-fn connected(listener: &UnixListener) -> io::Result<Connected<UnixStream>> {
+fn connected(listener: &UnixListener) -> io::Result<Connected> {
     let (stream, _) = listener.accept()?;
     stream.set_read_timeout(Some(Duration::from_millis(PATIENCE)))?;
-    stream.set_write_timeout(Some(Duration::from_millis(PATIENCE)))?;
+    stream.set_write_timeout(Some(Duration::from_millis(HASTE)))?;
     Ok(Connected::new(stream))
 }
 
@@ -139,7 +143,9 @@ impl<S: Files<File = File> + Net + Clock + AllocGlobal + Copy + Drop + Send> Hos
     for SystemHost<S> {
     ghost use Rattle.std.specs.Prelude.{None};
 
-    type L = Connected<UnixStream>;
+    type L = Connected;
+
+    type O = Outgoing;
 
     type D = PacedSink<Writing<File>, SystemClock<S>>;
 
@@ -183,7 +189,7 @@ impl<S: Files<File = File> + Net + Clock + AllocGlobal + Copy + Drop + Send> Hos
         }
     }
 
-    fn accept(&mut self, _alloc: Global) -> Accepted<Connected<UnixStream>> {
+    fn accept(&mut self, _alloc: Global) -> Accepted<Connected> {
         if self.links >= self.accept {
             self.overs = self.overs.saturating_add(1);
             return Accepted::Over;
@@ -205,6 +211,10 @@ impl<S: Files<File = File> + Net + Clock + AllocGlobal + Copy + Drop + Send> Hos
                 Accepted::Failed
             }
         }
+    }
+
+    fn outlet(&mut self, link: &mut Connected) -> Option<Outgoing> {
+        link.outlet()
     }
 
     fn device(

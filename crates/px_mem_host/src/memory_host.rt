@@ -8,7 +8,9 @@ ghost use Rattle.px_mem_host.specs.MemoryHost.{new_state, is_failing, called, St
 
 use crate::{LinkPlan, LinkPlans, Retired, SharedLink, Taken};
 use px_annals::{CoreEntry, LaneEntry, MemRecorder};
-use px_ends::{Accepted, Calls, DeviceShape, HeaderRead, Host, HostFault, MemDevice, ServeOptions};
+use px_ends::{
+    Accepted, Calls, DeviceShape, HeaderRead, Host, HostFault, MemDevice, NoOutlet, ServeOptions,
+};
 use px_types::{Mem, NoMemory, SinkId, Text};
 use std::alloc::Global;
 use std::collections::VecDeque;
@@ -180,6 +182,8 @@ impl<R: Wait + Drop> MemHost<R> {
 impl<R: Wait + Copy + Drop + Send> Host for MemHost<R> {
     type L = SharedLink<R>;
 
+    type O = NoOutlet;
+
     type D = MemDevice;
 
     type R = MemRecorder<LaneEntry>;
@@ -226,6 +230,11 @@ impl<R: Wait + Copy + Drop + Send> Host for MemHost<R> {
                 Accepted::Over
             }
         }
+    }
+
+    // No other half: so what a client was sent is what went through its link.
+    fn outlet(&mut self, _link: &mut SharedLink<R>) -> Option<NoOutlet> {
+        None
     }
 
     fn device(

@@ -23,7 +23,7 @@ use px_annals::{CoreEntry, Recorder};
 use px_core::Core;
 use px_core_cell::{CoreCell, CoreEnds, Seats};
 use px_desk::{Desk, Worker};
-use px_ends::Host;
+use px_ends::{Host, Outlet};
 use px_pool::Pool;
 use px_session::Header;
 use px_tape::SinkTurns;
@@ -117,7 +117,7 @@ fn make_outside<H: Host>(
 }
 
 // The serving call's own hold of a new core, with all shares in its steps.
-fn worker_of<R, C, L>(
+fn worker_of<R, C, L, O>(
     rt: &R,
     alloc: Global,
     header: &Header,
@@ -125,11 +125,12 @@ fn worker_of<R, C, L>(
     ends: CoreEnds,
     taped: bool,
     blank: Blank,
-) -> Mem<Worker<R, C, L>>
+) -> Mem<Worker<R, C, L, O>>
 where
     R: Wait + Copy,
     C: Recorder<CoreEntry> + Drop,
     L: Seats,
+    O: Outlet + Drop,
     requires header { IsHeader header.now }
     requires name { blank.name ≡ L.name }
     requires parts { (blank.parts ≡ L.parts) × (L.parts ≡ 65552) × (L.all ≡ 65552) }
@@ -174,6 +175,7 @@ where
     R: Threads + Wait + Copy + Drop + Send + Sync + 'static,
     H: Host,
     H::L: 'static,
+    H::O: 'static,
     H::D: 'static,
     H::R: 'static,
     H::C: 'static,
@@ -203,7 +205,7 @@ where
         recorder,
         turns,
     } = made;
-    match worker_of::<R, H::C, L>(rt, alloc, header, recorder, ends, taped, blank) {
+    match worker_of::<R, H::C, L, H::O>(rt, alloc, header, recorder, ends, taped, blank) {
         Ok(worker) => run(worker, host, gate, lone, lanes, turns, taped),
         Err(_) => unserved(lanes, lone, Stop::Memory),
     }
@@ -224,6 +226,7 @@ where
     R: Threads + Wait + Copy + Drop + Send + Sync + 'static,
     H: Host,
     H::L: 'static,
+    H::O: 'static,
     H::D: 'static,
     H::R: 'static,
     H::C: 'static,

@@ -7,7 +7,7 @@ use crate::link_work::LinkWork;
 use crate::sink_work::SinkWork;
 use px_annals::{CoreEntry, LaneEntry, Recorder};
 use px_core_cell::Seats;
-use px_ends::{Device, Link};
+use px_ends::{Device, Link, Outlet};
 use px_jobs::Running;
 use px_types::ConnId;
 use std::marker::Model;
@@ -21,9 +21,10 @@ pub(crate) struct Client<
     C: Recorder<CoreEntry> + Drop + Send,
     L: Seats + Send,
     G: Gate + Drop + Send + Sync,
+    O: Outlet + Drop + Send,
 > {
     pub conn: ConnId,
-    pub running: Running<LinkWork<R, A, C, L, G>>,
+    pub running: Running<LinkWork<R, A, C, L, G, O>>,
     ghost one_part: { (given_to running).worker.seat.parts ≡ 1 },
 }
 
@@ -36,8 +37,9 @@ pub(crate) struct SinkRun<
     C: Recorder<CoreEntry> + Drop + Send,
     L: Seats + Send,
     G: Gate + Drop + Send + Sync,
+    O: Outlet + Drop + Send,
 > {
-    pub running: Running<SinkWork<R, D, E, C, L, G>>,
+    pub running: Running<SinkWork<R, D, E, C, L, G, O>>,
 }
 
 impl<
@@ -47,7 +49,8 @@ impl<
     C: Recorder<CoreEntry> + Drop + Send,
     L: Seats + Send,
     G: Gate + Drop + Send + Sync,
-> Model for SinkRun<R, D, E, C, L, G> {
+    O: Outlet + Drop + Send,
+> Model for SinkRun<R, D, E, C, L, G, O> {
     ghost use Rattle.std.specs.Prelude.{◌≡◌};
     ghost use Rattle.px_jobs.specs.Jobs.{given_to};
     ghost use Rattle.px_server.specs.Working.{Unworked, IsHonest, AreTaped};

@@ -23,7 +23,7 @@ use crate::sink_work::status_of_met;
 use px_annals::{CoreEntry, LaneEntry, RecordFault, Recorder};
 use px_core_cell::{CoreEnd, CoreEnds, CoreParts, Seats};
 use px_desk::Worker;
-use px_ends::Device;
+use px_ends::{Device, Outlet};
 use px_lane_cell::{LaneCell, LaneCellParts, LaneEnds, LanePasses};
 use px_tape::SinkTurns;
 use px_types::{SinkId, Status};
@@ -147,8 +147,8 @@ pub(crate) struct CoreLeft<C> {
 }
 
 /// What is left of the core, and of the sinks without workers (`close_all`), by a worker with all shares. Takes no memory.
-pub(crate) fn close_with<R, D, E, C, L>(
-    worker: Worker<R, C, L>,
+pub(crate) fn close_with<R, D, E, C, L, O>(
+    worker: Worker<R, C, L, O>,
     lone: &mut VecDeque<Lone<D, E>>,
     lanes: &mut Vec<LanePart<D, E>>,
     turns: &mut Vec<SinkTurns>,
@@ -159,6 +159,7 @@ where
     E: Recorder<LaneEntry> + Drop,
     C: Recorder<CoreEntry> + Drop,
     L: Seats,
+    O: Outlet + Drop,
     requires seats { worker.seat.parts ≡ L.all }
     requires sinks { (sinks : List SinkSpec) × (map start_of lone.old.items ≡ starts_of sinks) }
     requires boxes { map boxes_in lone.old.items ≡ L.boxes }

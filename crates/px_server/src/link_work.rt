@@ -6,9 +6,9 @@ ghost use Rattle.px_frame.specs.Frame.{IsBody};
 use crate::gate::Gate;
 use px_annals::{CoreEntry, Recorder};
 use px_core_cell::Seats;
-use px_desk::{CoreStop, Next, Worker};
-use px_ends::{Link, Recv, Sent};
-use px_frame::{Decoder, Frame, FrameError, Packet};
+use px_desk::{CoreStop, Next, Rest, Worker};
+use px_ends::{Link, Outlet, Recv, Sent};
+use px_frame::{Decoder, Frame, FrameError};
 use px_jobs::Job;
 use px_types::ConnId;
 use std::collections::VecDeque;
@@ -17,13 +17,6 @@ use std::sync::{Arc, Wait};
 // How many bytes are received at once.
 const PIECE: usize = 16_384;
 
-// How far the packet is sent that is on its way.
-#[derive(Drop)]
-struct Sending {
-    packet: Option<Packet>,
-    at: usize,
-}
-
 // Whether a client is still there.
 #[derive(Clone, Copy, PartialEq, Eq)]
 enum Flow {
@@ -31,56 +24,55 @@ enum Flow {
     Ended,
 }
 
-/// The work at one client's link: what it sends goes to the core frame by frame, and what the core has for it is sent.
+/// The work at one client's link: what it sends goes to the core frame by frame, and what the core has for it is sent, where whoever made the
+/// step hasn't.
 #[derive(Drop)]
-pub(crate) struct LinkWork<R, A, C: Recorder<CoreEntry>, L: Seats, G> {
-    pub worker: Worker<R, C, L>,
+pub(crate) struct LinkWork<R, A, C: Recorder<CoreEntry>, L: Seats, G, O> {
+    pub worker: Worker<R, C, L, O>,
     pub conn: ConnId,
     pub link: A,
     pub gate: Arc<G>,
 }
 
 // Sends what is left of a packet, as far as the link is ready.
-fn send_rest<A: Link>(link: &mut A, sending: &mut Sending) -> Sent {
-    let Some(packet) = &sending.packet else {
+fn send_rest<A: Link>(link: &mut A, sending: &mut Option<Rest>) -> Sent {
+    let Some(rest) = sending else {
         return Sent::Bytes(0);
     };
-    let rest = &packet.bytes()[sending.at.min(packet.bytes().len())..];
-    if rest.is_empty() {
+    let bytes = rest.packet.bytes();
+    let left = &bytes[rest.sent.min(bytes.len())..];
+    if left.is_empty() {
         return Sent::Bytes(0);
     }
-    let count = rest.len();
-    match link.send(rest) {
-        Sent::Bytes(sent) => {
-            sending.at = sending.at.saturating_add(sent.min(count));
-            Sent::Bytes(sent)
+    match link.send(left) {
+        Sent::Bytes(count) => {
+            rest.sent = rest.sent.saturating_add(count);
+            Sent::Bytes(count)
         }
         other => other,
     }
 }
 
-impl<R, A, C, L, G> LinkWork<R, A, C, L, G>
+impl<R, A, C, L, G, O> LinkWork<R, A, C, L, G, O>
 where
     R: Wait + Copy,
     A: Link + Drop,
     C: Recorder<CoreEntry> + Drop,
     L: Seats,
     G: Gate,
+    O: Outlet + Drop,
 {
-    // Sends what waits for the client, as far as its link is ready.
-    fn send(&mut self, sending: &mut Sending) -> Flow
+    // Sends what waits for the client and nobody else has sent, as far as its link is ready.
+    fn send(&mut self, sending: &mut Option<Rest>) -> Flow
         ensures seat { self.new.worker.seat.parts ≡ self.old.worker.seat.parts }
     {
         let rt = self.worker.rt;
         for _ in rt.forever() {
             match send_rest(&mut self.link, sending) {
                 Sent::Bytes(0) => match self.worker.next_packet(self.conn) {
-                    Next::Packet(packet) => {
-                        sending.packet = Some(packet);
-                        sending.at = 0;
-                    }
+                    Next::Packet(rest) => *sending = Some(rest),
                     Next::Nothing => {
-                        sending.packet = None;
+                        *sending = None;
                         return Flow::On;
                     }
                     Next::Ended => return Flow::Ended,
@@ -121,21 +113,19 @@ where
         }
     }
 
-    // One round: what waits is sent, and what came is heard.
-    fn round(&mut self, sending: &mut Sending, decoder: &mut Decoder, piece: &mut [u8]) -> Flow
+    // One round: what came is heard, and what nobody else has sent is sent. Where nothing came for a while it is looked for.
+    fn round(&mut self, sending: &mut Option<Rest>, decoder: &mut Decoder, piece: &mut [u8]) -> Flow
         requires { 0 < length piece.old }
         ensures piece { length piece.new ≡ length piece.old }
         ensures seat { self.new.worker.seat.parts ≡ self.old.worker.seat.parts }
     {
-        if self.send(sending) == Flow::Ended {
-            return Flow::Ended;
-        }
         match self.link.recv(piece) {
             Recv::Bytes(count) => match self.hear(decoder, &piece[..count]) {
+                Ok(()) if self.worker.is_sender() => self.send(sending),
                 Ok(()) => Flow::On,
                 Err(_) => Flow::Ended,
             },
-            Recv::NotYet => Flow::On,
+            Recv::NotYet => self.send(sending),
             Recv::End | Recv::Failed => Flow::Ended,
         }
     }
@@ -146,10 +136,7 @@ where
     {
         let rt = self.worker.rt;
         let mut decoder = Decoder::new(self.worker.alloc);
-        let mut sending = Sending {
-            packet: None,
-            at: 0,
-        };
+        let mut sending = None;
         let mut piece = [0u8; PIECE];
         for _ in rt.forever() {
             if self.round(&mut sending, &mut decoder, &mut piece) == Flow::Ended {
@@ -160,13 +147,14 @@ where
     }
 }
 
-impl<R, A, C, L, G> Job for LinkWork<R, A, C, L, G>
+impl<R, A, C, L, G, O> Job for LinkWork<R, A, C, L, G, O>
 where
     R: Wait + Copy + Drop + Send,
     A: Link + Drop + Send,
     C: Recorder<CoreEntry> + Drop + Send,
     L: Seats + Send,
     G: Gate + Drop + Send + Sync,
+    O: Outlet + Drop + Send,
 {
     ghost use Rattle.std.specs.Prelude.{◌≡◌, refl};
 

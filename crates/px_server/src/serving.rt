@@ -18,7 +18,7 @@ use crate::starting::{new_worker, start_sinks, taken_apart};
 use px_annals::{CoreEntry, LaneEntry, Recorder};
 use px_core_cell::Seats;
 use px_desk::{CoreStop, Worker};
-use px_ends::{Device, Host, Link};
+use px_ends::{Device, Host, Link, Outlet};
 use px_jobs::{Spawned, start};
 use px_tape::SinkTurns;
 use px_types::{ConnId, Mem, NoMemory};
@@ -29,7 +29,7 @@ use std::thread::Threads;
 
 // What a serving call has under way.
 #[derive(Drop)]
-struct Serving<R, A, D, E, C, L, G>
+struct Serving<R, A, D, E, C, L, G, O>
 where
     R: Wait + Copy + Drop + Send,
     A: Link + Drop + Send,
@@ -38,15 +38,16 @@ where
     C: Recorder<CoreEntry> + Drop + Send,
     L: Seats + Send,
     G: Gate + Drop + Send + Sync,
+    O: Outlet + Drop + Send,
 {
-    worker: Worker<R, C, L>,
+    worker: Worker<R, C, L, O>,
     gate: Arc<G>,
-    sinks: VecDeque<SinkRun<R, D, E, C, L, G>>,
-    clients: VecDeque<Client<R, A, C, L, G>>,
+    sinks: VecDeque<SinkRun<R, D, E, C, L, G, O>>,
+    clients: VecDeque<Client<R, A, C, L, G, O>>,
     next: u32,
 }
 
-impl<R, A, D, E, C, L, G> Serving<R, A, D, E, C, L, G>
+impl<R, A, D, E, C, L, G, O> Serving<R, A, D, E, C, L, G, O>
 where
     R: Threads + Wait + Copy + Drop + Send + Sync + 'static,
     A: Link + Drop + Send + 'static,
@@ -55,6 +56,7 @@ where
     C: Recorder<CoreEntry> + Drop + Send + 'static,
     L: Seats + Send + Sync + 'static,
     G: Gate + Drop + Send + Sync + 'static,
+    O: Outlet + Drop + Send + 'static,
 {
     // Joins the workers of clients that have gone.
     fn reap(&mut self)
@@ -117,7 +119,7 @@ where
     }
 
     // Takes in a client.
-    fn admit(&mut self, link: A) -> Result<(), Stop>
+    fn admit(&mut self, link: A, outlet: Option<O>) -> Result<(), Stop>
         requires { 1 < self.old.worker.seat.parts }
         ensures parts { self.new.worker.seat.parts + length self.new.clients.items ≡ self.old.worker.seat.parts + length self.old.clients.items }
         ensures more { length self.new.clients.items ≤ length self.old.clients.items + 1 }
@@ -126,7 +128,7 @@ where
     {
         let conn = ConnId(self.next);
         self.next = self.next.wrapping_add(1);
-        if self.worker.open_line(conn).is_err() {
+        if self.worker.open_line(conn, outlet).is_err() {
             return Err(Stop::Memory);
         }
         // a core that has made as many steps as are counted serves no more clients, and nothing has failed
@@ -143,7 +145,7 @@ where
 
     // Takes in the next client, where one comes.
     #[tactic(auto, using(crate::proofs::Later::cause_own))]
-    fn accept_one<H: Host<L = A>>(&mut self, host: &mut H) -> Result<(), Stop>
+    fn accept_one<H: Host<L = A, O = O>>(&mut self, host: &mut H) -> Result<(), Stop>
         requires seats { 65536 ≤ self.old.worker.seat.parts + length self.old.clients.items }
         requires few { length self.old.clients.items ≤ (H.now host.old).links }
         ensures parts { self.new.worker.seat.parts + length self.new.clients.items ≡ self.old.worker.seat.parts + length self.old.clients.items }
@@ -154,12 +156,12 @@ where
         ensures cause { IfErr result (λ stop. IsCauseOf stop (H.now host.old) (H.now host.new)) }
     {
         self.reap();
-        let link = next_link(self.worker.alloc, host)?;
-        self.admit(link)
+        let (link, outlet) = next_link(self.worker.alloc, host)?;
+        self.admit(link, outlet)
     }
 
     // Takes in clients until no more come.
-    fn accept_all<H: Host<L = A>>(&mut self, host: &mut H) -> Stop
+    fn accept_all<H: Host<L = A, O = O>>(&mut self, host: &mut H) -> Stop
         requires seats { 65536 ≤ self.old.worker.seat.parts + length self.old.clients.items }
         requires few { length self.old.clients.items ≤ (H.now host.old).links }
         ensures parts { self.new.worker.seat.parts + length self.new.clients.items ≡ self.old.worker.seat.parts + length self.old.clients.items }
@@ -178,7 +180,7 @@ where
     }
 
     // Starts the workers of the sinks, and takes in clients until no more come.
-    fn work<H: Host<L = A>>(&mut self, host: &mut H, lone: &mut VecDeque<Lone<D, E>>) -> Stop
+    fn work<H: Host<L = A, O = O>>(&mut self, host: &mut H, lone: &mut VecDeque<Lone<D, E>>) -> Stop
         requires idle { (self.old.sinks.items ≡ []) × (self.old.clients.items ≡ []) }
         requires seats { self.old.worker.seat.parts ≡ 65552 }
         requires few { length lone.old.items ≤ 16 }
@@ -213,7 +215,7 @@ where
     }
 
     // Joins all workers, those of the clients first. What is left is the call's own hold of the core, with all shares.
-    fn joined(mut self, lone: &mut VecDeque<Lone<D, E>>) -> Worker<R, C, L>
+    fn joined(mut self, lone: &mut VecDeque<Lone<D, E>>) -> Worker<R, C, L, O>
         requires parts { self.worker.seat.parts + length self.sinks.items + length self.clients.items ≡ 65552 }
         requires room { length self.sinks.items + length lone.old.items ≤ deque_capacity lone.old }
         ensures seats { result.seat.parts ≡ 65552 }
@@ -230,15 +232,16 @@ where
 
 // All that workers do, from their start to their end. What is left is the call's own hold of the core, with all shares, and why it stopped.
 fn worked<R, H, G, L>(
-    worker: Worker<R, H::C, L>,
+    worker: Worker<R, H::C, L, H::O>,
     host: &mut H,
     gate: Arc<G>,
     lone: &mut VecDeque<Lone<H::D, H::R>>,
-) -> (Worker<R, H::C, L>, Stop)
+) -> (Worker<R, H::C, L, H::O>, Stop)
 where
     R: Threads + Wait + Copy + Drop + Send + Sync + 'static,
     H: Host,
     H::L: 'static,
+    H::O: 'static,
     H::D: 'static,
     H::R: 'static,
     H::C: 'static,
@@ -255,7 +258,7 @@ where
     ensures cause { IsCauseOf result.1 (H.now host.old) (H.now host.new) }
 {
     let alloc = worker.alloc;
-    let mut serving = Serving::<R, H::L, H::D, H::R, H::C, L, G> {
+    let mut serving = Serving::<R, H::L, H::D, H::R, H::C, L, G, H::O> {
         worker,
         gate,
         sinks: VecDeque::new(alloc),
@@ -268,7 +271,7 @@ where
 
 // What a call hands back that stopped so and whose workers have ended.
 fn ended<R, H, L>(
-    worker: Worker<R, H::C, L>,
+    worker: Worker<R, H::C, L, H::O>,
     stop: Stop,
     mut lone: VecDeque<Lone<H::D, H::R>>,
     mut lanes: Vec<LanePart<H::D, H::R>>,
@@ -305,7 +308,7 @@ where
 
 /// All that workers do, from their start to their end.
 pub(crate) fn run<R, H, G, L>(
-    worker: Worker<R, H::C, L>,
+    worker: Worker<R, H::C, L, H::O>,
     host: &mut H,
     gate: Arc<G>,
     mut lone: VecDeque<Lone<H::D, H::R>>,
@@ -317,6 +320,7 @@ where
     R: Threads + Wait + Copy + Drop + Send + Sync + 'static,
     H: Host,
     H::L: 'static,
+    H::O: 'static,
     H::D: 'static,
     H::R: 'static,
     H::C: 'static,

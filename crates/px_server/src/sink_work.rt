@@ -10,7 +10,7 @@ use px_annals::{CoreEntry, LaneEntry, RecordFault, Recorder};
 use px_block::BlockSource;
 use px_core_cell::Seats;
 use px_desk::{CoreStop, Worker};
-use px_ends::Device;
+use px_ends::{Device, Outlet};
 use px_jobs::Job;
 use px_lane::Turned;
 use px_lane_cell::{CellFault, LaneCell};
@@ -158,8 +158,9 @@ pub(crate) struct SinkWork<
     C: Recorder<CoreEntry>,
     L: Seats,
     G,
+    O,
 > {
-    pub worker: Worker<R, C, L>,
+    pub worker: Worker<R, C, L, O>,
     pub sink: SinkId,
     pub cell: LaneCell<D, E>,
     pub gate: Arc<G>,
@@ -167,7 +168,7 @@ pub(crate) struct SinkWork<
     pub turns: Option<SinkTurns>,
 }
 
-impl<R, D, E, C, L, G> SinkWork<R, D, E, C, L, G>
+impl<R, D, E, C, L, G, O> SinkWork<R, D, E, C, L, G, O>
 where
     R: Wait + Copy,
     D: Device + Drop,
@@ -175,6 +176,7 @@ where
     C: Recorder<CoreEntry> + Drop,
     L: Seats,
     G: Gate,
+    O: Outlet + Drop,
 {
     // What a turn tells the core. A full inbox may have left messages there.
     fn tell(&mut self) -> Result<(), CoreStop>
@@ -236,7 +238,7 @@ where
     }
 }
 
-impl<R, D, E, C, L, G> Job for SinkWork<R, D, E, C, L, G>
+impl<R, D, E, C, L, G, O> Job for SinkWork<R, D, E, C, L, G, O>
 where
     R: Wait + Copy + Drop + Send,
     D: Device + Drop + Send,
@@ -244,6 +246,7 @@ where
     C: Recorder<CoreEntry> + Drop + Send,
     L: Seats + Send,
     G: Gate + Drop + Send + Sync,
+    O: Outlet + Drop + Send,
 {
     ghost use Rattle.std.specs.Prelude.{refl};
     ghost use Rattle.px_server.specs.Working.{GoesOn};

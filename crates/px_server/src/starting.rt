@@ -12,7 +12,7 @@ use crate::sink_work::SinkWork;
 use px_annals::{CoreEntry, LaneEntry, Recorder};
 use px_core_cell::Seats;
 use px_desk::Worker;
-use px_ends::{Device, Host};
+use px_ends::{Device, Host, Outlet};
 use px_jobs::{Spawned, start};
 use px_types::{Mem, NoMemory};
 use std::collections::VecDeque;
@@ -20,15 +20,16 @@ use std::sync::{Arc, Wait};
 use std::thread::Threads;
 
 /// Another worker with one share of this one's, and the gate for it.
-pub(crate) fn new_worker<R, C, L, G>(
-    worker: &mut Worker<R, C, L>,
+pub(crate) fn new_worker<R, C, L, G, O>(
+    worker: &mut Worker<R, C, L, O>,
     gate: &Arc<G>,
-) -> Mem<(Worker<R, C, L>, Arc<G>)>
+) -> Mem<(Worker<R, C, L, O>, Arc<G>)>
 where
     R: Wait + Copy,
     C: Recorder<CoreEntry> + Drop,
     L: Seats,
     G: Drop,
+    O: Outlet + Drop,
     requires { 1 < worker.old.seat.parts }
     ensures ok { IfOk result (λ made. (made.0.seat.parts ≡ 1) × (worker.new.seat.parts + 1 ≡ worker.old.seat.parts)) }
     ensures err { OnErr result (worker.new.seat.parts ≡ worker.old.seat.parts) }
@@ -39,15 +40,16 @@ where
 }
 
 /// The worker and the sink of a job that no thread works at.
-pub(crate) fn taken_apart<R, D, E, C, L, G>(
-    job: SinkWork<R, D, E, C, L, G>,
-) -> (Worker<R, C, L>, Lone<D, E>)
+pub(crate) fn taken_apart<R, D, E, C, L, G, O>(
+    job: SinkWork<R, D, E, C, L, G, O>,
+) -> (Worker<R, C, L, O>, Lone<D, E>)
 where
     D: Device,
     E: Recorder<LaneEntry>,
     C: Recorder<CoreEntry>,
     L: Seats,
     G: Drop,
+    O: Outlet,
     requires honest { IsHonest D.now E.faults E.fulls job.cell job.met }
     requires taped { AreTaped E.told job.cell.recorder job.turns }
     ensures worker { result.0 ≡ job.worker }
@@ -73,11 +75,11 @@ where
 }
 
 // Starts a worker with a sink. Where that can't be, both come back.
-fn start_with<R, D, E, C, L, G>(
-    worker: Worker<R, C, L>,
+fn start_with<R, D, E, C, L, G, O>(
+    worker: Worker<R, C, L, O>,
     gate: Arc<G>,
     lone: Lone<D, E>,
-) -> Result<SinkRun<R, D, E, C, L, G>, (Worker<R, C, L>, Lone<D, E>)>
+) -> Result<SinkRun<R, D, E, C, L, G, O>, (Worker<R, C, L, O>, Lone<D, E>)>
 where
     R: Threads + Wait + Copy + Drop + Send + Sync + 'static,
     D: Device + Drop + Send + 'static,
@@ -85,6 +87,7 @@ where
     C: Recorder<CoreEntry> + Drop + Send + 'static,
     L: Seats + Send + Sync + 'static,
     G: Gate + Drop + Send + Sync + 'static,
+    O: Outlet + Drop + Send + 'static,
     requires { worker.seat.parts ≡ 1 }
     ensures ok { IfOk result (λ run. run ≡ lone) }
     ensures err { IfErr result (λ back. (back.0.seat.parts ≡ 1) × (back.1 ≡ lone)) }
@@ -112,10 +115,10 @@ where
 }
 
 // Starts the worker of the next sink, of those that there are. Where that can't be, the sink stays.
-fn start_next<R, D, E, C, L, G>(
-    worker: &mut Worker<R, C, L>,
+fn start_next<R, D, E, C, L, G, O>(
+    worker: &mut Worker<R, C, L, O>,
     gate: &Arc<G>,
-    sinks: &mut VecDeque<SinkRun<R, D, E, C, L, G>>,
+    sinks: &mut VecDeque<SinkRun<R, D, E, C, L, G, O>>,
     lone: &mut VecDeque<Lone<D, E>>,
 ) -> Mem<()>
 where
@@ -125,6 +128,7 @@ where
     C: Recorder<CoreEntry> + Drop + Send + 'static,
     L: Seats + Send + Sync + 'static,
     G: Gate + Drop + Send + Sync + 'static,
+    O: Outlet + Drop + Send + 'static,
     requires seats { 1 < worker.old.seat.parts }
     requires some { 0 < length lone.old.items }
     ensures parts { worker.new.seat.parts + length lone.old.items ≡ worker.old.seat.parts + length lone.new.items }
@@ -163,11 +167,11 @@ fn ask<H: Host>(host: &mut H) -> Result<(), Stop>
     }
 }
 
-/// Starts the workers of the sinks, in order, as far as that can be.
-pub(crate) fn start_sinks<R, D, E, C, L, G, H>(
-    worker: &mut Worker<R, C, L>,
+// Starts the worker of the next sink, of those that there are, where the host lets it. Where that can't be, the sink stays.
+fn start_one<R, D, E, C, L, G, O, H>(
+    worker: &mut Worker<R, C, L, O>,
     gate: &Arc<G>,
-    sinks: &mut VecDeque<SinkRun<R, D, E, C, L, G>>,
+    sinks: &mut VecDeque<SinkRun<R, D, E, C, L, G, O>>,
     lone: &mut VecDeque<Lone<D, E>>,
     host: &mut H,
 ) -> Result<(), Stop>
@@ -178,6 +182,41 @@ where
     C: Recorder<CoreEntry> + Drop + Send + 'static,
     L: Seats + Send + Sync + 'static,
     G: Gate + Drop + Send + Sync + 'static,
+    O: Outlet + Drop + Send + 'static,
+    H: Host,
+    requires seats { 1 < worker.old.seat.parts }
+    requires some { 0 < length lone.old.items }
+    ensures parts { worker.new.seat.parts + length lone.old.items ≡ worker.old.seat.parts + length lone.new.items }
+    ensures all { sinks.new.items ++ lone.new.items ≡ sinks.old.items ++ lone.old.items }
+    ensures capacity { deque_capacity lone.new ≡ deque_capacity lone.old }
+    ensures fewer { OnOk result (length lone.new.items < length lone.old.items) }
+    ensures later { IsLater (H.now host.old) (H.now host.new) }
+    ensures lent { (H.now host.new).lent ≡ (H.now host.old).lent }
+    ensures cause { IfErr result (λ stop. IsCauseOf stop (H.now host.old) (H.now host.new)) }
+{
+    ask(host)?;
+    match start_next(worker, gate, sinks, lone) {
+        Ok(()) => Ok(()),
+        Err(_) => Err(Stop::Memory),
+    }
+}
+
+/// Starts the workers of the sinks, in order, as far as that can be.
+pub(crate) fn start_sinks<R, D, E, C, L, G, O, H>(
+    worker: &mut Worker<R, C, L, O>,
+    gate: &Arc<G>,
+    sinks: &mut VecDeque<SinkRun<R, D, E, C, L, G, O>>,
+    lone: &mut VecDeque<Lone<D, E>>,
+    host: &mut H,
+) -> Result<(), Stop>
+where
+    R: Threads + Wait + Copy + Drop + Send + Sync + 'static,
+    D: Device + Drop + Send + 'static,
+    E: Recorder<LaneEntry> + Drop + Send + 'static,
+    C: Recorder<CoreEntry> + Drop + Send + 'static,
+    L: Seats + Send + Sync + 'static,
+    G: Gate + Drop + Send + Sync + 'static,
+    O: Outlet + Drop + Send + 'static,
     H: Host,
     requires { length lone.old.items < worker.old.seat.parts }
     ensures parts { worker.new.seat.parts + length lone.old.items ≡ worker.old.seat.parts + length lone.new.items }
@@ -188,10 +227,7 @@ where
     ensures cause { IfErr result (λ stop. IsCauseOf stop (H.now host.old) (H.now host.new)) }
 {
     while !lone.is_empty() {
-        ask(host)?;
-        if start_next(worker, gate, sinks, lone).is_err() {
-            return Err(Stop::Memory);
-        }
+        start_one(worker, gate, sinks, lone, host)?;
     }
     Ok(())
 }

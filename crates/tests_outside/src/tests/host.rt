@@ -1,4 +1,4 @@
-use px_ends::{Clock, Link, Recv, Sent};
+use px_ends::{Clock, Link, Outlet, Recv, Sent};
 use px_host::{Connected, SystemClock};
 use std::os::unix::net::UnixStream;
 use std::thread::Threads;
@@ -68,5 +68,26 @@ fn exchange<R: Threads>(rt: &R, near: UnixStream, far: UnixStream) -> bool {
 fn a_mebibyte_goes_both_ways_through_a_socket(rt: HostRuntime) -> io::Result<()> {
     let (near, far) = UnixStream::pair(&rt)?;
     assert!(rt; exchange(&rt, near, far));
+    Ok(())
+}
+
+// What goes through a link's outlet comes to its peer, and once that is shut both find the end.
+fn goes_out(near: UnixStream, far: UnixStream) -> bool {
+    let mut link = Connected::new(near);
+    let mut peer = Connected::new(far);
+    let mut buffer = [0u8; 4];
+    let Some(mut outlet) = link.outlet() else {
+        return false;
+    };
+    let sent = outlet.send(b"hi") == Sent::Bytes(2);
+    let came = peer.recv(&mut buffer) == Recv::Bytes(2) && &buffer[..2] == b"hi".as_slice();
+    outlet.shut();
+    sent && came && peer.recv(&mut buffer) == Recv::End && link.recv(&mut buffer) == Recv::End
+}
+
+#[test]
+fn a_link_has_an_outlet_that_ends_both(rt: HostRuntime) -> io::Result<()> {
+    let (near, far) = UnixStream::pair(&rt)?;
+    assert!(rt; goes_out(near, far));
     Ok(())
 }

@@ -3,8 +3,8 @@ use Rattle.std.specs.VecDeque.{deque_capacity}
 use Rattle.px_server.specs.Hosted.{IsLater}
 use Rattle.px_server.proofs.starting.start_sinks.Given as goal
 
-abbrev pub invariant-loop-host : goal.invariant-loop-host
-invariant-loop-host g l = record {
+abbrev pub invariant-loop-worker : goal.invariant-loop-worker
+invariant-loop-worker g l = record {
   parts : l.worker.seat.parts + length l.fn.lone.items ≡ l.fn.worker.seat.parts + length l.lone.items;
   all : l.sinks.items ++ l.lone.items ≡ l.fn.sinks.items ++ l.fn.lone.items;
   capacity : deque_capacity l.lone ≡ deque_capacity l.fn.lone;
@@ -13,5 +13,5 @@ invariant-loop-host g l = record {
 }
 
 -- how many are left
-abbrev pub decreases-loop-host : goal.decreases-loop-host
-decreases-loop-host g l = length l.lone.items
+abbrev pub decreases-loop-worker : goal.decreases-loop-worker
+decreases-loop-worker g l = length l.lone.items
