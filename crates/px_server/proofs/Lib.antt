@@ -1,4 +1,5 @@
 mod Later
+mod Accepting
 mod Parts
 mod Delivering
 mod Ending

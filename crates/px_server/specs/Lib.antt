@@ -1,4 +1,5 @@
 pub mod Hosted
+pub mod Accepting
 pub mod Causes
 pub mod Working
 pub mod Delivered

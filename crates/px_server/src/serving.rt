@@ -2,6 +2,7 @@
 ghost use Rattle.std.specs.Prelude.{◌≡◌, ◌+◌, ◌≤◌, ◌<◌, ◌++◌, ◌∷◌, [], List, length, map, true, IfOk, IfErr, OnOk, OnErr, IsSome, vec_capacity};
 ghost use Rattle.std.specs.VecDeque.{deque_capacity};
 ghost use Rattle.px_server.specs.Hosted.{IsLater, IsCauseOf, IsOwn};
+ghost use Rattle.px_server.specs.Accepting.{HasRoom, Takes};
 ghost use Rattle.px_session.specs.declared.header.SinkSpec.{SinkSpec};
 ghost use Rattle.px_server.specs.Parts.{start_of, starts_of};
 ghost use Rattle.px_server.specs.Serving.{Ends};
@@ -146,13 +147,8 @@ where
     // Takes in the next client, where one comes.
     #[tactic(auto, using(crate::proofs::Later::cause_own))]
     fn accept_one<H: Host<L = A, O = O>>(&mut self, host: &mut H) -> Result<(), Stop>
-        requires seats { 65536 ≤ self.old.worker.seat.parts + length self.old.clients.items }
-        requires few { length self.old.clients.items ≤ (H.now host.old).links }
-        ensures parts { self.new.worker.seat.parts + length self.new.clients.items ≡ self.old.worker.seat.parts + length self.old.clients.items }
-        ensures few { length self.new.clients.items ≤ (H.now host.new).links }
-        ensures sinks { self.new.sinks ≡ self.old.sinks }
-        ensures later { IsLater (H.now host.old) (H.now host.new) }
-        ensures lent { (H.now host.new).lent ≡ (H.now host.old).lent }
+        requires room { HasRoom (record { parts = self.old.worker.seat.parts; clients = length self.old.clients.items; sinks = self.old.sinks; host = H.now host.old }) }
+        ensures takes { Takes (record { parts = self.old.worker.seat.parts; clients = length self.old.clients.items; sinks = self.old.sinks; host = H.now host.old }) (record { parts = self.new.worker.seat.parts; clients = length self.new.clients.items; sinks = self.new.sinks; host = H.now host.new }) }
         ensures cause { IfErr result (λ stop. IsCauseOf stop (H.now host.old) (H.now host.new)) }
     {
         self.reap();
@@ -161,13 +157,10 @@ where
     }
 
     // Takes in clients until no more come.
+    #[tactic(auto, using(crate::proofs::Accepting::takes_refl, crate::proofs::Accepting::takes_then, crate::proofs::Accepting::takes_cause, crate::proofs::Accepting::room_then))]
     fn accept_all<H: Host<L = A, O = O>>(&mut self, host: &mut H) -> Stop
-        requires seats { 65536 ≤ self.old.worker.seat.parts + length self.old.clients.items }
-        requires few { length self.old.clients.items ≤ (H.now host.old).links }
-        ensures parts { self.new.worker.seat.parts + length self.new.clients.items ≡ self.old.worker.seat.parts + length self.old.clients.items }
-        ensures sinks { self.new.sinks ≡ self.old.sinks }
-        ensures later { IsLater (H.now host.old) (H.now host.new) }
-        ensures lent { (H.now host.new).lent ≡ (H.now host.old).lent }
+        requires room { HasRoom (record { parts = self.old.worker.seat.parts; clients = length self.old.clients.items; sinks = self.old.sinks; host = H.now host.old }) }
+        ensures takes { Takes (record { parts = self.old.worker.seat.parts; clients = length self.old.clients.items; sinks = self.old.sinks; host = H.now host.old }) (record { parts = self.new.worker.seat.parts; clients = length self.new.clients.items; sinks = self.new.sinks; host = H.now host.new }) }
         ensures cause { IsCauseOf result (H.now host.old) (H.now host.new) }
     {
         let rt = self.worker.rt;

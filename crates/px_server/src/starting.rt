@@ -2,6 +2,7 @@
 ghost use Rattle.std.specs.Prelude.{◌≡◌, ◌+◌, ◌<◌, ◌++◌, ◌∷◌, [], length, IfOk, IfErr, OnOk, OnErr};
 ghost use Rattle.std.specs.VecDeque.{deque_capacity};
 ghost use Rattle.px_server.specs.Hosted.{IsLater, IsCauseOf};
+ghost use Rattle.px_server.specs.Accepting.{Starts};
 ghost use Rattle.px_server.specs.Working.{IsHonest, AreTaped};
 
 use crate::crew::SinkRun;
@@ -186,12 +187,8 @@ where
     H: Host,
     requires seats { 1 < worker.old.seat.parts }
     requires some { 0 < length lone.old.items }
-    ensures parts { worker.new.seat.parts + length lone.old.items ≡ worker.old.seat.parts + length lone.new.items }
-    ensures all { sinks.new.items ++ lone.new.items ≡ sinks.old.items ++ lone.old.items }
-    ensures capacity { deque_capacity lone.new ≡ deque_capacity lone.old }
+    ensures starts { Starts (record { parts = worker.old.seat.parts; sinks = sinks.old.items; lone = lone.old.items; capacity = deque_capacity lone.old; host = H.now host.old }) (record { parts = worker.new.seat.parts; sinks = sinks.new.items; lone = lone.new.items; capacity = deque_capacity lone.new; host = H.now host.new }) }
     ensures fewer { OnOk result (length lone.new.items < length lone.old.items) }
-    ensures later { IsLater (H.now host.old) (H.now host.new) }
-    ensures lent { (H.now host.new).lent ≡ (H.now host.old).lent }
     ensures cause { IfErr result (λ stop. IsCauseOf stop (H.now host.old) (H.now host.new)) }
 {
     ask(host)?;
@@ -202,6 +199,7 @@ where
 }
 
 /// Starts the workers of the sinks, in order, as far as that can be.
+#[tactic(auto, using(crate::proofs::Accepting::starts_refl, crate::proofs::Accepting::starts_then, crate::proofs::Accepting::starts_cause))]
 pub(crate) fn start_sinks<R, D, E, C, L, G, O, H>(
     worker: &mut Worker<R, C, L, O>,
     gate: &Arc<G>,
@@ -219,11 +217,7 @@ where
     O: Outlet + Drop + Send + 'static,
     H: Host,
     requires { length lone.old.items < worker.old.seat.parts }
-    ensures parts { worker.new.seat.parts + length lone.old.items ≡ worker.old.seat.parts + length lone.new.items }
-    ensures all { sinks.new.items ++ lone.new.items ≡ sinks.old.items ++ lone.old.items }
-    ensures capacity { deque_capacity lone.new ≡ deque_capacity lone.old }
-    ensures later { IsLater (H.now host.old) (H.now host.new) }
-    ensures lent { (H.now host.new).lent ≡ (H.now host.old).lent }
+    ensures starts { Starts (record { parts = worker.old.seat.parts; sinks = sinks.old.items; lone = lone.old.items; capacity = deque_capacity lone.old; host = H.now host.old }) (record { parts = worker.new.seat.parts; sinks = sinks.new.items; lone = lone.new.items; capacity = deque_capacity lone.new; host = H.now host.new }) }
     ensures cause { IfErr result (λ stop. IsCauseOf stop (H.now host.old) (H.now host.new)) }
 {
     while !lone.is_empty() {

@@ -1,0 +1,40 @@
+-- Starts of workers, and clients that come and go, one behind the other.
+use Rattle.std.proofs.Common.{◌≡◌, ℕ, ◌+◌, ◌≤◌, List, length, arith, refl, ◌∙◌}
+use Rattle.px_server.specs.declared.served.Stop.{Stop}
+use Rattle.px_server.specs.Hosted.{IsCauseOf}
+use Rattle.px_server.specs.Accepting.{Starting, Accepting, Starts, HasRoom, Takes}
+use Rattle.px_server.proofs.Later.{later_refl, later_later, cause_later}
+
+pub starts_refl : {X D R C : Type 0} (a : Starting X D R C) → Starts a a
+starts_refl a = record { parts = refl; all = refl; capacity = refl; later = later_refl a.host; lent = refl }
+
+pub starts_then : {X D R C : Type 0} (a b c : Starting X D R C) → Starts a b → Starts b c → Starts a c
+starts_then a b c first then = record {
+  parts = let one = first.parts in let two = then.parts in omega arith;
+  all = then.all ∙ first.all;
+  capacity = then.capacity ∙ first.capacity;
+  later = later_later a.host b.host c.host first.later then.later;
+  lent = then.lent ∙ first.lent;
+}
+
+pub starts_cause : {X D R C : Type 0} (stop : Stop) (a b c : Starting X D R C) → Starts a b → IsCauseOf stop b.host c.host → IsCauseOf stop a.host c.host
+starts_cause stop a b c first = cause_later stop a.host b.host c.host first.later
+
+pub takes_refl : {X D R C : Type 0} (a : Accepting X D R C) → HasRoom a → Takes a a
+takes_refl a room = record { parts = refl; few = room.few; sinks = refl; later = later_refl a.host; lent = refl }
+
+pub takes_then : {X D R C : Type 0} (a b c : Accepting X D R C) → Takes a b → Takes b c → Takes a c
+takes_then a b c first then = record {
+  parts = then.parts ∙ first.parts;
+  few = then.few;
+  sinks = then.sinks ∙ first.sinks;
+  later = later_later a.host b.host c.host first.later then.later;
+  lent = then.lent ∙ first.lent;
+}
+
+pub takes_cause : {X D R C : Type 0} (stop : Stop) (a b c : Accepting X D R C) → Takes a b → IsCauseOf stop b.host c.host → IsCauseOf stop a.host c.host
+takes_cause stop a b c first = cause_later stop a.host b.host c.host first.later
+
+-- there is room still
+pub room_then : {X D R C : Type 0} (a b : Accepting X D R C) → HasRoom a → Takes a b → HasRoom b
+room_then a b room taken = record { seats = let s = room.seats in let p = taken.parts in omega arith; few = taken.few }
