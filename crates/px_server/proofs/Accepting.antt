@@ -5,19 +5,20 @@ use Rattle.px_server.specs.Hosted.{IsCauseOf}
 use Rattle.px_server.specs.Accepting.{Starting, Accepting, Starts, HasRoom, Takes}
 use Rattle.px_server.proofs.Later.{later_refl, later_later, cause_later}
 
-pub starts_refl : {X D R C : Type 0} (a : Starting X D R C) → Starts a a
-starts_refl a = record { parts = refl; all = refl; capacity = refl; later = later_refl a.host; lent = refl }
+pub starts_refl : {X Y D R C : Type 0} (a : Starting X Y D R C) → Starts a a
+starts_refl a = record { parts = refl; clients = refl; all = refl; capacity = refl; later = later_refl a.host; lent = refl }
 
-pub starts_then : {X D R C : Type 0} (a b c : Starting X D R C) → Starts a b → Starts b c → Starts a c
+pub starts_then : {X Y D R C : Type 0} (a b c : Starting X Y D R C) → Starts a b → Starts b c → Starts a c
 starts_then a b c first then = record {
   parts = let one = first.parts in let two = then.parts in omega arith;
+  clients = then.clients ∙ first.clients;
   all = then.all ∙ first.all;
   capacity = then.capacity ∙ first.capacity;
   later = later_later a.host b.host c.host first.later then.later;
   lent = then.lent ∙ first.lent;
 }
 
-pub starts_cause : {X D R C : Type 0} (stop : Stop) (a b c : Starting X D R C) → Starts a b → IsCauseOf stop b.host c.host → IsCauseOf stop a.host c.host
+pub starts_cause : {X Y D R C : Type 0} (stop : Stop) (a b c : Starting X Y D R C) → Starts a b → IsCauseOf stop b.host c.host → IsCauseOf stop a.host c.host
 starts_cause stop a b c first = cause_later stop a.host b.host c.host first.later
 
 pub takes_refl : {X D R C : Type 0} (a : Accepting X D R C) → HasRoom a → Takes a a

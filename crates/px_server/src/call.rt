@@ -21,10 +21,10 @@ use crate::serving::run;
 use crate::sinks::make_all;
 use px_annals::{CoreEntry, Recorder};
 use px_core::Core;
-use px_core_cell::{CoreCell, CoreEnds, Seats};
+use px_core_cell::{CoreCell, CoreEnds, CoreSeat, Seats};
 use px_desk::{Desk, Worker};
 use px_ends::{Host, Outlet};
-use px_pool::Pool;
+use px_pool::{Pool, PoolSeat};
 use px_session::Header;
 use px_tape::SinkTurns;
 use px_types::{Mem, NoMemory};
@@ -116,6 +116,41 @@ fn make_outside<H: Host>(
     }
 }
 
+// A pool of used blocks, with a seat at it.
+fn pool_of<R: Wait + Copy>(rt: &R, alloc: Global) -> Mem<(Arc<Pool>, PoolSeat<R>)> {
+    let Ok(pool) = Pool::new(alloc, SPARE_BLOCKS) else {
+        return Err(NoMemory);
+    };
+    match Pool::seat(rt, &pool) {
+        Ok(seat) => Ok((pool, seat)),
+        Err(_) => Err(NoMemory),
+    }
+}
+
+// A header's core under its lock, with all shares in its steps.
+fn core_of<C, L>(
+    alloc: Global,
+    header: &Header,
+    recorder: C,
+    ends: CoreEnds,
+    blank: Blank,
+) -> Mem<(CoreCell<C, L>, CoreSeat<L>)>
+where
+    C: Recorder<CoreEntry> + Drop,
+    L: Seats,
+    requires header { IsHeader header.now }
+    requires name { blank.name ≡ L.name }
+    requires parts { (blank.parts ≡ L.parts) × (L.parts ≡ 65552) × (L.all ≡ 65552) }
+    requires began { L.began ≡ new_state header.now }
+    requires boxes { map boxes_of ends.items ≡ L.boxes }
+    requires ends { map ends_of ends.items ≡ map fresh_ends header.now.sinks }
+    requires none { IfSome (C.told recorder) (λ entries. entries ≡ []) }
+    ensures { IfOk result (λ made. made.1.parts ≡ 65552) }
+{
+    let core = Core::new(alloc, header)?;
+    Ok(CoreCell::new(blank, core, recorder, ends))
+}
+
 // The serving call's own hold of a new core, with all shares in its steps.
 fn worker_of<R, C, L, O>(
     rt: &R,
@@ -140,15 +175,9 @@ where
     requires none { IfSome (C.told recorder) (λ entries. entries ≡ []) }
     ensures { IfOk result (λ worker. worker.seat.parts ≡ 65552) }
 {
+    let (core, seat) = core_of::<C, L>(alloc, header, recorder, ends, blank)?;
+    let (pool, blocks) = pool_of(rt, alloc)?;
     let sinks = header.sinks.len() as u8;
-    let core = Core::new(alloc, header)?;
-    let Ok(pool) = Pool::new(alloc, SPARE_BLOCKS) else {
-        return Err(NoMemory);
-    };
-    let Ok(blocks) = Pool::seat(rt, &pool) else {
-        return Err(NoMemory);
-    };
-    let (core, seat) = CoreCell::<C, L>::new(blank, core, recorder, ends);
     let desk = Arc::new(alloc, Desk::new(alloc, core, pool, sinks, taped))?;
     Ok(Worker {
         rt: *rt,

@@ -1,8 +1,8 @@
 //! What a serving call has under way: its workers, from their start to their end.
-ghost use Rattle.std.specs.Prelude.{◌≡◌, ◌+◌, ◌≤◌, ◌<◌, ◌++◌, ◌∷◌, [], List, length, map, true, IfOk, IfErr, OnOk, OnErr, IsSome, vec_capacity};
+ghost use Rattle.std.specs.Prelude.{◌≡◌, ◌+◌, ◌≤◌, ◌<◌, ◌++◌, ◌∷◌, [], List, length, map, true, IfErr, OnOk, IsSome, vec_capacity};
 ghost use Rattle.std.specs.VecDeque.{deque_capacity};
 ghost use Rattle.px_server.specs.Hosted.{IsLater, IsCauseOf, IsOwn};
-ghost use Rattle.px_server.specs.Accepting.{HasRoom, Takes};
+ghost use Rattle.px_server.specs.Accepting.{HasRoom, Starts, Takes};
 ghost use Rattle.px_session.specs.declared.header.SinkSpec.{SinkSpec};
 ghost use Rattle.px_server.specs.Parts.{start_of, starts_of};
 ghost use Rattle.px_server.specs.Serving.{Ends};
@@ -12,17 +12,14 @@ ghost use Rattle.px_server.specs.Working.{boxes_in, tapes_in};
 use crate::crew::{Client, SinkRun};
 use crate::gate::Gate;
 use crate::left::close_with;
-use crate::link_work::LinkWork;
 use crate::lone::Lone;
 use crate::served::{LanePart, Served, Stop, decided, next_link, woven};
-use crate::starting::{new_worker, start_sinks, taken_apart};
-use px_annals::{CoreEntry, LaneEntry, Recorder};
+use crate::starting::{ask, start_client, start_next, taken_apart};
 use px_core_cell::Seats;
 use px_desk::{CoreStop, Worker};
-use px_ends::{Device, Host, Link, Outlet};
-use px_jobs::{Spawned, start};
+use px_ends::Host;
 use px_tape::SinkTurns;
-use px_types::{ConnId, Mem, NoMemory};
+use px_types::{ConnId, Mem};
 use std::alloc::Global;
 use std::collections::VecDeque;
 use std::sync::{Arc, Wait};
@@ -30,34 +27,31 @@ use std::thread::Threads;
 
 // What a serving call has under way.
 #[derive(Drop)]
-struct Serving<R, A, D, E, C, L, G, O>
+struct Serving<R, H, G, L>
 where
     R: Wait + Copy + Drop + Send,
-    A: Link + Drop + Send,
-    D: Device + Drop + Send,
-    E: Recorder<LaneEntry> + Drop + Send,
-    C: Recorder<CoreEntry> + Drop + Send,
-    L: Seats + Send,
+    H: Host,
     G: Gate + Drop + Send + Sync,
-    O: Outlet + Drop + Send,
+    L: Seats + Send,
 {
-    worker: Worker<R, C, L, O>,
+    worker: Worker<R, H::C, L, H::O>,
     gate: Arc<G>,
-    sinks: VecDeque<SinkRun<R, D, E, C, L, G, O>>,
-    clients: VecDeque<Client<R, A, C, L, G, O>>,
+    sinks: VecDeque<SinkRun<R, H::D, H::R, H::C, L, G, H::O>>,
+    clients: VecDeque<Client<R, H::L, H::C, L, G, H::O>>,
     next: u32,
 }
 
-impl<R, A, D, E, C, L, G, O> Serving<R, A, D, E, C, L, G, O>
+impl<R, H, G, L> Serving<R, H, G, L>
 where
     R: Threads + Wait + Copy + Drop + Send + Sync + 'static,
-    A: Link + Drop + Send + 'static,
-    D: Device + Drop + Send + 'static,
-    E: Recorder<LaneEntry> + Drop + Send + 'static,
-    C: Recorder<CoreEntry> + Drop + Send + 'static,
-    L: Seats + Send + Sync + 'static,
+    H: Host,
+    H::L: 'static,
+    H::O: 'static,
+    H::D: 'static,
+    H::R: 'static,
+    H::C: 'static,
     G: Gate + Drop + Send + Sync + 'static,
-    O: Outlet + Drop + Send + 'static,
+    L: Seats + Send + Sync + 'static,
 {
     // Joins the workers of clients that have gone.
     fn reap(&mut self)
@@ -92,35 +86,20 @@ where
     }
 
     // Starts the worker of a client that has connected.
-    fn start_client(&mut self, conn: ConnId, link: A) -> Mem<()>
+    fn start_client(&mut self, conn: ConnId, link: H::L) -> Mem<()>
         requires { 1 < self.old.worker.seat.parts }
         ensures parts { self.new.worker.seat.parts + length self.new.clients.items ≡ self.old.worker.seat.parts + length self.old.clients.items }
         ensures more { length self.new.clients.items ≤ length self.old.clients.items + 1 }
         ensures sinks { self.new.sinks ≡ self.old.sinks }
     {
         self.clients.reserve(1)?;
-        let (worker, gate) = new_worker(&mut self.worker, &self.gate)?;
-        let job = LinkWork {
-            worker,
-            conn,
-            link,
-            gate,
-        };
-        let rt = self.worker.rt;
-        match start(&rt, self.worker.alloc, job) {
-            Spawned::Started(running) => {
-                self.clients.push_back_reserved(Client { conn, running });
-                Ok(())
-            }
-            Spawned::Refused(job) | Spawned::NoMemory(job) => {
-                self.worker.seat.merge(job.worker.seat);
-                Err(NoMemory)
-            }
-        }
+        let client = start_client(&mut self.worker, &self.gate, conn, link)?;
+        self.clients.push_back_reserved(client);
+        Ok(())
     }
 
     // Takes in a client.
-    fn admit(&mut self, link: A, outlet: Option<O>) -> Result<(), Stop>
+    fn admit(&mut self, link: H::L, outlet: Option<H::O>) -> Result<(), Stop>
         requires { 1 < self.old.worker.seat.parts }
         ensures parts { self.new.worker.seat.parts + length self.new.clients.items ≡ self.old.worker.seat.parts + length self.old.clients.items }
         ensures more { length self.new.clients.items ≤ length self.old.clients.items + 1 }
@@ -146,7 +125,7 @@ where
 
     // Takes in the next client, where one comes.
     #[tactic(auto, using(crate::proofs::Later::cause_own))]
-    fn accept_one<H: Host<L = A, O = O>>(&mut self, host: &mut H) -> Result<(), Stop>
+    fn accept_one(&mut self, host: &mut H) -> Result<(), Stop>
         requires room { HasRoom (record { parts = self.old.worker.seat.parts; clients = length self.old.clients.items; sinks = self.old.sinks; host = H.now host.old }) }
         ensures takes { Takes (record { parts = self.old.worker.seat.parts; clients = length self.old.clients.items; sinks = self.old.sinks; host = H.now host.old }) (record { parts = self.new.worker.seat.parts; clients = length self.new.clients.items; sinks = self.new.sinks; host = H.now host.new }) }
         ensures cause { IfErr result (λ stop. IsCauseOf stop (H.now host.old) (H.now host.new)) }
@@ -157,8 +136,7 @@ where
     }
 
     // Takes in clients until no more come.
-    #[tactic(auto, using(crate::proofs::Accepting::takes_refl, crate::proofs::Accepting::takes_then, crate::proofs::Accepting::takes_cause, crate::proofs::Accepting::room_then))]
-    fn accept_all<H: Host<L = A, O = O>>(&mut self, host: &mut H) -> Stop
+    fn accept_all(&mut self, host: &mut H) -> Stop
         requires room { HasRoom (record { parts = self.old.worker.seat.parts; clients = length self.old.clients.items; sinks = self.old.sinks; host = H.now host.old }) }
         ensures takes { Takes (record { parts = self.old.worker.seat.parts; clients = length self.old.clients.items; sinks = self.old.sinks; host = H.now host.old }) (record { parts = self.new.worker.seat.parts; clients = length self.new.clients.items; sinks = self.new.sinks; host = H.now host.new }) }
         ensures cause { IsCauseOf result (H.now host.old) (H.now host.new) }
@@ -172,8 +150,39 @@ where
         unreachable!()
     }
 
+    // Starts the worker of the next sink, of those that there are, where the host lets it. Where that can't be, the sink stays.
+    fn start_one(&mut self, lone: &mut VecDeque<Lone<H::D, H::R>>, host: &mut H) -> Result<(), Stop>
+        requires seats { 1 < self.old.worker.seat.parts }
+        requires some { 0 < length lone.old.items }
+        ensures starts { Starts (record { parts = self.old.worker.seat.parts; clients = self.old.clients; sinks = self.old.sinks.items; lone = lone.old.items; capacity = deque_capacity lone.old; host = H.now host.old }) (record { parts = self.new.worker.seat.parts; clients = self.new.clients; sinks = self.new.sinks.items; lone = lone.new.items; capacity = deque_capacity lone.new; host = H.now host.new }) }
+        ensures fewer { OnOk result (length lone.new.items < length lone.old.items) }
+        ensures cause { IfErr result (λ stop. IsCauseOf stop (H.now host.old) (H.now host.new)) }
+    {
+        ask(host)?;
+        match start_next(&mut self.worker, &self.gate, &mut self.sinks, lone) {
+            Ok(()) => Ok(()),
+            Err(_) => Err(Stop::Memory),
+        }
+    }
+
+    // Starts the workers of the sinks, in order, as far as that can be.
+    fn start_sinks(
+        &mut self,
+        lone: &mut VecDeque<Lone<H::D, H::R>>,
+        host: &mut H,
+    ) -> Result<(), Stop>
+        requires { length lone.old.items < self.old.worker.seat.parts }
+        ensures starts { Starts (record { parts = self.old.worker.seat.parts; clients = self.old.clients; sinks = self.old.sinks.items; lone = lone.old.items; capacity = deque_capacity lone.old; host = H.now host.old }) (record { parts = self.new.worker.seat.parts; clients = self.new.clients; sinks = self.new.sinks.items; lone = lone.new.items; capacity = deque_capacity lone.new; host = H.now host.new }) }
+        ensures cause { IfErr result (λ stop. IsCauseOf stop (H.now host.old) (H.now host.new)) }
+    {
+        while !lone.is_empty() {
+            self.start_one(lone, host)?;
+        }
+        Ok(())
+    }
+
     // Starts the workers of the sinks, and takes in clients until no more come.
-    fn work<H: Host<L = A, O = O>>(&mut self, host: &mut H, lone: &mut VecDeque<Lone<D, E>>) -> Stop
+    fn work(&mut self, host: &mut H, lone: &mut VecDeque<Lone<H::D, H::R>>) -> Stop
         requires idle { (self.old.sinks.items ≡ []) × (self.old.clients.items ≡ []) }
         requires seats { self.old.worker.seat.parts ≡ 65552 }
         requires few { length lone.old.items ≤ 16 }
@@ -184,14 +193,14 @@ where
         ensures lent { (H.now host.new).lent ≡ (H.now host.old).lent }
         ensures cause { IsCauseOf result (H.now host.old) (H.now host.new) }
     {
-        match start_sinks(&mut self.worker, &self.gate, &mut self.sinks, lone, host) {
+        match self.start_sinks(lone, host) {
             Ok(()) => self.accept_all(host),
             Err(stop) => stop,
         }
     }
 
     // Joins the workers of the sinks, which go before those that no worker had.
-    fn join_sinks(&mut self, lone: &mut VecDeque<Lone<D, E>>)
+    fn join_sinks(&mut self, lone: &mut VecDeque<Lone<H::D, H::R>>)
         requires room { length self.old.sinks.items + length lone.old.items ≤ deque_capacity lone.old }
         ensures parts { self.new.worker.seat.parts ≡ self.old.worker.seat.parts + length self.old.sinks.items }
         ensures starts { map start_of lone.new.items ≡ map start_of (self.old.sinks.items ++ lone.old.items) }
@@ -208,7 +217,7 @@ where
     }
 
     // Joins all workers, those of the clients first. What is left is the call's own hold of the core, with all shares.
-    fn joined(mut self, lone: &mut VecDeque<Lone<D, E>>) -> Worker<R, C, L, O>
+    fn joined(mut self, lone: &mut VecDeque<Lone<H::D, H::R>>) -> Worker<R, H::C, L, H::O>
         requires parts { self.worker.seat.parts + length self.sinks.items + length self.clients.items ≡ 65552 }
         requires room { length self.sinks.items + length lone.old.items ≤ deque_capacity lone.old }
         ensures seats { result.seat.parts ≡ 65552 }
@@ -251,7 +260,7 @@ where
     ensures cause { IsCauseOf result.1 (H.now host.old) (H.now host.new) }
 {
     let alloc = worker.alloc;
-    let mut serving = Serving::<R, H::L, H::D, H::R, H::C, L, G, H::O> {
+    let mut serving = Serving::<R, H, G, L> {
         worker,
         gate,
         sinks: VecDeque::new(alloc),

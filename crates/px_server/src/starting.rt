@@ -2,20 +2,20 @@
 ghost use Rattle.std.specs.Prelude.{◌≡◌, ◌+◌, ◌<◌, ◌++◌, ◌∷◌, [], length, IfOk, IfErr, OnOk, OnErr};
 ghost use Rattle.std.specs.VecDeque.{deque_capacity};
 ghost use Rattle.px_server.specs.Hosted.{IsLater, IsCauseOf};
-ghost use Rattle.px_server.specs.Accepting.{Starts};
 ghost use Rattle.px_server.specs.Working.{IsHonest, AreTaped};
 
-use crate::crew::SinkRun;
+use crate::crew::{Client, SinkRun};
 use crate::gate::Gate;
+use crate::link_work::LinkWork;
 use crate::lone::Lone;
 use crate::served::Stop;
 use crate::sink_work::SinkWork;
 use px_annals::{CoreEntry, LaneEntry, Recorder};
 use px_core_cell::Seats;
 use px_desk::Worker;
-use px_ends::{Device, Host, Outlet};
+use px_ends::{Device, Host, Link, Outlet};
 use px_jobs::{Spawned, start};
-use px_types::{Mem, NoMemory};
+use px_types::{ConnId, Mem, NoMemory};
 use std::collections::VecDeque;
 use std::sync::{Arc, Wait};
 use std::thread::Threads;
@@ -115,8 +115,72 @@ where
     }
 }
 
-// Starts the worker of the next sink, of those that there are. Where that can't be, the sink stays.
-fn start_next<R, D, E, C, L, G, O>(
+// Starts a worker with a sink, with one share of this worker's. Where that can't be, the sink comes back, and the share.
+fn start_sink<R, D, E, C, L, G, O>(
+    worker: &mut Worker<R, C, L, O>,
+    gate: &Arc<G>,
+    lone: Lone<D, E>,
+) -> Result<SinkRun<R, D, E, C, L, G, O>, Lone<D, E>>
+where
+    R: Threads + Wait + Copy + Drop + Send + Sync + 'static,
+    D: Device + Drop + Send + 'static,
+    E: Recorder<LaneEntry> + Drop + Send + 'static,
+    C: Recorder<CoreEntry> + Drop + Send + 'static,
+    L: Seats + Send + Sync + 'static,
+    G: Gate + Drop + Send + Sync + 'static,
+    O: Outlet + Drop + Send + 'static,
+    requires { 1 < worker.old.seat.parts }
+    ensures ok { IfOk result (λ run. (run ≡ lone) × (worker.new.seat.parts + 1 ≡ worker.old.seat.parts)) }
+    ensures err { IfErr result (λ back. (back ≡ lone) × (worker.new.seat.parts ≡ worker.old.seat.parts)) }
+{
+    let Ok((other, gate)) = new_worker(worker, gate) else {
+        return Err(lone);
+    };
+    match start_with(other, gate, lone) {
+        Ok(run) => Ok(run),
+        Err((other, lone)) => {
+            worker.seat.merge(other.seat);
+            Err(lone)
+        }
+    }
+}
+
+/// Starts a worker with a client's link, with one share of this worker's. Where that can't be, the share comes back.
+pub(crate) fn start_client<R, A, C, L, G, O>(
+    worker: &mut Worker<R, C, L, O>,
+    gate: &Arc<G>,
+    conn: ConnId,
+    link: A,
+) -> Mem<Client<R, A, C, L, G, O>>
+where
+    R: Threads + Wait + Copy + Drop + Send + Sync + 'static,
+    A: Link + Drop + Send + 'static,
+    C: Recorder<CoreEntry> + Drop + Send + 'static,
+    L: Seats + Send + Sync + 'static,
+    G: Gate + Drop + Send + Sync + 'static,
+    O: Outlet + Drop + Send + 'static,
+    requires { 1 < worker.old.seat.parts }
+    ensures ok { OnOk result (worker.new.seat.parts + 1 ≡ worker.old.seat.parts) }
+    ensures err { OnErr result (worker.new.seat.parts ≡ worker.old.seat.parts) }
+{
+    let (other, gate) = new_worker(worker, gate)?;
+    let job = LinkWork {
+        worker: other,
+        conn,
+        link,
+        gate,
+    };
+    match start(&worker.rt, worker.alloc, job) {
+        Spawned::Started(running) => Ok(Client { conn, running }),
+        Spawned::Refused(job) | Spawned::NoMemory(job) => {
+            worker.seat.merge(job.worker.seat);
+            Err(NoMemory)
+        }
+    }
+}
+
+/// Starts the worker of the next sink, of those that there are. Where that can't be, the sink stays.
+pub(crate) fn start_next<R, D, E, C, L, G, O>(
     worker: &mut Worker<R, C, L, O>,
     gate: &Arc<G>,
     sinks: &mut VecDeque<SinkRun<R, D, E, C, L, G, O>>,
@@ -138,25 +202,23 @@ where
     ensures fewer { OnOk result (length lone.new.items < length lone.old.items) }
 {
     sinks.reserve(1)?;
-    let (other, gate) = new_worker(worker, gate)?;
     let Some(one) = lone.pop_front() else {
         unreachable!()
     };
-    match start_with(other, gate, one) {
+    match start_sink(worker, gate, one) {
         Ok(run) => {
             sinks.push_back_reserved(run);
             Ok(())
         }
-        Err((other, one)) => {
-            worker.seat.merge(other.seat);
+        Err(one) => {
             lone.push_front_reserved(one);
             Err(NoMemory)
         }
     }
 }
 
-// Whether the host lets one more worker start.
-fn ask<H: Host>(host: &mut H) -> Result<(), Stop>
+/// Whether the host lets one more worker start.
+pub(crate) fn ask<H: Host>(host: &mut H) -> Result<(), Stop>
     ensures later { IsLater (H.now host.old) (H.now host.new) }
     ensures lent { (H.now host.new).lent ≡ (H.now host.old).lent }
     ensures cause { IfErr result (λ stop. IsCauseOf stop (H.now host.old) (H.now host.new)) }
@@ -166,62 +228,4 @@ fn ask<H: Host>(host: &mut H) -> Result<(), Stop>
     } else {
         Err(Stop::Host)
     }
-}
-
-// Starts the worker of the next sink, of those that there are, where the host lets it. Where that can't be, the sink stays.
-fn start_one<R, D, E, C, L, G, O, H>(
-    worker: &mut Worker<R, C, L, O>,
-    gate: &Arc<G>,
-    sinks: &mut VecDeque<SinkRun<R, D, E, C, L, G, O>>,
-    lone: &mut VecDeque<Lone<D, E>>,
-    host: &mut H,
-) -> Result<(), Stop>
-where
-    R: Threads + Wait + Copy + Drop + Send + Sync + 'static,
-    D: Device + Drop + Send + 'static,
-    E: Recorder<LaneEntry> + Drop + Send + 'static,
-    C: Recorder<CoreEntry> + Drop + Send + 'static,
-    L: Seats + Send + Sync + 'static,
-    G: Gate + Drop + Send + Sync + 'static,
-    O: Outlet + Drop + Send + 'static,
-    H: Host,
-    requires seats { 1 < worker.old.seat.parts }
-    requires some { 0 < length lone.old.items }
-    ensures starts { Starts (record { parts = worker.old.seat.parts; sinks = sinks.old.items; lone = lone.old.items; capacity = deque_capacity lone.old; host = H.now host.old }) (record { parts = worker.new.seat.parts; sinks = sinks.new.items; lone = lone.new.items; capacity = deque_capacity lone.new; host = H.now host.new }) }
-    ensures fewer { OnOk result (length lone.new.items < length lone.old.items) }
-    ensures cause { IfErr result (λ stop. IsCauseOf stop (H.now host.old) (H.now host.new)) }
-{
-    ask(host)?;
-    match start_next(worker, gate, sinks, lone) {
-        Ok(()) => Ok(()),
-        Err(_) => Err(Stop::Memory),
-    }
-}
-
-/// Starts the workers of the sinks, in order, as far as that can be.
-#[tactic(auto, using(crate::proofs::Accepting::starts_refl, crate::proofs::Accepting::starts_then, crate::proofs::Accepting::starts_cause))]
-pub(crate) fn start_sinks<R, D, E, C, L, G, O, H>(
-    worker: &mut Worker<R, C, L, O>,
-    gate: &Arc<G>,
-    sinks: &mut VecDeque<SinkRun<R, D, E, C, L, G, O>>,
-    lone: &mut VecDeque<Lone<D, E>>,
-    host: &mut H,
-) -> Result<(), Stop>
-where
-    R: Threads + Wait + Copy + Drop + Send + Sync + 'static,
-    D: Device + Drop + Send + 'static,
-    E: Recorder<LaneEntry> + Drop + Send + 'static,
-    C: Recorder<CoreEntry> + Drop + Send + 'static,
-    L: Seats + Send + Sync + 'static,
-    G: Gate + Drop + Send + Sync + 'static,
-    O: Outlet + Drop + Send + 'static,
-    H: Host,
-    requires { length lone.old.items < worker.old.seat.parts }
-    ensures starts { Starts (record { parts = worker.old.seat.parts; sinks = sinks.old.items; lone = lone.old.items; capacity = deque_capacity lone.old; host = H.now host.old }) (record { parts = worker.new.seat.parts; sinks = sinks.new.items; lone = lone.new.items; capacity = deque_capacity lone.new; host = H.now host.new }) }
-    ensures cause { IfErr result (λ stop. IsCauseOf stop (H.now host.old) (H.now host.new)) }
-{
-    while !lone.is_empty() {
-        start_one(worker, gate, sinks, lone, host)?;
-    }
-    Ok(())
 }

@@ -9,8 +9,8 @@ pub loop-running-preserved : goal.loop-running-preserved
 loop-running-preserved g c =
     let job = c.join-job.result in
     let was = given_to c.in-Some.field-0.running in
-    let given : Unworked g.row.D.Denot g.row.E.Denot = record { sink = was.sink; cell = was.cell; met = was.met; turns = was.turns } in
-    let back : Unworked g.row.D.Denot g.row.E.Denot = record { sink = job.sink; cell = job.cell; met = job.met; turns = job.turns } in
+    let given : Unworked g.row.H-D.Denot g.row.H-R.Denot = record { sink = was.sink; cell = was.cell; met = was.met; turns = was.turns } in
+    let back : Unworked g.row.H-D.Denot g.row.H-R.Denot = record { sink = job.sink; cell = job.cell; met = job.met; turns = job.turns } in
     let behind : c.loop-running.self.sinks.items ≡ c.pop_back.new.self.items ++ given ∷ [] = search rules in
     let front : c.push_front_reserved.new.self.items ≡ back ∷ c.loop-running.lone.items = search rules in
     record {
