@@ -14,7 +14,7 @@ use crate::gate::Gate;
 use crate::left::close_with;
 use crate::lone::Lone;
 use crate::served::{LanePart, Served, Stop, decided, next_link, woven};
-use crate::starting::{ask, start_client, start_next, taken_apart};
+use crate::starting::{ask, start_client, start_next};
 use px_core_cell::Seats;
 use px_desk::{CoreStop, Worker};
 use px_ends::Host;
@@ -59,7 +59,6 @@ where
         ensures fewer { length self.new.clients.items ≤ length self.old.clients.items }
         ensures sinks { self.new.sinks ≡ self.old.sinks }
     {
-        let rt = self.worker.rt;
         for _ in 0..self.clients.len() {
             let Some(client) = self.clients.pop_front() else {
                 return;
@@ -67,8 +66,7 @@ where
             if self.worker.has_line(client.conn) {
                 self.clients.push_back_reserved(client);
             } else {
-                let job = client.running.join(&rt);
-                self.worker.seat.merge(job.worker.seat);
+                client.join(&mut self.worker);
             }
         }
     }
@@ -78,10 +76,8 @@ where
         ensures parts { self.new.worker.seat.parts ≡ self.old.worker.seat.parts + length self.old.clients.items }
         ensures sinks { self.new.sinks ≡ self.old.sinks }
     {
-        let rt = self.worker.rt;
         while let Some(client) = self.clients.pop_front() {
-            let job = client.running.join(&rt);
-            self.worker.seat.merge(job.worker.seat);
+            client.join(&mut self.worker);
         }
     }
 
@@ -207,12 +203,8 @@ where
         ensures boxes { map boxes_in lone.new.items ≡ map boxes_in (self.old.sinks.items ++ lone.old.items) }
         ensures tapes { map tapes_in lone.new.items ≡ map tapes_in (self.old.sinks.items ++ lone.old.items) }
     {
-        let rt = self.worker.rt;
-        while let Some(SinkRun { running }) = self.sinks.pop_back() {
-            let job = running.join(&rt);
-            let (worker, one) = taken_apart(job);
-            self.worker.seat.merge(worker.seat);
-            lone.push_front_reserved(one);
+        while let Some(run) = self.sinks.pop_back() {
+            lone.push_front_reserved(run.join(&mut self.worker));
         }
     }
 

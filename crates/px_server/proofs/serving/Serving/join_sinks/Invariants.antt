@@ -4,8 +4,8 @@ use Rattle.px_server.specs.Parts.{start_of}
 use Rattle.px_server.specs.Working.{boxes_in, tapes_in}
 use Rattle.px_server.proofs.serving.Serving.join_sinks.Given as goal
 
-abbrev pub invariant-loop-running : goal.invariant-loop-running
-invariant-loop-running g l = record {
+abbrev pub invariant-loop-run : goal.invariant-loop-run
+invariant-loop-run g l = record {
   parts : l.self.worker.seat.parts + length l.self.sinks.items ≡ l.fn.self.worker.seat.parts + length l.fn.self.sinks.items;
   room : length l.self.sinks.items + length l.lone.items ≤ deque_capacity l.lone;
   starts : map start_of (l.self.sinks.items ++ l.lone.items) ≡ map start_of (l.fn.self.sinks.items ++ l.fn.lone.items);
@@ -14,5 +14,5 @@ invariant-loop-running g l = record {
 }
 
 -- how many are left
-abbrev pub decreases-loop-running : goal.decreases-loop-running
-decreases-loop-running g l = length l.self.sinks.items
+abbrev pub decreases-loop-run : goal.decreases-loop-run
+decreases-loop-run g l = length l.self.sinks.items
