@@ -1,4 +1,7 @@
+use Rattle.std.proofs.Common.{subst, IfErr}
+use Rattle.px_server.specs.Hosted.{IsCauseOf}
 use Rattle.px_server.proofs.Accepting.{takes_refl, takes_then, room_then}
+use Rattle.px_server.proofs.Later.{cause_later}
 use Rattle.px_server.proofs.serving.Serving.accept_all.Goals as goal
 
 pub loop-init : goal.loop-init
@@ -12,3 +15,8 @@ loop-preserved g c = takes_then _ _ _ c.loop.invariant c.accept_one.ensures.take
 
 pub returns-in-Err-clause-takes : goal.returns-in-Err-clause-takes
 returns-in-Err-clause-takes g c = takes_then _ _ _ c.loop.invariant c.accept_one.ensures.takes
+
+pub returns-in-Err-clause-cause : goal.returns-in-Err-clause-cause
+returns-in-Err-clause-cause g c =
+    let cause = subst (λ (r : _). IfErr r (λ stop. IsCauseOf stop (g.H.Host.now c.loop.host) (g.H.Host.now c.accept_one.new.host))) c.in-Err.is c.accept_one.ensures.cause in
+    cause_later _ _ _ _ c.loop.invariant.later cause
