@@ -4,3 +4,4 @@ mod Parts
 mod Delivering
 mod Ending
 mod Taping
+mod Making
