@@ -1,3 +1,4 @@
 pub mod ToldBytes
 pub mod Filling
 pub mod Frames
+mod Failing

@@ -168,6 +168,13 @@ impl MemDevice {
         }
         Ok(Played::from_vec(mem::replace(&mut self.played, room)))
     }
+
+    // Whether the next sync fails.
+    fn is_failing(&self) -> bool
+        ensures { result ≡ (self.now.stopping || self.now.failed) }
+    {
+        self.stopping || self.failed
+    }
 }
 
 impl Device for MemDevice {
@@ -182,7 +189,7 @@ impl Device for MemDevice {
         ensures after { OnOk result (self.new ≡ synced (due_in self.old) self.old) }
         ensures after_fault { OnErr result (self.new ≡ sync_failed self.old) }
     {
-        if self.stopping || self.failed {
+        if self.is_failing() {
             self.failed = true;
             self.faults = self.faults.saturating_add(1);
             return Err(DeviceFault);

@@ -1,8 +1,10 @@
 -- Numbers channel by channel.
-use Rattle.std.proofs.Common.{◌≡◌, ℕ, ◌+◌, ◌<◌, ◌≤◌, List, [], ◌∷◌, ◌++◌, zero, suc, length, get_or, max, refl, ap, sym, ◌∙◌, subst, arith}
+use Rattle.std.proofs.Common.{◌≡◌, ℕ, ◌+◌, ◌<◌, ◌≤◌, List, [], ◌∷◌, ◌++◌, zero, suc, length, get_or, max, refl, ap, sym, ◌∙◌, subst, arith, below_more}
 use Rattle.std.proofs.lemmas.List.FromFn.{get_or-map-range_with_len, length-map-range_with_len, map-range_with_len_more}
 use Rattle.std.proofs.lemmas.Grind.{same_number_lists}
 use Rattle.std.proofs.lemmas.List.Sums.{fold-append}
+use Rattle.std.proofs.lemmas.List.{get_or-set_same, get_or-set_other}
+use Rattle.std.specs.Prelude.{slice_set}
 use Rattle.px_vol.specs.Volume.{IsChannelVolume, greatest}
 use Rattle.px_flat.specs.Channels.{at, per_channel, greatest_of}
 
@@ -35,6 +37,17 @@ is_volume values channels long some few each = record {
   few = omega arith;
   bounded = λ c d below. subst (λ v. v ≤ greatest) (same_default values c 0 d below) (each c (omega arith));
 }
+
+-- a channel of a volume is in range
+pub in_range : (values held : List ℕ) (c : ℕ) → held ≡ values → IsChannelVolume values → c < length values → at held c ≤ greatest
+in_range values held c same volume below = subst (λ (v : List ℕ). at v c ≤ greatest) (sym same) (volume.bounded c 0 below)
+
+-- what holds of each channel so far holds of one more that is written
+pub one_more : (Holds : ℕ → ℕ → Type 0) (values : List ℕ) (c v : ℕ) → c < length values → Holds c v
+    → ((k : ℕ) → k < c → Holds k (at values k)) → (k : ℕ) → k < c + 1 → Holds k (at (slice_set values c v) k)
+one_more Holds values c v below holds so = below_more (λ (k : ℕ). Holds k (at (slice_set values c v) k)) c
+    (λ k within. subst (Holds k) (sym (get_or-set_other values c k v 0 (λ e. absurd (omega (arith, e, within))))) (so k within))
+    (subst (Holds c) (sym (get_or-set_same values c v 0 below)) holds)
 
 -- ---- greatest numbers
 

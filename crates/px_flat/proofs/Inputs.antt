@@ -1,5 +1,5 @@
 -- Which inputs a group has after a change.
-use Rattle.std.proofs.Common.{◌≡◌, ◌<◌, ◌≤◌, ℕ, zero, suc, ◌+◌, arith, max, refl, Bool, true, false, List, [], ◌∷◌, ◌++◌, map, length, get_or, cond, Some, None, ap, sym, ◌∙◌, subst}
+use Rattle.std.proofs.Common.{◌≡◌, ◌<◌, ◌≤◌, ℕ, zero, suc, arith, max, refl, Bool, true, false, List, [], ◌∷◌, ◌++◌, map, length, get_or, cond, Some, None, ap, sym, ◌∙◌, subst}
 use Rattle.std.specs.Prelude.{filter, nat_eq, All, IsSome, ◌||◌, if◌then◌else◌}
 use Rattle.std.specs.List.{fold}
 use Rattle.std.proofs.lemmas.Bool.{false≢true, eqb-true, eqb-false, eq-eqb, ne_eqb}

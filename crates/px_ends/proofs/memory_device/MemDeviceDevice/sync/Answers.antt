@@ -1,8 +1,10 @@
-use Rattle.std.proofs.Common.{◌+◌, ◌-◌, ◌*◌, ◌≤◌, ℕ, length, take, ap, arith, length-append, subst}
+use Rattle.std.proofs.Common.{◌+◌, ◌-◌, ◌*◌, ◌<◌, ◌≤◌, ◌^◌, ℕ, length, take, ap, sym, refl, ◌∙◌, arith, length-append, subst, rules}
 use Rattle.std.proofs.lemmas.List.{length-take-le}
-use Rattle.px_ends.specs.Device.{HoldsFrames}
-use Rattle.px_ends.specs.MemoryDevice.{left_after, state_of}
+use Rattle.px_ends.specs.Device.{HoldsFrames, Fails}
+use Rattle.px_ends.specs.MemoryDevice.{left_after, state_of, sync_failed}
+use Rattle.px_ends.proofs.Failing.{sync_fails}
 use Rattle.px_ends.proofs.Frames.{frames_inside, frames_left, due_waits, room_left, frames_between}
+use Rattle.px_ends.specs.contracts.memory_device.MemDevice.{the_view}
 use Rattle.px_ends.proofs.memory_device.MemDeviceDevice.sync.Goals as goal
 
 pub play_front-requires-clause-inside : goal.play_front-requires-clause-inside
@@ -43,8 +45,8 @@ invariant_of-self-2 c =
       ),
     )
 
-pub returns-then-self-clause-full : goal.returns-then-self-clause-full
-returns-then-self-clause-full c =
+pub returns-then-is_failing-clause-full : goal.returns-then-is_failing-clause-full
+returns-then-is_failing-clause-full c =
     let d = c.self.inside in
     let h = c.self.invariant in
     let full = frames_between (length d.buffer.items) d.consumed d.filled d.frame h.6 h.3 in
@@ -58,3 +60,15 @@ returns-clause-full c =
       subst (λ v. HoldsFrames (state_of v)) c.self.view_is (frames_between (length d.buffer.items) d.consumed d.filled d.frame h.6 h.3),
       frames_between (length c.play_front.new.buffer.items) (d.consumed + c.due-frames.result) d.filled d.frame n.6 n.3,
     )
+
+pub returns-then-is_failing-clause-after_fault : goal.returns-then-is_failing-clause-after_fault
+returns-then-is_failing-clause-after_fault c =
+    ap (λ (n : ℕ). record (sync_failed (the_view c.self.inside)) { faults = n }) c.saturating_add-self-inside.ensures ∙ ap sync_failed c.self.view_is
+
+pub returns-then-is_failing-clause-err : goal.returns-then-is_failing-clause-err
+returns-then-is_failing-clause-err c =
+    let small : c.args.self.now.faults < 2 ^ 64 = search rules in
+    subst (λ v. Fails (state_of c.args.self.now) (state_of v)) (sym (returns-then-is_failing-clause-after_fault c)) (sync_fails c.args.self.now small (sym c.is_failing.ensures ∙ c.if-is_failing.true))
+
+pub returns-then-is_failing-clause-fails : goal.returns-then-is_failing-clause-fails
+returns-then-is_failing-clause-fails c = (λ e. sym c.is_failing.ensures ∙ c.if-is_failing.true, λ t. refl)
