@@ -1,14 +1,16 @@
 -- A packet from its front to its end.
 use Rattle.std.proofs.Common.{◌≡◌, ℕ, ◌<◌, ◌≤◌, true, false, ltb, List, Option, None, Some, Result, Ok, Err, refl, ap, ◌∙◌}
 use Rattle.std.proofs.lemmas.Bool.{lt-ltb, le-ltb}
+use Rattle.std.specs.Prelude.{MatchResult, IsOkAnd, IsErrAnd}
 use Rattle.px_tag.specs.declared.fault.TagFault.{TagFault}
-use Rattle.px_tag.specs.Place.{Place, start_of, ◌>>=◌}
+use Rattle.px_tag.specs.Place.{Place, start_of, Gives, ◌>>=◌}
 use Rattle.px_tag.specs.Reading.{end_at}
 use Rattle.px_cmd.specs.declared.fault.CmdFault.{CmdFault}
 use Rattle.px_cmd.specs.declared.fault.CmdFault.TheVariants.{Protocol, Unknown, Unsupported, NoMemory}
 use Rattle.px_cmd.specs.Field.{Kind, Field, fields_at}
+use Rattle.px_cmd.specs.declared.command.Command.{Command}
 use Rattle.px_cmd.specs.Table.{kinds_of}
-use Rattle.px_cmd.specs.Packet.{head_at, protocol, fields_or, command_at, with_number, meaning, taken, FailsAs}
+use Rattle.px_cmd.specs.Packet.{head_at, protocol, fields_or, command_at, with_number, meaning, taken, FailsAs, Answers}
 
 abbrev refused : {A : Type 0} → CmdFault → Result A CmdFault
 refused fault = Err fault
@@ -70,3 +72,18 @@ module _ (packet : List ℕ) (command tag : ℕ) (place : Place) (front : head_a
       means e =
           let last : fields_or (kinds_of command) command place ≡ Ok fields = rw (taken_ok (kinds_of command) command place fields after read, e) refl in
           whole ∙ ap (with_number command) last
+
+-- ---- a command that is kept through the test of the end
+
+module _ (view : Command → ℕ × List Field) (read : Result (ℕ × List Field) CmdFault) (command : Command) (after : Place)
+    (means_it : end_at after ≡ Ok tt → read ≡ Ok (view command)) (fails_it : (fault : TagFault) → end_at after ≡ Err fault → read ≡ Err (Protocol fault)) where
+  pub closes : {Kept : Unit {0} → Command → Type 0} (keeps : (nothing : Unit {0}) (same : Command) → Kept nothing same → same ≡ command) (end : Result (Unit {0}) TagFault) (kept : Result Command TagFault) (result : Result Command CmdFault)
+      → Gives {X = Unit {0}} {Y = Unit {0}} (λ nothing. nothing) end (end_at after)
+      → MatchResult end (λ nothing. IsOkAnd kept (λ same. Kept nothing same)) (λ fault. kept ≡ Err fault)
+      → MatchResult kept (λ same. result ≡ Ok same) (λ fault. IsErrAnd result (λ named. named ≡ Protocol fault))
+      → Answers view result read
+  closes keeps (Ok nothing) (Ok same) result e is given = rw (given, keeps nothing same is) (means_it e)
+  closes keeps (Ok nothing) (Err fault) result e is given = absurd is
+  closes keeps (Err fault) (Ok same) result e is given = absurd cc
+  closes keeps (Err fault) (Err other) (Ok x) e is given = absurd given
+  closes keeps (Err fault) (Err other) (Err named) e is given = let one : other ≡ fault = cc in rw (given, one) (fails_it fault e)

@@ -106,29 +106,14 @@ fn last_fields(alloc: Global, number: u32, reader: &mut TagReader) -> Result<Com
     }
 }
 
-// The fields of a command whose number is 36 at least.
-fn later_fields(alloc: Global, number: u32, reader: &mut TagReader) -> Result<Command, CmdFault>
-    requires { 36 ≤ number }
+// The fields of a command whose number is 41 at least.
+fn stream_fields(alloc: Global, number: u32, reader: &mut TagReader) -> Result<Command, CmdFault>
+    requires { 41 ≤ number }
     ensures value { Reaches result number reader.new (taken (kinds_of number) number reader.old) }
     ensures numbered { IfOk result IsNumbered }
     ensures plain { IfOk result IsOfVersion13 }
 {
     match number {
-        36 => {
-            let sink = sink(alloc, reader)?;
-            let volume = reader.cvolume()?;
-            Ok(Command::SinkVolume { sink, volume })
-        }
-        37 => {
-            let input = reader.number()?;
-            let volume = reader.cvolume()?;
-            Ok(Command::InputVolume { input, volume })
-        }
-        39 => {
-            let sink = sink(alloc, reader)?;
-            let on = reader.flag()?;
-            Ok(Command::SinkMute { sink, on })
-        }
         41 => {
             let stream = reader.number()?;
             let on = reader.flag()?;
@@ -156,34 +141,42 @@ fn later_fields(alloc: Global, number: u32, reader: &mut TagReader) -> Result<Co
     }
 }
 
-// The fields of the command with this number.
-fn fields(alloc: Global, number: u32, reader: &mut TagReader) -> Result<Command, CmdFault>
+// The fields of a command whose number is 36 at least.
+fn later_fields(alloc: Global, number: u32, reader: &mut TagReader) -> Result<Command, CmdFault>
+    requires { 36 ≤ number }
     ensures value { Reaches result number reader.new (taken (kinds_of number) number reader.old) }
     ensures numbered { IfOk result IsNumbered }
     ensures plain { IfOk result IsOfVersion13 }
 {
     match number {
-        3 => {
-            let fields = create(alloc, reader)?;
-            Ok(Command::Create(fields))
+        36 => {
+            let sink = sink(alloc, reader)?;
+            let volume = reader.cvolume()?;
+            Ok(Command::SinkVolume { sink, volume })
         }
-        4 => {
-            let stream = reader.number()?;
-            Ok(Command::Delete { stream })
+        37 => {
+            let input = reader.number()?;
+            let volume = reader.cvolume()?;
+            Ok(Command::InputVolume { input, volume })
         }
-        8 => {
-            let version = reader.number()?;
-            let cookie = cookie(alloc, reader)?;
-            Ok(Command::Auth { version, cookie })
+        39 => {
+            let sink = sink(alloc, reader)?;
+            let on = reader.flag()?;
+            Ok(Command::SinkMute { sink, on })
         }
-        9 => {
-            let list = properties(alloc, reader)?;
-            Ok(Command::SetClientName { list })
-        }
-        10 => {
-            let name = text(alloc, reader)?;
-            Ok(Command::LookupSink { name })
-        }
+        0..=40 => Err(CmdFault::Unsupported(number)),
+        _ => stream_fields(alloc, number, reader),
+    }
+}
+
+// The fields of a command whose number is 12 at least.
+fn further_fields(alloc: Global, number: u32, reader: &mut TagReader) -> Result<Command, CmdFault>
+    requires { 12 ≤ number }
+    ensures value { Reaches result number reader.new (taken (kinds_of number) number reader.old) }
+    ensures numbered { IfOk result IsNumbered }
+    ensures plain { IfOk result IsOfVersion13 }
+{
+    match number {
         12 => {
             let stream = reader.number()?;
             Ok(Command::Drain { stream })
@@ -216,6 +209,39 @@ fn fields(alloc: Global, number: u32, reader: &mut TagReader) -> Result<Command,
         }
         0..=35 => Err(CmdFault::Unsupported(number)),
         _ => later_fields(alloc, number, reader),
+    }
+}
+
+// The fields of the command with this number.
+fn fields(alloc: Global, number: u32, reader: &mut TagReader) -> Result<Command, CmdFault>
+    ensures value { Reaches result number reader.new (taken (kinds_of number) number reader.old) }
+    ensures numbered { IfOk result IsNumbered }
+    ensures plain { IfOk result IsOfVersion13 }
+{
+    match number {
+        3 => {
+            let fields = create(alloc, reader)?;
+            Ok(Command::Create(fields))
+        }
+        4 => {
+            let stream = reader.number()?;
+            Ok(Command::Delete { stream })
+        }
+        8 => {
+            let version = reader.number()?;
+            let cookie = cookie(alloc, reader)?;
+            Ok(Command::Auth { version, cookie })
+        }
+        9 => {
+            let list = properties(alloc, reader)?;
+            Ok(Command::SetClientName { list })
+        }
+        10 => {
+            let name = text(alloc, reader)?;
+            Ok(Command::LookupSink { name })
+        }
+        0..=11 => Err(CmdFault::Unsupported(number)),
+        _ => further_fields(alloc, number, reader),
     }
 }
 
@@ -263,8 +289,7 @@ fn read(alloc: Global, packet: &[u8]) -> Result<Command, CmdFault>
         return Err(CmdFault::Unknown(head.command));
     }
     let command = fields(alloc, head.command, &mut reader)?;
-    reader.end()?;
-    Ok(command)
+    reader.end().map(|()| command).map_err(CmdFault::Protocol)
 }
 
 /// The command that a packet means, with its fields by the connection's version; every version is read as
