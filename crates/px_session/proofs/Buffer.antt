@@ -1,5 +1,5 @@
 -- A buffer whose bytes are moved to the front, and filled behind them.
-use Rattle.std.proofs.Common.{◌≡◌, ℕ, ◌+◌, ◌-◌, ◌≤◌, List, [], ◌++◌, length, take, drop, ap, sym, ◌∙◌, arith}
+use Rattle.std.proofs.Common.{◌≡◌, ℕ, ◌+◌, ◌-◌, ◌≤◌, List, [], ◌++◌, length, take, drop, ap, sym, ◌∙◌, arith, length-take, length-drop}
 use Rattle.std.proofs.Math.ListN.{drop_of_length-le}
 use Rattle.std.proofs.lemmas.List.{append-nil, take_all, drop-drop, drop-take}
 use borrow.Rule.Slice.PartMut.{put_mid, mid_of, same_len_mid}
@@ -34,6 +34,29 @@ came k n len items buffer part inside few size same long =
     ap (λ (bytes : List ℕ). take ((k + n) - 0) bytes) whole
     ∙ ap (λ (m : ℕ). take m put) count
     ∙ front_of_filled buffer part k n inside few
+
+-- a vector whose bytes behind the first k were written keeps its length
+pub whole_length : (k len : ℕ) (items buffer part : List ℕ) → length part ≡ length (mid_of k (length buffer - k) buffer) → buffer ≡ items → len ≡ length items
+    → length (take len (put_mid k (length buffer - k) buffer part ++ drop (length (put_mid k (length buffer - k) buffer part)) items)) ≡ length buffer
+whole_length k len items buffer part size same long =
+    let put = put_mid k (length buffer - k) buffer part in
+    let as_long : length put ≡ length buffer = same_len_mid k (length buffer - k) buffer part size in
+    ap (length {A = ℕ}) (vec_whole len put items (as_long ∙ ap (length {A = ℕ}) same) long) ∙ as_long
+
+-- what came fits behind the first k
+pub fits_behind : (k n : ℕ) (buffer part : List ℕ) → k ≤ length buffer → n ≤ length part → length part ≡ length (mid_of k (length buffer - k) buffer) → k + n ≤ length buffer
+fits_behind k n buffer part inside few size = omega (arith, inside, few, size, length-take (length buffer - k) (drop k buffer), length-drop k buffer)
+
+-- where none came, the first k are as they were
+pub none_came : (k len : ℕ) (items buffer part held : List ℕ) → k ≤ length buffer → length part ≡ length (mid_of k (length buffer - k) buffer) → buffer ≡ items → len ≡ length items → take k buffer ≡ held
+    → take (k - 0) (drop 0 (take len (put_mid k (length buffer - k) buffer part ++ drop (length (put_mid k (length buffer - k) buffer part)) items))) ≡ held
+none_came k len items buffer part held inside size same long kept =
+    let whole = take len (put_mid k (length buffer - k) buffer part ++ drop (length (put_mid k (length buffer - k) buffer part)) items) in
+    let count : k - 0 ≡ (k + 0) - 0 = omega arith in
+    ap (λ (m : ℕ). take m (drop 0 whole)) count
+    ∙ came k 0 len items buffer part inside (omega arith) size same long
+    ∙ append-nil (take k buffer)
+    ∙ kept
 
 -- what is left behind the first n of the bytes between two places
 pub used : (from to n : ℕ) (items : List ℕ) → n ≤ to - from → take (to - (from + n)) (drop (from + n) items) ≡ drop n (take (to - from) (drop from items))

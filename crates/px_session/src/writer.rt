@@ -1,11 +1,11 @@
 //! Headers, events and output records, written in their one spelling.
 
-ghost use Rattle.std.specs.Prelude.{◌≡◌, [], ◌∷◌, OnOk, OnErr};
+ghost use Rattle.std.specs.Prelude.{◌≡◌, ◌<◌, ◌^◌, [], ◌∷◌, ◌++◌, length, OnOk, OnErr};
 ghost use Rattle.std.specs.List.{flat_map, AllByRecursion};
 ghost use Rattle.px_ends.specs.Told.{after_adding};
 ghost use Rattle.px_types.specs.Faults.{Rose};
 ghost use Rattle.px_ends.specs.Whole.{AddsFront};
-ghost use Rattle.px_session.specs.Spelling.{sink, event, end_byte};
+ghost use Rattle.px_session.specs.Spelling.{word, sink, event, end_byte};
 ghost use Rattle.px_session.specs.Spelling as spelling;
 ghost use Rattle.px_session.specs.Output.{record_of};
 ghost use Rattle.px_session.specs.Writing.{FitsSink, FitsHeader, FitsEvent, FitsRecord};
@@ -15,6 +15,7 @@ use crate::fault::WriteError;
 use crate::header::{Header, SinkSpec};
 use crate::output::OutRecord;
 use px_ends::{Sink, write_all};
+use px_types::ConnId;
 
 /// The byte that ends a session, and an output.
 const END: u8 = 0;
@@ -82,6 +83,31 @@ pub fn write_header<K: Sink>(out: &mut K, header: &Header) -> Result<(), WriteEr
     write_sinks(out, header.sinks.as_slice())
 }
 
+// Writes what a record's first byte is, and the connection that it is of.
+fn write_connection<K: Sink>(out: &mut K, code: u8, conn: ConnId) -> Result<(), WriteError>
+    ensures ok { OnOk result (K.held out.new ≡ after_adding (K.held out.old) (code ∷ word conn.0)) }
+    ensures ok_count { OnOk result (K.faults out.new ≡ K.faults out.old) }
+    ensures err { OnErr result (AddsFront (code ∷ word conn.0) (K.held out.old) (K.held out.new)) }
+    ensures err_count { OnErr result (Rose (K.faults out.old) (K.faults out.new)) }
+{
+    write_pieces(out, &[&[code], &conn.0.to_be_bytes()])
+}
+
+// Writes the same, and then the connection's bytes behind their count.
+fn write_bytes<K: Sink>(out: &mut K, code: u8, conn: ConnId, bytes: &[u8]) -> Result<(), WriteError>
+    requires { length bytes.now < 2 ^ 32 }
+    ensures ok { OnOk result (K.held out.new ≡ after_adding (K.held out.old) (code ∷ word conn.0 ++ word (length bytes.now) ++ bytes.now)) }
+    ensures ok_count { OnOk result (K.faults out.new ≡ K.faults out.old) }
+    ensures err { OnErr result (AddsFront (code ∷ word conn.0 ++ word (length bytes.now) ++ bytes.now) (K.held out.old) (K.held out.new)) }
+    ensures err_count { OnErr result (Rose (K.faults out.old) (K.faults out.new)) }
+{
+    let length = bytes.len() as u32;
+    write_pieces(
+        out,
+        &[&[code], &conn.0.to_be_bytes(), &length.to_be_bytes(), bytes],
+    )
+}
+
 /// Writes the spelling of an event. After `Failed` the sink took a front of it. Takes no memory.
 #[tactic(auto, unfolding(crate::specs::Spelling::event))]
 pub fn write_event<K: Sink>(out: &mut K, e: &Event) -> Result<(), WriteError>
@@ -92,17 +118,10 @@ pub fn write_event<K: Sink>(out: &mut K, e: &Event) -> Result<(), WriteError>
     ensures err_count { OnErr result (Rose (K.faults out.old) (K.faults out.new)) }
 {
     match e {
-        Event::Connect(conn) => write_pieces(out, &[&[1], &conn.0.to_be_bytes()]),
-        Event::Bytes(conn, bytes) => {
-            let bytes = bytes.as_slice();
-            let length = bytes.len() as u32;
-            write_pieces(
-                out,
-                &[&[2], &conn.0.to_be_bytes(), &length.to_be_bytes(), bytes],
-            )
-        }
-        Event::Close(conn) => write_pieces(out, &[&[3], &conn.0.to_be_bytes()]),
-        Event::Cut(conn) => write_pieces(out, &[&[4], &conn.0.to_be_bytes()]),
+        Event::Connect(conn) => write_connection(out, 1, *conn),
+        Event::Bytes(conn, bytes) => write_bytes(out, 2, *conn, bytes.as_slice()),
+        Event::Close(conn) => write_connection(out, 3, *conn),
+        Event::Cut(conn) => write_connection(out, 4, *conn),
         Event::Turn { sink, frames, take } => write_pieces(
             out,
             &[&[5, *sink], &frames.to_be_bytes(), &take.to_be_bytes()],
@@ -121,13 +140,7 @@ pub fn write_effect<K: Sink>(out: &mut K, effect: &OutRecord) -> Result<(), Writ
     ensures err_count { OnErr result (Rose (K.faults out.old) (K.faults out.new)) }
 {
     match effect {
-        OutRecord::Sent { conn, bytes } => {
-            let length = bytes.len() as u32;
-            write_pieces(
-                out,
-                &[&[1], &conn.0.to_be_bytes(), &length.to_be_bytes(), bytes],
-            )
-        }
+        OutRecord::Sent { conn, bytes } => write_bytes(out, 1, *conn, bytes),
         OutRecord::Closed {
             conn,
             reason,
