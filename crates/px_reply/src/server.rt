@@ -1,8 +1,8 @@
 //! Replies to the commands that ask what there is.
 
-ghost use Rattle.std.specs.Prelude.{◌≡◌, ◌++◌, ◌≤◌, All, IsTrue, IfOk, OnOk};
-ghost use Rattle.px_tag.specs.Item.{text, is_text, IsText};
-ghost use Rattle.px_reply.specs.Front.{reply_to, driver};
+ghost use Rattle.std.specs.Prelude.{◌≡◌, ◌++◌, ◌≤◌, [], None, All, IsTrue, IfOk, OnOk};
+ghost use Rattle.px_tag.specs.Item.{number, text, usec, proplist, is_text, IsText};
+ghost use Rattle.px_reply.specs.Front.{reply_to, nothing, driver};
 ghost use Rattle.px_reply.specs.Info.{server_reply, with_sink, with_input, with_client, sinks_reply, inputs_reply, clients_reply};
 
 use crate::info::{ClientInfo, InputInfo, ServerInfo, SinkInfo};
@@ -52,6 +52,19 @@ pub fn server_info(alloc: Global, tag: u32, _version: u16, info: &ServerInfo) ->
     Ok(writer.finish())
 }
 
+// Appends what is the same of every sink: no monitor, no latency, the driver, the flags, no properties, no configured latency.
+fn put_unvaried(alloc: Global, writer: &mut TagWriter) -> Mem<()>
+    ensures { OnOk result (writer.new ≡ writer.old ++ number nothing ++ text None ++ usec 0 ++ driver ++ number 0x60 ++ proplist [] ++ usec 0) }
+{
+    writer.number(NOTHING)?;
+    writer.text(None)?;
+    writer.usec(0)?;
+    put_driver(writer)?;
+    writer.number(SINK_FLAGS)?;
+    writer.proplist(&PropList::new(alloc))?;
+    writer.usec(0)
+}
+
 fn put_sink(alloc: Global, writer: &mut TagWriter, info: &SinkInfo) -> Mem<()>
     requires name { IsTrue (is_text info.now.name) }
     requires channels { info.now.spec.channels ≤ 32 }
@@ -65,13 +78,7 @@ fn put_sink(alloc: Global, writer: &mut TagWriter, info: &SinkInfo) -> Mem<()>
     writer.number(NOTHING)?;
     writer.cvolume(&info.volume)?;
     writer.flag(info.mute)?;
-    writer.number(NOTHING)?;
-    writer.text(None)?;
-    writer.usec(0)?;
-    put_driver(writer)?;
-    writer.number(SINK_FLAGS)?;
-    writer.proplist(&PropList::new(alloc))?;
-    writer.usec(0)
+    put_unvaried(alloc, writer)
 }
 
 fn put_input(writer: &mut TagWriter, info: &InputInfo) -> Mem<()>
