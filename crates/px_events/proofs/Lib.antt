@@ -1,2 +1,3 @@
 pub mod Telling
 mod Nearest
+mod Added
