@@ -1,14 +1,17 @@
 //! What is told of sinks and of sink inputs (PulseAudio: `sink_fill_tagstruct`, `sink_input_fill_tagstruct`, `command_get_info`
 //! and `command_get_info_list` of `pulsecore/protocol-native.c`).
 
-ghost use Rattle.std.specs.Prelude.{◌≡◌, ◌≤◌, ◌++◌, ◌∷◌, List, All, IfOk, IfSome, OnOk};
+ghost use Rattle.std.specs.Prelude.{◌≡◌, ◌≤◌, ◌++◌, ◌∷◌, [], List, All, IfOk, IfSome, OnOk, Ok};
 ghost use Rattle.std.specs.Option.{option_map};
 ghost use Rattle.px_tag.specs.Item.{IsText};
 ghost use Rattle.px_flat.specs.FlatVolume.{member_of};
 ghost use Rattle.px_names.specs.InputLists.{list_of};
+ghost use Rattle.px_reply.specs.Front.{reply_to};
+ghost use Rattle.px_reply.specs.Info.{with_sink, with_input};
 ghost use Rattle.px_plan.specs.declared.input.Input.{Input};
 ghost use Rattle.px_plan.specs.declared.target.Target.{Target};
 ghost use Rattle.px_plan.specs.Input.{goes_on};
+ghost use Rattle.px_plan.specs.Plan.{replied};
 ghost use Rattle.px_plan.specs.Row.{Plans};
 ghost use Rattle.px_plan.specs.Target.{IsTarget, IsNamed};
 ghost use Rattle.px_ctl_info.specs.Properties.{STREAM_NAME, text_under};
@@ -49,6 +52,21 @@ fn group_on<'a>(groups: &'a [Group], sink: &Target) -> Option<&'a Group>
     groups.get(usize::from(sink.index.0))
 }
 
+// The reply that tells of a sink with its group.
+fn sink_reply<M: Drop, G: Drop>(
+    alloc: Global,
+    sink: &Target,
+    group: &Group,
+    tag: u32,
+) -> Result<Plan<M, G>, Refusal>
+    requires { IsTarget sink.now }
+    ensures { Plans result (Ok (replied (with_sink (reply_to tag) (sink_of sink.now group.now)) [])) }
+{
+    let info = sink_of(alloc, sink, group)?;
+    let reply = px_reply::sink_info(alloc, tag, SERVER_VERSION, &info)?;
+    Ok(Plan::replied(alloc, reply, Vec::new(alloc)))
+}
+
 /// GET_SINK_INFO of the sink that is named, where each sink has the group of its index. Refused: `Invalid` where it isn't clear
 /// which sink is meant, then `NoEntity` where that isn't there.
 pub fn sink_info<M: Drop, G: Drop>(
@@ -65,9 +83,7 @@ pub fn sink_info<M: Drop, G: Drop>(
     let Some(group) = group_on(groups, &sink) else {
         return Err(Refusal::Code(ErrorCode::NoEntity));
     };
-    let info = sink_of(alloc, &sink, group)?;
-    let reply = px_reply::sink_info(alloc, tag, SERVER_VERSION, &info)?;
-    Ok(Plan::replied(alloc, reply, Vec::new(alloc)))
+    sink_reply(alloc, &sink, group, tag)
 }
 
 // What is told of one more.
@@ -160,6 +176,34 @@ fn input_of(alloc: Global, x: &Input, m: &Member, list: PropList) -> Mem<InputIn
     })
 }
 
+// What is told of an input that is a member.
+fn told_of(alloc: Global, x: &Input, m: &Member, lists: &InputLists) -> Mem<InputInfo>
+    requires { x.now.spec.channels ≤ 32 }
+    ensures value { IfOk result (λ info. info ≡ input_of x.now m.now (list_of lists.now.items x.now.index)) }
+    ensures told { IfOk result IsInputInfo }
+{
+    match lists.copy_of(x.index) {
+        Ok(list) => input_of(alloc, x, m, list),
+        Err(_) => Err(NoMemory),
+    }
+}
+
+// The reply that tells of an input that is a member.
+fn input_reply<M: Drop, G: Drop>(
+    alloc: Global,
+    x: &Input,
+    m: &Member,
+    lists: &InputLists,
+    tag: u32,
+) -> Result<Plan<M, G>, Refusal>
+    requires { x.now.spec.channels ≤ 32 }
+    ensures { Plans result (Ok (replied (with_input (reply_to tag) (input_of x.now m.now (list_of lists.now.items x.now.index))) [])) }
+{
+    let info = told_of(alloc, x, m, lists)?;
+    let reply = px_reply::input_info(alloc, tag, &info)?;
+    Ok(Plan::replied(alloc, reply, Vec::new(alloc)))
+}
+
 /// GET_SINK_INPUT_INFO of this input, of at most 32 channels, where each sink has the group of its index. Refused: `NoEntity`
 /// where there is no such input.
 pub fn input_info<M: Drop, G: Drop>(
@@ -176,9 +220,7 @@ pub fn input_info<M: Drop, G: Drop>(
     let Some(m) = member_on(groups, &x) else {
         return Err(Refusal::Code(ErrorCode::NoEntity));
     };
-    let info = input_of(alloc, &x, m, lists.copy_of(x.index)?)?;
-    let reply = px_reply::input_info(alloc, tag, &info)?;
-    Ok(Plan::replied(alloc, reply, Vec::new(alloc)))
+    input_reply(alloc, &x, m, lists, tag)
 }
 
 // Whether an input goes on: it hasn't ended.
@@ -186,18 +228,6 @@ fn goes_on(x: &Input) -> bool
     ensures { result ≡ goes_on x.now }
 {
     !matches!(x.standing, Standing::Leaving)
-}
-
-// What is told of an input that is a member.
-fn told_of(alloc: Global, x: &Input, m: &Member, lists: &InputLists) -> Mem<InputInfo>
-    requires { x.now.spec.channels ≤ 32 }
-    ensures value { IfOk result (λ info. info ≡ input_of x.now m.now (list_of lists.now.items x.now.index)) }
-    ensures told { IfOk result IsInputInfo }
-{
-    match lists.copy_of(x.index) {
-        Ok(list) => input_of(alloc, x, m, list),
-        Err(_) => Err(NoMemory),
-    }
 }
 
 // What is told of one more, where it goes on.

@@ -1,11 +1,14 @@
 //! The property lists of clients (PulseAudio: `command_update_proplist` and `command_remove_proplist` of
 //! `pulsecore/protocol-native.c`; that a key which isn't there refuses the whole removal is own).
 
-ghost use Rattle.std.specs.Prelude.{◌≡◌, ◌<◌, ◌≤◌, IfOk, OnOk, length, take, drop, fold, Some, slice_get};
+ghost use Rattle.std.specs.Prelude.{◌≡◌, ◌<◌, ◌≤◌, ◌∷◌, [], IfOk, OnOk, Ok, length, take, drop, fold, Some, slice_get};
 ghost use Rattle.std.specs.List.{list_all};
 ghost use Rattle.std.specs.Option.{option_map};
 ghost use Rattle.px_tag.specs.Item.{is_text};
-ghost use Rattle.px_tag.specs.PropList.{has_key, without};
+ghost use Rattle.px_tag.specs.PropList.{has_key, without, updated};
+ghost use Rattle.px_reply.specs.Front.{reply_to};
+ghost use Rattle.px_plan.specs.declared.change.Change.TheVariants.{Named};
+ghost use Rattle.px_plan.specs.Plan.{replied};
 ghost use Rattle.px_plan.specs.Row.{Plans};
 ghost use Rattle.px_ctl_info.specs.Properties.{text_in, text_under, list_of, mode_of, has_keys, without_keys, update_client, remove_client};
 
@@ -85,6 +88,29 @@ pub(crate) fn remove_all(list: &mut PropList, keys: &Keys)
     }
 }
 
+/// A list that is updated by another.
+pub(crate) fn updated(mut list: PropList, mode: Mode, other: &PropList) -> px_tag::Mem<PropList>
+    ensures { IfOk result (λ made. made ≡ updated mode list other.now) }
+{
+    list.update(mode, other)?;
+    Ok(list)
+}
+
+// A plain reply: the list of a connection's client is this one.
+fn named<M: Drop, G: Drop>(
+    alloc: Global,
+    me: &Connection,
+    tag: u32,
+    list: PropList,
+) -> Result<Plan<M, G>, Refusal>
+    ensures { Plans result (Ok (replied (reply_to tag) (Named me.now.conn list ∷ []))) }
+{
+    let reply = px_reply::plain(alloc, tag)?;
+    let mut changes = Vec::new(alloc);
+    changes.push(Change::Named(me.conn, list))?;
+    Ok(Plan::replied(alloc, reply, changes))
+}
+
 /// UPDATE_CLIENT_PROPLIST of a connection with this client, by the mode with a number. Refused: `Invalid` for another number
 /// than 0, 1 or 2.
 pub fn update_client<M: Drop, G: Drop>(
@@ -98,12 +124,8 @@ pub fn update_client<M: Drop, G: Drop>(
     ensures { Plans result (update_client (option_map (λ client. client.now) client.entry) me.now tag number list.now) }
 {
     let mode = present(mode_of(number), ErrorCode::Invalid)?;
-    let mut made = list_of(alloc, client)?;
-    made.update(mode, list)?;
-    let reply = px_reply::plain(alloc, tag)?;
-    let mut changes = Vec::new(alloc);
-    changes.push(Change::Named(me.conn, made))?;
-    Ok(Plan::replied(alloc, reply, changes))
+    let made = updated(list_of(alloc, client)?, mode, list)?;
+    named(alloc, me, tag, made)
 }
 
 /// REMOVE_CLIENT_PROPLIST of a connection with this client. Refused: `NoEntity` where one of the keys isn't there; then none
@@ -120,8 +142,5 @@ pub fn remove_client<M: Drop, G: Drop>(
     let mut made = list_of(alloc, client)?;
     check(has_keys(&made, keys), ErrorCode::NoEntity)?;
     remove_all(&mut made, keys);
-    let reply = px_reply::plain(alloc, tag)?;
-    let mut changes = Vec::new(alloc);
-    changes.push(Change::Named(me.conn, made))?;
-    Ok(Plan::replied(alloc, reply, changes))
+    named(alloc, me, tag, made)
 }

@@ -2,36 +2,40 @@
 //! `command_set_stream_name` of `pulsecore/protocol-native.c`; that a key which isn't there refuses the whole removal, and the
 //! most bytes of a name, are own).
 
-ghost use Rattle.std.specs.Prelude.{◌≡◌, ◌≤◌, ◌++◌, ◌∷◌, [], IsTrue, IfOk, IfSome, OnOk, length};
+ghost use Rattle.std.specs.Prelude.{◌≡◌, ◌≤◌, ◌++◌, ◌∷◌, [], IsTrue, IfOk, IfSome, OnOk, Ok, length};
 ghost use Rattle.std.specs.Option.{option_map};
+ghost use Rattle.px_reply.specs.Front.{reply_to};
+ghost use Rattle.px_plan.specs.Plan.{replied};
 ghost use Rattle.px_plan.specs.Row.{Plans};
 ghost use Rattle.px_plan.specs.declared.change.Change.TheVariants.{Described};
 ghost use Rattle.px_tag.specs.PropList.{with_value};
 ghost use Rattle.px_names.specs.InputLists.{list_of};
 ghost use Rattle.px_ctl_info.specs.Properties.{STREAM_NAME, update_stream, remove_stream, name_in, with_name, set_stream_name};
 
-use crate::properties::{has_keys, mode_of, remove_all};
+use crate::properties::{has_keys, mode_of, remove_all, updated};
 use px_cmd::Keys;
 use px_names::InputLists;
 use px_plan::{Change, Input, Plan, Refusal, check, present};
 use px_tag::PropList;
-use px_types::{ErrorCode, InputId, Mem};
+use px_types::{ErrorCode, InputId};
 use std::alloc::Global;
 
 /// The most bytes of a stream's name.
 const MOST_NAME: usize = 65_535;
 
-// The property list of an input is this one.
+// A plain reply: the property list of an input is this one.
 fn described<M: Drop, G: Drop>(
     alloc: Global,
+    tag: u32,
     input: InputId,
     list: PropList,
-) -> Mem<Vec<Change<M, G>>>
-    ensures { IfOk result (λ changes. changes.items ≡ Described input list ∷ []) }
+) -> Result<Plan<M, G>, Refusal>
+    ensures { Plans result (Ok (replied (reply_to tag) (Described input list ∷ []))) }
 {
+    let reply = px_reply::plain(alloc, tag)?;
     let mut changes = Vec::new(alloc);
     changes.push(Change::Described(input, list))?;
-    Ok(changes)
+    Ok(Plan::replied(alloc, reply, changes))
 }
 
 /// UPDATE_PLAYBACK_STREAM_PROPLIST of a stream with this input, by the mode with a number. Refused: `NoEntity` where the
@@ -48,11 +52,8 @@ pub fn update_stream<M: Drop, G: Drop>(
 {
     let x = present(stream, ErrorCode::NoEntity)?;
     let mode = present(mode_of(number), ErrorCode::Invalid)?;
-    let mut made = lists.copy_of(x.index)?;
-    made.update(mode, list)?;
-    let reply = px_reply::plain(alloc, tag)?;
-    let changes = described(alloc, x.index, made)?;
-    Ok(Plan::replied(alloc, reply, changes))
+    let made = updated(lists.copy_of(x.index)?, mode, list)?;
+    described(alloc, tag, x.index, made)
 }
 
 /// REMOVE_PLAYBACK_STREAM_PROPLIST of a stream with this input. Refused: `NoEntity` where the connection has no such stream, and
@@ -70,9 +71,7 @@ pub fn remove_stream<M: Drop, G: Drop>(
     let mut made = lists.copy_of(x.index)?;
     check(has_keys(&made, keys), ErrorCode::NoEntity)?;
     remove_all(&mut made, keys);
-    let reply = px_reply::plain(alloc, tag)?;
-    let changes = described(alloc, x.index, made)?;
-    Ok(Plan::replied(alloc, reply, changes))
+    described(alloc, tag, x.index, made)
 }
 
 // The name that a stream is given, where it can have it.
@@ -136,7 +135,5 @@ pub fn set_stream_name<M: Drop, G: Drop>(
         return Err(Refusal::Code(ErrorCode::Invalid));
     };
     let made = list_with_name(alloc, lists, x.index, name)?;
-    let reply = px_reply::plain(alloc, tag)?;
-    let changes = described(alloc, x.index, made)?;
-    Ok(Plan::replied(alloc, reply, changes))
+    described(alloc, tag, x.index, made)
 }
