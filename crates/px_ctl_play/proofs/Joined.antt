@@ -1,5 +1,5 @@
 -- The volume of a new input, and the feed by which it joins the group of its sink.
-use Rattle.std.proofs.Common.{◌≡◌, ◌<◌, ◌≤◌, ◌⊎◌, ◌+◌, ◌-◌, ◌++◌, ℕ, zero, suc, arith, Bool, true, false, List, [], ◌∷◌, length, get_or, max, cond, Option, Some, None, Ok, refl, ap, sym, subst, ◌∙◌, inl, inr, append_assoc}
+use Rattle.std.proofs.Common.{◌≡◌, ◌<◌, ◌≤◌, ◌⊎◌, ◌+◌, ◌-◌, ◌++◌, ℕ, zero, suc, arith, Bool, true, false, List, [], ◌∷◌, length, max, cond, Option, Some, None, Ok, refl, ap, sym, subst, ◌∙◌, inl, inr, append_assoc}
 use Rattle.std.specs.Prelude.{All, IfSome, nat_eq, replicate, ◌||◌}
 use Rattle.std.specs.List.{AllByRecursion, find, fold}
 use Rattle.std.proofs.lemmas.Bool.{eqb-true}

@@ -1,3 +1,4 @@
+pub mod Each
 pub mod Naming
 pub mod Passed
 pub mod Joined

@@ -1,5 +1,5 @@
 -- The sink that an input was on has given up its stream: the input leaves the group of that sink and is on the sink that it moves to, in whose group it keeps its ratios (PulseAudio: `pa_sink_input_finish_move` of pulsecore/sink-input.c; that messages wait meanwhile is own).
-use Rattle.std.specs.Prelude.{◌≡◌, ◌≤◌, ℕ, Bool, ◌&&◌, ◌||◌, List, [], ◌∷◌, map, filter, length, replicate, slice_get, Option, None, Some, IfSome, IsSome, ⊤}
+use Rattle.std.specs.Prelude.{◌≡◌, ◌≤◌, ℕ, Bool, ◌&&◌, ◌||◌, List, [], ◌∷◌, filter, length, replicate, Option, None, Some, IfSome}
 use Rattle.px_types.specs.declared.ids.InputId.{InputId}
 use Rattle.px_types.specs.declared.ids.SinkId.{SinkId}
 use Rattle.px_model.specs.Frame.{SampleSpec}
@@ -18,7 +18,7 @@ use Rattle.px_plan.specs.declared.input.Input.{Input}
 use Rattle.px_plan.specs.declared.sending.Sending.{Sending}
 use Rattle.px_plan.specs.declared.target.Target.{Target}
 use Rattle.px_plan.specs.Input.{has_index, is_settled, settled_on}
-use Rattle.px_plan.specs.Plan.{Planned, idle}
+use Rattle.px_plan.specs.Plan.{Planned}
 use Rattle.px_ctl_play.specs.Answer.{sent_to}
 use Rattle.px_ctl_play.specs.Create.{latency_of}
 use Rattle.px_ctl_play.specs.Factors.{own_factors, regrouped}
@@ -61,6 +61,11 @@ pub record Arriving (M G : Type 0) : Type 0 where
   pub told : List Sending
   -- the changes behind the arrival
   pub later : List (Change M G)
+
+-- both sinks have these groups
+abbrev pub both_regrouped : {P : Type 0} → Input → FlatGroup → SinkId → FlatGroup → List Input → List (Change (Msg P) FlatGroup)
+both_regrouped x from sink group inputs =
+    regrouped x.sink from (settled_on inputs x.sink) ∷ regrouped sink group (settled_with inputs sink x.index) ∷ []
 
 -- the old sink has this group and is told the factors of the inputs that stay; the new one, behind the stream, those of all that are settled there then, and what waited of the input
 abbrev pub later : {P : Type 0} → Input → FlatGroup → SinkId → FlatGroup → List Input → ℕ → List (Change (Msg P) FlatGroup)

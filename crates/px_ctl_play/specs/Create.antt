@@ -86,9 +86,22 @@ abbrev pub changes_of : {P : Type 0} → List Input → ℕ → Connection → C
 changes_of inputs made me a group feed x =
     Made x (new_of a group feed x) (me.streams + 1) (made + 1) ∷ regrouped x.sink group (settled_on inputs x.sink ++ x ∷ []) ∷ Described x.index a.list ∷ []
 
+-- the first two of them
+abbrev pub begun : {P : Type 0} → List Input → ℕ → Connection → CreateFields → FlatGroup → List ℕ → Input → List (Change (Msg P) FlatGroup)
+begun inputs made me a group feed x =
+    Made x (new_of a group feed x) (me.streams + 1) (made + 1) ∷ regrouped x.sink group (settled_on inputs x.sink ++ x ∷ []) ∷ []
+
 abbrev pub created : {P : Type 0} → List Input → ℕ → Connection → ℕ → Target → FlatGroup → CreateFields → List ℕ → Input → Planned (Msg P) FlatGroup
 created inputs made me tag sink group a feed x =
     replied (created_reply tag (created_of sink a x)) (changes_of inputs made me a (joined group sink a feed x) feed x)
+
+-- the stream is made on this sink, which has this group, where the sink can play it and there is room for it
+abbrev pub create_on : {P : Type 0} → List Input → ℕ → Connection → ℕ → Target → FlatGroup → CreateFields → Row (Planned (Msg P) FlatGroup)
+create_on inputs made me tag sink group a = do
+  supported ← check (is_supported sink a) NotSupported
+  feed ← present (feed_on sink a) NotSupported
+  room ← check (has_room inputs made me sink.index) TooLarge
+  Ok (created inputs made me tag sink group a feed (input_made made me sink a))
 
 -- a connection asks for a stream, where these inputs are there, so many were ever made, and the sink that is named has this group
 abbrev pub create : {P : Type 0} → List Input → ℕ → Connection → ℕ → Named → Option FlatGroup → CreateFields → Row (Planned (Msg P) FlatGroup)

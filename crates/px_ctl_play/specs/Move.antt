@@ -22,6 +22,10 @@ feed_to x map = plan_of x.map map x.no_remap x.no_remix
 abbrev pub has_place : List Input → SinkId → Bool
 has_place inputs sink = nat_lt (length (bound_for inputs sink)) MOST_ON_SINK
 
+-- what is planned for an input that goes to a sink
+abbrev pub sent : {M G : Type 0} → Input → Target → ℕ → Planned M G
+sent x sink tag = replied (reply_to tag) (Moves x.index sink.index ∷ [])
+
 -- an input goes to a sink that it isn't on
 abbrev pub sent_off : {M G : Type 0} → Input → Target → List Input → ℕ → Row (Planned M G)
 sent_off x sink inputs tag = do

@@ -10,7 +10,7 @@ ghost use Rattle.px_msg.specs.View.{sample_spec};
 ghost use Rattle.px_plan.specs.declared.change.Change.TheVariants.{Released};
 ghost use Rattle.px_plan.specs.Target.{IsTarget};
 ghost use Rattle.px_ctl_play.specs.Answer.{sent_to};
-ghost use Rattle.px_ctl_play.specs.Arrival.{hands_over, attributes_told, arrived_message, joined_by, later, arrival_of, arrive, HasChannels, CanJoin};
+ghost use Rattle.px_ctl_play.specs.Arrival.{hands_over, attributes_told, arrived_message, joined_by, both_regrouped, later, arrival_of, arrive, HasChannels, CanJoin};
 
 use crate::answer::sent_to;
 use crate::created::latency_of;
@@ -150,6 +150,23 @@ fn release<M: Drop, G: Drop>(
     Ok(())
 }
 
+// Both sinks have these groups.
+fn both_regrouped<P: Drop>(
+    alloc: Global,
+    x: &Input,
+    from: Group,
+    sink: SinkId,
+    joined: Group,
+    inputs: &[Input],
+) -> Mem<Vec<Change<Msg<P>, Group>>>
+    ensures { IfOk result (λ changes. changes.items ≡ both_regrouped x.now from sink joined inputs.now) }
+{
+    let mut changes = Vec::new(alloc);
+    changes.push(regrouped(alloc, x.sink, from, inputs)?)?;
+    changes.push(regrouped_and(alloc, sink, joined, inputs, x.index)?)?;
+    Ok(changes)
+}
+
 // The changes behind the arrival.
 fn later<P: Drop>(
     alloc: Global,
@@ -162,9 +179,7 @@ fn later<P: Drop>(
 ) -> Mem<Vec<Change<Msg<P>, Group>>>
     ensures { IfOk result (λ changes. changes.items ≡ later x.now from sink joined inputs.now waited) }
 {
-    let mut changes = Vec::new(alloc);
-    changes.push(regrouped(alloc, x.sink, from, inputs)?)?;
-    changes.push(regrouped_and(alloc, sink, joined, inputs, x.index)?)?;
+    let mut changes = both_regrouped(alloc, x, from, sink, joined, inputs)?;
     release(&mut changes, x.index, waited)?;
     Ok(changes)
 }

@@ -1,6 +1,6 @@
 //! CREATE_PLAYBACK_STREAM (PulseAudio: `command_create_playback_stream` of `pulsecore/protocol-native.c`).
 
-ghost use Rattle.std.specs.Prelude.{◌≡◌, ◌<◌, ◌≤◌, IfOk, IsSome, Ok};
+ghost use Rattle.std.specs.Prelude.{◌≡◌, ◌<◌, ◌≤◌, length, IfOk, IsSome, Ok};
 ghost use Rattle.std.specs.Option.{option_map};
 ghost use Rattle.px_chmap.specs.ChannelMap.{IsChannelMap};
 ghost use Rattle.px_chmap.specs.Plan.{FeedsAll};
@@ -13,7 +13,7 @@ ghost use Rattle.px_plan.specs.Target.{IsTarget, IsNamed};
 ghost use Rattle.px_plan.specs.declared.change.Change.TheVariants.{Described};
 ghost use Rattle.px_ctl_play.specs.Asked.{channels_on};
 ghost use Rattle.px_ctl_play.specs.Joining.{IsReady, IsReadyAt};
-ghost use Rattle.px_ctl_play.specs.Create.{input_made, changes_of, created, create};
+ghost use Rattle.px_ctl_play.specs.Create.{input_made, begun, changes_of, created, create_on, create};
 
 use crate::asked::{attr_on, feed_on, is_lawful, map_on, spec_on};
 use crate::created::{new_of, reply_of};
@@ -69,6 +69,33 @@ fn described<M: Drop, G: Drop>(input: InputId, a: &CreateFields) -> Mem<Change<M
     }
 }
 
+// The first changes that a new stream makes: its sink gets the stream, and this group, in which its input is.
+fn begun<P: Drop>(
+    alloc: Global,
+    inputs: &[Input],
+    made: u32,
+    me: &Connection,
+    a: &CreateFields,
+    group: Group,
+    feed: Feed,
+    x: &Input,
+) -> Mem<Vec<Change<Msg<P>, Group>>>
+    requires there { IsSome (member_of group.members x.now.index) }
+    requires inputs { made < 4294967295 }
+    requires streams { me.now.streams < 4294967295 }
+    ensures { IfOk result (λ changes. changes.items ≡ begun inputs.now made me.now a.now group feed x.now) }
+{
+    let mut changes = Vec::new(alloc);
+    changes.push(Change::Made {
+        input: *x,
+        new: new_of(a, &group, feed, x),
+        streams: me.streams + 1,
+        inputs: made + 1,
+    })?;
+    changes.push(regrouped_with(alloc, x.sink, group, inputs, x)?)?;
+    Ok(changes)
+}
+
 // The changes that a new stream makes, whose input is in this group of its sink.
 fn changes_of<P: Drop>(
     alloc: Global,
@@ -85,14 +112,7 @@ fn changes_of<P: Drop>(
     requires streams { me.now.streams < 4294967295 }
     ensures { IfOk result (λ changes. changes.items ≡ changes_of inputs.now made me.now a.now group feed x) }
 {
-    let mut changes = Vec::new(alloc);
-    changes.push(Change::Made {
-        input: x,
-        new: new_of(a, &group, feed, &x),
-        streams: me.streams + 1,
-        inputs: made + 1,
-    })?;
-    changes.push(regrouped_with(alloc, x.sink, group, inputs, &x)?)?;
+    let mut changes = begun(alloc, inputs, made, me, a, group, feed, &x)?;
     changes.push(described(x.index, a)?)?;
     Ok(changes)
 }
@@ -127,6 +147,32 @@ fn created<P: Drop>(
     Ok(Plan::replied(alloc, reply, changes))
 }
 
+// The stream is made on this sink, which has this group, where the sink can play it and there is room for it.
+fn create_on<P: Drop>(
+    alloc: Global,
+    inputs: &[Input],
+    made: u32,
+    me: &Connection,
+    tag: u32,
+    sink: Target,
+    group: &Group,
+    a: &CreateFields,
+) -> Result<Plan<Msg<P>, Group>, Refusal>
+    requires sink { IsTarget sink }
+    requires ready { IsReady sink made group.now }
+    requires some { 1 ≤ a.now.spec.channels }
+    requires few { a.now.spec.channels ≤ 32 }
+    requires map { IsChannelMap a.now.map }
+    requires length { a.now.spec.channels ≡ length a.now.map }
+    requires volume { IsChannelVolume a.now.volume }
+    ensures { Plans result (create_on inputs.now made me.now tag sink group.now a.now) }
+{
+    check(is_supported(&sink, a), ErrorCode::NotSupported)?;
+    let feed = present(feed_on(&sink, a), ErrorCode::NotSupported)?;
+    check(has_room(inputs, made, me, sink.index), ErrorCode::TooLarge)?;
+    created(alloc, inputs, made, me, tag, sink, group, a, feed)
+}
+
 /// CREATE_PLAYBACK_STREAM of a connection, where these inputs are there, so many were ever made, and the sink that is named has
 /// this group, which can take one more: a stream is made on the sink, in its group at the very volume that is given. Refused, by the first of these that holds: `Invalid` for a spec, a map or volumes that
 /// can't be, and where a sink is named twice over; `NoEntity` where no sink is there; `NotSupported` for floating point, a
@@ -153,8 +199,5 @@ pub fn create<P: Drop>(
     let Some(group) = group else {
         return Err(Refusal::Code(ErrorCode::NoEntity));
     };
-    check(is_supported(&sink, a), ErrorCode::NotSupported)?;
-    let feed = present(feed_on(&sink, a), ErrorCode::NotSupported)?;
-    check(has_room(inputs, made, me, sink.index), ErrorCode::TooLarge)?;
-    created(alloc, inputs, made, me, tag, sink, group, a, feed)
+    create_on(alloc, inputs, made, me, tag, sink, group, a)
 }

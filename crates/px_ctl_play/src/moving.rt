@@ -1,10 +1,10 @@
 //! MOVE_SINK_INPUT (PulseAudio: `command_move_stream` of `pulsecore/protocol-native.c`).
 
-ghost use Rattle.std.specs.Prelude.{◌≡◌, length, IfSome};
+ghost use Rattle.std.specs.Prelude.{◌≡◌, length, IfSome, Ok};
 ghost use Rattle.px_chmap.specs.Plan.{FeedsAll};
 ghost use Rattle.px_plan.specs.Input.{is_moving};
 ghost use Rattle.px_plan.specs.Row.{Plans};
-ghost use Rattle.px_ctl_play.specs.Move.{feed_to, has_place, sent_off, moved_to, move_input};
+ghost use Rattle.px_ctl_play.specs.Move.{feed_to, has_place, sent, sent_off, moved_to, move_input};
 
 use crate::refusals::count_bound;
 use px_chmap::{Feed, Map, plan};
@@ -37,6 +37,21 @@ fn has_place(inputs: &[Input], sink: SinkId) -> bool
     count_bound(inputs, sink) < MOST_ON_SINK
 }
 
+// What is planned for an input that goes to a sink.
+fn sent<M: Drop, G: Drop>(
+    alloc: Global,
+    x: &Input,
+    sink: &Target,
+    tag: u32,
+) -> Result<Plan<M, G>, Refusal>
+    ensures { Plans result (Ok (sent x.now sink.now tag)) }
+{
+    let reply = px_reply::plain(alloc, tag)?;
+    let mut changes = Vec::new(alloc);
+    changes.push(Change::Moves(x.index, sink.index))?;
+    Ok(Plan::replied(alloc, reply, changes))
+}
+
 // An input goes to a sink that it isn't on.
 fn sent_off<M: Drop, G: Drop>(
     alloc: Global,
@@ -51,10 +66,7 @@ fn sent_off<M: Drop, G: Drop>(
     check(x.spec.rate == sink.spec.rate, ErrorCode::NotSupported)?;
     present(feed_to(x, &sink.map), ErrorCode::NotSupported)?;
     check(has_place(inputs, sink.index), ErrorCode::TooLarge)?;
-    let reply = px_reply::plain(alloc, tag)?;
-    let mut changes = Vec::new(alloc);
-    changes.push(Change::Moves(x.index, sink.index))?;
-    Ok(Plan::replied(alloc, reply, changes))
+    sent(alloc, x, sink, tag)
 }
 
 // Where it is there already, nothing happens.

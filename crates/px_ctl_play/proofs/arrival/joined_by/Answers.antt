@@ -2,7 +2,7 @@ use Rattle.std.proofs.Common.{◌≡◌, ℕ, length, inr, ap, sym, subst, ◌�
 use Rattle.std.specs.Prelude.{IsSome}
 use Rattle.px_chmap.specs.Plan.{FeedsAll}
 use Rattle.px_flat.specs.declared.member.How.TheVariants.{Kept}
-use Rattle.px_flat.specs.Member.{channels_of, AreRatios}
+use Rattle.px_flat.specs.Member.{AreRatios}
 use Rattle.px_flat.specs.FlatVolume.{FlatGroup, member_of}
 use Rattle.px_flat.proofs.Inputs.{attached_there, feeds_count}
 use Rattle.px_ctl_play.proofs.arrival.joined_by.Goals as goal

@@ -5,7 +5,6 @@ use Rattle.px_flat.specs.declared.member.How.TheVariants.{Absolute}
 use Rattle.px_flat.specs.FlatVolume.{FlatGroup, member_of}
 use Rattle.px_flat.proofs.Inputs.{attached_there, feeds_count}
 use Rattle.px_ctl_play.specs.Asked.{channels_on}
-use Rattle.px_ctl_play.specs.Joining.{volume_on}
 use Rattle.px_ctl_play.proofs.Joined.{suits}
 use Rattle.px_ctl_play.proofs.joining.joined.Goals as goal
 

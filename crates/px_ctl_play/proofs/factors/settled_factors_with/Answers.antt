@@ -1,0 +1,20 @@
+use Rattle.std.proofs.Common.{◌++◌, List, refl, ap}
+use Rattle.px_msg.specs.declared.factors.InputFactors.{InputFactors}
+use Rattle.px_plan.specs.declared.input.Input.{Input}
+use Rattle.px_ctl_play.specs.Arrival.{settled_with}
+use Rattle.px_ctl_play.specs.Factors.{factor_list}
+use Rattle.px_ctl_play.proofs.Each.{next_gives, last_gave}
+use Rattle.px_ctl_play.proofs.factors.settled_factors_with.Goals as goal
+
+pub loop-input-init : goal.loop-input-init
+loop-input-init c = ap (λ (list : List InputFactors). list ++ factor_list c.args.group.now (settled_with c.args.inputs.now c.args.sink c.args.index)) c.in_ok-list.ensures.items
+
+pub loop-input-preserved : goal.loop-input-preserved
+loop-input-preserved c =
+    next_gives (λ (inputs : List Input). factor_list c.args.group.now (settled_with inputs c.args.sink c.args.index)) c.args.inputs.now c.loop-input.input-index c.input-item.result c.loop-input.list.items c.add_settled_with.new.list.items _
+    c.loop-input-test.true c.input-item.is c.in_ok-add_settled_with.ensures c.loop-input.invariant
+
+pub returns : goal.returns
+returns c =
+    last_gave (λ (inputs : List Input). factor_list c.args.group.now (settled_with inputs c.args.sink c.args.index)) c.args.inputs.now c.loop-input.input-index c.loop-input.list.items _
+    c.loop-input-test.false refl c.loop-input.invariant
