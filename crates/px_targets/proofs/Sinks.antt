@@ -1,7 +1,8 @@
 -- What is known of a header's sinks.
-use Rattle.std.proofs.Common.{◌≡◌, ℕ, suc, zero, ◌<◌, ◌≤◌, Bool, true, false, ◌&&◌, not, eqb, List, [], ◌∷◌, ◌++◌, length, get_or, slice_get, take, IsTrue, IfSome, is_some, ltb, Option, None, Some, Result, Ok, Err, refl, ap, sym, subst, arith}
+use Rattle.std.proofs.Common.{◌≡◌, ℕ, suc, zero, ◌<◌, ◌≤◌, ◌+◌, Bool, true, false, ◌&&◌, not, eqb, List, [], ◌∷◌, ◌++◌, length, get_or, slice_get, take, drop, IsTrue, IfSome, is_some, ltb, Option, None, Some, Result, Ok, Err, refl, ap, sym, subst, ◌∙◌, arith}
 use Rattle.std.specs.List.{AllByRecursion, list_all}
 use Rattle.std.proofs.lemmas.Bool.{ltb-true}
+use Rattle.std.proofs.lemmas.List.{append-nil, at_drop_more, at_drop_all}
 use Rattle.std.proofs.lemmas.Option.{slice_get_read}
 use Rattle.std.proofs.lemmas.Bool.Decides.{nat_tests}
 use Rattle.px_tag.specs.Item.{is_text}
@@ -12,7 +13,7 @@ use Rattle.px_types.specs.declared.error_code.ErrorCode.TheVariants.{Invalid}
 use Rattle.px_types.specs.declared.ids.SinkId.{SinkId}
 use Rattle.px_plan.specs.declared.target.Target.{Target}
 use Rattle.px_plan.specs.Target.{target_of as target_in, IsTarget}
-use Rattle.px_targets.specs.Sinks.{IsOfHeader, target_of, found_as, named_as}
+use Rattle.px_targets.specs.Sinks.{IsOfHeader, target_of, found_as, named_as, targets_from}
 
 both_true : (a b : Bool) → (a && b) ≡ true → (a ≡ true) × (b ≡ true)
 both_true true b e = (refl, e)
@@ -104,3 +105,22 @@ take_each (suc n) (x ∷ sinks) h = (h.0, take_each n sinks h.1)
 
 pub first_of_header : (n : ℕ) (sinks : List SinkSpec) → AreSinks [] sinks → AllByRecursion IsOfHeader (take n sinks)
 first_of_header n sinks h = take_each n sinks (each_of_header [] sinks h)
+
+-- ---- the sinks so far and those that are left are all of them
+
+-- one more
+pub next_target : (sinks : List SinkSpec) (i index : ℕ) (sink : SinkSpec) (old new all : List Target) → i < length sinks → sink ≡ get_or sinks i sink
+    → ((more : List SinkSpec) → new ++ targets_from (index + 1) more ≡ old ++ targets_from index (sink ∷ more))
+    → old ++ targets_from index (drop i sinks) ≡ all → new ++ targets_from (index + 1) (drop (i + 1) sinks) ≡ all
+next_target sinks i index sink old new all l is grown before =
+    grown (drop (i + 1) sinks)
+    ∙ ap (λ (x : SinkSpec). old ++ targets_from index (x ∷ drop (i + 1) sinks)) is
+    ∙ ap (λ (left : List Target). old ++ left) (sym (at_drop_more (targets_from index) sinks i sink l))
+    ∙ before
+
+-- none is left
+pub no_target : (sinks : List SinkSpec) (i index : ℕ) (sofar all : List Target) → length sinks ≤ i → sofar ++ targets_from index (drop i sinks) ≡ all → sofar ≡ all
+no_target sinks i index sofar all done before =
+    sym (append-nil sofar)
+    ∙ ap (λ (left : List Target). sofar ++ left) (sym (at_drop_all (targets_from index) sinks i done))
+    ∙ before
