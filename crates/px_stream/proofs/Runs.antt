@@ -1,6 +1,6 @@
 -- Places of runs that stand one behind another.
-use Rattle.std.proofs.Common.{◌≡◌, ◌≢◌, ℕ, ◌+◌, ◌*◌, ◌/◌, ◌%◌, ◌<◌, ◌≤◌, List, length, get_or, arith, sym, ap, ◌∙◌, subst, mul_comm, ⊎_elim, ℤ, pos, All, w32, SFits}
-use Rattle.std.proofs.Math.Nat.{add-mul, mul-le-mul_right, mul-div_cancel, mul_assoc}
+use Rattle.std.proofs.Common.{◌≡◌, ◌≢◌, ℕ, ◌+◌, ◌*◌, ◌/◌, ◌%◌, ◌<◌, ◌≤◌, min, List, length, get_or, arith, sym, ap, ◌∙◌, subst, mul_comm, ⊎_elim, ℤ, pos, All, w32, SFits}
+use Rattle.std.proofs.Math.Nat.{add-mul, mul-le-mul_right, div-mul-le_self, mul-div_cancel, mul_assoc}
 use Rattle.std.proofs.Math.ListN.{set}
 use Rattle.std.proofs.lemmas.Nat.{mod-mul-add}
 use Rattle.std.proofs.lemmas.Bool.{cases_lt}
@@ -62,6 +62,12 @@ pub frames_are : (total n channels : ℕ) → 1 ≤ channels → total ≡ 2 * (
 frames_are total n channels some whole =
     run_is total n (2 * channels) (omega (arith, some))
     (whole ∙ sym (sym (mul_assoc n 2 channels) ∙ ap (λ (m : ℕ). m * channels) (mul_comm n 2) ∙ mul_assoc 2 n channels))
+
+-- so many frames find room among so many samples
+pub frames_fit : (frames most samples channels : ℕ) → frames ≡ min most (samples / channels) → frames * channels ≤ samples
+frames_fit frames most samples channels is =
+    let few : frames ≤ samples / channels = omega (arith, is) in
+    omega (arith, mul-le-mul_right channels few, div-mul-le_self samples channels)
 
 -- the values of one frame more, and the places past it
 module _ (run place : ℕ) (out new : List ℤ) (inside : place < run) (kept : (i : ℕ) → i % run ≢ place → get_or new i (pos 0) ≡ get_or out i (pos 0)) where

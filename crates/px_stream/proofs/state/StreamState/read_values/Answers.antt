@@ -1,13 +1,16 @@
-use Rattle.std.proofs.Common.{◌≡◌, ℕ, ◌+◌, ◌*◌, ◌<◌, ◌≤◌, List, length, get_or, replicate, take, drop, refl, ap, sym, ◌∙◌, subst, arith, rules, ℤ, pos, mul_comm}
+use Rattle.std.proofs.Common.{◌≡◌, ◌≢◌, ℕ, ◌+◌, ◌*◌, ◌<◌, ◌≤◌, List, length, get_or, replicate, take, drop, refl, ap, sym, ◌∙◌, subst, arith, rules, ℤ, pos, mul_comm}
 use Rattle.std.specs.Prelude.{slice_index}
-use Rattle.std.proofs.lemmas.List.{get_or-replicate}
+use Rattle.std.proofs.lemmas.List.{get_or-replicate, length-take-le}
+use Rattle.std.proofs.lemmas.Bool.{cond-true}
+use Rattle.std.proofs.Math.Nat.{mul-le-mul_right}
+use Rattle.px_sample.proofs.RunLemmas.{fits_word}
 use Rattle.px_msg.specs.View.{sample_spec}
 use Rattle.px_sample.specs.Format.{size_of, frame_size_of}
-use Rattle.px_model.specs.Queue.{FrameAhead, silence, sound}
+use Rattle.px_model.specs.Queue.{FrameAhead, nothing, silence, sound, queue_frame}
 use Rattle.px_model.specs.Stream.{Stream, frame_at}
 use Rattle.px_stream.specs.Kept.{KeptStream, stream_of}
 use Rattle.px_stream.specs.Values.{value_at}
-use Rattle.px_stream.proofs.Reading.{frame_open, peeked_few, then_is}
+use Rattle.px_stream.proofs.Reading.{frame_open, not_nothing, peeked_few, then_is}
 use Rattle.px_stream.proofs.Runs.{place_inside}
 use Rattle.px_stream.proofs.Sounds.{value_by, frame_some}
 use Rattle.px_msg.proofs.Sizes.{same_frame_size}
@@ -89,3 +92,80 @@ returns-in-Frames-clause-values c =
     omega (arith, long, place_inside j c.args.frames d.spec.channels (slice_index d.feed k) here channel, mul_comm d.spec.channels c.args.frames) in
     value_by d.spec c.args.width s k j (length c.args.values.now) c.peek.new.out c.read_samples.new.values refl size channel there c.read_samples.ensures.values
     ∙ sym (ap (λ (a : FrameAhead). value_at c.args.width s k a) at))
+
+pub bytes_of-end-requires : goal.bytes_of-end-requires
+bytes_of-end-requires c = subst (λ (v : KeptStream). c.args.frames * v.stream.spec.channels ≤ 256) (sym c.self.view_is) c.requires.few
+
+pub fill-requires : goal.fill-requires
+fill-requires c = tt
+
+pub peek-requires-clause-some : goal.peek-requires-clause-some
+peek-requires-clause-some c =
+    let d = c.self.inside in
+    let width : d.queue.frame ≡ frame_size_of d.spec = c.self.invariant.1 ∙ same_frame_size d.spec in
+    let end : c.bytes_of-end.result ≡ c.args.frames * d.queue.frame = c.bytes_of-end.ensures.value ∙ ap (λ (n : ℕ). c.args.frames * n) (sym width) in
+    omega (arith, length-take-le {A = ℕ} c.bytes_of-end.result (replicate 1024 0) c.bytes_of-end.ensures.few, end, mul-le-mul_right d.queue.frame c.requires.some)
+
+pub returns-in-Frames-clause-none : goal.returns-in-Frames-clause-none
+returns-in-Frames-clause-none c = λ none. absurd (omega (arith, none, c.in-Frames.ensures.some))
+
+pub returns-in-Frames-clause-there : goal.returns-in-Frames-clause-there
+returns-in-Frames-clause-there c =
+    let d = c.self.inside in
+    let s : Stream = stream_of d.queue.queue d.corked d.maxlength d.tlength d.minreq d.requested d.draining.items d.run (sample_spec d.spec) d.feed d.factors in
+    subst (λ (v : KeptStream). (j : ℕ) → j < c.in-Frames.given → frame_at v.stream (c.args.k + j) ≢ nothing) c.self.view_is
+    (λ j less. not_nothing _ _ (frame_open s (c.args.k + j) c.if-self.false ∙ c.in-Frames.ensures.frames j less) refl)
+
+pub returns-in-Frames-clause-words : goal.returns-in-Frames-clause-words
+returns-in-Frames-clause-words c = λ k d less. fits_word c.args.width _ (c.read_samples.ensures.within k d less)
+
+pub returns-in-Nothing-clause-few : goal.returns-in-Nothing-clause-few
+returns-in-Nothing-clause-few c = omega (arith)
+
+pub returns-in-Nothing-clause-none : goal.returns-in-Nothing-clause-none
+returns-in-Nothing-clause-none c =
+    let d = c.self.inside in
+    let s : Stream = stream_of d.queue.queue d.corked d.maxlength d.tlength d.minreq d.requested d.draining.items d.run (sample_spec d.spec) d.feed d.factors in
+    λ e. subst (λ (v : KeptStream). frame_at v.stream c.args.k ≡ nothing) c.self.view_is (frame_open s c.args.k c.if-self.false ∙ c.in-Nothing.ensures.0)
+
+pub returns-in-Nothing-clause-there : goal.returns-in-Nothing-clause-there
+returns-in-Nothing-clause-there c = λ j less. absurd (omega (arith, less))
+
+pub returns-in-Nothing-clause-values : goal.returns-in-Nothing-clause-values
+returns-in-Nothing-clause-values c = λ k j fed less. absurd (omega (arith, less))
+
+pub returns-in-Nothing-clause-words : goal.returns-in-Nothing-clause-words
+returns-in-Nothing-clause-words c = c.requires.words
+
+pub returns-in-Silence-clause-none : goal.returns-in-Silence-clause-none
+returns-in-Silence-clause-none c = λ none. absurd (omega (arith, none, c.in-Silence.ensures.some))
+
+pub returns-in-Silence-clause-there : goal.returns-in-Silence-clause-there
+returns-in-Silence-clause-there c =
+    let d = c.self.inside in
+    let s : Stream = stream_of d.queue.queue d.corked d.maxlength d.tlength d.minreq d.requested d.draining.items d.run (sample_spec d.spec) d.feed d.factors in
+    subst (λ (v : KeptStream). (j : ℕ) → j < c.in-Silence.given → frame_at v.stream (c.args.k + j) ≢ nothing) c.self.view_is
+    (λ j less. not_nothing _ _ (frame_open s (c.args.k + j) c.if-self.false ∙ c.in-Silence.ensures.silent j less) refl)
+
+pub returns-then-self-clause-few : goal.returns-then-self-clause-few
+returns-then-self-clause-few c = omega (arith)
+
+pub returns-then-self-clause-none : goal.returns-then-self-clause-none
+returns-then-self-clause-none c =
+    let d = c.self.inside in
+    λ e. subst (λ (v : KeptStream). frame_at v.stream c.args.k ≡ nothing) c.self.view_is (cond-true d.corked nothing (queue_frame d.queue.queue c.args.k) c.if-self.true)
+
+pub returns-then-self-clause-there : goal.returns-then-self-clause-there
+returns-then-self-clause-there c = λ j less. absurd (omega (arith, less))
+
+pub returns-then-self-clause-values : goal.returns-then-self-clause-values
+returns-then-self-clause-values c = λ k j fed less. absurd (omega (arith, less))
+
+pub returns-then-self-clause-words : goal.returns-then-self-clause-words
+returns-then-self-clause-words c = c.requires.words
+
+pub slice_bounds-bytes-end : goal.slice_bounds-bytes-end
+slice_bounds-bytes-end c = sym (length-take-le {A = ℕ} c.bytes_of-end.result (replicate 1024 0) c.bytes_of-end.ensures.few)
+
+pub slice_bounds-scratch-end : goal.slice_bounds-scratch-end
+slice_bounds-scratch-end c = c.bytes_of-end.ensures.few
