@@ -1,5 +1,5 @@
-use Rattle.std.proofs.Common.{◌*◌, ◌+◌, ◌-◌, ◌≤◌, ℕ, length, ◌∙◌, arith, sym, ap}
-use Rattle.std.proofs.Math.Nat.{add-mul}
+use Rattle.std.proofs.Common.{◌*◌, ◌+◌, ◌-◌, ◌/◌, ◌≤◌, ℕ, length, ◌∙◌, arith, sym, ap, mul_comm}
+use Rattle.std.proofs.Math.Nat.{add-mul, mul-le-mul_right, div-mul-le_self}
 use Rattle.px_sample.proofs.RunLemmas.{length_part}
 use Rattle.px_mixcache.specs.Shown.{frame_of}
 use Rattle.px_mixcache.proofs.Stretches.{run_more, run_fits}
@@ -26,3 +26,36 @@ loop-done-preserved g c =
           (omega (arith, add-mul done count size, c.show_stretch.auto.out, length_part c.loop-done.out (done * size) (count * size) fits)) c.loop-done.invariant.bytes c.show_stretch.ensures.bytes;
       ticks = omega (arith, c.loop-done.invariant.ticks, c.show_stretch.ensures.ticks);
     }
+
+pub nonzero_div-most : goal.nonzero_div-most
+nonzero_div-most g c = c.requires.some
+
+pub overflow_add-done : goal.overflow_add-done
+overflow_add-done g c = omega (arith, c.requires.near, c.loop-done.invariant.few, c.min-count.ensures)
+
+pub overflow_add-from : goal.overflow_add-from
+overflow_add-from g c = omega (arith, c.requires.near, c.loop-done.invariant.few)
+
+pub show_stretch-requires-clause-few : goal.show_stretch-requires-clause-few
+show_stretch-requires-clause-few g c =
+    let few : c.min-count.result ≤ 256 / length c.args.runs.now = omega (arith, c.min-count.ensures) in
+    omega (arith, mul-le-mul_right (length c.args.runs.now) few, div-mul-le_self 256 (length c.args.runs.now), mul_comm c.min-count.result (length c.args.runs.now))
+
+pub show_stretch-requires-clause-inside : goal.show_stretch-requires-clause-inside
+show_stretch-requires-clause-inside g c = λ k less. omega (arith, c.requires.inside k less, c.min-count.ensures, c.loop-done.invariant.few)
+
+pub show_stretch-requires-clause-linear : goal.show_stretch-requires-clause-linear
+show_stretch-requires-clause-linear g c = c.requires.linear
+
+pub show_stretch-requires-clause-some : goal.show_stretch-requires-clause-some
+show_stretch-requires-clause-some g c = c.requires.some
+
+pub show_stretch-requires-clause-whole : goal.show_stretch-requires-clause-whole
+show_stretch-requires-clause-whole g c =
+    let size = length c.args.runs.now * c.size.result in
+    let fits : c.loop-done.done * size + c.min-count.result * size ≤ length c.loop-done.out = run_fits size c.loop-done.done c.min-count.result c.args.frames (length c.loop-done.out) (omega (arith, c.min-count.ensures, c.loop-done.invariant.few))
+    (c.loop-done.auto.out ∙ c.requires.whole ∙ sym (ap (λ (n : ℕ). c.args.frames * (length c.args.runs.now * n)) c.size.ensures)) in
+    length_part c.loop-done.out (c.loop-done.done * size) (c.min-count.result * size) fits ∙ ap (λ (n : ℕ). c.min-count.result * (length c.args.runs.now * n)) c.size.ensures
+
+pub slice_bounds-show_stretch-count : goal.slice_bounds-show_stretch-count
+slice_bounds-show_stretch-count g c = omega (arith)

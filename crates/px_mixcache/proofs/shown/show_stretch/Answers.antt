@@ -1,4 +1,5 @@
-use Rattle.std.proofs.Common.{◌≡◌, ◌+◌, ◌*◌, length, ap, ◌∙◌}
+use Rattle.std.proofs.Common.{◌≡◌, ◌+◌, ◌*◌, length, ap, sym, ◌∙◌, arith}
+use Rattle.std.proofs.Math.Nat.{mul-le-mul_right}
 use Rattle.std.proofs.lemmas.List.{length-take-le}
 use Rattle.std.specs.Int.{saturate_signed}
 use Rattle.px_sample.specs.declared.format.Width.{Width}
@@ -19,3 +20,27 @@ returns-clause-bytes g c =
     (stretch_listed (shown_at format runs) (length runs) from c.args.count c.clip_channels.new.values size
     (λ n j less few. c.clip_channels.ensures.values n j less few ∙ ap (λ (w : Width). saturate_signed (bits_of w) (at (run_at runs n).sums (from + j))) c.width.ensures))
     ∙ packed_stretch format runs from c.args.count
+
+pub clip_channels-requires-clause-inside : goal.clip_channels-requires-clause-inside
+clip_channels-requires-clause-inside g c = c.requires.inside
+
+pub clip_channels-requires-clause-values : goal.clip_channels-requires-clause-values
+clip_channels-requires-clause-values g c = c.fill.ensures.len ∙ length-take-le (length c.args.runs.now * c.args.count) _ c.requires.few
+
+pub overflow_mul-places : goal.overflow_mul-places
+overflow_mul-places g c = omega (arith, c.requires.few)
+
+pub pack-requires-clause-linear : goal.pack-requires-clause-linear
+pack-requires-clause-linear g c = c.requires.linear
+
+pub returns-clause-ticks : goal.returns-clause-ticks
+returns-clause-ticks g c = c.clip_channels.ensures.ticks
+
+pub slice_bounds-clipped-end : goal.slice_bounds-clipped-end
+slice_bounds-clipped-end g c = omega (arith, c.requires.few, mul-le-mul_right c.args.count c.requires.some)
+
+pub slice_bounds-values-end : goal.slice_bounds-values-end
+slice_bounds-values-end g c = c.requires.few
+
+pub slice_bounds-values-end-2 : goal.slice_bounds-values-end-2
+slice_bounds-values-end-2 g c = sym (length-take-le (length c.args.runs.now * c.args.count) _ c.requires.few)
