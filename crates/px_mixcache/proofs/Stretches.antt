@@ -1,6 +1,6 @@
 -- The bytes of frames that kept sums show.
-use Rattle.std.proofs.Common.{◌≡◌, ℕ, zero, suc, ◌+◌, ◌-◌, ◌*◌, ◌<◌, ◌≤◌, List, [], ◌∷◌, ◌++◌, length, map, take, drop, get_or, refl, ap, sym, ◌∙◌, arith, ℤ, pos}
-use Rattle.std.proofs.Math.Nat.{add-mul, mul-le-mul_right}
+use Rattle.std.proofs.Common.{◌≡◌, ℕ, zero, suc, ◌+◌, ◌-◌, ◌*◌, ◌/◌, ◌<◌, ◌≤◌, List, [], ◌∷◌, ◌++◌, length, map, take, drop, get_or, refl, ap, sym, ◌∙◌, arith, ℤ, pos, mul_comm}
+use Rattle.std.proofs.Math.Nat.{add-mul, mul-le-mul_right, mul_assoc}
 use Rattle.std.proofs.lemmas.Grind.{flat_map-append, common_steps}
 use Rattle.std.proofs.lemmas.List.{get_or-take, get_or-drop, ext_get_or}
 use Rattle.std.proofs.lemmas.List.FromFn.{length-map-range_with_len, get_or-map-range_with_len}
@@ -10,9 +10,12 @@ use Rattle.std.proofs.lemmas.Slice.{take-put_mid}
 use borrow.Rule.Slice.PartMut.{put_mid}
 use Rattle.std.specs.List.{concat, flat_map, range_with_len}
 use Rattle.std.specs.Int.{saturate_signed}
+use Rattle.std.proofs.lemmas.Int.{ints}
+use Rattle.px_sample.specs.declared.format.Width.{Width}
+use Rattle.px_sample.specs.declared.format.Width.TheVariants.{W8, W16, W32}
 use Rattle.px_sample.specs.declared.format.Format.{Format}
 use Rattle.px_sample.specs.Format.{width_of}
-use Rattle.px_sample.specs.WorkValue.{packed_sample, packed_of}
+use Rattle.px_sample.specs.WorkValue.{IsWithin, packed_sample, packed_of}
 use Rattle.px_kernel.specs.Kernel.{at, bits_of}
 use Rattle.px_mixcache.specs.Run.{KeptRun}
 use Rattle.px_mixcache.specs.Cache.{run_at}
@@ -102,3 +105,17 @@ run_more f out ys ahead k g a n m room next before made =
 -- so many frames more fit
 pub run_fits : (size done count frames total : ℕ) → done + count ≤ frames → total ≡ frames * size → done * size + count * size ≤ total
 run_fits size done count frames total few are = omega (arith, are, mul-le-mul_right size few, add-mul done count size)
+
+-- the bytes of a stretch, sample by sample
+pub stretch_size : (count channels size : ℕ) → count * (channels * size) ≡ size * (channels * count)
+stretch_size count channels size = mul_comm count (channels * size) ∙ ap (λ (n : ℕ). n * count) (mul_comm channels size) ∙ mul_assoc size channels count
+
+-- nothing fits each width
+pub nothing_within : (width : Width) → IsWithin width (pos 0)
+nothing_within W8 = record { low = omega (arith, ints); high = omega (arith, ints) }
+nothing_within W16 = record { low = omega (arith, ints); high = omega (arith, ints) }
+nothing_within W32 = record { low = omega (arith, ints); high = omega (arith, ints) }
+
+-- some frames of up to 32 channels stand in 256 places
+pub some_most : (channels : ℕ) → 1 ≤ channels → channels ≤ 32 → 1 ≤ 256 / channels
+some_most channels some few = grind (arith)

@@ -1,8 +1,10 @@
-use Rattle.std.proofs.Common.{◌*◌, ◌+◌, ◌-◌, ◌/◌, ◌≤◌, ℕ, length, ◌∙◌, arith, sym, ap, mul_comm}
+use Rattle.std.proofs.Common.{◌≡◌, map, take, ◌*◌, ◌+◌, ◌-◌, ◌/◌, ◌≤◌, ℕ, length, ◌∙◌, arith, sym, ap, mul_comm}
 use Rattle.std.proofs.Math.Nat.{add-mul, mul-le-mul_right, div-mul-le_self}
+use Rattle.std.proofs.lemmas.List.{take_all}
+use Rattle.std.specs.List.{concat, range_with_len}
 use Rattle.px_sample.proofs.RunLemmas.{length_part}
 use Rattle.px_mixcache.specs.Shown.{frame_of}
-use Rattle.px_mixcache.proofs.Stretches.{run_more, run_fits}
+use Rattle.px_mixcache.proofs.Stretches.{run_more, run_fits, some_most}
 use Rattle.px_mixcache.proofs.shown.show_frames.Goals as goal
 
 pub slice_bounds-show_stretch-end : goal.slice_bounds-show_stretch-end
@@ -59,3 +61,27 @@ show_stretch-requires-clause-whole g c =
 
 pub slice_bounds-show_stretch-count : goal.slice_bounds-show_stretch-count
 slice_bounds-show_stretch-count g c = omega (arith)
+
+pub loop-done-init : goal.loop-done-init
+loop-done-init g c =
+    let none : 0 * (length c.args.runs.now * c.size.result) ≡ 0 = omega arith in
+    record { few = omega arith; bytes = ap (λ (n : ℕ). take n c.args.out.now) none; ticks = omega arith }
+
+pub loop-done-smaller : goal.loop-done-smaller
+loop-done-smaller g c =
+    let some : 1 ≤ 256 / length c.args.runs.now = some_most (length c.args.runs.now) c.requires.some c.requires.few in
+    omega (arith, some, c.min-count.ensures, c.loop-done-test.true)
+
+pub returns-clause-bytes : goal.returns-clause-bytes
+returns-clause-bytes g c =
+    let runs = c.args.runs.now in
+    let all : c.loop-done.done ≡ c.args.frames = omega (arith, c.loop-done-test.false, c.loop-done.invariant.few) in
+    let size : length c.loop-done.out ≡ c.loop-done.done * (length runs * c.size.result) =
+    c.loop-done.auto.out ∙ c.requires.whole ∙ sym (ap (λ (n : ℕ). c.args.frames * (length runs * n)) c.size.ensures) ∙ sym (ap (λ (n : ℕ). n * (length runs * c.size.result)) all) in
+    sym (take_all (c.loop-done.done * (length runs * c.size.result)) c.loop-done.out (omega (arith, size)))
+    ∙ c.loop-done.invariant.bytes ∙ ap (λ (n : ℕ). concat (map (frame_of c.args.format runs) (range_with_len c.args.from n))) all
+
+pub returns-clause-ticks : goal.returns-clause-ticks
+returns-clause-ticks g c =
+    let all : c.loop-done.done ≡ c.args.frames = omega (arith, c.loop-done-test.false, c.loop-done.invariant.few) in
+    c.loop-done.invariant.ticks ∙ ap (λ (n : ℕ). c.args.steps.now + length c.args.runs.now * n) all
