@@ -1,5 +1,5 @@
 -- The room that is left once a change has taken its places.
-use Rattle.std.proofs.Common.{arith, ◌≡◌, ℕ, ◌+◌, ◌≤◌, length, ap}
+use Rattle.std.proofs.Common.{arith, ◌≡◌, ℕ, ◌+◌, ◌≤◌, length, ap, sym, subst}
 use Rattle.std.specs.Prelude.{vec_capacity}
 use Rattle.px_state.specs.declared.tables.Tables.{Tables}
 use Rattle.px_names.specs.InputLists.{RoomyLists}
@@ -57,3 +57,8 @@ room_left n old new still listed waits delays posted had = record {
   delayed = omega (arith, delays.len, delays.capacity, had.delayed);
   posted = posted;
 }
+
+-- a table of another kind takes none of it
+pub room_beside : {P : Type 0} (n : ℕ) (old new : Tables P) → new.inputs ≡ old.inputs → new.lists ≡ old.lists → new.waiting ≡ old.waiting → new.delayed ≡ old.delayed → new.posted ≡ old.posted → HasRoom (n + 1) old → HasRoom n new
+room_beside n old new inputs lists waiting delayed posted had =
+    room_left n old new (same_roomy old.inputs new.inputs inputs) (same_listed old.lists new.lists lists) (same_waits old new waiting) (same_delays old new delayed) (subst (λ q. HavePlaces n q.items) (sym posted) (fewer_places n old.posted.items had.posted)) had

@@ -2,9 +2,9 @@
 
 ghost use Rattle.std.specs.Prelude.{◌≡◌, ◌≤◌, ◌+◌, [], ℕ, length, vec_capacity, Some, IfOk, OnOk, OnErr};
 ghost use Rattle.std.specs.List.{find};
-ghost use Rattle.px_plan.specs.declared.change.Change.TheVariants.{Made, Described, Leaves, Moves, Arrives, Released, Said, Regrouped, Asked, Answered, Gone};
+ghost use Rattle.px_plan.specs.declared.change.Change.TheVariants.{Authed, Forgotten, Made, Described, Leaves, Moves, Arrives, Released, Said, Regrouped, Asked, Answered, Gone};
 ghost use Rattle.px_session.specs.HeaderRules.{AreSinks};
-ghost use Rattle.px_state.specs.Change.{changed, committed, defaulted, inputs_told, posting, delaying, saying, ending, departs, arrives, releasing};
+ghost use Rattle.px_state.specs.Change.{changed, committed, marked, with_connection, defaulted, inputs_told, posting, delaying, saying, ending, departs, arrives, releasing};
 ghost use Rattle.px_state.specs.Delayed.{is_of};
 ghost use Rattle.px_state.specs.State.{input_of};
 ghost use Rattle.px_state.specs.Answered.{answered, answer_effects};
@@ -294,6 +294,31 @@ fn make_default(names: &mut Names, sink: SinkId)
     }
 }
 
+// A connection speaks this version.
+fn set_version<P>(tables: &mut Tables<P>, conn: ConnId, version: u16)
+    ensures state { state_of tables.new ≡ changed (state_of tables.old) (Authed conn version) }
+    ensures room { (n : ℕ) → HasRoom (n + 1) tables.old → HasRoom n tables.new }
+{
+    px_inputs::set_version(&mut tables.connections, conn, version);
+}
+
+// A connection is to end.
+fn mark<P>(tables: &mut Tables<P>, conn: ConnId)
+    ensures state { state_of tables.new ≡ with_connection conn marked (state_of tables.old) }
+    ensures room { (n : ℕ) → HasRoom (n + 1) tables.old → HasRoom n tables.new }
+{
+    px_inputs::mark(&mut tables.connections, conn);
+}
+
+// A connection and its client are given up.
+fn forget<P>(tables: &mut Tables<P>, conn: ConnId)
+    ensures state { state_of tables.new ≡ changed (state_of tables.old) (Forgotten conn) }
+    ensures room { (n : ℕ) → HasRoom (n + 1) tables.old → HasRoom n tables.new }
+{
+    px_inputs::forget(&mut tables.connections, conn);
+    tables.names.forget(conn);
+}
+
 /// One change, which takes one place of the room. Takes no memory.
 pub(crate) fn apply<P: Drop>(tables: &mut Tables<P>, change: CoreChange<P>)
     requires { HasRoom 1 tables.old }
@@ -301,9 +326,7 @@ pub(crate) fn apply<P: Drop>(tables: &mut Tables<P>, change: CoreChange<P>)
     ensures room { (n : ℕ) → HasRoom (n + 1) tables.old → HasRoom n tables.new }
 {
     match change {
-        Change::Authed(conn, version) => {
-            px_inputs::set_version(&mut tables.connections, conn, version);
-        }
+        Change::Authed(conn, version) => set_version(tables, conn, version),
         Change::Named(conn, list) => tables.names.set_list(conn, list),
         Change::Masked(conn, mask) => tables.names.set_mask(conn, mask),
         Change::Defaulted(sink) => make_default(&mut tables.names, sink),
@@ -323,11 +346,8 @@ pub(crate) fn apply<P: Drop>(tables: &mut Tables<P>, change: CoreChange<P>)
         Change::Asked(w) => ask(tables, w),
         Change::Answered(w) => answer(tables, &w),
         Change::Gone(index) => give_up(tables, index),
-        Change::Ended { conn, .. } => px_inputs::mark(&mut tables.connections, conn),
-        Change::Forgotten(conn) => {
-            px_inputs::forget(&mut tables.connections, conn);
-            tables.names.forget(conn);
-        }
+        Change::Ended { conn, .. } => mark(tables, conn),
+        Change::Forgotten(conn) => forget(tables, conn),
     }
 }
 

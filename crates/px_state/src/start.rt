@@ -74,7 +74,6 @@ fn group_for(alloc: Global, sink: &SinkSpec) -> Group
 }
 
 // Such a group for each sink.
-#[tactic(auto, using(px_targets::proofs::Sinks::next_of_header))]
 fn groups_for(alloc: Global, sinks: &[SinkSpec]) -> Mem<Vec<Group>>
     requires { AllByRecursion IsOfHeader sinks.now }
     ensures { IfOk result (λ made. made.items ≡ map (λ s. new_group (SinkSpec.spec s).channels) sinks.now) }
@@ -95,20 +94,42 @@ fn names_for(alloc: Global, header: &Header) -> Mem<Names>
     Names::new(alloc, header.cookie.as_slice(), &sinks)
 }
 
+// The names of a server with this header and no client, and its sinks.
+fn names_and_sinks(alloc: Global, header: &Header) -> Mem<(Names, SinkSpecs)>
+    requires { IsHeader header.now }
+    ensures names { IfOk result (λ made. made.0 ≡ record { cookie = header.now.cookie; sinks = map (λ s. SinkSpec.name s) header.now.sinks; fallback = record { 0 = 0 }; clients = [] }) }
+    ensures sinks { IfOk result (λ made. made.1 ≡ header.now.sinks) }
+{
+    let sinks = copied_sinks(alloc, header.sinks.as_slice())?;
+    let names = names_for(alloc, header)?;
+    Ok((names, SinkSpecs::from_vec(sinks)))
+}
+
+// A queue with no message for each sink, and a group that no input is in.
+fn queues_and_groups<P: Drop>(
+    alloc: Global,
+    sinks: &[SinkSpec],
+) -> Mem<(Vec<VecDeque<Msg<P>>>, Vec<Group>)>
+    requires { AllByRecursion IsOfHeader sinks.now }
+    ensures queues { IfOk result (λ made. lists_of made.0.items ≡ replicate (length sinks.now) []) }
+    ensures groups { IfOk result (λ made. made.1.items ≡ map (λ s. new_group (SinkSpec.spec s).channels) sinks.now) }
+{
+    let posted = queues_for(alloc, sinks)?;
+    let groups = groups_for(alloc, sinks)?;
+    Ok((posted, groups))
+}
+
 /// The tables of a server with this header: no client, no input and no message.
-#[tactic(auto, using(px_targets::proofs::Sinks::each_of_header))]
 pub fn new_tables<P: Drop>(alloc: Global, header: &Header) -> Mem<Tables<P>>
     requires { IsHeader header.now }
     ensures state { IfOk result (λ tables. state_of tables ≡ new_state header.now) }
     ensures sinks { IfOk result (λ tables. AreSinks [] tables.sinks) }
 {
-    let names = names_for(alloc, header)?;
-    let sinks = copied_sinks(alloc, header.sinks.as_slice())?;
-    let posted = queues_for(alloc, header.sinks.as_slice())?;
-    let groups = groups_for(alloc, header.sinks.as_slice())?;
+    let (posted, groups) = queues_and_groups(alloc, header.sinks.as_slice())?;
+    let (names, sinks) = names_and_sinks(alloc, header)?;
     Ok(Tables {
         names,
-        sinks: SinkSpecs::from_vec(sinks),
+        sinks,
         connections: Vec::new(alloc),
         inputs: InputTable::new(alloc),
         lists: InputLists::new(alloc),
