@@ -18,6 +18,13 @@ pub record IsCaused (fault : Option RecordFault) (faults fulls : ℕ) : Type 0 w
 abbrev pub ReadyFails : StepFault → Option RecordFault → Option RecordFault → Type 0
 ReadyFails e before after = (why : RecordFault) × (e ≡ Recorder why) × (after ≡ option_or before (Some why))
 
+-- a step that isn't noted leaves the first fault as it was, but where the recorder isn't ready
+abbrev pub Unnoted : StepFault → Option RecordFault → Option RecordFault → Type 0
+Unnoted NoMemory before after = after ≡ before
+Unnoted Worn before after = ⊥
+Unnoted (Recorder why) before after = after ≡ option_or before (Some why)
+Unnoted (Owed back) before after = ⊥
+
 -- ---- what it said when it was asked, by what is answered
 
 module _ {C : Type 0} (limit : C → Option Limit) (told : C → Option (List CoreEntry)) (faults fulls : C → ℕ) where

@@ -11,13 +11,13 @@ ghost use Rattle.px_core_cell.specs.Cause.{Says, StepSays};
 ghost use Rattle.px_core_cell.specs.Parcel.{spec_of};
 ghost use Rattle.px_core_cell.specs.Step.{is_own, waits, IsAsked, IsFree, OwnGives, NoticeGives, OutGives, NowhereGives, FreeGives, StepGives, OutStops, NoticeStops, Stops, IsNothing};
 
-use crate::act::{act, plain_step};
+use crate::act::act;
 use crate::ends::{CoreEnd, CoreEnds};
+use crate::entry::{notice_entry, own_entry};
 use crate::log::StepLog;
 use crate::parcel::CellCore;
-use crate::plain::plain_notice;
 use crate::step::{CoreStep, StepFault};
-use px_annals::{CoreEntry, Entry, PlainStep, Recorder};
+use px_annals::{CoreEntry, PlainStep, Recorder};
 use px_core::Effects;
 use px_types::SinkId;
 use std::alloc::Global;
@@ -45,10 +45,7 @@ fn own_step<C: Recorder<CoreEntry>>(
     ensures said { Says C.limit C.told C.faults C.fulls result log.old.recorder log.new.recorder }
 {
     let owed = waits(&step);
-    let entry = CoreEntry {
-        step: plain_step(alloc, &step)?,
-    };
-    log.ready(entry.size())?;
+    let entry = own_entry(alloc, log, &step)?;
     let effects = act(alloc, core, step)?;
     log.note(entry, owed);
     Ok(effects)
@@ -73,13 +70,7 @@ fn notice_step<C: Recorder<CoreEntry>, R: Wait>(
     let Some(notice) = &end.kept else {
         return Ok(None);
     };
-    let entry = CoreEntry {
-        step: PlainStep::Notice {
-            sink: sink.0,
-            notice: plain_notice(alloc, notice)?,
-        },
-    };
-    log.ready(entry.size())?;
+    let entry = notice_entry(alloc, log, sink, notice)?;
     let effects = end.collect(core, sink)?;
     log.note(entry, true);
     Ok(Some(effects))

@@ -1,10 +1,6 @@
-use Rattle.std.proofs.Common.{◌≡◌, ◌+◌, ◌∙◌, ℕ, List, Option, Some, None, ap}
-use Rattle.px_annals.specs.declared.entry.CoreEntry.{CoreEntry}
-use Rattle.px_annals.specs.declared.step.PlainStep.TheVariants as plain
-use Rattle.px_annals.specs.declared.notice.PlainNotice.{PlainNotice}
+use Rattle.std.proofs.Common.{◌≡◌, ◌+◌, ◌∙◌, ℕ, Some, None, ap}
 use Rattle.px_annals.specs.History.{noted}
 use Rattle.px_core_cell.specs.Cell.{desk_of, ends_of}
-use Rattle.px_core_cell.specs.Plain.{plain_notice}
 use Rattle.px_core_cell.proofs.Doing.{Collects, notice_done}
 use Rattle.px_core_cell.proofs.parts.notice_step.Goals as goal
 
@@ -12,12 +8,10 @@ pub returns-clause-gives : goal.returns-clause-gives
 returns-clause-gives g c =
     let kept : c.fetch.new.self.kept ≡ Some c.in-Some.notice = c.in-Some.is in
     let used : ends_of c.collect.new.self ≡ record (ends_of c.fetch.new.self) { kept = None } = c.in_ok-effects.ensures.used in
-    let made : c.in_ok-plain_notice.field-0 ≡ plain_notice c.in-Some.notice = c.in_ok-plain_notice.ensures in
     let collects : Collects g.C.Recorder.told c.args.sink.0 c.fetch.new.self.kept c.args.core.now.state c.collect.new.core.state c.in_ok-effects.effects = c.in_ok-effects.ensures.done in
     notice_done g.C.Recorder.told c.args.sink.0 (desk_of c.args.core.now.state c.args.log.now) (desk_of c.collect.new.core.state c.note.new.self) (ends_of c.args.end.now) (ends_of c.fetch.new.self) (ends_of c.collect.new.self)
     c.in-Some.notice c.in_ok-effects.effects c.fetch.ensures.fetches kept used collects
-    (c.note.ensures.told ∙ ap (λ (p : PlainNotice). noted (record { step = plain.Notice c.args.sink.0 p }) (g.C.Recorder.told c.ready.new.self.recorder)) made
-    ∙ ap (λ (o : Option (List CoreEntry)). noted (record { step = plain.Notice c.args.sink.0 (plain_notice c.in-Some.notice) }) o) c.in_ok-ready.ensures.told)
-    (c.note.ensures.steps ∙ ap (λ (n : ℕ). n + 1) c.in_ok-ready.ensures.steps)
+    (c.note.ensures.told ∙ (λ i. noted (record { step = c.in_ok-entry.ensures.step i }) (c.in_ok-entry.ensures.told i)))
+    (c.note.ensures.steps ∙ ap (λ (n : ℕ). n + 1) c.in_ok-entry.ensures.steps)
     c.note.ensures.owed
-    (c.note.ensures.fault ∙ c.in_ok-ready.ensures.fault)
+    (c.note.ensures.fault ∙ c.in_ok-entry.ensures.fault)
