@@ -1,6 +1,6 @@
 // The command `serve`, as clap is told of it: long options only.
-ghost use Rattle.std.specs.Prelude.{◌≡◌, false, IfOk};
-ghost use Rattle.clap.specs.Words.{app_of, rule_of};
+ghost use Rattle.std.specs.Prelude.{◌≡◌, false, IfOk, codes};
+ghost use Rattle.clap.specs.Words.{app_of, rule_of, with_rule};
 ghost use Rattle.px_serve_words.specs.Command.{serve_command, option_rule, path_rule, accept_rule, tape_rule};
 
 use clap::builder::ValueParser;
@@ -45,17 +45,32 @@ fn tape<'a>(alloc: Global) -> Arg<'a>
         .action(ArgAction::SetTrue)
 }
 
+// Adds the options that are paths.
+fn with_paths<'a>(alloc: Global, command: Command<'a>) -> Result<Command<'a>, AllocError>
+    ensures { IfOk result (λ more. app_of more
+        ≡ with_rule (with_rule (with_rule (app_of command.entry) (path_rule (codes "header"))) (path_rule (codes "socket"))) (path_rule (codes "out"))) }
+{
+    command
+        .arg(path(alloc, "header"))?
+        .arg(path(alloc, "socket"))?
+        .arg(path(alloc, "out"))
+}
+
+// Adds the options that aren't paths.
+fn with_others<'a>(alloc: Global, command: Command<'a>) -> Result<Command<'a>, AllocError>
+    ensures { IfOk result (λ more. app_of more
+        ≡ with_rule (with_rule (with_rule (app_of command.entry) accept_rule) (option_rule (codes "history"))) tape_rule) }
+{
+    command
+        .arg(accept(alloc))?
+        .arg(option(alloc, "history"))?
+        .arg(tape(alloc))
+}
+
 // The command, before it is built.
 pub fn command<'a>(alloc: Global) -> Result<Command<'a>, AllocError>
     ensures { IfOk result (λ command. app_of command ≡ serve_command) }
 {
     let empty = Command::new(alloc, "serve").disable_help_flag(true);
-    let command = empty
-        .arg(path(alloc, "header"))?
-        .arg(path(alloc, "socket"))?
-        .arg(path(alloc, "out"))?
-        .arg(accept(alloc))?
-        .arg(option(alloc, "history"))?
-        .arg(tape(alloc))?;
-    Ok(command)
+    with_others(alloc, with_paths(alloc, empty)?)
 }
