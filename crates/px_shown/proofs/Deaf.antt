@@ -1,7 +1,7 @@
 -- Where no client hears of anything, nobody is told anything.
-use Rattle.std.proofs.Common.{◌≡◌, ℕ, Bool, true, false, List, [], ◌∷◌, ◌++◌, Option, Some, None, refl, ap, sym, ◌∙◌, arith}
-use Rattle.std.specs.Prelude.{cond, ◌&&◌, nat_eq, flat_map}
-use Rattle.std.specs.List.{fold, find, list_all, AllByRecursion}
+use Rattle.std.proofs.Common.{◌≡◌, ℕ, Bool, true, false, List, [], ◌∷◌, ◌++◌, Some, refl, ap, ◌∙◌, arith}
+use Rattle.std.specs.Prelude.{cond, ◌&&◌, nat_eq}
+use Rattle.std.specs.List.{list_all, AllByRecursion}
 use Rattle.std.proofs.lemmas.Bool.Decides.{nat_tests}
 use Rattle.std.proofs.lemmas.Bool.{false≢true}
 use Rattle.px_types.specs.declared.ids.ConnId.{ConnId}
@@ -14,7 +14,6 @@ use Rattle.px_msg.specs.declared.message.Msg.{Msg}
 use Rattle.px_plan.specs.declared.change.Change.{Change}
 use Rattle.px_plan.specs.declared.change.Change.TheVariants.{Authed, Named, Masked, Defaulted, Made, Described, Leaves, Moves, Arrives, Released, Said, Regrouped, Asked, Answered, Gone, Ended, Forgotten}
 use Rattle.px_plan.specs.declared.input.Connection.{Connection}
-use Rattle.px_plan.specs.declared.sending.Sending.{Sending}
 use Rattle.px_events.specs.declared.announce.Subscriber.{Subscriber}
 use Rattle.px_events.specs.declared.event.Facility.{Facility}
 use Rattle.px_events.specs.declared.event.Facility.TheVariants.{Sink, Input, Client as AClient, Server}
@@ -24,7 +23,7 @@ use Rattle.px_events.specs.Announce.{told_to, announced, announced_all}
 use Rattle.px_events.specs.Became.{events_between}
 use Rattle.px_events.specs.Told.{Telling, infos_in}
 use Rattle.px_shown.specs.Scene.{Scene, scene_changed, scene_after, scene_joined, is_maskless, is_deaf, are_deaf, nobody_hears}
-use Rattle.px_shown.specs.Shown.{telling_of, subscriber_of, subscribers_in, subscribers_of, given_in, told_since, told_between}
+use Rattle.px_shown.specs.Shown.{telling_of, subscribers_in, subscribers_of, given_in, told_since, told_between}
 
 first_true : (a b : Bool) → (a && b) ≡ true → a ≡ true
 first_true true b e = refl

@@ -1,3 +1,3 @@
 pub mod Unchanged
 pub mod Deaf
-pub mod Since
+mod Parts

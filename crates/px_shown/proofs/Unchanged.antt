@@ -1,7 +1,6 @@
 -- Changes of nothing that is told leave all that is told.
 use Rattle.std.proofs.Common.{◌≡◌, ℕ, Bool, true, false, List, [], ◌∷◌, ◌++◌, Option, Some, None, refl, ap, sym, ◌∙◌}
-use Rattle.std.specs.Prelude.{cond, ◌&&◌, flat_map, slice_get}
-use Rattle.std.specs.List.{fold, list_all}
+use Rattle.std.specs.Prelude.{cond, ◌&&◌, slice_get}
 use Rattle.std.proofs.lemmas.Bool.{false≢true}
 use Rattle.px_types.specs.declared.ids.InputId.{InputId}
 use Rattle.px_flat.specs.FlatVolume.{FlatGroup}
@@ -15,7 +14,6 @@ use Rattle.px_plan.specs.declared.input.Standing.{Standing}
 use Rattle.px_plan.specs.declared.input.Standing.TheVariants.{Settled, Moving, Leaving}
 use Rattle.px_plan.specs.declared.change.Change.{Change}
 use Rattle.px_plan.specs.declared.change.Change.TheVariants.{Authed, Named, Masked, Defaulted, Made, Described, Leaves, Moves, Arrives, Released, Said, Regrouped, Asked, Answered, Gone, Ended, Forgotten}
-use Rattle.px_plan.specs.declared.sending.Sending.{Sending}
 use Rattle.px_plan.specs.Input.{goes_on, input_of, has_index}
 use Rattle.px_inputs.specs.Lists.{change_first}
 use Rattle.px_inputs.specs.Inputs.{with_attr}

@@ -127,6 +127,23 @@ scene_changed s (Forgotten conn) = record s {
   clients = without_client (is_on conn) s.clients;
 }
 
+-- a change of clients, of their connections or of the default sink
+abbrev pub is_of_clients : {P : Type 0} → Change (Msg P) FlatGroup → Bool
+is_of_clients (Authed conn version) = true
+is_of_clients (Named conn list) = true
+is_of_clients (Masked conn mask) = true
+is_of_clients (Defaulted sink) = true
+is_of_clients (Ended conn reason fault at) = true
+is_of_clients (Forgotten conn) = true
+is_of_clients _ = false
+
+-- what such a change changes, and what another
+abbrev pub clients_changed : {P : Type 0} → Scene → Change (Msg P) FlatGroup → Scene
+clients_changed s change = cond (is_of_clients change) (scene_changed s change) s
+
+abbrev pub inputs_changed : {P : Type 0} → Scene → Change (Msg P) FlatGroup → Scene
+inputs_changed s change = cond (is_of_clients change) s (scene_changed s change)
+
 -- and after all of them, in order
 abbrev pub scene_after : {P : Type 0} → Scene → List (Change (Msg P) FlatGroup) → Scene
 scene_after s changes = fold scene_changed s changes

@@ -2,6 +2,7 @@
 //! state, to which a plan's changes are made first. It exports that copy, and what is told of two moments of it.
 #![tactic(auto)]
 
+mod copies;
 mod quiet;
 mod scene;
 mod told;

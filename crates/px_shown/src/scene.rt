@@ -1,15 +1,19 @@
 //! A copy of what infos and subscriptions read of the server's state.
 
 ghost use Rattle.std.specs.Prelude.{◌≡◌, ◌++◌, ◌∷◌, [], List, IfOk, OnOk, cond, nat_lt, set, length};
-ghost use Rattle.px_names.specs.Clients.{is_on, change_first as change_client, with_list};
+ghost use Rattle.px_names.specs.Clients.{is_on, change_first as change_client, without_first as without_client, with_list};
 ghost use Rattle.px_plan.specs.declared.change.Change.{Change};
 ghost use Rattle.px_msg.specs.declared.message.Msg.{Msg};
 ghost use Rattle.px_names.specs.InputLists.{with_list_of, without_list_of};
 ghost use Rattle.px_flat.specs.FlatVolume.{FlatGroup};
-ghost use Rattle.px_plan.specs.Input.{has_index, input_of};
-ghost use Rattle.px_inputs.specs.Lists.{drop_first};
-ghost use Rattle.px_shown.specs.Scene.{scene_at, left_of, sent_of, come_of, inputs_told, said_of, scene_changed, scene_after, scene_arrived, scene_joined};
+ghost use Rattle.px_plan.specs.Input.{has_index, has_number, input_of};
+ghost use Rattle.px_inputs.specs.Connections.{with_streams};
+ghost use Rattle.px_inputs.specs.Lists.{change_first, drop_first};
+ghost use Rattle.px_shown.specs.Scene.{scene_at, left_of, sent_of, come_of, inputs_told, said_of, scene_changed, clients_changed, inputs_changed, scene_after, scene_arrived, scene_joined};
 
+use crate::copies::{
+    copy_clients, copy_connections, copy_groups, copy_inputs, copy_list, copy_lists,
+};
 use px_flat::Group;
 use px_inputs::{arrive, depart, input_of, leave, set_attr};
 use px_msg::Msg;
@@ -51,89 +55,6 @@ impl Model for Scene {
       groups = s.groups.items;
       inputs_made = s.inputs_made;
     } };
-}
-
-// ---- copies
-
-// One more client.
-fn add_client(copies: &mut Vec<Client>, client: &Client) -> Mem<()>
-    ensures { OnOk result (copies.new.items ≡ copies.old.items ++ client.now ∷ []) }
-{
-    let Ok(list) = client.list.copy() else {
-        return Err(NoMemory);
-    };
-    copies.push(Client {
-        conn: client.conn,
-        index: client.index,
-        mask: client.mask,
-        list,
-    })?;
-    Ok(())
-}
-
-fn copy_clients(alloc: Global, clients: &[Client]) -> Mem<Vec<Client>>
-    ensures { IfOk result (λ copies. copies.items ≡ clients.now) }
-{
-    let mut copies = Vec::new(alloc);
-    for client in clients.iter() {
-        add_client(&mut copies, client)?;
-    }
-    Ok(copies)
-}
-
-// One more group.
-fn add_group(alloc: Global, copies: &mut Vec<Group>, group: &Group) -> Mem<()>
-    ensures { OnOk result (copies.new.items ≡ copies.old.items ++ group.now ∷ []) }
-{
-    let Ok(copy) = group.copy(alloc) else {
-        return Err(NoMemory);
-    };
-    copies.push(copy)?;
-    Ok(())
-}
-
-fn copy_groups(alloc: Global, groups: &[Group]) -> Mem<Vec<Group>>
-    ensures { IfOk result (λ copies. copies.items ≡ groups.now) }
-{
-    let mut copies = Vec::new(alloc);
-    for group in groups.iter() {
-        add_group(alloc, &mut copies, group)?;
-    }
-    Ok(copies)
-}
-
-fn copy_inputs(alloc: Global, inputs: &[Input]) -> Mem<Vec<Input>>
-    ensures { IfOk result (λ copies. copies.items ≡ inputs.now) }
-{
-    let mut copies = Vec::new(alloc);
-    copies.extend_from_slice(inputs)?;
-    Ok(copies)
-}
-
-fn copy_connections(alloc: Global, connections: &[Connection]) -> Mem<Vec<Connection>>
-    ensures { IfOk result (λ copies. copies.items ≡ connections.now) }
-{
-    let mut copies = Vec::new(alloc);
-    copies.extend_from_slice(connections)?;
-    Ok(copies)
-}
-
-fn copy_lists(lists: &InputLists) -> Mem<InputLists>
-    ensures { IfOk result (λ made. made.items ≡ lists.now.items) }
-{
-    match lists.copy() {
-        Ok(made) => Ok(made),
-        Err(_) => Err(NoMemory),
-    }
-}
-
-fn copy_list(list: &PropList) -> Mem<PropList>
-    ensures { IfOk result (λ made. made ≡ list.now) }
-{
-    match list.copy() {
-        Ok(made) => Ok(made),
-        Err(_) => Err(NoMemory),
-    }
 }
 
 // ---- one change
@@ -276,9 +197,28 @@ impl Scene {
         }
     }
 
-    // One change. Where there is no memory for it, some of it may be made.
-    fn change<P>(&mut self, alloc: Global, change: &Change<Msg<P>, Group>) -> Mem<()>
-        ensures { OnOk result (self.new ≡ scene_changed self.old change.now) }
+    // An input was made, the last of so many, and its connection has so many streams.
+    fn take_in(&mut self, input: Input, streams: u32, inputs: u32) -> Mem<()>
+        ensures { OnOk result (self.new ≡ record self.old { connections = change_first (has_number input.conn) (with_streams streams) self.old.connections; inputs = self.old.inputs ++ input ∷ []; inputs_made = inputs }) }
+    {
+        let conn = input.conn;
+        self.inputs.push(input)?;
+        px_inputs::set_streams(&mut self.connections, conn, streams);
+        self.inputs_made = inputs;
+        Ok(())
+    }
+
+    // A connection is forgotten, and its client with it.
+    fn forget(&mut self, conn: ConnId)
+        ensures { self.new ≡ record self.old { connections = drop_first (has_number conn) self.old.connections; clients = without_client (is_on conn) self.old.clients } }
+    {
+        px_inputs::forget(&mut self.connections, conn);
+        px_names::forget(&mut self.clients, conn);
+    }
+
+    // What a change changes of clients, of their connections and of the default sink.
+    fn change_clients<P>(&mut self, change: &Change<Msg<P>, Group>) -> Mem<()>
+        ensures { OnOk result (self.new ≡ clients_changed self.old change.now) }
     {
         match change {
             Change::Authed(conn, version) => {
@@ -287,16 +227,24 @@ impl Scene {
             Change::Named(conn, list) => name(&mut self.clients, *conn, list)?,
             Change::Masked(conn, mask) => px_names::set_mask(&mut self.clients, *conn, *mask),
             Change::Defaulted(sink) => self.make_default(*sink),
+            Change::Ended { conn, .. } => px_inputs::mark(&mut self.connections, *conn),
+            Change::Forgotten(conn) => self.forget(*conn),
+            _ => {}
+        }
+        Ok(())
+    }
+
+    // What it changes of inputs and of groups.
+    fn change_inputs<P>(&mut self, alloc: Global, change: &Change<Msg<P>, Group>) -> Mem<()>
+        ensures { OnOk result (self.new ≡ inputs_changed self.old change.now) }
+    {
+        match change {
             Change::Made {
                 input,
                 streams,
                 inputs,
                 ..
-            } => {
-                self.inputs.push(*input)?;
-                px_inputs::set_streams(&mut self.connections, input.conn, *streams);
-                self.inputs_made = *inputs;
-            }
+            } => self.take_in(*input, *streams, *inputs)?,
             Change::Described(index, list) => describe(&mut self.lists, *index, list)?,
             Change::Leaves(index) => end(&mut self.inputs, *index),
             Change::Moves(index, to) => send(&mut self.inputs, *index, *to),
@@ -306,14 +254,17 @@ impl Scene {
                 regroup(alloc, &mut self.groups, *sink, group)?;
             }
             Change::Gone(index) => give_up(&mut self.inputs, &mut self.lists, *index),
-            Change::Ended { conn, .. } => px_inputs::mark(&mut self.connections, *conn),
-            Change::Forgotten(conn) => {
-                px_inputs::forget(&mut self.connections, *conn);
-                px_names::forget(&mut self.clients, *conn);
-            }
-            Change::Released(_) | Change::Asked(_) | Change::Answered(_) => {}
+            _ => {}
         }
         Ok(())
+    }
+
+    // One change. Where there is no memory for it, some of it may be made.
+    fn change<P>(&mut self, alloc: Global, change: &Change<Msg<P>, Group>) -> Mem<()>
+        ensures { OnOk result (self.new ≡ scene_changed self.old change.now) }
+    {
+        self.change_clients(change)?;
+        self.change_inputs(alloc, change)
     }
 
     /// An input that moves is on the sink that it moves to. Takes no memory.

@@ -152,6 +152,58 @@ impl Scene {
         announce_all(alloc, &subscribers, &events)
     }
 
+    // Makes the changes, and tells those who subscribe then what came of them, once this was told before.
+    fn make_and_tell<P>(
+        &mut self,
+        alloc: Global,
+        sinks: &[SinkSpec],
+        clients_made: u32,
+        changes: &[Change<Msg<P>, Group>],
+        before: &Moment,
+    ) -> Mem<Vec<Sending>>
+        requires sinks { AreSinks [] sinks.now }
+        requires before { IsTelling before.now }
+        ensures { IfOk result (λ told. told.items ≡ told_since sinks.now clients_made before.now (scene_after self.old changes.now)) }
+    {
+        self.make(alloc, changes)?;
+        self.told_since(alloc, sinks, clients_made, before)
+    }
+
+    // Lets an input that moves arrive, makes the changes after that, and tells those who subscribe then what came of both.
+    fn arrive_and_tell<P>(
+        &mut self,
+        alloc: Global,
+        sinks: &[SinkSpec],
+        clients_made: u32,
+        input: InputId,
+        later: &[Change<Msg<P>, Group>],
+    ) -> Mem<Vec<Sending>>
+        requires { AreSinks [] sinks.now }
+        ensures { IfOk result (λ told. told.items ≡ told_between sinks.now clients_made self.old (scene_after (scene_arrived input self.old) later.now)) }
+    {
+        let before = self.moment(alloc, sinks)?;
+        self.arrive(input);
+        self.make_and_tell(alloc, sinks, clients_made, later, &before)
+    }
+
+    // Takes in a client, and tells those who subscribe then what came of it, once this was told before.
+    fn join_and_tell(
+        &mut self,
+        alloc: Global,
+        sinks: &[SinkSpec],
+        clients_made: u32,
+        conn: ConnId,
+        client: u32,
+        before: &Moment,
+    ) -> Mem<Vec<Sending>>
+        requires sinks { AreSinks [] sinks.now }
+        requires before { IsTelling before.now }
+        ensures { IfOk result (λ told. told.items ≡ told_since sinks.now clients_made before.now (scene_joined conn client self.old)) }
+    {
+        self.join(alloc, conn, client)?;
+        self.told_since(alloc, sinks, clients_made, before)
+    }
+
     /// What those who subscribe once the changes are made are told of them, of these sinks, where so many clients were ever made.
     pub fn told_of<P>(
         mut self,
@@ -164,9 +216,7 @@ impl Scene {
         ensures { IfOk result (λ told. told.items ≡ told_between sinks.now clients_made self (scene_after self changes.now)) }
     {
         let before = self.moment(alloc, sinks)?;
-        self.make(alloc, changes)?;
-        let told = self.told_since(alloc, sinks, clients_made, &before)?;
-        Ok(told)
+        self.make_and_tell(alloc, sinks, clients_made, changes, &before)
     }
 
     /// What they are told of an input that is on the sink that it moves to, and of the changes after that.
@@ -181,10 +231,7 @@ impl Scene {
         requires { AreSinks [] sinks.now }
         ensures { IfOk result (λ told. told.items ≡ told_between sinks.now clients_made self (scene_after (scene_arrived input self) later.now)) }
     {
-        let before = self.moment(alloc, sinks)?;
-        self.arrive_and_make(alloc, input, later)?;
-        let told = self.told_since(alloc, sinks, clients_made, &before)?;
-        Ok(told)
+        self.arrive_and_tell(alloc, sinks, clients_made, input, later)
     }
 
     /// What they are told of a client that connects, the last of so many that were ever made.
@@ -200,8 +247,6 @@ impl Scene {
         ensures { IfOk result (λ told. told.items ≡ told_between sinks.now clients_made self (scene_joined conn client self)) }
     {
         let before = self.moment(alloc, sinks)?;
-        self.join(alloc, conn, client)?;
-        let told = self.told_since(alloc, sinks, clients_made, &before)?;
-        Ok(told)
+        self.join_and_tell(alloc, sinks, clients_made, conn, client, &before)
     }
 }

@@ -1,5 +1,5 @@
 use Rattle.std.proofs.Common.{◌≡◌, take}
-use Rattle.px_shown.proofs.scene.copy_groups.Given as goal
+use Rattle.px_shown.proofs.copies.copy_groups.Given as goal
 
 -- the groups up to the next one were copied
 abbrev pub invariant-loop-group : goal.invariant-loop-group

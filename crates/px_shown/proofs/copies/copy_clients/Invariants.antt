@@ -1,5 +1,5 @@
 use Rattle.std.proofs.Common.{◌≡◌, take}
-use Rattle.px_shown.proofs.scene.copy_clients.Given as goal
+use Rattle.px_shown.proofs.copies.copy_clients.Given as goal
 
 -- the clients up to the next one were copied
 abbrev pub invariant-loop-client : goal.invariant-loop-client
