@@ -1,5 +1,5 @@
 -- Starts of workers, and clients that come and go, one behind the other.
-use Rattle.std.proofs.Common.{◌≡◌, ℕ, ◌+◌, ◌≤◌, List, length, arith, refl, ◌∙◌}
+use Rattle.std.proofs.Common.{◌≡◌, ℕ, ◌+◌, ◌≤◌, ◌++◌, [], List, length, length-append, arith, ap, refl, ◌∙◌}
 use Rattle.px_server.specs.declared.served.Stop.{Stop}
 use Rattle.px_server.specs.Hosted.{IsCauseOf}
 use Rattle.px_server.specs.Accepting.{Starting, Accepting, Starts, HasRoom, Takes}
@@ -39,3 +39,11 @@ takes_cause stop a b c first = cause_later stop a.host b.host c.host first.later
 -- there is room still
 pub room_then : {X D R C : Type 0} (a b : Accepting X D R C) → HasRoom a → Takes a b → HasRoom b
 room_then a b room taken = record { seats = let s = room.seats in let p = taken.parts in omega arith; few = taken.few }
+
+-- where no sink had a worker, those with one and those without are all
+pub all_started : {X : Type 0} (sinks lone were had : List X) → sinks ++ lone ≡ were ++ had → were ≡ [] → sinks ++ lone ≡ had
+all_started {X = X} sinks lone were had all none = all ∙ ap (λ (l : List X). l ++ had) none
+
+-- and the shares that are left and those of the sinks are all
+pub parts_started : {X : Type 0} (parts before : ℕ) (sinks lone had : List X) → parts + length had ≡ before + length lone → sinks ++ lone ≡ had → parts + length sinks ≡ before
+parts_started {X = X} parts before sinks lone had given all = omega (arith, given, ap (length {A = X}) all, length-append sinks lone)

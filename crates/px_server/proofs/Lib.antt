@@ -5,3 +5,4 @@ mod Delivering
 mod Ending
 mod Taping
 mod Making
+mod Going

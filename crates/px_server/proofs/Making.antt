@@ -19,8 +19,11 @@ pub fresh_honest : {D E : Type 0} (now : D → DeviceState) (told : E → Option
     → IsFresh sink (now device) (told recorder) (faults recorder) (fulls recorder)
     → cell.lane ≡ record { sink = sink_for sink; device = device; faults = 0 } → cell.recorder ≡ recorder → IsHonest now faults fulls cell Nothing
 fresh_honest {D} {E} now told faults fulls sink device recorder cell fresh lane same = record {
-  met = (subst (λ (m : Mixer D). (now m.device).faults ≡ 0) (sym lane) fresh.going,
-      subst (λ (r : E). faults r ≡ 0) (sym same) fresh.ready.0, subst (λ (r : E). fulls r ≡ 0) (sym same) fresh.ready.1);
+  met = (
+    subst (λ (m : Mixer D). (now m.device).faults ≡ 0) (sym lane) fresh.going,
+    subst (λ (r : E). faults r ≡ 0) (sym same) fresh.ready.0,
+    subst (λ (r : E). fulls r ≡ 0) (sym same) fresh.ready.1,
+  );
   stopped = λ on. let gone : IsTrue (sink_for sink).stopped = subst (λ (m : Mixer D). IsTrue m.sink.stopped) lane on in search rules;
 }
 

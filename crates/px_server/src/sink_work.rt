@@ -191,14 +191,14 @@ where
         self.worker.notices(self.sink)
     }
 
-    // One turn, and what it tells the core. `false` where there are no more.
-    fn turn(&mut self) -> bool
+    // One turn, which goes onto the tape where there is one.
+    fn play(&mut self) -> Went
         ensures { GoesOn D.now E.told E.faults E.fulls (record { parts = self.old.worker.seat.parts; sink = self.old.sink; cell = self.old.cell; met = self.old.met; turns = self.old.turns }) (record { parts = self.new.worker.seat.parts; sink = self.new.sink; cell = self.new.cell; met = self.new.met; turns = self.new.turns }) }
     {
         let rt = self.worker.rt;
         let alloc = self.worker.alloc;
         let blocks = &mut self.worker.blocks;
-        let went = match &mut self.turns {
+        match &mut self.turns {
             Some(turns) => {
                 let tape = &self.worker.desk.tape;
                 turn_taped(
@@ -212,7 +212,14 @@ where
                 )
             }
             None => turn_once(&rt, alloc, &mut self.cell, &mut self.met, blocks),
-        };
+        }
+    }
+
+    // One turn, and what it tells the core. `false` where there are no more.
+    fn turn(&mut self) -> bool
+        ensures { GoesOn D.now E.told E.faults E.fulls (record { parts = self.old.worker.seat.parts; sink = self.old.sink; cell = self.old.cell; met = self.old.met; turns = self.old.turns }) (record { parts = self.new.worker.seat.parts; sink = self.new.sink; cell = self.new.cell; met = self.new.met; turns = self.new.turns }) }
+    {
+        let went = self.play();
         went != Went::Ended && self.tell().is_ok()
     }
 

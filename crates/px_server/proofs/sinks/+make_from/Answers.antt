@@ -45,15 +45,15 @@ pub returns-in_ok-make_one-in-Some-clause-made : goal.returns-in_ok-make_one-in-
 returns-in_ok-make_one-in-Some-clause-made g n c =
     let cut : c.args.sinks.now ≡ c.in-Some.first.now ∷ c.in-Some.rest.now = search rules in
     on_ok_weaker c.make_from.result
-        (map_then start_of c.args.lone.now.items c.make_one.new.lone.items c.make_from.new.lone.items _ _ (starts_from c.args.index c.args.sinks.now) c.in_ok-make_one-in-Some.ensures.made (ap (starts_from c.args.index) cut))
-        c.make_from.ensures.made
+    (map_then start_of c.args.lone.now.items c.make_one.new.lone.items c.make_from.new.lone.items _ _ (starts_from c.args.index c.args.sinks.now) c.in_ok-make_one-in-Some.ensures.made (ap (starts_from c.args.index) cut))
+    c.make_from.ensures.made
 
 pub returns-in_ok-make_one-in-Some-clause-ends : goal.returns-in_ok-make_one-in-Some-clause-ends
 returns-in_ok-make_one-in-Some-clause-ends g n c =
     let cut : c.args.sinks.now ≡ c.in-Some.first.now ∷ c.in-Some.rest.now = search rules in
     on_ok_weaker c.make_from.result
-        (map_then ends_of c.args.ends.now.items c.make_one.new.ends.items c.make_from.new.ends.items _ _ (map fresh_ends c.args.sinks.now) c.in_ok-make_one-in-Some.ensures.ends (ap (map fresh_ends) cut))
-        c.make_from.ensures.ends
+    (map_then ends_of c.args.ends.now.items c.make_one.new.ends.items c.make_from.new.ends.items _ _ (map fresh_ends c.args.sinks.now) c.in_ok-make_one-in-Some.ensures.ends (ap (map fresh_ends) cut))
+    c.make_from.ensures.ends
 
 pub returns-in_ok-make_one-in-Some-clause-boxes : goal.returns-in_ok-make_one-in-Some-clause-boxes
 returns-in_ok-make_one-in-Some-clause-boxes g n c = on_ok_weaker c.make_from.result (λ then so. then (c.in_ok-make_one-in-Some.ensures.boxes so)) c.make_from.ensures.boxes
@@ -65,4 +65,4 @@ pub returns-in_ok-make_one-in-Some-clause-front : goal.returns-in_ok-make_one-in
 returns-in_ok-make_one-in-Some-clause-front g n c =
     let cut : c.args.sinks.now ≡ c.in-Some.first.now ∷ c.in-Some.rest.now = search rules in
     adds_then (map start_of c.args.lone.now.items) (map start_of c.make_one.new.lone.items) (map start_of c.make_from.new.lone.items) _ _ (starts_from c.args.index c.args.sinks.now)
-        c.in_ok-make_one-in-Some.ensures.made (ap (starts_from c.args.index) cut) c.make_from.ensures.front
+    c.in_ok-make_one-in-Some.ensures.made (ap (starts_from c.args.index) cut) c.make_from.ensures.front

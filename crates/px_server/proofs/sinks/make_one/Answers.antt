@@ -67,7 +67,7 @@ pub returns-clause-boxes : goal.returns-clause-boxes
 returns-clause-boxes g c = λ so.
     let pushed : c.push.new.self.items ≡ c.reserve-else-is_err.new.self.items ++ c.in-Ok-cell_of.core ∷ [] = search rules in
     map_one boxes_in c.args.lone.now.items c.reserve.new.self.items c.push_back_reserved.new.self.items _ (boxes_of c.in-Ok-cell_of.core) c.reserve.ensures.items c.push_back_reserved.ensures.items
-        c.in-Ok-cell_of.ensures.boxes
+    c.in-Ok-cell_of.ensures.boxes
     ∙ ap (λ (l : _). l ++ boxes_of c.in-Ok-cell_of.core ∷ []) so
     ∙ sym (map_one boxes_of c.args.ends.now.items c.reserve-else-is_err.new.self.items c.push.new.self.items c.in-Ok-cell_of.core (boxes_of c.in-Ok-cell_of.core) c.reserve-else-is_err.ensures.items pushed refl)
 
