@@ -89,10 +89,10 @@ impl World {
         requires { IsHeader header.now }
         ensures { IfOk result (λ world. StandsFor world (new_world header.now)) }
     {
-        let core = Core::new(alloc, header)?;
-        let mixers = new_mixers(alloc, header.sinks.as_slice())?;
-        let doors = Vec::new(alloc);
         let spares = Spares::new(alloc)?;
+        let mixers = new_mixers(alloc, header.sinks.as_slice())?;
+        let core = Core::new(alloc, header)?;
+        let doors = Vec::new(alloc);
         Ok(World {
             core,
             doors,

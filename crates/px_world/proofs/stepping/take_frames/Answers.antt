@@ -1,4 +1,4 @@
-use Rattle.std.proofs.Common.{◌≡◌, ◌∷◌, ◌++◌, map}
+use Rattle.std.proofs.Common.{◌≡◌, List, ◌∷◌, ◌++◌, All, map, length, ap, sym, subst, arith}
 use Rattle.px_frame.specs.Frame.{IsBody}
 use Rattle.px_frame.specs.declared.frame.Frame.{Frame}
 use Rattle.px_model.specs.Stream.{Stream}
@@ -25,3 +25,15 @@ loop-frame-preserved c =
           c.in_ok-take_frame.ensures.core c.in_ok-take_frame.ensures.effects c.loop-frame.invariant.effects;
       bodies = all-rest (λ (f : Frame). IsBody f.body) c.in-Some.frame rest all front c.loop-frame.invariant.bodies;
     }
+
+pub loop-frame-init : goal.loop-frame-init
+loop-frame-init c =
+    let same = c.from_vec-frames.ensures.items in
+    record {
+      core = ap (λ (fs : List Frame). stepped_by Stream.spec c.args.core.now.state (map (λ (f : Frame). frame c.args.conn f) fs)) same;
+      effects = ap (λ (fs : List Frame). c.args.effects.now ++ effects_by Stream.spec c.args.core.now.state (map (λ (f : Frame). frame c.args.conn f) fs)) same;
+      bodies = subst (λ (fs : List Frame). All (λ f. IsBody f.body) fs) (sym same) c.requires;
+    }
+
+pub loop-frame-smaller : goal.loop-frame-smaller
+loop-frame-smaller c = omega (arith, ap (λ (fs : List Frame). length fs) c.in-Some.ensures.items)
