@@ -1,4 +1,6 @@
-use Rattle.std.proofs.Common.{◌≡◌, List, ◌∷◌, ◌++◌, All, map, length, ap, sym, subst, arith}
+use Rattle.std.proofs.Common.{◌≡◌, List, [], ◌∷◌, ◌++◌, ◌∙◌, All, map, length, ap, sym, subst, arith, rules}
+use Rattle.std.proofs.lemmas.List.{append-nil}
+use Rattle.std.proofs.lemmas.Result.{err_from_is_err_and}
 use Rattle.px_frame.specs.Frame.{IsBody}
 use Rattle.px_frame.specs.declared.frame.Frame.{Frame}
 use Rattle.px_model.specs.Stream.{Stream}
@@ -37,3 +39,22 @@ loop-frame-init c =
 
 pub loop-frame-smaller : goal.loop-frame-smaller
 loop-frame-smaller c = omega (arith, ap (λ (fs : List Frame). length fs) c.in-Some.ensures.items)
+
+pub returns-clause-core : goal.returns-clause-core
+returns-clause-core c =
+    let none : c.loop-frame.frames.items ≡ [] = search rules in
+    subst (λ (fs : List Frame). stepped_by Stream.spec c.loop-frame.core.state (map (λ (f : Frame). frame c.args.conn f) fs)
+    ≡ stepped_by Stream.spec c.args.core.now.state (map (λ (f : Frame). frame c.args.conn f) c.args.frames.items)) none c.loop-frame.invariant.core
+
+pub returns-clause-effects : goal.returns-clause-effects
+returns-clause-effects c =
+    let none : c.loop-frame.frames.items ≡ [] = search rules in
+    sym (append-nil c.loop-frame.effects)
+    ∙ subst (λ (fs : List Frame). c.loop-frame.effects ++ effects_by Stream.spec c.loop-frame.core.state (map (λ (f : Frame). frame c.args.conn f) fs)
+    ≡ c.args.effects.now ++ effects_by Stream.spec c.args.core.now.state (map (λ (f : Frame). frame c.args.conn f) c.args.frames.items)) none c.loop-frame.invariant.effects
+
+pub returns-in_err-take_frame-clause-core : goal.returns-in_err-take_frame-clause-core
+returns-in_err-take_frame-clause-core c = let p = err_from_is_err_and c.from_residual.result c.from_residual.ensures.1 in rw (p.1) tt
+
+pub returns-in_err-take_frame-clause-effects : goal.returns-in_err-take_frame-clause-effects
+returns-in_err-take_frame-clause-effects c = let p = err_from_is_err_and c.from_residual.result c.from_residual.ensures.1 in rw (p.1) tt
