@@ -1,25 +1,52 @@
-use crate::tests::lane::{factors_for, opened, sent};
+ghost use Rattle.std.specs.Prelude.{◌≡◌};
+ghost use Rattle.crossbeam_queue.specs.Passes.{IsPassOf};
+ghost use Rattle.px_mail.specs.Mailbox.{key_of, posted_by};
+ghost use Rattle.tests_cells.specs.Gains.{Sends};
+
+use crate::tests::lane::{Cell, factors_for, opened, sent};
 use px_block::Fresh;
+use px_mail::{Mailbox, PostPass};
+use px_msg::Msg;
+use px_stream::Stream;
 use px_types::Mem;
 use std::alloc::Global;
 use std::sync::Wait;
 
-// Five messages, a turn after each, a recorder that is full once, at so many entries, and a last turn: all messages stand in the history in
-// order, each once, and none is kept.
-fn has_room_again<R: Wait>(rt: &R, alloc: Global, full_at: usize) -> Mem<bool> {
-    let (mut cell, inbox, mut post) = opened(alloc, full_at)?;
+// Five messages, and a turn after each: how many turns were made.
+fn turns_made<R: Wait>(
+    rt: &R,
+    alloc: Global,
+    cell: &mut Cell,
+    inbox: &Mailbox<Msg<Stream>>,
+    mut post: PostPass<Msg<Stream>>,
+) -> Mem<u32>
+    requires pass { IsPassOf inbox.now.queue post.pass }
+    requires sends { Sends (key_of post.pass) (posted_by post.pass) }
+{
     let mut blocks = Fresh::new(alloc);
     let mut turns: u32 = 0;
     for number in 0..5 {
-        sent(rt, &inbox, &mut post, factors_for(alloc, number)?);
+        sent(rt, inbox, &mut post, factors_for(alloc, number)?);
         if cell.turn(rt, alloc, &mut blocks).is_ok() {
             turns = turns.saturating_add(1);
         }
     }
-    let last = cell.turn(rt, alloc, &mut blocks).is_ok();
+    Ok(turns)
+}
+
+// All messages stand in the history in order, each once, and none is kept.
+fn misses_nothing(cell: Cell) -> bool {
     let parts = cell.into_parts();
     let none_kept = parts.messages.len() == 0 && parts.recorder.fulls() == 1;
-    Ok(last && turns == 4 && none_kept && parts.recorder.recorded() == Some(5))
+    none_kept && parts.recorder.recorded() == Some(5)
+}
+
+// Five messages, a turn after each, a recorder that is full once, at so many entries, and a last turn.
+fn has_room_again<R: Wait>(rt: &R, alloc: Global, full_at: usize) -> Mem<bool> {
+    let (mut cell, inbox, post) = opened(alloc, full_at)?;
+    let turns = turns_made(rt, alloc, &mut cell, &inbox, post)?;
+    let last = cell.turn(rt, alloc, &mut Fresh::new(alloc)).is_ok();
+    Ok(last && turns == 4 && misses_nothing(cell))
 }
 
 #[test]

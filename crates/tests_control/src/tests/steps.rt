@@ -1,13 +1,14 @@
 ghost use Rattle.std.specs.Prelude.{◌≡◌, ◌<◌, ◌≤◌, length, IfOk};
 ghost use Rattle.px_frame.specs.Frame.{IsBody};
 ghost use Rattle.px_msg.specs.View.{sample_spec};
+ghost use Rattle.px_session.specs.HeaderRules.{IsHeader};
 
 use px_core::Core;
 use px_ends::{Calls, MemSource};
 use px_frame::{Body, Frame, Packet};
 use px_msg::{Msg, Notice, Parcel};
 use px_sample::{Format, Spec};
-use px_session::{Reader, Step};
+use px_session::{Header, Reader, Step};
 use px_types::{ConnId, InputId, Mem, NoMemory, SinkId, Text};
 use std::alloc::Global;
 
@@ -47,17 +48,31 @@ const CREATE: &[u8] =
 // DELETE_PLAYBACK_STREAM of stream 0.
 const DELETE: &[u8] = b"L\0\0\0\x04L\0\0\0\x03L\0\0\0\0";
 
-// A core with one sink `out`: S16LE, mono, 48,000 frames a second, guard 10, depth 100.
-fn new_core(alloc: Global) -> Mem<Core<Stub>> {
+// The header of a session with one sink `out`: S16LE, mono, 48,000 frames a second, guard 10, depth 100.
+fn header_bytes(alloc: Global) -> Mem<Text> {
     let mut bytes = Vec::new(alloc);
     bytes.extend_from_slice(b"PRS1")?;
     bytes.extend_from_slice(&[0; 256])?;
     bytes.extend_from_slice(b"\x01\x03out\x03\x01\0\0\xBB\x80\0\0\0\0\x0A\0\0\0\x64")?;
-    let mut source = MemSource::new(Text::from_vec(bytes), Calls::none(alloc));
-    match Reader::new(alloc)?.next(&mut source) {
-        Ok(Step::Header(header)) => Core::new(alloc, &header),
+    Ok(Text::from_vec(bytes))
+}
+
+// It, read.
+fn header(alloc: Global, reader: &mut Reader) -> Mem<Header>
+    ensures { IfOk result IsHeader }
+{
+    let mut source = MemSource::new(header_bytes(alloc)?, Calls::none(alloc));
+    match reader.next(&mut source) {
+        Ok(Step::Header(header)) => Ok(header),
         _ => Err(NoMemory),
     }
+}
+
+// A core with this sink.
+fn new_core(alloc: Global) -> Mem<Core<Stub>> {
+    let mut reader = Reader::new(alloc)?;
+    let header = header(alloc, &mut reader)?;
+    Core::new(alloc, &header)
 }
 
 // How many effects a control packet has, which comes back where memory is short, and is heard then as if for the first time.
@@ -115,19 +130,28 @@ fn hands_again(core: &mut Core<Stub>) -> bool {
         && core.sent(OUT).is_none()
 }
 
-// A client is let in and makes a stream, which is given up.
-fn lives(alloc: Global, core: &mut Core<Stub>) -> Mem<bool> {
+// A client is let in and makes a stream.
+fn begins(alloc: Global, core: &mut Core<Stub>) -> Mem<bool> {
     let admitted = core.admit(CLIENT).is_ok() || core.admit(CLIENT).is_ok();
     let answers = [
         asked(alloc, core, AUTH, &[0; 256])?,
         asked(alloc, core, CREATE, b"")?,
     ];
-    let handed = hands_again(core);
+    Ok(admitted && answers == [1, 1] && hands_again(core))
+}
+
+// The stream is given up.
+fn ends(alloc: Global, core: &mut Core<Stub>) -> Mem<bool> {
     let deleted = asked(alloc, core, DELETE, b"")?;
     let leaves = matches!(core.sent(OUT), Some(Msg::Detach { input: INPUT }));
     let gone = detached(core)?;
     let last = matches!(core.sent(OUT), Some(msg) if said_by(&msg) == (Some(0), None));
-    Ok(admitted && answers == [1, 1] && handed && deleted == 1 && leaves && gone == 0 && last)
+    Ok(deleted == 1 && leaves && gone == 0 && last)
+}
+
+// A client is let in and makes a stream, which is given up.
+fn lives(alloc: Global, core: &mut Core<Stub>) -> Mem<bool> {
+    Ok(begins(alloc, core)? && ends(alloc, core)?)
 }
 
 fn is_lived(alloc: Global) -> Mem<bool> {

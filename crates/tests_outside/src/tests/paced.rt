@@ -11,6 +11,8 @@ const SHAPE: DeviceShape = DeviceShape {
     depth: 100,
 };
 
+type Paced = PacedSink<MemSink, MemClock>;
+
 const TEN: &[u64] = &[0, 1_000, 10_000];
 
 const ONE: &[u64] = &[0, 1_000];
@@ -47,23 +49,34 @@ fn listed(alloc: Global, numbers: &[u64]) -> Mem<Vec<u64>> {
     Ok(list)
 }
 
-// Whether a device in which a hundred frames wait, whose bytes are their numbers, plays so.
-fn plays(alloc: Global, row: &Row) -> Mem<bool> {
-    let (moments, room, failing, answers, written, skipped) = row;
-    let out = MemSink::new(alloc, *room, Calls::from_vec(listed(alloc, &[*failing])?))?;
-    let clock = MemClock::new(Moments::from_vec(listed(alloc, moments)?));
+// Bytes that are their numbers.
+fn numbers() -> [u8; 200] {
     let mut bytes = [0u8; 200];
     for number in 0..200 {
         bytes[number] = number as u8;
     }
-    let mut device = PacedSink::new(alloc, &SHAPE, out, clock)?;
-    device.put(0, &bytes);
+    bytes
+}
+
+// Whether each sync of a device answers so.
+fn answers_so(device: &mut Paced, answers: &[Result<u64, DeviceFault>]) -> bool {
     let mut right = true;
-    for answer in *answers {
+    for answer in answers {
         right = device.sync() == *answer && right;
     }
+    right
+}
+
+// Whether a device in which a hundred frames wait, whose bytes are their numbers, plays so.
+fn plays(alloc: Global, row: &Row) -> Mem<bool> {
+    let (moments, room, failing, answers, written, skipped) = row;
+    let calls = Calls::from_vec(listed(alloc, &[*failing])?);
+    let clock = MemClock::new(Moments::from_vec(listed(alloc, moments)?));
+    let mut device = PacedSink::new(alloc, &SHAPE, MemSink::new(alloc, *room, calls)?, clock)?;
+    let bytes = numbers();
+    device.put(0, &bytes);
     Ok(
-        right
+        answers_so(&mut device, answers)
             && bytes.starts_with(device.out().bytes())
             && device.out().bytes().len() == *written
             && device.skipped() == *skipped,

@@ -65,6 +65,25 @@ fn makes<H: Host>(alloc: Global, host: &mut H) -> bool {
         && host.core_recorder(alloc).is_ok()
 }
 
+// Serves one client.
+fn serves<H: Host>(rt: HostRuntime, host: &mut H) -> io::Result<bool> {
+    let started = starts(rt.alloc(), host);
+    let client = UnixStream::connect(&rt, "socket")?;
+    Ok(started && accepts(rt.alloc(), host, &client) && makes(rt.alloc(), host))
+}
+
+// Whether another host starts.
+fn another_starts(rt: HostRuntime) -> bool {
+    starts(rt.alloc(), &mut SystemHost::new(rt.alloc(), rt))
+}
+
+// One client is served, while no other host can start.
+fn serves_alone(rt: HostRuntime) -> io::Result<bool> {
+    let mut host = SystemHost::new(rt.alloc(), rt);
+    let served = serves(rt, &mut host)?;
+    Ok(served && !another_starts(rt))
+}
+
 // While one listens no other can, and behind it another does.
 #[test]
 fn a_client_is_heard_a_sink_has_a_file_and_a_stale_socket_is_replaced(
@@ -72,19 +91,8 @@ fn a_client_is_heard_a_sink_has_a_file_and_a_stale_socket_is_replaced(
 ) -> io::Result<()> {
     fs::write(&rt, "header", b"PRS1")?;
     fs::create_dir(&rt, "sound")?;
-    let mut host = SystemHost::new(rt.alloc(), rt);
-    let started = starts(rt.alloc(), &mut host);
-    let client = UnixStream::connect(&rt, "socket")?;
-    let served = accepts(rt.alloc(), &mut host, &client) && makes(rt.alloc(), &mut host);
-    let second = starts(rt.alloc(), &mut SystemHost::new(rt.alloc(), rt));
-    drop(host);
-    let third = starts(rt.alloc(), &mut SystemHost::new(rt.alloc(), rt));
-    assert!(rt;
-        started
-            && served
-            && !second
-            && third
-            && matches!(fs::exists(&rt, "sound/front.raw"), Ok(true))
-    );
+    let served = serves_alone(rt)?;
+    let again = another_starts(rt);
+    assert!(rt; served && again && matches!(fs::exists(&rt, "sound/front.raw"), Ok(true)));
     Ok(())
 }

@@ -51,17 +51,26 @@ fn ranges_that_are_written_over_go_back(rt: HostRuntime) -> Mem<()> {
     Ok(())
 }
 
+// Two short writes, one over the first of them, and one inside that.
+fn write_inside(alloc: Global, queue: &mut FrameQueue, source: &mut Counting) -> Mem<bool>
+    requires { queue.old.frame ≡ 1 }
+    ensures { queue.new.frame ≡ 1 }
+{
+    let first = write(alloc, queue, source, 10, b"ab")?;
+    let second = write(alloc, queue, source, 0, b"cdef")?;
+    let grown = write(alloc, queue, source, 4, FORTY)? && source.back == 2;
+    let inside = write(alloc, queue, source, 10, b"gh")? && source.back == 2;
+    Ok(first && second && grown && inside)
+}
+
 // The second write goes on over the first, whose block goes, and as few bytes in the block of its own; the third lies inside, and what
 // is left on both sides of it shares a block. Each of the four goes back once.
 #[test]
 fn what_is_left_on_both_sides_of_a_write_shares_a_block(rt: HostRuntime) -> Mem<()> {
     let mut source = Counting::new(rt.alloc());
     let mut queue = FrameQueue::new(rt.alloc(), 1);
-    let first = write(rt.alloc(), &mut queue, &mut source, 10, b"ab")?;
-    let second = write(rt.alloc(), &mut queue, &mut source, 0, b"cdef")?;
-    let grown = write(rt.alloc(), &mut queue, &mut source, 4, FORTY)? && source.back == 2;
-    let inside = write(rt.alloc(), &mut queue, &mut source, 10, b"gh")? && source.back == 2;
+    let held = write_inside(rt.alloc(), &mut queue, &mut source)?;
     queue.flush(&mut source);
-    assert!(rt; first && second && grown && inside && source.back == 4);
+    assert!(rt; held && source.back == 4);
     Ok(())
 }
