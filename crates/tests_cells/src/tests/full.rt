@@ -44,9 +44,9 @@ fn misses_nothing(cell: Cell) -> bool {
 // Five messages, a turn after each, a recorder that is full once, at so many entries, and a last turn.
 fn has_room_again<R: Wait>(rt: &R, alloc: Global, full_at: usize) -> Mem<bool> {
     let (mut cell, inbox, post) = opened(alloc, full_at)?;
-    let turns = turns_made(rt, alloc, &mut cell, &inbox, post)?;
+    let turns = turns_made(rt, alloc, &mut cell, &inbox, post);
     let last = cell.turn(rt, alloc, &mut Fresh::new(alloc)).is_ok();
-    Ok(last && turns == 4 && misses_nothing(cell))
+    Ok(misses_nothing(cell) && last && matches!(turns, Ok(4)))
 }
 
 #[test]

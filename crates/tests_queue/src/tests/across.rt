@@ -50,15 +50,24 @@ fn are_read(queue: &mut FrameQueue, source: &mut Counting) -> bool
     read && some && past
 }
 
+// Writes these frames, and says whether they are held.
+fn are_held(alloc: Global, queue: &mut FrameQueue, source: &mut Counting) -> Mem<bool>
+    requires { queue.old.frame ≡ 3 }
+    ensures { queue.new.frame ≡ 3 }
+{
+    queue.reserve(1, 2)?;
+    let made = in_two(alloc)?;
+    Ok(
+        made.len() == 65_541
+            && queue.push(1, 0, made, FRAMES, 0, i64::MAX, source) == Pushed::Stored,
+    )
+}
+
 #[test]
-fn a_frame_in_two_blocks_is_read_whole(rt: HostRuntime) -> Mem<()> {
+fn a_frame_in_two_blocks_is_read_whole(rt: HostRuntime) {
     let mut source = Counting::new(rt.alloc());
     let mut queue = FrameQueue::new(rt.alloc(), 3);
-    queue.reserve(1, 2)?;
-    let made = in_two(rt.alloc())?;
-    let held = made.len() == 65_541
-        && queue.push(1, 0, made, FRAMES, 0, i64::MAX, &mut source) == Pushed::Stored
-        && are_lent(&queue);
-    assert!(rt; held && are_read(&mut queue, &mut source));
-    Ok(())
+    let held = are_held(rt.alloc(), &mut queue, &mut source);
+    let lent = are_lent(&queue);
+    assert!(rt; matches!(held, Ok(true)) && lent && are_read(&mut queue, &mut source));
 }
