@@ -1,13 +1,16 @@
 //! Mailboxes: ordered queues between two threads, whose every schedule delivers what was posted in order, each item once. `letter`
-//! says what a mailbox may carry, `pass` what each of the two threads holds, `mailbox` the queue itself.
+//! says what a mailbox may carry, `pass` what each of the two threads holds, `mailbox` the queue itself, `shared` a mailbox with both
+//! threads' handles and passes.
 #![tactic(auto)]
 
 mod letter;
 mod mailbox;
 mod pass;
+mod shared;
 mod step;
 
 pub use letter::Letter;
 pub use mailbox::{CAPACITY, Full, Mailbox};
 pub use pass::{PostPass, TakePass};
+pub use shared::Shared;
 pub use step::{Account, Delivery};
