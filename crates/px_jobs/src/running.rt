@@ -7,7 +7,7 @@ ghost use Rattle.px_jobs.specs.Jobs.{given_to, SpawnGives};
 
 use crate::handed::{Handed, works};
 use crate::job::Job;
-use px_mail::Mailbox;
+use px_mail::{Mailbox, Shared, TakePass};
 use std::alloc::Global;
 use std::snapshot::Snapshot;
 use std::sync::{Arc, Wait};
@@ -49,6 +49,38 @@ pub enum Spawned<J: Job> {
     NoMemory(J),
 }
 
+// Starts the thread that waits for a job of that mailbox.
+fn waiting<R, J>(
+    rt: &R,
+    mailbox: Arc<Mailbox<Handed<J>>>,
+    take: TakePass<Handed<J>>,
+    given: Snapshot<J>,
+    promised: Snapshot<J>,
+) -> Option<Running<J>>
+where
+    R: Threads + Wait + Copy + Send + Sync + 'static,
+    J: Job + 'static,
+    requires pass { IsPassOf (arc_value mailbox).queue take.pass }
+    requires key { IfSome (key_of take.pass) (λ key. key.value ≡ promised.value) }
+    requires none { taken_by take.pass ≡ [] }
+    requires same { given.value ≡ promised.value }
+    ensures { IfSome result (λ running. given_to running ≡ given.value) }
+{
+    let theirs_rt = *rt;
+    let started = thread::spawn_with(
+        rt,
+        Kept(given),
+        move || -> J
+            requires { IsPassOf (arc_value mailbox).queue take.pass × IfSome (key_of take.pass) (λ key. key.value ≡ promised.value) × (taken_by take.pass ≡ []) }
+            ensures { J.keeps promised.value result }
+        { works(&theirs_rt, &mailbox, take, &promised) },
+    );
+    match started {
+        Ok(handle) => Some(Running { handle }),
+        Err(_) => None,
+    }
+}
+
 /// Starts a thread that does the job's work once. The job goes to it only when it is there, so what comes back is the very job.
 pub fn start<R, J>(rt: &R, alloc: Global, job: J) -> Spawned<J>
 where
@@ -56,31 +88,20 @@ where
     J: Job + 'static,
     ensures { SpawnGives result job }
 {
-    let given = Snapshot::of(&job);
-    let Ok((mailbox, mut post, take)) = Mailbox::<Handed<J>>::new(alloc, Snapshot::of(&job)) else {
+    let Ok(shared) = Shared::<Handed<J>>::new(alloc, Snapshot::of(&job)) else {
         return Spawned::NoMemory(job);
     };
-    let Ok(mailbox) = Arc::new(alloc, mailbox) else {
-        return Spawned::NoMemory(job);
-    };
-    let Ok(theirs) = Arc::try_clone(&mailbox) else {
-        return Spawned::NoMemory(job);
-    };
-    let theirs_rt = *rt;
-    let promised = Snapshot::of(&job);
-    let started = thread::spawn_with(
-        rt,
-        Kept(given),
-        move || -> J
-            requires { IsPassOf (arc_value theirs).queue take.pass × IfSome (key_of take.pass) (λ key. key.value ≡ promised.value) × (taken_by take.pass ≡ []) }
-            ensures { J.keeps promised.value result }
-        { works(&theirs_rt, &theirs, take, &promised) },
-    );
-    let Ok(handle) = started else {
+    let Shared {
+        mailbox,
+        twin,
+        mut post,
+        take,
+    } = shared;
+    let Some(running) = waiting(rt, twin, take, Snapshot::of(&job), Snapshot::of(&job)) else {
         return Spawned::Refused(job);
     };
     match mailbox.post(rt, &mut post, Handed { job }) {
-        Ok(()) => Spawned::Started(Running { handle }),
+        Ok(()) => Spawned::Started(running),
         Err(_) => unreachable!(),
     }
 }
