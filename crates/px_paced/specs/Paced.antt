@@ -90,6 +90,10 @@ module _ {K C : Type 0} where
     clock = clock;
   }
 
+  -- once its time runs: it has begun at this moment, where it hadn't before
+  abbrev pub begun_at : ℕ → K → C → Paced K C → Paced K C
+  begun_at moment out clock d = record d { began = Some (unwrap_or d.began moment); out = out; clock = clock }
+
   -- after a sync whose write failed
   abbrev pub sync_failed : ℕ → K → C → Paced K C → Paced K C
   sync_failed moment out clock d = record d {

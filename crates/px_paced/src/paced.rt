@@ -4,12 +4,12 @@ ghost use Rattle.px_types.specs.Faults.{Rose};
 ghost use Rattle.px_ends.specs.Told.{after_adding};
 ghost use Rattle.px_ends.specs.Whole.{AddsFront};
 ghost use Rattle.px_ends.specs.Device.{HoldsFrames, IsShape, Plays, Fails, IsPut, put_at};
-ghost use Rattle.px_paced.specs.Paced.{frames_of, state_of, new_paced, bytes_at, synced, sync_failed, fails_again, after_put};
+ghost use Rattle.px_paced.specs.Paced.{frames_of, state_of, new_paced, bytes_at, synced, begun_at, sync_failed, fails_again, after_put};
 
 use crate::rate::{bytes_of, frames_of};
 use crate::ring::{put_behind, remove_front, write_front};
 use circular_buffer::HeapCircularBuffer;
-use px_ends::{Clock, Device, DeviceFault, DeviceShape, Sink};
+use px_ends::{Clock, Device, DeviceFault, DeviceShape, Sink, WriteFailed};
 use px_types::{Mem, NoMemory};
 use std::alloc::Global;
 use std::marker::Model;
@@ -119,6 +119,36 @@ impl<K: Sink + Drop, C: Clock + Drop> PacedSink<K, C> {
     }
 }
 
+impl<K: Sink, C: Clock> PacedSink<K, C> {
+    // Consumes what is due by the moment that its clock tells, as far as it is there, and skips the rest of it. Where the write of its
+    // bytes fails, it has begun, and nothing else has changed.
+    fn play_due(&mut self) -> Result<(), WriteFailed>
+        ensures after { OnOk result (self.new ≡ synced (C.told self.new.clock) self.new.out self.new.clock self.old) }
+        ensures out { OnOk result (K.held self.new.out ≡ after_adding (K.held self.old.out) (bytes_at (C.told self.new.clock) self.old)) }
+        ensures ok_count { OnOk result (K.faults self.new.out ≡ K.faults self.old.out) }
+        ensures cause { OnErr result (Rose (K.faults self.old.out) (K.faults self.new.out)) }
+        ensures front { OnErr result (AddsFront (bytes_at (C.told self.new.clock) self.old) (K.held self.old.out) (K.held self.new.out)) }
+        ensures begun { OnErr result (self.new ≡ begun_at (C.told self.new.clock) self.new.out self.new.clock self.old) }
+    {
+        let moment = self.clock.now();
+        let began = self.began.unwrap_or(moment);
+        self.began = Some(began);
+        let due = due(
+            self.rate,
+            moment.saturating_sub(began),
+            self.skipped,
+            self.consumed,
+        );
+        let frames = due.min(self.filled - self.consumed);
+        let bytes = bytes_of(frames, self.frame);
+        write_front(&self.ring, bytes, &mut self.out)?;
+        remove_front(&mut self.ring, bytes);
+        self.skipped += due - frames;
+        self.consumed += frames;
+        Ok(())
+    }
+}
+
 impl<K: Sink, C: Clock> Device for PacedSink<K, C> {
     ghost now = { λ d. state_of d };
 
@@ -140,25 +170,11 @@ impl<K: Sink, C: Clock> Device for PacedSink<K, C> {
             self.faults = self.faults.saturating_add(1);
             return Err(DeviceFault);
         }
-        let moment = self.clock.now();
-        let began = self.began.unwrap_or(moment);
-        self.began = Some(began);
-        let due = due(
-            self.rate,
-            moment.saturating_sub(began),
-            self.skipped,
-            self.consumed,
-        );
-        let frames = due.min(self.filled - self.consumed);
-        let bytes = bytes_of(frames, self.frame);
-        if write_front(&self.ring, bytes, &mut self.out).is_err() {
+        if self.play_due().is_err() {
             self.failed = true;
             self.faults = self.faults.saturating_add(1);
             return Err(DeviceFault);
         }
-        remove_front(&mut self.ring, bytes);
-        self.skipped += due - frames;
-        self.consumed += frames;
         Ok(self.consumed)
     }
 
