@@ -1,6 +1,7 @@
 -- The volume of a sink and its mute: SET_SINK_VOLUME and SET_SINK_MUTE (PulseAudio: `command_set_volume` and `command_set_mute` of pulsecore/protocol-native.c; that one volume is for all channels is own).
 use Rattle.std.specs.Prelude.{ℕ, Bool, List, length, Option, Ok}
 use Rattle.px_types.specs.declared.error_code.ErrorCode.TheVariants.{Invalid, NoEntity}
+use Rattle.px_types.specs.declared.ids.SinkId.{SinkId}
 use Rattle.px_flat.specs.FlatVolume.{FlatGroup, with_sink_volume, with_sink_mute}
 use Rattle.px_msg.specs.declared.message.Msg.{Msg}
 use Rattle.px_plan.specs.declared.input.Input.{Input}
@@ -12,6 +13,12 @@ use Rattle.px_plan.specs.Target.{is_clear, target_of}
 use Rattle.px_ctl_vol.specs.Asked.{is_volume, fits}
 use Rattle.px_ctl_vol.specs.Factors.{regrouped}
 
+-- a sink with this group has the volume, where its channels can have it, and its inputs follow
+abbrev pub with_suiting_volume : {P : Type 0} → SinkId → FlatGroup → List Input → List ℕ → ℕ → Row (Planned (Msg P) FlatGroup)
+with_suiting_volume sink group inputs volume tag = do
+  suits ← check (fits volume (length (FlatGroup.reference group))) Invalid
+  Ok (regrouped sink (with_sink_volume volume group) inputs tag)
+
 -- the sink that is named, with this group, has the volume, and its inputs follow
 abbrev pub set_sink_volume : {P : Type 0} → Named → Option FlatGroup → List Input → List ℕ → ℕ → Row (Planned (Msg P) FlatGroup)
 set_sink_volume named group inputs volume tag = do
@@ -19,8 +26,7 @@ set_sink_volume named group inputs volume tag = do
   valid ← check (is_volume volume) Invalid
   sink ← present (target_of named) NoEntity
   group ← present group NoEntity
-  suits ← check (fits volume (length (FlatGroup.reference group))) Invalid
-  Ok (regrouped (Target.index sink) (with_sink_volume volume group) inputs tag)
+  with_suiting_volume (Target.index sink) group inputs volume tag
 
 -- the sink that is named, with this group, is muted or not
 abbrev pub set_sink_mute : {P : Type 0} → Named → Option FlatGroup → List Input → Bool → ℕ → Row (Planned (Msg P) FlatGroup)

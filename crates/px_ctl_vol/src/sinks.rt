@@ -1,14 +1,13 @@
 //! SET_SINK_VOLUME and SET_SINK_MUTE (PulseAudio: `command_set_volume` and `command_set_mute` of `pulsecore/protocol-native.c`; that
 //! one volume is for all channels is own).
 
-ghost use Rattle.std.specs.Prelude.{◌≡◌, length, Ok};
+ghost use Rattle.std.specs.Prelude.{Ok};
 ghost use Rattle.std.specs.Option.{option_map};
 ghost use Rattle.px_vol.specs.Volume.{IsChannelVolume};
-ghost use Rattle.px_flat.specs.Member.{SuitsChannels};
-ghost use Rattle.px_flat.specs.FlatVolume.{with_sink_volume, with_sink_mute};
+ghost use Rattle.px_flat.specs.FlatVolume.{with_sink_mute};
 ghost use Rattle.px_plan.specs.Row.{Plans};
 ghost use Rattle.px_ctl_vol.specs.Factors.{regrouped};
-ghost use Rattle.px_ctl_vol.specs.Sinks.{set_sink_volume, set_sink_mute};
+ghost use Rattle.px_ctl_vol.specs.Sinks.{with_suiting_volume, set_sink_volume, set_sink_mute};
 
 use crate::asked::{asked, fits, is_volume};
 use crate::factors::regrouped;
@@ -19,7 +18,7 @@ use px_tag::RawVolume;
 use px_types::{ErrorCode, SinkId};
 use std::alloc::Global;
 
-// The sink has this volume, and its inputs follow.
+// The sink has this volume, and its inputs follow. `Invalid` for another count than 1 and that of its channels.
 fn with_volume<P: Drop>(
     alloc: Global,
     sink: SinkId,
@@ -28,10 +27,13 @@ fn with_volume<P: Drop>(
     volume: &RawVolume,
     tag: u32,
 ) -> Result<Plan<Msg<P>, Group>, Refusal>
-    requires valid { IsChannelVolume volume.now }
-    requires suits { SuitsChannels volume.now (length group.now.reference) }
-    ensures { Plans result (Ok (regrouped sink (with_sink_volume volume.now group.now) inputs.now tag)) }
+    requires { IsChannelVolume volume.now }
+    ensures { Plans result (with_suiting_volume sink group.now inputs.now volume.now tag) }
 {
+    check(
+        fits(volume, group.reference().values().len()),
+        ErrorCode::Invalid,
+    )?;
     let mut changed = group.copy(alloc)?;
     changed.set_sink(&asked(volume));
     regrouped(alloc, sink, changed, inputs, tag)
@@ -73,10 +75,6 @@ pub fn set_sink_volume<P: Drop>(
     let Some(group) = group else {
         return Err(Refusal::Code(ErrorCode::NoEntity));
     };
-    check(
-        fits(volume, group.reference().values().len()),
-        ErrorCode::Invalid,
-    )?;
     with_volume(alloc, sink.index, group, inputs, volume, tag)
 }
 
