@@ -1,4 +1,4 @@
-use Rattle.std.proofs.Common.{◌≡◌, List, [], ◌∷◌, ◌++◌, ◌∙◌, All, map, length, ap, sym, subst, arith, rules}
+use Rattle.std.proofs.Common.{◌≡◌, List, [], ◌∷◌, ◌++◌, ◌∙◌, All, map, length, drop, refl, ap, sym, subst, arith}
 use Rattle.std.proofs.lemmas.List.{append-nil}
 use Rattle.std.proofs.lemmas.Result.{err_from_is_err_and}
 use Rattle.px_frame.specs.Frame.{IsBody}
@@ -7,6 +7,11 @@ use Rattle.px_model.specs.Stream.{Stream}
 use Rattle.px_core.specs.Step.{frame, stepped_by, effects_by}
 use Rattle.px_world.proofs.Going.{all-first, all-rest, map-first, map-effects-first}
 use Rattle.px_world.proofs.stepping.take_frames.Goals as goal
+
+-- no frame is left where the rest of them, without a first one, is all of them
+none-left : (all rest : List Frame) → all ≡ rest → rest ≡ drop 1 all → all ≡ []
+none-left [] rest same less = refl
+none-left (x ∷ xs) rest same less = absurd (omega (arith, ap length (same ∙ less)))
 
 pub take_frame-requires : goal.take_frame-requires
 take_frame-requires c =
@@ -42,13 +47,13 @@ loop-frame-smaller c = omega (arith, ap (λ (fs : List Frame). length fs) c.in-S
 
 pub returns-clause-core : goal.returns-clause-core
 returns-clause-core c =
-    let none : c.loop-frame.frames.items ≡ [] = search rules in
+    let none = none-left c.loop-frame.frames.items c.pop_front.new.self.items c.in_default.ensures.items c.in_default.ensures.rest in
     subst (λ (fs : List Frame). stepped_by Stream.spec c.loop-frame.core.state (map (λ (f : Frame). frame c.args.conn f) fs)
     ≡ stepped_by Stream.spec c.args.core.now.state (map (λ (f : Frame). frame c.args.conn f) c.args.frames.items)) none c.loop-frame.invariant.core
 
 pub returns-clause-effects : goal.returns-clause-effects
 returns-clause-effects c =
-    let none : c.loop-frame.frames.items ≡ [] = search rules in
+    let none = none-left c.loop-frame.frames.items c.pop_front.new.self.items c.in_default.ensures.items c.in_default.ensures.rest in
     sym (append-nil c.loop-frame.effects)
     ∙ subst (λ (fs : List Frame). c.loop-frame.effects ++ effects_by Stream.spec c.loop-frame.core.state (map (λ (f : Frame). frame c.args.conn f) fs)
     ≡ c.args.effects.now ++ effects_by Stream.spec c.args.core.now.state (map (λ (f : Frame). frame c.args.conn f) c.args.frames.items)) none c.loop-frame.invariant.effects
