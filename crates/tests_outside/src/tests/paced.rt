@@ -67,20 +67,29 @@ fn answers_so(device: &mut Paced, answers: &[Result<u64, DeviceFault>]) -> bool 
     right
 }
 
-// Whether a device in which a hundred frames wait, whose bytes are their numbers, plays so.
-fn plays(alloc: Global, row: &Row) -> Mem<bool> {
-    let (moments, room, failing, answers, written, skipped) = row;
+// A device in which a hundred frames wait, whose bytes are their numbers.
+fn filled(alloc: Global, row: &Row) -> Mem<Paced> {
+    let (moments, room, failing, ..) = row;
     let calls = Calls::from_vec(listed(alloc, &[*failing])?);
     let clock = MemClock::new(Moments::from_vec(listed(alloc, moments)?));
     let mut device = PacedSink::new(alloc, &SHAPE, MemSink::new(alloc, *room, calls)?, clock)?;
-    let bytes = numbers();
-    device.put(0, &bytes);
-    Ok(
-        answers_so(&mut device, answers)
-            && bytes.starts_with(device.out().bytes())
-            && device.out().bytes().len() == *written
-            && device.skipped() == *skipped,
-    )
+    device.put(0, &numbers());
+    Ok(device)
+}
+
+// Whether it plays so.
+fn plays_so(device: &mut Paced, row: &Row) -> bool {
+    let (.., answers, written, skipped) = row;
+    answers_so(device, answers)
+        && numbers().starts_with(device.out().bytes())
+        && device.out().bytes().len() == *written
+        && device.skipped() == *skipped
+}
+
+// Whether a device in which a hundred frames wait plays so.
+fn plays(alloc: Global, row: &Row) -> Mem<bool> {
+    let mut device = filled(alloc, row)?;
+    Ok(plays_so(&mut device, row))
 }
 
 #[test]
