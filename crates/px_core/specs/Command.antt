@@ -109,38 +109,50 @@ row state me tag (commands.UpdateClient mode list) = update_client (client_on st
 row state me tag (commands.RemoveStream stream keys) = remove_stream (stream_of state.inputs me.conn stream) state.lists tag keys
 row state me tag (commands.RemoveClient keys) = remove_client (client_on state.names.clients me.conn) me tag keys
 
--- ---- the families of commands: on a stream of the connection's own
+-- ---- the families of commands: on what plays in a stream of the connection's own
 
+abbrev pub IsOnPlaying : Command → Type 0
+IsOnPlaying (commands.Drain stream) = ⊤
+IsOnPlaying (commands.Latency stream time) = ⊤
+IsOnPlaying (commands.Cork stream on) = ⊤
+IsOnPlaying (commands.Flush stream) = ⊤
+IsOnPlaying (commands.Trigger stream) = ⊤
+IsOnPlaying (commands.Prebuf stream) = ⊤
+IsOnPlaying _ = ⊥
+
+-- that make or end a stream of the connection's own, or change its buffer
 abbrev pub IsOnStream : Command → Type 0
 IsOnStream (commands.Create fields) = ⊤
 IsOnStream (commands.Delete stream) = ⊤
-IsOnStream (commands.Drain stream) = ⊤
-IsOnStream (commands.Latency stream time) = ⊤
-IsOnStream (commands.Cork stream on) = ⊤
-IsOnStream (commands.Flush stream) = ⊤
-IsOnStream (commands.Trigger stream) = ⊤
-IsOnStream (commands.Prebuf stream) = ⊤
 IsOnStream (commands.Attributes stream asked adjust_latency early_requests) = ⊤
-IsOnStream (commands.StreamName stream name) = ⊤
-IsOnStream (commands.UpdateStream stream mode list) = ⊤
-IsOnStream (commands.RemoveStream stream keys) = ⊤
 IsOnStream _ = ⊥
 
--- on clients, on names or on the server
+-- on the properties of a stream of the connection's own
+abbrev pub IsOnProperties : Command → Type 0
+IsOnProperties (commands.StreamName stream name) = ⊤
+IsOnProperties (commands.UpdateStream stream mode list) = ⊤
+IsOnProperties (commands.RemoveStream stream keys) = ⊤
+IsOnProperties _ = ⊥
+
+-- on clients
 abbrev pub IsOnClients : Command → Type 0
 IsOnClients (commands.Auth version cookie) = ⊤
 IsOnClients (commands.SetClientName list) = ⊤
-IsOnClients (commands.EmptyList number) = ⊤
 IsOnClients (commands.Subscribe mask) = ⊤
-IsOnClients (commands.LookupSink name) = ⊤
-IsOnClients (commands.DefaultSink name) = ⊤
 IsOnClients (commands.ClientInfo client) = ⊤
 IsOnClients commands.ClientInfoList = ⊤
 IsOnClients (commands.UpdateClient mode list) = ⊤
 IsOnClients (commands.RemoveClient keys) = ⊤
-IsOnClients commands.ServerInfo = ⊤
 IsOnClients (commands.KillClient client) = ⊤
 IsOnClients _ = ⊥
+
+-- on names, on the server, or on a list that is empty
+abbrev pub IsOnServer : Command → Type 0
+IsOnServer (commands.EmptyList number) = ⊤
+IsOnServer (commands.LookupSink name) = ⊤
+IsOnServer (commands.DefaultSink name) = ⊤
+IsOnServer commands.ServerInfo = ⊤
+IsOnServer _ = ⊥
 
 -- on sinks and inputs, whosever they are
 abbrev pub IsOnSinks : Command → Type 0

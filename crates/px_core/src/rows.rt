@@ -12,7 +12,7 @@ ghost use Rattle.px_ctl_play.specs.Move.{move_input};
 ghost use Rattle.px_targets.specs.Sinks.{named_by};
 ghost use Rattle.px_state.specs.State.{stream_of, input_named};
 ghost use Rattle.px_state.specs.Tables.{state_of};
-ghost use Rattle.px_core.specs.Command.{IsOnStream, IsOnClients, IsOnSinks, new_attributes, create_on, default_sink, killed_input, row};
+ghost use Rattle.px_core.specs.Command.{IsOnPlaying, IsOnStream, IsOnProperties, IsOnClients, IsOnServer, IsOnSinks, new_attributes, create_on, default_sink, killed_input, row};
 ghost use Rattle.px_core.specs.Grouped.{AreGrouped};
 ghost use Rattle.px_core.specs.Keeps.{IsInput};
 
@@ -154,7 +154,35 @@ fn killed_input<P: Drop>(
     kill_input(alloc, input, owner, &tables.waiting, tag)
 }
 
-// The row of a command on a stream of the connection's own.
+// The row of a command on what plays in a stream of the connection's own.
+fn playing_row<P: Drop>(
+    alloc: Global,
+    tables: &Tables<P>,
+    me: &Connection,
+    tag: u32,
+    command: Command,
+) -> Result<Plan<Msg<P>, Group>, Refusal>
+    requires inputs { AllByRecursion (IsInput tables.now.sinks tables.now.inputs_made) tables.now.inputs.items }
+    requires family { IsOnPlaying command }
+    ensures { Plans result (row (state_of tables.now) me.now tag command) }
+{
+    match command {
+        Command::Drain { stream } => drain(alloc, stream_of(tables, me, stream), tag),
+        Command::Latency { stream, time } => latency(
+            alloc,
+            stream_of(tables, me, stream),
+            time,
+            tag,
+        ),
+        Command::Cork { stream, on } => cork(alloc, stream_of(tables, me, stream), on, tag),
+        Command::Flush { stream } => flush(alloc, stream_of(tables, me, stream), tag),
+        Command::Trigger { stream } => trigger(alloc, stream_of(tables, me, stream), tag),
+        Command::Prebuf { stream } => prebuf(alloc, stream_of(tables, me, stream), tag),
+        _ => unreachable!(),
+    }
+}
+
+// The row of a command that makes or ends a stream of the connection's own, or changes its buffer.
 fn stream_row<P: Drop>(
     alloc: Global,
     tables: &Tables<P>,
@@ -174,21 +202,27 @@ fn stream_row<P: Drop>(
             let stream = stream_of(tables, me, stream);
             delete(alloc, stream, &tables.waiting, tag)
         }
-        Command::Drain { stream } => drain(alloc, stream_of(tables, me, stream), tag),
-        Command::Latency { stream, time } => latency(
-            alloc,
-            stream_of(tables, me, stream),
-            time,
-            tag,
-        ),
-        Command::Cork { stream, on } => cork(alloc, stream_of(tables, me, stream), on, tag),
-        Command::Flush { stream } => flush(alloc, stream_of(tables, me, stream), tag),
-        Command::Trigger { stream } => trigger(alloc, stream_of(tables, me, stream), tag),
-        Command::Prebuf { stream } => prebuf(alloc, stream_of(tables, me, stream), tag),
         Command::Attributes { stream, asked, .. } => {
             let stream = stream_of(tables, me, stream);
             new_attributes(alloc, tables, stream, asked, tag)
         }
+        _ => unreachable!(),
+    }
+}
+
+// The row of a command on the properties of a stream of the connection's own.
+fn properties_row<P: Drop>(
+    alloc: Global,
+    tables: &Tables<P>,
+    me: &Connection,
+    tag: u32,
+    command: Command,
+) -> Result<Plan<Msg<P>, Group>, Refusal>
+    requires inputs { AllByRecursion (IsInput tables.now.sinks tables.now.inputs_made) tables.now.inputs.items }
+    requires family { IsOnProperties command }
+    ensures { Plans result (row (state_of tables.now) me.now tag command) }
+{
+    match command {
         Command::StreamName { stream, name } => {
             let stream = stream_of(tables, me, stream);
             set_stream_name(alloc, stream, &tables.lists, tag, text_of(&name))
@@ -205,7 +239,7 @@ fn stream_row<P: Drop>(
     }
 }
 
-// The row of a command on clients, on names or on the server.
+// The row of a command on clients.
 fn client_row<P: Drop>(
     alloc: Global,
     tables: &Tables<P>,
@@ -213,7 +247,6 @@ fn client_row<P: Drop>(
     tag: u32,
     command: Command,
 ) -> Result<Plan<Msg<P>, Group>, Refusal>
-    requires sinks { AreSinks [] tables.now.sinks }
     requires family { IsOnClients command }
     ensures { Plans result (row (state_of tables.now) me.now tag command) }
 {
@@ -225,15 +258,7 @@ fn client_row<P: Drop>(
             let client = tables.names.client_on(me.conn);
             set_client_name(alloc, client, me, tag, list)
         }
-        Command::EmptyList { .. } => empty_list(alloc, tag),
         Command::Subscribe { mask } => subscribe(alloc, me, tag, mask),
-        Command::LookupSink { name } => lookup_sink(alloc, &tables.names, tag, text_of(&name)),
-        Command::DefaultSink { name } => set_default_sink(
-            alloc,
-            &tables.names,
-            tag,
-            text_of(&name),
-        ),
         Command::ClientInfo { client } => {
             client_info(alloc, tables.names.client_numbered(client), tag)
         }
@@ -246,10 +271,34 @@ fn client_row<P: Drop>(
             let client = tables.names.client_on(me.conn);
             remove_client(alloc, client, me, tag, &keys)
         }
-        Command::ServerInfo => server(alloc, tables, tag),
         Command::KillClient { client } => {
             kill_client(alloc, connection_with(&tables.connections, client), tag)
         }
+        _ => unreachable!(),
+    }
+}
+
+// The row of a command on names, on the server, or on a list that is empty.
+fn server_row<P: Drop>(
+    alloc: Global,
+    tables: &Tables<P>,
+    tag: u32,
+    command: Command,
+) -> Result<Plan<Msg<P>, Group>, Refusal>
+    requires sinks { AreSinks [] tables.now.sinks }
+    requires family { IsOnServer command }
+    ensures { (me : Connection) → Plans result (row (state_of tables.now) me tag command) }
+{
+    match command {
+        Command::EmptyList { .. } => empty_list(alloc, tag),
+        Command::LookupSink { name } => lookup_sink(alloc, &tables.names, tag, text_of(&name)),
+        Command::DefaultSink { name } => set_default_sink(
+            alloc,
+            &tables.names,
+            tag,
+            text_of(&name),
+        ),
+        Command::ServerInfo => server(alloc, tables, tag),
         _ => unreachable!(),
     }
 }
@@ -297,30 +346,29 @@ pub(crate) fn row<P: Drop>(
     ensures { Plans result (row (state_of tables.now) me.now tag command) }
 {
     match command {
-        Command::Create(_)
-        | Command::Delete { .. }
-        | Command::Drain { .. }
+        Command::Drain { .. }
         | Command::Latency { .. }
         | Command::Cork { .. }
         | Command::Flush { .. }
         | Command::Trigger { .. }
-        | Command::Prebuf { .. }
-        | Command::Attributes { .. }
-        | Command::StreamName { .. }
-        | Command::UpdateStream { .. }
-        | Command::RemoveStream { .. } => stream_row(alloc, tables, me, tag, command),
+        | Command::Prebuf { .. } => playing_row(alloc, tables, me, tag, command),
+        Command::Create(_) | Command::Delete { .. } | Command::Attributes { .. } => stream_row(
+            alloc, tables, me, tag, command,
+        ),
+        Command::StreamName { .. } | Command::UpdateStream { .. } | Command::RemoveStream { .. } =>
+            properties_row(alloc, tables, me, tag, command),
         Command::Auth { .. }
         | Command::SetClientName { .. }
-        | Command::EmptyList { .. }
         | Command::Subscribe { .. }
-        | Command::LookupSink { .. }
-        | Command::DefaultSink { .. }
         | Command::ClientInfo { .. }
         | Command::ClientInfoList
         | Command::UpdateClient { .. }
         | Command::RemoveClient { .. }
-        | Command::ServerInfo
         | Command::KillClient { .. } => client_row(alloc, tables, me, tag, command),
+        Command::EmptyList { .. }
+        | Command::LookupSink { .. }
+        | Command::DefaultSink { .. }
+        | Command::ServerInfo => server_row(alloc, tables, tag, command),
         Command::SinkInfo { .. }
         | Command::SinkInfoList
         | Command::InputInfo { .. }
