@@ -1,6 +1,6 @@
 //! Steps of the core, with what they do to the clients' lines and to the tape.
 
-ghost use Rattle.std.specs.Prelude.{◌≡◌, IfOk};
+ghost use Rattle.std.specs.Prelude.{◌≡◌, ◌+◌, ◌≤◌, length, IfOk};
 ghost use Rattle.px_core_cell.specs.Step.{IsAsked, HandsBack};
 ghost use Rattle.px_desk.specs.Taped.{AreEventsOf};
 ghost use Rattle.px_tape.specs.Tape.{turns_in};
@@ -10,7 +10,7 @@ use crate::lines::Lines;
 use px_annals::{CoreEntry, Recorder};
 use px_core_cell::{CoreSeat, CoreStep, Seats, StepFault};
 use px_ends::Outlet;
-use px_tape::Events;
+use px_tape::{Events, Tape};
 use px_types::Mem;
 use std::alloc::Global;
 use std::sync::Wait;
@@ -118,6 +118,38 @@ fn owes_sweep(step: &CoreStep) -> bool {
     !matches!(step, CoreStep::Sweep | CoreStep::Out(_))
 }
 
+// The events of a step, for which the tape has room.
+fn ready_events(alloc: Global, tape: &mut Tape, step: &CoreStep) -> Mem<Events>
+    requires { IsAsked step.now }
+    ensures turns { IfOk result (λ events. turns_in events ≡ 0) }
+    ensures room { IfOk result (λ events. length tape.new.marks + length events ≤ tape.new.capacity) }
+{
+    let events = events_of(alloc, step)?;
+    tape.ready(events.len())?;
+    Ok(events)
+}
+
+// Makes a step, whose events go onto this tape where it was done.
+fn step_onto<W: Wait, C: Recorder<CoreEntry> + Drop, L: Seats, O: Outlet + Drop>(
+    rt: &W,
+    alloc: Global,
+    desk: &Desk<C, L, O>,
+    tape: &mut Tape,
+    step: CoreStep,
+    seat: &mut CoreSeat<L>,
+) -> Result<Stepped, StepFault>
+    requires lawful { IsAsked step }
+    ensures seat { seat.new.parts ≡ seat.old.parts }
+    ensures back { HandsBack step result }
+{
+    let events = ready_events(alloc, tape, &step)?;
+    let stepped = step_lined(rt, alloc, desk, step, seat)?;
+    if stepped != Stepped::Nothing {
+        tape.add(events);
+    }
+    Ok(stepped)
+}
+
 /// Makes a step, whose events go onto the tape where it was done. The tape is locked meanwhile, and has room for them before.
 pub(crate) fn step_taped<W: Wait, C: Recorder<CoreEntry> + Drop, L: Seats, O: Outlet + Drop>(
     rt: &W,
@@ -131,11 +163,5 @@ pub(crate) fn step_taped<W: Wait, C: Recorder<CoreEntry> + Drop, L: Seats, O: Ou
     ensures back { HandsBack step result }
 {
     let mut tape = desk.tape.lock(rt);
-    let events = events_of(alloc, &step)?;
-    tape.ready(events.len())?;
-    let stepped = step_lined(rt, alloc, desk, step, seat)?;
-    if stepped != Stepped::Nothing {
-        tape.add(events);
-    }
-    Ok(stepped)
+    step_onto(rt, alloc, desk, &mut tape, step, seat)
 }

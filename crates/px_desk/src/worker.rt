@@ -8,10 +8,11 @@ ghost use Rattle.px_core_cell.specs.Cell.{cell_of};
 ghost use Rattle.px_core_cell.specs.History.{IsCell};
 ghost use Rattle.px_core_cell.specs.Step.{IsAsked, HandsBack};
 
-use crate::asked::{Plain, step_of};
+use crate::asked::Plain;
 use crate::desk::Desk;
 use crate::lines::{Errand, Next, Rest};
-use crate::step::{Stepped, step_lined, step_taped};
+use crate::making::Made;
+use crate::step::Stepped;
 use px_annals::{CoreEntry, RecordFault, Recorder};
 use px_core_cell::{CoreParts, CoreSeat, CoreStep, Seats, StepFault};
 use px_ends::Outlet;
@@ -24,15 +25,6 @@ use std::mem;
 use std::sync::atomic::Ordering;
 use std::sync::{Arc, Wait};
 use std::thread::yield_now;
-
-// What became of a step.
-#[derive(Clone, Copy, Debug, PartialEq, Eq)]
-enum Made {
-    // It was done, or there was nothing to do.
-    Stepped(Stepped),
-    // There was no memory for it.
-    NoMemory,
-}
 
 /// Why the core makes no more steps.
 #[derive(Clone, Copy, Debug, PartialEq, Eq)]
@@ -94,89 +86,10 @@ impl<R: Wait + Copy, C: Recorder<CoreEntry> + Drop, L: Seats, O: Outlet + Drop> 
         desk.core.take_parts(&rt, seat)
     }
 
-    // Makes a step, which goes onto the tape where there is one.
-    fn once(&mut self, step: CoreStep) -> Result<Stepped, StepFault>
-        requires lawful { IsAsked step }
-        ensures seat { self.new.seat.parts ≡ self.old.seat.parts }
-        ensures back { HandsBack step result }
-    {
-        if self.desk.taped {
-            step_taped(&self.rt, self.alloc, &self.desk, step, &mut self.seat)
-        } else {
-            step_lined(&self.rt, self.alloc, &self.desk, step, &mut self.seat)
-        }
-    }
-
     /// The tape, by the one that has it from then on.
     pub fn take_tape(&self) -> Tape {
         let mut tape = self.desk.tape.lock(&self.rt);
         mem::replace(&mut *tape, Tape::new(self.alloc))
-    }
-
-    // Sweeps, again until there is memory.
-    fn sweep(&mut self) -> Result<(), CoreStop>
-        ensures seat { self.new.seat.parts ≡ self.old.seat.parts }
-    {
-        let rt = self.rt;
-        for _ in rt.forever() {
-            match self.once(CoreStep::Sweep) {
-                Ok(_) | Err(StepFault::Owed(_)) => return Ok(()),
-                Err(StepFault::NoMemory) | Err(StepFault::Recorder(RecordFault::NoMemory)) => {
-                    yield_now()
-                }
-                Err(StepFault::Worn) => return Err(CoreStop::Worn),
-                Err(StepFault::Recorder(fault)) => return Err(CoreStop::Unrecorded(fault)),
-            }
-        }
-        unreachable!()
-    }
-
-    // Makes the sweep that a step still owes.
-    fn settle(&mut self, stepped: Stepped) -> Result<(), CoreStop>
-        ensures seat { self.new.seat.parts ≡ self.old.seat.parts }
-    {
-        match stepped {
-            Stepped::Done => self.sweep(),
-            Stepped::Swept | Stepped::Nothing => Ok(()),
-        }
-    }
-
-    // Makes a step. Where a sweep is owed, that is made first.
-    fn make(&mut self, step: CoreStep) -> Result<Made, CoreStop>
-        requires lawful { IsAsked step }
-        ensures seat { self.new.seat.parts ≡ self.old.seat.parts }
-    {
-        let rt = self.rt;
-        let mut step = step;
-        for _ in rt.forever() {
-            match self.once(step) {
-                Ok(stepped) => return Ok(Made::Stepped(stepped)),
-                Err(StepFault::NoMemory) | Err(StepFault::Recorder(RecordFault::NoMemory)) => {
-                    return Ok(Made::NoMemory);
-                }
-                Err(StepFault::Owed(back)) => {
-                    step = back;
-                    self.sweep()?;
-                }
-                Err(StepFault::Worn) => return Err(CoreStop::Worn),
-                Err(StepFault::Recorder(fault)) => return Err(CoreStop::Unrecorded(fault)),
-            }
-        }
-        unreachable!()
-    }
-
-    // Makes a step that isn't a client's frame or a fault in its bytes, again until there is memory.
-    fn insist(&mut self, step: Plain) -> Result<Stepped, CoreStop>
-        ensures seat { self.new.seat.parts ≡ self.old.seat.parts }
-    {
-        let rt = self.rt;
-        for _ in rt.forever() {
-            match self.make(step_of(step))? {
-                Made::Stepped(stepped) => return Ok(stepped),
-                Made::NoMemory => yield_now(),
-            }
-        }
-        unreachable!()
     }
 
     // A client in whose line a packet found no memory. Whoever made the step looks behind it, so a step that another makes meanwhile isn't
