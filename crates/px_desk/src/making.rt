@@ -1,6 +1,6 @@
 //! Steps that a worker makes, with the sweeps that they owe.
 
-ghost use Rattle.std.specs.Prelude.{◌≡◌};
+ghost use Rattle.std.specs.Prelude.{◌≡◌, IfOk, IfErr};
 ghost use Rattle.px_core_cell.specs.Step.{IsAsked, HandsBack};
 
 use crate::asked::{Plain, step_of};
@@ -19,14 +19,6 @@ pub(crate) enum Made {
     Stepped(Stepped),
     /// There was no memory for it.
     NoMemory,
-}
-
-// What a step came to for which the recorder wasn't ready.
-fn unrecorded(fault: RecordFault) -> Result<Made, CoreStop> {
-    match fault {
-        RecordFault::NoMemory => Ok(Made::NoMemory),
-        fault => Err(CoreStop::Unrecorded(fault)),
-    }
 }
 
 // Whether a sweep is over: one that found no memory isn't.
@@ -77,6 +69,23 @@ impl<R: Wait + Copy, C: Recorder<CoreEntry> + Drop, L: Seats, O: Outlet + Drop> 
         }
     }
 
+    // Makes a step once. Where a sweep is owed, the step comes back.
+    fn attempt(&mut self, step: CoreStep) -> Result<Result<Made, CoreStep>, CoreStop>
+        requires lawful { IsAsked step }
+        ensures seat { self.new.seat.parts ≡ self.old.seat.parts }
+        ensures back { IfOk result (λ made. IfErr made IsAsked) }
+    {
+        match self.once(step) {
+            Ok(stepped) => Ok(Ok(Made::Stepped(stepped))),
+            Err(StepFault::NoMemory) | Err(StepFault::Recorder(RecordFault::NoMemory)) => {
+                Ok(Ok(Made::NoMemory))
+            }
+            Err(StepFault::Owed(back)) => Ok(Err(back)),
+            Err(StepFault::Worn) => Err(CoreStop::Worn),
+            Err(StepFault::Recorder(fault)) => Err(CoreStop::Unrecorded(fault)),
+        }
+    }
+
     /// Makes a step. Where a sweep is owed, that is made first.
     pub(crate) fn make(&mut self, step: CoreStep) -> Result<Made, CoreStop>
         requires lawful { IsAsked step }
@@ -85,15 +94,12 @@ impl<R: Wait + Copy, C: Recorder<CoreEntry> + Drop, L: Seats, O: Outlet + Drop> 
         let rt = self.rt;
         let mut step = step;
         for _ in rt.forever() {
-            match self.once(step) {
-                Ok(stepped) => return Ok(Made::Stepped(stepped)),
-                Err(StepFault::NoMemory) => return Ok(Made::NoMemory),
-                Err(StepFault::Owed(back)) => {
-                    step = back;
+            match self.attempt(step)? {
+                Ok(made) => return Ok(made),
+                Err(back) => {
                     self.sweep()?;
+                    step = back;
                 }
-                Err(StepFault::Worn) => return Err(CoreStop::Worn),
-                Err(StepFault::Recorder(fault)) => return unrecorded(fault),
             }
         }
         unreachable!()
