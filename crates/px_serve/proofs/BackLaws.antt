@@ -2,7 +2,7 @@
 use Rattle.std.proofs.Common.{◌≡◌, ℕ, ◌+◌, ◌≤◌, List, [], ◌∷◌, length, Option, None, Some, IfSome, refl, ap, subst, ◌∙◌, sym, arith}
 use Rattle.std.specs.Option.{option_map}
 use Rattle.px_ends.specs.Device.{DeviceState}
-use Rattle.px_ends.specs.Host.{HostState, Lent, TakesPart, HasPart, fewer_parts}
+use Rattle.px_ends.specs.Host.{HostState, Lent, TakesPart, fewer_parts}
 use Rattle.px_server.specs.declared.served.LanePart.{LanePart}
 use Rattle.px_server.specs.Hosted.{HasLent}
 use Rattle.px_serve.specs.Back.{TakesParts}
@@ -12,18 +12,7 @@ fewer_lent : (parts cores : ℕ) (o : Option Lent) → IfSome o (λ l. (parts + 
 fewer_lent parts cores None all = tt
 fewer_lent parts cores (Some l) all = let one = all.0 in let two = all.1 in (omega arith, omega arith, all.2)
 
-some_part : (parts cores : ℕ) (o : Option Lent) → IfSome o (λ l. (parts + 1 ≤ Lent.devices l) × (parts + 1 ≤ Lent.recorders l) × (cores ≤ Lent.cores l))
-    → IfSome o (λ l. (1 ≤ l.devices) × (1 ≤ l.recorders))
-some_part parts cores None all = tt
-some_part parts cores (Some l) all = let one = all.0 in let two = all.1 in (omega arith, omega arith)
-
--- one more is there
-pub lent_part : {D R C X : Type 0} (all rest : List X) (one : X) (cores : ℕ) (h : HostState D R C) → all ≡ one ∷ rest → HasLent (length all) cores h → HasPart h
-lent_part all rest one cores h front lent =
-    let more : length all ≡ length rest + 1 = ap length front ∙ omega arith in
-    some_part (length rest) cores h.lent (subst (λ (n : ℕ). HasLent n cores h) more lent)
-
--- and one fewer
+-- one more than the rest is lent
 pub lent_rest : {X : Type 0} {D R C : Type 0} (all rest : List X) (one : X) (cores : ℕ) (h : HostState D R C) → all ≡ one ∷ rest → HasLent (length all) cores h → HasLent (length rest + 1) cores h
 lent_rest all rest one cores h front lent =
     let more : length all ≡ length rest + 1 = ap length front ∙ omega arith in subst (λ (n : ℕ). HasLent n cores h) more lent

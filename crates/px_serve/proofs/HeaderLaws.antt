@@ -1,20 +1,20 @@
 -- What stands first in a session is a header, or the bytes are refused.
-use Rattle.std.proofs.Common.{◌≡◌, ◌≢◌, ℕ, ◌==◌, List, [], length, Bool, true, false, if◌then◌else◌, Option, Some, Result, Ok, Err, ap, subst, ◌∙◌, ◌⊎◌, inl, inr, arith}
+use Rattle.std.proofs.Common.{◌≡◌, ◌≢◌, ℕ, ◌==◌, List, [], length, Bool, true, false, if◌then◌else◌, Option, Some, Result, Ok, Err, refl, ap, subst, ◌∙◌, ◌⊎◌, inl, inr, arith}
 use Rattle.std.proofs.lemmas.Bool.Decides.{nat_tests}
 use Rattle.px_session.specs.declared.header.Header.{Header}
 use Rattle.px_session.specs.declared.event.Step.{Step}
 use Rattle.px_session.specs.declared.event.Step.TheVariants as step
-use Rattle.px_session.specs.declared.fault.Cause.{Cause}
 use Rattle.px_session.specs.declared.fault.Cause.TheVariants.{Trailing}
 use Rattle.px_session.specs.declared.fault.ReadError.{ReadError}
-use Rattle.px_session.specs.declared.fault.ReadError.TheVariants.{Refused}
+use Rattle.px_session.specs.declared.fault.ReadError.TheVariants.{Refused, Failed, NoMemory}
 use Rattle.px_session.specs.Place.{Place, Refusal, start_of, done}
 use Rattle.px_session.specs.Reader.{Reader, place_with, all_ahead, Gives}
 use Rattle.px_session.specs.HeaderReading.{header_at}
 use Rattle.px_session.specs.Session.{first_at}
+use Rattle.px_session.specs.Held.{FailsCount}
 use Rattle.px_session.proofs.Steps.{then_ok, then_err}
 use Rattle.px_session.proofs.Steady.{answer, ok_is}
-use Rattle.px_serve.specs.HeaderFile.{header_of, whole}
+use Rattle.px_serve.specs.HeaderFile.{whole, FirstGives, HeaderGives}
 
 same_header : (g h : Header) → step.Header g ≡ step.Header h → g ≡ h
 same_header g h e = cc
@@ -66,35 +66,43 @@ pub first_is : (reader new : Reader) (bytes : List ℕ) (after : Option (List �
 first_is reader new bytes after s is gives =
     let r = first_read reader new bytes after s is gives in only_header (start_of bytes) s (place_with new r.0) r.1
 
--- the first rule that they break
-pub first_refused : (reader new : Reader) (bytes : List ℕ) (after : Option (List ℕ)) (e : ReadError) (at : ℕ) (cause : Cause) → reader ≡ fresh → e ≡ Refused at cause
-    → Gives (Err e) reader new (all_ahead reader (Some bytes)) after → header_of bytes ≡ Err (record { at = at; cause = cause })
-first_refused reader new bytes after e at cause is why gives =
-    let g : Gives (Err (Refused at cause)) fresh new (all_ahead fresh (Some bytes)) after =
-    subst (λ (r : Reader). Gives (Err (Refused at cause)) r new (all_ahead r (Some bytes)) after) is
-    (subst (λ (f : ReadError). Gives (Err f) reader new (all_ahead reader (Some bytes)) after) why gives) in
-    ap (whole (length bytes)) (header_refused (start_of bytes) (record { at = at; cause = cause }) g.2)
+-- it stands first in the bytes
+pub first_gives : (reader new : Reader) (bytes : List ℕ) (after : Option (List ℕ)) (s : Step) (h : Header) → reader ≡ fresh → s ≡ step.Header h
+    → Gives (Ok s) reader new (all_ahead reader (Some bytes)) after → FirstGives (Ok h) bytes new.at
+first_gives reader new bytes after s h is a gives =
+    let r = first_read reader new bytes after s is gives in
+    (place_with new r.0, header_first (start_of bytes) h (place_with new r.0) (subst (λ (t : Step). first_at (start_of bytes) ≡ Ok (t, place_with new r.0)) a r.1), refl)
 
-abbrev pub refused_at : ℕ → Result Header Refusal
-refused_at at = Err (record { at = at; cause = Trailing })
+-- the first rule that they break; no read of them fails
+pub first_refuses : (reader new : Reader) (bytes : List ℕ) (after : Option (List ℕ)) (e : ReadError) (end : ℕ) → reader ≡ fresh
+    → Gives (Err e) reader new (all_ahead reader (Some bytes)) after → FailsCount e 0 0 → FirstGives (Err e) bytes end
+first_refuses reader new bytes after (Refused at cause) end is gives counts =
+    let g : Gives (Err (Refused at cause)) fresh new (all_ahead fresh (Some bytes)) after =
+    subst (λ (r : Reader). Gives (Err (Refused at cause)) r new (all_ahead r (Some bytes)) after) is gives in
+    header_refused (start_of bytes) (record { at = at; cause = cause }) g.2
+first_refuses reader new bytes after Failed end is gives counts = absurd (omega (arith, counts.more))
+first_refuses reader new bytes after NoMemory end is gives counts = tt
+
+abbrev trailing : ℕ → Result Header Refusal
+trailing at = Err (record { at = at; cause = Trailing })
 
 chosen : (b : Bool) (c : Bool) (x y : Result Header Refusal) → b ≡ c → (if b then x else y) ≡ (if c then x else y)
 chosen b c x y same = ap (λ (t : Bool). if t then x else y) same
 
 -- a header that is all of the bytes
-pub all_read : (reader new : Reader) (bytes : List ℕ) (after : Option (List ℕ)) (s : Step) (h : Header) → reader ≡ fresh → s ≡ step.Header h → new.at ≡ length bytes
-    → Gives (Ok s) reader new (all_ahead reader (Some bytes)) after → header_of bytes ≡ Ok h
-all_read reader new bytes after s h is a end gives =
-    let r = first_read reader new bytes after s is gives in
-    let head = header_first (start_of bytes) h (place_with new r.0) (subst (λ (t : Step). first_at (start_of bytes) ≡ Ok (t, place_with new r.0)) a r.1) in
-    let same : (new.at == length bytes) ≡ true = grind (arith, nat_tests) in
-    ap (whole (length bytes)) head ∙ chosen (new.at == length bytes) true (Ok h) (Err (record { at = new.at; cause = Trailing })) same
+pub all_read : (h : Header) (bytes : List ℕ) (end : ℕ) → FirstGives (Ok h) bytes end → end ≡ length bytes → HeaderGives (Ok h) bytes
+all_read h bytes end (place, first, at) all =
+    let same : (place.at == length bytes) ≡ true = grind (arith, nat_tests) in
+    ap (whole (length bytes)) first ∙ chosen (place.at == length bytes) true (Ok h) (trailing place.at) same
 
 -- one that bytes trail
-pub some_read : (reader new : Reader) (bytes : List ℕ) (after : Option (List ℕ)) (s : Step) (h : Header) → reader ≡ fresh → s ≡ step.Header h → new.at ≢ length bytes
-    → Gives (Ok s) reader new (all_ahead reader (Some bytes)) after → header_of bytes ≡ Err (record { at = new.at; cause = Trailing })
-some_read reader new bytes after s h is a more gives =
-    let r = first_read reader new bytes after s is gives in
-    let head = header_first (start_of bytes) h (place_with new r.0) (subst (λ (t : Step). first_at (start_of bytes) ≡ Ok (t, place_with new r.0)) a r.1) in
-    let same : (new.at == length bytes) ≡ false = grind (arith, nat_tests) in
-    ap (whole (length bytes)) head ∙ chosen (new.at == length bytes) false (Ok h) (Err (record { at = new.at; cause = Trailing })) same
+pub some_read : (h : Header) (bytes : List ℕ) (end : ℕ) → FirstGives (Ok h) bytes end → end ≢ length bytes → HeaderGives (Err (Refused end Trailing)) bytes
+some_read h bytes end (place, first, at) more =
+    let same : (place.at == length bytes) ≡ false = grind (arith, nat_tests) in
+    ap (whole (length bytes)) first ∙ chosen (place.at == length bytes) false (Ok h) (trailing place.at) same ∙ ap trailing at
+
+-- bytes that a header doesn't stand first in
+pub none_read : (e : ReadError) (bytes : List ℕ) (end : ℕ) → FirstGives (Err e) bytes end → HeaderGives (Err e) bytes
+none_read (Refused at cause) bytes end first = ap (whole (length bytes)) first
+none_read Failed bytes end first = first
+none_read NoMemory bytes end first = tt

@@ -21,3 +21,10 @@ HeaderGives (Ok header) bytes = header_of bytes ≡ Ok header
 HeaderGives (Err (Refused at cause)) bytes = header_of bytes ≡ Err (record { at = at; cause = cause })
 HeaderGives (Err Failed) bytes = ⊥
 HeaderGives (Err NoMemory) bytes = Unit {0}
+
+-- the header that stands first in the bytes, and ends there, or the first rule that they break
+abbrev pub FirstGives : Result Header ReadError → List ℕ → ℕ → Type 0
+FirstGives (Ok header) bytes end = (place : Place) × (header_at (start_of bytes) ≡ Ok (header, place)) × (place.at ≡ end)
+FirstGives (Err (Refused at cause)) bytes end = header_at (start_of bytes) ≡ Err (record { at = at; cause = cause })
+FirstGives (Err Failed) bytes end = ⊥
+FirstGives (Err NoMemory) bytes end = Unit {0}

@@ -1,7 +1,7 @@
 use Rattle.std.proofs.Common.{rules, ◌≡◌, List, [], length, sym, subst}
 use Rattle.px_server.specs.Hosted.{HasLent}
 use Rattle.px_serve.specs.Back.{TakesParts}
-use Rattle.px_serve.proofs.BackLaws.{lent_part, lent_rest, lent_end, lent_fewer, back_one, back_none}
+use Rattle.px_serve.proofs.BackLaws.{lent_rest, lent_end, lent_fewer, back_one, back_none}
 use Rattle.px_serve.proofs.back.hand_parts.Goals as goal
 
 pub loop-part-init : goal.loop-part-init
@@ -9,10 +9,6 @@ loop-part-init g c = record {
   lent = subst (λ (l : List _). HasLent (length l) c.args.cores (g.H.Host.now c.args.host.now)) (sym c.from_vec-left.ensures.items) c.requires;
   parts = λ final all. subst (λ (l : List _). TakesParts g.H.D.Device.now g.H.R.Recorder.faults g.H.R.Recorder.fulls l (g.H.Host.now c.args.host.now) final) c.from_vec-left.ensures.items all;
 }
-
-pub retire-requires : goal.retire-requires
-retire-requires g c =
-    lent_part c.loop-part.left.items c.pop_front.new.self.items c.in-Some.part c.args.cores (g.H.Host.now c.loop-part.host) c.in-Some.ensures.items c.loop-part.invariant.lent
 
 pub loop-part-preserved : goal.loop-part-preserved
 loop-part-preserved g c = record {
