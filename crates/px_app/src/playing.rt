@@ -242,7 +242,12 @@ pub(crate) fn play<S: Source, K: Sink>(
         (ends_of (S.left input.new) (S.faults input.new) (K.held output.new) (K.faults output.new)) }
 {
     match Playing::new(alloc, view, input) {
-        Ok(mut playing) => playing.run(alloc, input, output),
+        Ok(mut playing) => {
+            let ended = playing.run(alloc, input, output);
+            // By a call, so that its fields are dropped by functions of their own.
+            drop(playing);
+            ended
+        }
         Err(ended) => ended,
     }
 }
