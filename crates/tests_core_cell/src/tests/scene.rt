@@ -1,7 +1,6 @@
-ghost use Rattle.std.specs.Prelude.{◌≡◌, [], map, Some, IfOk};
+ghost use Rattle.std.specs.Prelude.{◌≡◌, map, IfOk};
 ghost use Rattle.std.specs.Arc.{arc_value};
 ghost use Rattle.crossbeam_queue.specs.Passes.{IsPassOf};
-ghost use Rattle.px_mail.specs.Mailbox.{key_of, posted_by, taken_by};
 ghost use Rattle.px_session.specs.HeaderRules.{IsHeader};
 ghost use Rattle.px_core_cell.specs.Cell.{ends_of};
 ghost use Rattle.px_core_cell.specs.History.{Begins, fresh_ends};
@@ -9,7 +8,7 @@ ghost use Rattle.px_core_cell.specs.History.{Begins, fresh_ends};
 use px_core::Core;
 use px_core_cell::{CellCore, CoreEnd, CoreEnds};
 use px_ends::{Calls, MemSource};
-use px_mail::{Letter, Mailbox, PostPass, TakePass};
+use px_mail::{Mailbox, PostPass, Shared, TakePass};
 use px_msg::{Msg, Notice};
 use px_session::{Header, Reader, SinkSpec, Step};
 use px_stream::Stream;
@@ -47,32 +46,18 @@ fn header(alloc: Global) -> Mem<Text> {
     Ok(Text::from_vec(bytes))
 }
 
-// A mailbox that two hold, and its passes.
-type Shared<T> = (Arc<Mailbox<T>>, Arc<Mailbox<T>>, PostPass<T>, TakePass<T>);
-
-fn shared<T: Letter + Drop>(alloc: Global, key: T::Key) -> Mem<Shared<T>>
-    ensures one { IfOk result (λ made. arc_value made.1 ≡ arc_value made.0) }
-    ensures post { IfOk result (λ made. IsPassOf (arc_value made.0).queue made.2.pass × (key_of made.2.pass ≡ Some key) × (posted_by made.2.pass ≡ [])) }
-    ensures take { IfOk result (λ made. IsPassOf (arc_value made.0).queue made.3.pass × (taken_by made.3.pass ≡ [])) }
-{
-    let (mailbox, post, take) = Mailbox::<T>::new(alloc, key)?;
-    let ours = Arc::new(alloc, mailbox)?;
-    let theirs = Arc::try_clone(&ours)?;
-    Ok((ours, theirs, post, take))
-}
-
 // The two sides of a sink's mailboxes.
 fn sides(alloc: Global, sink: &SinkSpec) -> Mem<(CoreEnd, Mixer)>
     ensures { IfOk result (λ made. ends_of made.0 ≡ fresh_ends sink.now) }
 {
-    let (ours, inbox, posts, take) = shared::<Msg<Stream>>(alloc, sink.spec)?;
-    let (outbox, theirs, post, takes) = shared::<Notice<Stream>>(alloc, ())?;
-    let end = CoreEnd::new(ours, theirs, posts, takes);
+    let inbox = Shared::<Msg<Stream>>::new(alloc, sink.spec)?;
+    let outbox = Shared::<Notice<Stream>>::new(alloc, ())?;
+    let end = CoreEnd::new(inbox.mailbox, outbox.twin, inbox.post, outbox.take);
     let mixer = Mixer {
-        inbox,
-        outbox,
-        take,
-        post,
+        inbox: inbox.twin,
+        outbox: outbox.mailbox,
+        take: inbox.take,
+        post: outbox.post,
     };
     Ok((end, mixer))
 }
@@ -95,11 +80,12 @@ fn set_up(alloc: Global, header: &Header) -> Mem<Scene>
     requires { IsHeader header.now }
     ensures { IfOk result (λ scene. Begins scene.core.state (map ends_of scene.ends.items)) }
 {
+    let (ends, last) = all_sides(alloc, header.sinks.as_slice())?;
+    let Some(mixer) = last else {
+        return Err(NoMemory);
+    };
     let core = Core::new(alloc, header)?;
-    match all_sides(alloc, header.sinks.as_slice())? {
-        (ends, Some(mixer)) => Ok(Scene { core, ends, mixer }),
-        _ => Err(NoMemory),
-    }
+    Ok(Scene { core, ends, mixer })
 }
 
 pub(crate) fn new_scene(alloc: Global) -> Mem<Scene>

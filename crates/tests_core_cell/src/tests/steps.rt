@@ -1,4 +1,6 @@
-ghost use Rattle.std.specs.Prelude.{IfOk};
+ghost use Rattle.std.specs.Prelude.{IfOk, map};
+ghost use Rattle.px_core_cell.specs.Cell.{ends_of};
+ghost use Rattle.px_core_cell.specs.History.{Begins};
 ghost use Rattle.px_core_cell.specs.Step.{IsAsked};
 
 use crate::tests::asking::{AUTH, CREATE, framed};
@@ -70,16 +72,29 @@ fn all_done<R: Wait>(
     right && taken(rt, mixer).is_none()
 }
 
-// What is kept of the whole run by a recorder that is full once at so many entries, and whether all of it is done.
-fn run<R: Wait>(rt: &R, alloc: Global, full_at: usize) -> Mem<(Crowded, bool)> {
+// The recorder of a core that ends.
+fn recorder_of(state: CoreState<Crowded>) -> Crowded {
+    state.into_parts().log.recorder
+}
+
+// What is kept of the whole run in a scene by a recorder that is full once at so many entries, and whether all of it is done.
+fn run_in<R: Wait>(rt: &R, alloc: Global, scene: Scene, full_at: usize) -> (Crowded, bool)
+    requires { Begins scene.core.state (map ends_of scene.ends.items) }
+{
     let Scene {
         core,
         ends,
         mut mixer,
-    } = new_scene(alloc)?;
+    } = scene;
     let mut state = CoreState::new(core, Crowded::new(alloc, full_at), ends);
     let done = all_done(rt, alloc, &mut state, &mut mixer);
-    Ok((state.into_parts().log.recorder, done))
+    (recorder_of(state), done)
+}
+
+// The same in a new scene.
+fn run<R: Wait>(rt: &R, alloc: Global, full_at: usize) -> Mem<(Crowded, bool)> {
+    let scene = new_scene(alloc)?;
+    Ok(run_in(rt, alloc, scene, full_at))
 }
 
 // Whether a run whose recorder is full at each place once keeps what one keeps whose recorder never is.
