@@ -1,7 +1,7 @@
 ghost use Rattle.std.specs.Prelude.{◌≡◌, [], Some, IfOk};
 ghost use Rattle.std.specs.Arc.{arc_value};
 ghost use Rattle.crossbeam_queue.specs.Passes.{IsPassOf};
-ghost use Rattle.px_mail.specs.Mailbox.{key_of, posted_by, taken_by};
+ghost use Rattle.px_mail.specs.Mailbox.{key_of, posted_by};
 ghost use Rattle.tests_cells.specs.Gains.{IsGain, IsNew, Sends};
 
 use crate::tests::crowded::Crowded;
@@ -9,7 +9,7 @@ use px_chmap::Map;
 use px_ends::{DeviceShape, MemDevice};
 use px_lane::Lane;
 use px_lane_cell::{Boxes, LaneCell, LaneEnds, LanePasses};
-use px_mail::{Full, Letter, Mailbox, PostPass, TakePass};
+use px_mail::{Full, Mailbox, PostPass, Shared};
 use px_msg::{FactorList, InputFactors, Msg, Notice};
 use px_sample::{Format, Spec};
 use px_session::SinkSpec;
@@ -55,37 +55,31 @@ fn mixer(alloc: Global) -> Mem<Lane<MemDevice>>
     Lane::new(alloc, &sink, MemDevice::new(alloc, &SHAPE)?)
 }
 
-// A mailbox that two hold, and its passes.
-type Shared<T> = (Arc<Mailbox<T>>, Arc<Mailbox<T>>, PostPass<T>, TakePass<T>);
-
-fn shared<T: Letter + Drop>(alloc: Global, key: T::Key) -> Mem<Shared<T>>
-    ensures one { IfOk result (λ made. arc_value made.1 ≡ arc_value made.0) }
-    ensures post { IfOk result (λ made. IsPassOf (arc_value made.0).queue made.2.pass × (key_of made.2.pass ≡ Some key) × (posted_by made.2.pass ≡ [])) }
-    ensures take { IfOk result (λ made. IsPassOf (arc_value made.0).queue made.3.pass × (key_of made.3.pass ≡ Some key) × (taken_by made.3.pass ≡ [])) }
-{
-    let (mailbox, post, take) = Mailbox::<T>::new(alloc, key)?;
-    let ours = Arc::new(alloc, mailbox)?;
-    let theirs = Arc::try_clone(&ours)?;
-    Ok((ours, theirs, post, take))
-}
-
 /// A cell with a recorder that is full once, at so many entries, its inbox, and what is at the other end of it.
 pub fn opened(alloc: Global, full_at: usize) -> Mem<(Cell, Inbox, PostPass<Msg<Stream>>)>
     ensures pass { IfOk result (λ made. IsPassOf (arc_value made.1).queue made.2.pass) }
     ensures sends { IfOk result (λ made. Sends (key_of made.2.pass) (posted_by made.2.pass)) }
 {
-    let (inbox, ours, theirs, take) = shared::<Msg<Stream>>(alloc, SPEC)?;
-    let (outbox, _, post, _) = shared::<Notice<Stream>>(alloc, ())?;
+    let Shared {
+        mailbox,
+        twin,
+        post,
+        take,
+    } = Shared::<Msg<Stream>>::new(alloc, SPEC)?;
+    let outbox = Shared::<Notice<Stream>>::new(alloc, ())?;
     let ends = LaneEnds {
         boxes: Boxes {
-            inbox: ours,
-            outbox,
+            inbox: mailbox,
+            outbox: outbox.mailbox,
         },
-        passes: LanePasses { take, post },
+        passes: LanePasses {
+            take,
+            post: outbox.post,
+        },
     };
     let lane = mixer(alloc)?;
     let cell = LaneCell::new(alloc, lane, Crowded::new(alloc, full_at), ends)?;
-    Ok((cell, inbox, theirs))
+    Ok((cell, twin, post))
 }
 
 /// Factors for the input of a number.

@@ -52,17 +52,31 @@ fn turns<R: Wait>(rt: &R, alloc: Global, mut cell: Cell) -> (Cell, u32) {
     (cell, taken)
 }
 
-fn exchanges<R: Threads + Wait + Sync>(rt: &R, alloc: Global) -> Mem<bool> {
-    let (cell, inbox, post) = opened(alloc, usize::MAX)?;
-    let shared: &Mailbox<Msg<Stream>> = &inbox;
-    let (_post, (cell, taken)) = thread::join(
+// The cell behind the turns of one thread, while another sends, and how many messages it took.
+fn exchanged<R: Threads + Wait + Sync>(
+    rt: &R,
+    alloc: Global,
+    cell: Cell,
+    inbox: &Mailbox<Msg<Stream>>,
+    post: PostPass<Msg<Stream>>,
+) -> (Cell, u32)
+    requires pass { IsPassOf inbox.now.queue post.pass }
+    requires sends { Sends (key_of post.pass) (posted_by post.pass) }
+{
+    let (_post, made) = thread::join(
         rt,
         move || -> PostPass<Msg<Stream>>
-            requires { IsPassOf shared.now.queue post.pass × Sends (key_of post.pass) (posted_by post.pass) }
-            ensures { IsPassOf shared.entry.now.queue result.pass }
-        { sends(rt, alloc, shared, post) },
+            requires { IsPassOf inbox.now.queue post.pass × Sends (key_of post.pass) (posted_by post.pass) }
+            ensures { IsPassOf inbox.entry.now.queue result.pass }
+        { sends(rt, alloc, inbox, post) },
         move || -> (Cell, u32) { turns(rt, alloc, cell) },
     );
+    made
+}
+
+fn exchanges<R: Threads + Wait + Sync>(rt: &R, alloc: Global) -> Mem<bool> {
+    let (cell, inbox, post) = opened(alloc, usize::MAX)?;
+    let (cell, taken) = exchanged(rt, alloc, cell, &inbox, post);
     let parts = cell.into_parts();
     Ok(taken == MESSAGES && parts.recorder.recorded() == Some(MESSAGES))
 }
