@@ -74,11 +74,15 @@ fn exchanged<R: Threads + Wait + Sync>(
     made
 }
 
+// How many messages the history of a cell that ends has recorded, where it tells.
+fn recorded(cell: Cell) -> Option<u32> {
+    cell.into_parts().recorder.recorded()
+}
+
 fn exchanges<R: Threads + Wait + Sync>(rt: &R, alloc: Global) -> Mem<bool> {
     let (cell, inbox, post) = opened(alloc, usize::MAX)?;
     let (cell, taken) = exchanged(rt, alloc, cell, &inbox, post);
-    let parts = cell.into_parts();
-    Ok(taken == MESSAGES && parts.recorder.recorded() == Some(MESSAGES))
+    Ok(recorded(cell) == Some(MESSAGES) && taken == MESSAGES)
 }
 
 #[test]
