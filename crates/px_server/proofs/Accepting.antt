@@ -1,9 +1,17 @@
 -- Starts of workers, and clients that come and go, one behind the other.
-use Rattle.std.proofs.Common.{◌≡◌, ℕ, ◌+◌, ◌≤◌, ◌++◌, [], List, length, length-append, arith, ap, refl, ◌∙◌}
+use Rattle.std.proofs.Common.{◌≡◌, ℕ, ◌+◌, ◌++◌, [], List, length, length-append, arith, ap, refl, subst, ◌∙◌, ◌⊎◌, inl, inr}
+use Rattle.px_jobs.specs.declared.running.Spawned.{Spawned}
+use Rattle.px_jobs.specs.declared.running.Spawned.TheVariants.{Refused, NoMemory}
+use Rattle.px_jobs.specs.Jobs.{SpawnGives}
 use Rattle.px_server.specs.declared.served.Stop.{Stop}
 use Rattle.px_server.specs.Hosted.{IsCauseOf}
 use Rattle.px_server.specs.Accepting.{Starting, Accepting, Starts, HasRoom, Takes}
 use Rattle.px_server.proofs.Later.{later_refl, later_later, cause_later}
+
+-- a job that comes back is the one that was given
+pub given_back : {J : Type 0} (s : Spawned J) (job back : J) → (s ≡ Refused back) ⊎ (s ≡ NoMemory back) → SpawnGives s job → back ≡ job
+given_back s job back (inl is) gives = subst (λ (r : Spawned _). SpawnGives r job) is gives
+given_back s job back (inr is) gives = subst (λ (r : Spawned _). SpawnGives r job) is gives
 
 pub starts_refl : {X Y D R C : Type 0} (a : Starting X Y D R C) → Starts a a
 starts_refl a = record { parts = refl; clients = refl; all = refl; capacity = refl; later = later_refl a.host; lent = refl }

@@ -36,8 +36,7 @@ use Rattle.px_core_cell.specs.Boxes.{Boxes, boxes_of}
 use Rattle.px_core_cell.specs.Cell.{SinkEnds, ends_of}
 use Rattle.px_core_cell.specs.History.{IsTold}
 use Rattle.px_core_cell.specs.Parcel.{seen_message, seen_notice}
-use Rattle.px_server.specs.Delivered.{IsFrontOf, plain_message, plain_notice, notices_heard, messages_handed, IsDelivered}
-use Rattle.px_server.specs.declared.served.LanePart.{LanePart}
+use Rattle.px_server.specs.Delivered.{IsFrontOf, plain_message, plain_notice, IsDelivered}
 use Rattle.px_server.specs.declared.sink_work.Met.{Met}
 use Rattle.px_server.specs.Parts.{Start, start_at, start_of, starts_from, worked, HasPlayed, IsPart, AreTold}
 use Rattle.px_server.specs.Working.{Unworked, IsHonest, boxes_at, boxes_in}

@@ -1,8 +1,7 @@
 -- What a serving call does, of what its parts do.
-use Rattle.std.proofs.Common.{◌≡◌, ℕ, suc, List, [], ◌∷◌, ◌++◌, map, length, Option, None, Some, IsSome, IfSome, refl, sym, subst, ◌∙◌, ap, rules, arith, ◌+◌, ◌≤◌, Result, Ok, Err, true, false, OnOk}
+use Rattle.std.proofs.Common.{◌≡◌, ℕ, suc, List, [], ◌∷◌, ◌++◌, map, length, Option, None, Some, IsSome, IfSome, refl, sym, subst, ◌∙◌, ap, rules, arith, ◌+◌, ◌≤◌}
 use Rattle.std.specs.Prelude.{slice_get}
 use Rattle.std.proofs.lemmas.List.{length-append, length-map, append-nil}
-use Rattle.std.specs.Result.{is_err}
 use Rattle.px_types.specs.declared.status.Status.{Status}
 use Rattle.px_types.specs.declared.status.Status.TheVariants as status
 use Rattle.px_annals.specs.declared.entry.CoreEntry.{CoreEntry}
@@ -23,7 +22,7 @@ use Rattle.px_server.specs.declared.served.Stop.TheVariants as stops
 use Rattle.px_server.specs.Causes.{decided, undecided}
 use Rattle.px_server.specs.Hosted.{IsLater, HasLent, IsCauseOf}
 use Rattle.px_server.specs.Parts.{Start, Worked, AreParts, IsFrontOf, unworked, start_of, starts_of, starts_from}
-use Rattle.px_server.specs.Serving.{first_met, cores_in, IsDecided, Ends, IsServed}
+use Rattle.px_server.specs.Serving.{first_met, IsDecided, Ends, IsServed}
 use Rattle.px_server.specs.Working.{Unworked}
 use Rattle.px_server.proofs.Later.{later_later, cause_later}
 use Rattle.px_server.proofs.Parts.{parts_count, starts_unworked}
@@ -156,10 +155,3 @@ front_all sinks lone same = ([], sym same ∙ sym (append-nil (map start_of lone
 
 pub front_none : {D R : Type 0} (sinks : List SinkSpec) (lone : List (Unworked D R)) → lone ≡ [] → IsFrontOf (map start_of lone) (starts_of sinks)
 front_none sinks lone none = subst (λ (l : List _). IsFrontOf (map start_of l) (starts_of sinks)) (sym none) (starts_of sinks, refl)
-
--- what an `Ok` says
-pub fine : {T E : Type 0} (r : Result T E) (P : Type 0) → is_err r ≡ false → OnOk r P → P
-fine (Ok x) P there p = p
-fine (Err e) P there p = absurd (off there) where
-  off : true ≡ false → ⊥
-  off same = search rules

@@ -1,5 +1,5 @@
 -- The work of a sink goes on, and so it does after that; sinks go from those without a worker to those with one.
-use Rattle.std.proofs.Common.{◌≡◌, ℕ, ◌+◌, ◌<◌, ◌++◌, ◌∷◌, [], List, length, Option, ap, sym, subst, ◌∙◌, arith, append_assoc}
+use Rattle.std.proofs.Common.{◌≡◌, ℕ, ◌+◌, ◌<◌, ◌++◌, ◌∷◌, [], List, length, Option, ap, sym, ◌∙◌, arith, append_assoc}
 use Rattle.px_annals.specs.declared.entry.LaneEntry.{LaneEntry}
 use Rattle.px_ends.specs.Device.{DeviceState}
 use Rattle.px_server.specs.Working.{Aspect, GoesOn}

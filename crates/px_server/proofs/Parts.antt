@@ -1,6 +1,6 @@
 -- What is left of sinks, one by one.
-use Rattle.std.proofs.Common.{◌≡◌, ℕ, suc, ◌+◌, ◌<◌, List, [], ◌∷◌, ◌++◌, length, map, Option, None, Some, IfSome, sym, subst, ◌∙◌, ap, refl, arith}
-use Rattle.std.proofs.lemmas.List.{append_assoc, append-nil, length-append, map-append}
+use Rattle.std.proofs.Common.{◌≡◌, ℕ, suc, List, [], ◌∷◌, ◌++◌, length, map, Option, None, Some, IfSome, sym, subst, ◌∙◌, ap, refl}
+use Rattle.std.proofs.lemmas.List.{append_assoc, append-nil, map-append}
 use Rattle.std.specs.Option.{option_or}
 use Rattle.px_types.specs.declared.ids.SinkId.{SinkId}
 use Rattle.px_types.specs.declared.status.Status.{Status}

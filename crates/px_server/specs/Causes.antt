@@ -1,6 +1,5 @@
 -- The statuses of a serving call, by what was met, in the order in which causes decide.
-use Rattle.std.specs.Prelude.{◌≡◌, ℕ, ◌≤◌, ◌⊎◌, List, Option, None, Some, ⊤}
-use Rattle.px_types.specs.Faults.{Rose}
+use Rattle.std.specs.Prelude.{Option, None, Some}
 use Rattle.px_types.specs.declared.status.Status.{Status}
 use Rattle.px_types.specs.declared.status.Status.TheVariants as status
 use Rattle.px_annals.specs.declared.recorder.RecordFault.{RecordFault}

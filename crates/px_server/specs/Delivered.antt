@@ -1,5 +1,5 @@
 -- What went between the core and a sink, by the histories of both.
-use Rattle.std.specs.Prelude.{◌≡◌, ℕ, List, ◌++◌, map, flat_map}
+use Rattle.std.specs.Prelude.{◌≡◌, List, ◌++◌, map, flat_map}
 use Rattle.px_types.specs.declared.ids.SinkId.{SinkId}
 use Rattle.px_annals.specs.declared.entry.CoreEntry.{CoreEntry}
 use Rattle.px_annals.specs.declared.entry.LaneEntry.{LaneEntry}

@@ -1,5 +1,5 @@
 -- What the work of a sink goes by and keeps.
-use Rattle.std.specs.Prelude.{◌≡◌, ℕ, ◌≤◌, ◌++◌, ◌∷◌, [], List, length, Bool, Option, None, Some, IfSome, IsTrue, ⊤}
+use Rattle.std.specs.Prelude.{◌≡◌, ℕ, ◌≤◌, List, length, Bool, Option, None, Some, IfSome, IsTrue, ⊤}
 use Rattle.std.specs.Option.{is_some}
 use Rattle.std.specs.Arc.{arc_value}
 use Rattle.px_types.specs.declared.ids.SinkId.{SinkId}

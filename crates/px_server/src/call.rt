@@ -240,6 +240,51 @@ where
     }
 }
 
+// Serves with room for what is left of the sinks, and for their turns.
+fn serve_within<R, H, G>(
+    rt: &R,
+    alloc: Global,
+    header: &Header,
+    host: &mut H,
+    gate: Arc<G>,
+    lanes: Vec<LanePart<H::D, H::R>>,
+    turns: Vec<SinkTurns>,
+    taped: bool,
+) -> Served<H>
+where
+    R: Threads + Wait + Copy + Drop + Send + Sync + 'static,
+    H: Host,
+    H::L: 'static,
+    H::O: 'static,
+    H::D: 'static,
+    H::R: 'static,
+    H::C: 'static,
+    G: Gate + Drop + Send + Sync + 'static,
+    requires header { IsHeader header.now }
+    requires none { lanes.items ≡ [] }
+    requires room { length header.now.sinks ≤ vec_capacity lanes }
+    requires no_turns { turns.items ≡ [] }
+    requires turns_room { length header.now.sinks ≤ vec_capacity turns }
+    ensures served { IsServed H.C.told H.C.faults H.C.fulls H.D.now H.R.told H.R.faults H.R.fulls header.now (H.now host.old) (H.now host.new) result.status result.lanes.items result.core }
+    ensures tape { HasTape H.R.told taped result.status result.lanes.items result.tape }
+{
+    let mut lone = VecDeque::new(alloc);
+    let mut ends = Vec::new(alloc);
+    match make_outside(alloc, taped, header, host, &mut lone, &mut ends) {
+        Ok(recorder) => {
+            let made = Made {
+                lone,
+                ends,
+                recorder,
+                turns,
+            };
+            let blank = Blank::new(PARTS);
+            serve_made::<R, H, G, Brand>(rt, alloc, header, host, gate, made, lanes, taped, blank)
+        }
+        Err(stop) => unserved(lanes, lone, stop),
+    }
+}
+
 /// Serves the clients that the host hands out, on the sinks of a header, until the host says that no more come and all have gone, or
 /// until something fails. What the host made comes back with it, and with `taped` the tape: what the server did, as the events of a session.
 /// (PulseAudio: `main` of daemon/main.c with its threads.)
@@ -266,22 +311,8 @@ where
 {
     let mut lanes = Vec::new(alloc);
     let mut turns = Vec::new(alloc);
-    let mut lone = VecDeque::new(alloc);
-    let mut ends = Vec::new(alloc);
-    if make_room(header.sinks.len(), &mut lanes, &mut turns).is_err() {
-        return unserved(lanes, lone, Stop::Memory);
-    }
-    match make_outside(alloc, taped, header, host, &mut lone, &mut ends) {
-        Ok(recorder) => {
-            let made = Made {
-                lone,
-                ends,
-                recorder,
-                turns,
-            };
-            let blank = Blank::new(PARTS);
-            serve_made::<R, H, G, Brand>(rt, alloc, header, host, gate, made, lanes, taped, blank)
-        }
-        Err(stop) => unserved(lanes, lone, stop),
+    match make_room(header.sinks.len(), &mut lanes, &mut turns) {
+        Ok(()) => serve_within(rt, alloc, header, host, gate, lanes, turns, taped),
+        Err(_) => unserved(lanes, VecDeque::new(alloc), Stop::Memory),
     }
 }

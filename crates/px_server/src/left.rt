@@ -21,7 +21,7 @@ use crate::lone::Lone;
 use crate::served::LanePart;
 use crate::sink_work::status_of_met;
 use px_annals::{CoreEntry, LaneEntry, RecordFault, Recorder};
-use px_core_cell::{CoreEnd, CoreEnds, CoreParts, Seats};
+use px_core_cell::{CoreEnd, CoreEnds, CoreParts, Seats, StepLog};
 use px_desk::Worker;
 use px_ends::{Device, Outlet};
 use px_lane_cell::{LaneCell, LaneCellParts, LaneEnds, LanePasses};
@@ -146,6 +146,15 @@ pub(crate) struct CoreLeft<C> {
     pub met: Option<Status>,
 }
 
+// What lay under the core's lock besides the core itself.
+fn without_core<C: Recorder<CoreEntry> + Drop>(parts: CoreParts<C>) -> (StepLog<C>, CoreEnds)
+    ensures log { result.0 ≡ parts.log }
+    ensures ends { result.1 ≡ parts.ends }
+{
+    let CoreParts { log, ends, .. } = parts;
+    (log, ends)
+}
+
 /// What is left of the core, and of the sinks without workers (`close_all`), by a worker with all shares. Takes no memory.
 pub(crate) fn close_with<R, D, E, C, L, O>(
     worker: Worker<R, C, L, O>,
@@ -172,7 +181,7 @@ where
     ensures parts { AreParts L.began (C.told result.recorder) D.now E.told E.faults E.fulls (map unworked lone.old.items) lanes.new.items }
     ensures caused { IsCaused result.fault (C.faults result.recorder) (C.fulls result.recorder) }
 {
-    let CoreParts { log, ends, .. } = worker.into_core();
+    let (log, ends) = without_core(worker.into_core());
     let met = close_all(lone, ends, lanes, turns);
     CoreLeft {
         recorder: log.recorder,

@@ -62,6 +62,23 @@ where
     G: Gate,
     O: Outlet + Drop,
 {
+    // What stands first in the client's line is to be sent next. Where nothing does, how it goes on.
+    fn fetch(&mut self, sending: &mut Option<Rest>) -> Option<Flow>
+        ensures seat { self.new.worker.seat.parts ≡ self.old.worker.seat.parts }
+    {
+        match self.worker.next_packet(self.conn) {
+            Next::Packet(rest) => {
+                *sending = Some(rest);
+                None
+            }
+            Next::Nothing => {
+                *sending = None;
+                Some(Flow::On)
+            }
+            Next::Ended => Some(Flow::Ended),
+        }
+    }
+
     // Sends what waits for the client and nobody else has sent, as far as its link is ready.
     fn send(&mut self, sending: &mut Option<Rest>) -> Flow
         ensures seat { self.new.worker.seat.parts ≡ self.old.worker.seat.parts }
@@ -69,14 +86,11 @@ where
         let rt = self.worker.rt;
         for _ in rt.forever() {
             match send_rest(&mut self.link, sending) {
-                Sent::Bytes(0) => match self.worker.next_packet(self.conn) {
-                    Next::Packet(rest) => *sending = Some(rest),
-                    Next::Nothing => {
-                        *sending = None;
-                        return Flow::On;
+                Sent::Bytes(0) => {
+                    if let Some(flow) = self.fetch(sending) {
+                        return flow;
                     }
-                    Next::Ended => return Flow::Ended,
-                },
+                }
                 Sent::Bytes(_) => {}
                 Sent::NotYet => return Flow::On,
                 Sent::Failed => return Flow::Ended,
@@ -131,19 +145,27 @@ where
     }
 
     // All rounds until the client or the server ends.
-    fn serve(&mut self)
+    fn rounds(&mut self, sending: &mut Option<Rest>, decoder: &mut Decoder, piece: &mut [u8])
+        requires { 0 < length piece.old }
         ensures seat { self.new.worker.seat.parts ≡ self.old.worker.seat.parts }
     {
         let rt = self.worker.rt;
-        let mut decoder = Decoder::new(self.worker.alloc);
-        let mut sending = None;
-        let mut piece = [0u8; PIECE];
         for _ in rt.forever() {
-            if self.round(&mut sending, &mut decoder, &mut piece) == Flow::Ended {
+            if self.round(sending, decoder, piece) == Flow::Ended {
                 return;
             }
         }
         unreachable!()
+    }
+
+    // Serves the client until it or the server ends.
+    fn serve(&mut self)
+        ensures seat { self.new.worker.seat.parts ≡ self.old.worker.seat.parts }
+    {
+        let mut decoder = Decoder::new(self.worker.alloc);
+        let mut sending = None;
+        let mut piece = [0u8; PIECE];
+        self.rounds(&mut sending, &mut decoder, &mut piece);
     }
 }
 

@@ -1,6 +1,6 @@
 //! What a serving call has under way: its workers, from their start to their end.
 ghost use Rattle.std.specs.Prelude.{◌≡◌, ◌+◌, ◌≤◌, ◌<◌, ◌++◌, ◌∷◌, [], List, length, map, true, IfErr, OnOk, IsSome, vec_capacity};
-ghost use Rattle.std.specs.VecDeque.{deque_capacity};
+ghost use Rattle.std.specs.VecDeque.{deque_len, deque_capacity};
 ghost use Rattle.px_server.specs.Hosted.{IsLater, IsCauseOf, IsOwn};
 ghost use Rattle.px_server.specs.Accepting.{HasRoom, Starts, Takes};
 ghost use Rattle.px_session.specs.declared.header.SinkSpec.{SinkSpec};
@@ -14,9 +14,9 @@ use crate::gate::Gate;
 use crate::left::close_with;
 use crate::lone::Lone;
 use crate::served::{LanePart, Served, Stop, decided, next_link, woven};
-use crate::starting::{ask, start_client, start_next};
+use crate::starting::{add_client, ask, connect, start_next};
 use px_core_cell::Seats;
-use px_desk::{CoreStop, Worker};
+use px_desk::Worker;
 use px_ends::Host;
 use px_tape::SinkTurns;
 use px_types::{ConnId, Mem};
@@ -53,6 +53,20 @@ where
     G: Gate + Drop + Send + Sync + 'static,
     L: Seats + Send + Sync + 'static,
 {
+    // Joins a client's worker, where the client has gone.
+    fn settle(&mut self, client: Client<R, H::L, H::C, L, G, H::O>)
+        requires { deque_len self.old.clients < deque_capacity self.old.clients }
+        ensures parts { self.new.worker.seat.parts + length self.new.clients.items ≡ self.old.worker.seat.parts + length self.old.clients.items + 1 }
+        ensures fewer { length self.new.clients.items ≤ length self.old.clients.items + 1 }
+        ensures sinks { self.new.sinks ≡ self.old.sinks }
+    {
+        if self.worker.has_line(client.conn) {
+            self.clients.push_back_reserved(client);
+        } else {
+            client.join(&mut self.worker);
+        }
+    }
+
     // Joins the workers of clients that have gone.
     fn reap(&mut self)
         ensures parts { self.new.worker.seat.parts + length self.new.clients.items ≡ self.old.worker.seat.parts + length self.old.clients.items }
@@ -63,11 +77,7 @@ where
             let Some(client) = self.clients.pop_front() else {
                 return;
             };
-            if self.worker.has_line(client.conn) {
-                self.clients.push_back_reserved(client);
-            } else {
-                client.join(&mut self.worker);
-            }
+            self.settle(client);
         }
     }
 
@@ -89,9 +99,7 @@ where
         ensures sinks { self.new.sinks ≡ self.old.sinks }
     {
         self.clients.reserve(1)?;
-        let client = start_client(&mut self.worker, &self.gate, conn, link)?;
-        self.clients.push_back_reserved(client);
-        Ok(())
+        add_client(&mut self.worker, &self.gate, &mut self.clients, conn, link)
     }
 
     // Takes in a client.
@@ -104,13 +112,7 @@ where
     {
         let conn = ConnId(self.next);
         self.next = self.next.wrapping_add(1);
-        if self.worker.open_line(conn, outlet).is_err() {
-            return Err(Stop::Memory);
-        }
-        // a core that has made as many steps as are counted serves no more clients, and nothing has failed
-        if let Err(CoreStop::Unrecorded(fault)) = self.worker.connect(conn) {
-            return Err(Stop::Unrecorded(fault));
-        }
+        connect(&mut self.worker, conn, outlet)?;
         if self.start_client(conn, link).is_err() {
             let _closed = self.worker.close(conn);
             self.worker.shut_line(conn);

@@ -1,6 +1,7 @@
 //! The sinks of a server: what the host makes for each, and their cells.
-ghost use Rattle.std.specs.Prelude.{◌≡◌, ℕ, ◌+◌, ◌≤◌, ◌<◌, ◌++◌, ◌∷◌, [], List, length, map, IfOk, IfErr, OnOk, OnErr, IfSome, true};
+ghost use Rattle.std.specs.Prelude.{◌≡◌, ℕ, ◌+◌, ◌≤◌, ◌<◌, ◌++◌, ◌∷◌, [], List, length, map, IfOk, IfErr, OnOk, OnErr, IfSome, true, vec_len, vec_capacity};
 ghost use Rattle.std.specs.Option.{is_some};
+ghost use Rattle.std.specs.VecDeque.{deque_len, deque_capacity};
 ghost use Rattle.px_ends.specs.Host.{IsNewDevice, IsNewRecorder};
 ghost use Rattle.px_ends.specs.Device.{IsShape};
 ghost use Rattle.px_sample.specs.Format.{frame_size_of};
@@ -14,7 +15,7 @@ ghost use Rattle.px_server.specs.Hosted.{stop_by, IsLater, HasLent, IsCauseOf};
 ghost use Rattle.px_server.specs.declared.sink_work.Met.TheVariants.{Nothing};
 ghost use Rattle.px_server.specs.Parts.{start_of, sink_for, starts_of, starts_from, IsFrontOf, Adds};
 ghost use Rattle.px_server.specs.Fresh.{IsFresh};
-ghost use Rattle.px_server.specs.Working.{IsHonest, boxes_at, boxes_in};
+ghost use Rattle.px_server.specs.Working.{IsHonest, boxes_at, boxes_in, tapes_in};
 ghost use Rattle.px_server.specs.Taped.{AreTaping};
 
 use crate::lone::Lone;
@@ -25,7 +26,7 @@ use px_core_cell::{CoreEnd, CoreEnds};
 use px_ends::{Device, DeviceShape, Host, HostFault};
 use px_lane::Lane;
 use px_lane_cell::{Boxes, LaneCell, LaneEnds, LanePasses};
-use px_mail::Mailbox;
+use px_mail::Shared;
 use px_msg::{Msg, Notice};
 use px_session::{Header, SinkSpec};
 use px_stream::Stream;
@@ -33,7 +34,6 @@ use px_tape::SinkTurns;
 use px_types::{Mem, SinkId};
 use std::alloc::Global;
 use std::collections::VecDeque;
-use std::sync::Arc;
 
 // The shape of a sink's device.
 fn shape_of(sink: &SinkSpec) -> DeviceShape
@@ -56,21 +56,17 @@ fn mailboxes(alloc: Global, sink: &SinkSpec) -> Mem<(LaneEnds, CoreEnd)>
     ensures core { IfOk result (λ made. ends_of made.1 ≡ fresh_ends sink.now) }
     ensures boxes { IfOk result (λ made. boxes_at made.0 ≡ boxes_of made.1) }
 {
-    let (inbox, post_message, take_message) = Mailbox::<Msg<Stream>>::new(alloc, sink.spec)?;
-    let (outbox, post_notice, take_notice) = Mailbox::<Notice<Stream>>::new(alloc, ())?;
-    let inbox = Arc::new(alloc, inbox)?;
-    let outbox = Arc::new(alloc, outbox)?;
-    let core = CoreEnd::new(
-        Arc::try_clone(&inbox)?,
-        Arc::try_clone(&outbox)?,
-        post_message,
-        take_notice,
-    );
+    let inbox = Shared::<Msg<Stream>>::new(alloc, sink.spec)?;
+    let outbox = Shared::<Notice<Stream>>::new(alloc, ())?;
+    let core = CoreEnd::new(inbox.twin, outbox.twin, inbox.post, outbox.take);
     let lane = LaneEnds {
-        boxes: Boxes { inbox, outbox },
+        boxes: Boxes {
+            inbox: inbox.mailbox,
+            outbox: outbox.mailbox,
+        },
         passes: LanePasses {
-            take: take_message,
-            post: post_notice,
+            take: inbox.take,
+            post: outbox.post,
         },
     };
     Ok((lane, core))
@@ -123,6 +119,55 @@ fn turns_of(alloc: Global, sink: SinkId, taped: bool) -> Option<SinkTurns>
     }
 }
 
+// A sink that no worker has had yet, with the core's ends of its mailboxes.
+fn new_lone<H: Host>(
+    alloc: Global,
+    taped: bool,
+    index: SinkId,
+    sink: &SinkSpec,
+    host: &mut H,
+) -> Result<(Lone<H::D, H::R>, CoreEnd), Stop>
+    requires { (earlier : List Spec) × IsSink earlier sink.now }
+    ensures later { IsLater (H.now host.old) (H.now host.new) }
+    ensures lent { OnOk result ((n : ℕ) → HasLent n 0 (H.now host.old) → HasLent (n + 1) 0 (H.now host.new)) }
+    ensures kept { OnErr result ((n : ℕ) → HasLent n 0 (H.now host.old) → HasLent n 0 (H.now host.new)) }
+    ensures cause { IfErr result (λ stop. IsCauseOf stop (H.now host.old) (H.now host.new)) }
+    ensures start { IfOk result (λ made. start_of made.0 ≡ record { index = index; sink = sink_for sink.now }) }
+    ensures core { IfOk result (λ made. ends_of made.1 ≡ fresh_ends sink.now) }
+    ensures boxes { IfOk result (λ made. boxes_in made.0 ≡ boxes_of made.1) }
+    ensures tapes { IfOk result (λ made. tapes_in made.0 ≡ taped) }
+{
+    let (device, recorder) = match outside(alloc, sink, host) {
+        Ok(made) => made,
+        Err(fault) => return Err(stop_by(fault)),
+    };
+    let Ok((cell, core)) = cell_of(alloc, sink, device, recorder) else {
+        return Err(Stop::Memory);
+    };
+    let lone = Lone {
+        sink: index,
+        cell,
+        met: Met::Nothing,
+        turns: turns_of(alloc, index, taped),
+    };
+    Ok((lone, core))
+}
+
+// Room for one sink more.
+fn reserve_one<D: Device + Drop, E: Recorder<LaneEntry> + Drop>(
+    lone: &mut VecDeque<Lone<D, E>>,
+    ends: &mut CoreEnds,
+) -> Mem<()>
+    ensures lone { lone.new.items ≡ lone.old.items }
+    ensures ends { ends.new.items ≡ ends.old.items }
+    ensures room { OnOk result (deque_len lone.new < deque_capacity lone.new) }
+    ensures ends_room { OnOk result (vec_len ends.new < vec_capacity ends.new) }
+{
+    lone.reserve(1)?;
+    ends.reserve(1)?;
+    Ok(())
+}
+
 // One sink. Where it can't be made, those that are there stay.
 fn make_one<H: Host>(
     alloc: Global,
@@ -143,24 +188,12 @@ fn make_one<H: Host>(
     ensures tapes { OnOk result (taped ≡ true → AreTaping lone.old.items → AreTaping lone.new.items) }
     ensures stays { OnErr result (lone.new.items ≡ lone.old.items) }
 {
-    if lone.reserve(1).is_err() || ends.reserve(1).is_err() {
+    if reserve_one(lone, ends).is_err() {
         return Err(Stop::Memory);
     }
-    let (device, recorder) = match outside(alloc, sink, host) {
-        Ok(made) => made,
-        Err(fault) => return Err(stop_by(fault)),
-    };
-    let Ok((cell, core)) = cell_of(alloc, sink, device, recorder) else {
-        return Err(Stop::Memory);
-    };
-    let sink = SinkId(index);
-    lone.push_back_reserved(Lone {
-        sink,
-        cell,
-        met: Met::Nothing,
-        turns: turns_of(alloc, sink, taped),
-    });
-    ends.push(core).unwrap();
+    let (one, core) = new_lone(alloc, taped, SinkId(index), sink, host)?;
+    lone.push_back_reserved(one);
+    ends.push_reserved(core);
     Ok(())
 }
 

@@ -1,7 +1,7 @@
 //! The starts of workers.
-ghost use Rattle.std.specs.Prelude.{◌≡◌, ◌+◌, ◌<◌, ◌++◌, ◌∷◌, [], length, IfOk, IfErr, OnOk, OnErr};
-ghost use Rattle.std.specs.VecDeque.{deque_capacity};
-ghost use Rattle.px_server.specs.Hosted.{IsLater, IsCauseOf};
+ghost use Rattle.std.specs.Prelude.{◌≡◌, ◌+◌, ◌≤◌, ◌<◌, ◌++◌, ◌∷◌, [], length, IfOk, IfErr, OnOk, OnErr};
+ghost use Rattle.std.specs.VecDeque.{deque_len, deque_capacity};
+ghost use Rattle.px_server.specs.Hosted.{IsLater, IsCauseOf, IsOwn};
 ghost use Rattle.px_server.specs.Working.{IsHonest, AreTaped};
 
 use crate::crew::{Client, SinkRun};
@@ -12,7 +12,7 @@ use crate::served::Stop;
 use crate::sink_work::SinkWork;
 use px_annals::{CoreEntry, LaneEntry, Recorder};
 use px_core_cell::Seats;
-use px_desk::Worker;
+use px_desk::{CoreStop, Worker};
 use px_ends::{Device, Host, Link, Outlet};
 use px_jobs::{Spawned, start};
 use px_types::{ConnId, Mem, NoMemory};
@@ -75,6 +75,39 @@ where
     )
 }
 
+// The job of a worker at a sink.
+fn job_of<R, D, E, C, L, G, O>(
+    worker: Worker<R, C, L, O>,
+    gate: Arc<G>,
+    lone: Lone<D, E>,
+) -> SinkWork<R, D, E, C, L, G, O>
+where
+    D: Device,
+    E: Recorder<LaneEntry>,
+    C: Recorder<CoreEntry>,
+    L: Seats,
+    O: Outlet,
+    ensures worker { result.worker ≡ worker }
+    ensures sink { record { sink = result.sink; cell = result.cell; met = result.met; turns = result.turns } ≡ lone }
+    ensures honest { IsHonest D.now E.faults E.fulls result.cell result.met }
+    ensures taped { AreTaped E.told result.cell.recorder result.turns }
+{
+    let Lone {
+        sink,
+        cell,
+        met,
+        turns,
+    } = lone;
+    SinkWork {
+        worker,
+        sink,
+        cell,
+        gate,
+        met,
+        turns,
+    }
+}
+
 // Starts a worker with a sink. Where that can't be, both come back.
 fn start_with<R, D, E, C, L, G, O>(
     worker: Worker<R, C, L, O>,
@@ -95,21 +128,7 @@ where
 {
     let rt = worker.rt;
     let alloc = worker.alloc;
-    let Lone {
-        sink,
-        cell,
-        met,
-        turns,
-    } = lone;
-    let job = SinkWork {
-        worker,
-        sink,
-        cell,
-        gate,
-        met,
-        turns,
-    };
-    match start(&rt, alloc, job) {
+    match start(&rt, alloc, job_of(worker, gate, lone)) {
         Spawned::Started(running) => Ok(SinkRun { running }),
         Spawned::Refused(job) | Spawned::NoMemory(job) => Err(taken_apart(job)),
     }
@@ -145,13 +164,37 @@ where
     }
 }
 
-/// Starts a worker with a client's link, with one share of this worker's. Where that can't be, the share comes back.
-pub(crate) fn start_client<R, A, C, L, G, O>(
+/// Opens a client's line, and has it connect.
+pub(crate) fn connect<R, C, L, O>(
     worker: &mut Worker<R, C, L, O>,
-    gate: &Arc<G>,
+    conn: ConnId,
+    outlet: Option<O>,
+) -> Result<(), Stop>
+where
+    R: Wait + Copy,
+    C: Recorder<CoreEntry> + Drop,
+    L: Seats,
+    O: Outlet + Drop,
+    ensures parts { worker.new.seat.parts ≡ worker.old.seat.parts }
+    ensures cause { IfErr result IsOwn }
+{
+    if worker.open_line(conn, outlet).is_err() {
+        return Err(Stop::Memory);
+    }
+    // a core that has made as many steps as are counted serves no more clients, and nothing has failed
+    if let Err(CoreStop::Unrecorded(fault)) = worker.connect(conn) {
+        return Err(Stop::Unrecorded(fault));
+    }
+    Ok(())
+}
+
+// Starts a worker with a client's link. Where that can't be, the worker comes back.
+fn start_link<R, A, C, L, G, O>(
+    worker: Worker<R, C, L, O>,
+    gate: Arc<G>,
     conn: ConnId,
     link: A,
-) -> Mem<Client<R, A, C, L, G, O>>
+) -> Result<Client<R, A, C, L, G, O>, Worker<R, C, L, O>>
 where
     R: Threads + Wait + Copy + Drop + Send + Sync + 'static,
     A: Link + Drop + Send + 'static,
@@ -159,24 +202,80 @@ where
     L: Seats + Send + Sync + 'static,
     G: Gate + Drop + Send + Sync + 'static,
     O: Outlet + Drop + Send + 'static,
-    requires { 1 < worker.old.seat.parts }
-    ensures ok { OnOk result (worker.new.seat.parts + 1 ≡ worker.old.seat.parts) }
-    ensures err { OnErr result (worker.new.seat.parts ≡ worker.old.seat.parts) }
+    requires { worker.seat.parts ≡ 1 }
+    ensures { IfErr result (λ back. back.seat.parts ≡ 1) }
 {
-    let (other, gate) = new_worker(worker, gate)?;
+    let rt = worker.rt;
+    let alloc = worker.alloc;
     let job = LinkWork {
-        worker: other,
+        worker,
         conn,
         link,
         gate,
     };
-    match start(&worker.rt, worker.alloc, job) {
+    match start(&rt, alloc, job) {
         Spawned::Started(running) => Ok(Client { conn, running }),
-        Spawned::Refused(job) | Spawned::NoMemory(job) => {
-            worker.seat.merge(job.worker.seat);
+        Spawned::Refused(job) | Spawned::NoMemory(job) => Err(job.worker),
+    }
+}
+
+/// Starts a worker with a client's link, with one share of this worker's, where there is room for it. Where that can't be, the share comes
+/// back.
+pub(crate) fn add_client<R, A, C, L, G, O>(
+    worker: &mut Worker<R, C, L, O>,
+    gate: &Arc<G>,
+    clients: &mut VecDeque<Client<R, A, C, L, G, O>>,
+    conn: ConnId,
+    link: A,
+) -> Mem<()>
+where
+    R: Threads + Wait + Copy + Drop + Send + Sync + 'static,
+    A: Link + Drop + Send + 'static,
+    C: Recorder<CoreEntry> + Drop + Send + 'static,
+    L: Seats + Send + Sync + 'static,
+    G: Gate + Drop + Send + Sync + 'static,
+    O: Outlet + Drop + Send + 'static,
+    requires seats { 1 < worker.old.seat.parts }
+    requires room { deque_len clients.old < deque_capacity clients.old }
+    ensures parts { worker.new.seat.parts + length clients.new.items ≡ worker.old.seat.parts + length clients.old.items }
+    ensures more { length clients.new.items ≤ length clients.old.items + 1 }
+{
+    let (other, gate) = new_worker(worker, gate)?;
+    match start_link(other, gate, conn, link) {
+        Ok(client) => {
+            clients.push_back_reserved(client);
+            Ok(())
+        }
+        Err(other) => {
+            worker.seat.merge(other.seat);
             Err(NoMemory)
         }
     }
+}
+
+// Starts a sink's worker, for which there is room. Where that can't be, the sink comes back.
+fn add_sink<R, D, E, C, L, G, O>(
+    worker: &mut Worker<R, C, L, O>,
+    gate: &Arc<G>,
+    sinks: &mut VecDeque<SinkRun<R, D, E, C, L, G, O>>,
+    one: Lone<D, E>,
+) -> Result<(), Lone<D, E>>
+where
+    R: Threads + Wait + Copy + Drop + Send + Sync + 'static,
+    D: Device + Drop + Send + 'static,
+    E: Recorder<LaneEntry> + Drop + Send + 'static,
+    C: Recorder<CoreEntry> + Drop + Send + 'static,
+    L: Seats + Send + Sync + 'static,
+    G: Gate + Drop + Send + Sync + 'static,
+    O: Outlet + Drop + Send + 'static,
+    requires seats { 1 < worker.old.seat.parts }
+    requires room { deque_len sinks.old < deque_capacity sinks.old }
+    ensures ok { OnOk result ((sinks.new.items ≡ sinks.old.items ++ one ∷ []) × (worker.new.seat.parts + 1 ≡ worker.old.seat.parts)) }
+    ensures err { IfErr result (λ back. (back ≡ one) × (sinks.new.items ≡ sinks.old.items) × (worker.new.seat.parts ≡ worker.old.seat.parts)) }
+{
+    let run = start_sink(worker, gate, one)?;
+    sinks.push_back_reserved(run);
+    Ok(())
 }
 
 /// Starts the worker of the next sink, of those that there are. Where that can't be, the sink stays.
@@ -205,11 +304,8 @@ where
     let Some(one) = lone.pop_front() else {
         unreachable!()
     };
-    match start_sink(worker, gate, one) {
-        Ok(run) => {
-            sinks.push_back_reserved(run);
-            Ok(())
-        }
+    match add_sink(worker, gate, sinks, one) {
+        Ok(()) => Ok(()),
         Err(one) => {
             lone.push_front_reserved(one);
             Err(NoMemory)

@@ -5,6 +5,45 @@ use Rattle.px_server.proofs.Later.{later_refl, lent_same, lent_less}
 use Rattle.px_server.proofs.Taping.{untaped}
 use Rattle.px_server.proofs.call.serve_made.Goals as goal
 
+pub worker_of-requires-clause-header : goal.worker_of-requires-clause-header
+worker_of-requires-clause-header g c = c.requires.header
+
+pub worker_of-requires-clause-name : goal.worker_of-requires-clause-name
+worker_of-requires-clause-name g c = c.requires.name
+
+pub worker_of-requires-clause-parts : goal.worker_of-requires-clause-parts
+worker_of-requires-clause-parts g c = c.requires.parts
+
+pub worker_of-requires-clause-began : goal.worker_of-requires-clause-began
+worker_of-requires-clause-began g c = c.requires.began
+
+pub worker_of-requires-clause-boxes : goal.worker_of-requires-clause-boxes
+worker_of-requires-clause-boxes g c = c.requires.boxes
+
+pub worker_of-requires-clause-ends : goal.worker_of-requires-clause-ends
+worker_of-requires-clause-ends g c = c.requires.ends
+
+pub worker_of-requires-clause-none : goal.worker_of-requires-clause-none
+worker_of-requires-clause-none g c = c.requires.untold
+
+pub run-requires-clause-none : goal.run-requires-clause-none
+run-requires-clause-none g c κs within = c.requires.none
+
+pub run-requires-clause-room : goal.run-requires-clause-room
+run-requires-clause-room g c κs within = c.requires.room
+
+pub run-requires-clause-no_turns : goal.run-requires-clause-no_turns
+run-requires-clause-no_turns g c κs within = c.requires.no_turns
+
+pub run-requires-clause-turns_room : goal.run-requires-clause-turns_room
+run-requires-clause-turns_room g c κs within = c.requires.turns_room
+
+pub run-requires-clause-taping : goal.run-requires-clause-taping
+run-requires-clause-taping g c κs within = c.requires.taping
+
+pub run-requires-clause-sinks : goal.run-requires-clause-sinks
+run-requires-clause-sinks g c κs within = (_, c.requires.sinks)
+
 pub run-requires-clause-few : goal.run-requires-clause-few
 run-requires-clause-few g c κs within =
     let sinks = c.args.header.now.sinks in

@@ -1,5 +1,6 @@
-use Rattle.std.proofs.Common.{◌∙◌, sym}
+use Rattle.std.proofs.Common.{◌∙◌, ap, map, sym, subst}
 use Rattle.px_core_cell.specs.Boxes.{boxes_of}
+use Rattle.px_core_cell.specs.Cause.{IsCaused}
 use Rattle.px_core_cell.specs.Cell.{cell_of}
 use Rattle.px_server.specs.Parts.{AreTold}
 use Rattle.px_server.specs.Working.{boxes_in}
@@ -8,7 +9,7 @@ use Rattle.px_server.proofs.Ending.{replay_told}
 use Rattle.px_server.proofs.left.close_with.Goals as goal
 
 pub close_all-met-requires-clause-boxes : goal.close_all-met-requires-clause-boxes
-close_all-met-requires-clause-boxes g c = c.requires.boxes ∙ sym c.into_core-log.ensures.boxes
+close_all-met-requires-clause-boxes g c = c.requires.boxes ∙ sym (ap (λ (e : _). map boxes_of e.items) c.without_core-log.ensures.ends ∙ c.into_core.ensures.boxes)
 
 pub close_all-met-requires-clause-none : goal.close_all-met-requires-clause-none
 close_all-met-requires-clause-none g c = c.requires.none
@@ -31,13 +32,17 @@ returns-clause-met g c = c.close_all-met.ensures.met
 pub returns-clause-parts : goal.returns-clause-parts
 returns-clause-parts g c =
     let lone = c.args.lone.now.items in
-    let core = c.into_core-log.result in
+    let core = c.into_core.result in
+    let log = c.without_core-log.result.0 in
+    let ends = c.without_core-log.result.1 in
     let recorded = g.C.Recorder.told core.log.recorder in
-    let boxes = c.requires.boxes ∙ sym c.into_core-log.ensures.boxes in
+    let boxes = c.requires.boxes ∙ sym c.into_core.ensures.boxes in
     let told : AreTold g.L.Seats.began recorded lone core.ends.items =
     all_told g.L.Seats.began recorded 0 lone core.ends.items c.requires.sinks.0 c.requires.sinks.1 (same_count boxes_in boxes_of lone core.ends.items boxes)
-    (replay_told g.L.Seats.began (cell_of core) recorded c.into_core-log.ensures.history.replay) in
-    c.close_all-met.ensures.parts g.L.Seats.began recorded told
+    (replay_told g.L.Seats.began (cell_of core) recorded c.into_core.ensures.history.replay) in
+    c.close_all-met.ensures.parts g.L.Seats.began (g.C.Recorder.told log.recorder)
+    (subst (λ (e : _). AreTold g.L.Seats.began (g.C.Recorder.told log.recorder) lone e.items) (sym c.without_core-log.ensures.ends)
+    (subst (λ (l : _). AreTold g.L.Seats.began (g.C.Recorder.told l.recorder) lone core.ends.items) (sym c.without_core-log.ensures.log) told))
 
 pub returns-clause-caused : goal.returns-clause-caused
-returns-clause-caused g c = c.into_core-log.ensures.caused
+returns-clause-caused g c = subst (λ (l : _). IsCaused l.fault (g.C.Recorder.faults l.recorder) (g.C.Recorder.fulls l.recorder)) (sym c.without_core-log.ensures.log) c.into_core.ensures.caused

@@ -1,4 +1,4 @@
-use Rattle.std.proofs.Common.{◌≡◌, ◌+◌, ◌≤◌, None, length}
+use Rattle.std.proofs.Common.{◌+◌, ◌≤◌, None, length}
 use Rattle.std.specs.Prelude.{vec_len, vec_capacity}
 use Rattle.px_annals.specs.declared.stream.PlainStream.{PlainStream}
 use Rattle.px_state.specs.State.{State}

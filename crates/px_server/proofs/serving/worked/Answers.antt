@@ -3,6 +3,18 @@ use Rattle.px_server.specs.Parts.{start_of}
 use Rattle.px_server.specs.Working.{boxes_in, tapes_in}
 use Rattle.px_server.proofs.serving.worked.Goals as goal
 
+pub work-stop-requires-clause-idle : goal.work-stop-requires-clause-idle
+work-stop-requires-clause-idle g c κs within = (c.new.ensures.items, c.new-2.ensures.items)
+
+pub work-stop-requires-clause-seats : goal.work-stop-requires-clause-seats
+work-stop-requires-clause-seats g c κs within = c.requires.seats
+
+pub work-stop-requires-clause-few : goal.work-stop-requires-clause-few
+work-stop-requires-clause-few g c κs within = c.requires.few
+
+pub joined-requires-clause-parts : goal.joined-requires-clause-parts
+joined-requires-clause-parts g c κs within = c.work-stop.ensures.parts
+
 pub returns-clause-starts : goal.returns-clause-starts
 returns-clause-starts g c = c.joined.ensures.starts ∙ ap (map start_of) c.work-stop.ensures.all
 

@@ -1,4 +1,4 @@
-use Rattle.std.proofs.Common.{rules, ◌≡◌, ◌∙◌, ◌++◌, ◌∷◌, [], map, ap, refl}
+use Rattle.std.proofs.Common.{rules, ◌≡◌, ◌∷◌, map, ap, refl}
 use Rattle.std.proofs.lemmas.Result.{on_ok_weaker}
 use Rattle.px_core_cell.specs.Cell.{ends_of}
 use Rattle.px_core_cell.specs.History.{fresh_ends}

@@ -1,4 +1,4 @@
-use Rattle.std.proofs.Common.{◌≡◌, ◌++◌, ◌∙◌, ap, refl, List}
+use Rattle.std.proofs.Common.{◌++◌, ◌∙◌, ap, refl, List}
 use Rattle.px_server.proofs.Going.{put_back, moved_over, fewer_left, parts_over, parts_same}
 use Rattle.px_server.proofs.starting.start_next.Goals as goal
 
@@ -13,12 +13,12 @@ returns-in_err-reserve-clause-capacity g c = refl
 
 pub returns-in-Ok-clause-parts : goal.returns-in-Ok-clause-parts
 returns-in-Ok-clause-parts g c =
-    parts_over c.start_sink.new.worker.seat.parts c.args.worker.now.seat.parts c.args.lone.now.items c.pop_front.new.self.items c.in-Some.one c.in-Ok.ensures.ok.1 c.in-Some.ensures.items
+    parts_over c.add_sink.new.worker.seat.parts c.args.worker.now.seat.parts c.args.lone.now.items c.pop_front.new.self.items c.in-Some.one c.in-Ok.ensures.ok.1 c.in-Some.ensures.items
 
 pub returns-in-Ok-clause-all : goal.returns-in-Ok-clause-all
 returns-in-Ok-clause-all g c =
-    moved_over c.args.sinks.now.items c.reserve.new.self.items c.push_back_reserved.new.self.items c.args.lone.now.items c.pop_front.new.self.items c.in-Some.one c.in-Ok.run'
-    c.reserve.ensures.items c.push_back_reserved.ensures.items c.in-Ok.ensures.ok.0 c.in-Some.ensures.items
+    moved_over c.args.sinks.now.items c.reserve.new.self.items c.add_sink.new.sinks.items c.args.lone.now.items c.pop_front.new.self.items c.in-Some.one c.in-Some.one
+    c.reserve.ensures.items c.in-Ok.ensures.ok.0 refl c.in-Some.ensures.items
 
 pub returns-in-Ok-clause-capacity : goal.returns-in-Ok-clause-capacity
 returns-in-Ok-clause-capacity g c = c.pop_front.ensures.capacity
@@ -28,12 +28,12 @@ returns-in-Ok-clause-fewer g c = fewer_left c.args.lone.now.items c.pop_front.ne
 
 pub returns-in-Err-clause-parts : goal.returns-in-Err-clause-parts
 returns-in-Err-clause-parts g c =
-    parts_same c.start_sink.new.worker.seat.parts c.args.worker.now.seat.parts c.args.lone.now.items c.push_front_reserved.new.self.items c.in-Err.ensures.err.1
+    parts_same c.add_sink.new.worker.seat.parts c.args.worker.now.seat.parts c.args.lone.now.items c.push_front_reserved.new.self.items c.in-Err.ensures.err.2
     (put_back c.args.lone.now.items c.pop_front.new.self.items c.push_front_reserved.new.self.items c.in-Some.one c.in-Err.one c.in-Some.ensures.items c.in-Err.ensures.err.0 c.push_front_reserved.ensures.items)
 
 pub returns-in-Err-clause-all : goal.returns-in-Err-clause-all
 returns-in-Err-clause-all g c =
-    ap (λ (l : List _). l ++ c.push_front_reserved.new.self.items) c.reserve.ensures.items
+    ap (λ (l : List _). l ++ c.push_front_reserved.new.self.items) (c.in-Err.ensures.err.1 ∙ c.reserve.ensures.items)
     ∙ ap (λ (l : List _). c.args.sinks.now.items ++ l)
     (put_back c.args.lone.now.items c.pop_front.new.self.items c.push_front_reserved.new.self.items c.in-Some.one c.in-Err.one c.in-Some.ensures.items c.in-Err.ensures.err.0 c.push_front_reserved.ensures.items)
 

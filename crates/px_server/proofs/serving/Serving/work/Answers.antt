@@ -1,4 +1,4 @@
-use Rattle.std.proofs.Common.{◌≡◌, ◌+◌, ◌++◌, ◌∙◌, length, List, ap, arith}
+use Rattle.std.proofs.Common.{◌≡◌, ◌++◌, ◌∙◌, length, ap, arith}
 use Rattle.px_server.proofs.Accepting.{all_started, parts_started}
 use Rattle.px_server.proofs.Later.{later_later, cause_later}
 use Rattle.px_server.proofs.serving.Serving.work.Goals as goal

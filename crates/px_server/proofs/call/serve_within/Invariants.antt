@@ -1,7 +1,7 @@
 use Rattle.std.proofs.Common.{map}
 use Rattle.px_state.specs.State.{new_state}
 use Rattle.px_core_cell.specs.Boxes.{boxes_of}
-use Rattle.px_server.proofs.call.serve.Given as goal
+use Rattle.px_server.proofs.call.serve_within.Given as goal
 
 abbrev pub ghosts-serve_made-L-Ledger : goal.ghosts-serve_made-L-Ledger
 ghosts-serve_made-L-Ledger g a = record { name = a.blank.name; parts = a.blank.parts }

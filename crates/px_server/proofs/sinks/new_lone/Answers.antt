@@ -1,0 +1,48 @@
+use Rattle.std.proofs.Common.{ap, sym, subst}
+use Rattle.px_lane_cell.specs.History.{unturned}
+use Rattle.px_server.specs.Hosted.{IsCauseOf}
+use Rattle.px_server.proofs.Making.{lent_fewer}
+use Rattle.px_server.proofs.Parts.{begun}
+use Rattle.px_server.proofs.sinks.new_lone.Goals as goal
+
+pub cell_of-requires-clause-sink : goal.cell_of-requires-clause-sink
+cell_of-requires-clause-sink g c = c.requires
+
+pub cell_of-requires-clause-fresh : goal.cell_of-requires-clause-fresh
+cell_of-requires-clause-fresh g c = c.in-Ok.ensures.fresh
+
+pub returns-in-Err-clause-later : goal.returns-in-Err-clause-later
+returns-in-Err-clause-later g c = c.outside.ensures.later
+
+pub returns-in-Err-clause-kept : goal.returns-in-Err-clause-kept
+returns-in-Err-clause-kept g c = c.in-Err.ensures.kept
+
+pub returns-in-Err-clause-cause : goal.returns-in-Err-clause-cause
+returns-in-Err-clause-cause g c = subst (λ (s : _). IsCauseOf s (g.H.Host.now c.args.host.now) (g.H.Host.now c.outside.new.host)) (sym c.stop_by.ensures) c.in-Err.ensures.cause
+
+pub returns-in_default-clause-later : goal.returns-in_default-clause-later
+returns-in_default-clause-later g c = c.outside.ensures.later
+
+pub returns-in_default-clause-kept : goal.returns-in_default-clause-kept
+returns-in_default-clause-kept g c = λ n lent. lent_fewer n (g.H.Host.now c.outside.new.host) (c.in-Ok.ensures.lent n lent)
+
+pub returns-in_default-clause-cause : goal.returns-in_default-clause-cause
+returns-in_default-clause-cause g c = tt
+
+pub returns-clause-later : goal.returns-clause-later
+returns-clause-later g c = c.outside.ensures.later
+
+pub returns-clause-lent : goal.returns-clause-lent
+returns-clause-lent g c = c.in-Ok.ensures.lent
+
+pub returns-clause-start : goal.returns-clause-start
+returns-clause-start g c = ap (λ (s : _). begun c.args.index (unturned s)) c.in-Ok-cell_of.ensures.sink
+
+pub returns-clause-core : goal.returns-clause-core
+returns-clause-core g c = c.in-Ok-cell_of.ensures.core
+
+pub returns-clause-boxes : goal.returns-clause-boxes
+returns-clause-boxes g c = c.in-Ok-cell_of.ensures.boxes
+
+pub returns-clause-tapes : goal.returns-clause-tapes
+returns-clause-tapes g c = c.turns_of.ensures.tapes
