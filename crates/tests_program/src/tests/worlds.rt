@@ -1,20 +1,30 @@
+//! A world whose sink has failed.
+ghost use Rattle.std.specs.Prelude.{IfOk};
+ghost use Rattle.px_session.specs.HeaderRules.{IsHeader};
+
 use super::faults::session;
 use px_ends::{Calls, MemSource};
-use px_session::{Event, Reader, Step};
+use px_session::{Event, Header, Reader, Step};
 use px_types::{ConnId, Mem, NoMemory, SinkId, Text};
 use px_world::{World, WorldFault};
 use std::alloc::Global;
 
-// A world before its first event, whose sink's device is one that is to fail.
-fn failing(alloc: Global) -> Mem<World> {
+// The header that stands first in a source.
+fn first_header(reader: &mut Reader, source: &mut MemSource) -> Mem<Header>
+    ensures { IfOk result IsHeader }
+{
+    match reader.next(source) {
+        Ok(Step::Header(header)) => Ok(header),
+        _ => Err(NoMemory),
+    }
+}
+
+// The header of a session.
+fn header_read(alloc: Global) -> Mem<Header>
+    ensures { IfOk result IsHeader }
+{
     let mut source = MemSource::new(Text::from_vec(session(alloc)?), Calls::none(alloc));
-    let mut reader = Reader::new(alloc)?;
-    let Ok(Step::Header(header)) = reader.next(&mut source) else {
-        return Err(NoMemory);
-    };
-    let mut world = World::new(alloc, &header)?;
-    world.stop(SinkId(0));
-    Ok(world)
+    first_header(&mut Reader::new(alloc)?, &mut source)
 }
 
 // How many effects an event has, and how many frames it consumes.
@@ -70,9 +80,21 @@ fn answers(alloc: Global, world: &mut World) -> Mem<bool> {
     )
 }
 
+// Whether a world answers so whose sink's device is to fail before its first event.
+fn failing_answers(alloc: Global, header: &Header) -> Mem<bool>
+    requires { IsHeader header.now }
+{
+    let mut world = World::new(alloc, header)?;
+    world.stop(SinkId(0));
+    let answered = answers(alloc, &mut world);
+    // By a call, so that its fields are dropped by functions of their own.
+    drop(world);
+    answered
+}
+
 #[test]
 fn a_stopped_sink_plays_no_frame_and_answers(rt: HostRuntime) -> Mem<()> {
-    let mut world = failing(rt.alloc())?;
-    assert!(rt; matches!(answers(rt.alloc(), &mut world), Ok(true)));
+    let header = header_read(rt.alloc())?;
+    assert!(rt; matches!(failing_answers(rt.alloc(), &header), Ok(true)));
     Ok(())
 }
