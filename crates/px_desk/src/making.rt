@@ -69,7 +69,7 @@ impl<R: Wait + Copy, C: Recorder<CoreEntry> + Drop, L: Seats, O: Outlet + Drop> 
         }
     }
 
-    // Makes a step once. Where a sweep is owed, the step comes back.
+    // Makes a step once. Where a sweep is owed, that is made, and the step comes back.
     fn attempt(&mut self, step: CoreStep) -> Result<Result<Made, CoreStep>, CoreStop>
         requires lawful { IsAsked step }
         ensures seat { self.new.seat.parts ≡ self.old.seat.parts }
@@ -80,7 +80,7 @@ impl<R: Wait + Copy, C: Recorder<CoreEntry> + Drop, L: Seats, O: Outlet + Drop> 
             Err(StepFault::NoMemory) | Err(StepFault::Recorder(RecordFault::NoMemory)) => {
                 Ok(Ok(Made::NoMemory))
             }
-            Err(StepFault::Owed(back)) => Ok(Err(back)),
+            Err(StepFault::Owed(back)) => self.sweep().map(|()| Err(back)),
             Err(StepFault::Worn) => Err(CoreStop::Worn),
             Err(StepFault::Recorder(fault)) => Err(CoreStop::Unrecorded(fault)),
         }
@@ -96,10 +96,7 @@ impl<R: Wait + Copy, C: Recorder<CoreEntry> + Drop, L: Seats, O: Outlet + Drop> 
         for _ in rt.forever() {
             match self.attempt(step)? {
                 Ok(made) => return Ok(made),
-                Err(back) => {
-                    self.sweep()?;
-                    step = back;
-                }
+                Err(back) => step = back,
             }
         }
         unreachable!()

@@ -108,6 +108,14 @@ impl<R: Wait + Copy, C: Recorder<CoreEntry> + Drop, L: Seats, O: Outlet + Drop> 
         short
     }
 
+    // Ends a client's connection, and makes the sweep that this owes.
+    fn end(&mut self, conn: ConnId) -> Result<(), CoreStop>
+        ensures seat { self.new.seat.parts ≡ self.old.seat.parts }
+    {
+        let cut = self.insist(Plain::Cut(conn))?;
+        self.settle(cut)
+    }
+
     // Ends the connections of clients in whose lines a packet found no memory.
     fn cut_short(&mut self) -> Result<(), CoreStop>
         ensures seat { self.new.seat.parts ≡ self.old.seat.parts }
@@ -115,10 +123,7 @@ impl<R: Wait + Copy, C: Recorder<CoreEntry> + Drop, L: Seats, O: Outlet + Drop> 
         let rt = self.rt;
         for _ in rt.forever() {
             match self.short() {
-                Some(conn) => {
-                    let cut = self.insist(Plain::Cut(conn))?;
-                    self.settle(cut)?;
-                }
+                Some(conn) => self.end(conn)?,
                 None => return Ok(()),
             }
         }
