@@ -2,7 +2,8 @@
 ghost use Rattle.std.specs.Prelude.{IfOk};
 ghost use Rattle.px_session.specs.HeaderRules.{IsHeader};
 
-use super::hosts::{header, host, nothing_sent, one_client};
+use super::hosts::{Machine, header, host, nothing_sent, one_client};
+use px_mem_host::MemHost;
 use px_serve::header_in;
 use px_server::{Gate, serve};
 use px_session::Header;
@@ -63,27 +64,43 @@ fn header_read(alloc: Global) -> Mem<Header>
     }
 }
 
+// A host of one client.
+fn host_of_one<R: Machine>(rt: &R) -> Mem<MemHost<R>> {
+    let links = one_client(rt.alloc(), 0, nothing_sent(rt.alloc())?)?;
+    host(rt, header(rt.alloc())?, links, 0, 1000, 0)
+}
+
+// How a server of a header ends, whose turns and packets this gate holds.
+fn status_of<R: Machine>(
+    rt: &R,
+    read: &Header,
+    host: &mut MemHost<R>,
+    gate: Arc<Meeting<R>>,
+) -> Status
+    requires { IsHeader read.now }
+{
+    serve(rt, rt.alloc(), read, host, gate, false).status
+}
+
+// How it ends with one client.
+fn ended<R: Machine>(rt: &R, read: &Header, gate: Arc<Meeting<R>>) -> Mem<Status>
+    requires { IsHeader read.now }
+{
+    let mut host = host_of_one(rt)?;
+    Ok(status_of(rt, read, &mut host, gate))
+}
+
 #[test]
 fn a_sink_and_a_client_are_served_side_by_side(rt: HostRuntime) -> Mem<()> {
-    let alloc = rt.alloc();
     let meeting = Meeting {
         rt,
         begun: AtomicBool::new(false),
         answered: AtomicBool::new(false),
         met: AtomicBool::new(false),
     };
-    let gate = Arc::new(alloc, meeting)?;
-    let header_bytes = header(alloc)?;
-    let links = one_client(alloc, 0, nothing_sent(alloc)?)?;
-    let mut host = host(&rt, header_bytes, links, 0, 1000, 0)?;
-    let served = serve(
-        &rt,
-        alloc,
-        &header_read(alloc)?,
-        &mut host,
-        Arc::try_clone(&gate)?,
-        false,
-    );
-    assert!(rt; served.status == Status::Ok && gate.met.load(Ordering::SeqCst));
+    let gate = Arc::new(rt.alloc(), meeting)?;
+    let read = header_read(rt.alloc())?;
+    let status = ended(&rt, &read, Arc::try_clone(&gate)?);
+    assert!(rt; status == Ok(Status::Ok) && gate.met.load(Ordering::SeqCst));
     Ok(())
 }

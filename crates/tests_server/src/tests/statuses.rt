@@ -1,6 +1,8 @@
+ghost use Rattle.std.specs.Prelude.{◌≤◌, length};
+
 use super::hosts::{Machine, REPLY, ended, header, host, nothing_sent, one_client};
 use px_ends::{Calls, MemSink};
-use px_mem_host::{MemHost, Taken};
+use px_mem_host::{LinkPlans, MemHost, Taken};
 use px_types::Status::{HistoryFull, Host, Refused, Usage, WriteFault};
 use px_types::{Mem, Status, Text};
 use std::alloc::Global;
@@ -84,15 +86,22 @@ fn is_whole(taken: &Taken) -> bool {
     taken.started.len() == 1 && taken.parts.len() == 1 && taken.core_recorders.len() == 1
 }
 
+// Whether a server of these clients ends well, and its host gets all back.
+fn ends_whole<R: Machine>(rt: &R, links: LinkPlans) -> Mem<bool>
+    requires { length links ≤ 65535 }
+{
+    let mut host = host(rt, header(rt.alloc())?, links, 0, 9999, 0)?;
+    let is_well = ends(rt, PLAIN, &mut host, b"") == Ok(Some(Status::Ok));
+    Ok(is_well && is_whole(&host.into_taken()))
+}
+
 // Whether a server ends well whose client's link fails at a call, and was sent this.
 fn sends<R: Machine>(rt: &R, failing: u64, wanted: &[u8]) -> Mem<bool> {
-    let alloc = rt.alloc();
-    let sent = nothing_sent(alloc)?;
-    let links = one_client(alloc, failing, Arc::try_clone(&sent)?)?;
-    let mut host = host(rt, header(alloc)?, links, 0, 9999, 0)?;
-    let is_well = ends(rt, PLAIN, &mut host, b"") == Ok(Some(Status::Ok));
+    let sent = nothing_sent(rt.alloc())?;
+    let links = one_client(rt.alloc(), failing, Arc::try_clone(&sent)?)?;
+    let is_well = ends_whole(rt, links)?;
     let is_sent = sent.lock(rt).as_slice() == wanted;
-    Ok(is_well && is_sent && is_whole(&host.into_taken()))
+    Ok(is_well && is_sent)
 }
 
 #[test]

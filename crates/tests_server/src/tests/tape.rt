@@ -3,7 +3,7 @@ ghost use Rattle.std.specs.Prelude.{◌≤◌, length, IfOk};
 
 use super::hosts::{Machine, client, ended, hello, host, nothing_sent};
 use px_ends::{Calls, MemSink};
-use px_mem_host::{LinkPlans, MemHost, Retired};
+use px_mem_host::{LinkPlans, MemHost, Retired, Taken};
 use px_types::{Mem, Status, Text};
 use std::alloc::Global;
 
@@ -57,6 +57,19 @@ fn clients(alloc: Global) -> Mem<LinkPlans>
     Ok(LinkPlans::from_vec(plans))
 }
 
+// Whether a run by the words of a line ends well, which writes to this output.
+fn ends_well<R: Machine>(
+    rt: &R,
+    line: &str,
+    input: Text,
+    output: &mut MemSink,
+    host: &mut MemHost<R>,
+) -> Mem<bool> {
+    let mut log = MemSink::new(rt.alloc(), 99, Calls::none(rt.alloc()))?;
+    let status = ended(rt, line, input, output, &mut log, host);
+    status.map(|status| status == Status::Ok)
+}
+
 // What a run by the words of a line writes to its output, if it ends well.
 fn output_of<R: Machine>(
     rt: &R,
@@ -65,44 +78,62 @@ fn output_of<R: Machine>(
     host: &mut MemHost<R>,
 ) -> Mem<Option<Text>> {
     let mut output = MemSink::new(rt.alloc(), 1_000_000, Calls::none(rt.alloc()))?;
-    let mut log = MemSink::new(rt.alloc(), 99, Calls::none(rt.alloc()))?;
-    match ended(rt, line, input, &mut output, &mut log, host)? {
-        Status::Ok => Ok(Some(Text::copied(rt.alloc(), output.bytes())?)),
-        _ => Ok(None),
+    if ends_well(rt, line, input, &mut output, host)? {
+        Text::copied(rt.alloc(), output.bytes()).map(Some)
+    } else {
+        Ok(None)
     }
 }
 
+// What a replay of a tape writes by the words of a line, if it ends well.
+fn replayed<R: Machine>(rt: &R, line: &str, tape: Text) -> Mem<Option<Text>> {
+    let none = Text::from_vec(Vec::new(rt.alloc()));
+    let links = LinkPlans::from_vec(Vec::new(rt.alloc()));
+    let mut host = host(rt, none, links, 0, 0, 0)?;
+    output_of(rt, line, tape, &mut host)
+}
+
 // Whether the tape, replayed, gives the bytes that a sink's device has played, and the client's frames are among them.
-fn replays_to<R: Machine>(rt: &R, tape: &Text, line: &str, part: Retired) -> Mem<bool> {
-    let alloc = rt.alloc();
-    let none = Text::from_vec(Vec::new(alloc));
-    let mut host = host(rt, none, LinkPlans::from_vec(Vec::new(alloc)), 0, 0, 0)?;
-    let copy = Text::copied(alloc, tape.as_slice())?;
-    let mut device = part.device;
-    let played = device.take_played(alloc)?;
-    match output_of(rt, line, copy, &mut host)? {
-        Some(raw) => Ok(raw.as_slice() == played.as_slice() && raw.len() >= 200),
-        None => Ok(false),
-    }
+fn replays_to<R: Machine>(rt: &R, tape: &Text, line: &str, part: &mut Retired) -> Mem<bool> {
+    let copy = Text::copied(rt.alloc(), tape.as_slice())?;
+    let Some(raw) = replayed(rt, line, copy)? else {
+        return Ok(false);
+    };
+    let played = part.device.take_played(rt.alloc())?;
+    Ok(raw.as_slice() == played.as_slice() && raw.len() >= 200)
+}
+
+// Whether the tape, replayed, gives what the devices of two sinks have played.
+fn both_replay<R: Machine>(rt: &R, tape: &Text, parts: &mut [Retired]) -> Mem<bool> {
+    let [first, second] = parts else {
+        return Ok(false);
+    };
+    Ok(
+        replays_to(rt, tape, "replay --raw out", first)?
+            && replays_to(rt, tape, "replay --raw two", second)?,
+    )
+}
+
+// The tape of a server, if it ends well, and what its host takes back.
+fn taped<R: Machine>(rt: &R, clients: LinkPlans) -> Mem<(Option<Text>, Taken)>
+    requires { length clients ≤ 65535 }
+{
+    let mut host = host(rt, two_sinks(rt.alloc())?, clients, 10, 1_000_000, 0)?;
+    let line = "serve --header h --socket s --out o --accept 2 --tape";
+    let none = Text::from_vec(Vec::new(rt.alloc()));
+    let tape = output_of(rt, line, none, &mut host);
+    let taken = host.into_taken();
+    tape.map(|tape| (tape, taken))
 }
 
 // Two clients of two sinks whose devices consume 10 frames a turn, with a tape.
 fn is_replayed<R: Machine>(rt: &R) -> Mem<bool> {
-    let alloc = rt.alloc();
-    let mut host = host(rt, two_sinks(alloc)?, clients(alloc)?, 10, 1_000_000, 0)?;
-    let line = "serve --header h --socket s --out o --accept 2 --tape";
-    let none = Text::from_vec(Vec::new(alloc));
-    let Some(tape) = output_of(rt, line, none, &mut host)? else {
-        return Ok(false);
-    };
-    let mut parts = host.into_taken().parts;
-    let (Some(second), Some(first)) = (parts.pop(), parts.pop()) else {
-        return Ok(false);
-    };
-    Ok(
-        replays_to(rt, &tape, "replay --raw out", first)?
-            && replays_to(rt, &tape, "replay --raw two", second)?,
-    )
+    let (tape, taken) = taped(rt, clients(rt.alloc())?)?;
+    let mut parts = taken.parts;
+    match tape {
+        Some(tape) => both_replay(rt, &tape, parts.as_mut_slice()),
+        None => Ok(false),
+    }
 }
 
 #[test]
