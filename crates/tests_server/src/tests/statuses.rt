@@ -8,17 +8,27 @@ use px_types::{Mem, Status, Text};
 use std::alloc::Global;
 use std::sync::Arc;
 
-// How a server by the words of a line ends, where nothing can be written, and whether its log has just this line.
+// How a server by the words of a line ends, where nothing can be written.
+fn unwritten<R: Machine>(
+    rt: &R,
+    words: &str,
+    log: &mut MemSink,
+    host: &mut MemHost<R>,
+) -> Mem<Status> {
+    let input = Text::from_vec(Vec::new(rt.alloc()));
+    let mut output = MemSink::new(rt.alloc(), 0, Calls::none(rt.alloc()))?;
+    ended(rt, words, input, &mut output, log, host)
+}
+
+// How it ends, if its log has just this line.
 fn ends<R: Machine>(
     rt: &R,
     words: &str,
     host: &mut MemHost<R>,
     line: &[u8],
 ) -> Mem<Option<Status>> {
-    let input = Text::from_vec(Vec::new(rt.alloc()));
-    let mut output = MemSink::new(rt.alloc(), 0, Calls::none(rt.alloc()))?;
     let mut log = MemSink::new(rt.alloc(), 99, Calls::none(rt.alloc()))?;
-    let status = ended(rt, words, input, &mut output, &mut log, host)?;
+    let status = unwritten(rt, words, &mut log, host)?;
     Ok((log.bytes() == line).then_some(status))
 }
 
