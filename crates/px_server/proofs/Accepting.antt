@@ -1,5 +1,5 @@
 -- Starts of workers, and clients that come and go, one behind the other.
-use Rattle.std.proofs.Common.{◌≡◌, ℕ, ◌+◌, ◌++◌, [], List, length, length-append, arith, ap, refl, subst, ◌∙◌, ◌⊎◌, inl, inr}
+use Rattle.std.proofs.Common.{◌≡◌, ℕ, ◌+◌, ◌≤◌, ◌++◌, [], List, length, length-append, arith, ap, refl, subst, ◌∙◌, ◌⊎◌, inl, inr}
 use Rattle.px_jobs.specs.declared.running.Spawned.{Spawned}
 use Rattle.px_jobs.specs.declared.running.Spawned.TheVariants.{Refused, NoMemory}
 use Rattle.px_jobs.specs.Jobs.{SpawnGives}
@@ -55,3 +55,7 @@ all_started {X = X} sinks lone were had all none = all ∙ ap (λ (l : List X). 
 -- and the shares that are left and those of the sinks are all
 pub parts_started : {X : Type 0} (parts before : ℕ) (sinks lone had : List X) → parts + length had ≡ before + length lone → sinks ++ lone ≡ had → parts + length sinks ≡ before
 parts_started {X = X} parts before sinks lone had given all = omega (arith, given, ap (length {A = X}) all, length-append sinks lone)
+
+-- there is room for all of them still
+pub room_left : {X : Type 0} (sinks lone had : List X) (capacity before : ℕ) → sinks ++ lone ≡ had → capacity ≡ before → length had ≤ before → length sinks + length lone ≤ capacity
+room_left {X = X} sinks lone had capacity before all same fits = omega (arith, same, fits, ap (length {A = X}) all, length-append sinks lone)

@@ -8,7 +8,7 @@ use crate::gate::Gate;
 use crate::link_work::LinkWork;
 use crate::lone::Lone;
 use crate::sink_work::SinkWork;
-use crate::starting::taken_apart;
+use crate::starting::{give_back, taken_apart};
 use px_annals::{CoreEntry, LaneEntry, Recorder};
 use px_core_cell::Seats;
 use px_desk::Worker;
@@ -48,7 +48,7 @@ where
         ensures { worker.new.seat.parts ≡ worker.old.seat.parts + 1 }
     {
         let job = self.running.join(&worker.rt);
-        worker.seat.merge(job.worker.seat);
+        give_back(worker, job.worker);
     }
 }
 
@@ -108,7 +108,7 @@ where
     {
         let job = self.running.join(&worker.rt);
         let (other, sink) = taken_apart(job);
-        worker.seat.merge(other.seat);
+        give_back(worker, other);
         sink
     }
 }

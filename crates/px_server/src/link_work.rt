@@ -4,6 +4,7 @@ ghost use Rattle.std.specs.Prelude.{◌≡◌, ◌<◌, All, length};
 ghost use Rattle.px_frame.specs.Frame.{IsBody};
 
 use crate::gate::Gate;
+use crate::starting::depart;
 use px_annals::{CoreEntry, Recorder};
 use px_core_cell::Seats;
 use px_desk::{CoreStop, Next, Rest, Worker};
@@ -184,9 +185,7 @@ where
 
     fn work(&mut self) {
         self.serve();
-        // where the core makes no more steps, no client is served any more
-        let _closed = self.worker.close(self.conn);
-        self.worker.shut_line(self.conn);
+        depart(&mut self.worker, self.conn);
     }
 
     ghost keeps_itself = { λ job. refl };

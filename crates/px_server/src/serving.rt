@@ -14,7 +14,7 @@ use crate::gate::Gate;
 use crate::left::close_with;
 use crate::lone::Lone;
 use crate::served::{LanePart, Served, Stop, decided, next_link, woven};
-use crate::starting::{add_client, ask, connect, start_next};
+use crate::starting::{add_client, ask, connect, depart, start_next};
 use px_core_cell::Seats;
 use px_desk::Worker;
 use px_ends::Host;
@@ -114,8 +114,7 @@ where
         self.next = self.next.wrapping_add(1);
         connect(&mut self.worker, conn, outlet)?;
         if self.start_client(conn, link).is_err() {
-            let _closed = self.worker.close(conn);
-            self.worker.shut_line(conn);
+            depart(&mut self.worker, conn);
             return Err(Stop::Memory);
         }
         Ok(())
@@ -210,7 +209,20 @@ where
         }
     }
 
-    // Joins all workers, those of the clients first. What is left is the call's own hold of the core, with all shares.
+    // Joins all workers, those of the clients first.
+    fn join_all(&mut self, lone: &mut VecDeque<Lone<H::D, H::R>>)
+        requires room { length self.old.sinks.items + length lone.old.items ≤ deque_capacity lone.old }
+        ensures parts { self.new.worker.seat.parts ≡ self.old.worker.seat.parts + length self.old.sinks.items + length self.old.clients.items }
+        ensures starts { map start_of lone.new.items ≡ map start_of (self.old.sinks.items ++ lone.old.items) }
+        ensures boxes { map boxes_in lone.new.items ≡ map boxes_in (self.old.sinks.items ++ lone.old.items) }
+        ensures tapes { map tapes_in lone.new.items ≡ map tapes_in (self.old.sinks.items ++ lone.old.items) }
+    {
+        self.join_clients();
+        self.worker.finish();
+        self.join_sinks(lone);
+    }
+
+    // Joins all workers. What is left is the call's own hold of the core, with all shares.
     fn joined(mut self, lone: &mut VecDeque<Lone<H::D, H::R>>) -> Worker<R, H::C, L, H::O>
         requires parts { self.worker.seat.parts + length self.sinks.items + length self.clients.items ≡ 65552 }
         requires room { length self.sinks.items + length lone.old.items ≤ deque_capacity lone.old }
@@ -219,9 +231,7 @@ where
         ensures boxes { map boxes_in lone.new.items ≡ map boxes_in (self.sinks.items ++ lone.old.items) }
         ensures tapes { map tapes_in lone.new.items ≡ map tapes_in (self.sinks.items ++ lone.old.items) }
     {
-        self.join_clients();
-        self.worker.finish();
-        self.join_sinks(lone);
+        self.join_all(lone);
         self.worker
     }
 }

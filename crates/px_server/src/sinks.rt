@@ -188,9 +188,9 @@ fn make_one<H: Host>(
     ensures tapes { OnOk result (taped ≡ true → AreTaping lone.old.items → AreTaping lone.new.items) }
     ensures stays { OnErr result (lone.new.items ≡ lone.old.items) }
 {
-    if reserve_one(lone, ends).is_err() {
+    let Ok(()) = reserve_one(lone, ends) else {
         return Err(Stop::Memory);
-    }
+    };
     let (one, core) = new_lone(alloc, taped, SinkId(index), sink, host)?;
     lone.push_back_reserved(one);
     ends.push_reserved(core);

@@ -40,6 +40,18 @@ where
     Ok((other, gate))
 }
 
+/// A worker ends, and its share goes to this one.
+pub(crate) fn give_back<R, C, L, O>(worker: &mut Worker<R, C, L, O>, other: Worker<R, C, L, O>)
+where
+    R: Wait + Copy + Drop,
+    C: Recorder<CoreEntry> + Drop,
+    L: Seats,
+    O: Outlet + Drop,
+    ensures { worker.new.seat.parts ≡ worker.old.seat.parts + other.seat.parts }
+{
+    worker.seat.merge(other.seat);
+}
+
 /// The worker and the sink of a job that no thread works at.
 pub(crate) fn taken_apart<R, D, E, C, L, G, O>(
     job: SinkWork<R, D, E, C, L, G, O>,
@@ -158,7 +170,7 @@ where
     match start_with(other, gate, lone) {
         Ok(run) => Ok(run),
         Err((other, lone)) => {
-            worker.seat.merge(other.seat);
+            give_back(worker, other);
             Err(lone)
         }
     }
@@ -247,7 +259,7 @@ where
             Ok(())
         }
         Err(other) => {
-            worker.seat.merge(other.seat);
+            give_back(worker, other);
             Err(NoMemory)
         }
     }
@@ -276,6 +288,20 @@ where
     let run = start_sink(worker, gate, one)?;
     sinks.push_back_reserved(run);
     Ok(())
+}
+
+/// A client goes, and its line with it.
+pub(crate) fn depart<R, C, L, O>(worker: &mut Worker<R, C, L, O>, conn: ConnId)
+where
+    R: Wait + Copy,
+    C: Recorder<CoreEntry> + Drop,
+    L: Seats,
+    O: Outlet + Drop,
+    ensures { worker.new.seat.parts ≡ worker.old.seat.parts }
+{
+    // where the core makes no more steps, no client is served any more
+    let _closed = worker.close(conn);
+    worker.shut_line(conn);
 }
 
 /// Starts the worker of the next sink, of those that there are. Where that can't be, the sink stays.

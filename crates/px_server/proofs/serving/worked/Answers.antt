@@ -1,6 +1,8 @@
-use Rattle.std.proofs.Common.{◌∙◌, ap, map}
+use Rattle.std.proofs.Common.{rules, ◌≤◌, ◌∙◌, ap, length, map}
+use Rattle.std.specs.VecDeque.{deque_capacity}
 use Rattle.px_server.specs.Parts.{start_of}
 use Rattle.px_server.specs.Working.{boxes_in, tapes_in}
+use Rattle.px_server.proofs.Accepting.{room_left}
 use Rattle.px_server.proofs.serving.worked.Goals as goal
 
 pub work-stop-requires-clause-idle : goal.work-stop-requires-clause-idle
@@ -14,6 +16,15 @@ work-stop-requires-clause-few g c κs within = c.requires.few
 
 pub joined-requires-clause-parts : goal.joined-requires-clause-parts
 joined-requires-clause-parts g c κs within = c.work-stop.ensures.parts
+
+pub joined-requires-clause-room : goal.joined-requires-clause-room
+joined-requires-clause-room g c κs within =
+    let fits : length c.args.lone.now.items ≤ deque_capacity c.args.lone.now = search rules in
+    room_left c.work-stop.new.self.sinks.items c.work-stop.new.lone.items c.args.lone.now.items (deque_capacity c.work-stop.new.lone) (deque_capacity c.args.lone.now)
+    c.work-stop.ensures.all c.work-stop.ensures.capacity fits
+
+pub returns-clause-seats : goal.returns-clause-seats
+returns-clause-seats g c = c.joined.ensures.seats
 
 pub returns-clause-starts : goal.returns-clause-starts
 returns-clause-starts g c = c.joined.ensures.starts ∙ ap (map start_of) c.work-stop.ensures.all

@@ -9,32 +9,38 @@ use Rattle.px_server.proofs.Later.{later_refl}
 use Rattle.px_server.proofs.Making.{lent_as, lent_more, map_one, taping_one}
 use Rattle.px_server.proofs.sinks.make_one.Goals as goal
 
-pub returns-then-is_err-clause-made : goal.returns-then-is_err-clause-made
-returns-then-is_err-clause-made g c = tt
+pub push_back_reserved-requires : goal.push_back_reserved-requires
+push_back_reserved-requires g c = c.in-Ok.ensures.room
+
+pub push_reserved-requires : goal.push_reserved-requires
+push_reserved-requires g c = c.in-Ok.ensures.ends_room
+
+pub returns-in_default-clause-made : goal.returns-in_default-clause-made
+returns-in_default-clause-made g c = tt
 
 pub returns-in_err-one-clause-made : goal.returns-in_err-one-clause-made
 returns-in_err-one-clause-made g c = let p = err_from_is_err_and c.from_residual.result c.from_residual.ensures.1 in rw (p.1) tt
 
-pub returns-then-is_err-clause-ends : goal.returns-then-is_err-clause-ends
-returns-then-is_err-clause-ends g c = tt
+pub returns-in_default-clause-ends : goal.returns-in_default-clause-ends
+returns-in_default-clause-ends g c = tt
 
 pub returns-in_err-one-clause-ends : goal.returns-in_err-one-clause-ends
 returns-in_err-one-clause-ends g c = let p = err_from_is_err_and c.from_residual.result c.from_residual.ensures.1 in rw (p.1) tt
 
-pub returns-then-is_err-clause-boxes : goal.returns-then-is_err-clause-boxes
-returns-then-is_err-clause-boxes g c = tt
+pub returns-in_default-clause-boxes : goal.returns-in_default-clause-boxes
+returns-in_default-clause-boxes g c = tt
 
 pub returns-in_err-one-clause-boxes : goal.returns-in_err-one-clause-boxes
 returns-in_err-one-clause-boxes g c = let p = err_from_is_err_and c.from_residual.result c.from_residual.ensures.1 in rw (p.1) tt
 
-pub returns-then-is_err-clause-tapes : goal.returns-then-is_err-clause-tapes
-returns-then-is_err-clause-tapes g c = tt
+pub returns-in_default-clause-tapes : goal.returns-in_default-clause-tapes
+returns-in_default-clause-tapes g c = tt
 
 pub returns-in_err-one-clause-tapes : goal.returns-in_err-one-clause-tapes
 returns-in_err-one-clause-tapes g c = let p = err_from_is_err_and c.from_residual.result c.from_residual.ensures.1 in rw (p.1) tt
 
-pub returns-then-is_err-clause-stays : goal.returns-then-is_err-clause-stays
-returns-then-is_err-clause-stays g c = c.reserve_one.ensures.lone
+pub returns-in_default-clause-stays : goal.returns-in_default-clause-stays
+returns-in_default-clause-stays g c = c.reserve_one.ensures.lone
 
 pub returns-in_err-one-clause-stays : goal.returns-in_err-one-clause-stays
 returns-in_err-one-clause-stays g c = let p = err_from_is_err_and c.from_residual.result c.from_residual.ensures.1 in rw (p.1) c.reserve_one.ensures.lone
@@ -45,14 +51,14 @@ returns-clause-cause g c = tt
 pub returns-clause-stays : goal.returns-clause-stays
 returns-clause-stays g c = tt
 
-pub returns-then-is_err-clause-later : goal.returns-then-is_err-clause-later
-returns-then-is_err-clause-later g c = later_refl (g.H.Host.now c.args.host.now)
+pub returns-in_default-clause-later : goal.returns-in_default-clause-later
+returns-in_default-clause-later g c = later_refl (g.H.Host.now c.args.host.now)
 
-pub returns-then-is_err-clause-lent : goal.returns-then-is_err-clause-lent
-returns-then-is_err-clause-lent g c = lent_as c.args.lone.now.items c.reserve_one.new.lone.items (g.H.Host.now c.args.host.now) c.reserve_one.ensures.lone
+pub returns-in_default-clause-lent : goal.returns-in_default-clause-lent
+returns-in_default-clause-lent g c = lent_as c.args.lone.now.items c.reserve_one.new.lone.items (g.H.Host.now c.args.host.now) c.reserve_one.ensures.lone
 
-pub returns-then-is_err-clause-cause : goal.returns-then-is_err-clause-cause
-returns-then-is_err-clause-cause g c = tt
+pub returns-in_default-clause-cause : goal.returns-in_default-clause-cause
+returns-in_default-clause-cause g c = tt
 
 pub returns-in_err-one-clause-later : goal.returns-in_err-one-clause-later
 returns-in_err-one-clause-later g c = c.new_lone.ensures.later

@@ -1,19 +1,10 @@
-use Rattle.std.proofs.Common.{◌∙◌, ◌++◌, ap, map, List}
-use Rattle.px_server.specs.Parts.{start_of}
-use Rattle.px_server.specs.Working.{Unworked, boxes_in, tapes_in}
 use Rattle.px_server.proofs.serving.Serving.joined.Goals as goal
 
 pub returns-clause-starts : goal.returns-clause-starts
-returns-clause-starts g c =
-    let same = ap (λ (s : _). s.items) c.join_clients.ensures.sinks in
-    c.join_sinks.ensures.starts ∙ ap (λ (l : List (Unworked g.row.H-D.Denot g.row.H-R.Denot)). map start_of (l ++ c.args.lone.now.items)) same
+returns-clause-starts g c = c.join_all.ensures.starts
 
 pub returns-clause-boxes : goal.returns-clause-boxes
-returns-clause-boxes g c =
-    let same = ap (λ (s : _). s.items) c.join_clients.ensures.sinks in
-    c.join_sinks.ensures.boxes ∙ ap (λ (l : List (Unworked g.row.H-D.Denot g.row.H-R.Denot)). map boxes_in (l ++ c.args.lone.now.items)) same
+returns-clause-boxes g c = c.join_all.ensures.boxes
 
 pub returns-clause-tapes : goal.returns-clause-tapes
-returns-clause-tapes g c =
-    let same = ap (λ (s : _). s.items) c.join_clients.ensures.sinks in
-    c.join_sinks.ensures.tapes ∙ ap (λ (l : List (Unworked g.row.H-D.Denot g.row.H-R.Denot)). map tapes_in (l ++ c.args.lone.now.items)) same
+returns-clause-tapes g c = c.join_all.ensures.tapes
