@@ -88,15 +88,27 @@ fn set_up(alloc: Global, header: &Header) -> Mem<Scene>
     Ok(Scene { core, ends, mixer })
 }
 
+// The header that stands first in a source.
+fn first_header(reader: &mut Reader, source: &mut MemSource) -> Mem<Header>
+    ensures { IfOk result IsHeader }
+{
+    match reader.next(source) {
+        Ok(Step::Header(header)) => Ok(header),
+        _ => Err(NoMemory),
+    }
+}
+
+fn header_read(alloc: Global) -> Mem<Header>
+    ensures { IfOk result IsHeader }
+{
+    let mut source = MemSource::new(header(alloc)?, Calls::none(alloc));
+    first_header(&mut Reader::new(alloc)?, &mut source)
+}
+
 pub(crate) fn new_scene(alloc: Global) -> Mem<Scene>
     ensures { IfOk result (λ scene. Begins scene.core.state (map ends_of scene.ends.items)) }
 {
-    let mut source = MemSource::new(header(alloc)?, Calls::none(alloc));
-    let mut reader = Reader::new(alloc)?;
-    match reader.next(&mut source) {
-        Ok(Step::Header(header)) => set_up(alloc, &header),
-        _ => Err(NoMemory),
-    }
+    set_up(alloc, &header_read(alloc)?)
 }
 
 // The sink's next message.

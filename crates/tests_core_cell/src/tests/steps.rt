@@ -141,9 +141,13 @@ fn sweeps<R: Wait>(rt: &R, alloc: Global, state: &mut CoreState<NoRecorder>) -> 
 }
 
 fn is_swept<R: Wait>(rt: &R, alloc: Global) -> Mem<bool> {
-    let Scene { core, ends, .. } = new_scene(alloc)?;
+    let Scene { core, ends, mixer } = new_scene(alloc)?;
     let mut state = CoreState::new(core, NoRecorder, ends);
-    Ok(sweeps(rt, alloc, &mut state))
+    let swept = sweeps(rt, alloc, &mut state);
+    // By calls, so that their fields are dropped by functions of their own.
+    drop(state);
+    drop(mixer);
+    Ok(swept)
 }
 
 #[test]

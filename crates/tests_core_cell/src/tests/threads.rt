@@ -1,4 +1,4 @@
-ghost use Rattle.std.specs.Prelude.{◌≡◌, ◌<◌, map, IfOk};
+ghost use Rattle.std.specs.Prelude.{◌≡◌, ◌<◌, map, IfOk, IfErr};
 ghost use Rattle.px_core_cell.specs.Boxes.{boxes_of};
 ghost use Rattle.px_core_cell.specs.Cell.{ends_of};
 ghost use Rattle.px_core_cell.specs.History.{Begins};
@@ -16,6 +16,24 @@ use std::sync::Wait;
 use std::sync::ledger::Blank;
 use std::thread::{Threads, map_vec};
 
+// A step of a thread's client, made once. Whether it was made; where a sweep is owed, the step comes back.
+fn attempted<L: Seats, R: Wait>(
+    rt: &R,
+    alloc: Global,
+    cell: &CoreCell<NoRecorder, L>,
+    seat: &mut CoreSeat<L>,
+    step: CoreStep,
+) -> Result<bool, CoreStep>
+    requires { IsAsked step }
+    ensures { IfErr result IsAsked }
+{
+    match cell.step(rt, alloc, step, seat) {
+        Ok(made) => Ok(made.is_some()),
+        Err(StepFault::Owed(back)) => Err(back),
+        Err(_) => Ok(false),
+    }
+}
+
 // A step of a thread's client, once no sweep is owed any more. Whether it was made.
 fn is_made<L: Seats, R: Wait>(
     rt: &R,
@@ -28,10 +46,9 @@ fn is_made<L: Seats, R: Wait>(
 {
     let mut next = step;
     for _ in rt.forever() {
-        match cell.step(rt, alloc, next, seat) {
-            Ok(Some(_)) => return true,
-            Err(StepFault::Owed(back)) => next = back,
-            _ => return false,
+        match attempted(rt, alloc, cell, seat, next) {
+            Ok(made) => return made,
+            Err(back) => next = back,
         }
         if cell.step(rt, alloc, CoreStep::Sweep, seat).is_err() {
             return false;
