@@ -37,7 +37,29 @@ fn attributes(reader: &mut TagReader) -> Result<Command, CmdFault>
     })
 }
 
-// The fields of a command whose number is 81 at least: those with property lists, and the last of the lists that are empty.
+// The fields of a command whose number is 84 at least: those that remove properties, and the last of the lists that are empty.
+fn removal_fields(alloc: Global, number: u32, reader: &mut TagReader) -> Result<Command, CmdFault>
+    requires { 84 ≤ number }
+    ensures value { Reaches result number reader.new (taken (kinds_of number) number reader.old) }
+    ensures numbered { IfOk result IsNumbered }
+    ensures plain { IfOk result IsOfVersion13 }
+{
+    match number {
+        84 => {
+            let stream = reader.number()?;
+            let keys = keys(alloc, reader)?;
+            Ok(Command::RemoveStream { stream, keys })
+        }
+        85 => {
+            let keys = keys(alloc, reader)?;
+            Ok(Command::RemoveClient { keys })
+        }
+        89 => Ok(Command::EmptyList { number }),
+        _ => Err(CmdFault::Unsupported(number)),
+    }
+}
+
+// The fields of a command whose number is 81 at least: those with property lists come first.
 fn list_fields(alloc: Global, number: u32, reader: &mut TagReader) -> Result<Command, CmdFault>
     requires { 81 ≤ number }
     ensures value { Reaches result number reader.new (taken (kinds_of number) number reader.old) }
@@ -56,17 +78,8 @@ fn list_fields(alloc: Global, number: u32, reader: &mut TagReader) -> Result<Com
             let list = properties(alloc, reader)?;
             Ok(Command::UpdateClient { mode, list })
         }
-        84 => {
-            let stream = reader.number()?;
-            let keys = keys(alloc, reader)?;
-            Ok(Command::RemoveStream { stream, keys })
-        }
-        85 => {
-            let keys = keys(alloc, reader)?;
-            Ok(Command::RemoveClient { keys })
-        }
-        89 => Ok(Command::EmptyList { number }),
-        _ => Err(CmdFault::Unsupported(number)),
+        0..=83 => Err(CmdFault::Unsupported(number)),
+        _ => removal_fields(alloc, number, reader),
     }
 }
 
@@ -169,6 +182,34 @@ fn later_fields(alloc: Global, number: u32, reader: &mut TagReader) -> Result<Co
     }
 }
 
+// The fields of a command whose number is 27 at least.
+fn asked_fields(alloc: Global, number: u32, reader: &mut TagReader) -> Result<Command, CmdFault>
+    requires { 27 ≤ number }
+    ensures value { Reaches result number reader.new (taken (kinds_of number) number reader.old) }
+    ensures numbered { IfOk result IsNumbered }
+    ensures plain { IfOk result IsOfVersion13 }
+{
+    match number {
+        27 => {
+            let client = reader.number()?;
+            Ok(Command::ClientInfo { client })
+        }
+        28 => Ok(Command::ClientInfoList),
+        29 => {
+            let input = reader.number()?;
+            Ok(Command::InputInfo { input })
+        }
+        30 => Ok(Command::InputInfoList),
+        32 | 34 => Ok(Command::EmptyList { number }),
+        35 => {
+            let mask = reader.number()?;
+            Ok(Command::Subscribe { mask })
+        }
+        0..=35 => Err(CmdFault::Unsupported(number)),
+        _ => later_fields(alloc, number, reader),
+    }
+}
+
 // The fields of a command whose number is 12 at least.
 fn further_fields(alloc: Global, number: u32, reader: &mut TagReader) -> Result<Command, CmdFault>
     requires { 12 ≤ number }
@@ -192,23 +233,9 @@ fn further_fields(alloc: Global, number: u32, reader: &mut TagReader) -> Result<
             Ok(Command::SinkInfo { sink })
         }
         22 => Ok(Command::SinkInfoList),
-        27 => {
-            let client = reader.number()?;
-            Ok(Command::ClientInfo { client })
-        }
-        28 => Ok(Command::ClientInfoList),
-        29 => {
-            let input = reader.number()?;
-            Ok(Command::InputInfo { input })
-        }
-        30 => Ok(Command::InputInfoList),
-        24 | 26 | 32 | 34 => Ok(Command::EmptyList { number }),
-        35 => {
-            let mask = reader.number()?;
-            Ok(Command::Subscribe { mask })
-        }
-        0..=35 => Err(CmdFault::Unsupported(number)),
-        _ => later_fields(alloc, number, reader),
+        24 | 26 => Ok(Command::EmptyList { number }),
+        0..=26 => Err(CmdFault::Unsupported(number)),
+        _ => asked_fields(alloc, number, reader),
     }
 }
 
