@@ -1,7 +1,7 @@
 //! Replies to the commands that ask what there is.
 
-ghost use Rattle.std.specs.Prelude.{◌≡◌, ◌++◌, ◌≤◌, [], None, All, IsTrue, IfOk, OnOk};
-ghost use Rattle.px_tag.specs.Item.{number, text, usec, proplist, is_text, IsText};
+ghost use Rattle.std.specs.Prelude.{◌≡◌, ◌++◌, ◌≤◌, [], None, Some, codes, All, IsTrue, IfOk, OnOk};
+ghost use Rattle.px_tag.specs.Item.{number, text, usec, spec, proplist, is_text, IsText};
 ghost use Rattle.px_reply.specs.Front.{reply_to, nothing, driver};
 ghost use Rattle.px_reply.specs.Info.{server_reply, with_sink, with_input, with_client, sinks_reply, inputs_reply, clients_reply};
 
@@ -34,6 +34,22 @@ fn put_name(writer: &mut TagWriter, name: &Option<Text>) -> Mem<()>
     }
 }
 
+// Appends the server: its name and version, user and host, its spec, its default sink, no source, no cookie.
+fn put_server(writer: &mut TagWriter, info: &ServerInfo) -> Mem<()>
+    requires name { IsTrue (is_text info.now.name) }
+    requires channels { info.now.spec.channels ≤ 32 }
+    ensures { OnOk result (writer.new ≡ writer.old ++ driver ++ text (Some (codes "1")) ++ text (Some (codes "pulse")) ++ text (Some (codes "localhost")) ++ spec info.now.spec ++ text (Some info.now.name) ++ text None ++ number 0) }
+{
+    put_driver(writer)?;
+    writer.text(Some(b"1"))?;
+    writer.text(Some(b"pulse"))?;
+    writer.text(Some(b"localhost"))?;
+    writer.spec(&info.spec)?;
+    writer.text(Some(info.name.as_slice()))?;
+    writer.text(None)?;
+    writer.number(0)
+}
+
 /// The reply to GET_SERVER_INFO.
 pub fn server_info(alloc: Global, tag: u32, _version: u16, info: &ServerInfo) -> Mem<Packet>
     requires name { IsTrue (is_text info.now.name) }
@@ -41,14 +57,7 @@ pub fn server_info(alloc: Global, tag: u32, _version: u16, info: &ServerInfo) ->
     ensures { IfOk result (λ packet. packet ≡ server_reply tag info.now) }
 {
     let mut writer = reply(alloc, tag)?;
-    put_driver(&mut writer)?;
-    writer.text(Some(b"1"))?;
-    writer.text(Some(b"pulse"))?;
-    writer.text(Some(b"localhost"))?;
-    writer.spec(&info.spec)?;
-    writer.text(Some(info.name.as_slice()))?;
-    writer.text(None)?;
-    writer.number(0)?;
+    put_server(&mut writer, info)?;
     Ok(writer.finish())
 }
 
