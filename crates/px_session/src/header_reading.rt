@@ -1,7 +1,8 @@
 //! The fields of a header, read from left to right.
 
-ghost use Rattle.std.specs.Prelude.{◌≡◌, ◌&&◌, ◌==◌, [], nat_le, slice_index};
+ghost use Rattle.std.specs.Prelude.{◌≡◌, ◌&&◌, ◌==◌, [], nat_le, slice_index, IfOk};
 ghost use Rattle.std.specs.List.{list_all};
+ghost use Rattle.px_chmap.specs.ChannelMap.{IsChannelMap};
 ghost use Rattle.px_sample.specs.Format.{code_of};
 ghost use Rattle.px_session.specs.Place.{bytes_at, Gives, Reads};
 ghost use Rattle.px_session.specs.Field.{byte_at, word_at, ruled};
@@ -14,7 +15,7 @@ use crate::header::{Header, SinkSpec, SinkSpecs};
 use crate::place::Place;
 use px_chmap::Map;
 use px_sample::{Format, Spec};
-use px_types::Text;
+use px_types::{Mem, Text};
 use std::alloc::Global;
 
 // A letter of the word that begins at `start`.
@@ -196,6 +197,27 @@ fn position(place: Place<'_>) -> Result<(u8, Place<'_>), ReadError>
     Ok((position, after))
 }
 
+// A sink of these fields, whose positions are a map.
+fn sink_of(
+    alloc: Global,
+    name: &[u8],
+    spec: Spec,
+    positions: &[u8],
+    guard: u32,
+    depth: u32,
+) -> Mem<SinkSpec>
+    requires { IsChannelMap positions.now }
+    ensures { IfOk result (λ s. s ≡ record { name = name.now; spec = spec; map = positions.now; guard = guard; depth = depth }) }
+{
+    Ok(SinkSpec {
+        name: Text::copied(alloc, name)?,
+        spec,
+        map: Map::new(positions).unwrap(),
+        guard,
+        depth,
+    })
+}
+
 #[tactic(auto, unfolding(crate::specs::HeaderReading::sink_at, crate::specs::Place::and_then))]
 fn sink(alloc: Global, earlier: &[SinkSpec], place: &mut Place<'_>) -> Result<SinkSpec, ReadError>
     ensures { Reads (λ s. s) result (place_of place.new) (sink_at earlier.now (place_of place.old)) }
@@ -204,15 +226,8 @@ fn sink(alloc: Global, earlier: &[SinkSpec], place: &mut Place<'_>) -> Result<Si
     let (spec, rest) = spec(rest)?;
     let (positions, rest) = positions(alloc, spec.channels, rest)?;
     let (guard, depth, rest) = room(rest)?;
-    let name = Text::copied(alloc, name)?;
     *place = rest;
-    Ok(SinkSpec {
-        name,
-        spec,
-        map: Map::new(positions.as_slice()).unwrap(),
-        guard,
-        depth,
-    })
+    Ok(sink_of(alloc, name, spec, positions.as_slice(), guard, depth)?)
 }
 
 fn sinks(alloc: Global, count: u8, place: &mut Place<'_>) -> Result<Vec<SinkSpec>, ReadError>
