@@ -6,3 +6,4 @@ pub mod DecoderLemmas
 pub mod WriteLemmas
 pub mod PiecesLemmas
 pub mod BodyLemmas
+pub mod RunLemmas

@@ -1,13 +1,14 @@
 -- Pieces of a stream, and an error behind some of them.
-use Rattle.std.proofs.Common.{◌≡◌, ℕ, zero, suc, ◌+◌, ◌<◌, List, [], ◌∷◌, ◌++◌, map, length, take, drop, get_or, refl, subst, sym, ◌∙◌, ap, inl, inr, arith, append_assoc, append-nil, add-one, lit<, Err}
+use Rattle.std.proofs.Common.{◌≡◌, ℕ, zero, suc, ◌+◌, ◌<◌, ◌≤◌, List, [], ◌∷◌, ◌++◌, map, length, take, drop, get_or, refl, subst, sym, ◌∙◌, ap, inl, inr, arith, append_assoc, append-nil, add-one, lit<, Ok, Err}
+use Rattle.std.proofs.lemmas.List.{take_all}
 use Rattle.std.specs.Borrow.{Bor}
 use Rattle.std.specs.List.{concat}
 use Rattle.px_frame.specs.declared.fault.FrameError.{FrameError}
 use Rattle.px_frame.specs.declared.fault.FrameError.TheVariants.{Fault, Failed, NoMemory}
 use Rattle.px_frame.specs.declared.fault.FrameFault.{FrameFault}
 use Rattle.px_frame.specs.declared.frame.Frame.{Frame}
-use Rattle.px_frame.specs.Progress.{Progress, HasFed, Answers}
-use Rattle.px_frame.specs.Run.{IsBehind}
+use Rattle.px_frame.specs.Progress.{Progress, Answers}
+use Rattle.px_frame.specs.Run.{IsBehind, IsSoFar}
 use Rattle.px_frame.specs.Reading.{Unfinished, Broken, IsRead}
 use Rattle.px_frame.proofs.DecoderLemmas.{failed-more}
 use Rattle.px_frame.proofs.ReadingLemmas.{reading-unique, splits-none}
@@ -31,7 +32,7 @@ joined-cut (p ∷ ps) zero = refl
 joined-cut (p ∷ ps) (suc i) = ap (λ b. p.now ++ b) (joined-cut ps i) ∙ sym (append_assoc p.now (joined (take i ps)) (joined (drop i ps)))
 
 -- nothing says no frame and no fault
-nothing-read : IsRead [] [] Unfinished
+pub nothing-read : IsRead [] [] Unfinished
 nothing-read = (0, [], splits-none 0 [], inl (lit< tt))
 
 -- what was read without a fault has none
@@ -41,7 +42,8 @@ no-fault bytes frames fault at p q =
     let clash : Broken fault at ≡ Unfinished = same.1 in
     cc
 
-pub error-answers : (taken piece later whole : List ℕ) (before : List Frame) (error given : FrameError) → whole ≡ (taken ++ piece) ++ later → IsRead taken before Unfinished
+-- the error of a piece, behind the frames so far
+error-answers : (taken piece later whole : List ℕ) (before : List Frame) (error given : FrameError) → whole ≡ (taken ++ piece) ++ later → IsRead taken before Unfinished
     → Answers taken before piece (Err error) → IsBehind before error given → Answers [] [] whole (Err given)
 error-answers taken piece later whole before (Fault frames fault at) given e read answers (inl is) =
     subst (λ x. Answers [] [] whole (Err x)) (sym is)
@@ -50,22 +52,24 @@ error-answers taken piece later whole before (Fault frames fault at) given e rea
 error-answers taken piece later whole before (Failed fault at) given e read answers is = absurd (no-fault taken before fault at read answers)
 error-answers taken piece later whole before NoMemory given e read answers is = subst (λ x. Answers [] [] whole (Err x)) (sym is) tt
 
--- a piece that was fed is one piece more
-pub next-fed : (now : Progress) (ps : List (Bor (List ℕ))) (i : ℕ) (d : Bor (List ℕ)) (all frames both : List Frame) → i < length ps → both ≡ all ++ frames
-    → HasFed now (joined (take i ps) ++ (get_or ps i d).now) (all ++ frames) → HasFed now (joined (take (i + 1) ps)) both
-next-fed now ps i d all frames both h e fed =
-    let bytes : joined (take (i + 1) ps) ≡ joined (take i ps) ++ (get_or ps i d).now = rw add-one (joined-next ps i d h) in
-    subst (HasFed now (joined (take (i + 1) ps))) (sym e) (subst (λ b. HasFed now b (all ++ frames)) (sym bytes) fed)
+-- the frames so far, of one piece more
+pub next-so-far : (now : Progress) (ps : List (Bor (List ℕ))) (i : ℕ) (d : Bor (List ℕ)) (all : List Frame) → i < length ps
+    → IsSoFar now (joined (take i ps) ++ (get_or ps i d).now) (Ok all) → IsSoFar now (joined (take (i + 1) ps)) (Ok all)
+next-so-far now ps i d all h = subst (λ b. IsSoFar now b (Ok all)) (sym (rw add-one (joined-next ps i d h)))
 
-pub next-read : (ps : List (Bor (List ℕ))) (i : ℕ) (d : Bor (List ℕ)) (all frames both : List Frame) → i < length ps → both ≡ all ++ frames
-    → IsRead (joined (take i ps) ++ (get_or ps i d).now) (all ++ frames) Unfinished → IsRead (joined (take (i + 1) ps)) both Unfinished
-next-read ps i d all frames both h e read =
-    let bytes : joined (take (i + 1) ps) ≡ joined (take i ps) ++ (get_or ps i d).now = rw add-one (joined-next ps i d h) in
-    subst (λ (f : List Frame). IsRead (joined (take (i + 1) ps)) f Unfinished) (sym e) (subst (λ (b : List ℕ). IsRead b (all ++ frames) Unfinished) (sym bytes) read)
+-- an error behind some of the pieces
+pub error-at : (now : Progress) (ps : List (Bor (List ℕ))) (i : ℕ) (d : Bor (List ℕ)) (error : FrameError) → i < length ps
+    → IsSoFar now (joined (take i ps) ++ (get_or ps i d).now) (Err error) → Answers [] [] (joined ps) (Err error)
+error-at now ps i d error h so-far =
+    subst (λ b. Answers [] [] b (Err error))
+    (sym (joined-cut ps (suc i) ∙ ap (λ b. b ++ joined (drop (suc i) ps)) (joined-next ps i d h)))
+    (so-far (joined (drop (suc i) ps)))
 
--- an error behind the pieces so far
-pub error-at : (ps : List (Bor (List ℕ))) (i : ℕ) (d : Bor (List ℕ)) (before : List Frame) (error given : FrameError) → i < length ps → IsRead (joined (take i ps)) before Unfinished
-    → Answers (joined (take i ps)) before (get_or ps i d).now (Err error) → IsBehind before error given → Answers [] [] (joined ps) (Err given)
-error-at ps i d before error given h =
-    error-answers (joined (take i ps)) (get_or ps i d).now (joined (drop (suc i) ps)) (joined ps) before error given
-    (joined-cut ps (suc i) ∙ ap (λ b. b ++ joined (drop (suc i) ps)) (joined-next ps i d h))
+-- an error behind the frames so far
+pub error-more : (now : Progress) (fed piece : List ℕ) (all : List Frame) (error given : FrameError) → IsRead fed all Unfinished → Answers fed all piece (Err error) → IsBehind all error given
+    → IsSoFar now (fed ++ piece) (Err given)
+error-more now fed piece all error given read answers behind later = error-answers fed piece later ((fed ++ piece) ++ later) all error given refl read answers behind
+
+-- what was read of all the pieces
+pub all-read : (ps : List (Bor (List ℕ))) (i : ℕ) (all : List Frame) → length ps ≤ i → IsRead (joined (take i ps)) all Unfinished → IsRead (joined ps) all Unfinished
+all-read ps i all h = subst (λ (qs : List (Bor (List ℕ))). IsRead (joined qs) all Unfinished) (take_all i ps h)

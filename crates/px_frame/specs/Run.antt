@@ -1,5 +1,5 @@
 -- Where the decoder's fields say that it stands, and what its inner calls bring.
-use Rattle.std.specs.Prelude.{◌≡◌, ℕ, List, [], ◌++◌, ◌⊎◌}
+use Rattle.std.specs.Prelude.{◌≡◌, ℕ, List, [], ◌++◌, ◌⊎◌, Result, Ok, Err}
 use Rattle.px_frame.specs.declared.decoder.Run.{Run}
 use Rattle.px_frame.specs.declared.decoder.Run.TheVariants.{Fed, Broken}
 use Rattle.px_frame.specs.declared.decoder.Stage.{Stage}
@@ -8,7 +8,8 @@ use Rattle.px_frame.specs.declared.fault.FrameError.{FrameError}
 use Rattle.px_frame.specs.declared.fault.FrameError.TheVariants.{Fault, Failed, NoMemory}
 use Rattle.px_frame.specs.declared.frame.Frame.{Frame}
 use Rattle.px_frame.specs.Feeding.{Feeds, Breaks}
-use Rattle.px_frame.specs.Progress.{Progress, Within, Stopped, Lost}
+use Rattle.px_frame.specs.Progress.{Progress, Within, Stopped, Lost, HasFed, Answers}
+use Rattle.px_frame.specs.Reading.{Unfinished, IsRead}
 use Rattle.px_frame.specs.Stage.{IsPart, held_of}
 
 -- what the decoder's fields stand for, and what holds of them
@@ -26,6 +27,25 @@ IsStage lost = Unit {0}
 abbrev pub IsRun : ℕ → List ℕ → List ℕ → Run → Type 0
 IsRun start held piece (Fed frames part start') = Feeds start held piece frames start' (held_of part) [] × IsPart part
 IsRun start held piece (Broken frames fault at) = Breaks start held piece frames fault at
+
+-- the part of a frame that it leaves is one
+abbrev pub IsKept : Run → Type 0
+IsKept (Fed frames part start) = IsPart part
+IsKept (Broken frames fault at) = Unit {0}
+
+-- where a decoder stands behind it, and what it answers
+abbrev pub end_of : Run → Progress
+end_of (Fed frames part start) = Within start (held_of part)
+end_of (Broken frames fault at) = Stopped fault at
+
+abbrev pub answer_of : Run → Result (List Frame) FrameError
+answer_of (Fed frames part start) = Ok frames
+answer_of (Broken frames fault at) = Err (Fault frames fault at)
+
+-- the frames of these bytes, which were all fed to the decoder there, or an error that all bytes have which begin so
+abbrev pub IsSoFar : Progress → List ℕ → Result (List Frame) FrameError → Type 0
+IsSoFar now bytes (Ok all) = HasFed now bytes all × IsRead bytes all Unfinished
+IsSoFar now bytes (Err error) = (later : List ℕ) → Answers [] [] (bytes ++ later) (Err error)
 
 -- the error behind frames that came before it, for which there may be no memory
 abbrev pub IsBehind : List Frame → FrameError → FrameError → Type 0

@@ -5,7 +5,7 @@ ghost use Rattle.std.specs.Option.{option_to_list};
 ghost use Rattle.px_frame.specs.declared.frame.Frame.{Frame};
 ghost use Rattle.px_frame.specs.declared.fault.FrameFault.{FrameFault};
 ghost use Rattle.px_frame.specs.Progress.{Within, Stopped, Lost, HasFed, Answers, Leaves, GivesBodies};
-ghost use Rattle.px_frame.specs.Run.{IsRun};
+ghost use Rattle.px_frame.specs.Run.{IsRun, IsKept, answer_of, end_of};
 ghost use Rattle.px_frame.specs.Stage.{IsPart, held_of};
 
 use crate::fault::{FrameError, FrameFault};
@@ -85,26 +85,38 @@ impl Decoder {
         ensures lost { self.old ≡ Lost → (result ≡ Err FrameError.NoMemory) × (self.new ≡ Lost) }
     {
         match mem::replace(&mut self.stage, Stage::Lost) {
-            Stage::Within(part) => match take_piece(self.alloc, part, self.start, piece, blocks)? {
-                Run::Fed {
-                    frames,
-                    part,
-                    start,
-                } => {
-                    self.start = start;
-                    self.stage = Stage::Within(part);
-                    Ok(frames)
-                }
-                Run::Broken { frames, fault, at } => {
-                    self.stage = Stage::Failed { fault, at };
-                    Err(FrameError::Fault { frames, fault, at })
-                }
-            },
+            Stage::Within(part) => {
+                let run = take_piece(self.alloc, part, self.start, piece, blocks)?;
+                self.stand(run)
+            }
             Stage::Failed { fault, at } => {
                 self.stage = Stage::Failed { fault, at };
                 Err(FrameError::Failed { fault, at })
             }
             Stage::Lost => Err(FrameError::NoMemory),
+        }
+    }
+
+    // Stands where the run ends, and answers what it brought.
+    fn stand(&mut self, run: Run) -> Result<Frames, FrameError>
+        requires { IsKept run }
+        ensures answer { result ≡ answer_of run }
+        ensures stands { self.new ≡ end_of run }
+    {
+        match run {
+            Run::Fed {
+                frames,
+                part,
+                start,
+            } => {
+                self.start = start;
+                self.stage = Stage::Within(part);
+                Ok(frames)
+            }
+            Run::Broken { frames, fault, at } => {
+                self.stage = Stage::Failed { fault, at };
+                Err(FrameError::Fault { frames, fault, at })
+            }
         }
     }
 }

@@ -1,9 +1,10 @@
 // A whole stream, in whatever pieces.
 
-ghost use Rattle.std.specs.Prelude.{[], map};
+ghost use Rattle.std.specs.Prelude.{ℕ, List, [], ◌++◌, map};
 ghost use Rattle.std.specs.List.{concat};
-ghost use Rattle.px_frame.specs.Progress.{Answers};
-ghost use Rattle.px_frame.specs.Run.{IsBehind};
+ghost use Rattle.px_frame.specs.Progress.{HasFed, Answers};
+ghost use Rattle.px_frame.specs.Reading.{IsRead, Unfinished};
+ghost use Rattle.px_frame.specs.Run.{IsBehind, IsSoFar};
 
 use crate::decoder::Decoder;
 use crate::fault::FrameError;
@@ -21,14 +22,44 @@ pub fn decode<B: BlockSource>(
     ensures { Answers [] [] (concat (map (λ piece. piece.now) pieces.now)) result }
 {
     let mut decoder = Decoder::new(alloc);
+    feed_all(alloc, &mut decoder, pieces, blocks)
+}
+
+// The frames of all these pieces, or the error behind some of them.
+fn feed_all<B: BlockSource>(
+    alloc: Global,
+    decoder: &mut Decoder,
+    pieces: &[&[u8]],
+    blocks: &mut B,
+) -> Result<Frames, FrameError>
+    requires { HasFed decoder.old [] [] }
+    ensures { Answers [] [] (concat (map (λ piece. piece.now) pieces.now)) result }
+{
     let mut all = Frames::new(alloc);
     for piece in pieces {
-        match decoder.feed(piece, blocks) {
-            Ok(frames) => all.append(frames)?,
-            Err(error) => return Err(behind(all, error)),
-        }
+        all = more(decoder, all, piece, blocks)?;
     }
     Ok(all)
+}
+
+// The frames so far and those that this piece brings, or the error behind them.
+fn more<B: BlockSource>(
+    decoder: &mut Decoder,
+    mut all: Frames,
+    piece: &[u8],
+    blocks: &mut B,
+) -> Result<Frames, FrameError>
+    // Whatever bytes said the frames so far.
+    ensures { (fed : List ℕ) → HasFed decoder.old fed all → IsRead fed all Unfinished
+        → IsSoFar decoder.new (fed ++ piece.now) result }
+{
+    match decoder.feed(piece, blocks) {
+        Ok(frames) => {
+            all.append(frames)?;
+            Ok(all)
+        }
+        Err(error) => Err(behind(all, error)),
+    }
 }
 
 // The error behind frames that came before it.

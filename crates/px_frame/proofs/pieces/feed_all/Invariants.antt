@@ -2,7 +2,7 @@ use Rattle.std.proofs.Common.{take, map}
 use Rattle.std.specs.List.{concat}
 use Rattle.px_frame.specs.Progress.{HasFed}
 use Rattle.px_frame.specs.Reading.{IsRead, Unfinished}
-use Rattle.px_frame.proofs.pieces.decode.Given as goal
+use Rattle.px_frame.proofs.pieces.feed_all.Given as goal
 
 abbrev pub invariant-loop-piece : goal.invariant-loop-piece
 invariant-loop-piece g l = record {
