@@ -1,8 +1,11 @@
 //! AUTH, SET_CLIENT_NAME and SUBSCRIBE (PulseAudio: `command_auth`, `command_set_client_name` and `command_subscribe` of
 //! `pulsecore/protocol-native.c`).
 
-ghost use Rattle.std.specs.Prelude.{◌≡◌, nat_le, IfOk, Ok};
+ghost use Rattle.std.specs.Prelude.{◌≡◌, ◌∷◌, [], nat_le, IfOk, Ok};
 ghost use Rattle.std.specs.Option.{option_map};
+ghost use Rattle.px_tag.specs.PropList.{updated};
+ghost use Rattle.px_tag.specs.declared.mode.Mode.TheVariants.{Replace};
+ghost use Rattle.px_plan.specs.declared.change.Change.TheVariants.{Named};
 ghost use Rattle.px_plan.specs.Row.{Plans};
 ghost use Rattle.px_ctl_info.specs.Clients.{SERVER_VERSION, version_in, let_in, auth, list_with, set_client_name, is_mask, subscribe};
 
@@ -50,16 +53,38 @@ pub fn auth<M: Drop, G: Drop>(
     let_in(alloc, me, tag)
 }
 
+// A copy of a list, once each key of another list is set.
+fn updated(list: &PropList, by: &PropList) -> px_tag::Mem<PropList>
+    ensures { IfOk result (λ made. made ≡ updated Replace list.now by.now) }
+{
+    let mut made = list.copy()?;
+    made.update(Mode::Replace, by)?;
+    Ok(made)
+}
+
 // A client's list once each key of another list is set.
 fn list_with(client: Option<&Client>, list: PropList) -> px_tag::Mem<PropList>
     ensures { IfOk result (λ made. made ≡ list_with (option_map (λ client. client.now) client.entry) list) }
 {
-    let Some(client) = client else {
-        return Ok(list);
-    };
-    let mut made = client.list.copy()?;
-    made.update(Mode::Replace, &list)?;
-    Ok(made)
+    match client {
+        None => Ok(list),
+        Some(client) => updated(&client.list, &list),
+    }
+}
+
+// The connection's client has its list once each key of another list is set.
+fn named<M: Drop, G: Drop>(
+    alloc: Global,
+    client: Option<&Client>,
+    me: &Connection,
+    list: PropList,
+) -> px_tag::Mem<Vec<Change<M, G>>>
+    ensures { IfOk result (λ changes. changes.items ≡ Named me.now.conn (list_with (option_map (λ client. client.now) client.entry) list) ∷ []) }
+{
+    let list = list_with(client, list)?;
+    let mut changes = Vec::new(alloc);
+    changes.push(Change::Named(me.conn, list))?;
+    Ok(changes)
 }
 
 /// SET_CLIENT_NAME of a connection with this client: each key of the list is set in the client's, and the client's index is
@@ -73,10 +98,8 @@ pub fn set_client_name<M: Drop, G: Drop>(
 ) -> Result<Plan<M, G>, Refusal>
     ensures { Plans result (set_client_name (option_map (λ client. client.now) client.entry) me.now tag list) }
 {
+    let changes = named(alloc, client, me, list)?;
     let reply = px_reply::client_index(alloc, tag, me.client)?;
-    let list = list_with(client, list)?;
-    let mut changes = Vec::new(alloc);
-    changes.push(Change::Named(me.conn, list))?;
     Ok(Plan::replied(alloc, reply, changes))
 }
 

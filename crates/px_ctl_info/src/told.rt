@@ -1,10 +1,13 @@
 //! What clients there are (PulseAudio: `command_get_info` and `command_get_info_list` of `pulsecore/protocol-native.c`).
 
-ghost use Rattle.std.specs.Prelude.{◌≡◌, List, ◌∷◌, ◌++◌, All, IfOk, OnOk, map};
+ghost use Rattle.std.specs.Prelude.{◌≡◌, List, ◌∷◌, ◌++◌, [], All, IfOk, OnOk, Ok, map};
 ghost use Rattle.std.specs.Option.{option_map};
 ghost use Rattle.px_tag.specs.Item.{IsText};
+ghost use Rattle.px_plan.specs.Plan.{replied};
 ghost use Rattle.px_plan.specs.Row.{Plans};
 ghost use Rattle.px_names.specs.declared.client.Client.{Client};
+ghost use Rattle.px_reply.specs.Front.{reply_to};
+ghost use Rattle.px_reply.specs.Info.{with_client};
 ghost use Rattle.px_reply.specs.declared.info.ClientInfo.{ClientInfo};
 ghost use Rattle.px_ctl_info.specs.Properties.{text_under};
 ghost use Rattle.px_ctl_info.specs.Clients.{NAME, info_of, client_info, client_infos};
@@ -13,7 +16,7 @@ use crate::properties::text_under;
 use px_names::Client;
 use px_plan::{Plan, Refusal};
 use px_reply::ClientInfo;
-use px_tag::PropList;
+use px_tag::{Packet, PropList};
 use px_types::{ErrorCode, Mem, NoMemory, Text};
 use std::alloc::Global;
 
@@ -66,6 +69,27 @@ pub fn clients_told(alloc: Global, clients: &[Client]) -> Mem<Vec<ClientInfo>>
     Ok(infos)
 }
 
+// The packet that tells of a client.
+fn client_packet(alloc: Global, client: &Client, tag: u32) -> Result<Packet, Refusal>
+    ensures { Plans result (Ok (with_client (reply_to tag) (info_of client.now))) }
+{
+    let info = info_of(alloc, client)?;
+    let packet = px_reply::client_info(alloc, tag, &info)?;
+    Ok(packet)
+}
+
+// The reply that tells of a client.
+fn client_reply<M: Drop, G: Drop>(
+    alloc: Global,
+    client: &Client,
+    tag: u32,
+) -> Result<Plan<M, G>, Refusal>
+    ensures { Plans result (Ok (replied (with_client (reply_to tag) (info_of client.now)) [])) }
+{
+    let reply = client_packet(alloc, client, tag)?;
+    Ok(Plan::replied(alloc, reply, Vec::new(alloc)))
+}
+
 /// GET_CLIENT_INFO of this client. Refused: `NoEntity` where there is none.
 pub fn client_info<M: Drop, G: Drop>(
     alloc: Global,
@@ -74,12 +98,10 @@ pub fn client_info<M: Drop, G: Drop>(
 ) -> Result<Plan<M, G>, Refusal>
     ensures { Plans result (client_info (option_map (λ client. client.now) client.entry) tag) }
 {
-    let Some(client) = client else {
-        return Err(Refusal::Code(ErrorCode::NoEntity));
-    };
-    let info = info_of(alloc, client)?;
-    let reply = px_reply::client_info(alloc, tag, &info)?;
-    Ok(Plan::replied(alloc, reply, Vec::new(alloc)))
+    match client {
+        None => Err(Refusal::Code(ErrorCode::NoEntity)),
+        Some(client) => client_reply(alloc, client, tag),
+    }
 }
 
 /// GET_CLIENT_INFO_LIST: the clients in order of connecting, which is that of their indices.
