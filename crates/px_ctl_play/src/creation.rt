@@ -1,6 +1,6 @@
 //! CREATE_PLAYBACK_STREAM (PulseAudio: `command_create_playback_stream` of `pulsecore/protocol-native.c`).
 
-ghost use Rattle.std.specs.Prelude.{◌≡◌, ◌<◌, ◌≤◌, length, IfOk, IsSome, Ok};
+ghost use Rattle.std.specs.Prelude.{◌≡◌, ◌+◌, ◌<◌, ◌≤◌, ◌∷◌, [], length, IfOk, IsSome, Ok};
 ghost use Rattle.std.specs.Option.{option_map};
 ghost use Rattle.px_chmap.specs.ChannelMap.{IsChannelMap};
 ghost use Rattle.px_chmap.specs.Plan.{FeedsAll};
@@ -10,10 +10,10 @@ ghost use Rattle.px_model.specs.Orderly.{IsRepaired};
 ghost use Rattle.px_msg.specs.Repair.{IsWithinBytes};
 ghost use Rattle.px_plan.specs.Row.{Plans};
 ghost use Rattle.px_plan.specs.Target.{IsTarget, IsNamed};
-ghost use Rattle.px_plan.specs.declared.change.Change.TheVariants.{Described};
+ghost use Rattle.px_plan.specs.declared.change.Change.TheVariants.{Made, Described};
 ghost use Rattle.px_ctl_play.specs.Asked.{channels_on};
 ghost use Rattle.px_ctl_play.specs.Joining.{IsReady, IsReadyAt};
-ghost use Rattle.px_ctl_play.specs.Create.{input_made, begun, changes_of, created, create_on, create};
+ghost use Rattle.px_ctl_play.specs.Create.{input_made, new_of, begun, changes_of, created, create_on, create};
 
 use crate::asked::{attr_on, feed_on, is_lawful, map_on, spec_on};
 use crate::created::{new_of, reply_of};
@@ -69,6 +69,31 @@ fn described<M: Drop, G: Drop>(input: InputId, a: &CreateFields) -> Mem<Change<M
     }
 }
 
+// The first change that a new stream makes: its input is there, and its sink gets the stream.
+fn made_on<P: Drop>(
+    alloc: Global,
+    made: u32,
+    me: &Connection,
+    a: &CreateFields,
+    group: &Group,
+    feed: Feed,
+    x: &Input,
+) -> Mem<Vec<Change<Msg<P>, Group>>>
+    requires there { IsSome (member_of group.now.members x.now.index) }
+    requires inputs { made < 4294967295 }
+    requires streams { me.now.streams < 4294967295 }
+    ensures { IfOk result (λ changes. changes.items ≡ Made x.now (new_of a.now group.now feed x.now) (me.now.streams + 1) (made + 1) ∷ []) }
+{
+    let mut changes = Vec::new(alloc);
+    changes.push(Change::Made {
+        input: *x,
+        new: new_of(a, group, feed, x),
+        streams: me.streams + 1,
+        inputs: made + 1,
+    })?;
+    Ok(changes)
+}
+
 // The first changes that a new stream makes: its sink gets the stream, and this group, in which its input is.
 fn begun<P: Drop>(
     alloc: Global,
@@ -85,13 +110,7 @@ fn begun<P: Drop>(
     requires streams { me.now.streams < 4294967295 }
     ensures { IfOk result (λ changes. changes.items ≡ begun inputs.now made me.now a.now group feed x.now) }
 {
-    let mut changes = Vec::new(alloc);
-    changes.push(Change::Made {
-        input: *x,
-        new: new_of(a, &group, feed, x),
-        streams: me.streams + 1,
-        inputs: made + 1,
-    })?;
+    let mut changes = made_on(alloc, made, me, a, &group, feed, x)?;
     changes.push(regrouped_with(alloc, x.sink, group, inputs, x)?)?;
     Ok(changes)
 }
