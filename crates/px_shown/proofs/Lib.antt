@@ -1,3 +1,4 @@
 pub mod Unchanged
 pub mod Deaf
 mod Parts
+mod Made

@@ -169,6 +169,21 @@ impl Scene {
         self.told_since(alloc, sinks, clients_made, before)
     }
 
+    // Makes the changes, and tells those who subscribe then what came of them.
+    fn change_and_tell<P>(
+        &mut self,
+        alloc: Global,
+        sinks: &[SinkSpec],
+        clients_made: u32,
+        changes: &[Change<Msg<P>, Group>],
+    ) -> Mem<Vec<Sending>>
+        requires { AreSinks [] sinks.now }
+        ensures { IfOk result (λ told. told.items ≡ told_between sinks.now clients_made self.old (scene_after self.old changes.now)) }
+    {
+        let before = self.moment(alloc, sinks)?;
+        self.make_and_tell(alloc, sinks, clients_made, changes, &before)
+    }
+
     // Lets an input that moves arrive, makes the changes after that, and tells those who subscribe then what came of both.
     fn arrive_and_tell<P>(
         &mut self,
@@ -215,8 +230,7 @@ impl Scene {
         requires { AreSinks [] sinks.now }
         ensures { IfOk result (λ told. told.items ≡ told_between sinks.now clients_made self (scene_after self changes.now)) }
     {
-        let before = self.moment(alloc, sinks)?;
-        self.make_and_tell(alloc, sinks, clients_made, changes, &before)
+        self.change_and_tell(alloc, sinks, clients_made, changes)
     }
 
     /// What they are told of an input that is on the sink that it moves to, and of the changes after that.
