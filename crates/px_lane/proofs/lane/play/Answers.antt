@@ -1,10 +1,12 @@
-use Rattle.std.proofs.Common.{◌≡◌, ℕ, ◌+◌, ◌-◌, ◌≤◌, List, length, take, drop, ap, sym, ◌∙◌, subst, arith}
+use Rattle.std.proofs.Common.{◌≡◌, ℕ, ◌+◌, ◌-◌, ◌≤◌, ◌++◌, List, length, take, drop, ap, sym, ◌∙◌, subst, arith}
 use Rattle.std.specs.List.{concat}
 use Rattle.px_ends.specs.Device.{DeviceState, IsPut, put_at}
 use Rattle.px_model.specs.Sink.{Sink}
-use Rattle.px_model.specs.Turn.{turned, next_horizon}
+use Rattle.px_model.specs.Turn.{turned, turn_notices, next_horizon}
 use Rattle.px_stream.specs.Samples.{samples}
 use Rattle.px_lane.specs.Lane.{IsLane, IsAttached}
+use Rattle.px_lane.specs.Costs.{turn_cost}
+use Rattle.px_lane.specs.declared.lane.Turned.TheVariants.{Played}
 use Rattle.px_lane.proofs.Attached.{put_there, turn_room}
 use Rattle.px_lane.proofs.lane.play.Goals as goal
 
@@ -61,3 +63,36 @@ returns-clause-attached g c =
     subst (λ (s : Sink). IsAttached (g.D.Device.now c.put.new.self) s) (sym state)
     (subst (λ (e : DeviceState). IsAttached e (turned samples sink n messages)) (sym put)
     (put_there samples d sink n stay messages c.requires.lane (subst IsLane state c.play-stay.ensures.lane) there within c.requires.countable same c.requires.attached).1)
+
+pub play-stay-requires-clause-there : goal.play-stay-requires-clause-there
+play-stay-requires-clause-there g c = omega (arith, c.consumed.ensures, c.requires.forward, c.requires.within)
+
+pub returns-clause-value : goal.returns-clause-value
+returns-clause-value g c = c.play-stay.ensures.value ∙ ap (λ (from : ℕ). turned samples c.args.mixer.now.sink (c.args.consumed - from) c.args.messages.now.messages) c.consumed.ensures
+
+pub returns-clause-result : goal.returns-clause-result
+returns-clause-result g c = ap (λ (from : ℕ). Played c.args.consumed (c.args.consumed - from)) c.consumed.ensures
+
+pub returns-clause-lane : goal.returns-clause-lane
+returns-clause-lane g c = c.play-stay.ensures.lane
+
+pub returns-clause-mixed : goal.returns-clause-mixed
+returns-clause-mixed g c = c.play-stay.ensures.mixed
+
+pub returns-clause-ticks : goal.returns-clause-ticks
+returns-clause-ticks g c = subst (λ (from : ℕ). c.play-stay.new.steps ≤ c.args.steps.now + turn_cost c.args.mixer.now.sink (c.args.consumed - from) c.args.messages.now.messages) c.consumed.ensures c.play-stay.ensures.ticks
+
+pub returns-clause-notices : goal.returns-clause-notices
+returns-clause-notices g c = c.play-stay.ensures.notices ∙ ap (λ (from : ℕ). c.args.out.now.notices ++ turn_notices samples c.args.mixer.now.sink (c.args.consumed - from) c.args.messages.now.messages) c.consumed.ensures
+
+pub returns-clause-played : goal.returns-clause-played
+returns-clause-played g c = ap (λ (d : DeviceState). d.played) c.put.ensures.state
+
+pub returns-clause-faults : goal.returns-clause-faults
+returns-clause-faults g c = ap (λ (d : DeviceState). d.faults) c.put.ensures.state
+
+pub returns-clause-failed : goal.returns-clause-failed
+returns-clause-failed g c = ap (λ (d : DeviceState). d.failed) c.put.ensures.state
+
+pub returns-clause-next : goal.returns-clause-next
+returns-clause-next g c = ap (λ (d : DeviceState). d.next) c.put.ensures.state

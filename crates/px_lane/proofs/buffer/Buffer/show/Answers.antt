@@ -1,4 +1,4 @@
-use Rattle.std.proofs.Common.{◌≡◌, ℕ, ◌+◌, ◌-◌, ◌*◌, ◌≤◌, ◌++◌, List, length, map, take, drop, ap, sym, ◌∙◌, arith}
+use Rattle.std.proofs.Common.{◌≡◌, ℕ, ◌-◌, ◌≤◌, ◌++◌, List, length, map, take, drop, ap, sym, ◌∙◌, arith}
 use Rattle.std.specs.List.{concat, range_with_len}
 use Rattle.px_msg.specs.View.{sample_spec}
 use Rattle.px_model.specs.Mix.{mix_of}
