@@ -56,15 +56,19 @@ fn with_paths<'a>(alloc: Global, command: Command<'a>) -> Result<Command<'a>, Al
         .arg(path(alloc, "out"))
 }
 
+// Adds the options that may be left out, and aren't paths.
+fn with_optional<'a>(alloc: Global, command: Command<'a>) -> Result<Command<'a>, AllocError>
+    ensures { IfOk result (λ more. app_of more ≡ with_rule (with_rule (app_of command.entry) (option_rule (codes "history"))) tape_rule) }
+{
+    command.arg(option(alloc, "history"))?.arg(tape(alloc))
+}
+
 // Adds the options that aren't paths.
 fn with_others<'a>(alloc: Global, command: Command<'a>) -> Result<Command<'a>, AllocError>
     ensures { IfOk result (λ more. app_of more
         ≡ with_rule (with_rule (with_rule (app_of command.entry) accept_rule) (option_rule (codes "history"))) tape_rule) }
 {
-    command
-        .arg(accept(alloc))?
-        .arg(option(alloc, "history"))?
-        .arg(tape(alloc))
+    with_optional(alloc, command.arg(accept(alloc))?)
 }
 
 // The command, before it is built.

@@ -1,10 +1,13 @@
-use Rattle.std.proofs.Common.{◌∙◌, ap₂, refl}
+use Rattle.std.proofs.Common.{◌∙◌, ap, ap₂, codes, refl}
 use Rattle.std.proofs.lemmas.Result.{IfOk-weaker}
-use Rattle.clap.specs.Words.{with_rule}
+use Rattle.clap.specs.Words.{App, with_rule}
+use Rattle.px_serve_words.specs.Command.{option_rule, tape_rule}
 use Rattle.px_serve_words.proofs.command.with_others.Goals as goal
+
+abbrev after_optional : App → App
+after_optional app = with_rule (with_rule app (option_rule (codes "history"))) tape_rule
 
 pub returns : goal.returns
 returns c =
     let accept = c.in_ok-arg.ensures.shape c.accept.ensures.own ∙ ap₂ with_rule refl c.accept.ensures.rule in
-    let history = c.in_ok-arg-2.ensures.shape c.option.ensures.own ∙ ap₂ with_rule accept c.option.ensures.rule in
-    IfOk-weaker c.arg-3.result _ _ (λ more adds. adds.shape c.tape.ensures.own ∙ ap₂ with_rule history c.tape.ensures.rule) c.arg-3.ensures
+    IfOk-weaker c.with_optional.result _ _ (λ more same. same ∙ ap after_optional accept) c.with_optional.ensures
