@@ -1,4 +1,4 @@
-use Rattle.std.proofs.Common.{◌≡◌, ◌+◌, ◌∙◌, ℕ, Some, None, ap}
+use Rattle.std.proofs.Common.{◌≡◌, ◌+◌, ◌∙◌, ℕ, Some, None, ap, refl}
 use Rattle.px_annals.specs.History.{noted}
 use Rattle.px_core_cell.specs.Cell.{desk_of, ends_of}
 use Rattle.px_core_cell.proofs.Doing.{Collects, notice_done}
@@ -15,3 +15,26 @@ returns-clause-gives g c =
     (c.note.ensures.steps ∙ ap (λ (n : ℕ). n + 1) c.in_ok-entry.ensures.steps)
     c.note.ensures.owed
     (c.note.ensures.fault ∙ c.in_ok-entry.ensures.fault)
+
+pub returns-clause-stops : goal.returns-clause-stops
+returns-clause-stops g c = tt
+
+pub returns-clause-said : goal.returns-clause-said
+returns-clause-said g c =
+    let said = c.in_ok-entry.ensures.said in
+    let calm = c.note.ensures.calm in (said.0, calm.0 ∙ said.1, (calm.1 ∙ said.2.0, calm.2 ∙ said.2.1))
+
+pub returns-clause-boxes : goal.returns-clause-boxes
+returns-clause-boxes g c = c.in_ok-effects.ensures.boxes ∙ c.fetch.ensures.boxes
+
+pub returns-in_default-clause-said : goal.returns-in_default-clause-said
+returns-in_default-clause-said g c = (refl, refl, refl)
+
+pub returns-in_default-clause-boxes : goal.returns-in_default-clause-boxes
+returns-in_default-clause-boxes g c = c.fetch.ensures.boxes
+
+pub returns-in_err-effects-clause-boxes : goal.returns-in_err-effects-clause-boxes
+returns-in_err-effects-clause-boxes g c = c.in_err-effects.ensures.boxes ∙ c.fetch.ensures.boxes
+
+pub returns-in_err-entry-clause-boxes : goal.returns-in_err-entry-clause-boxes
+returns-in_err-entry-clause-boxes g c = c.fetch.ensures.boxes
