@@ -53,6 +53,21 @@ where
     G: Gate + Drop + Send + Sync + 'static,
     L: Seats + Send + Sync + 'static,
 {
+    // A call before its first worker starts.
+    fn new(worker: Worker<R, H::C, L, H::O>, gate: Arc<G>) -> Self
+        ensures worker { result.worker ≡ worker }
+        ensures idle { (result.sinks.items ≡ []) × (result.clients.items ≡ []) }
+    {
+        let alloc = worker.alloc;
+        Serving {
+            worker,
+            gate,
+            sinks: VecDeque::new(alloc),
+            clients: VecDeque::new(alloc),
+            next: 0,
+        }
+    }
+
     // Joins a client's worker, where the client has gone.
     fn settle(&mut self, client: Client<R, H::L, H::C, L, G, H::O>)
         requires { deque_len self.old.clients < deque_capacity self.old.clients }
@@ -234,45 +249,27 @@ where
         self.join_all(lone);
         self.worker
     }
-}
 
-// All that workers do, from their start to their end. What is left is the call's own hold of the core, with all shares, and why it stopped.
-fn worked<R, H, G, L>(
-    worker: Worker<R, H::C, L, H::O>,
-    host: &mut H,
-    gate: Arc<G>,
-    lone: &mut VecDeque<Lone<H::D, H::R>>,
-) -> (Worker<R, H::C, L, H::O>, Stop)
-where
-    R: Threads + Wait + Copy + Drop + Send + Sync + 'static,
-    H: Host,
-    H::L: 'static,
-    H::O: 'static,
-    H::D: 'static,
-    H::R: 'static,
-    H::C: 'static,
-    G: Gate + Drop + Send + Sync + 'static,
-    L: Seats + Send + Sync + 'static,
-    requires seats { worker.seat.parts ≡ 65552 }
-    requires few { length lone.old.items ≤ 16 }
-    ensures seats { result.0.seat.parts ≡ 65552 }
-    ensures starts { map start_of lone.new.items ≡ map start_of lone.old.items }
-    ensures boxes { map boxes_in lone.new.items ≡ map boxes_in lone.old.items }
-    ensures tapes { map tapes_in lone.new.items ≡ map tapes_in lone.old.items }
-    ensures later { IsLater (H.now host.old) (H.now host.new) }
-    ensures lent { (H.now host.new).lent ≡ (H.now host.old).lent }
-    ensures cause { IsCauseOf result.1 (H.now host.old) (H.now host.new) }
-{
-    let alloc = worker.alloc;
-    let mut serving = Serving::<R, H, G, L> {
-        worker,
-        gate,
-        sinks: VecDeque::new(alloc),
-        clients: VecDeque::new(alloc),
-        next: 0,
-    };
-    let stop = serving.work(host, lone);
-    (serving.joined(lone), stop)
+    // All that workers do, from their start to their end. What is left is the call's own hold of the core, with all shares, and why it stopped.
+    fn worked(
+        mut self,
+        host: &mut H,
+        lone: &mut VecDeque<Lone<H::D, H::R>>,
+    ) -> (Worker<R, H::C, L, H::O>, Stop)
+        requires idle { (self.sinks.items ≡ []) × (self.clients.items ≡ []) }
+        requires seats { self.worker.seat.parts ≡ 65552 }
+        requires few { length lone.old.items ≤ 16 }
+        ensures seats { result.0.seat.parts ≡ 65552 }
+        ensures starts { map start_of lone.new.items ≡ map start_of lone.old.items }
+        ensures boxes { map boxes_in lone.new.items ≡ map boxes_in lone.old.items }
+        ensures tapes { map tapes_in lone.new.items ≡ map tapes_in lone.old.items }
+        ensures later { IsLater (H.now host.old) (H.now host.new) }
+        ensures lent { (H.now host.new).lent ≡ (H.now host.old).lent }
+        ensures cause { IsCauseOf result.1 (H.now host.old) (H.now host.new) }
+    {
+        let stop = self.work(host, lone);
+        (self.joined(lone), stop)
+    }
 }
 
 // What a call hands back that stopped so and whose workers have ended.
@@ -347,6 +344,6 @@ where
     ensures ends { Ends H.C.told H.C.faults H.C.fulls L.began H.D.now H.R.told H.R.faults H.R.fulls (map start_of lone.items) (H.now host.old) (H.now host.new) result.status result.lanes.items result.core }
     ensures core { IsSome result.core }
 {
-    let (worker, stop) = worked(worker, host, gate, &mut lone);
+    let (worker, stop) = Serving::<R, H, G, L>::new(worker, gate).worked(host, &mut lone);
     ended(worker, stop, lone, lanes, turns, taped)
 }

@@ -168,6 +168,22 @@ fn reserve_one<D: Device + Drop, E: Recorder<LaneEntry> + Drop>(
     Ok(())
 }
 
+// One sink more, for which there is room.
+fn add_one<D: Device + Drop, E: Recorder<LaneEntry> + Drop>(
+    lone: &mut VecDeque<Lone<D, E>>,
+    ends: &mut CoreEnds,
+    one: Lone<D, E>,
+    core: CoreEnd,
+)
+    requires room { deque_len lone.old < deque_capacity lone.old }
+    requires ends_room { vec_len ends.old < vec_capacity ends.old }
+    ensures lone { lone.new.items ≡ lone.old.items ++ one ∷ [] }
+    ensures ends { ends.new.items ≡ ends.old.items ++ core ∷ [] }
+{
+    lone.push_back_reserved(one);
+    ends.push_reserved(core);
+}
+
 // One sink. Where it can't be made, those that are there stay.
 fn make_one<H: Host>(
     alloc: Global,
@@ -192,8 +208,7 @@ fn make_one<H: Host>(
         return Err(Stop::Memory);
     };
     let (one, core) = new_lone(alloc, taped, SinkId(index), sink, host)?;
-    lone.push_back_reserved(one);
-    ends.push_reserved(core);
+    add_one(lone, ends, one, core);
     Ok(())
 }
 

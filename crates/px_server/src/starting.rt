@@ -265,7 +265,7 @@ where
     }
 }
 
-// Starts a sink's worker, for which there is room. Where that can't be, the sink comes back.
+// Starts a sink's worker. Where that can't be, the sink comes back.
 fn add_sink<R, D, E, C, L, G, O>(
     worker: &mut Worker<R, C, L, O>,
     gate: &Arc<G>,
@@ -280,11 +280,13 @@ where
     L: Seats + Send + Sync + 'static,
     G: Gate + Drop + Send + Sync + 'static,
     O: Outlet + Drop + Send + 'static,
-    requires seats { 1 < worker.old.seat.parts }
-    requires room { deque_len sinks.old < deque_capacity sinks.old }
+    requires { 1 < worker.old.seat.parts }
     ensures ok { OnOk result ((sinks.new.items ≡ sinks.old.items ++ one ∷ []) × (worker.new.seat.parts + 1 ≡ worker.old.seat.parts)) }
     ensures err { IfErr result (λ back. (back ≡ one) × (sinks.new.items ≡ sinks.old.items) × (worker.new.seat.parts ≡ worker.old.seat.parts)) }
 {
+    if sinks.reserve(1).is_err() {
+        return Err(one);
+    }
     let run = start_sink(worker, gate, one)?;
     sinks.push_back_reserved(run);
     Ok(())
@@ -326,7 +328,6 @@ where
     ensures capacity { deque_capacity lone.new ≡ deque_capacity lone.old }
     ensures fewer { OnOk result (length lone.new.items < length lone.old.items) }
 {
-    sinks.reserve(1)?;
     let Some(one) = lone.pop_front() else {
         unreachable!()
     };

@@ -1,5 +1,5 @@
 use Rattle.std.proofs.Common.{rules, ◌≡◌, ◌∷◌, map, ap, refl}
-use Rattle.std.proofs.lemmas.Result.{on_ok_weaker}
+use Rattle.std.proofs.lemmas.Result.{on_ok_weaker, err_from_is_err_and}
 use Rattle.px_core_cell.specs.Cell.{ends_of}
 use Rattle.px_core_cell.specs.History.{fresh_ends}
 use Rattle.px_server.specs.Parts.{start_of, starts_from}
@@ -66,3 +66,15 @@ returns-in_ok-make_one-in-Some-clause-front g n c =
     let cut : c.args.sinks.now ≡ c.in-Some.first.now ∷ c.in-Some.rest.now = search rules in
     adds_then (map start_of c.args.lone.now.items) (map start_of c.make_one.new.lone.items) (map start_of c.make_from.new.lone.items) _ _ (starts_from c.args.index c.args.sinks.now)
     c.in_ok-make_one-in-Some.ensures.made (ap (starts_from c.args.index) cut) c.make_from.ensures.front
+
+pub returns-in_err-make_one-in-Some-clause-boxes : goal.returns-in_err-make_one-in-Some-clause-boxes
+returns-in_err-make_one-in-Some-clause-boxes g n c = let p = err_from_is_err_and c.from_residual.result c.from_residual.ensures.1 in rw (p.1) tt
+
+pub returns-in_err-make_one-in-Some-clause-ends : goal.returns-in_err-make_one-in-Some-clause-ends
+returns-in_err-make_one-in-Some-clause-ends g n c = let p = err_from_is_err_and c.from_residual.result c.from_residual.ensures.1 in rw (p.1) tt
+
+pub returns-in_err-make_one-in-Some-clause-made : goal.returns-in_err-make_one-in-Some-clause-made
+returns-in_err-make_one-in-Some-clause-made g n c = let p = err_from_is_err_and c.from_residual.result c.from_residual.ensures.1 in rw (p.1) tt
+
+pub returns-in_err-make_one-in-Some-clause-tapes : goal.returns-in_err-make_one-in-Some-clause-tapes
+returns-in_err-make_one-in-Some-clause-tapes g n c = let p = err_from_is_err_and c.from_residual.result c.from_residual.ensures.1 in rw (p.1) tt

@@ -9,11 +9,11 @@ use Rattle.px_server.proofs.Later.{later_refl}
 use Rattle.px_server.proofs.Making.{lent_as, lent_more, map_one, taping_one}
 use Rattle.px_server.proofs.sinks.make_one.Goals as goal
 
-pub push_back_reserved-requires : goal.push_back_reserved-requires
-push_back_reserved-requires g c = c.in-Ok.ensures.room
+pub add_one-requires-clause-room : goal.add_one-requires-clause-room
+add_one-requires-clause-room g c = c.in-Ok.ensures.room
 
-pub push_reserved-requires : goal.push_reserved-requires
-push_reserved-requires g c = c.in-Ok.ensures.ends_room
+pub add_one-requires-clause-ends_room : goal.add_one-requires-clause-ends_room
+add_one-requires-clause-ends_room g c = c.in-Ok.ensures.ends_room
 
 pub returns-in_default-clause-made : goal.returns-in_default-clause-made
 returns-in_default-clause-made g c = tt
@@ -72,27 +72,27 @@ returns-clause-later g c = c.new_lone.ensures.later
 
 pub returns-clause-lent : goal.returns-clause-lent
 returns-clause-lent g c = λ lent.
-    lent_more c.args.lone.now.items c.reserve_one.new.lone.items c.push_back_reserved.new.self.items _ (g.H.Host.now c.new_lone.new.host) c.reserve_one.ensures.lone c.push_back_reserved.ensures.items
+    lent_more c.args.lone.now.items c.reserve_one.new.lone.items c.add_one.new.lone.items _ (g.H.Host.now c.new_lone.new.host) c.reserve_one.ensures.lone c.add_one.ensures.lone
     (c.in_ok-one.ensures.lent _ lent)
 
 pub returns-clause-made : goal.returns-clause-made
 returns-clause-made g c =
-    map_one start_of c.args.lone.now.items c.reserve_one.new.lone.items c.push_back_reserved.new.self.items _ _ c.reserve_one.ensures.lone c.push_back_reserved.ensures.items
+    map_one start_of c.args.lone.now.items c.reserve_one.new.lone.items c.add_one.new.lone.items _ _ c.reserve_one.ensures.lone c.add_one.ensures.lone
     c.in_ok-one.ensures.start
 
 pub returns-clause-ends : goal.returns-clause-ends
 returns-clause-ends g c =
-    map_one ends_of c.args.ends.now.items c.reserve_one.new.ends.items c.push_reserved.new.self.items c.in_ok-one.core _ c.reserve_one.ensures.ends c.push_reserved.ensures.items c.in_ok-one.ensures.core
+    map_one ends_of c.args.ends.now.items c.reserve_one.new.ends.items c.add_one.new.ends.items c.in_ok-one.core _ c.reserve_one.ensures.ends c.add_one.ensures.ends c.in_ok-one.ensures.core
 
 pub returns-clause-boxes : goal.returns-clause-boxes
 returns-clause-boxes g c = λ so.
-    map_one boxes_in c.args.lone.now.items c.reserve_one.new.lone.items c.push_back_reserved.new.self.items _ (boxes_of c.in_ok-one.core) c.reserve_one.ensures.lone c.push_back_reserved.ensures.items
+    map_one boxes_in c.args.lone.now.items c.reserve_one.new.lone.items c.add_one.new.lone.items _ (boxes_of c.in_ok-one.core) c.reserve_one.ensures.lone c.add_one.ensures.lone
     c.in_ok-one.ensures.boxes
     ∙ ap (λ (l : _). l ++ boxes_of c.in_ok-one.core ∷ []) so
-    ∙ sym (map_one boxes_of c.args.ends.now.items c.reserve_one.new.ends.items c.push_reserved.new.self.items c.in_ok-one.core (boxes_of c.in_ok-one.core) c.reserve_one.ensures.ends c.push_reserved.ensures.items refl)
+    ∙ sym (map_one boxes_of c.args.ends.now.items c.reserve_one.new.ends.items c.add_one.new.ends.items c.in_ok-one.core (boxes_of c.in_ok-one.core) c.reserve_one.ensures.ends c.add_one.ensures.ends refl)
 
 pub returns-clause-tapes : goal.returns-clause-tapes
 returns-clause-tapes g c = λ on all.
     subst (AllByRecursion (λ (b : _). b ≡ true))
-    (sym (map_one tapes_in c.args.lone.now.items c.reserve_one.new.lone.items c.push_back_reserved.new.self.items _ c.args.taped c.reserve_one.ensures.lone c.push_back_reserved.ensures.items c.in_ok-one.ensures.tapes))
+    (sym (map_one tapes_in c.args.lone.now.items c.reserve_one.new.lone.items c.add_one.new.lone.items _ c.args.taped c.reserve_one.ensures.lone c.add_one.ensures.lone c.in_ok-one.ensures.tapes))
     (taping_one (map tapes_in c.args.lone.now.items) c.args.taped all on)

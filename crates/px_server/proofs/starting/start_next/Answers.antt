@@ -2,23 +2,14 @@ use Rattle.std.proofs.Common.{◌++◌, ◌∙◌, ap, refl, List}
 use Rattle.px_server.proofs.Going.{put_back, moved_over, fewer_left, parts_over, parts_same}
 use Rattle.px_server.proofs.starting.start_next.Goals as goal
 
-pub returns-in_err-reserve-clause-parts : goal.returns-in_err-reserve-clause-parts
-returns-in_err-reserve-clause-parts g c = refl
-
-pub returns-in_err-reserve-clause-all : goal.returns-in_err-reserve-clause-all
-returns-in_err-reserve-clause-all g c = ap (λ (l : List _). l ++ c.args.lone.now.items) c.reserve.ensures.items
-
-pub returns-in_err-reserve-clause-capacity : goal.returns-in_err-reserve-clause-capacity
-returns-in_err-reserve-clause-capacity g c = refl
-
 pub returns-in-Ok-clause-parts : goal.returns-in-Ok-clause-parts
 returns-in-Ok-clause-parts g c =
     parts_over c.add_sink.new.worker.seat.parts c.args.worker.now.seat.parts c.args.lone.now.items c.pop_front.new.self.items c.in-Some.one c.in-Ok.ensures.ok.1 c.in-Some.ensures.items
 
 pub returns-in-Ok-clause-all : goal.returns-in-Ok-clause-all
 returns-in-Ok-clause-all g c =
-    moved_over c.args.sinks.now.items c.reserve.new.self.items c.add_sink.new.sinks.items c.args.lone.now.items c.pop_front.new.self.items c.in-Some.one c.in-Some.one
-    c.reserve.ensures.items c.in-Ok.ensures.ok.0 refl c.in-Some.ensures.items
+    moved_over c.args.sinks.now.items c.args.sinks.now.items c.add_sink.new.sinks.items c.args.lone.now.items c.pop_front.new.self.items c.in-Some.one c.in-Some.one
+    refl c.in-Ok.ensures.ok.0 refl c.in-Some.ensures.items
 
 pub returns-in-Ok-clause-capacity : goal.returns-in-Ok-clause-capacity
 returns-in-Ok-clause-capacity g c = c.pop_front.ensures.capacity
@@ -33,7 +24,7 @@ returns-in-Err-clause-parts g c =
 
 pub returns-in-Err-clause-all : goal.returns-in-Err-clause-all
 returns-in-Err-clause-all g c =
-    ap (λ (l : List _). l ++ c.push_front_reserved.new.self.items) (c.in-Err.ensures.err.1 ∙ c.reserve.ensures.items)
+    ap (λ (l : List _). l ++ c.push_front_reserved.new.self.items) c.in-Err.ensures.err.1
     ∙ ap (λ (l : List _). c.args.sinks.now.items ++ l)
     (put_back c.args.lone.now.items c.pop_front.new.self.items c.push_front_reserved.new.self.items c.in-Some.one c.in-Err.one c.in-Some.ensures.items c.in-Err.ensures.err.0 c.push_front_reserved.ensures.items)
 

@@ -3,10 +3,10 @@ use Rattle.std.specs.VecDeque.{deque_capacity}
 use Rattle.px_server.specs.Parts.{start_of}
 use Rattle.px_server.specs.Working.{boxes_in, tapes_in}
 use Rattle.px_server.proofs.Accepting.{room_left}
-use Rattle.px_server.proofs.serving.worked.Goals as goal
+use Rattle.px_server.proofs.serving.Serving.worked.Goals as goal
 
 pub work-stop-requires-clause-idle : goal.work-stop-requires-clause-idle
-work-stop-requires-clause-idle g c κs within = (c.new.ensures.items, c.new-2.ensures.items)
+work-stop-requires-clause-idle g c κs within = c.requires.idle
 
 pub work-stop-requires-clause-seats : goal.work-stop-requires-clause-seats
 work-stop-requires-clause-seats g c κs within = c.requires.seats
