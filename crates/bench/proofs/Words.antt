@@ -1,5 +1,5 @@
 -- Work values are words of 32 bits.
-use Rattle.std.proofs.Common.{rules, ◌^◌, ◌<◌, arith, ℤ, pos, negsuc, w32, FitsSigned}
+use Rattle.std.proofs.Common.{arith, ℤ, w32, FitsSigned}
 use Rattle.std.proofs.lemmas.Int.{ints}
 use Rattle.px_sample.specs.declared.format.Width.{Width}
 use Rattle.px_sample.specs.declared.format.Width.TheVariants.{W8, W16, W32}

@@ -1,6 +1,7 @@
 // Data frames through a core.
 ghost use Rattle.std.specs.Prelude.{◌≡◌, ◌≢◌, ◌<◌, ◌≤◌, length, IfOk};
 ghost use Rattle.px_msg.specs.View.{sample_spec};
+ghost use Rattle.px_session.specs.HeaderRules.{IsHeader};
 
 use px_block::{Blocks, Fresh};
 use px_core::Core;
@@ -8,7 +9,7 @@ use px_ends::{Calls, MemSource};
 use px_frame::{Body, Frame, Packet};
 use px_msg::Parcel;
 use px_sample::Spec;
-use px_session::{Reader, Step};
+use px_session::{Header, Reader, Step};
 use px_types::{ConnId, Mem, NoMemory, SinkId, Text};
 use std::alloc::Global;
 
@@ -53,7 +54,7 @@ impl Parcel for Stub {
 }
 
 // A header of four sinks: S16LE, mono, 48,000 frames a second.
-fn header(alloc: Global) -> Mem<Text> {
+fn header_bytes(alloc: Global) -> Mem<Text> {
     let mut bytes = Vec::new(alloc);
     bytes.extend_from_slice(b"PRS1")?;
     bytes.extend_from_slice(&[0; 256])?;
@@ -65,14 +66,22 @@ fn header(alloc: Global) -> Mem<Text> {
     Ok(Text::from_vec(bytes))
 }
 
-// A core before its first step.
-fn new_core(alloc: Global) -> Mem<Core<Stub>> {
-    let mut source = MemSource::new(header(alloc)?, Calls::none(alloc));
-    let mut reader = Reader::new(alloc)?;
+// It, read.
+fn header(alloc: Global, reader: &mut Reader) -> Mem<Header>
+    ensures { IfOk result IsHeader }
+{
+    let mut source = MemSource::new(header_bytes(alloc)?, Calls::none(alloc));
     match reader.next(&mut source) {
-        Ok(Step::Header(header)) => Core::new(alloc, &header),
+        Ok(Step::Header(header)) => Ok(header),
         _ => Err(NoMemory),
     }
+}
+
+/// A core before its first step.
+pub(crate) fn new_core(alloc: Global) -> Mem<Core<Stub>> {
+    let mut reader = Reader::new(alloc)?;
+    let header = header(alloc, &mut reader)?;
+    Core::new(alloc, &header)
 }
 
 /// A client asks by a control packet.
@@ -110,18 +119,17 @@ fn create(alloc: Global, core: &mut Core<Stub>, sink: u8) -> Mem<()> {
     ask(core, CLIENT, packet)
 }
 
-/// A core with the client and its streams, and with so many that listen, up to 63.
-pub(crate) fn with_streams(alloc: Global, streams: u32, listeners: u32) -> Mem<Core<Stub>> {
-    let mut core = new_core(alloc)?;
-    enter(alloc, &mut core, CLIENT)?;
+/// The client comes to a core and makes its streams, and so many come that listen, up to 63.
+pub(crate) fn fill(alloc: Global, core: &mut Core<Stub>, streams: u32, listeners: u32) -> Mem<()> {
+    enter(alloc, core, CLIENT)?;
     for stream in 0..streams {
         let sink = (stream / ON_SINK % u32::from(SINKS)) as u8;
-        create(alloc, &mut core, sink)?;
+        create(alloc, core, sink)?;
     }
     for listener in 0..listeners.min(LISTENERS) {
-        listen(alloc, &mut core, ConnId(FIRST_LISTENER + listener))?;
+        listen(alloc, core, ConnId(FIRST_LISTENER + listener))?;
     }
-    Ok(core)
+    Ok(())
 }
 
 // Four bytes.
@@ -174,8 +182,15 @@ pub(crate) fn deliver(core: &mut Core<Stub>) -> u64 {
     taken
 }
 
-// The messages of so many data frames, each to the next stream.
-fn send(alloc: Global, core: &mut Core<Stub>, streams: u32, frames: u32) -> Mem<u64> {
+// The messages of so many streams and listeners, and of so many data frames, each to the next stream.
+fn send(
+    alloc: Global,
+    core: &mut Core<Stub>,
+    streams: u32,
+    listeners: u32,
+    frames: u32,
+) -> Mem<u64> {
+    fill(alloc, core, streams, listeners)?;
     let mut messages = deliver(core);
     for frame in 0..frames {
         write(alloc, core, frame % streams.max(1))?;
@@ -184,11 +199,18 @@ fn send(alloc: Global, core: &mut Core<Stub>, streams: u32, frames: u32) -> Mem<
     Ok(messages)
 }
 
+// The same, through a new core.
+fn sent(alloc: Global, streams: u32, listeners: u32, frames: u32) -> Mem<u64> {
+    let mut core = new_core(alloc)?;
+    let messages = send(alloc, &mut core, streams, listeners, frames);
+    drop(core);
+    messages
+}
+
 /// Sends so many data frames through a core that has so many inputs, each frame to the next stream, while so many clients listen to
 /// all that is told, and says how many messages waited for the sinks. Takes memory.
 pub fn core_line(alloc: Global, inputs: u32, frames: u32, listeners: u32) -> Mem<String> {
-    let mut core = with_streams(alloc, inputs, listeners)?;
-    let messages = send(alloc, &mut core, inputs, frames)?;
+    let messages = sent(alloc, inputs, listeners, frames)?;
     Ok(format!(in alloc;
         "{inputs} inputs, {listeners} listeners, {frames} frames, {messages} messages"
     )?)

@@ -88,6 +88,14 @@ fn print(rt: &HostRuntime, line: Mem<String>) -> io::Result<()> {
     }
 }
 
+// The lines of all works, each done once or as often as the counts say.
+fn print_all(rt: &HostRuntime, counts: [Option<u32>; 3], packet: &[u8]) -> io::Result<()> {
+    for work in ALL {
+        print(rt, line(rt.alloc(), work, counts, packet))?;
+    }
+    Ok(())
+}
+
 fn main(rt: HostRuntime) -> io::Result<()> {
     let alloc = rt.alloc();
     let mut words = env::args(&rt)?.skip(1);
@@ -100,11 +108,6 @@ fn main(rt: HostRuntime) -> io::Result<()> {
     rt.stdin().read_to_end(&mut packet)?;
     match work {
         Some(work) => print(&rt, line(alloc, work, counts, &packet)),
-        None => {
-            for work in ALL {
-                print(&rt, line(alloc, work, counts, &packet))?;
-            }
-            Ok(())
-        }
+        None => print_all(&rt, counts, &packet),
     }
 }

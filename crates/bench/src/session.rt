@@ -59,12 +59,18 @@ fn read<S: Source>(alloc: Global, source: &mut S) -> Result<Count, ReadError> {
     Ok(count)
 }
 
-/// Reads a session of so many Bytes events of 64 KiB, made in memory, and says how many events and bytes there were. Takes memory.
-pub fn session_line(alloc: Global, events: u32) -> Mem<String> {
+// What is read of a session of so many events.
+fn counts(alloc: Global, events: u32) -> Mem<Count> {
     let session = session(alloc, events)?;
     let mut source = MemSource::new(Text::from_vec(session), Calls::none(alloc));
     match read(alloc, &mut source) {
-        Ok(count) => Ok(format!(in alloc; "{} events, {} bytes", count.events, count.bytes)?),
+        Ok(count) => Ok(count),
         Err(_) => Err(NoMemory),
     }
+}
+
+/// Reads a session of so many Bytes events of 64 KiB, made in memory, and says how many events and bytes there were. Takes memory.
+pub fn session_line(alloc: Global, events: u32) -> Mem<String> {
+    let count = counts(alloc, events)?;
+    Ok(format!(in alloc; "{} events, {} bytes", count.events, count.bytes)?)
 }

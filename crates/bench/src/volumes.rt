@@ -1,6 +1,6 @@
 //! Volume commands through a core.
 
-use crate::data::{CLIENT, Stub, ask, deliver, with_streams};
+use crate::data::{CLIENT, Stub, ask, deliver, fill, new_core};
 use px_core::Core;
 use px_types::Mem;
 use std::alloc::Global;
@@ -17,20 +17,36 @@ fn set_volume(alloc: Global, core: &mut Core<Stub>, input: u32, volume: u8) -> M
     ask(core, CLIENT, packet)
 }
 
+// The messages of so many inputs and listeners, and of so many volumes, each of the next input.
+fn set_volumes(
+    alloc: Global,
+    core: &mut Core<Stub>,
+    inputs: u32,
+    listeners: u32,
+    commands: u32,
+) -> Mem<u64> {
+    fill(alloc, core, inputs, listeners)?;
+    let mut messages = deliver(core);
+    for command in 0..commands {
+        let input = command % inputs.max(1);
+        set_volume(alloc, core, input, (command % 256) as u8)?;
+        messages = messages.wrapping_add(deliver(core));
+    }
+    Ok(messages)
+}
+
+// The same, of a new core.
+fn told(alloc: Global, inputs: u32, listeners: u32, commands: u32) -> Mem<u64> {
+    let mut core = new_core(alloc)?;
+    let messages = set_volumes(alloc, &mut core, inputs, listeners, commands);
+    drop(core);
+    messages
+}
+
 /// Sets a volume of a core's inputs so often, each time of the next input, while so many clients listen to all that is told, and says
 /// how many messages waited for the sinks. Takes memory.
 pub fn volumes_line(alloc: Global, inputs: u32, commands: u32, listeners: u32) -> Mem<String> {
-    let mut core = with_streams(alloc, inputs, listeners)?;
-    let mut messages = deliver(&mut core);
-    for command in 0..commands {
-        set_volume(
-            alloc,
-            &mut core,
-            command % inputs.max(1),
-            (command % 256) as u8,
-        )?;
-        messages = messages.wrapping_add(deliver(&mut core));
-    }
+    let messages = told(alloc, inputs, listeners, commands)?;
     Ok(format!(in alloc;
         "{inputs} inputs, {listeners} listeners, {commands} volumes, {messages} messages"
     )?)

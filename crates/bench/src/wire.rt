@@ -8,11 +8,19 @@ use std::alloc::Global;
 // The protocol's version of the packet.
 const VERSION: u16 = 13;
 
-// How often the packet is the command that was wanted.
+// Whether the packet is the command that is wanted.
+fn is_create(alloc: Global, packet: &[u8]) -> bool {
+    let read = read_command(alloc, packet, VERSION);
+    let is_create = matches!(&read, Ok(Command::Create(_)));
+    drop(read);
+    is_create
+}
+
+// How often it is, of so many times that it is read.
 fn commands(alloc: Global, rounds: u32, packet: &[u8]) -> u64 {
     let mut found = 0u64;
     for _ in 0..rounds {
-        if let Ok(Command::Create(_)) = read_command(alloc, packet, VERSION) {
+        if is_create(alloc, packet) {
             found = found.wrapping_add(1);
         }
     }

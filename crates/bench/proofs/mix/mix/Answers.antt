@@ -1,4 +1,4 @@
-use Rattle.std.proofs.Common.{◌≡◌, ◌<◌, ℕ, length, arith, ap, ◌∙◌, ℤ, List, pos, get_or, replicate}
+use Rattle.std.proofs.Common.{◌≡◌, length, arith, ap, ◌∙◌, ℤ, List, pos, get_or, replicate}
 use Rattle.std.proofs.lemmas.List.{get_or-replicate}
 use Rattle.px_sample.specs.Format.{width_of}
 use Rattle.bench.proofs.Words.{word_within}
