@@ -19,7 +19,7 @@ use crate::parcel::CellCore;
 use crate::step::{CoreStep, StepFault};
 use px_annals::{CoreEntry, PlainStep, Recorder};
 use px_core::Effects;
-use px_types::SinkId;
+use px_types::{NoMemory, SinkId};
 use std::alloc::Global;
 use std::sync::Wait;
 
@@ -46,9 +46,16 @@ fn own_step<C: Recorder<CoreEntry>>(
 {
     let owed = waits(&step);
     let entry = own_entry(alloc, log, &step)?;
-    let effects = act(alloc, core, step)?;
-    log.note(entry, owed);
-    Ok(effects)
+    match act(alloc, core, step) {
+        Ok(effects) => {
+            log.note(entry, owed);
+            Ok(effects)
+        }
+        Err(NoMemory) => {
+            drop(entry);
+            Err(StepFault::NoMemory)
+        }
+    }
 }
 
 // The next notice of a sink, if there is one.
@@ -71,9 +78,16 @@ fn notice_step<C: Recorder<CoreEntry>, R: Wait>(
         return Ok(None);
     };
     let entry = notice_entry(alloc, log, sink, notice)?;
-    let effects = end.collect(core, sink)?;
-    log.note(entry, true);
-    Ok(Some(effects))
+    match end.collect(core, sink) {
+        Ok(effects) => {
+            log.note(entry, true);
+            Ok(Some(effects))
+        }
+        Err(NoMemory) => {
+            drop(entry);
+            Err(StepFault::NoMemory)
+        }
+    }
 }
 
 // The messages that wait for a sink, to its inbox.

@@ -4,28 +4,28 @@ use Rattle.px_core_cell.specs.Cell.{desk_of, ends_of}
 use Rattle.px_core_cell.proofs.Doing.{Collects, notice_done}
 use Rattle.px_core_cell.proofs.parts.notice_step.Goals as goal
 
-pub returns-clause-gives : goal.returns-clause-gives
-returns-clause-gives g c =
+pub returns-in-Ok-clause-gives : goal.returns-in-Ok-clause-gives
+returns-in-Ok-clause-gives g c =
     let kept : c.fetch.new.self.kept ≡ Some c.in-Some.notice = c.in-Some.is in
-    let used : ends_of c.collect.new.self ≡ record (ends_of c.fetch.new.self) { kept = None } = c.in_ok-effects.ensures.used in
-    let collects : Collects g.C.Recorder.told c.args.sink.0 c.fetch.new.self.kept c.args.core.now.state c.collect.new.core.state c.in_ok-effects.effects = c.in_ok-effects.ensures.done in
+    let used : ends_of c.collect.new.self ≡ record (ends_of c.fetch.new.self) { kept = None } = c.in-Ok.ensures.used in
+    let collects : Collects g.C.Recorder.told c.args.sink.0 c.fetch.new.self.kept c.args.core.now.state c.collect.new.core.state c.in-Ok.effects = c.in-Ok.ensures.done in
     notice_done g.C.Recorder.told c.args.sink.0 (desk_of c.args.core.now.state c.args.log.now) (desk_of c.collect.new.core.state c.note.new.self) (ends_of c.args.end.now) (ends_of c.fetch.new.self) (ends_of c.collect.new.self)
-    c.in-Some.notice c.in_ok-effects.effects c.fetch.ensures.fetches kept used collects
+    c.in-Some.notice c.in-Ok.effects c.fetch.ensures.fetches kept used collects
     (c.note.ensures.told ∙ (λ i. noted (record { step = c.in_ok-entry.ensures.step i }) (c.in_ok-entry.ensures.told i)))
     (c.note.ensures.steps ∙ ap (λ (n : ℕ). n + 1) c.in_ok-entry.ensures.steps)
     c.note.ensures.owed
     (c.note.ensures.fault ∙ c.in_ok-entry.ensures.fault)
 
-pub returns-clause-stops : goal.returns-clause-stops
-returns-clause-stops g c = tt
+pub returns-in-Ok-clause-stops : goal.returns-in-Ok-clause-stops
+returns-in-Ok-clause-stops g c = tt
 
-pub returns-clause-said : goal.returns-clause-said
-returns-clause-said g c =
+pub returns-in-Ok-clause-said : goal.returns-in-Ok-clause-said
+returns-in-Ok-clause-said g c =
     let said = c.in_ok-entry.ensures.said in
     let calm = c.note.ensures.calm in (said.0, calm.0 ∙ said.1, (calm.1 ∙ said.2.0, calm.2 ∙ said.2.1))
 
-pub returns-clause-boxes : goal.returns-clause-boxes
-returns-clause-boxes g c = c.in_ok-effects.ensures.boxes ∙ c.fetch.ensures.boxes
+pub returns-in-Ok-clause-boxes : goal.returns-in-Ok-clause-boxes
+returns-in-Ok-clause-boxes g c = c.in-Ok.ensures.boxes ∙ c.fetch.ensures.boxes
 
 pub returns-in_default-clause-said : goal.returns-in_default-clause-said
 returns-in_default-clause-said g c = (refl, refl, refl)
@@ -33,8 +33,8 @@ returns-in_default-clause-said g c = (refl, refl, refl)
 pub returns-in_default-clause-boxes : goal.returns-in_default-clause-boxes
 returns-in_default-clause-boxes g c = c.fetch.ensures.boxes
 
-pub returns-in_err-effects-clause-boxes : goal.returns-in_err-effects-clause-boxes
-returns-in_err-effects-clause-boxes g c = c.in_err-effects.ensures.boxes ∙ c.fetch.ensures.boxes
+pub returns-in-Err-clause-boxes : goal.returns-in-Err-clause-boxes
+returns-in-Err-clause-boxes g c = c.in-Err.ensures.boxes ∙ c.fetch.ensures.boxes
 
 pub returns-in_err-entry-clause-boxes : goal.returns-in_err-entry-clause-boxes
 returns-in_err-entry-clause-boxes g c = c.fetch.ensures.boxes
