@@ -21,6 +21,10 @@ error_for x w = record { conn = x.conn; packet = refusal w.tag (code_of NoEntity
 abbrev pub errors_for : Input → List Waiting → List Sending
 errors_for x waiting = map (error_for x) (waiting_of waiting x.index)
 
+-- an input ends: who asked has a reply, and behind it go these errors and these messages
+abbrev pub ended : {M G : Type 0} → Input → List Sending → List Sending → ℕ → Planned M G
+ended x errors told tag = record { reply = Some (reply_to tag); errors = errors; told = told; changes = Leaves x.index ∷ [] }
+
 -- an input ends: the client has its reply, and then an error for each request that waits
 abbrev pub deleted : {P : Type 0} → Input → List Waiting → ℕ → Planned (Msg P) FlatGroup
 deleted x waiting tag = record { reply = Some (reply_to tag); errors = errors_for x waiting; told = []; changes = Leaves x.index ∷ [] }

@@ -13,6 +13,7 @@ ghost use Rattle.px_ctl_play.specs.Answer.{sent_to};
 ghost use Rattle.px_ctl_play.specs.Arrival.{hands_over, attributes_told, arrived_message, joined_by, both_regrouped, later, arrival_of, arrive, HasChannels, CanJoin};
 
 use crate::answer::sent_to;
+use crate::changes::two;
 use crate::created::latency_of;
 use crate::departure::{same_spec, without};
 use crate::factors::{own_factors, regrouped, regrouped_and};
@@ -161,10 +162,14 @@ fn both_regrouped<P: Drop>(
 ) -> Mem<Vec<Change<Msg<P>, Group>>>
     ensures { IfOk result (λ changes. changes.items ≡ both_regrouped x.now from sink joined inputs.now) }
 {
-    let mut changes = Vec::new(alloc);
-    changes.push(regrouped(alloc, x.sink, from, inputs)?)?;
-    changes.push(regrouped_and(alloc, sink, joined, inputs, x.index)?)?;
-    Ok(changes)
+    let left = regrouped(alloc, x.sink, from, inputs)?;
+    match regrouped_and(alloc, sink, joined, inputs, x.index) {
+        Ok(reached) => two(alloc, left, reached),
+        Err(error) => {
+            drop(left);
+            Err(error)
+        }
+    }
 }
 
 // The changes behind the arrival.

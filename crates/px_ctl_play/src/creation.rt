@@ -16,6 +16,7 @@ ghost use Rattle.px_ctl_play.specs.Joining.{IsReady, IsReadyAt};
 ghost use Rattle.px_ctl_play.specs.Create.{input_made, new_of, begun, changes_of, created, create_on, create};
 
 use crate::asked::{attr_on, feed_on, is_lawful, map_on, spec_on};
+use crate::changes::{and_then, one};
 use crate::created::{new_of, reply_of};
 use crate::factors::regrouped_with;
 use crate::joining::joined;
@@ -84,14 +85,13 @@ fn made_on<P: Drop>(
     requires streams { me.now.streams < 4294967295 }
     ensures { IfOk result (λ changes. changes.items ≡ Made x.now (new_of a.now group.now feed x.now) (me.now.streams + 1) (made + 1) ∷ []) }
 {
-    let mut changes = Vec::new(alloc);
-    changes.push(Change::Made {
+    let change = Change::Made {
         input: *x,
         new: new_of(a, group, feed, x),
         streams: me.streams + 1,
         inputs: made + 1,
-    })?;
-    Ok(changes)
+    };
+    one(alloc, change)
 }
 
 // The first changes that a new stream makes: its sink gets the stream, and this group, in which its input is.
@@ -110,9 +110,14 @@ fn begun<P: Drop>(
     requires streams { me.now.streams < 4294967295 }
     ensures { IfOk result (λ changes. changes.items ≡ begun inputs.now made me.now a.now group feed x.now) }
 {
-    let mut changes = made_on(alloc, made, me, a, &group, feed, x)?;
-    changes.push(regrouped_with(alloc, x.sink, group, inputs, x)?)?;
-    Ok(changes)
+    let changes = made_on(alloc, made, me, a, &group, feed, x)?;
+    match regrouped_with(alloc, x.sink, group, inputs, x) {
+        Ok(regrouped) => and_then(changes, regrouped),
+        Err(error) => {
+            drop(changes);
+            Err(error)
+        }
+    }
 }
 
 // The changes that a new stream makes, whose input is in this group of its sink.
@@ -131,9 +136,14 @@ fn changes_of<P: Drop>(
     requires streams { me.now.streams < 4294967295 }
     ensures { IfOk result (λ changes. changes.items ≡ changes_of inputs.now made me.now a.now group feed x) }
 {
-    let mut changes = begun(alloc, inputs, made, me, a, group, feed, &x)?;
-    changes.push(described(x.index, a)?)?;
-    Ok(changes)
+    let changes = begun(alloc, inputs, made, me, a, group, feed, &x)?;
+    match described(x.index, a) {
+        Ok(described) => and_then(changes, described),
+        Err(error) => {
+            drop(changes);
+            Err(error)
+        }
+    }
 }
 
 // The stream is made.
@@ -162,8 +172,13 @@ fn created<P: Drop>(
     let x = input_made(made, me, &sink, a);
     let group = joined(alloc, group, &sink, a, &feed, &x)?;
     let changes = changes_of(alloc, inputs, made, me, a, group, feed, x)?;
-    let reply = reply_of(alloc, tag, sink, a, &x)?;
-    Ok(Plan::replied(alloc, reply, changes))
+    match reply_of(alloc, tag, sink, a, &x) {
+        Ok(reply) => Ok(Plan::replied(alloc, reply, changes)),
+        Err(_) => {
+            drop(changes);
+            Err(Refusal::NoMemory)
+        }
+    }
 }
 
 // The stream is made on this sink, which has this group, where the sink can play it and there is room for it.

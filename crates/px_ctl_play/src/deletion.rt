@@ -1,11 +1,12 @@
 //! The end of a stream: DELETE_PLAYBACK_STREAM (PulseAudio: `command_delete_stream` of `pulsecore/protocol-native.c`; that
 //! requests which wait are told so is own).
 
-ghost use Rattle.std.specs.Prelude.{◌≡◌, ◌++◌, ◌∷◌, List, IfOk, OnOk};
+ghost use Rattle.std.specs.Prelude.{◌≡◌, ◌++◌, ◌∷◌, List, IfOk, OnOk, Ok};
 ghost use Rattle.px_plan.specs.declared.waiting.Waiting.{Waiting};
 ghost use Rattle.px_plan.specs.Row.{Plans};
-ghost use Rattle.px_ctl_play.specs.Delete.{errors_for, delete};
+ghost use Rattle.px_ctl_play.specs.Delete.{errors_for, ended, delete};
 
+use crate::changes::one;
 use px_flat::Group;
 use px_msg::Msg;
 use px_plan::{Change, Input, Plan, Refusal, Sending, Waiting, present};
@@ -38,6 +39,26 @@ pub(crate) fn errors_for(alloc: Global, x: &Input, waiting: &[Waiting]) -> Mem<V
     Ok(errors)
 }
 
+/// An input ends: who asked has a reply, and behind it go these errors and these messages.
+pub(crate) fn ended<M: Drop, G: Drop>(
+    alloc: Global,
+    x: &Input,
+    errors: Vec<Sending>,
+    told: Vec<Sending>,
+    tag: u32,
+) -> Result<Plan<M, G>, Refusal>
+    ensures { Plans result (Ok (ended x.now errors.items told.items tag)) }
+{
+    let reply = px_reply::plain(alloc, tag)?;
+    let changes = one(alloc, Change::Leaves(x.index))?;
+    Ok(Plan {
+        reply: Some(reply),
+        errors,
+        told,
+        changes,
+    })
+}
+
 /// DELETE_PLAYBACK_STREAM, where so many requests wait: `NoEntity` where the connection has no stream of this number, else
 /// the stream ends. Behind the plain reply each request that waits of it is answered by the error `NoEntity`, in the order in
 /// which they were asked.
@@ -50,14 +71,6 @@ pub fn delete<P: Drop>(
     ensures { Plans result (delete stream waiting.now tag) }
 {
     let x = present(stream, ErrorCode::NoEntity)?;
-    let reply = px_reply::plain(alloc, tag)?;
     let errors = errors_for(alloc, &x, waiting)?;
-    let mut changes = Vec::new(alloc);
-    changes.push(Change::Leaves(x.index))?;
-    Ok(Plan {
-        reply: Some(reply),
-        errors,
-        told: Vec::new(alloc),
-        changes,
-    })
+    ended(alloc, &x, errors, Vec::new(alloc), tag)
 }

@@ -6,6 +6,7 @@ ghost use Rattle.px_flat.specs.FlatVolume.{member_of, detached};
 ghost use Rattle.px_msg.specs.View.{sample_spec};
 ghost use Rattle.px_ctl_play.specs.Told.{same_spec, gives_up, gone, left, IsMemberIn};
 
+use crate::changes::two;
 use crate::factors::regrouped;
 use px_flat::Group;
 use px_msg::Msg;
@@ -52,9 +53,8 @@ fn gone<P: Drop>(
         return Ok(Plan::idle(alloc));
     };
     let group = without(alloc, group, x.index)?;
-    let mut changes = Vec::new(alloc);
-    changes.push(Change::Gone(x.index))?;
-    changes.push(regrouped(alloc, x.sink, group, inputs)?)?;
+    let regrouped = regrouped(alloc, x.sink, group, inputs)?;
+    let changes = two(alloc, Change::Gone(x.index), regrouped)?;
     Ok(Plan::changing(alloc, changes))
 }
 

@@ -126,6 +126,22 @@ fn settled_factors_with(
     Ok(list)
 }
 
+// The factors of the inputs that are settled on a sink with this group, and of one more behind them.
+fn factors_with(
+    alloc: Global,
+    sink: SinkId,
+    group: &Group,
+    inputs: &[Input],
+    more: &Input,
+) -> Mem<Vec<InputFactors>>
+    ensures { IfOk result (λ list. list.items ≡ factor_list group.now (settled_on inputs.now sink ++ more.now ∷ [])) }
+{
+    let real = group.real();
+    let mut list = settled_factors(alloc, sink, group, &real, inputs)?;
+    add_factors(&mut list, group, &real, more.index)?;
+    Ok(list)
+}
+
 /// A sink has this group, and is told the factors of all inputs that are settled on it. Own: PulseAudio sets each stream's
 /// soft volume for itself.
 pub(crate) fn regrouped<P: Drop>(
@@ -151,9 +167,7 @@ pub(crate) fn regrouped_with<P: Drop>(
 ) -> Mem<Change<Msg<P>, Group>>
     ensures { IfOk result (λ change. change ≡ regrouped sink group (settled_on inputs.now sink ++ more.now ∷ [])) }
 {
-    let real = group.real();
-    let mut list = settled_factors(alloc, sink, &group, &real, inputs)?;
-    add_factors(&mut list, &group, &real, more.index)?;
+    let list = factors_with(alloc, sink, &group, inputs, more)?;
     Ok(Change::Regrouped(sink, group, Msg::Factors(FactorList::from_vec(list))))
 }
 

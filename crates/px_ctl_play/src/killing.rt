@@ -1,14 +1,15 @@
 //! The end of a stream at another client's will: KILL_SINK_INPUT (PulseAudio: `command_kill` and `sink_input_kill_cb` of
 //! `pulsecore/protocol-native.c`; that requests which wait are told so is own).
 
-ghost use Rattle.std.specs.Prelude.{◌≡◌, IfOk};
+ghost use Rattle.std.specs.Prelude.{◌≡◌, IfOk, Ok};
 ghost use Rattle.px_plan.specs.Row.{Plans};
-ghost use Rattle.px_ctl_play.specs.Kill.{errors_to, kill_input};
+ghost use Rattle.px_ctl_play.specs.Answer.{sent_to};
+ghost use Rattle.px_ctl_play.specs.Kill.{errors_to, killed_message, killed, kill_input};
 
 use crate::answer::sent_to;
-use crate::deletion::errors_for;
-use px_plan::{Change, Connection, Input, Plan, Refusal, Sending, Waiting, present};
-use px_types::ErrorCode;
+use crate::deletion::{ended, errors_for};
+use px_plan::{Connection, Input, Plan, Refusal, Sending, Waiting, present};
+use px_types::{ErrorCode, Mem, NoMemory};
 use std::alloc::Global;
 
 // The errors for all requests that wait of an input, where its connection goes on.
@@ -26,6 +27,31 @@ fn errors_to(
     }
 }
 
+// PLAYBACK_STREAM_KILLED to the connection of an input, where that goes on.
+fn told(alloc: Global, owner: Option<Connection>, x: &Input) -> Mem<Vec<Sending>>
+    ensures { IfOk result (λ sent. sent.items ≡ sent_to owner (killed_message x.now)) }
+{
+    match px_reply::killed(alloc, x.stream) {
+        Ok(packet) => sent_to(alloc, owner, packet),
+        Err(_) => Err(NoMemory),
+    }
+}
+
+// An input ends, and its own client is told.
+fn killed<M: Drop, G: Drop>(
+    alloc: Global,
+    x: &Input,
+    owner: Option<Connection>,
+    waiting: &[Waiting],
+    tag: u32,
+) -> Result<Plan<M, G>, Refusal>
+    ensures { Plans result (Ok (killed x.now owner waiting.now tag)) }
+{
+    let errors = errors_to(alloc, owner, x, waiting)?;
+    let told = told(alloc, owner, x)?;
+    ended(alloc, x, errors, told, tag)
+}
+
 /// KILL_SINK_INPUT of this input, whose connection is `owner` where that goes on: the input ends. Behind the plain reply the
 /// owner gets the error `NoEntity` for each request that waits of it, in the order in which they were asked, and then
 /// PLAYBACK_STREAM_KILLED. Refused: `NoEntity` where there is no such input, or it has ended.
@@ -39,15 +65,5 @@ pub fn kill_input<M: Drop, G: Drop>(
     ensures { Plans result (kill_input input owner waiting.now tag) }
 {
     let x = present(input, ErrorCode::NoEntity)?;
-    let reply = px_reply::plain(alloc, tag)?;
-    let errors = errors_to(alloc, owner, &x, waiting)?;
-    let told = sent_to(alloc, owner, px_reply::killed(alloc, x.stream)?)?;
-    let mut changes = Vec::new(alloc);
-    changes.push(Change::Leaves(x.index))?;
-    Ok(Plan {
-        reply: Some(reply),
-        errors,
-        told,
-        changes,
-    })
+    killed(alloc, &x, owner, waiting, tag)
 }

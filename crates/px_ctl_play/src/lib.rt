@@ -6,6 +6,7 @@ mod answer;
 mod arrival;
 mod asked;
 mod buffer_attr;
+mod changes;
 mod control;
 mod created;
 mod creation;

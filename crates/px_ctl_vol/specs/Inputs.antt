@@ -11,6 +11,14 @@ use Rattle.px_plan.specs.Row.{Row, ◌>>=◌, check, present}
 use Rattle.px_ctl_vol.specs.Asked.{is_volume, fits}
 use Rattle.px_ctl_vol.specs.Factors.{regrouped}
 
+-- an input, where it is in this group, has the volume, where its channels can have it and it isn't on its way to another sink
+abbrev pub with_suiting_volume : {P : Type 0} → Input → FlatGroup → List Input → List ℕ → ℕ → Row (Planned (Msg P) FlatGroup)
+with_suiting_volume x group inputs volume tag = do
+  member ← present (member_of (FlatGroup.members group) (Input.index x)) NoEntity
+  suits ← check (fits volume (length (Member.volume member))) Invalid
+  free ← check (not (is_moving (Input.standing x))) Busy
+  Ok (regrouped (Input.sink x) (with_input_volume (Input.index x) volume group) inputs tag)
+
 -- the input, in this group of the sink that it is on, has the volume, and the sink and its other inputs follow
 abbrev pub set_input_volume : {P : Type 0} → Option Input → Option FlatGroup → List Input → List ℕ → ℕ → Row (Planned (Msg P) FlatGroup)
 set_input_volume input group inputs volume tag = do

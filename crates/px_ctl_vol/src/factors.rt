@@ -1,10 +1,12 @@
 //! A sink has another group of volumes, and is told the factors that this gives.
 
-ghost use Rattle.std.specs.Prelude.{◌≡◌, ◌++◌, ◌∷◌, List, Ok, IfOk, OnOk};
+ghost use Rattle.std.specs.Prelude.{◌≡◌, ◌++◌, ◌∷◌, [], List, Ok, IfOk, OnOk};
 ghost use Rattle.px_flat.specs.FlatVolume.{real_of};
 ghost use Rattle.px_plan.specs.declared.input.Input.{Input};
 ghost use Rattle.px_plan.specs.Input.{is_settled, settled_on};
+ghost use Rattle.px_plan.specs.Plan.{replied};
 ghost use Rattle.px_plan.specs.Row.{Plans};
+ghost use Rattle.px_reply.specs.Front.{reply_to};
 ghost use Rattle.px_ctl_vol.specs.Factors.{factor_list, regrouped};
 
 use px_flat::Group;
@@ -61,6 +63,20 @@ fn settled_factors(
     Ok(list)
 }
 
+// A plan of this change alone, with a reply without fields.
+fn replied<M: Drop, G: Drop>(
+    alloc: Global,
+    change: Change<M, G>,
+    tag: u32,
+) -> Result<Plan<M, G>, Refusal>
+    ensures { Plans result (Ok (replied (reply_to tag) (change ∷ []))) }
+{
+    let mut changes = Vec::new(alloc);
+    changes.push(change)?;
+    let reply = px_reply::plain(alloc, tag)?;
+    Ok(Plan::replied(alloc, reply, changes))
+}
+
 /// A sink has this group, and is told the factors of the inputs that are settled on it, in rising index; the client has a reply without
 /// fields.
 pub(crate) fn regrouped<P: Drop>(
@@ -72,9 +88,10 @@ pub(crate) fn regrouped<P: Drop>(
 ) -> Result<Plan<Msg<P>, Group>, Refusal>
     ensures { Plans result (Ok (regrouped sink group inputs.now tag)) }
 {
-    let reply = px_reply::plain(alloc, tag)?;
     let list = FactorList::from_vec(settled_factors(alloc, sink, &group, inputs)?);
-    let mut changes = Vec::new(alloc);
-    changes.push(Change::Regrouped(sink, group, Msg::Factors(list)))?;
-    Ok(Plan::replied(alloc, reply, changes))
+    replied(
+        alloc,
+        Change::Regrouped(sink, group, Msg::Factors(list)),
+        tag,
+    )
 }

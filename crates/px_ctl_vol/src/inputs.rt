@@ -9,7 +9,7 @@ ghost use Rattle.px_flat.specs.FlatVolume.{member_of, with_input_volume, with_in
 ghost use Rattle.px_plan.specs.Input.{is_moving};
 ghost use Rattle.px_plan.specs.Row.{Plans};
 ghost use Rattle.px_ctl_vol.specs.Factors.{regrouped};
-ghost use Rattle.px_ctl_vol.specs.Inputs.{set_input_volume, set_input_mute};
+ghost use Rattle.px_ctl_vol.specs.Inputs.{with_suiting_volume, set_input_volume, set_input_mute};
 
 use crate::asked::{asked, fits, is_volume};
 use crate::factors::regrouped;
@@ -63,6 +63,27 @@ fn with_volume<P: Drop>(
     regrouped(alloc, x.sink, changed, inputs, tag)
 }
 
+// The input, where it is a member of this group, has this volume, where its channels can have it and it isn't on its way.
+fn with_suiting_volume<P: Drop>(
+    alloc: Global,
+    x: &Input,
+    group: &Group,
+    inputs: &[Input],
+    volume: &RawVolume,
+    tag: u32,
+) -> Result<Plan<Msg<P>, Group>, Refusal>
+    requires { IsChannelVolume volume.now }
+    ensures { Plans result (with_suiting_volume x.now group.now inputs.now volume.now tag) }
+{
+    let member = present(member_of(group.members(), x.index), ErrorCode::NoEntity)?;
+    check(
+        fits(volume, member.volume.values().len()),
+        ErrorCode::Invalid,
+    )?;
+    check(!is_moving(x.standing), ErrorCode::Busy)?;
+    with_volume(alloc, x, group, inputs, volume, tag)
+}
+
 // The input is muted, or not.
 fn with_mute<P: Drop>(
     alloc: Global,
@@ -99,13 +120,7 @@ pub fn set_input_volume<P: Drop>(
     let Some(group) = group else {
         return Err(Refusal::Code(ErrorCode::NoEntity));
     };
-    let member = present(member_of(group.members(), x.index), ErrorCode::NoEntity)?;
-    check(
-        fits(volume, member.volume.values().len()),
-        ErrorCode::Invalid,
-    )?;
-    check(!is_moving(x.standing), ErrorCode::Busy)?;
-    with_volume(alloc, &x, group, inputs, volume, tag)
+    with_suiting_volume(alloc, &x, group, inputs, volume, tag)
 }
 
 /// SET_SINK_INPUT_MUTE of an input, where the sink that it is on has this group: it is muted or not, and the sink is told the factors
