@@ -134,10 +134,9 @@ IsOnProperties (commands.UpdateStream stream mode list) = ⊤
 IsOnProperties (commands.RemoveStream stream keys) = ⊤
 IsOnProperties _ = ⊥
 
--- on clients
+-- on clients, but for SET_CLIENT_NAME
 abbrev pub IsOnClients : Command → Type 0
 IsOnClients (commands.Auth version cookie) = ⊤
-IsOnClients (commands.SetClientName list) = ⊤
 IsOnClients (commands.Subscribe mask) = ⊤
 IsOnClients (commands.ClientInfo client) = ⊤
 IsOnClients commands.ClientInfoList = ⊤
@@ -154,19 +153,28 @@ IsOnServer (commands.DefaultSink name) = ⊤
 IsOnServer commands.ServerInfo = ⊤
 IsOnServer _ = ⊥
 
--- on sinks and inputs, whosever they are
+-- on sinks
 abbrev pub IsOnSinks : Command → Type 0
 IsOnSinks (commands.SinkInfo sink) = ⊤
 IsOnSinks commands.SinkInfoList = ⊤
-IsOnSinks (commands.InputInfo input) = ⊤
-IsOnSinks commands.InputInfoList = ⊤
-IsOnSinks (commands.KillInput input) = ⊤
 IsOnSinks (commands.SinkVolume sink volume) = ⊤
 IsOnSinks (commands.SinkMute sink on) = ⊤
-IsOnSinks (commands.InputVolume input volume) = ⊤
-IsOnSinks (commands.InputMute input on) = ⊤
-IsOnSinks (commands.Move input sink) = ⊤
 IsOnSinks _ = ⊥
+
+-- on inputs, whosever they are
+abbrev pub IsOnInputs : Command → Type 0
+IsOnInputs (commands.InputInfo input) = ⊤
+IsOnInputs commands.InputInfoList = ⊤
+IsOnInputs (commands.KillInput input) = ⊤
+IsOnInputs (commands.InputVolume input volume) = ⊤
+IsOnInputs (commands.InputMute input on) = ⊤
+IsOnInputs (commands.Move input sink) = ⊤
+IsOnInputs _ = ⊥
+
+-- those that are only read: SET_CLIENT_NAME gives its list away
+abbrev pub IsRead : Command → Type 0
+IsRead (commands.SetClientName list) = ⊥
+IsRead _ = ⊤
 
 -- ---- the order of refusals
 

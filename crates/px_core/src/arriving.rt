@@ -1,9 +1,11 @@
 //! A sink has given up the stream of an input that moves: the input is on the sink that it moves to.
 
-ghost use Rattle.std.specs.Prelude.{◌≡◌, IfOk, IfErr, OnOk, OnErr, None, Some};
+ghost use Rattle.std.specs.Prelude.{◌≡◌, IfOk, IfErr, OnOk, OnErr, None, Some, slice_get};
 ghost use Rattle.px_plan.specs.declared.input.Standing.TheVariants.{Moving};
+ghost use Rattle.px_plan.specs.Target.{IsTarget};
+ghost use Rattle.px_targets.specs.Sinks.{target_at};
 ghost use Rattle.px_core.specs.Keeps.{IsKept};
-ghost use Rattle.px_core.specs.Notice.{arrival_at, arrived_with};
+ghost use Rattle.px_core.specs.Notice.{arrival_at, arrival_between, arrived_with};
 ghost use Rattle.px_state.specs.State.{input_of};
 ghost use Rattle.px_core.specs.Step.{answer_effects, answered};
 ghost use Rattle.px_state.specs.Tables.{state_of};
@@ -12,13 +14,48 @@ use crate::notice::owner_of;
 use px_ctl_play::{Arrival, arrive};
 use px_flat::Group;
 use px_msg::{Msg, Parcel};
-use px_plan::Input;
+use px_plan::{Input, Target};
 use px_state::{Effects, Tables, delayed_count, finish_arrival};
 use px_targets::{group_on, target_at};
 use px_types::{Mem, SinkId};
 use std::alloc::Global;
 
-// What it does that an input is on a sink, but for its parcel.
+// What it does that an input is on this sink, but for its parcel.
+fn arrival_on<P: Parcel + Drop>(
+    alloc: Global,
+    tables: &Tables<P>,
+    to: SinkId,
+    sink: &Target,
+    x: &Input,
+) -> Mem<Option<Arrival<Msg<P>, Group>>>
+    requires kept { IsKept P.spec_of (state_of tables.now) }
+    requires here { input_of tables.now.inputs.items x.now.index ≡ Some x.now }
+    requires moves { x.now.standing ≡ Moving to }
+    requires there { target_at tables.now.sinks to ≡ Some sink.now }
+    requires lawful { IsTarget sink.now }
+    ensures { IfOk result (λ made. made ≡ arrival_between (state_of tables.now) x.now (Some sink.now) (slice_get tables.now.groups.items x.now.sink.0) (slice_get tables.now.groups.items to.0)) }
+{
+    let Some(from) = group_on(&tables.groups, x.sink) else {
+        return Ok(None);
+    };
+    let Some(group) = group_on(&tables.groups, to) else {
+        return Ok(None);
+    };
+    let owner = owner_of(&tables.connections, &Some(*x));
+    let waited = delayed_count(&tables.delayed, x.index);
+    arrive(
+        alloc,
+        x,
+        from,
+        group,
+        sink,
+        owner,
+        tables.inputs.as_slice(),
+        waited,
+    )
+}
+
+// What it does that an input is on the sink with an index, but for its parcel.
 fn arrival_at<P: Parcel + Drop>(
     alloc: Global,
     tables: &Tables<P>,
@@ -33,24 +70,9 @@ fn arrival_at<P: Parcel + Drop>(
     let Some(sink) = target_at(alloc, tables.sinks.as_slice(), to)? else {
         return Ok(None);
     };
-    let Some(from) = group_on(&tables.groups, x.sink) else {
-        return Ok(None);
-    };
-    let Some(group) = group_on(&tables.groups, to) else {
-        return Ok(None);
-    };
-    let owner = owner_of(&tables.connections, &Some(*x));
-    let waited = delayed_count(&tables.delayed, x.index);
-    arrive(
-        alloc,
-        x,
-        from,
-        group,
-        &sink,
-        owner,
-        tables.inputs.as_slice(),
-        waited,
-    )
+    let made = arrival_on(alloc, tables, to, &sink, x);
+    drop(sink);
+    made
 }
 
 /// An input that moves to a sink is there with this parcel. Where there is no memory for it the parcel is handed back, and nothing has

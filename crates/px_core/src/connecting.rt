@@ -1,7 +1,7 @@
 //! Connections begin and end (PulseAudio: `pa_native_protocol_connect` and `native_connection_unlink` of
 //! `pulsecore/protocol-native.c`; that an ended connection is swept away in a step of its own is own).
 
-ghost use Rattle.std.specs.Prelude.{◌≡◌, ◌++◌, ◌∷◌, [], ℕ, List, Option, None, Some, filter, flat_map, IsFalse, IfOk, OnOk, OnErr};
+ghost use Rattle.std.specs.Prelude.{◌≡◌, ◌++◌, ◌∷◌, [], ℕ, List, Option, None, Some, false, filter, flat_map, IsFalse, IfOk, OnOk, OnErr};
 ghost use Rattle.std.specs.Option.{option_map};
 ghost use Rattle.px_plan.specs.declared.sending.Reason.{Reason};
 ghost use Rattle.px_plan.specs.declared.sending.Reason.TheVariants.{Protocol};
@@ -12,6 +12,8 @@ ghost use Rattle.px_plan.specs.Plan.{changing};
 ghost use Rattle.px_session.specs.HeaderRules.{AreSinks};
 ghost use Rattle.px_state.specs.State.{connection_of, marked_of, is_from};
 ghost use Rattle.px_core.specs.Connecting.{is_full, connected, going_on, ended, ends, swept, sweep_of};
+ghost use Rattle.px_state.specs.Change.{joined};
+ghost use Rattle.px_state.specs.Events.{step_events};
 ghost use Rattle.px_state.specs.Effect.{closed_at, IsSendable};
 ghost use Rattle.px_state.specs.Plan.{plan_effects};
 ghost use Rattle.px_core.specs.Step.{answered, answer_effects, admitted_effects};
@@ -153,6 +155,24 @@ pub(crate) fn sweep_away<P: Drop>(alloc: Global, tables: &mut Tables<P>) -> Mem<
     finish(alloc, tables, None, plan)
 }
 
+// A client is taken. Where there is no memory for it nothing has changed.
+fn admit<P>(alloc: Global, tables: &mut Tables<P>, conn: ConnId) -> Mem<Effects>
+    requires sinks { AreSinks [] tables.old.sinks }
+    requires room { is_full (state_of tables.old) ≡ false }
+    ensures effects { IfOk result (λ effects. effects ≡ step_events (state_of tables.old) (joined conn (state_of tables.old))) }
+    ensures after { OnOk result (state_of tables.new ≡ joined conn (state_of tables.old)) }
+    ensures err { OnErr result (state_of tables.new ≡ state_of tables.old) }
+{
+    let effects = joined_events(alloc, tables, conn)?;
+    match join(tables, conn) {
+        Ok(()) => Ok(effects),
+        Err(err) => {
+            drop(effects);
+            Err(err)
+        }
+    }
+}
+
 /// A client connects. One that is there already changes nothing; where no more are taken the server ends it. Where there is no
 /// memory for it nothing has changed.
 pub(crate) fn connect<P>(alloc: Global, tables: &mut Tables<P>, conn: ConnId) -> Mem<Effects>
@@ -165,12 +185,9 @@ pub(crate) fn connect<P>(alloc: Global, tables: &mut Tables<P>, conn: ConnId) ->
         return Ok(Effects::new(alloc));
     }
     if is_full(tables) {
-        let effects = Effects::of(alloc, closed_for(conn, Reason::Limit))?;
-        return Ok(effects);
+        return Effects::of(alloc, closed_for(conn, Reason::Limit));
     }
-    let effects = joined_events(alloc, tables, conn)?;
-    join(tables, conn)?;
-    Ok(effects)
+    admit(alloc, tables, conn)
 }
 
 // A connection is ended for breaking a rule of the protocol, at an offset of its bytes.

@@ -1,4 +1,4 @@
-//! The commands that ask about sinks and inputs, each on the parts of the state that it reads.
+//! The commands that ask about sinks, inputs and the server, each on the parts of the state that it reads.
 
 ghost use Rattle.std.specs.Prelude.{◌≡◌, ◌≤◌, [], false, All, IfSome};
 ghost use Rattle.std.specs.List.{AllByRecursion};
@@ -6,17 +6,20 @@ ghost use Rattle.px_plan.specs.declared.input.Input.{Input};
 ghost use Rattle.px_plan.specs.Row.{Plans};
 ghost use Rattle.px_session.specs.HeaderRules.{AreSinks};
 ghost use Rattle.px_ctl_info.specs.Infos.{sink_info, sink_infos, input_info, input_infos};
+ghost use Rattle.px_ctl_info.specs.Sinks.{server_info};
 ghost use Rattle.px_targets.specs.Sinks.{named_by, targets_of};
+ghost use Rattle.px_core.specs.Command.{default_sink};
 ghost use Rattle.px_core.specs.Keeps.{IsInput};
 ghost use Rattle.px_state.specs.State.{input_named};
+ghost use Rattle.px_state.specs.Tables.{state_of};
 
 use px_cmd::SinkRef;
-use px_ctl_info::{input_info, input_infos, sink_info, sink_infos};
+use px_ctl_info::{SERVER_VERSION, input_info, input_infos, server_info, sink_info, sink_infos};
 use px_flat::Group;
 use px_msg::Msg;
 use px_plan::{Input, Plan, Refusal};
 use px_state::Tables;
-use px_targets::{named_by, targets_of};
+use px_targets::{default_sink, named_by, targets_of};
 use std::alloc::Global;
 
 /// The sink that is named.
@@ -96,4 +99,17 @@ pub(crate) fn told_inputs<P: Drop>(
         &tables.lists,
         tag,
     )
+}
+
+/// What the server is.
+pub(crate) fn server<P: Drop>(
+    alloc: Global,
+    tables: &Tables<P>,
+    tag: u32,
+) -> Result<Plan<Msg<P>, Group>, Refusal>
+    requires { AreSinks [] tables.now.sinks }
+    ensures { Plans result (server_info (default_sink (state_of tables.now)) tag) }
+{
+    let named = default_sink(alloc, &tables.names, tables.sinks.as_slice())?;
+    server_info(alloc, named, tag, SERVER_VERSION)
 }

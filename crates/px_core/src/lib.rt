@@ -14,6 +14,7 @@ mod laws;
 mod machine;
 mod notice;
 mod rows;
+mod sink_rows;
 mod volumes;
 
 pub use laws::{

@@ -6,35 +6,32 @@ ghost use Rattle.std.specs.Option.{option_map};
 ghost use Rattle.px_plan.specs.declared.input.Connection.{Connection};
 ghost use Rattle.px_plan.specs.Row.{Plans};
 ghost use Rattle.px_plan.specs.Target.{IsNamed};
+ghost use Rattle.px_names.specs.Clients.{client_on};
+ghost use Rattle.px_ctl_info.specs.Clients.{set_client_name};
 ghost use Rattle.px_session.specs.HeaderRules.{AreSinks};
-ghost use Rattle.px_ctl_info.specs.Sinks.{server_info};
-ghost use Rattle.px_ctl_play.specs.Move.{move_input};
 ghost use Rattle.px_targets.specs.Sinks.{named_by};
-ghost use Rattle.px_state.specs.State.{stream_of, input_named};
+ghost use Rattle.px_state.specs.State.{stream_of};
 ghost use Rattle.px_state.specs.Tables.{state_of};
-ghost use Rattle.px_core.specs.Command.{IsOnPlaying, IsOnStream, IsOnProperties, IsOnClients, IsOnServer, IsOnSinks, new_attributes, create_on, default_sink, killed_input, row};
+ghost use Rattle.px_core.specs.Command.{IsOnPlaying, IsOnStream, IsOnProperties, IsOnClients, IsOnServer, IsRead, new_attributes, create_on, row};
 ghost use Rattle.px_core.specs.Grouped.{AreGrouped};
 ghost use Rattle.px_core.specs.Keeps.{IsInput};
 
 use crate::found::copied;
-use crate::infos::{told_input, told_inputs, told_sink, told_sinks};
-use crate::notice::owner_of;
-use crate::volumes::{input_mute, input_volume, sink_mute, sink_volume};
-use px_cmd::{Command, CreateFields, SinkRef, Text};
+use crate::infos::server;
+use crate::sink_rows::{input_row, sink_row};
+use px_cmd::{Command, CreateFields, Text};
 use px_ctl_info::{
-    SERVER_VERSION, auth, client_info, client_infos, connection_with, empty_list, kill_client,
-    lookup_sink, remove_client, remove_stream, server_info, set_client_name, set_default_sink,
-    set_stream_name, subscribe, update_client, update_stream,
+    auth, client_info, client_infos, connection_with, empty_list, kill_client, lookup_sink,
+    remove_client, remove_stream, set_client_name, set_default_sink, set_stream_name, subscribe,
+    update_client, update_stream,
 };
-use px_ctl_play::{
-    attributes, cork, create, delete, drain, flush, kill_input, latency, move_input, prebuf,
-    trigger,
-};
+use px_ctl_play::{attributes, cork, create, delete, drain, flush, latency, prebuf, trigger};
 use px_flat::Group;
 use px_msg::Msg;
 use px_plan::{Connection, Input, Named, Plan, Refusal};
 use px_state::Tables;
-use px_targets::{default_sink, depth_of, group_named, named_by, rate_of, sink_of};
+use px_tag::PropList;
+use px_targets::{depth_of, group_named, named_by, rate_of, sink_of};
 use std::alloc::Global;
 
 // A text that a command may give.
@@ -112,72 +109,30 @@ fn new_attributes<P: Drop>(
     attributes(alloc, stream, depth_of(sink), rate_of(sink), asked, tag)
 }
 
-// What the server is.
-fn server<P: Drop>(
-    alloc: Global,
-    tables: &Tables<P>,
-    tag: u32,
-) -> Result<Plan<Msg<P>, Group>, Refusal>
-    requires { AreSinks [] tables.now.sinks }
-    ensures { Plans result (server_info (default_sink (state_of tables.now)) tag) }
-{
-    let named = default_sink(alloc, &tables.names, tables.sinks.as_slice())?;
-    server_info(alloc, named, tag, SERVER_VERSION)
-}
-
-// An input is to be on the sink that is named.
-fn moved<P: Drop>(
-    alloc: Global,
-    tables: &Tables<P>,
-    input: u32,
-    sink: &SinkRef,
-    tag: u32,
-) -> Result<Plan<Msg<P>, Group>, Refusal>
-    requires { AreSinks [] tables.now.sinks }
-    ensures { Plans result (move_input (input_named tables.now.inputs.items input) (named_by tables.now.names tables.now.sinks sink.now false) tables.now.inputs.items tag) }
-{
-    let named = named_by(alloc, &tables.names, tables.sinks.as_slice(), sink, false)?;
-    let x = tables.inputs.input_named(input);
-    move_input(alloc, x, named, tables.inputs.as_slice(), tag)
-}
-
-// An input ends, whose connection is told so where that goes on.
-fn killed_input<P: Drop>(
-    alloc: Global,
-    tables: &Tables<P>,
-    input: Option<Input>,
-    tag: u32,
-) -> Result<Plan<Msg<P>, Group>, Refusal>
-    ensures { Plans result (killed_input (state_of tables.now) input tag) }
-{
-    let owner = owner_of(&tables.connections, &input);
-    kill_input(alloc, input, owner, &tables.waiting, tag)
-}
-
 // The row of a command on what plays in a stream of the connection's own.
 fn playing_row<P: Drop>(
     alloc: Global,
     tables: &Tables<P>,
     me: &Connection,
     tag: u32,
-    command: Command,
+    command: &Command,
 ) -> Result<Plan<Msg<P>, Group>, Refusal>
     requires inputs { AllByRecursion (IsInput tables.now.sinks tables.now.inputs_made) tables.now.inputs.items }
-    requires family { IsOnPlaying command }
-    ensures { Plans result (row (state_of tables.now) me.now tag command) }
+    requires family { IsOnPlaying command.now }
+    ensures { Plans result (row (state_of tables.now) me.now tag command.now) }
 {
     match command {
-        Command::Drain { stream } => drain(alloc, stream_of(tables, me, stream), tag),
+        Command::Drain { stream } => drain(alloc, stream_of(tables, me, *stream), tag),
         Command::Latency { stream, time } => latency(
             alloc,
-            stream_of(tables, me, stream),
-            time,
+            stream_of(tables, me, *stream),
+            *time,
             tag,
         ),
-        Command::Cork { stream, on } => cork(alloc, stream_of(tables, me, stream), on, tag),
-        Command::Flush { stream } => flush(alloc, stream_of(tables, me, stream), tag),
-        Command::Trigger { stream } => trigger(alloc, stream_of(tables, me, stream), tag),
-        Command::Prebuf { stream } => prebuf(alloc, stream_of(tables, me, stream), tag),
+        Command::Cork { stream, on } => cork(alloc, stream_of(tables, me, *stream), *on, tag),
+        Command::Flush { stream } => flush(alloc, stream_of(tables, me, *stream), tag),
+        Command::Trigger { stream } => trigger(alloc, stream_of(tables, me, *stream), tag),
+        Command::Prebuf { stream } => prebuf(alloc, stream_of(tables, me, *stream), tag),
         _ => unreachable!(),
     }
 }
@@ -188,23 +143,23 @@ fn stream_row<P: Drop>(
     tables: &Tables<P>,
     me: &Connection,
     tag: u32,
-    command: Command,
+    command: &Command,
 ) -> Result<Plan<Msg<P>, Group>, Refusal>
     requires sinks { AreSinks [] tables.now.sinks }
     requires inputs { AllByRecursion (IsInput tables.now.sinks tables.now.inputs_made) tables.now.inputs.items }
     requires groups { AreGrouped [] tables.now.sinks tables.now.inputs.items tables.now.groups.items }
-    requires family { IsOnStream command }
-    ensures { Plans result (row (state_of tables.now) me.now tag command) }
+    requires family { IsOnStream command.now }
+    ensures { Plans result (row (state_of tables.now) me.now tag command.now) }
 {
     match command {
-        Command::Create(fields) => create_named(alloc, tables, me, tag, &fields),
+        Command::Create(fields) => create_named(alloc, tables, me, tag, fields),
         Command::Delete { stream } => {
-            let stream = stream_of(tables, me, stream);
+            let stream = stream_of(tables, me, *stream);
             delete(alloc, stream, &tables.waiting, tag)
         }
         Command::Attributes { stream, asked, .. } => {
-            let stream = stream_of(tables, me, stream);
-            new_attributes(alloc, tables, stream, asked, tag)
+            let stream = stream_of(tables, me, *stream);
+            new_attributes(alloc, tables, stream, *asked, tag)
         }
         _ => unreachable!(),
     }
@@ -216,63 +171,59 @@ fn properties_row<P: Drop>(
     tables: &Tables<P>,
     me: &Connection,
     tag: u32,
-    command: Command,
+    command: &Command,
 ) -> Result<Plan<Msg<P>, Group>, Refusal>
     requires inputs { AllByRecursion (IsInput tables.now.sinks tables.now.inputs_made) tables.now.inputs.items }
-    requires family { IsOnProperties command }
-    ensures { Plans result (row (state_of tables.now) me.now tag command) }
+    requires family { IsOnProperties command.now }
+    ensures { Plans result (row (state_of tables.now) me.now tag command.now) }
 {
     match command {
         Command::StreamName { stream, name } => {
-            let stream = stream_of(tables, me, stream);
-            set_stream_name(alloc, stream, &tables.lists, tag, text_of(&name))
+            let stream = stream_of(tables, me, *stream);
+            set_stream_name(alloc, stream, &tables.lists, tag, text_of(name))
         }
         Command::UpdateStream { stream, mode, list } => {
-            let stream = stream_of(tables, me, stream);
-            update_stream(alloc, stream, &tables.lists, tag, mode, &list)
+            let stream = stream_of(tables, me, *stream);
+            update_stream(alloc, stream, &tables.lists, tag, *mode, list)
         }
         Command::RemoveStream { stream, keys } => {
-            let stream = stream_of(tables, me, stream);
-            remove_stream(alloc, stream, &tables.lists, tag, &keys)
+            let stream = stream_of(tables, me, *stream);
+            remove_stream(alloc, stream, &tables.lists, tag, keys)
         }
         _ => unreachable!(),
     }
 }
 
-// The row of a command on clients.
+// The row of a command on clients that is only read.
 fn client_row<P: Drop>(
     alloc: Global,
     tables: &Tables<P>,
     me: &Connection,
     tag: u32,
-    command: Command,
+    command: &Command,
 ) -> Result<Plan<Msg<P>, Group>, Refusal>
-    requires family { IsOnClients command }
-    ensures { Plans result (row (state_of tables.now) me.now tag command) }
+    requires family { IsOnClients command.now }
+    ensures { Plans result (row (state_of tables.now) me.now tag command.now) }
 {
     match command {
         Command::Auth { version, cookie } => {
-            auth(alloc, &tables.names, me, tag, version, cookie.as_slice())
+            auth(alloc, &tables.names, me, tag, *version, cookie.as_slice())
         }
-        Command::SetClientName { list } => {
-            let client = tables.names.client_on(me.conn);
-            set_client_name(alloc, client, me, tag, list)
-        }
-        Command::Subscribe { mask } => subscribe(alloc, me, tag, mask),
+        Command::Subscribe { mask } => subscribe(alloc, me, tag, *mask),
         Command::ClientInfo { client } => {
-            client_info(alloc, tables.names.client_numbered(client), tag)
+            client_info(alloc, tables.names.client_numbered(*client), tag)
         }
         Command::ClientInfoList => client_infos(alloc, tables.names.clients(), tag),
         Command::UpdateClient { mode, list } => {
             let client = tables.names.client_on(me.conn);
-            update_client(alloc, client, me, tag, mode, &list)
+            update_client(alloc, client, me, tag, *mode, list)
         }
         Command::RemoveClient { keys } => {
             let client = tables.names.client_on(me.conn);
-            remove_client(alloc, client, me, tag, &keys)
+            remove_client(alloc, client, me, tag, keys)
         }
         Command::KillClient { client } => {
-            kill_client(alloc, connection_with(&tables.connections, client), tag)
+            kill_client(alloc, connection_with(&tables.connections, *client), tag)
         }
         _ => unreachable!(),
     }
@@ -283,53 +234,103 @@ fn server_row<P: Drop>(
     alloc: Global,
     tables: &Tables<P>,
     tag: u32,
-    command: Command,
+    command: &Command,
 ) -> Result<Plan<Msg<P>, Group>, Refusal>
     requires sinks { AreSinks [] tables.now.sinks }
-    requires family { IsOnServer command }
-    ensures { (me : Connection) → Plans result (row (state_of tables.now) me tag command) }
+    requires family { IsOnServer command.now }
+    ensures { (me : Connection) → Plans result (row (state_of tables.now) me tag command.now) }
 {
     match command {
         Command::EmptyList { .. } => empty_list(alloc, tag),
-        Command::LookupSink { name } => lookup_sink(alloc, &tables.names, tag, text_of(&name)),
-        Command::DefaultSink { name } => set_default_sink(
-            alloc,
-            &tables.names,
-            tag,
-            text_of(&name),
-        ),
+        Command::LookupSink { name } => lookup_sink(alloc, &tables.names, tag, text_of(name)),
+        Command::DefaultSink { name } => set_default_sink(alloc, &tables.names, tag, text_of(name)),
         Command::ServerInfo => server(alloc, tables, tag),
         _ => unreachable!(),
     }
 }
 
-// The row of a command on sinks and inputs, whosever they are.
-fn sink_row<P: Drop>(
+// The row of a command that is only read.
+fn read_row<P: Drop>(
     alloc: Global,
     tables: &Tables<P>,
+    me: &Connection,
+    tag: u32,
+    command: &Command,
+) -> Result<Plan<Msg<P>, Group>, Refusal>
+    requires sinks { AreSinks [] tables.now.sinks }
+    requires inputs { AllByRecursion (IsInput tables.now.sinks tables.now.inputs_made) tables.now.inputs.items }
+    requires groups { AreGrouped [] tables.now.sinks tables.now.inputs.items tables.now.groups.items }
+    requires family { IsRead command.now }
+    ensures { Plans result (row (state_of tables.now) me.now tag command.now) }
+{
+    match command {
+        Command::Drain { .. }
+        | Command::Latency { .. }
+        | Command::Cork { .. }
+        | Command::Flush { .. }
+        | Command::Trigger { .. }
+        | Command::Prebuf { .. } => playing_row(alloc, tables, me, tag, command),
+        Command::Create(_) | Command::Delete { .. } | Command::Attributes { .. } => stream_row(
+            alloc, tables, me, tag, command,
+        ),
+        Command::StreamName { .. } | Command::UpdateStream { .. } | Command::RemoveStream { .. } =>
+            properties_row(alloc, tables, me, tag, command),
+        Command::Auth { .. }
+        | Command::Subscribe { .. }
+        | Command::ClientInfo { .. }
+        | Command::ClientInfoList
+        | Command::UpdateClient { .. }
+        | Command::RemoveClient { .. }
+        | Command::KillClient { .. } => client_row(alloc, tables, me, tag, command),
+        Command::EmptyList { .. }
+        | Command::LookupSink { .. }
+        | Command::DefaultSink { .. }
+        | Command::ServerInfo => server_row(alloc, tables, tag, command),
+        Command::SinkInfo { .. }
+        | Command::SinkInfoList
+        | Command::SinkVolume { .. }
+        | Command::SinkMute { .. } => sink_row(alloc, tables, tag, command),
+        Command::InputInfo { .. }
+        | Command::InputInfoList
+        | Command::KillInput { .. }
+        | Command::InputVolume { .. }
+        | Command::InputMute { .. }
+        | Command::Move { .. } => input_row(alloc, tables, tag, command),
+        Command::SetClientName { .. } => unreachable!(),
+    }
+}
+
+// The row of a command that goes once it is read.
+fn spent_row<P: Drop>(
+    alloc: Global,
+    tables: &Tables<P>,
+    me: &Connection,
     tag: u32,
     command: Command,
 ) -> Result<Plan<Msg<P>, Group>, Refusal>
     requires sinks { AreSinks [] tables.now.sinks }
     requires inputs { AllByRecursion (IsInput tables.now.sinks tables.now.inputs_made) tables.now.inputs.items }
-    requires family { IsOnSinks command }
-    ensures { (me : Connection) → Plans result (row (state_of tables.now) me tag command) }
+    requires groups { AreGrouped [] tables.now.sinks tables.now.inputs.items tables.now.groups.items }
+    requires family { IsRead command }
+    ensures { Plans result (row (state_of tables.now) me.now tag command) }
 {
-    match command {
-        Command::SinkInfo { sink } => told_sink(alloc, tables, &sink, tag),
-        Command::SinkInfoList => told_sinks(alloc, tables, tag),
-        Command::InputInfo { input } => told_input(alloc, tables, input, tag),
-        Command::InputInfoList => told_inputs(alloc, tables, tag),
-        Command::KillInput { input } => {
-            killed_input(alloc, tables, tables.inputs.input_named(input), tag)
-        }
-        Command::SinkVolume { sink, volume } => sink_volume(alloc, tables, &sink, &volume, tag),
-        Command::SinkMute { sink, on } => sink_mute(alloc, tables, &sink, on, tag),
-        Command::InputVolume { input, volume } => input_volume(alloc, tables, input, &volume, tag),
-        Command::InputMute { input, on } => input_mute(alloc, tables, input, on, tag),
-        Command::Move { input, sink } => moved(alloc, tables, input, &sink, tag),
-        _ => unreachable!(),
-    }
+    let planned = read_row(alloc, tables, me, tag, &command);
+    drop(command);
+    planned
+}
+
+// SET_CLIENT_NAME of the connection's client.
+fn client_name_row<P: Drop>(
+    alloc: Global,
+    tables: &Tables<P>,
+    me: &Connection,
+    tag: u32,
+    list: PropList,
+) -> Result<Plan<Msg<P>, Group>, Refusal>
+    ensures { Plans result (set_client_name (client_on tables.now.names.clients me.now.conn) me.now tag list) }
+{
+    let client = tables.names.client_on(me.conn);
+    set_client_name(alloc, client, me, tag, list)
 }
 
 /// A command's row: what it gives on the parts of the state that it reads.
@@ -346,38 +347,7 @@ pub(crate) fn row<P: Drop>(
     ensures { Plans result (row (state_of tables.now) me.now tag command) }
 {
     match command {
-        Command::Drain { .. }
-        | Command::Latency { .. }
-        | Command::Cork { .. }
-        | Command::Flush { .. }
-        | Command::Trigger { .. }
-        | Command::Prebuf { .. } => playing_row(alloc, tables, me, tag, command),
-        Command::Create(_) | Command::Delete { .. } | Command::Attributes { .. } => stream_row(
-            alloc, tables, me, tag, command,
-        ),
-        Command::StreamName { .. } | Command::UpdateStream { .. } | Command::RemoveStream { .. } =>
-            properties_row(alloc, tables, me, tag, command),
-        Command::Auth { .. }
-        | Command::SetClientName { .. }
-        | Command::Subscribe { .. }
-        | Command::ClientInfo { .. }
-        | Command::ClientInfoList
-        | Command::UpdateClient { .. }
-        | Command::RemoveClient { .. }
-        | Command::KillClient { .. } => client_row(alloc, tables, me, tag, command),
-        Command::EmptyList { .. }
-        | Command::LookupSink { .. }
-        | Command::DefaultSink { .. }
-        | Command::ServerInfo => server_row(alloc, tables, tag, command),
-        Command::SinkInfo { .. }
-        | Command::SinkInfoList
-        | Command::InputInfo { .. }
-        | Command::InputInfoList
-        | Command::KillInput { .. }
-        | Command::SinkVolume { .. }
-        | Command::SinkMute { .. }
-        | Command::InputVolume { .. }
-        | Command::InputMute { .. }
-        | Command::Move { .. } => sink_row(alloc, tables, tag, command),
+        Command::SetClientName { list } => client_name_row(alloc, tables, me, tag, list),
+        _ => spent_row(alloc, tables, me, tag, command),
     }
 }

@@ -1,21 +1,22 @@
-use Rattle.std.proofs.Common.{sym, ap, ◌∙◌}
-use Rattle.std.specs.Prelude.{slice_get}
+use Rattle.std.proofs.Common.{sym, subst, ap, ◌∙◌}
+use Rattle.std.specs.Prelude.{slice_get, IfSome}
+use Rattle.std.proofs.lemmas.Result.{IfOk-weaker}
+use Rattle.px_plan.specs.Target.{IsTarget}
 use Rattle.px_targets.specs.Sinks.{target_at}
 use Rattle.px_state.specs.Tables.{state_of}
-use Rattle.px_core.proofs.JoinLaws.{some_channel, has_channels, can_join}
+use Rattle.px_core.specs.Notice.{arrival_between}
 use Rattle.px_core.proofs.arriving.arrival_at.Goals as goal
 
-pub arrive-requires-clause-some : goal.arrive-requires-clause-some
-arrive-requires-clause-some g c = some_channel g.P.Parcel.spec_of (state_of c.args.tables.now) c.requires.kept c.args.x.now c.requires.here
+pub arrival_on-made-requires-clause-there : goal.arrival_on-made-requires-clause-there
+arrival_on-made-requires-clause-there g c = ap (λ sinks. target_at sinks c.args.to) (sym c.as_slice.ensures) ∙ sym c.in_ok-sink.ensures.value ∙ c.in-Some.is
 
-pub arrive-requires-clause-channels : goal.arrive-requires-clause-channels
-arrive-requires-clause-channels g c =
-    has_channels g.P.Parcel.spec_of (state_of c.args.tables.now) c.requires.kept c.args.x.now c.requires.here c.in-Some-group_on.from.now
-    (sym (c.in-Some-group_on.ensures ∙ ap (λ gs. slice_get gs c.args.x.now.sink.0) c.deref.ensures.value))
+pub arrival_on-made-requires-clause-lawful : goal.arrival_on-made-requires-clause-lawful
+arrival_on-made-requires-clause-lawful g c = subst (λ o. IfSome o IsTarget) c.in-Some.is c.in_ok-sink.ensures.lawful
 
-pub arrive-requires-clause-joins : goal.arrive-requires-clause-joins
-arrive-requires-clause-joins g c =
-    can_join g.P.Parcel.spec_of (state_of c.args.tables.now) c.requires.kept c.args.x.now c.requires.here c.args.to c.requires.moves c.in-Some.sink
-    (ap (λ sinks. target_at sinks c.args.to) (sym c.as_slice.ensures) ∙ sym c.in_ok-sink.ensures.value ∙ c.in-Some.is)
-    c.in-Some-group_on-2.group.now
-    (sym (c.in-Some-group_on-2.ensures ∙ ap (λ gs. slice_get gs c.args.to.0) c.deref-2.ensures.value))
+pub returns : goal.returns
+returns g c =
+    let there = ap (λ sinks. target_at sinks c.args.to) (sym c.as_slice.ensures) ∙ sym c.in_ok-sink.ensures.value ∙ c.in-Some.is in
+    let state = state_of c.args.tables.now in
+    IfOk-weaker c.arrival_on-made.result _ _
+    (λ made is. is ∙ ap (λ sink. arrival_between state c.args.x.now sink (slice_get state.groups c.args.x.now.sink.0) (slice_get state.groups c.args.to.0)) (sym there))
+    c.arrival_on-made.ensures
