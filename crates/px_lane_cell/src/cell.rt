@@ -1,5 +1,5 @@
 // The cell of a sink's mixer.
-ghost use Rattle.std.specs.Prelude.{◌≡◌, [], IfSome, IfOk, OnErr};
+ghost use Rattle.std.specs.Prelude.{◌≡◌, ◌≤◌, [], IfSome, IfOk, OnErr};
 ghost use Rattle.std.specs.Option.{option_map};
 ghost use Rattle.px_annals.specs.History.{sizes_by, ReadyCounts};
 ghost use Rattle.px_annals.specs.Size.{size_of_lane_entry};
@@ -55,6 +55,15 @@ pub struct LaneCellParts<D, R> {
     pub notices: NoticeList,
 }
 
+// A list with the room for the messages of a turn.
+fn room_for_turn(alloc: Global) -> Mem<MsgList>
+    ensures { IfOk result (λ list. (list.messages ≡ []) × (256 ≤ list.capacity)) }
+{
+    let mut messages = MsgList::new(alloc);
+    messages.reserve(MOST_MESSAGES)?;
+    Ok(messages)
+}
+
 impl<D: Device + Drop, R: Recorder<LaneEntry> + Drop> LaneCell<D, R> {
     /// A cell with a mixer that has made no turn and a recorder that holds nothing. Takes the room for the messages of a turn.
     pub fn new(alloc: Global, lane: Lane<D>, recorder: R, ends: LaneEnds) -> Mem<LaneCell<D, R>>
@@ -73,17 +82,23 @@ impl<D: Device + Drop, R: Recorder<LaneEntry> + Drop> LaneCell<D, R> {
         ensures given { IfOk result (λ cell. cell.given ≡ 0) }
         ensures kept { IfOk result (λ cell. (cell.messages.messages ≡ []) × (cell.notices.notices ≡ [])) }
     {
-        let mut messages = MsgList::new(alloc);
-        messages.reserve(MOST_MESSAGES)?;
-        Ok(LaneCell {
-            lane,
-            recorder,
-            ends,
-            messages,
-            notices: NoticeList::new(alloc),
-            taken: 0,
-            given: 0,
-        })
+        match room_for_turn(alloc) {
+            Ok(messages) => Ok(LaneCell {
+                lane,
+                recorder,
+                ends,
+                messages,
+                notices: NoticeList::new(alloc),
+                taken: 0,
+                given: 0,
+            }),
+            Err(fault) => {
+                drop(ends);
+                drop(recorder);
+                drop(lane);
+                Err(fault)
+            }
+        }
     }
 
     /// Takes messages until there are 256, those kept before among them, or the inbox is found empty, and makes one turn with all of

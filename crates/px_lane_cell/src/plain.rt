@@ -8,11 +8,11 @@ ghost use Rattle.px_lane.specs.Lists.{plain_message};
 ghost use Rattle.px_lane_cell.specs.Meaning.{attr_meant, factors_meant, stream_meant, message_meant, messages_meant};
 
 use px_annals::{Numbers, PlainFactorList, PlainFactors, PlainMsg, PlainMsgs, PlainStream};
-use px_block::Block;
+use px_block::{Block, Blocks};
 use px_chmap::Feed;
 use px_lane::MsgList;
 use px_model::Attr;
-use px_msg::{InputFactors, Msg, NewStream};
+use px_msg::{FactorList, InputFactors, Msg, NewStream};
 use px_stream::Stream;
 use px_types::{InputId, Mem, Text};
 use px_vol::Factors;
@@ -112,12 +112,41 @@ fn plain_attach(
 ) -> Mem<PlainMsg>
     ensures { IfOk result (λ plain. message_meant plain ≡ Message.attach input.0 parcel.now.stream feed.now factors.now) }
 {
+    let feed = widened(alloc, feed.channels())?;
+    let factors = copied(alloc, factors.values())?;
     Ok(PlainMsg::Attach {
         input: input.0,
         parcel: plain_stream(alloc, parcel)?,
-        feed: widened(alloc, feed.channels())?,
-        factors: copied(alloc, factors.values())?,
+        feed,
+        factors,
     })
+}
+
+// Frames for a stream.
+fn plain_write(
+    alloc: Global,
+    input: InputId,
+    seek: u8,
+    offset: i64,
+    frames: u32,
+    bytes: &Blocks,
+) -> Mem<PlainMsg>
+    ensures { IfOk result (λ plain. message_meant plain ≡ Message.write (record { input = input.0; seek = seek; offset = offset; frames = frames; bytes = bytes.now })) }
+{
+    Ok(PlainMsg::Write {
+        input: input.0,
+        seek,
+        offset,
+        frames,
+        bytes: bytes_of(alloc, bytes.as_slice())?,
+    })
+}
+
+// New factors for some inputs.
+fn plain_regained(alloc: Global, list: &FactorList) -> Mem<PlainMsg>
+    ensures { IfOk result (λ plain. message_meant plain ≡ Message.factors (map gains list.now)) }
+{
+    Ok(PlainMsg::Factors(plain_factors(alloc, list.as_slice())?))
 }
 
 /// A message to a sink as plain numbers and bytes, as a history keeps it: it means the same message.
@@ -139,13 +168,7 @@ pub fn plain_message(alloc: Global, message: &Msg<Stream>) -> Mem<PlainMsg>
             offset,
             frames,
             bytes,
-        } => Ok(PlainMsg::Write {
-            input: input.0,
-            seek: *seek,
-            offset: *offset,
-            frames: *frames,
-            bytes: bytes_of(alloc, bytes.as_slice())?,
-        }),
+        } => plain_write(alloc, *input, *seek, *offset, *frames, bytes),
         Msg::Cork { input, on } => Ok(PlainMsg::Cork {
             input: input.0,
             on: *on,
@@ -161,7 +184,7 @@ pub fn plain_message(alloc: Global, message: &Msg<Stream>) -> Mem<PlainMsg>
             input: input.0,
             attr: listed(attr),
         }),
-        Msg::Factors(list) => Ok(PlainMsg::Factors(plain_factors(alloc, list.as_slice())?)),
+        Msg::Factors(list) => plain_regained(alloc, list),
         Msg::Query { input, tag } => Ok(PlainMsg::Query {
             input: input.0,
             tag: *tag,

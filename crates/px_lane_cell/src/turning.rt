@@ -1,7 +1,7 @@
 // A turn with its entry.
-ghost use Rattle.std.specs.Prelude.{◌≡◌, ◌<◌, ◌≤◌, ◌^◌, [], length, IsFalse, IfOk, OnOk, OnErr, MatchResult};
+ghost use Rattle.std.specs.Prelude.{◌≡◌, ℕ, ◌<◌, ◌≤◌, ◌^◌, ⊤, List, [], length, Option, Ok, Err, IsFalse, IfOk, OnOk, OnErr, MatchResult};
 ghost use Rattle.std.specs.Option.{option_map};
-ghost use Rattle.px_annals.specs.History.{noted, sizes_by, ReadyCounts};
+ghost use Rattle.px_annals.specs.History.{Limit, noted, sizes_by, ReadyCounts, SaysFull};
 ghost use Rattle.px_annals.specs.Size.{size_of_lane_entry};
 ghost use Rattle.px_annals.specs.declared.entry.LaneEntry.{LaneEntry};
 ghost use Rattle.px_model.specs.Orderly.{IsOrderly};
@@ -32,6 +32,18 @@ fn consumed_in(turned: Turned) -> Option<u32>
             frames,
         } => Some(frames),
         Turned::Stopped { faults: _ } => None,
+    }
+}
+
+// Why a lane made no turn, as its cell says it.
+fn lane_fault(fault: LaneFault) -> CellFault
+    ensures said { recorder_said (Err result) ≡ Ok tt }
+    ensures worn { (filled : ℕ) → Refuses filled fault → IsWorn (Err result) filled }
+    ensures why { (limit : Option Limit) (sizes : Option (List ℕ)) → SaysFull {A = ⊤} (Ok tt) limit sizes → SaysWhy (Err result) limit sizes }
+{
+    match fault {
+        LaneFault::NoMemory => CellFault::NoMemory,
+        LaneFault::Worn { filled } => CellFault::Worn { filled },
     }
 }
 
@@ -88,6 +100,7 @@ pub(crate) fn turn_noted<D: Device + Drop, R: Recorder<LaneEntry>, B: BlockSourc
         messages: plain,
     };
     if let Err(fault) = recorder.ready(entry.size()) {
+        drop(entry);
         return Err(CellFault::Recorder(fault));
     }
     match counted::<D, B, Brand>(Blank::new(1), alloc, lane, messages, notices, blocks) {
@@ -96,7 +109,9 @@ pub(crate) fn turn_noted<D: Device + Drop, R: Recorder<LaneEntry>, B: BlockSourc
             recorder.note(entry);
             Ok(turned)
         }
-        Err(LaneFault::NoMemory) => Err(CellFault::NoMemory),
-        Err(LaneFault::Worn { filled }) => Err(CellFault::Worn { filled }),
+        Err(fault) => {
+            drop(entry);
+            Err(lane_fault(fault))
+        }
     }
 }

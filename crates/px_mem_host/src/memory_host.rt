@@ -1,5 +1,5 @@
 // The host in memory.
-ghost use Rattle.std.specs.Prelude.{◌≡◌, ◌≤◌, Some, [], length, not, IfOk, IsFalse, IsTrue};
+ghost use Rattle.std.specs.Prelude.{◌≡◌, ◌≤◌, Some, [], ◌∷◌, ◌++◌, length, not, IfOk, OnOk, OnErr, IsFalse, IsTrue};
 ghost use Rattle.px_types.specs.Faults.{Rose};
 ghost use Rattle.px_ends.specs.Host.{Starts, Accepts, Makes, IsNewDevice, IsNewRecorder, one_device, one_recorder, one_core, FailsOnce, HasPart, HasCore, TakesPart, TakesCore};
 ghost use Rattle.px_ends.specs.Device.{IsShape};
@@ -87,6 +87,15 @@ fn copied(alloc: Global, options: &ServeOptions) -> Mem<ServeOptions>
         accept: options.accept,
         memory: options.memory,
     })
+}
+
+// A copy of options behind the others. Without memory nothing is added.
+fn add_copy(alloc: Global, options: &ServeOptions, list: &mut Vec<ServeOptions>) -> Mem<()>
+    ensures ok { OnOk result (list.new.items ≡ list.old.items ++ options.now ∷ []) }
+    ensures err { OnErr result (list.new.items ≡ list.old.items) }
+{
+    list.push(copied(alloc, options)?)?;
+    Ok(())
 }
 
 // A device that consumes by itself.
@@ -200,16 +209,16 @@ impl<R: Wait + Copy + Drop + Send> Host for MemHost<R> {
         if self.fails() {
             return HeaderRead::Failed;
         }
-        let (Ok(header), Ok(options)) = (
-            Text::copied(alloc, self.header.as_slice()),
-            copied(alloc, options),
-        ) else {
+        let Ok(header) = Text::copied(alloc, self.header.as_slice()) else {
             return HeaderRead::NoMemory;
         };
-        if self.started.push(options).is_err() {
-            return HeaderRead::NoMemory;
+        match add_copy(alloc, options, &mut self.started) {
+            Ok(()) => HeaderRead::Bytes(header),
+            Err(_) => {
+                drop(header);
+                HeaderRead::NoMemory
+            }
         }
-        HeaderRead::Bytes(header)
     }
 
     fn accept(&mut self, _alloc: Global) -> Accepted<SharedLink<R>>
