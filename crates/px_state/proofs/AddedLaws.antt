@@ -15,7 +15,7 @@ use Rattle.px_state.specs.declared.effect.Effect.{Effect}
 use Rattle.px_state.specs.State.{State}
 use Rattle.px_state.specs.Change.{Change, committed}
 use Rattle.px_state.specs.Change.{joined}
-use Rattle.px_state.specs.Plan.{Plan, sent_all, plan_effects}
+use Rattle.px_state.specs.Plan.{Plan, sent_all, closed_all, plan_effects}
 use Rattle.px_state.specs.Events.{scene_of, step_events}
 use Rattle.px_ctl_play.specs.Arrival.{Arriving, arriving_with}
 use Rattle.px_state.specs.Answered.{answered, answer_effects}
@@ -63,10 +63,10 @@ pub answer_added : (P : Type 0) (asker : Option ConnId) (state : State P) (plan 
 answer_added P asker state plan old new changes e same added = added ∙ (λ k. e k ++ step_events state (committed state (same k)))
 
 -- of the input that arrives no connection ends
-pub arrival_answered : (P : Type 0) (state : State P) (input : InputId) (parcel : P) (made : Arriving (Msg P) FlatGroup) (errors told : List Sending) (later : List (Change P)) (old new : List Effect) (changes : List (Change P))
-    → errors ≡ [] → told ≡ made.told → later ≡ made.later → changes ≡ made.later → old ≡ plan_effects None (record { reply = None; errors = errors; told = told; changes = later })
-    → ((m : Msg P) → new ≡ old ++ step_events state (committed state (Arrives input m ∷ changes))) → new ≡ answer_effects None state (arriving_with input parcel made)
-arrival_answered P state input parcel made errors told later old new changes none t l same e added =
+pub arrival_answered : (P : Type 0) (state : State P) (input : InputId) (made : Arriving (Msg P) FlatGroup) (told : List Sending) (changes later : List (Change P)) (old new : List Effect)
+    → told ≡ made.told → changes ≡ made.later → later ≡ made.later → old ≡ sent_all told ++ closed_all changes
+    → ((m : Msg P) → new ≡ old ++ step_events state (committed state (Arrives input m ∷ later))) → (parcel : P) → new ≡ answer_effects None state (arriving_with input parcel made)
+arrival_answered P state input made told changes later old new t c l e added parcel =
     added (Attach input parcel made.feed made.factors)
-    ∙ (λ k. e k ++ step_events state (committed state (Arrives input (Attach input parcel made.feed made.factors) ∷ same k)))
-    ∙ (λ k. plan_effects None (record { reply = None; errors = none k; told = t k; changes = l k }) ++ step_events state (answered state (arriving_with input parcel made)))
+    ∙ (λ k. e k ++ step_events state (committed state (Arrives input (Attach input parcel made.feed made.factors) ∷ l k)))
+    ∙ (λ k. (sent_all (t k) ++ closed_all (c k)) ++ step_events state (answered state (arriving_with input parcel made)))

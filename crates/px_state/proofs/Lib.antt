@@ -6,3 +6,5 @@ pub mod Late
 pub mod Undone
 pub mod SceneLaws
 pub mod AddedLaws
+pub mod Families
+pub mod RoomForOne

@@ -2,24 +2,24 @@
 
 ghost use Rattle.std.specs.Prelude.{◌≡◌, ◌≤◌, ◌+◌, [], ℕ, length, vec_capacity, Some, IfOk, OnOk, OnErr};
 ghost use Rattle.std.specs.List.{find};
-ghost use Rattle.px_plan.specs.declared.change.Change.TheVariants.{Authed, Forgotten, Made, Described, Leaves, Moves, Arrives, Released, Said, Regrouped, Asked, Answered, Gone};
+ghost use Rattle.px_plan.specs.declared.change.Change.TheVariants.{Made, Described, Leaves, Moves, Arrives, Released, Said, Regrouped, Asked, Answered, Gone};
 ghost use Rattle.px_session.specs.HeaderRules.{AreSinks};
-ghost use Rattle.px_state.specs.Change.{changed, committed, marked, with_connection, defaulted, inputs_told, posting, delaying, saying, ending, departs, arrives, releasing};
+ghost use Rattle.px_state.specs.Change.{changed, committed, inputs_told, posting, delaying, saying, ending, departs, arrives, releasing};
 ghost use Rattle.px_state.specs.Delayed.{is_of};
+ghost use Rattle.px_state.specs.Families.{IsOfInput};
 ghost use Rattle.px_state.specs.State.{input_of};
 ghost use Rattle.px_state.specs.Answered.{answered, answer_effects};
 ghost use Rattle.px_state.specs.Tables.{state_of, HasRoom, HavePlaces};
 
 use crate::change::CoreChange;
 use crate::delayed::Delayed;
-use crate::effects::{Effects, plan_effects};
-use crate::events::add_events;
+use crate::effects::Effects;
+use crate::events::answer_effects;
 use crate::tables::Tables;
-use crate::{awaited, delayed, queues};
+use crate::{awaited, clients, delayed, queues};
 use px_flat::Group;
 use px_inputs::InputTable;
 use px_msg::Msg;
-use px_names::Names;
 use px_plan::{Change, Input, Plan, Standing, Waiting};
 use px_tag::PropList;
 use px_targets::set_group;
@@ -285,38 +285,23 @@ fn give_up<P: Drop>(tables: &mut Tables<P>, index: InputId)
     tables.lists.remove(index);
 }
 
-// A sink that is there is the default sink.
-fn make_default(names: &mut Names, sink: SinkId)
-    ensures { names.new ≡ defaulted sink names.old }
+// One change of an input that is there, which takes one place of the room. Takes no memory.
+fn apply_to_input<P: Drop>(tables: &mut Tables<P>, change: CoreChange<P>)
+    requires family { IsOfInput change }
+    requires room { HasRoom 1 tables.old }
+    ensures state { state_of tables.new ≡ changed (state_of tables.old) change }
+    ensures room { (n : ℕ) → HasRoom (n + 1) tables.old → HasRoom n tables.new }
 {
-    if usize::from(sink.0) < names.sinks().as_slice().len() {
-        names.set_default(sink);
+    match change {
+        Change::Described(index, list) => describe(tables, index, list),
+        Change::Leaves(index) => leave(tables, index),
+        Change::Moves(index, to) => send_off(tables, index, to),
+        Change::Arrives(index, msg) => take_in(tables, index, msg),
+        Change::Released(index) => let_on(tables, index),
+        Change::Said(index, msg) => say(tables, index, msg),
+        Change::Gone(index) => give_up(tables, index),
+        _ => unreachable!(),
     }
-}
-
-// A connection speaks this version.
-fn set_version<P>(tables: &mut Tables<P>, conn: ConnId, version: u16)
-    ensures state { state_of tables.new ≡ changed (state_of tables.old) (Authed conn version) }
-    ensures room { (n : ℕ) → HasRoom (n + 1) tables.old → HasRoom n tables.new }
-{
-    px_inputs::set_version(&mut tables.connections, conn, version);
-}
-
-// A connection is to end.
-fn mark<P>(tables: &mut Tables<P>, conn: ConnId)
-    ensures state { state_of tables.new ≡ with_connection conn marked (state_of tables.old) }
-    ensures room { (n : ℕ) → HasRoom (n + 1) tables.old → HasRoom n tables.new }
-{
-    px_inputs::mark(&mut tables.connections, conn);
-}
-
-// A connection and its client are given up.
-fn forget<P>(tables: &mut Tables<P>, conn: ConnId)
-    ensures state { state_of tables.new ≡ changed (state_of tables.old) (Forgotten conn) }
-    ensures room { (n : ℕ) → HasRoom (n + 1) tables.old → HasRoom n tables.new }
-{
-    px_inputs::forget(&mut tables.connections, conn);
-    tables.names.forget(conn);
 }
 
 /// One change, which takes one place of the room. Takes no memory.
@@ -326,28 +311,28 @@ pub(crate) fn apply<P: Drop>(tables: &mut Tables<P>, change: CoreChange<P>)
     ensures room { (n : ℕ) → HasRoom (n + 1) tables.old → HasRoom n tables.new }
 {
     match change {
-        Change::Authed(conn, version) => set_version(tables, conn, version),
-        Change::Named(conn, list) => tables.names.set_list(conn, list),
-        Change::Masked(conn, mask) => tables.names.set_mask(conn, mask),
-        Change::Defaulted(sink) => make_default(&mut tables.names, sink),
+        Change::Authed(..)
+        | Change::Named(..)
+        | Change::Masked(..)
+        | Change::Defaulted(_)
+        | Change::Ended { .. }
+        | Change::Forgotten(_) => clients::apply(tables, change),
         Change::Made {
             input,
             new,
             streams,
             inputs,
         } => make(tables, input, new, streams, inputs),
-        Change::Described(index, list) => describe(tables, index, list),
-        Change::Leaves(index) => leave(tables, index),
-        Change::Moves(index, to) => send_off(tables, index, to),
-        Change::Arrives(index, msg) => take_in(tables, index, msg),
-        Change::Released(index) => let_on(tables, index),
-        Change::Said(index, msg) => say(tables, index, msg),
+        Change::Described(..)
+        | Change::Leaves(_)
+        | Change::Moves(..)
+        | Change::Arrives(..)
+        | Change::Released(_)
+        | Change::Said(..)
+        | Change::Gone(_) => apply_to_input(tables, change),
         Change::Regrouped(sink, group, msg) => regroup(tables, sink, group, msg),
         Change::Asked(w) => ask(tables, w),
         Change::Answered(w) => answer(tables, &w),
-        Change::Gone(index) => give_up(tables, index),
-        Change::Ended { conn, .. } => mark(tables, conn),
-        Change::Forgotten(conn) => forget(tables, conn),
     }
 }
 
@@ -360,6 +345,23 @@ pub(crate) fn commit<P: Drop>(tables: &mut Tables<P>, changes: Vec<CoreChange<P>
     while let Some(change) = changes.pop_front() {
         apply(tables, change);
     }
+}
+
+// What a plan does to the outside, with room for its changes. The state stays.
+fn effects_with_room<P>(
+    alloc: Global,
+    asker: Option<ConnId>,
+    tables: &mut Tables<P>,
+    plan: &Plan<Msg<P>, Group>,
+) -> Mem<Effects>
+    requires { AreSinks [] tables.old.sinks }
+    ensures effects { IfOk result (λ effects. effects ≡ answer_effects asker (state_of tables.old) plan.now) }
+    ensures state { state_of tables.new ≡ state_of tables.old }
+    ensures room { OnOk result (HasRoom (length plan.now.changes) tables.new) }
+{
+    let effects = answer_effects(alloc, asker, tables, plan)?;
+    reserve(tables, plan.changes.len())?;
+    Ok(effects)
 }
 
 /// The changes of a plan are made, and its effects are left; the reply goes to who asked. Where there is no memory for them
@@ -375,9 +377,14 @@ pub fn finish<P: Drop>(
     ensures after { OnOk result (state_of tables.new ≡ answered (state_of tables.old) plan) }
     ensures err { OnErr result (state_of tables.new ≡ state_of tables.old) }
 {
-    let mut effects = plan_effects(alloc, asker, &plan)?;
-    add_events(alloc, &mut effects, tables, &plan.changes)?;
-    reserve(tables, plan.changes.len())?;
-    commit(tables, plan.changes);
-    Ok(effects)
+    match effects_with_room(alloc, asker, tables, &plan) {
+        Ok(effects) => {
+            commit(tables, plan.changes);
+            Ok(effects)
+        }
+        Err(error) => {
+            drop(plan);
+            Err(error)
+        }
+    }
 }

@@ -201,6 +201,20 @@ fn close_all<P>(effects: &mut Effects, changes: &[CoreChange<P>]) -> Mem<()>
     Ok(())
 }
 
+/// Messages to clients, and the ends of connections among changes.
+pub(crate) fn told_and_closed<P>(
+    alloc: Global,
+    told: &[Sending],
+    changes: &[CoreChange<P>],
+) -> Mem<Effects>
+    ensures { IfOk result (λ effects. effects ≡ sent_all told.now ++ closed_all changes.now) }
+{
+    let mut effects = Effects::new(alloc);
+    send_all(alloc, &mut effects, told)?;
+    close_all(&mut effects, changes)?;
+    Ok(effects)
+}
+
 /// What a plan does to the outside: the reply, the errors for tags that wait, the messages to clients, and the connections that
 /// are ended.
 pub(crate) fn plan_effects<P>(

@@ -2,16 +2,20 @@
 
 ghost use Rattle.std.specs.Prelude.{◌≡◌, ◌++◌, ◌∷◌, [], ◌+◌, ◌<◌, IfOk, OnOk};
 ghost use Rattle.px_session.specs.HeaderRules.{AreSinks};
-ghost use Rattle.px_msg.specs.declared.message.Msg.{Msg};
+ghost use Rattle.px_msg.specs.declared.message.Msg.{Msg as Message};
 ghost use Rattle.px_plan.specs.declared.change.Change.TheVariants.{Arrives};
+ghost use Rattle.px_state.specs.Answered.{answer_effects};
 ghost use Rattle.px_state.specs.Change.{committed};
 ghost use Rattle.px_state.specs.Change.{joined};
 ghost use Rattle.px_state.specs.Events.{scene_of, step_events};
 ghost use Rattle.px_state.specs.Tables.{state_of};
 
 use crate::change::CoreChange;
-use crate::effects::{Effects, send_all};
+use crate::effects::{Effects, plan_effects, send_all};
 use crate::tables::Tables;
+use px_flat::Group;
+use px_msg::Msg;
+use px_plan::Plan;
 use px_shown::{Scene, are_deaf, are_quiet, nobody_hears};
 use px_types::{ConnId, InputId, Mem};
 use std::alloc::Global;
@@ -31,8 +35,8 @@ fn scene_of<P>(alloc: Global, tables: &Tables<P>) -> Mem<Scene>
     )
 }
 
-/// What those are told who subscribe once the changes are made.
-pub(crate) fn add_events<P>(
+// What those are told who subscribe once the changes are made.
+fn add_events<P>(
     alloc: Global,
     effects: &mut Effects,
     tables: &Tables<P>,
@@ -53,6 +57,21 @@ pub(crate) fn add_events<P>(
     Ok(())
 }
 
+/// What a plan does to the outside, and what those are told who subscribe.
+pub(crate) fn answer_effects<P>(
+    alloc: Global,
+    asker: Option<ConnId>,
+    tables: &Tables<P>,
+    plan: &Plan<Msg<P>, Group>,
+) -> Mem<Effects>
+    requires { AreSinks [] tables.now.sinks }
+    ensures { IfOk result (λ effects. effects ≡ answer_effects asker (state_of tables.now) plan.now) }
+{
+    let mut effects = plan_effects(alloc, asker, plan)?;
+    add_events(alloc, &mut effects, tables, &plan.changes)?;
+    Ok(effects)
+}
+
 /// What those are told who subscribe once an input is on the sink that it moves to, and the changes after that are made.
 pub(crate) fn add_arrival_events<P>(
     alloc: Global,
@@ -62,7 +81,7 @@ pub(crate) fn add_arrival_events<P>(
     later: &[CoreChange<P>],
 ) -> Mem<()>
     requires { AreSinks [] tables.now.sinks }
-    ensures { OnOk result ((m : Msg P) → effects.new ≡ effects.old ++ step_events (state_of tables.now) (committed (state_of tables.now) (Arrives input m ∷ later.now))) }
+    ensures { OnOk result ((m : Message P) → effects.new ≡ effects.old ++ step_events (state_of tables.now) (committed (state_of tables.now) (Arrives input m ∷ later.now))) }
 {
     if nobody_hears(tables.names.clients(), later) {
         return Ok(());

@@ -6,6 +6,7 @@
 mod arrival;
 mod awaited;
 mod change;
+mod clients;
 mod commit;
 mod connections;
 mod delayed;

@@ -1,10 +1,8 @@
-use Rattle.std.proofs.Common.{arith, ◌≡◌, ◌+◌, ℕ, List, [], ◌∷◌, length, subst, sym, ◌∙◌, ap}
-use Rattle.std.specs.declared.collections.VecDeque.{VecDeque}
-use Rattle.px_msg.specs.declared.message.Msg.{Msg}
-use Rattle.px_state.specs.declared.tables.Tables.{Tables}
+use Rattle.std.proofs.Common.{arith, ◌≡◌, ◌+◌, List, ◌∷◌, length, subst, sym, ◌∙◌, ap}
 use Rattle.px_state.specs.State.{State}
 use Rattle.px_state.specs.Change.{Change, changed, committed}
-use Rattle.px_state.specs.Tables.{state_of, HasRoom, HavePlaces}
+use Rattle.px_state.specs.Tables.{state_of, HasRoom}
+use Rattle.px_state.proofs.RoomForOne.{room_for_one}
 use Rattle.px_state.proofs.commit.commit.Goals as goal
 
 one_committed : {P : Type 0} (s t u : State P) (change : Change P) (rest all : List (Change P)) → all ≡ change ∷ rest → committed s all ≡ u → t ≡ changed s change → committed t rest ≡ u
@@ -13,15 +11,6 @@ one_committed s t u change rest all front whole after =
 
 one_longer : {A : Type 0} (x : A) (rest all : List A) → all ≡ x ∷ rest → length all ≡ length rest + 1
 one_longer x rest all front = rw front (omega arith)
-
--- queues with room for more than one message have room for one
-one_place : {P Z : Type 0} (n : ℕ) (queues : List (VecDeque (Msg P) Z)) → HavePlaces (n + 1) queues → HavePlaces 1 queues
-one_place n [] have = tt
-one_place n (x ∷ queues) have = (omega (arith, have.0), one_place n queues have.1)
-
--- and so have tables for one change
-room_for_one : {P : Type 0} (n : ℕ) (t : Tables P) → HasRoom (n + 1) t → HasRoom 1 t
-room_for_one n t had = record { places = omega (arith, had.places); streams = omega (arith, had.streams); lists = omega (arith, had.lists); waiting = omega (arith, had.waiting); delayed = omega (arith, had.delayed); posted = one_place n t.posted.items had.posted }
 
 pub apply-requires : goal.apply-requires
 apply-requires g c =
