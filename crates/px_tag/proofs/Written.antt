@@ -9,10 +9,12 @@ use Rattle.std.proofs.lemmas.List.Concat.{flat_map-cons}
 use Rattle.px_tag.specs.declared.fault.TagFault.{TagFault}
 use Rattle.px_tag.specs.declared.fault.TagFault.TheVariants.{Short, BadValue}
 use Rattle.px_tag.specs.PropList.{Property, is_key, is_value, is_property, is_proplist, is_distinct, with_value, with_all, meaning}
-use Rattle.px_tag.specs.Place.{Place, offset_of, ◌>>=◌}
+use Rattle.px_tag.specs.declared.fault.ListFault.{ListFault}
+use Rattle.px_tag.specs.declared.fault.ListFault.TheVariants.{Tag, NoMemory}
+use Rattle.px_tag.specs.Place.{GivesList, Place, offset_of, ◌>>=◌}
 use Rattle.px_tag.specs.Law.{AreBytes, Stands, HasOneSpelling}
 use Rattle.px_tag.specs.Item.{number, text, arbitrary, property, proplist, AreProperties, IsPropList}
-use Rattle.px_tag.specs.Reading.{next_at, tagged_at, field_at, bytes_at, number_at, text_at, value_at, keyed_at, property_at, followed_by, properties_at, written_at, proplist_at}
+use Rattle.px_tag.specs.Reading.{next_at, tagged_at, field_at, bytes_at, number_at, text_at, value_at, keyed_at, property_at, followed_by, properties_at, written_at, listed_at, proplist_at}
 use Rattle.px_tag.proofs.Steps.{bind_ok, checked, ok_is, Stands-then, one_from_again}
 use Rattle.px_tag.proofs.Fields.{tagged_found, tagged_again, wide32, field_found, field_again, bytes_found, bytes_again}
 use Rattle.px_tag.proofs.Items.{number_law, text_law, counted_stands}
@@ -246,10 +248,18 @@ unfolding properties_at
 list_goes_on zero place list p behind less room e = absurd (omega arith)
 list_goes_on (suc most) place list p behind less room e = (most, omega arith, rw e (keep_next list p (properties_at most behind)))
 
-pub list_is : (place field : Place) → tagged_at 0x50 place ≡ Ok field → proplist_at place ≡ keep [] (properties_at (length field.rest) field)
+pub listed_is : (place : Place) → listed_at place ≡ keep [] (properties_at (length place.rest) place)
+listed_is place = keep_meaning (properties_at (length place.rest) place)
+
+pub list_is : (place field : Place) → tagged_at 0x50 place ≡ Ok field → proplist_at place ≡ listed_at field
 unfolding proplist_at written_at
-list_is place field e = rw e (keep_meaning (properties_at (length field.rest) field))
+list_is place field e = rw e refl
 
 pub list_untagged : (place : Place) (fault : TagFault) → tagged_at 0x50 place ≡ Err fault → proplist_at place ≡ Err fault
 unfolding proplist_at written_at
 list_untagged place fault e = rw e refl
+
+-- a fault of a list is the same, whatever else is read with it
+pub fault_of_list : {X Z Y : Type 0} (view : X → Y) (other : Z → Y) (fault : ListFault) (read : Result Y TagFault) → GivesList view (Err fault) read → GivesList other (Err fault) read
+fault_of_list view other (Tag fault) read is = is
+fault_of_list view other NoMemory read is = tt

@@ -164,6 +164,12 @@ properties_at (suc most) place = do
   first ← property_at place
   followed_by first.0 first.1 (properties_at most first.1)
 
+-- what the properties up to the list's end mean
+abbrev pub listed_at : Reading (List Property)
+listed_at place = do
+  written ← properties_at (length place.rest) place
+  Ok (meaning written.0, written.1)
+
 -- a property list as it is written
 unfoldable pub written_at : Reading (List Property)
 written_at place = do

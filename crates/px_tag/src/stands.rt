@@ -1,9 +1,9 @@
 //! What stands at a place, by the kind of item that is wanted there.
 
-ghost use Rattle.std.specs.Prelude.{◌≡◌, ◌<◌, ◌≤◌, length, take, IsTrue, IfOk, IfSome};
+ghost use Rattle.std.specs.Prelude.{◌≡◌, ◌<◌, ◌≤◌, [], length, take, IsTrue, IfOk, IfSome};
 ghost use Rattle.std.specs.Option.{option_map};
 ghost use Rattle.px_tag.specs.Place.{Gives, GivesList};
-ghost use Rattle.px_tag.specs.Reading.{number_at, byte_at, wide_at, signed_at, usec_at, flag_at, text_at, arbitrary_at, counted_at, spec_at, map_at, volumes_at, fields_at, time_at, value_at, property_at, proplist_at};
+ghost use Rattle.px_tag.specs.Reading.{number_at, byte_at, wide_at, signed_at, usec_at, flag_at, text_at, arbitrary_at, counted_at, spec_at, map_at, volumes_at, fields_at, time_at, value_at, property_at, listed_at, proplist_at};
 ghost use Rattle.px_tag.specs.PropList.{is_key, is_key_byte, is_value};
 ghost use Rattle.std.specs.List.{list_all};
 ghost use Rattle.px_tag.specs.Seen.{place_of};
@@ -218,19 +218,29 @@ impl<'a> Place<'a> {
         Ok((Some((key, value)), place))
     }
 
-    #[tactic(auto, unfolding(crate::specs::Reading::proplist_at))]
-    pub(crate) fn proplist(self, alloc: Global) -> Result<(PropList, Place<'a>), ListFault>
-        ensures { GivesList (λ read. (read.0, place_of read.1)) result (proplist_at (place_of self.entry)) }
+    // The properties up to the list's end, which an empty list gets.
+    fn properties(self, list: &mut PropList) -> Result<Place<'a>, ListFault>
+        requires none { list.old ≡ [] }
+        ensures { GivesList (λ behind. (list.new, place_of behind)) result (listed_at (place_of self.entry)) }
     {
-        let mut list = PropList::new(alloc);
-        let mut place = self.tagged(tag::PROPLIST)?;
+        let mut place = self;
         loop {
             let (property, behind) = place.property()?;
             match property {
-                None => return Ok((list, behind)),
+                None => return Ok(behind),
                 Some((key, value)) => list.set(key, value)?,
             }
             place = behind;
         }
+    }
+
+    #[tactic(auto, unfolding(crate::specs::Reading::proplist_at))]
+    pub(crate) fn proplist(self, alloc: Global) -> Result<(PropList, Place<'a>), ListFault>
+        ensures { GivesList (λ read. (read.0, place_of read.1)) result (proplist_at (place_of self.entry)) }
+    {
+        let place = self.tagged(tag::PROPLIST)?;
+        let mut list = PropList::new(alloc);
+        let behind = place.properties(&mut list)?;
+        Ok((list, behind))
     }
 }
