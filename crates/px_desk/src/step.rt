@@ -142,7 +142,10 @@ fn step_onto<W: Wait, C: Recorder<CoreEntry> + Drop, L: Seats, O: Outlet + Drop>
     ensures seat { seat.new.parts ≡ seat.old.parts }
     ensures back { HandsBack step result }
 {
-    let events = ready_events(alloc, tape, &step)?;
+    let Ok(events) = ready_events(alloc, tape, &step) else {
+        drop(step);
+        return Err(StepFault::NoMemory);
+    };
     let stepped = step_lined(rt, alloc, desk, step, seat)?;
     if stepped != Stepped::Nothing {
         tape.add(events);
