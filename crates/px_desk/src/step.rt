@@ -88,6 +88,30 @@ fn sweep_in<W: Wait, C: Recorder<CoreEntry> + Drop, L: Seats, O: Outlet + Drop>(
     }
 }
 
+// Makes a step, and the sweep that it owes, with the lines locked.
+fn step_swept<W: Wait, C: Recorder<CoreEntry> + Drop, L: Seats, O: Outlet + Drop>(
+    rt: &W,
+    alloc: Global,
+    desk: &Desk<C, L, O>,
+    lines: &mut Lines<O>,
+    step: CoreStep,
+    seat: &mut CoreSeat<L>,
+) -> Result<Stepped, StepFault>
+    requires lawful { IsAsked step }
+    ensures seat { seat.new.parts ≡ seat.old.parts }
+    ensures back { HandsBack step result }
+{
+    let owes = owes_sweep(&step);
+    if !step_in(rt, alloc, desk, lines, step, seat)? {
+        return Ok(Stepped::Nothing);
+    }
+    if owes {
+        Ok(sweep_in(rt, alloc, desk, lines, seat))
+    } else {
+        Ok(Stepped::Done)
+    }
+}
+
 /// Makes a step, and what it does to the outside comes into the clients' lines; so does what the sweep does that it owes. The lines are locked
 /// meanwhile, so that they have the packets in the order of the steps.
 pub(crate) fn step_lined<W: Wait, C: Recorder<CoreEntry> + Drop, L: Seats, O: Outlet + Drop>(
@@ -101,16 +125,8 @@ pub(crate) fn step_lined<W: Wait, C: Recorder<CoreEntry> + Drop, L: Seats, O: Ou
     ensures seat { seat.new.parts ≡ seat.old.parts }
     ensures back { HandsBack step result }
 {
-    let owes = owes_sweep(&step);
     let mut lines = desk.lines.lock(rt);
-    if !step_in(rt, alloc, desk, &mut lines, step, seat)? {
-        return Ok(Stepped::Nothing);
-    }
-    if owes {
-        Ok(sweep_in(rt, alloc, desk, &mut lines, seat))
-    } else {
-        Ok(Stepped::Done)
-    }
+    step_swept(rt, alloc, desk, &mut lines, step, seat)
 }
 
 // Whether a sweep is owed behind a step.
