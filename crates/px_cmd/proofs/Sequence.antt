@@ -8,7 +8,7 @@ use Rattle.px_cmd.specs.declared.fault.CmdFault.{CmdFault}
 use Rattle.px_cmd.specs.declared.fault.CmdFault.TheVariants.{Protocol, Unknown, Unsupported, NoMemory}
 use Rattle.px_cmd.specs.Field.{Kind, Field, Properties, field_at, fields_at, properties}
 use Rattle.px_cmd.specs.Table.{create_kinds}
-use Rattle.px_cmd.specs.Create.{shape_kinds, buffering_kinds, matching_kinds, playing_kinds}
+use Rattle.px_cmd.specs.Create.{shape_kinds, buffering_kinds, matching_kinds, playing_kinds, manner_kinds}
 use Rattle.px_cmd.specs.Packet.{Fails}
 
 abbrev behind : List Field → Result (List Field × Place) TagFault → Result (List Field × Place) TagFault
@@ -72,42 +72,43 @@ last_kinds = properties ∷ []
 abbrev from_playing : List Kind
 from_playing = playing_kinds ++ last_kinds
 
-abbrev from_matching : List Kind
-from_matching = matching_kinds ++ from_playing
-
 abbrev from_buffering : List Kind
-from_buffering = buffering_kinds ++ from_matching
+from_buffering = buffering_kinds ++ manner_kinds
+
+list_fails : (place : Place) (fault : CmdFault) → Fails fault (proplist_at place) → Fails fault (fields_at last_kinds place)
+list_fails place (Protocol fault) e = rw e refl
+list_fails place (Unknown command) e = e
+list_fails place (Unsupported command) e = e
+list_fails place NoMemory e = tt
 
 module _ (place : Place) where
+  pub manner_fails_1 : (fault : CmdFault) → Fails fault (fields_at matching_kinds place) → Fails fault (fields_at manner_kinds place)
+  manner_fails_1 fault e = fails_first matching_kinds from_playing place fault e
+
+  module _ (matching : List Field) (a : Place) (one : fields_at matching_kinds place ≡ Ok (matching, a)) where
+    pub manner_fails_2 : (fault : CmdFault) → Fails fault (fields_at playing_kinds a) → Fails fault (fields_at manner_kinds place)
+    manner_fails_2 fault e = fails_then matching_kinds from_playing place matching a fault one (fails_first playing_kinds last_kinds a fault e)
+
+    module _ (playing : List Field) (b : Place) (two : fields_at playing_kinds a ≡ Ok (playing, b)) where
+      pub manner_fails_3 : (fault : CmdFault) → Fails fault (proplist_at b) → Fails fault (fields_at manner_kinds place)
+      manner_fails_3 fault e = fails_then matching_kinds from_playing place matching a fault one (fails_then playing_kinds last_kinds a playing b fault two (list_fails b fault e))
+
+      pub manner_reads : (list : List Property) (c : Place) → proplist_at b ≡ Ok (list, c) → fields_at manner_kinds place ≡ Ok (matching ++ (playing ++ Properties list ∷ []), c)
+      manner_reads list c three =
+          let last : fields_at last_kinds b ≡ Ok (Properties list ∷ [], c) = rw three refl in
+          fields_then matching_kinds from_playing place matching a one
+          ∙ ap (behind matching) (fields_then playing_kinds last_kinds a playing b two ∙ ap (behind playing) last)
+
   pub create_fails_1 : (fault : CmdFault) → Fails fault (fields_at shape_kinds place) → Fails fault (fields_at create_kinds place)
   create_fails_1 fault e = fails_first shape_kinds from_buffering place fault e
 
   module _ (shape : List Field) (a : Place) (one : fields_at shape_kinds place ≡ Ok (shape, a)) where
     pub create_fails_2 : (fault : CmdFault) → Fails fault (fields_at buffering_kinds a) → Fails fault (fields_at create_kinds place)
-    create_fails_2 fault e = fails_then shape_kinds from_buffering place shape a fault one (fails_first buffering_kinds from_matching a fault e)
+    create_fails_2 fault e = fails_then shape_kinds from_buffering place shape a fault one (fails_first buffering_kinds manner_kinds a fault e)
 
     module _ (buffering : List Field) (b : Place) (two : fields_at buffering_kinds a ≡ Ok (buffering, b)) where
-      pub create_fails_3 : (fault : CmdFault) → Fails fault (fields_at matching_kinds b) → Fails fault (fields_at create_kinds place)
-      create_fails_3 fault e = fails_then shape_kinds from_buffering place shape a fault one (fails_then buffering_kinds from_matching a buffering b fault two (fails_first matching_kinds from_playing b fault e))
+      pub create_fails_3 : (fault : CmdFault) → Fails fault (fields_at manner_kinds b) → Fails fault (fields_at create_kinds place)
+      create_fails_3 fault e = fails_then shape_kinds from_buffering place shape a fault one (fails_then buffering_kinds manner_kinds a buffering b fault two e)
 
-      module _ (matching : List Field) (c : Place) (three : fields_at matching_kinds b ≡ Ok (matching, c)) where
-        pub create_fails_4 : (fault : CmdFault) → Fails fault (fields_at playing_kinds c) → Fails fault (fields_at create_kinds place)
-        create_fails_4 fault e = fails_then shape_kinds from_buffering place shape a fault one (fails_then buffering_kinds from_matching a buffering b fault two (fails_then matching_kinds from_playing b matching c fault three (fails_first playing_kinds last_kinds c fault e)))
-
-        module _ (playing : List Field) (d : Place) (four : fields_at playing_kinds c ≡ Ok (playing, d)) where
-          pub create_fails_5 : (fault : CmdFault) → Fails fault (proplist_at d) → Fails fault (fields_at create_kinds place)
-          create_fails_5 fault e = fails_then shape_kinds from_buffering place shape a fault one (fails_then buffering_kinds from_matching a buffering b fault two (fails_then matching_kinds from_playing b matching c fault three (fails_then playing_kinds last_kinds c playing d fault four (list_fails d fault e))))
-            where
-              list_fails : (d : Place) (fault : CmdFault) → Fails fault (proplist_at d) → Fails fault (fields_at last_kinds d)
-              list_fails d (Protocol fault) e = rw e refl
-              list_fails d (Unknown command) e = e
-              list_fails d (Unsupported command) e = e
-              list_fails d NoMemory e = tt
-
-          pub create_reads : (list : List Property) (e : Place) → proplist_at d ≡ Ok (list, e) → fields_at create_kinds place ≡ Ok (shape ++ (buffering ++ (matching ++ (playing ++ Properties list ∷ []))), e)
-          create_reads list e five =
-              let last : fields_at last_kinds d ≡ Ok (Properties list ∷ [], e) = rw five refl in
-              fields_then shape_kinds from_buffering place shape a one
-              ∙ ap (behind shape) (fields_then buffering_kinds from_matching a buffering b two
-              ∙ ap (behind buffering) (fields_then matching_kinds from_playing b matching c three
-              ∙ ap (behind matching) (fields_then playing_kinds last_kinds c playing d four ∙ ap (behind playing) last)))
+      pub create_reads : (manner : List Field) (c : Place) → fields_at manner_kinds b ≡ Ok (manner, c) → fields_at create_kinds place ≡ Ok (shape ++ (buffering ++ manner), c)
+      create_reads manner c three = fields_then shape_kinds from_buffering place shape a one ∙ ap (behind shape) (fields_then buffering_kinds manner_kinds a buffering b two ∙ ap (behind buffering) three)

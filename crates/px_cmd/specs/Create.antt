@@ -1,11 +1,12 @@
 -- The parts of CREATE_PLAYBACK_STREAM's fields, in the order of the packet.
-use Rattle.std.specs.Prelude.{List, [], ◌∷◌, slice_index}
+use Rattle.std.specs.Prelude.{List, [], ◌∷◌, ◌++◌, slice_index}
 use Rattle.px_cmd.specs.declared.create.Shape.{Shape}
 use Rattle.px_cmd.specs.declared.create.Buffering.{Buffering}
 use Rattle.px_cmd.specs.declared.create.Matching.{Matching}
 use Rattle.px_cmd.specs.declared.create.Playing.{Playing}
+use Rattle.px_cmd.specs.declared.create.Manner.{Manner}
 use Rattle.px_cmd.specs.Command.{sink_fields}
-use Rattle.px_cmd.specs.Field.{Kind, u32, bool, string, sample_spec, positions, volumes, Field, Number, Flag, SampleSpec, Positions, Volumes}
+use Rattle.px_cmd.specs.Field.{Kind, u32, bool, string, sample_spec, positions, volumes, properties, Field, Number, Flag, SampleSpec, Positions, Volumes, Properties}
 
 abbrev pub shape_kinds : List Kind
 shape_kinds = sample_spec ∷ positions ∷ u32 ∷ string ∷ []
@@ -32,3 +33,9 @@ playing_kinds = bool ∷ bool ∷ bool ∷ bool ∷ []
 
 abbrev pub playing_fields : Playing → List Field
 playing_fields p = Flag p.no_move ∷ Flag p.variable_rate ∷ Flag p.muted ∷ Flag p.adjust_latency ∷ []
+
+abbrev pub manner_kinds : List Kind
+manner_kinds = matching_kinds ++ (playing_kinds ++ properties ∷ [])
+
+abbrev pub manner_fields : Manner → List Field
+manner_fields m = matching_fields m.matching ++ (playing_fields m.playing ++ Properties m.list ∷ [])

@@ -2,7 +2,7 @@
 
 ghost use Rattle.std.specs.Prelude.{◌≡◌, length, IfOk};
 ghost use Rattle.px_cmd.specs.Command.{create_fields};
-ghost use Rattle.px_cmd.specs.Create.{shape_kinds, shape_fields, buffering_kinds, buffering_fields, matching_kinds, matching_fields, playing_kinds, playing_fields};
+ghost use Rattle.px_cmd.specs.Create.{shape_kinds, shape_fields, buffering_kinds, buffering_fields, matching_kinds, matching_fields, playing_kinds, playing_fields, manner_kinds, manner_fields};
 ghost use Rattle.px_cmd.specs.Field.{fields_at};
 ghost use Rattle.px_cmd.specs.Meant.{AreFields};
 ghost use Rattle.px_cmd.specs.Packet.{Takes};
@@ -11,7 +11,7 @@ ghost use Rattle.px_cmd.specs.Table.{create_kinds};
 use crate::command::{CreateFields, SinkRef};
 use crate::fault::CmdFault;
 use crate::fields::{properties, sink};
-use px_tag::{RawMap, RawSpec, RawVolume, TagReader};
+use px_tag::{PropList, RawMap, RawSpec, RawVolume, TagReader};
 use std::alloc::Global;
 
 // What the stream is to be, and where.
@@ -48,6 +48,14 @@ struct Playing {
     variable_rate: bool,
     muted: bool,
     adjust_latency: bool,
+}
+
+// How it is matched and played, and its properties.
+#[derive(Drop)]
+struct Manner {
+    matching: Matching,
+    playing: Playing,
+    list: PropList,
 }
 
 fn read_shape(alloc: Global, reader: &mut TagReader) -> Result<Shape, CmdFault>
@@ -110,6 +118,19 @@ fn read_playing(reader: &mut TagReader) -> Result<Playing, CmdFault>
     })
 }
 
+fn read_manner(alloc: Global, reader: &mut TagReader) -> Result<Manner, CmdFault>
+    ensures { Takes manner_fields result reader.new (fields_at manner_kinds reader.old) }
+{
+    let matching = read_matching(reader)?;
+    let playing = read_playing(reader)?;
+    let list = properties(alloc, reader)?;
+    Ok(Manner {
+        matching,
+        playing,
+        list,
+    })
+}
+
 /// The fields of CREATE_PLAYBACK_STREAM at version 13.
 pub(crate) fn create(alloc: Global, reader: &mut TagReader) -> Result<CreateFields, CmdFault>
     ensures value { Takes create_fields result reader.new (fields_at create_kinds reader.old) }
@@ -117,10 +138,10 @@ pub(crate) fn create(alloc: Global, reader: &mut TagReader) -> Result<CreateFiel
 {
     let shape = read_shape(alloc, reader)?;
     let buffering = read_buffering(reader)?;
-    let matching = read_matching(reader)?;
-    let playing = read_playing(reader)?;
-    let list = properties(alloc, reader)?;
+    let manner = read_manner(alloc, reader)?;
     let asked = buffering.asked;
+    let matching = manner.matching;
+    let playing = manner.playing;
     Ok(CreateFields {
         spec: shape.spec,
         map: shape.map,
@@ -138,7 +159,7 @@ pub(crate) fn create(alloc: Global, reader: &mut TagReader) -> Result<CreateFiel
         variable_rate: playing.variable_rate,
         muted: playing.muted,
         adjust_latency: playing.adjust_latency,
-        list,
+        list: manner.list,
         volume_set: None,
         early_requests: None,
         muted_set: None,

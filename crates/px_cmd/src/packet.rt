@@ -83,6 +83,30 @@ fn list_fields(alloc: Global, number: u32, reader: &mut TagReader) -> Result<Com
     }
 }
 
+// The fields of a command whose number is 67 at least: those that change an input come first.
+fn input_fields(alloc: Global, number: u32, reader: &mut TagReader) -> Result<Command, CmdFault>
+    requires { 67 ≤ number }
+    ensures value { Reaches result number reader.new (taken (kinds_of number) number reader.old) }
+    ensures numbered { IfOk result IsNumbered }
+    ensures plain { IfOk result IsOfVersion13 }
+{
+    match number {
+        67 => {
+            let input = reader.number()?;
+            let sink = sink(alloc, reader)?;
+            Ok(Command::Move { input, sink })
+        }
+        69 => {
+            let input = reader.number()?;
+            let on = reader.flag()?;
+            Ok(Command::InputMute { input, on })
+        }
+        72 => attributes(reader),
+        0..=80 => Err(CmdFault::Unsupported(number)),
+        _ => list_fields(alloc, number, reader),
+    }
+}
+
 // The fields of a command whose number is 48 at least.
 fn last_fields(alloc: Global, number: u32, reader: &mut TagReader) -> Result<Command, CmdFault>
     requires { 48 ≤ number }
@@ -103,43 +127,19 @@ fn last_fields(alloc: Global, number: u32, reader: &mut TagReader) -> Result<Com
             let stream = reader.number()?;
             Ok(Command::Prebuf { stream })
         }
-        67 => {
-            let input = reader.number()?;
-            let sink = sink(alloc, reader)?;
-            Ok(Command::Move { input, sink })
-        }
-        69 => {
-            let input = reader.number()?;
-            let on = reader.flag()?;
-            Ok(Command::InputMute { input, on })
-        }
-        72 => attributes(reader),
-        0..=80 => Err(CmdFault::Unsupported(number)),
-        _ => list_fields(alloc, number, reader),
+        0..=66 => Err(CmdFault::Unsupported(number)),
+        _ => input_fields(alloc, number, reader),
     }
 }
 
-// The fields of a command whose number is 41 at least.
-fn stream_fields(alloc: Global, number: u32, reader: &mut TagReader) -> Result<Command, CmdFault>
-    requires { 41 ≤ number }
+// The fields of a command whose number is 44 at least: those with a name come first.
+fn naming_fields(alloc: Global, number: u32, reader: &mut TagReader) -> Result<Command, CmdFault>
+    requires { 44 ≤ number }
     ensures value { Reaches result number reader.new (taken (kinds_of number) number reader.old) }
     ensures numbered { IfOk result IsNumbered }
     ensures plain { IfOk result IsOfVersion13 }
 {
     match number {
-        41 => {
-            let stream = reader.number()?;
-            let on = reader.flag()?;
-            Ok(Command::Cork { stream, on })
-        }
-        42 => {
-            let stream = reader.number()?;
-            Ok(Command::Flush { stream })
-        }
-        43 => {
-            let stream = reader.number()?;
-            Ok(Command::Trigger { stream })
-        }
         44 => {
             let name = text(alloc, reader)?;
             Ok(Command::DefaultSink { name })
@@ -154,7 +154,51 @@ fn stream_fields(alloc: Global, number: u32, reader: &mut TagReader) -> Result<C
     }
 }
 
-// The fields of a command whose number is 36 at least.
+// The fields of a command whose number is 42 at least.
+fn stream_fields(alloc: Global, number: u32, reader: &mut TagReader) -> Result<Command, CmdFault>
+    requires { 42 ≤ number }
+    ensures value { Reaches result number reader.new (taken (kinds_of number) number reader.old) }
+    ensures numbered { IfOk result IsNumbered }
+    ensures plain { IfOk result IsOfVersion13 }
+{
+    match number {
+        42 => {
+            let stream = reader.number()?;
+            Ok(Command::Flush { stream })
+        }
+        43 => {
+            let stream = reader.number()?;
+            Ok(Command::Trigger { stream })
+        }
+        0..=43 => Err(CmdFault::Unsupported(number)),
+        _ => naming_fields(alloc, number, reader),
+    }
+}
+
+// The fields of a command whose number is 39 at least: those with a flag come first.
+fn switch_fields(alloc: Global, number: u32, reader: &mut TagReader) -> Result<Command, CmdFault>
+    requires { 39 ≤ number }
+    ensures value { Reaches result number reader.new (taken (kinds_of number) number reader.old) }
+    ensures numbered { IfOk result IsNumbered }
+    ensures plain { IfOk result IsOfVersion13 }
+{
+    match number {
+        39 => {
+            let sink = sink(alloc, reader)?;
+            let on = reader.flag()?;
+            Ok(Command::SinkMute { sink, on })
+        }
+        41 => {
+            let stream = reader.number()?;
+            let on = reader.flag()?;
+            Ok(Command::Cork { stream, on })
+        }
+        0..=41 => Err(CmdFault::Unsupported(number)),
+        _ => stream_fields(alloc, number, reader),
+    }
+}
+
+// The fields of a command whose number is 36 at least: those with volumes come first.
 fn later_fields(alloc: Global, number: u32, reader: &mut TagReader) -> Result<Command, CmdFault>
     requires { 36 ≤ number }
     ensures value { Reaches result number reader.new (taken (kinds_of number) number reader.old) }
@@ -172,13 +216,8 @@ fn later_fields(alloc: Global, number: u32, reader: &mut TagReader) -> Result<Co
             let volume = reader.cvolume()?;
             Ok(Command::InputVolume { input, volume })
         }
-        39 => {
-            let sink = sink(alloc, reader)?;
-            let on = reader.flag()?;
-            Ok(Command::SinkMute { sink, on })
-        }
-        0..=40 => Err(CmdFault::Unsupported(number)),
-        _ => stream_fields(alloc, number, reader),
+        0..=38 => Err(CmdFault::Unsupported(number)),
+        _ => switch_fields(alloc, number, reader),
     }
 }
 
@@ -239,6 +278,27 @@ fn further_fields(alloc: Global, number: u32, reader: &mut TagReader) -> Result<
     }
 }
 
+// The fields of a command whose number is 9 at least.
+fn early_fields(alloc: Global, number: u32, reader: &mut TagReader) -> Result<Command, CmdFault>
+    requires { 9 ≤ number }
+    ensures value { Reaches result number reader.new (taken (kinds_of number) number reader.old) }
+    ensures numbered { IfOk result IsNumbered }
+    ensures plain { IfOk result IsOfVersion13 }
+{
+    match number {
+        9 => {
+            let list = properties(alloc, reader)?;
+            Ok(Command::SetClientName { list })
+        }
+        10 => {
+            let name = text(alloc, reader)?;
+            Ok(Command::LookupSink { name })
+        }
+        0..=11 => Err(CmdFault::Unsupported(number)),
+        _ => further_fields(alloc, number, reader),
+    }
+}
+
 // The fields of the command with this number.
 fn fields(alloc: Global, number: u32, reader: &mut TagReader) -> Result<Command, CmdFault>
     ensures value { Reaches result number reader.new (taken (kinds_of number) number reader.old) }
@@ -259,16 +319,8 @@ fn fields(alloc: Global, number: u32, reader: &mut TagReader) -> Result<Command,
             let cookie = cookie(alloc, reader)?;
             Ok(Command::Auth { version, cookie })
         }
-        9 => {
-            let list = properties(alloc, reader)?;
-            Ok(Command::SetClientName { list })
-        }
-        10 => {
-            let name = text(alloc, reader)?;
-            Ok(Command::LookupSink { name })
-        }
-        0..=11 => Err(CmdFault::Unsupported(number)),
-        _ => further_fields(alloc, number, reader),
+        0..=8 => Err(CmdFault::Unsupported(number)),
+        _ => early_fields(alloc, number, reader),
     }
 }
 

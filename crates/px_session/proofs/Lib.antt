@@ -7,6 +7,7 @@ pub mod SteadySession
 pub mod LastByte
 pub mod FieldLaws
 pub mod HeaderLaws
+mod HeaderRest
 pub mod SinkLaws
 pub mod MapLemmas
 pub mod EventLaws

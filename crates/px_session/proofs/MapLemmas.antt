@@ -38,7 +38,8 @@ positions_known (suc n) earlier place x known e =
     let r = positions_known n (earlier ++ s.0.0 ∷ []) s.0.1 x (known_more earlier s.0.0 known (position_known earlier place s.0 s.1)) s.2 in
     (omega (arith, r.0, length-append earlier (s.0.0 ∷ [])), r.1)
 
-spec_channels : (place : Place) (x : Spec × Place) → spec_at place ≡ Ok x → IsFromTo 1 32 x.0.channels
+-- a sample spec that was read has 1 to 32 channels
+pub spec_channels : (place : Place) (x : Spec × Place) → spec_at place ≡ Ok x → IsFromTo 1 32 x.0.channels
 unfolding spec_at ruled
 spec_channels place x e =
     let f = then_ok format_at _ place x e in
@@ -51,9 +52,8 @@ spec_channels place x e =
     let fits : IsFromTo 1 32 c.0.0 = subst (λ (z : ℕ × Place). IsFromTo 1 32 z.0) t.1 (within 1 32 g.0.0 t.0) in
     subst (λ (z : Spec). IsFromTo 1 32 z.channels) is fits
 
--- the positions that were read behind a sample spec are a map of so many channels
-pub positions_are_map : (start place : Place) (x : Spec × Place) (y : List ℕ × Place) → spec_at start ≡ Ok x → more_at position_at [] x.0.channels place ≡ Ok y → IsChannelMap y.0
-positions_are_map start place x y spec map =
-    let fits = spec_channels start x spec in
-    let known = positions_known x.0.channels [] place y tt map in
+-- 1 to 32 positions that were read are a map
+pub positions_are_map : (count : ℕ) (place : Place) (y : List ℕ × Place) → IsFromTo 1 32 count → more_at position_at [] count place ≡ Ok y → IsChannelMap y.0
+positions_are_map count place y fits map =
+    let known = positions_known count [] place y tt map in
     record { some = omega (arith, known.0, fits.0); few = omega (arith, known.0, fits.1); known = All-from_recursion (λ p. p ≤ 50) y.0 known.1 }

@@ -2,6 +2,7 @@ pub mod Place
 pub mod Field
 pub mod HeaderRules
 pub mod HeaderReading
+pub mod HeaderRest
 pub mod EventReading
 pub mod Session
 pub mod Held

@@ -2,12 +2,12 @@
 
 ghost use Rattle.std.specs.Prelude.{◌≡◌, ◌&&◌, ◌==◌, [], nat_le, slice_index, IfOk};
 ghost use Rattle.std.specs.List.{list_all};
-ghost use Rattle.px_chmap.specs.ChannelMap.{IsChannelMap};
 ghost use Rattle.px_sample.specs.Format.{code_of};
 ghost use Rattle.px_session.specs.Place.{bytes_at, Gives, Reads};
 ghost use Rattle.px_session.specs.Field.{byte_at, word_at, ruled};
-ghost use Rattle.px_session.specs.HeaderRules.{is_from_to, is_name, is_new, format_of, is_depth};
+ghost use Rattle.px_session.specs.HeaderRules.{is_from_to, IsFromTo, is_name, is_new, format_of, is_depth};
 ghost use Rattle.px_session.specs.HeaderReading.{letter_at, magic_at, name_at, format_at, spec_at, position_at, more_at, room_at, sink_at, header_at};
+ghost use Rattle.px_session.specs.HeaderRest.{rest_of_sink_at, rest_of_header_at};
 ghost use Rattle.px_session.specs.Seen.{place_of, room_of};
 
 use crate::fault::{Cause, ReadError};
@@ -197,25 +197,53 @@ fn position(place: Place<'_>) -> Result<(u8, Place<'_>), ReadError>
     Ok((position, after))
 }
 
-// A sink of these fields, whose positions are a map.
+// So many speaker positions, as the map that they are.
+fn map(alloc: Global, count: u8, place: &mut Place<'_>) -> Result<Map, ReadError>
+    requires { IsFromTo 1 32 count }
+    ensures { Reads (λ map. map) result (place_of place.new) (more_at position_at [] count (place_of place.old)) }
+{
+    let (positions, rest) = positions(alloc, count, *place)?;
+    let map = Map::new(positions.as_slice()).unwrap();
+    drop(positions);
+    *place = rest;
+    Ok(map)
+}
+
+// A sink of these fields.
 fn sink_of(
     alloc: Global,
     name: &[u8],
     spec: Spec,
-    positions: &[u8],
+    map: Map,
     guard: u32,
     depth: u32,
 ) -> Mem<SinkSpec>
-    requires { IsChannelMap positions.now }
-    ensures { IfOk result (λ s. s ≡ record { name = name.now; spec = spec; map = positions.now; guard = guard; depth = depth }) }
+    ensures { IfOk result (λ s. s ≡ record { name = name.now; spec = spec; map = map; guard = guard; depth = depth }) }
 {
     Ok(SinkSpec {
         name: Text::copied(alloc, name)?,
         spec,
-        map: Map::new(positions).unwrap(),
+        map,
         guard,
         depth,
     })
+}
+
+// The sink of this name and this sample spec, whose other fields stand at the place.
+#[tactic(auto, unfolding(crate::specs::HeaderRest::rest_of_sink_at, crate::specs::Place::and_then))]
+fn rest_of_sink(
+    alloc: Global,
+    name: &[u8],
+    spec: Spec,
+    place: &mut Place<'_>,
+) -> Result<SinkSpec, ReadError>
+    requires { IsFromTo 1 32 spec.channels }
+    ensures { Reads (λ s. s) result (place_of place.new) (rest_of_sink_at name.now spec (place_of place.old)) }
+{
+    let map = map(alloc, spec.channels, place)?;
+    let (guard, depth, rest) = room(*place)?;
+    *place = rest;
+    Ok(sink_of(alloc, name, spec, map, guard, depth)?)
 }
 
 #[tactic(auto, unfolding(crate::specs::HeaderReading::sink_at, crate::specs::Place::and_then))]
@@ -224,10 +252,8 @@ fn sink(alloc: Global, earlier: &[SinkSpec], place: &mut Place<'_>) -> Result<Si
 {
     let (name, rest) = name(earlier, *place)?;
     let (spec, rest) = spec(rest)?;
-    let (positions, rest) = positions(alloc, spec.channels, rest)?;
-    let (guard, depth, rest) = room(rest)?;
     *place = rest;
-    Ok(sink_of(alloc, name, spec, positions.as_slice(), guard, depth)?)
+    rest_of_sink(alloc, name, spec, place)
 }
 
 fn sinks(alloc: Global, count: u8, place: &mut Place<'_>) -> Result<Vec<SinkSpec>, ReadError>
@@ -241,6 +267,33 @@ fn sinks(alloc: Global, count: u8, place: &mut Place<'_>) -> Result<Vec<SinkSpec
     Ok(sinks)
 }
 
+// A header of this cookie and these sinks.
+fn header_of(alloc: Global, cookie: &[u8], sinks: Vec<SinkSpec>) -> Mem<Header>
+    ensures { IfOk result (λ h. h ≡ record { cookie = cookie.now; sinks = sinks.items }) }
+{
+    match Text::copied(alloc, cookie) {
+        Ok(cookie) => Ok(Header {
+            cookie,
+            sinks: SinkSpecs::from_vec(sinks),
+        }),
+        Err(error) => {
+            drop(sinks);
+            Err(error)
+        }
+    }
+}
+
+// The header of this cookie, whose other fields stand at the place.
+#[tactic(auto, unfolding(crate::specs::HeaderRest::rest_of_header_at, crate::specs::Place::and_then))]
+fn rest_of_header(alloc: Global, cookie: &[u8], place: &mut Place<'_>) -> Result<Header, ReadError>
+    ensures { Reads (λ h. h) result (place_of place.new) (rest_of_header_at cookie.now (place_of place.old)) }
+{
+    let (count, rest) = byte_within(*place, 1, 16)?;
+    *place = rest;
+    let sinks = sinks(alloc, count, place)?;
+    Ok(header_of(alloc, cookie, sinks)?)
+}
+
 /// The header that stands at the place, which is then behind it.
 #[tactic(auto, unfolding(crate::specs::HeaderReading::header_at, crate::specs::Place::and_then))]
 pub(crate) fn header(alloc: Global, place: &mut Place<'_>) -> Result<Header, ReadError>
@@ -248,9 +301,6 @@ pub(crate) fn header(alloc: Global, place: &mut Place<'_>) -> Result<Header, Rea
 {
     let (_, rest) = magic(*place)?;
     let (cookie, rest) = rest.bytes(256)?;
-    let (count, rest) = byte_within(rest, 1, 16)?;
     *place = rest;
-    let sinks = SinkSpecs::from_vec(sinks(alloc, count, place)?);
-    let cookie = Text::copied(alloc, cookie)?;
-    Ok(Header { cookie, sinks })
+    rest_of_header(alloc, cookie, place)
 }

@@ -7,7 +7,7 @@ ghost use Rattle.px_types.specs.Faults.{Rose};
 ghost use Rattle.px_ends.specs.Whole.{AddsFront};
 ghost use Rattle.px_session.specs.Spelling.{word, sink, event, end_byte};
 ghost use Rattle.px_session.specs.Spelling as spelling;
-ghost use Rattle.px_session.specs.Output.{record_of};
+ghost use Rattle.px_session.specs.Output.{record_of, closed_record};
 ghost use Rattle.px_session.specs.Writing.{FitsSink, FitsHeader, FitsEvent, FitsRecord};
 
 use crate::event::Event;
@@ -108,6 +108,29 @@ fn write_bytes<K: Sink>(out: &mut K, code: u8, conn: ConnId, bytes: &[u8]) -> Re
     )
 }
 
+// Writes a turn of a sink.
+fn write_turn<K: Sink>(out: &mut K, index: u8, frames: u32, take: u32) -> Result<(), WriteError>
+    ensures ok { OnOk result (K.held out.new ≡ after_adding (K.held out.old) (5 ∷ index ∷ word frames ++ word take)) }
+    ensures ok_count { OnOk result (K.faults out.new ≡ K.faults out.old) }
+    ensures err { OnErr result (AddsFront (5 ∷ index ∷ word frames ++ word take) (K.held out.old) (K.held out.new)) }
+    ensures err_count { OnErr result (Rose (K.faults out.old) (K.faults out.new)) }
+{
+    write_pieces(
+        out,
+        &[&[5, index], &frames.to_be_bytes(), &take.to_be_bytes()],
+    )
+}
+
+// Writes that the core takes notices of a sink.
+fn write_collect<K: Sink>(out: &mut K, index: u8, take: u32) -> Result<(), WriteError>
+    ensures ok { OnOk result (K.held out.new ≡ after_adding (K.held out.old) (6 ∷ index ∷ word take)) }
+    ensures ok_count { OnOk result (K.faults out.new ≡ K.faults out.old) }
+    ensures err { OnErr result (AddsFront (6 ∷ index ∷ word take) (K.held out.old) (K.held out.new)) }
+    ensures err_count { OnErr result (Rose (K.faults out.old) (K.faults out.new)) }
+{
+    write_pieces(out, &[&[6, index], &take.to_be_bytes()])
+}
+
 /// Writes the spelling of an event. After `Failed` the sink took a front of it. Takes no memory.
 #[tactic(auto, unfolding(crate::specs::Spelling::event))]
 pub fn write_event<K: Sink>(out: &mut K, e: &Event) -> Result<(), WriteError>
@@ -122,16 +145,53 @@ pub fn write_event<K: Sink>(out: &mut K, e: &Event) -> Result<(), WriteError>
         Event::Bytes(conn, bytes) => write_bytes(out, 2, *conn, bytes.as_slice()),
         Event::Close(conn) => write_connection(out, 3, *conn),
         Event::Cut(conn) => write_connection(out, 4, *conn),
-        Event::Turn { sink, frames, take } => write_pieces(
-            out,
-            &[&[5, *sink], &frames.to_be_bytes(), &take.to_be_bytes()],
-        ),
-        Event::Collect { sink, take } => { write_pieces(out, &[&[6, *sink], &take.to_be_bytes()]) }
+        Event::Turn { sink, frames, take } => write_turn(out, *sink, *frames, *take),
+        Event::Collect { sink, take } => write_collect(out, *sink, *take),
     }
 }
 
+// Writes that the server has ended a connection.
+#[tactic(auto, unfolding(crate::specs::Output::closed_record))]
+fn write_closed<K: Sink>(
+    out: &mut K,
+    conn: ConnId,
+    reason: u8,
+    fault: u8,
+    at: u64,
+) -> Result<(), WriteError>
+    ensures ok { OnOk result (K.held out.new ≡ after_adding (K.held out.old) (closed_record conn.0 reason fault at)) }
+    ensures ok_count { OnOk result (K.faults out.new ≡ K.faults out.old) }
+    ensures err { OnErr result (AddsFront (closed_record conn.0 reason fault at) (K.held out.old) (K.held out.new)) }
+    ensures err_count { OnErr result (Rose (K.faults out.old) (K.faults out.new)) }
+{
+    write_pieces(
+        out,
+        &[
+            &[2],
+            &conn.0.to_be_bytes(),
+            &[reason, fault],
+            &at.to_be_bytes(),
+        ],
+    )
+}
+
+// Writes that a sink's device has consumed frames, which have these bytes.
+fn write_played<K: Sink>(
+    out: &mut K,
+    index: u8,
+    frames: u32,
+    bytes: &[u8],
+) -> Result<(), WriteError>
+    ensures ok { OnOk result (K.held out.new ≡ after_adding (K.held out.old) (3 ∷ index ∷ word frames ++ bytes.now)) }
+    ensures ok_count { OnOk result (K.faults out.new ≡ K.faults out.old) }
+    ensures err { OnErr result (AddsFront (3 ∷ index ∷ word frames ++ bytes.now) (K.held out.old) (K.held out.new)) }
+    ensures err_count { OnErr result (Rose (K.faults out.old) (K.faults out.new)) }
+{
+    write_pieces(out, &[&[3, index], &frames.to_be_bytes(), bytes])
+}
+
 /// Writes the spelling of an output record. After `Failed` the sink took a front of it. Takes no memory.
-#[tactic(auto, unfolding(crate::specs::Output::sent_record, crate::specs::Output::closed_record, crate::specs::Output::played_record))]
+#[tactic(auto, unfolding(crate::specs::Output::sent_record, crate::specs::Output::played_record))]
 pub fn write_effect<K: Sink>(out: &mut K, effect: &OutRecord) -> Result<(), WriteError>
     requires { FitsRecord effect.now }
     ensures ok { OnOk result (K.held out.new ≡ after_adding (K.held out.old) (record_of effect.now)) }
@@ -146,20 +206,12 @@ pub fn write_effect<K: Sink>(out: &mut K, effect: &OutRecord) -> Result<(), Writ
             reason,
             fault,
             at,
-        } => write_pieces(
-            out,
-            &[
-                &[2],
-                &conn.0.to_be_bytes(),
-                &[*reason, *fault],
-                &at.to_be_bytes(),
-            ],
-        ),
+        } => write_closed(out, *conn, *reason, *fault, *at),
         OutRecord::Played {
             sink,
             frames,
             bytes,
-        } => { write_pieces(out, &[&[3, *sink], &frames.to_be_bytes(), bytes]) }
+        } => write_played(out, *sink, *frames, bytes),
     }
 }
 

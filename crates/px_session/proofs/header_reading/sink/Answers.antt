@@ -1,8 +1,10 @@
-use Rattle.std.proofs.Common.{sym, subst}
-use Rattle.px_chmap.specs.ChannelMap.{IsChannelMap}
 use Rattle.px_session.specs.Seen.{place_of}
-use Rattle.px_session.proofs.MapLemmas.{positions_are_map}
+use Rattle.px_session.proofs.MapLemmas.{spec_channels}
+use Rattle.px_session.proofs.HeaderRest.{sink_left}
 use Rattle.px_session.proofs.header_reading.sink.Goals as goal
 
-pub sink_of-requires : goal.sink_of-requires
-sink_of-requires c = subst IsChannelMap (sym c.as_slice.ensures.value) (positions_are_map (place_of c.in_ok-name.rest) (place_of c.in_ok-spec.rest) (c.in_ok-spec.spec, place_of c.in_ok-spec.rest) (c.in_ok-positions.positions.items, place_of c.in_ok-positions.rest) c.in_ok-spec.ensures c.in_ok-positions.ensures)
+pub rest_of_sink-requires : goal.rest_of_sink-requires
+rest_of_sink-requires c = spec_channels (place_of c.in_ok-name.rest) (c.in_ok-spec.spec, place_of c.in_ok-spec.rest) c.in_ok-spec.ensures
+
+pub returns : goal.returns
+returns c = rw (sink_left c.args.earlier.now (place_of c.args.place.now) c.in_ok-name.name.now (place_of c.in_ok-name.rest) c.in_ok-spec.spec (place_of c.in_ok-spec.rest) c.in_ok-name.ensures c.in_ok-spec.ensures) c.rest_of_sink.ensures
