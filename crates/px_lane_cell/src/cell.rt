@@ -1,12 +1,13 @@
 // The cell of a sink's mixer.
-ghost use Rattle.std.specs.Prelude.{◌≡◌, ◌≤◌, [], IfSome, IfOk, OnErr};
+ghost use Rattle.std.specs.Prelude.{◌≡◌, ◌≤◌, [], length, IfSome, IfOk, OnErr};
 ghost use Rattle.std.specs.Option.{option_map};
 ghost use Rattle.px_annals.specs.History.{sizes_by, ReadyCounts};
 ghost use Rattle.px_annals.specs.Size.{size_of_lane_entry};
 ghost use Rattle.px_ends.specs.Told.{WhereTold};
 ghost use Rattle.px_lane.specs.Lane.{IsAttached};
 ghost use Rattle.px_lane_cell.specs.History.{unturned};
-ghost use Rattle.px_lane_cell.specs.Cell.{AreEnds, IsKeyOf, IsCell, taken_in, posted_in};
+ghost use Rattle.px_lane_cell.specs.Moved.{AreTaken, Takes, AreAll, Posts, AreGone};
+ghost use Rattle.px_lane_cell.specs.Cell.{AreEnds, IsKeyOf, IsCell, taken_in, posted_in, found_in, stored_in, key_in};
 ghost use Rattle.px_lane_cell.specs.Turning.{Makes, Keeps, recorder_said, SaysWhy, IsWorn};
 
 use crate::ends::LaneEnds;
@@ -62,6 +63,42 @@ fn room_for_turn(alloc: Global) -> Mem<MsgList>
     let mut messages = MsgList::new(alloc);
     messages.reserve(MOST_MESSAGES)?;
     Ok(messages)
+}
+
+// Takes the messages of a turn, behind those kept before: how many there are then.
+fn gather<W: Wait>(rt: &W, ends: &mut LaneEnds, messages: &mut MsgList) -> u32
+    requires ends { AreEnds ends.old }
+    requires lawful { AreTaken (key_in ends.old) (taken_in ends.old) }
+    requires few { length messages.old.messages ≤ 256 }
+    requires room { 256 ≤ messages.old.capacity }
+    ensures ends { AreEnds ends.new }
+    ensures boxes { ends.new.boxes ≡ ends.old.boxes }
+    ensures post { ends.new.passes.post ≡ ends.old.passes.post }
+    ensures key { key_in ends.new ≡ key_in ends.old }
+    ensures lawful { AreTaken (key_in ends.new) (taken_in ends.new) }
+    ensures takes { Takes (taken_in ends.old) (taken_in ends.new) messages.old.messages messages.new.messages }
+    ensures few { length messages.new.messages ≤ 256 }
+    ensures room { messages.new.capacity ≡ messages.old.capacity }
+    ensures all { AreAll (found_in ends.old) (found_in ends.new) (key_in ends.new) (taken_in ends.new) messages.new.messages }
+    ensures count { result ≡ length messages.new.messages }
+{
+    take_messages(rt, &ends.boxes.inbox, &mut ends.passes.take, messages);
+    messages.len() as u32
+}
+
+// Posts the notices behind a turn, of which those that are left stay in order: how many stood there.
+fn deliver<W: Wait>(rt: &W, ends: &mut LaneEnds, notices: &mut NoticeList) -> usize
+    requires ends { AreEnds ends.old }
+    ensures ends { AreEnds ends.new }
+    ensures boxes { ends.new.boxes ≡ ends.old.boxes }
+    ensures take { ends.new.passes.take ≡ ends.old.passes.take }
+    ensures posts { Posts (posted_in ends.old) (posted_in ends.new) notices.old.notices notices.new.notices }
+    ensures gone { AreGone (stored_in ends.old) (stored_in ends.new) (posted_in ends.new) notices.new.notices }
+    ensures count { result ≡ length notices.old.notices }
+{
+    let all = notices.len();
+    post_notices(rt, &ends.boxes.outbox, &mut ends.passes.post, notices);
+    all
 }
 
 impl<D: Device + Drop, R: Recorder<LaneEntry> + Drop> LaneCell<D, R> {
@@ -129,13 +166,10 @@ impl<D: Device + Drop, R: Recorder<LaneEntry> + Drop> LaneCell<D, R> {
             taken,
             given,
         } = self;
-        take_messages(rt, &ends.boxes.inbox, &mut ends.passes.take, messages);
-        let count = messages.len() as u32;
+        let count = gather(rt, ends, messages);
         let turned = turn_noted(alloc, lane, recorder, messages, notices, blocks)?;
         *taken = count;
-        let all = notices.len();
-        *given = all;
-        post_notices(rt, &ends.boxes.outbox, &mut ends.passes.post, notices);
+        *given = deliver(rt, ends, notices);
         Ok(turned)
     }
 

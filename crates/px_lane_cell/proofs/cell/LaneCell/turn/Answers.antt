@@ -1,16 +1,10 @@
 use Rattle.std.proofs.lemmas.Result.{err_from_is_err_and}
 use Rattle.std.proofs.Common.{◌≡◌, ◌≤◌, List, length, refl, ap, sym, ◌∙◌, subst, arith, Option}
-use Rattle.crossbeam_queue.specs.Passes.{IsPassOf}
 use Rattle.std.specs.Prelude.{MatchOption}
 use Rattle.px_sample.specs.declared.spec.Spec.{Spec}
-use Rattle.px_mail.specs.Mailbox.{key_of, taken_by}
-use Rattle.px_mail.specs.declared.mailbox.Mailbox.{Mailbox}
 use Rattle.px_model.specs.Stream.{Stream}
 use Rattle.px_model.specs.Message.{Message}
-use Rattle.px_msg.specs.declared.message.Msg.{Msg}
-use Rattle.px_msg.specs.declared.notice.Notice.{Notice}
-use Rattle.px_stream.specs.Kept.{KeptStream}
-use Rattle.px_lane_cell.specs.Cell.{Cell, AreEnds}
+use Rattle.px_lane_cell.specs.Cell.{Cell, key_in, taken_in}
 use Rattle.px_lane_cell.specs.Moved.{Takes}
 use Rattle.px_lane_cell.specs.Turning.{Makes, Keeps}
 use Rattle.px_msg.specs.View.{sample_spec}
@@ -23,21 +17,25 @@ use Rattle.px_lane_cell.proofs.Whole.{made, kept}
 use Rattle.px_lane_cell.proofs.cell.LaneCell.turn.Given.{Over}
 use Rattle.px_lane_cell.proofs.cell.LaneCell.turn.Goals as goal
 
-pub take_messages-requires-clause-few : goal.take_messages-requires-clause-few
-take_messages-requires-clause-few g c =
-    c.self.invariant.few
+pub gather-count-requires-clause-ends : goal.gather-count-requires-clause-ends
+gather-count-requires-clause-ends g c =
+    c.self.invariant.ends
 
-pub take_messages-requires-clause-lawful : goal.take_messages-requires-clause-lawful
-take_messages-requires-clause-lawful g c =
+pub gather-count-requires-clause-lawful : goal.gather-count-requires-clause-lawful
+gather-count-requires-clause-lawful g c =
     c.self.invariant.lawful
 
-pub take_messages-requires-clause-room : goal.take_messages-requires-clause-room
-take_messages-requires-clause-room g c =
+pub gather-count-requires-clause-few : goal.gather-count-requires-clause-few
+gather-count-requires-clause-few g c =
+    c.self.invariant.few
+
+pub gather-count-requires-clause-room : goal.gather-count-requires-clause-room
+gather-count-requires-clause-room g c =
     c.self.invariant.room
 
-pub take_messages-requires-clause-pass : goal.take_messages-requires-clause-pass
-take_messages-requires-clause-pass g c =
-    subst (λ (m : Mailbox (Msg KeptStream) Spec). IsPassOf m.queue c.self.inside.ends.passes.take.pass) (sym c.deref.ensures) c.self.invariant.ends.inbox
+pub deliver-requires : goal.deliver-requires
+deliver-requires g c =
+    record { ends = c.gather-count.ensures.ends }
 
 pub turn_noted-requires-clause-attached : goal.turn_noted-requires-clause-attached
 turn_noted-requires-clause-attached g c =
@@ -46,58 +44,54 @@ turn_noted-requires-clause-attached g c =
 pub turn_noted-requires-clause-messages : goal.turn_noted-requires-clause-messages
 turn_noted-requires-clause-messages g c =
     let i = c.self.inside in
-    let t = c.take_messages in
-    for_turn (key_of t.new.pass.pass) i.lane.sink (taken_by t.new.pass.pass) t.new.messages.messages t.ensures.lawful
+    let t = c.gather-count in
+    for_turn (key_in t.new.ends) i.lane.sink (taken_in t.new.ends) t.new.messages.messages t.ensures.lawful
     (subst (λ (key : Option Spec). MatchOption key ⊥ (λ k. sample_spec k ≡ i.lane.sink.spec)) (sym t.ensures.key) c.self.invariant.key)
-    (left_took i.lane.sink (taken_by i.ends.passes.take.pass) (taken_by t.new.pass.pass) i.messages.messages t.new.messages.messages t.ensures.takes c.self.invariant.inputs)
+    (left_took i.lane.sink (taken_in i.ends) (taken_in t.new.ends) i.messages.messages t.new.messages.messages t.ensures.takes c.self.invariant.inputs)
 
 -- ---- where a turn was made: the cell before it and behind it
 
-abbrev before_made : (g : Over) → goal.After-post_notices g → Cell g.row.D.Denot g.row.R.Denot
+abbrev before_made : (g : Over) → goal.After-deliver g → Cell g.row.D.Denot g.row.R.Denot
 before_made g c =
     let i = c.self.inside in
     record { lane = i.lane; recorder = i.recorder; ends = i.ends; messages = i.messages; notices = i.notices; taken = i.taken; given = i.given }
 
-abbrev made_cell : (g : Over) → goal.After-post_notices g → Cell g.row.D.Denot g.row.R.Denot
+abbrev made_cell : (g : Over) → goal.After-deliver g → Cell g.row.D.Denot g.row.R.Denot
 made_cell g c = record {
   lane = c.turn_noted.new.lane;
   recorder = c.turn_noted.new.recorder;
-  ends = record { boxes = c.self.inside.ends.boxes; passes = record { take = c.take_messages.new.pass; post = c.post_notices.new.pass } };
+  ends = c.deliver.new.ends;
   messages = c.turn_noted.new.messages;
-  notices = c.post_notices.new.notices;
-  taken = c.len-count.result;
-  given = c.len-all.result;
+  notices = c.deliver.new.notices;
+  taken = c.gather-count.result;
+  given = c.deliver.result;
 }
 
-makes : (g : Over) (c : goal.After-post_notices g) → Makes g.D.Device.now g.R.Recorder.told (before_made g c) (made_cell g c) c.in_ok-turned.turned
+makes : (g : Over) (c : goal.After-deliver g) → Makes g.D.Device.now g.R.Recorder.told (before_made g c) (made_cell g c) c.in_ok-turned.turned
 makes g c =
-    let t = c.take_messages in
-    let p = c.post_notices in
+    let t = c.gather-count in
+    let p = c.deliver in
     let ok = c.in_ok-turned.ensures.ok in
     record {
       entry = ok.0;
       messages = t.new.messages.messages;
       notices = c.turn_noted.new.notices.notices;
-      takes = t.ensures.takes;
-      all = t.ensures.all;
+      takes = rw p.ensures.take t.ensures.takes;
+      all = rw p.ensures.take t.ensures.all;
       turn = ok.4;
       recorded = ok.1;
-      counted = c.len-count.ensures.count ∙ sym ok.2;
-      given = c.len-all.ensures;
+      counted = t.ensures.count ∙ sym ok.2;
+      given = p.ensures.count;
       none_kept = ok.3;
-      posts = p.ensures.posts;
-      gone = p.ensures.gone;
+      posts = rw (← t.ensures.post) p.ensures.posts;
+      gone = rw (← t.ensures.post) p.ensures.gone;
     }
 
 pub invariant_of-self-2 : goal.invariant_of-self-2
 invariant_of-self-2 g c =
-    let t = c.take_messages in
-    let p = c.post_notices in
-    let own : AreEnds (made_cell g c).ends = record {
-      inbox = subst (λ (m : Mailbox (Msg KeptStream) Spec). IsPassOf m.queue t.new.pass.pass) c.deref.ensures t.ensures.pass;
-      outbox = subst (λ (m : Mailbox (Notice KeptStream) (Unit {0})). IsPassOf m.queue p.new.pass.pass) c.deref-2.ensures p.ensures.pass;
-    } in
-    made g.D.Device.now g.R.Recorder.told (before_made g c) (made_cell g c) c.in_ok-turned.turned c.self.invariant (makes g c) own t.ensures.key t.ensures.lawful
+    let t = c.gather-count in
+    let p = c.deliver in
+    made g.D.Device.now g.R.Recorder.told (before_made g c) (made_cell g c) c.in_ok-turned.turned c.self.invariant (makes g c) p.ensures.ends (rw p.ensures.take t.ensures.key) (rw p.ensures.take t.ensures.lawful)
     (omega (arith, c.self.invariant.room, t.ensures.room, c.turn_noted.ensures.room))
 
 pub returns-clause-ok : goal.returns-clause-ok
@@ -109,7 +103,7 @@ returns-clause-err g c =
 
 pub returns-clause-boxes : goal.returns-clause-boxes
 returns-clause-boxes g c =
-    ap (λ (cell : Cell g.row.D.Denot g.row.R.Denot). cell.ends.boxes) c.self.view_is
+    c.deliver.ensures.boxes ∙ c.gather-count.ensures.boxes ∙ ap (λ (cell : Cell g.row.D.Denot g.row.R.Denot). cell.ends.boxes) c.self.view_is
 
 pub returns-clause-start : goal.returns-clause-start
 returns-clause-start g c =
@@ -142,7 +136,7 @@ abbrev kept_cell : (g : Over) → goal.After-from_residual g → Cell g.row.D.De
 kept_cell g c = record {
   lane = c.turn_noted.new.lane;
   recorder = c.turn_noted.new.recorder;
-  ends = record { boxes = c.self.inside.ends.boxes; passes = record { take = c.take_messages.new.pass; post = c.self.inside.ends.passes.post } };
+  ends = c.gather-count.new.ends;
   messages = c.turn_noted.new.messages;
   notices = c.turn_noted.new.notices;
   taken = c.self.inside.taken;
@@ -152,26 +146,22 @@ kept_cell g c = record {
 keeps : (g : Over) (c : goal.After-from_residual g) → Keeps g.R.Recorder.told (before_kept g c) (kept_cell g c)
 keeps g c =
     let i = c.self.inside in
-    let t = c.take_messages in
+    let t = c.gather-count in
     let err = c.in_err-turned.ensures.err in
     record {
-      takes = subst (λ (l : List (Message Stream)). Takes (taken_by i.ends.passes.take.pass) (taken_by t.new.pass.pass) i.messages.messages l) (sym err.2) t.ensures.takes;
+      takes = subst (λ (l : List (Message Stream)). Takes (taken_in i.ends) (taken_in t.new.ends) i.messages.messages l) (sym err.2) t.ensures.takes;
       lane = err.0;
       recorded = err.1;
       counted = refl;
       given = refl;
       notices = err.3;
-      posted = refl;
+      posted = t.ensures.post;
     }
 
 pub invariant_of-self : goal.invariant_of-self
 invariant_of-self g c =
-    let t = c.take_messages in
-    let own : AreEnds (kept_cell g c).ends = record {
-      inbox = subst (λ (m : Mailbox (Msg KeptStream) Spec). IsPassOf m.queue t.new.pass.pass) c.deref.ensures t.ensures.pass;
-      outbox = c.self.invariant.ends.outbox;
-    } in
-    kept g.D.Device.now g.R.Recorder.told (before_kept g c) (kept_cell g c) c.self.invariant (keeps g c) own t.ensures.key t.ensures.lawful
+    let t = c.gather-count in
+    kept g.D.Device.now g.R.Recorder.told (before_kept g c) (kept_cell g c) c.self.invariant (keeps g c) t.ensures.ends t.ensures.key t.ensures.lawful
     (subst (λ (l : List (Message Stream)). length l ≤ 256) (sym c.in_err-turned.ensures.err.2) t.ensures.few)
     (omega (arith, c.self.invariant.room, t.ensures.room, c.turn_noted.ensures.room))
 
@@ -187,7 +177,7 @@ returns-in_err-turned-clause-err g c =
 
 pub returns-in_err-turned-clause-boxes : goal.returns-in_err-turned-clause-boxes
 returns-in_err-turned-clause-boxes g c =
-    ap (λ (cell : Cell g.row.D.Denot g.row.R.Denot). cell.ends.boxes) c.self.view_is
+    c.gather-count.ensures.boxes ∙ ap (λ (cell : Cell g.row.D.Denot g.row.R.Denot). cell.ends.boxes) c.self.view_is
 
 pub returns-in_err-turned-clause-start : goal.returns-in_err-turned-clause-start
 returns-in_err-turned-clause-start g c =
