@@ -175,8 +175,8 @@ where
     requires none { IfSome (C.told recorder) (λ entries. entries ≡ []) }
     ensures { IfOk result (λ worker. worker.seat.parts ≡ 65552) }
 {
-    let (core, seat) = core_of::<C, L>(alloc, header, recorder, ends, blank)?;
     let (pool, blocks) = pool_of(rt, alloc)?;
+    let (core, seat) = core_of::<C, L>(alloc, header, recorder, ends, blank)?;
     let sinks = header.sinks.len() as u8;
     let desk = Arc::new(alloc, Desk::new(alloc, core, pool, sinks, taped))?;
     Ok(Worker {

@@ -151,7 +151,8 @@ fn without_core<C: Recorder<CoreEntry> + Drop>(parts: CoreParts<C>) -> (StepLog<
     ensures log { result.0 ≡ parts.log }
     ensures ends { result.1 ≡ parts.ends }
 {
-    let CoreParts { log, ends, .. } = parts;
+    let CoreParts { core, log, ends } = parts;
+    drop(core);
     (log, ends)
 }
 

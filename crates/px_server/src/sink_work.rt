@@ -223,6 +223,23 @@ where
         went != Went::Ended && self.tell().is_ok()
     }
 
+    // The next turn of those until the clients have gone, and of so many behind them. `false` where there are no more.
+    fn next_turn(&mut self, left: &mut u32) -> bool
+        ensures { GoesOn D.now E.told E.faults E.fulls (record { parts = self.old.worker.seat.parts; sink = self.old.sink; cell = self.old.cell; met = self.old.met; turns = self.old.turns }) (record { parts = self.new.worker.seat.parts; sink = self.new.sink; cell = self.new.cell; met = self.new.met; turns = self.new.turns }) }
+    {
+        self.gate.before_turn(self.sink);
+        if !self.turn() {
+            return false;
+        }
+        if self.worker.is_over() {
+            if *left == 0 {
+                return false;
+            }
+            *left -= 1;
+        }
+        true
+    }
+
     // All turns, until the clients have gone and what they left was played.
     fn run(&mut self)
         ensures { GoesOn D.now E.told E.faults E.fulls (record { parts = self.old.worker.seat.parts; sink = self.old.sink; cell = self.old.cell; met = self.old.met; turns = self.old.turns }) (record { parts = self.new.worker.seat.parts; sink = self.new.sink; cell = self.new.cell; met = self.new.met; turns = self.new.turns }) }
@@ -230,15 +247,8 @@ where
         let rt = self.worker.rt;
         let mut left = LAST_TURNS;
         for _ in rt.forever() {
-            self.gate.before_turn(self.sink);
-            if !self.turn() {
+            if !self.next_turn(&mut left) {
                 return;
-            }
-            if self.worker.is_over() {
-                if left == 0 {
-                    return;
-                }
-                left -= 1;
             }
         }
         unreachable!()

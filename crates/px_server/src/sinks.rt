@@ -31,7 +31,7 @@ use px_msg::{Msg, Notice};
 use px_session::{Header, SinkSpec};
 use px_stream::Stream;
 use px_tape::SinkTurns;
-use px_types::{Mem, SinkId};
+use px_types::{Mem, NoMemory, SinkId};
 use std::alloc::Global;
 use std::collections::VecDeque;
 
@@ -86,6 +86,26 @@ fn outside<H: Host>(alloc: Global, sink: &SinkSpec, host: &mut H) -> Result<(H::
     Ok((device, recorder))
 }
 
+// A sink's cell, with these ends of its mailboxes.
+fn cell_at<D: Device + Drop, E: Recorder<LaneEntry> + Drop>(
+    alloc: Global,
+    sink: &SinkSpec,
+    ends: LaneEnds,
+    device: D,
+    recorder: E,
+) -> Mem<LaneCell<D, E>>
+    requires sink { (earlier : List Spec) × IsSink earlier sink.now }
+    requires fresh { IsFresh sink.now (D.now device) (E.told recorder) (E.faults recorder) (E.fulls recorder) }
+    requires ends { AreEnds ends × IsKeyOf ends (sink_for sink.now) }
+    requires unmoved { (taken_in ends ≡ []) × (posted_in ends ≡ []) }
+    ensures lane { IfOk result (λ cell. cell.lane ≡ record { sink = sink_for sink.now; device = device; faults = 0 }) }
+    ensures recorder { IfOk result (λ cell. cell.recorder ≡ recorder) }
+    ensures ends { IfOk result (λ cell. cell.ends ≡ ends) }
+{
+    let lane = Lane::new(alloc, sink, device)?;
+    LaneCell::new(alloc, lane, recorder, ends)
+}
+
 // A sink's cell, with the core's ends of its mailboxes.
 fn cell_of<D: Device + Drop, E: Recorder<LaneEntry> + Drop>(
     alloc: Global,
@@ -102,8 +122,10 @@ fn cell_of<D: Device + Drop, E: Recorder<LaneEntry> + Drop>(
     ensures boxes { IfOk result (λ made. boxes_at made.0.ends ≡ boxes_of made.1) }
 {
     let (ends, core) = mailboxes(alloc, sink)?;
-    let lane = Lane::new(alloc, sink, device)?;
-    let cell = LaneCell::new(alloc, lane, recorder, ends)?;
+    let Ok(cell) = cell_at(alloc, sink, ends, device, recorder) else {
+        drop(core);
+        return Err(NoMemory);
+    };
     Ok((cell, core))
 }
 
