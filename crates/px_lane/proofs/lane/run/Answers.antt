@@ -4,7 +4,7 @@ use Rattle.px_ends.specs.Device.{DeviceState, Consumes, Next, is_failing}
 use Rattle.px_model.specs.Sink.{Sink}
 use Rattle.px_lane.specs.declared.lane.Turned.{Turned}
 use Rattle.px_lane.specs.Turned.{Turns}
-use Rattle.px_lane.specs.Lane.{IsAttached}
+use Rattle.px_lane.specs.Lane.{Mixer, IsAttached, StopsOver}
 use Rattle.px_lane.proofs.Attached.{stop_room, synced, synced_played}
 use Rattle.px_lane.specs.Costs.{cost_by}
 use Rattle.px_lane.proofs.lane.run.Goals as goal
@@ -61,3 +61,163 @@ returns-in-Ok-clause-counted g c = λ stops. c.requires.counted (sym (ap (λ (s 
 pub returns-in-Ok-clause-ticks : goal.returns-in-Ok-clause-ticks
 returns-in-Ok-clause-ticks g c =
     subst (λ (t : Turned). c.play.new.steps ≤ c.args.steps.now + cost_by c.args.mixer.now.sink c.args.messages.now.messages t) (sym c.play.ensures.result) c.play.ensures.ticks
+
+pub play-requires-clause-block_room : goal.play-requires-clause-block_room
+play-requires-clause-block_room g c = c.requires.block_room
+
+pub play-requires-clause-blocks_come : goal.play-requires-clause-blocks_come
+play-requires-clause-blocks_come g c = c.requires.blocks_come
+
+pub play-requires-clause-capacity : goal.play-requires-clause-capacity
+play-requires-clause-capacity g c = c.requires.capacity
+
+pub play-requires-clause-comes : goal.play-requires-clause-comes
+play-requires-clause-comes g c = c.requires.comes
+
+pub play-requires-clause-countable : goal.play-requires-clause-countable
+play-requires-clause-countable g c = c.requires.countable
+
+pub play-requires-clause-lane : goal.play-requires-clause-lane
+play-requires-clause-lane g c = c.requires.lane
+
+pub play-requires-clause-messages : goal.play-requires-clause-messages
+play-requires-clause-messages g c = c.requires.messages
+
+pub play-requires-clause-mixed : goal.play-requires-clause-mixed
+play-requires-clause-mixed g c = c.requires.mixed
+
+pub play-requires-clause-room : goal.play-requires-clause-room
+play-requires-clause-room g c = c.requires.room
+
+pub stop-requires-clause-block_room : goal.stop-requires-clause-block_room
+stop-requires-clause-block_room g c = c.requires.block_room
+
+pub stop-requires-clause-blocks_come : goal.stop-requires-clause-blocks_come
+stop-requires-clause-blocks_come g c = c.requires.blocks_come
+
+pub stop-requires-clause-comes : goal.stop-requires-clause-comes
+stop-requires-clause-comes g c = c.requires.comes
+
+pub stop-requires-clause-lane : goal.stop-requires-clause-lane
+stop-requires-clause-lane g c = c.requires.lane
+
+pub stop-requires-clause-messages : goal.stop-requires-clause-messages
+stop-requires-clause-messages g c = c.requires.messages
+
+pub stop-requires-clause-mixed : goal.stop-requires-clause-mixed
+stop-requires-clause-mixed g c = c.requires.mixed
+
+pub stop-requires-clause-room : goal.stop-requires-clause-room
+stop-requires-clause-room g c = c.requires.room
+
+pub stop-requires-in-Err-clause-block_room : goal.stop-requires-in-Err-clause-block_room
+stop-requires-in-Err-clause-block_room g c = c.requires.block_room
+
+pub stop-requires-in-Err-clause-blocks_come : goal.stop-requires-in-Err-clause-blocks_come
+stop-requires-in-Err-clause-blocks_come g c = c.requires.blocks_come
+
+pub stop-requires-in-Err-clause-comes : goal.stop-requires-in-Err-clause-comes
+stop-requires-in-Err-clause-comes g c = c.requires.comes
+
+pub stop-requires-in-Err-clause-lane : goal.stop-requires-in-Err-clause-lane
+stop-requires-in-Err-clause-lane g c = c.requires.lane
+
+pub stop-requires-in-Err-clause-messages : goal.stop-requires-in-Err-clause-messages
+stop-requires-in-Err-clause-messages g c = c.requires.messages
+
+pub stop-requires-in-Err-clause-mixed : goal.stop-requires-in-Err-clause-mixed
+stop-requires-in-Err-clause-mixed g c = c.requires.mixed
+
+pub stop-requires-in-Err-clause-room : goal.stop-requires-in-Err-clause-room
+stop-requires-in-Err-clause-room g c = c.requires.room
+
+pub returns-in-Ok-clause-capacity : goal.returns-in-Ok-clause-capacity
+returns-in-Ok-clause-capacity g c = c.play.ensures.capacity
+
+pub returns-in-Err-clause-capacity : goal.returns-in-Err-clause-capacity
+returns-in-Err-clause-capacity g c = c.stop-in-Err.ensures.capacity
+
+pub returns-then-is_stopped-clause-capacity : goal.returns-then-is_stopped-clause-capacity
+returns-then-is_stopped-clause-capacity g c = c.stop.ensures.capacity
+
+pub returns-in-Ok-clause-lane : goal.returns-in-Ok-clause-lane
+returns-in-Ok-clause-lane g c = c.play.ensures.lane
+
+pub returns-in-Err-clause-lane : goal.returns-in-Err-clause-lane
+returns-in-Err-clause-lane g c = c.stop-in-Err.ensures.lane
+
+pub returns-then-is_stopped-clause-lane : goal.returns-then-is_stopped-clause-lane
+returns-then-is_stopped-clause-lane g c = c.stop.ensures.lane
+
+pub returns-in-Ok-clause-list : goal.returns-in-Ok-clause-list
+returns-in-Ok-clause-list g c = c.play.ensures.list
+
+pub returns-in-Err-clause-list : goal.returns-in-Err-clause-list
+returns-in-Err-clause-list g c = c.stop-in-Err.ensures.list
+
+pub returns-then-is_stopped-clause-list : goal.returns-then-is_stopped-clause-list
+returns-then-is_stopped-clause-list g c = c.stop.ensures.list
+
+pub returns-in-Ok-clause-messages : goal.returns-in-Ok-clause-messages
+returns-in-Ok-clause-messages g c = c.play.ensures.messages
+
+pub returns-in-Err-clause-messages : goal.returns-in-Err-clause-messages
+returns-in-Err-clause-messages g c = c.stop-in-Err.ensures.messages
+
+pub returns-then-is_stopped-clause-messages : goal.returns-then-is_stopped-clause-messages
+returns-then-is_stopped-clause-messages g c = c.stop.ensures.messages
+
+pub returns-in-Ok-clause-mixed : goal.returns-in-Ok-clause-mixed
+returns-in-Ok-clause-mixed g c = c.play.ensures.mixed
+
+pub returns-in-Err-clause-mixed : goal.returns-in-Err-clause-mixed
+returns-in-Err-clause-mixed g c = c.stop-in-Err.ensures.mixed
+
+pub returns-then-is_stopped-clause-mixed : goal.returns-then-is_stopped-clause-mixed
+returns-then-is_stopped-clause-mixed g c = c.stop.ensures.mixed
+
+pub returns-then-is_stopped-clause-counted : goal.returns-then-is_stopped-clause-counted
+returns-then-is_stopped-clause-counted g c = λ _. c.requires.counted (sym c.is_stopped.ensures ∙ c.if-is_stopped.true)
+
+pub returns-then-is_stopped-clause-turns : goal.returns-then-is_stopped-clause-turns
+returns-then-is_stopped-clause-turns g c =
+    let stopped = sym c.is_stopped.ensures ∙ c.if-is_stopped.true in
+    let before : Mixer g.row.D.Denot = record { sink = c.args.mixer.now.sink; device = c.args.device.now; faults = c.args.faults.now } in
+    let after : Mixer g.row.D.Denot = record { sink = c.stop.new.self.sink; device = c.args.device.now; faults = c.args.faults.now } in (
+      record {
+        sink = c.stop.ensures.value;
+        device = subst (λ (b : Bool). StopsOver b g.D.Device.now before after) (sym stopped) (refl, refl);
+        counted = refl;
+        cause = c.requires.counted stopped;
+      },
+      c.stop.ensures.notices,
+    )
+
+pub play-requires-clause-forward : goal.play-requires-clause-forward
+play-requires-clause-forward g c =
+    let going = sym c.is_stopped.ensures ∙ c.if-is_stopped.false in
+    let at : IsAttached (g.D.Device.now c.args.device.now) c.args.mixer.now.sink = c.requires.attached going in
+    subst (λ (n : ℕ). n ≤ c.in-Ok.consumed) at.consumed c.in-Ok.ensures.ok.forward
+
+pub play-requires-clause-within : goal.play-requires-clause-within
+play-requires-clause-within g c =
+    let going = sym c.is_stopped.ensures ∙ c.if-is_stopped.false in
+    let at : IsAttached (g.D.Device.now c.args.device.now) c.args.mixer.now.sink = c.requires.attached going in
+    subst (λ (n : ℕ). c.in-Ok.consumed ≤ n) at.filled c.in-Ok.ensures.ok.within
+
+pub returns-in-Err-clause-counted : goal.returns-in-Err-clause-counted
+returns-in-Err-clause-counted g c = λ _. omega (arith, c.saturating_add.ensures)
+
+pub returns-in-Err-clause-turns : goal.returns-in-Err-clause-turns
+returns-in-Err-clause-turns g c =
+    let going = sym c.is_stopped.ensures ∙ c.if-is_stopped.false in
+    let before : Mixer g.row.D.Denot = record { sink = c.args.mixer.now.sink; device = c.args.device.now; faults = c.args.faults.now } in
+    let after : Mixer g.row.D.Denot = record { sink = c.stop-in-Err.new.self.sink; device = c.sync.new.self; faults = c.saturating_add.result } in (
+      record {
+        sink = c.stop-in-Err.ensures.value;
+        device = subst (λ (b : Bool). StopsOver b g.D.Device.now before after) (sym going) (c.in-Err.ensures.err, c.saturating_add.ensures);
+        counted = refl;
+        cause = omega (arith, c.saturating_add.ensures);
+      },
+      c.stop-in-Err.ensures.notices,
+    )

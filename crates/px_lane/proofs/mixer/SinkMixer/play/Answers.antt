@@ -1,5 +1,5 @@
 use Rattle.std.proofs.Common.{◌≡◌, ℕ, ◌+◌, ◌-◌, ◌*◌, ◌^◌, ◌≤◌, length, take, ap, sym, ◌∙◌, subst, arith}
-use Rattle.std.specs.List.{AllByRecursion}
+use Rattle.std.specs.List.{AllByRecursion, sum_by}
 use Rattle.px_model.specs.Frame.{frame_size}
 use Rattle.px_model.specs.Sink.{Sink, Input, IsStreamOf}
 use Rattle.px_model.specs.Turn.{next_horizon, settled, with_messages, remixed, asked}
@@ -7,6 +7,7 @@ use Rattle.px_stream.specs.Samples.{samples}
 use Rattle.px_lane.specs.Taking.{CanTakeAll}
 use Rattle.px_lane.specs.Whole.{AreFramesOf}
 use Rattle.px_lane.specs.Lane.{IsLane}
+use Rattle.px_lane.specs.Needed.{blocks_of}
 use Rattle.px_lane.specs.Mixed.{CanMixAll}
 use Rattle.px_lane.proofs.Mixable.{orderly_mixes}
 use Rattle.px_lane.proofs.Orders.{orderly_taken}
@@ -101,3 +102,38 @@ returns-clause-ticks g c =
     c.settle.ensures.value c.take_all.ensures.ticks)
     (subst (λ (s : Sink). c.remix-stay.new.steps ≤ c.take_all.new.steps + s.spec.channels * mix_cost (s.consumed + s.depth - s.filled) (length s.inputs) + s.spec.channels * ((s.filled - s.horizon) - c.take_all.new.self.unaltered))
     after c.remix-stay.ensures.ticks)
+
+pub settle-requires-clause-there : goal.settle-requires-clause-there
+settle-requires-clause-there g c = c.requires.there
+
+pub settle-requires-clause-streams : goal.settle-requires-clause-streams
+settle-requires-clause-streams g c = c.requires.lane.kept.streams
+
+pub take_all-requires-clause-room : goal.take_all-requires-clause-room
+take_all-requires-clause-room g c = subst (λ (n : ℕ). length c.args.messages.now.messages ≤ n) (sym c.settle.ensures.room) c.requires.room
+
+pub take_all-requires-clause-block_room : goal.take_all-requires-clause-block_room
+take_all-requires-clause-block_room g c = subst (λ (n : ℕ). sum_by blocks_of c.args.messages.now.messages ≤ n) (sym c.settle.ensures.block_room) c.requires.block_room
+
+pub take_all-requires-clause-comes : goal.take_all-requires-clause-comes
+take_all-requires-clause-comes g c = subst (λ (n : ℕ). n ≤ c.args.messages.now.room) (sym c.settle.ensures.room) c.requires.comes
+
+pub take_all-requires-clause-blocks_come : goal.take_all-requires-clause-blocks_come
+take_all-requires-clause-blocks_come g c = subst (λ (n : ℕ). n ≤ c.args.messages.now.block_room) (sym c.settle.ensures.block_room) c.requires.blocks_come
+
+pub returns-clause-capacity : goal.returns-clause-capacity
+returns-clause-capacity g c = c.ask.ensures.capacity ∙ c.take_all.ensures.capacity ∙ c.settle.ensures.capacity
+
+pub returns-clause-list : goal.returns-clause-list
+returns-clause-list g c = c.take_all.ensures.list
+
+pub returns-clause-messages : goal.returns-clause-messages
+returns-clause-messages g c = c.take_all.ensures.messages
+
+pub returns-clause-value : goal.returns-clause-value
+returns-clause-value g c =
+    let sink = c.args.self.now.sink in
+    let messages = c.args.messages.now.messages in
+    let mixed : c.remix-stay.new.self.sink ≡ remixed samples (with_messages (settled sink c.args.frames) messages) =
+    c.remix-stay.ensures.value ∙ ap (remixed samples) (c.take_all.ensures.value ∙ ap (λ (s : Sink). with_messages s messages) c.settle.ensures.value) in
+    c.ask.ensures.value ∙ ap asked mixed
