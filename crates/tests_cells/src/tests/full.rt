@@ -38,7 +38,9 @@ fn turns_made<R: Wait>(
 fn misses_nothing(cell: Cell) -> bool {
     let parts = cell.into_parts();
     let none_kept = parts.messages.len() == 0 && parts.recorder.fulls() == 1;
-    none_kept && parts.recorder.recorded() == Some(5)
+    let all_noted = parts.recorder.recorded() == Some(5);
+    drop(parts);
+    none_kept && all_noted
 }
 
 // Five messages, a turn after each, a recorder that is full once, at so many entries, and a last turn.
