@@ -45,15 +45,21 @@ fn tape<'a>(alloc: Global) -> Arg<'a>
         .action(ArgAction::SetTrue)
 }
 
+// Adds the options that are paths of what there is to begin with.
+fn with_sources<'a>(alloc: Global, command: Command<'a>) -> Result<Command<'a>, AllocError>
+    ensures { IfOk result (λ more. app_of more ≡ with_rule (with_rule (app_of command.entry) (path_rule (codes "header"))) (path_rule (codes "socket"))) }
+{
+    command
+        .arg(path(alloc, "header"))?
+        .arg(path(alloc, "socket"))
+}
+
 // Adds the options that are paths.
 fn with_paths<'a>(alloc: Global, command: Command<'a>) -> Result<Command<'a>, AllocError>
     ensures { IfOk result (λ more. app_of more
         ≡ with_rule (with_rule (with_rule (app_of command.entry) (path_rule (codes "header"))) (path_rule (codes "socket"))) (path_rule (codes "out"))) }
 {
-    command
-        .arg(path(alloc, "header"))?
-        .arg(path(alloc, "socket"))?
-        .arg(path(alloc, "out"))
+    with_sources(alloc, command)?.arg(path(alloc, "out"))
 }
 
 // Adds the options that may be left out, and aren't paths.

@@ -1,10 +1,7 @@
-use Rattle.std.proofs.Common.{◌∙◌, ap₂, refl}
+use Rattle.std.proofs.Common.{◌∙◌, ap₂}
 use Rattle.std.proofs.lemmas.Result.{IfOk-weaker}
 use Rattle.clap.specs.Words.{with_rule}
 use Rattle.px_serve_words.proofs.command.with_paths.Goals as goal
 
 pub returns : goal.returns
-returns c =
-    let header = c.in_ok-arg.ensures.shape c.path.ensures.own ∙ ap₂ with_rule refl c.path.ensures.rule in
-    let socket = c.in_ok-arg-2.ensures.shape c.path-2.ensures.own ∙ ap₂ with_rule header c.path-2.ensures.rule in
-    IfOk-weaker c.arg-3.result _ _ (λ more adds. adds.shape c.path-3.ensures.own ∙ ap₂ with_rule socket c.path-3.ensures.rule) c.arg-3.ensures
+returns c = IfOk-weaker c.arg.result _ _ (λ more adds. adds.shape c.path.ensures.own ∙ ap₂ with_rule c.in_ok-with_sources.ensures c.path.ensures.rule) c.arg.ensures
