@@ -1,6 +1,6 @@
 // What the clients of a generated session say.
 
-ghost use Rattle.std.specs.Prelude.{◌≡◌, ◌<◌, ◌≤◌, ◌++◌, length, IfOk, OnOk};
+ghost use Rattle.std.specs.Prelude.{◌≡◌, ◌<◌, ◌≤◌, ◌++◌, [], length, IfOk, OnOk};
 ghost use Rattle.px_gen.specs.Client.{shape, buffering, nine_flags, sink_of, map_of, auth_packet, create_packet, volume_packet, cork_packet, control_frame, data_frame};
 
 use px_frame::{write_data, write_packet};
@@ -82,18 +82,26 @@ fn put_buffering(writer: &mut TagWriter) -> Mem<()>
     writer.cvolume(&RawVolume::new(&[65_536]))
 }
 
-// CREATE_PLAYBACK_STREAM, with tag 1.
+// What stands in CREATE_PLAYBACK_STREAM, with tag 1.
 #[tactic(auto, using(crate::proofs::Sizes::create_joined))]
+fn put_creation(alloc: Global, writer: &mut TagWriter, conn: u32) -> Mem<()>
+    requires { writer.old ≡ [] }
+    ensures { OnOk result (writer.new ≡ create_packet conn) }
+{
+    writer.number(3)?;
+    writer.number(1)?;
+    put_shape(writer, conn)?;
+    put_buffering(writer)?;
+    no_flags(writer)?;
+    writer.proplist(&PropList::new(alloc))
+}
+
+// CREATE_PLAYBACK_STREAM.
 fn create_packet(alloc: Global, conn: u32) -> Mem<Packet>
     ensures { IfOk result (λ packet. packet ≡ create_packet conn) }
 {
     let mut writer = TagWriter::new(alloc);
-    writer.number(3)?;
-    writer.number(1)?;
-    put_shape(&mut writer, conn)?;
-    put_buffering(&mut writer)?;
-    no_flags(&mut writer)?;
-    writer.proplist(&PropList::new(alloc))?;
+    put_creation(alloc, &mut writer, conn)?;
     Ok(writer.finish())
 }
 
