@@ -4,6 +4,7 @@ ghost use Rattle.std.specs.Prelude.{◌≡◌, ◌++◌, ◌∷◌, [], OnOk, On
 use px_core::{Effect, Effects};
 use px_ends::{Outlet, Sent};
 use px_frame::Packet;
+use px_handle::{Next, Rest};
 use px_types::{ConnId, Mem};
 use std::alloc::Global;
 use std::collections::VecDeque;
@@ -20,13 +21,6 @@ enum Sender<O> {
     Own(Option<O>),
 }
 
-/// A packet of which so many bytes were sent.
-#[derive(Debug, Drop)]
-pub struct Rest {
-    pub packet: Packet,
-    pub sent: usize,
-}
-
 // What waits for one client.
 #[derive(Drop)]
 struct Line<O> {
@@ -39,17 +33,6 @@ struct Line<O> {
     ended: bool,
     // There was no memory for a packet.
     short: bool,
-}
-
-/// What stands first in a client's line.
-#[derive(Debug, Drop)]
-pub enum Next {
-    /// A packet to be sent.
-    Packet(Rest),
-    /// Nothing waits, or somebody else sends it.
-    Nothing,
-    /// Nothing waits, and nothing more comes.
-    Ended,
 }
 
 /// A packet for a client, with the half of its link that it is to go through.

@@ -4,11 +4,12 @@ ghost use Rattle.std.specs.Prelude.{◌≡◌, IfOk, IfErr};
 ghost use Rattle.px_core_cell.specs.Step.{IsAsked, HandsBack};
 
 use crate::asked::{Plain, step_of};
+use crate::handle::DeskHandle;
 use crate::step::{Stepped, step_lined, step_taped};
-use crate::worker::{CoreStop, Worker};
 use px_annals::{CoreEntry, RecordFault, Recorder};
 use px_core_cell::{CoreStep, Seats, StepFault};
 use px_ends::Outlet;
+use px_handle::CoreStop;
 use std::sync::Wait;
 use std::thread::yield_now;
 
@@ -31,7 +32,12 @@ fn is_swept(swept: Result<Stepped, StepFault>) -> Result<bool, CoreStop> {
     }
 }
 
-impl<R: Wait + Copy, C: Recorder<CoreEntry> + Drop, L: Seats, O: Outlet + Drop> Worker<R, C, L, O> {
+impl<R: Wait + Copy, C: Recorder<CoreEntry> + Drop, L: Seats, O: Outlet + Drop> DeskHandle<
+    R,
+    C,
+    L,
+    O,
+> {
     // Makes a step, which goes onto the tape where there is one.
     fn once(&mut self, step: CoreStep) -> Result<Stepped, StepFault>
         requires lawful { IsAsked step }

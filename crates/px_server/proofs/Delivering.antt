@@ -37,9 +37,10 @@ use Rattle.px_core_cell.specs.Cell.{SinkEnds, ends_of}
 use Rattle.px_core_cell.specs.History.{IsTold}
 use Rattle.px_core_cell.specs.Parcel.{seen_message, seen_notice}
 use Rattle.px_server.specs.Delivered.{IsFrontOf, plain_message, plain_notice, IsDelivered}
-use Rattle.px_server.specs.declared.sink_work.Met.{Met}
-use Rattle.px_server.specs.Parts.{Start, start_at, start_of, starts_from, worked, HasPlayed, IsPart, AreTold}
-use Rattle.px_server.specs.Working.{Unworked, IsHonest, boxes_at, boxes_in}
+use Rattle.px_crew.specs.declared.lone.Met.{Met}
+use Rattle.px_crew.specs.Working.{Start, start_at, start_of, Unworked, IsHonest}
+use Rattle.px_server.specs.Parts.{starts_from, worked, HasPlayed, IsPart, AreTold}
+use Rattle.px_server.specs.Mailboxes.{boxes_at, boxes_in}
 
 -- ---- both sides see the same
 

@@ -17,14 +17,15 @@ use Rattle.px_core_cell.specs.Cause.{IsCaused}
 use Rattle.px_core_cell.specs.Cell.{Cell, SinkEnds}
 use Rattle.px_core_cell.specs.History.{IsReplay, IsTold}
 use Rattle.px_server.specs.declared.served.LanePart.{LanePart}
-use Rattle.px_server.specs.declared.served.Stop.{Stop}
-use Rattle.px_server.specs.declared.served.Stop.TheVariants as stops
+use Rattle.px_crew.specs.declared.stop.Stop.{Stop}
+use Rattle.px_crew.specs.declared.stop.Stop.TheVariants as stops
 use Rattle.px_server.specs.Causes.{decided, undecided}
-use Rattle.px_server.specs.Hosted.{IsLater, HasLent, IsCauseOf}
-use Rattle.px_server.specs.Parts.{Start, Worked, AreParts, IsFrontOf, unworked, start_of, starts_of, starts_from}
+use Rattle.px_crew.specs.Hosted.{IsLater, IsCauseOf}
+use Rattle.px_server.specs.Hosted.{HasLent}
+use Rattle.px_crew.specs.Working.{Start, start_of, Unworked}
+use Rattle.px_server.specs.Parts.{Worked, AreParts, IsFrontOf, unworked, starts_of, starts_from}
 use Rattle.px_server.specs.Serving.{first_met, IsDecided, Ends, IsServed}
-use Rattle.px_server.specs.Working.{Unworked}
-use Rattle.px_server.proofs.Later.{later_later, cause_later}
+use Rattle.px_crew.proofs.Later.{later_later, cause_later}
 use Rattle.px_server.proofs.Parts.{parts_count, starts_unworked}
 
 none_there : (C : Type 0) → IsSome {T = C} None → ⊥

@@ -1,8 +1,7 @@
-mod Later
-mod Accepting
+mod Lending
+mod Naming
 mod Parts
 mod Delivering
 mod Ending
 mod Taping
 mod Making
-mod Going

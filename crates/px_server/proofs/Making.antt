@@ -8,11 +8,11 @@ use Rattle.px_ends.specs.Host.{HostState, Lent}
 use Rattle.px_session.specs.declared.header.SinkSpec.{SinkSpec}
 use Rattle.px_lane.specs.Lane.{Mixer}
 use Rattle.px_lane_cell.specs.Cell.{Cell}
-use Rattle.px_server.specs.declared.sink_work.Met.TheVariants.{Nothing}
+use Rattle.px_crew.specs.declared.lone.Met.TheVariants.{Nothing}
 use Rattle.px_server.specs.Fresh.{IsFresh}
 use Rattle.px_server.specs.Hosted.{HasLent}
-use Rattle.px_server.specs.Parts.{Start, sink_for, Adds}
-use Rattle.px_server.specs.Working.{IsHonest}
+use Rattle.px_crew.specs.Working.{Start, IsHonest}
+use Rattle.px_server.specs.Parts.{sink_for, Adds}
 
 -- a cell over what was made for a sink has met nothing
 pub fresh_honest : {D E : Type 0} (now : D → DeviceState) (told : E → Option (List LaneEntry)) (faults fulls : E → ℕ) (sink : SinkSpec) (device : D) (recorder : E) (cell : Cell D E)

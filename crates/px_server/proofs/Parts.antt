@@ -1,6 +1,6 @@
 -- What is left of sinks, one by one.
 use Rattle.std.proofs.Common.{◌≡◌, ℕ, suc, List, [], ◌∷◌, ◌++◌, length, map, Option, None, Some, IfSome, sym, subst, ◌∙◌, ap, refl}
-use Rattle.std.proofs.lemmas.List.{append_assoc, append-nil, map-append}
+use Rattle.std.proofs.lemmas.List.{append_assoc, append-nil}
 use Rattle.std.specs.Option.{option_or}
 use Rattle.px_types.specs.declared.ids.SinkId.{SinkId}
 use Rattle.px_types.specs.declared.status.Status.{Status}
@@ -10,13 +10,12 @@ use Rattle.px_annals.specs.declared.stream.PlainStream.{PlainStream}
 use Rattle.px_ends.specs.Device.{DeviceState}
 use Rattle.px_model.specs.Sink.{Sink}
 use Rattle.px_state.specs.State.{State}
-use Rattle.px_lane_cell.specs.History.{unturned}
 use Rattle.px_server.specs.declared.served.LanePart.{LanePart}
 use Rattle.px_server.specs.Causes.{status_of_met}
 use Rattle.px_server.specs.Delivered.{IsDelivered}
-use Rattle.px_server.specs.Parts.{Start, start_at, Worked, IsPart, AreParts, Adds, unworked, start_of}
+use Rattle.px_crew.specs.Working.{Start, start_of, Unworked}
+use Rattle.px_server.specs.Parts.{Worked, IsPart, AreParts, Adds, unworked}
 use Rattle.px_server.specs.Serving.{first_met}
-use Rattle.px_server.specs.Working.{Unworked}
 
 module _ {D R : Type 0} (began : State PlainStream) (core : Option (List CoreEntry)) (now : D → DeviceState) (told : R → Option (List LaneEntry)) (faults fulls : R → ℕ) where
   -- what is left of a sink without a core, and what the core's entries say of it
@@ -90,23 +89,8 @@ met_all first left all none so = sym (or_none first) ∙ ap (λ (l : List _). op
 pub adds_none : {X : Type 0} (f : X → Start) (before after : List X) (more : List Start) → after ≡ before → Adds (map f before) more (map f after)
 adds_none f before after more same = ([], (more, refl), ap (map f) same ∙ sym (append-nil (map f before)))
 
--- one was joined, and stands before those that no worker had
-pub joined_one : {X Y : Type 0} (f : X → Y) (sinks rest lone next : List X) (given back : X)
-    → sinks ≡ rest ++ given ∷ [] → next ≡ back ∷ lone → f back ≡ f given → map f (rest ++ next) ≡ map f (sinks ++ lone)
-joined_one f sinks rest lone next given back behind front same =
-    ap (λ (l : List _). map f (rest ++ l)) front
-    ∙ map-append f rest (back ∷ lone)
-    ∙ ap (λ (y : _). map f rest ++ (y ∷ map f lone)) same
-    ∙ sym (map-append f rest (given ∷ lone))
-    ∙ ap (map f) (sym (append_assoc rest (given ∷ []) lone))
-    ∙ ap (λ (l : List _). map f (l ++ lone)) (sym behind)
-
 abbrev pub begun : SinkId → Sink → Start
 begun index sink = record { index = index; sink = sink }
-
--- a sink that goes on began as it did
-pub start_is : (index there : SinkId) (sink before : Sink) → index ≡ there → unturned sink ≡ unturned before → start_at index sink ≡ start_at there before
-start_is index there sink before is same = ap (λ (i : SinkId). begun i (unturned sink)) is ∙ ap (begun there) same
 
 pub starts_unworked : {D E : Type 0} (lone : List (Unworked D E)) → map (λ w. Worked.start w) (map unworked lone) ≡ map start_of lone
 starts_unworked [] = refl

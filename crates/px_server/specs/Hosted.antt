@@ -1,45 +1,16 @@
--- What a serving call does to its host.
-use Rattle.std.specs.Prelude.{◌≡◌, ℕ, ◌≤◌, IfSome, ⊤}
-use Rattle.px_types.specs.Faults.{Rose}
+-- What a serving call has of its host.
+use Rattle.std.specs.Prelude.{ℕ, ◌≤◌, IfSome}
 use Rattle.px_ends.specs.Host.{HostState, Lent}
 use Rattle.px_ends.specs.declared.host.HostFault.{HostFault}
 use Rattle.px_ends.specs.declared.host.HostFault.TheVariants as host_fault
-use Rattle.px_server.specs.declared.served.Stop.{Stop}
-use Rattle.px_server.specs.declared.served.Stop.TheVariants.{Over, Memory, Host, Unrecorded}
+use Rattle.px_crew.specs.declared.stop.Stop.{Stop}
+use Rattle.px_crew.specs.declared.stop.Stop.TheVariants.{Memory, Host}
 
 -- the stop that a host's fault is
 abbrev pub stop_by : HostFault → Stop
 stop_by host_fault.NoMemory = Memory
 stop_by host_fault.Failed = Host
 
--- a stop whose cause isn't the host's
-abbrev pub IsOwn : Stop → Type 0
-IsOwn Over = ⊥
-IsOwn Memory = ⊤
-IsOwn Host = ⊥
-IsOwn (Unrecorded fault) = ⊤
-
-module _ {D R C : Type 0} where
-  -- no count has fallen, and all but the counts of calls is what it was
-  pub record IsLater (before after : HostState D R C) : Type 0 where
-    pub faults : before.faults ≤ after.faults
-    pub overs : before.overs ≤ after.overs
-    pub links : before.links ≤ after.links
-    pub device_faults : after.device_faults ≡ before.device_faults
-    pub recorder_faults : after.recorder_faults ≡ before.recorder_faults
-    pub fulls : after.fulls ≡ before.fulls
-    pub header : after.header ≡ before.header
-    pub started : after.started ≡ before.started
-    pub parts : after.parts ≡ before.parts
-    pub cores : after.core_recorders ≡ before.core_recorders
-
-  -- it has made so many devices with their recorders, and so many of the core's, and hasn't taken them back, where it tells
-  abbrev pub HasLent : ℕ → ℕ → HostState D R C → Type 0
-  HasLent parts cores h = IfSome h.lent (λ l. (parts ≤ Lent.devices l) × (parts ≤ Lent.recorders l) × (cores ≤ Lent.cores l))
-
-  -- what made the serving call stop has its cause in the host
-  abbrev pub IsCauseOf : Stop → HostState D R C → HostState D R C → Type 0
-  IsCauseOf Over before after = Rose before.overs after.overs
-  IsCauseOf Memory before after = ⊤
-  IsCauseOf Host before after = Rose before.faults after.faults
-  IsCauseOf (Unrecorded fault) before after = ⊤
+-- it has made so many devices with their recorders, and so many of the core's, and hasn't taken them back, where it tells
+abbrev pub HasLent : {D R C : Type 0} → ℕ → ℕ → HostState D R C → Type 0
+HasLent parts cores h = IfSome h.lent (λ l. (parts ≤ Lent.devices l) × (parts ≤ Lent.recorders l) × (cores ≤ Lent.cores l))

@@ -1,7 +1,6 @@
 pub mod Hosted
-pub mod Accepting
+pub mod Mailboxes
 pub mod Causes
-pub mod Working
 pub mod Delivered
 pub mod Parts
 pub mod Fresh

@@ -1,7 +1,6 @@
 -- What is left of a server's sinks.
 use Rattle.std.specs.Prelude.{◌≡◌, ℕ, ◌+◌, List, [], ◌∷◌, ◌++◌, Option, None, Some, IfSome, ⊤}
 use Rattle.std.specs.List.{concat}
-use Rattle.px_types.specs.declared.ids.SinkId.{SinkId}
 use Rattle.px_annals.specs.declared.entry.CoreEntry.{CoreEntry}
 use Rattle.px_annals.specs.declared.entry.LaneEntry.{LaneEntry}
 use Rattle.px_annals.specs.declared.stream.PlainStream.{PlainStream}
@@ -17,21 +16,12 @@ use Rattle.px_core_cell.specs.declared.ends.CoreEnd.{CoreEnd}
 use Rattle.px_core_cell.specs.Cell.{ends_of}
 use Rattle.px_core_cell.specs.History.{IsTold}
 use Rattle.px_lane_cell.specs.Meaning.{history_meant}
-use Rattle.px_lane_cell.specs.History.{unturned, left_at_stop, ArePlayed}
+use Rattle.px_lane_cell.specs.History.{left_at_stop, ArePlayed}
 use Rattle.px_server.specs.declared.served.LanePart.{LanePart}
-use Rattle.px_server.specs.declared.sink_work.Met.{Met}
-use Rattle.px_server.specs.Working.{IsMet, Unworked}
+use Rattle.px_crew.specs.declared.lone.Met.{Met}
+use Rattle.px_crew.specs.Working.{Start, start_of, IsMet, Unworked}
 pub use Rattle.px_server.specs.Delivered.{IsFrontOf}
 use Rattle.px_server.specs.Delivered.{IsDelivered}
-
--- a sink before its first turn, with its index
-pub record Start : Type 0 where
-  pub index : SinkId
-  pub sink : Sink
-
--- one with this index, of a sink that may have made turns
-abbrev pub start_at : SinkId → Sink → Start
-start_at index sink = record { index = index; sink = unturned sink }
 
 -- the sink of a header's entry
 abbrev pub sink_for : SinkSpec → Sink
@@ -57,9 +47,6 @@ pub record Worked : Type 0 where
 
 abbrev pub worked : Start → Met → Worked
 worked start met = record { start = start; met = met }
-
-abbrev pub start_of : {D E : Type 0} → Unworked D E → Start
-start_of u = start_at u.sink u.cell.lane.sink
 
 -- that of a sink that no worker has any more
 abbrev pub unworked : {D E : Type 0} → Unworked D E → Worked

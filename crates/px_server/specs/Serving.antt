@@ -13,10 +13,12 @@ use Rattle.px_session.specs.declared.header.Header.{Header}
 use Rattle.px_state.specs.State.{State, new_state}
 use Rattle.px_core_cell.specs.Cause.{IsCaused}
 use Rattle.px_server.specs.declared.served.LanePart.{LanePart}
-use Rattle.px_server.specs.declared.served.Stop.{Stop}
-use Rattle.px_server.specs.Hosted.{IsLater, HasLent, IsCauseOf}
+use Rattle.px_crew.specs.declared.stop.Stop.{Stop}
+use Rattle.px_crew.specs.Hosted.{IsLater, IsCauseOf}
+use Rattle.px_server.specs.Hosted.{HasLent}
 use Rattle.px_server.specs.Causes.{status_of_met, decided}
-use Rattle.px_server.specs.Parts.{Start, Worked, starts_of, told_there, AreParts, IsFrontOf}
+use Rattle.px_crew.specs.Working.{Start}
+use Rattle.px_server.specs.Parts.{Worked, starts_of, told_there, AreParts, IsFrontOf}
 
 -- the status of the first sink whose worker met something, in the order of the sinks
 abbrev pub first_met : List Worked → Option Status

@@ -6,25 +6,26 @@ ghost use Rattle.px_state.specs.State.{State, new_state};
 ghost use Rattle.px_core_cell.specs.Boxes.{boxes_of};
 ghost use Rattle.px_core_cell.specs.Cell.{ends_of};
 ghost use Rattle.px_core_cell.specs.History.{fresh_ends};
-ghost use Rattle.px_server.specs.Hosted.{IsLater, HasLent, IsCauseOf};
-ghost use Rattle.px_server.specs.Parts.{start_of, starts_of, unworked, AreParts, IsFrontOf};
+ghost use Rattle.px_crew.specs.Hosted.{IsLater, IsCauseOf};
+ghost use Rattle.px_server.specs.Hosted.{HasLent};
+ghost use Rattle.px_crew.specs.Working.{start_of};
+ghost use Rattle.px_server.specs.Parts.{starts_of, unworked, AreParts, IsFrontOf};
 ghost use Rattle.px_server.specs.Serving.{IsServed};
 ghost use Rattle.px_server.specs.Causes.{undecided};
 ghost use Rattle.px_server.specs.Taped.{AreTaping, HasTape};
-ghost use Rattle.px_server.specs.Working.{boxes_in};
+ghost use Rattle.px_server.specs.Mailboxes.{boxes_in};
 
-use crate::gate::Gate;
+use crate::closing::run;
 use crate::left::hand_back;
-use crate::lone::Lone;
-use crate::served::{LanePart, Served, Stop, stop_by, undecided};
-use crate::serving::run;
+use crate::served::{LanePart, Served, stop_by, undecided};
 use crate::sinks::make_all;
 use px_annals::{CoreEntry, Recorder};
 use px_core::Core;
 use px_core_cell::{CoreCell, CoreEnds, CoreSeat, Seats};
-use px_desk::{Desk, Worker};
+use px_crew::{Gate, Lone, Stop};
+use px_desk::{Desk, DeskHandle};
 use px_ends::{Host, Outlet};
-use px_pool::{Pool, PoolSeat};
+use px_pool::Pool;
 use px_session::Header;
 use px_tape::SinkTurns;
 use px_types::{Mem, NoMemory};
@@ -116,13 +117,10 @@ fn make_outside<H: Host>(
     }
 }
 
-// A pool of used blocks, with a seat at it.
-fn pool_of<R: Wait + Copy>(rt: &R, alloc: Global) -> Mem<(Arc<Pool>, PoolSeat<R>)> {
-    let Ok(pool) = Pool::new(alloc, SPARE_BLOCKS) else {
-        return Err(NoMemory);
-    };
-    match Pool::seat(rt, &pool) {
-        Ok(seat) => Ok((pool, seat)),
+// A pool of used blocks.
+fn pool_of(alloc: Global) -> Mem<Arc<Pool>> {
+    match Pool::new(alloc, SPARE_BLOCKS) {
+        Ok(pool) => Ok(pool),
         Err(_) => Err(NoMemory),
     }
 }
@@ -151,8 +149,8 @@ where
     Ok(CoreCell::new(blank, core, recorder, ends))
 }
 
-// The serving call's own hold of a new core, with all shares in its steps.
-fn worker_of<R, C, L, O>(
+// The serving call's own handle on a new core, with all shares in its steps.
+fn handle_of<R, C, L, O>(
     rt: &R,
     alloc: Global,
     header: &Header,
@@ -160,7 +158,7 @@ fn worker_of<R, C, L, O>(
     ends: CoreEnds,
     taped: bool,
     blank: Blank,
-) -> Mem<Worker<R, C, L, O>>
+) -> Mem<DeskHandle<R, C, L, O>>
 where
     R: Wait + Copy,
     C: Recorder<CoreEntry> + Drop,
@@ -173,18 +171,17 @@ where
     requires boxes { map boxes_of ends.items ≡ L.boxes }
     requires ends { map ends_of ends.items ≡ map fresh_ends header.now.sinks }
     requires none { IfSome (C.told recorder) (λ entries. entries ≡ []) }
-    ensures { IfOk result (λ worker. worker.seat.parts ≡ 65552) }
+    ensures { IfOk result (λ handle. handle.seat.parts ≡ 65552) }
 {
-    let (pool, blocks) = pool_of(rt, alloc)?;
+    let pool = pool_of(alloc)?;
     let (core, seat) = core_of::<C, L>(alloc, header, recorder, ends, blank)?;
     let sinks = header.sinks.len() as u8;
     let desk = Arc::new(alloc, Desk::new(alloc, core, pool, sinks, taped))?;
-    Ok(Worker {
+    Ok(DeskHandle {
         rt: *rt,
         alloc,
         desk,
         seat,
-        blocks,
     })
 }
 
@@ -234,8 +231,8 @@ where
         recorder,
         turns,
     } = made;
-    match worker_of::<R, H::C, L, H::O>(rt, alloc, header, recorder, ends, taped, blank) {
-        Ok(worker) => run(worker, host, gate, lone, lanes, turns, taped),
+    match handle_of::<R, H::C, L, H::O>(rt, alloc, header, recorder, ends, taped, blank) {
+        Ok(handle) => run(handle, host, gate, lone, lanes, turns, taped),
         Err(_) => unserved(lanes, lone, Stop::Memory),
     }
 }

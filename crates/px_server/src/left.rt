@@ -9,20 +9,20 @@ ghost use Rattle.px_core_cell.specs.Cause.{IsCaused};
 ghost use Rattle.px_core_cell.specs.Cell.{ends_of};
 ghost use Rattle.px_core_cell.specs.History.{IsTold};
 ghost use Rattle.px_lane_cell.specs.History.{unturned};
-ghost use Rattle.px_server.specs.declared.sink_work.Met.{Met as Seen};
+ghost use Rattle.px_crew.specs.declared.lone.Met.{Met as Seen};
 ghost use Rattle.px_server.specs.Delivered.{IsDelivered};
-ghost use Rattle.px_server.specs.Parts.{worked, unworked, start_at, start_of, starts_of, IsPart, AreParts, AreTold};
+ghost use Rattle.px_crew.specs.Working.{start_at, start_of, IsHonest};
+ghost use Rattle.px_server.specs.Parts.{worked, unworked, starts_of, IsPart, AreParts, AreTold};
 ghost use Rattle.px_server.specs.Serving.{first_met};
 ghost use Rattle.px_server.specs.Taped.{AreTaping, AreCounted};
-ghost use Rattle.px_server.specs.Working.{IsHonest, boxes_at, boxes_in};
+ghost use Rattle.px_server.specs.Mailboxes.{boxes_at, boxes_in};
 ghost use Rattle.px_tape.specs.Tape.{Turns, total};
 
-use crate::lone::Lone;
-use crate::served::LanePart;
-use crate::sink_work::status_of_met;
+use crate::served::{LanePart, status_of_met};
 use px_annals::{CoreEntry, LaneEntry, RecordFault, Recorder};
 use px_core_cell::{CoreEnd, CoreEnds, CoreParts, Seats, StepLog};
-use px_desk::Worker;
+use px_crew::Lone;
+use px_desk::DeskHandle;
 use px_ends::{Device, Outlet};
 use px_lane_cell::{LaneCell, LaneCellParts, LaneEnds, LanePasses};
 use px_tape::SinkTurns;
@@ -156,9 +156,9 @@ fn without_core<C: Recorder<CoreEntry> + Drop>(parts: CoreParts<C>) -> (StepLog<
     (log, ends)
 }
 
-/// What is left of the core, and of the sinks without workers (`close_all`), by a worker with all shares. Takes no memory.
+/// What is left of the core, and of the sinks without workers (`close_all`), by a handle with all shares. Takes no memory.
 pub(crate) fn close_with<R, D, E, C, L, O>(
-    worker: Worker<R, C, L, O>,
+    handle: DeskHandle<R, C, L, O>,
     lone: &mut VecDeque<Lone<D, E>>,
     lanes: &mut Vec<LanePart<D, E>>,
     turns: &mut Vec<SinkTurns>,
@@ -170,7 +170,7 @@ where
     C: Recorder<CoreEntry> + Drop,
     L: Seats,
     O: Outlet + Drop,
-    requires seats { worker.seat.parts ≡ L.all }
+    requires seats { handle.seat.parts ≡ L.all }
     requires sinks { (sinks : List SinkSpec) × (map start_of lone.old.items ≡ starts_of sinks) }
     requires boxes { map boxes_in lone.old.items ≡ L.boxes }
     requires none { lanes.old.items ≡ [] }
@@ -182,7 +182,7 @@ where
     ensures parts { AreParts L.began (C.told result.recorder) D.now E.told E.faults E.fulls (map unworked lone.old.items) lanes.new.items }
     ensures caused { IsCaused result.fault (C.faults result.recorder) (C.fulls result.recorder) }
 {
-    let (log, ends) = without_core(worker.into_core());
+    let (log, ends) = without_core(handle.into_core());
     let met = close_all(lone, ends, lanes, turns);
     CoreLeft {
         recorder: log.recorder,

@@ -1,13 +1,14 @@
-//! What a serving call hands back, and why it stops.
+//! What a serving call hands back, with its statuses.
 
-ghost use Rattle.std.specs.Prelude.{◌≡◌, ◌+◌, ◌<◌, ◌⊎◌, false, true, IfErr, IfSome, IsSome, None, OnOk};
-ghost use Rattle.px_server.specs.Causes.{status_of_record, decided, undecided};
-ghost use Rattle.px_server.specs.Hosted.{stop_by, IsLater, IsCauseOf};
-ghost use Rattle.px_server.specs.declared.served.Stop.TheVariants.{Memory, Over};
+ghost use Rattle.std.specs.Prelude.{◌≡◌, ◌⊎◌, false, true, IfSome, IsSome, None};
+ghost use Rattle.px_crew.specs.declared.stop.Stop.TheVariants.{Memory, Over};
+ghost use Rattle.px_server.specs.Causes.{status_of_record, status_of_met, decided, undecided};
+ghost use Rattle.px_server.specs.Hosted.{stop_by};
 ghost use Rattle.px_tape.specs.Tape.{turns_in, total};
 
 use px_annals::RecordFault;
-use px_ends::{Accepted, Host, HostFault};
+use px_crew::{Met, Stop};
+use px_ends::{Host, HostFault};
 use px_tape::{Events, SinkTurns, Tape};
 use px_types::{SinkId, Status};
 use std::alloc::Global;
@@ -30,19 +31,6 @@ pub struct Served<H: Host> {
     pub tape: Option<Events>,
 }
 
-/// Why the serving call itself stops.
-#[derive(Clone, Copy, Debug, PartialEq, Eq)]
-pub(crate) enum Stop {
-    /// No link comes any more.
-    Over,
-    /// Want of memory.
-    Memory,
-    /// The host failed.
-    Host,
-    /// The core's recorder isn't ready for one more step.
-    Unrecorded(RecordFault),
-}
-
 /// The stop that a host's fault is.
 pub(crate) fn stop_by(fault: HostFault) -> Stop
     ensures { result ≡ stop_by fault }
@@ -61,6 +49,17 @@ pub(crate) fn status_of_record(fault: RecordFault) -> Status
         RecordFault::NoMemory => Status::Memory,
         RecordFault::Full { .. } => Status::HistoryFull,
         RecordFault::Failed => Status::Host,
+    }
+}
+
+/// The status of what a sink's worker met, where it has one.
+pub(crate) fn status_of_met(met: Met) -> Option<Status>
+    ensures { result ≡ status_of_met met }
+{
+    match met {
+        Met::Nothing => None,
+        Met::Stopped => Some(Status::Device),
+        Met::Unrecorded(fault) => Some(status_of_record(fault)),
     }
 }
 
@@ -89,27 +88,6 @@ pub(crate) fn undecided(stop: Stop) -> Status
     match stop {
         Stop::Host => Status::Host,
         Stop::Over | Stop::Memory | Stop::Unrecorded(_) => Status::Memory,
-    }
-}
-
-/// The next client's link with the half of it that sends, where the host lets its worker start, or why there is none.
-pub(crate) fn next_link<H: Host>(alloc: Global, host: &mut H) -> Result<(H::L, Option<H::O>), Stop>
-    ensures links { OnOk result (((H.now host.old).links < 65535) × ((H.now host.new).links ≡ (H.now host.old).links + 1)) }
-    ensures later { IsLater (H.now host.old) (H.now host.new) }
-    ensures lent { (H.now host.new).lent ≡ (H.now host.old).lent }
-    ensures cause { IfErr result (λ stop. IsCauseOf stop (H.now host.old) (H.now host.new)) }
-{
-    match host.accept(alloc) {
-        Accepted::Link(mut link) => {
-            if !host.may_start() {
-                return Err(Stop::Host);
-            }
-            let outlet = host.outlet(&mut link);
-            Ok((link, outlet))
-        }
-        Accepted::Over => Err(Stop::Over),
-        Accepted::NoMemory => Err(Stop::Memory),
-        Accepted::Failed => Err(Stop::Host),
     }
 }
 

@@ -11,18 +11,19 @@ ghost use Rattle.px_lane_cell.specs.Cell.{AreEnds, IsKeyOf, taken_in, posted_in}
 ghost use Rattle.px_core_cell.specs.Boxes.{boxes_of};
 ghost use Rattle.px_core_cell.specs.Cell.{ends_of};
 ghost use Rattle.px_core_cell.specs.History.{fresh_ends};
-ghost use Rattle.px_server.specs.Hosted.{stop_by, IsLater, HasLent, IsCauseOf};
-ghost use Rattle.px_server.specs.declared.sink_work.Met.TheVariants.{Nothing};
-ghost use Rattle.px_server.specs.Parts.{start_of, sink_for, starts_of, starts_from, IsFrontOf, Adds};
+ghost use Rattle.px_crew.specs.Hosted.{IsLater, IsCauseOf};
+ghost use Rattle.px_server.specs.Hosted.{stop_by, HasLent};
+ghost use Rattle.px_crew.specs.declared.lone.Met.TheVariants.{Nothing};
+ghost use Rattle.px_crew.specs.Working.{start_of, IsHonest, tapes_in};
+ghost use Rattle.px_server.specs.Parts.{sink_for, starts_of, starts_from, IsFrontOf, Adds};
 ghost use Rattle.px_server.specs.Fresh.{IsFresh};
-ghost use Rattle.px_server.specs.Working.{IsHonest, boxes_at, boxes_in, tapes_in};
+ghost use Rattle.px_server.specs.Mailboxes.{boxes_at, boxes_in};
 ghost use Rattle.px_server.specs.Taped.{AreTaping};
 
-use crate::lone::Lone;
-use crate::served::{Stop, stop_by};
-use crate::sink_work::Met;
+use crate::served::stop_by;
 use px_annals::{LaneEntry, Recorder};
 use px_core_cell::{CoreEnd, CoreEnds};
+use px_crew::{Lone, Stop};
 use px_ends::{Device, DeviceShape, Host, HostFault};
 use px_lane::Lane;
 use px_lane_cell::{Boxes, LaneCell, LaneEnds, LanePasses};
@@ -166,12 +167,7 @@ fn new_lone<H: Host>(
     let Ok((cell, core)) = cell_of(alloc, sink, device, recorder) else {
         return Err(Stop::Memory);
     };
-    let lone = Lone {
-        sink: index,
-        cell,
-        met: Met::Nothing,
-        turns: turns_of(alloc, index, taped),
-    };
+    let lone = Lone::new(index, cell, turns_of(alloc, index, taped));
     Ok((lone, core))
 }
 

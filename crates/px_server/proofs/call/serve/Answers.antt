@@ -1,6 +1,7 @@
-use Rattle.px_server.specs.declared.served.Stop.TheVariants.{Memory}
+use Rattle.px_crew.specs.declared.stop.Stop.TheVariants.{Memory}
 use Rattle.px_server.proofs.Ending.{front_none, unserved_is}
-use Rattle.px_server.proofs.Later.{later_refl, lent_none}
+use Rattle.px_crew.proofs.Later.{later_refl}
+use Rattle.px_server.proofs.Lending.{lent_none}
 use Rattle.px_server.proofs.Taping.{untaped}
 use Rattle.px_server.proofs.call.serve.Goals as goal
 

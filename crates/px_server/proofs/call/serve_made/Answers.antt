@@ -1,30 +1,31 @@
 use Rattle.std.proofs.Common.{length, arith}
-use Rattle.px_server.specs.declared.served.Stop.TheVariants.{Memory}
+use Rattle.px_crew.specs.declared.stop.Stop.TheVariants.{Memory}
 use Rattle.px_server.proofs.Ending.{few_begin, front_all, unserved_is, served_is}
-use Rattle.px_server.proofs.Later.{later_refl, lent_same, lent_less}
+use Rattle.px_crew.proofs.Later.{later_refl}
+use Rattle.px_server.proofs.Lending.{lent_same, lent_less}
 use Rattle.px_server.proofs.Taping.{untaped}
 use Rattle.px_server.proofs.call.serve_made.Goals as goal
 
-pub worker_of-requires-clause-header : goal.worker_of-requires-clause-header
-worker_of-requires-clause-header g c = c.requires.header
+pub handle_of-requires-clause-header : goal.handle_of-requires-clause-header
+handle_of-requires-clause-header g c = c.requires.header
 
-pub worker_of-requires-clause-name : goal.worker_of-requires-clause-name
-worker_of-requires-clause-name g c = c.requires.name
+pub handle_of-requires-clause-name : goal.handle_of-requires-clause-name
+handle_of-requires-clause-name g c = c.requires.name
 
-pub worker_of-requires-clause-parts : goal.worker_of-requires-clause-parts
-worker_of-requires-clause-parts g c = c.requires.parts
+pub handle_of-requires-clause-parts : goal.handle_of-requires-clause-parts
+handle_of-requires-clause-parts g c = c.requires.parts
 
-pub worker_of-requires-clause-began : goal.worker_of-requires-clause-began
-worker_of-requires-clause-began g c = c.requires.began
+pub handle_of-requires-clause-began : goal.handle_of-requires-clause-began
+handle_of-requires-clause-began g c = c.requires.began
 
-pub worker_of-requires-clause-boxes : goal.worker_of-requires-clause-boxes
-worker_of-requires-clause-boxes g c = c.requires.boxes
+pub handle_of-requires-clause-boxes : goal.handle_of-requires-clause-boxes
+handle_of-requires-clause-boxes g c = c.requires.boxes
 
-pub worker_of-requires-clause-ends : goal.worker_of-requires-clause-ends
-worker_of-requires-clause-ends g c = c.requires.ends
+pub handle_of-requires-clause-ends : goal.handle_of-requires-clause-ends
+handle_of-requires-clause-ends g c = c.requires.ends
 
-pub worker_of-requires-clause-none : goal.worker_of-requires-clause-none
-worker_of-requires-clause-none g c = c.requires.untold
+pub handle_of-requires-clause-none : goal.handle_of-requires-clause-none
+handle_of-requires-clause-none g c = c.requires.untold
 
 pub run-requires-clause-none : goal.run-requires-clause-none
 run-requires-clause-none g c κs within = c.requires.none

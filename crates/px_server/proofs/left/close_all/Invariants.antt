@@ -8,7 +8,7 @@ use Rattle.px_core_cell.specs.Boxes.{boxes_of}
 use Rattle.px_server.specs.Parts.{unworked, AreTold}
 use Rattle.px_server.specs.Serving.{first_met}
 use Rattle.px_server.specs.Taped.{AreTaping, AreCounted}
-use Rattle.px_server.specs.Working.{boxes_in}
+use Rattle.px_server.specs.Mailboxes.{boxes_in}
 use Rattle.px_tape.specs.Tape.{total}
 use Rattle.px_server.proofs.Parts.{Handed}
 use Rattle.px_server.proofs.left.close_all.Given as goal

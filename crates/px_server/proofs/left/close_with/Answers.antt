@@ -3,7 +3,7 @@ use Rattle.px_core_cell.specs.Boxes.{boxes_of}
 use Rattle.px_core_cell.specs.Cause.{IsCaused}
 use Rattle.px_core_cell.specs.Cell.{cell_of}
 use Rattle.px_server.specs.Parts.{AreTold}
-use Rattle.px_server.specs.Working.{boxes_in}
+use Rattle.px_server.specs.Mailboxes.{boxes_in}
 use Rattle.px_server.proofs.Delivering.{all_told, same_count}
 use Rattle.px_server.proofs.Ending.{replay_told}
 use Rattle.px_server.proofs.left.close_with.Goals as goal

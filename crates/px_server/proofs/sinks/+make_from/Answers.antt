@@ -2,8 +2,9 @@ use Rattle.std.proofs.Common.{rules, ◌≡◌, ◌∷◌, map, ap, refl}
 use Rattle.std.proofs.lemmas.Result.{on_ok_weaker, err_from_is_err_and}
 use Rattle.px_core_cell.specs.Cell.{ends_of}
 use Rattle.px_core_cell.specs.History.{fresh_ends}
-use Rattle.px_server.specs.Parts.{start_of, starts_from}
-use Rattle.px_server.proofs.Later.{later_refl, later_later}
+use Rattle.px_crew.specs.Working.{start_of}
+use Rattle.px_server.specs.Parts.{starts_from}
+use Rattle.px_crew.proofs.Later.{later_refl, later_later}
 use Rattle.px_server.proofs.Making.{map_then, adds_then}
 use Rattle.px_server.proofs.Parts.{adds_none}
 use Rattle.px_server.proofs.sinks.+make_from.Goals as goal

@@ -1,4 +1,4 @@
-use Rattle.std.proofs.Common.{◌≡◌, [], sym, subst, refl, IfOk}
+use Rattle.std.proofs.Common.{◌≡◌, [], sym, subst, refl}
 use Rattle.px_ends.specs.Told.{WhereTold}
 use Rattle.px_lane.specs.Lane.{Mixer, IsAttached}
 use Rattle.px_lane_cell.specs.Cell.{IsKeyOf}

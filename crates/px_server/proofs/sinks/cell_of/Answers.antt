@@ -1,6 +1,6 @@
 use Rattle.std.proofs.Common.{◌≡◌, ◌∙◌, [], ap, sym, subst, IfSome}
 use Rattle.px_lane.specs.Lane.{Mixer}
-use Rattle.px_server.specs.Working.{boxes_at}
+use Rattle.px_server.specs.Mailboxes.{boxes_at}
 use Rattle.px_server.proofs.Making.{fresh_honest}
 use Rattle.px_server.proofs.sinks.cell_of.Goals as goal
 

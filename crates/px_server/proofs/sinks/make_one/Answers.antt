@@ -3,9 +3,9 @@ use Rattle.std.specs.List.{AllByRecursion}
 use Rattle.std.proofs.lemmas.Result.{err_from_is_err_and}
 use Rattle.px_core_cell.specs.Boxes.{boxes_of}
 use Rattle.px_core_cell.specs.Cell.{ends_of}
-use Rattle.px_server.specs.Parts.{start_of}
-use Rattle.px_server.specs.Working.{boxes_in, tapes_in}
-use Rattle.px_server.proofs.Later.{later_refl}
+use Rattle.px_crew.specs.Working.{start_of, tapes_in}
+use Rattle.px_server.specs.Mailboxes.{boxes_in}
+use Rattle.px_crew.proofs.Later.{later_refl}
 use Rattle.px_server.proofs.Making.{lent_as, lent_more, map_one, taping_one}
 use Rattle.px_server.proofs.sinks.make_one.Goals as goal
 

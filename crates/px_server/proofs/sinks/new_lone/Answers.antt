@@ -1,6 +1,8 @@
-use Rattle.std.proofs.Common.{ap, sym, subst}
+use Rattle.std.proofs.Common.{ap, sym, subst, ◌∙◌}
 use Rattle.px_lane_cell.specs.History.{unturned}
-use Rattle.px_server.specs.Hosted.{IsCauseOf}
+use Rattle.px_crew.specs.Hosted.{IsCauseOf}
+use Rattle.px_crew.specs.Working.{start_of, tapes_in}
+use Rattle.px_server.specs.Mailboxes.{boxes_in}
 use Rattle.px_server.proofs.Making.{lent_fewer}
 use Rattle.px_server.proofs.Parts.{begun}
 use Rattle.px_server.proofs.sinks.new_lone.Goals as goal
@@ -36,13 +38,13 @@ pub returns-clause-lent : goal.returns-clause-lent
 returns-clause-lent g c = c.in-Ok.ensures.lent
 
 pub returns-clause-start : goal.returns-clause-start
-returns-clause-start g c = ap (λ (s : _). begun c.args.index (unturned s)) c.in-Ok-cell_of.ensures.sink
+returns-clause-start g c = ap start_of c.new-lone.ensures ∙ ap (λ (s : _). begun c.args.index (unturned s)) c.in-Ok-cell_of.ensures.sink
 
 pub returns-clause-core : goal.returns-clause-core
 returns-clause-core g c = c.in-Ok-cell_of.ensures.core
 
 pub returns-clause-boxes : goal.returns-clause-boxes
-returns-clause-boxes g c = c.in-Ok-cell_of.ensures.boxes
+returns-clause-boxes g c = ap boxes_in c.new-lone.ensures ∙ c.in-Ok-cell_of.ensures.boxes
 
 pub returns-clause-tapes : goal.returns-clause-tapes
-returns-clause-tapes g c = c.turns_of.ensures.tapes
+returns-clause-tapes g c = ap tapes_in c.new-lone.ensures ∙ c.turns_of.ensures.tapes

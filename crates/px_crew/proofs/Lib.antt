@@ -1,0 +1,4 @@
+mod Accepting
+mod Going
+pub mod Later
+mod Joining

@@ -1,0 +1,8 @@
+use Rattle.std.proofs.Common.{length}
+use Rattle.px_crew.specs.Accepting.{Takes}
+use Rattle.px_crew.proofs.serving.Serving.accept_all.Given as goal
+
+abbrev pub invariant-loop : goal.invariant-loop
+invariant-loop g l = Takes
+    (record { parts = g.W.Handle.parts l.fn.self.handle; clients = length l.fn.self.clients.items; sinks = l.fn.self.sinks; host = g.H.Host.now l.fn.host })
+    (record { parts = g.W.Handle.parts l.self.handle; clients = length l.self.clients.items; sinks = l.self.sinks; host = g.H.Host.now l.host })

@@ -1,0 +1,13 @@
+-- Mailboxes that are the same have the same names.
+use Rattle.std.proofs.Common.{◌≡◌, List, [], ◌∷◌, map, refl, sym, ap, ◌∙◌}
+use Rattle.px_core_cell.specs.Boxes.{Boxes}
+use Rattle.px_crew.specs.Working.{Unworked, mailboxes_of}
+use Rattle.px_server.specs.Mailboxes.{names_of, boxes_in}
+
+module _ {D E : Type 0} where
+  named : (lone : List (Unworked D E)) → map boxes_in lone ≡ map names_of (map mailboxes_of lone)
+  named [] = refl
+  named (u ∷ lone) = ap (λ (l : List Boxes). boxes_in u ∷ l) (named lone)
+
+  pub same_boxes : (lone before : List (Unworked D E)) → map mailboxes_of lone ≡ map mailboxes_of before → map boxes_in lone ≡ map boxes_in before
+  same_boxes lone before same = named lone ∙ ap (map names_of) same ∙ sym (named before)

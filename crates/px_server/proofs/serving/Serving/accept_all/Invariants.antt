@@ -1,8 +1,0 @@
-use Rattle.std.proofs.Common.{length}
-use Rattle.px_server.specs.Accepting.{Takes}
-use Rattle.px_server.proofs.serving.Serving.accept_all.Given as goal
-
-abbrev pub invariant-loop : goal.invariant-loop
-invariant-loop g l = Takes
-    (record { parts = l.fn.self.worker.seat.parts; clients = length l.fn.self.clients.items; sinks = l.fn.self.sinks; host = g.H.Host.now l.fn.host })
-    (record { parts = l.self.worker.seat.parts; clients = length l.self.clients.items; sinks = l.self.sinks; host = g.H.Host.now l.host })
