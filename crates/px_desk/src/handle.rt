@@ -1,6 +1,7 @@
 //! What every worker does with the core.
 
-ghost use Rattle.std.specs.Prelude.{◌≡◌, map};
+ghost use Rattle.std.specs.Prelude.{◌≡◌, ◌+◌, ◌<◌, map, IfOk, OnErr};
+ghost use Rattle.px_frame.specs.Frame.{IsBody};
 ghost use Rattle.px_core_cell.specs.Boxes.{boxes_of};
 ghost use Rattle.px_core_cell.specs.Cause.{IsCaused};
 ghost use Rattle.px_core_cell.specs.Cell.{cell_of};
@@ -13,7 +14,7 @@ use px_annals::{CoreEntry, Recorder};
 use px_core_cell::{CoreParts, CoreSeat, CoreStep, Seats};
 use px_ends::Outlet;
 use px_frame::{Frame, FrameFault};
-use px_handle::{CoreStop, Handle, Next};
+use px_handle::{CoreStop, Next};
 use px_pool::{Pool, PoolSeat};
 use px_tape::Tape;
 use px_types::{ConnId, Mem, NoMemory, SinkId};
@@ -21,7 +22,6 @@ use std::alloc::Global;
 use std::mem;
 use std::sync::atomic::Ordering;
 use std::sync::{Arc, Mutex, Wait};
-use std::thread::Threads;
 
 /// A worker's handle on the desk, with its shares in the core's steps.
 #[derive(Drop)]
@@ -54,32 +54,13 @@ impl<R: Wait + Copy, C: Recorder<CoreEntry> + Drop, L: Seats, O: Outlet + Drop> 
         let mut tape = self.desk.tape.lock(&self.rt);
         mem::replace(&mut *tape, Tape::new(self.alloc))
     }
-}
 
-impl<R, C, L, O> Handle for DeskHandle<R, C, L, O>
-where
-    R: Threads + Wait + Copy + Drop + Send + Sync + 'static,
-    C: Recorder<CoreEntry> + Drop + Send + 'static,
-    L: Seats + Send + Sync + 'static,
-    O: Outlet + Drop + Send + 'static,
-{
-    type Rt = R;
-
-    type Outlet = O;
-
-    type Blocks = PoolSeat<R>;
-
-    ghost parts = { λ h. h.seat.parts };
-
-    fn rt(&self) -> R {
-        self.rt
-    }
-
-    fn alloc(&self) -> Global {
-        self.alloc
-    }
-
-    fn another(&mut self) -> Mem<DeskHandle<R, C, L, O>> {
+    /// Another handle with one share of this one's. Where there is no memory there is none.
+    pub fn another(&mut self) -> Mem<DeskHandle<R, C, L, O>>
+        requires { 1 < self.old.seat.parts }
+        ensures ok { IfOk result (λ other. (other.seat.parts ≡ 1) × (self.new.seat.parts + 1 ≡ self.old.seat.parts)) }
+        ensures err { OnErr result (self.new.seat.parts ≡ self.old.seat.parts) }
+    {
         let desk = Arc::try_clone(&self.desk)?;
         Ok(DeskHandle {
             rt: self.rt,
@@ -89,31 +70,32 @@ where
         })
     }
 
-    fn take_back(&mut self, other: DeskHandle<R, C, L, O>) {
-        self.seat.merge(other.seat);
-    }
-
-    fn blocks(&self) -> Mem<PoolSeat<R>> {
+    /// A source of blocks for one worker.
+    pub fn blocks(&self) -> Mem<PoolSeat<R>> {
         match Pool::seat(&self.rt, &self.desk.pool) {
             Ok(seat) => Ok(seat),
             Err(_) => Err(NoMemory),
         }
     }
 
-    fn tape(&self) -> &Mutex<Tape> {
+    /// The tape. Where there is one, it is locked during each step of the core and during each turn of a sink.
+    pub fn tape(&self) -> &Mutex<Tape> {
         &self.desk.tape
     }
 
-    fn finish(&self) {
+    /// The sinks' workers may end.
+    pub fn finish(&self) {
         self.desk.over.store(true, Ordering::SeqCst);
     }
 
-    fn is_over(&self) -> bool {
+    /// Whether the sinks' workers may end.
+    pub fn is_over(&self) -> bool {
         self.desk.over.load(Ordering::SeqCst)
     }
 
-    fn open_line(&mut self, conn: ConnId, outlet: Option<O>) -> Mem<()>
-        ensures { self.new.seat.parts ≡ self.old.seat.parts }
+    /// A line for a client's packets, with the half of its link that sends, where it has one.
+    pub fn open_line(&mut self, conn: ConnId, outlet: Option<O>) -> Mem<()>
+        ensures seat { self.new.seat.parts ≡ self.old.seat.parts }
     {
         if outlet.is_none() {
             self.desk.own.store(true, Ordering::SeqCst);
@@ -121,56 +103,88 @@ where
         self.desk.lines.lock(&self.rt).open(conn, outlet)
     }
 
-    fn shut_line(&mut self, conn: ConnId) {
+    /// A client's line goes, and the client is told the end.
+    pub fn shut_line(&mut self, conn: ConnId)
+        ensures seat { self.new.seat.parts ≡ self.old.seat.parts }
+    {
         self.desk.lines.lock(&self.rt).shut(conn);
     }
 
-    fn has_line(&self, conn: ConnId) -> bool {
+    /// Whether a client has a line.
+    pub fn has_line(&self, conn: ConnId) -> bool {
         self.desk.lines.lock(&self.rt).has(conn)
     }
 
-    fn is_sender(&self) -> bool {
+    /// Whether a client's own worker may have to send what waits for it. Else whoever makes a step sends what that has for clients.
+    pub fn is_sender(&self) -> bool {
         self.desk.own.load(Ordering::SeqCst)
     }
 
-    fn next_packet(&mut self, conn: ConnId) -> Next {
+    /// What stands first in a client's line.
+    pub fn next_packet(&mut self, conn: ConnId) -> Next
+        ensures seat { self.new.seat.parts ≡ self.old.seat.parts }
+    {
         self.desk.lines.lock(&self.rt).next(conn)
     }
 
-    fn connect(&mut self, conn: ConnId) -> Result<(), CoreStop> {
+    /// A client connects.
+    pub fn connect(&mut self, conn: ConnId) -> Result<(), CoreStop>
+        ensures seat { self.new.seat.parts ≡ self.old.seat.parts }
+    {
         let stepped = self.insist(Plain::Connect(conn))?;
         self.follow(stepped)
     }
 
-    fn cut(&mut self, conn: ConnId) -> Result<(), CoreStop> {
+    /// The server ends a connection.
+    pub fn cut(&mut self, conn: ConnId) -> Result<(), CoreStop>
+        ensures seat { self.new.seat.parts ≡ self.old.seat.parts }
+    {
         let stepped = self.insist(Plain::Cut(conn))?;
         self.follow(stepped)
     }
 
-    fn close(&mut self, conn: ConnId) -> Result<(), CoreStop> {
+    /// A client has closed its connection.
+    pub fn close(&mut self, conn: ConnId) -> Result<(), CoreStop>
+        ensures seat { self.new.seat.parts ≡ self.old.seat.parts }
+    {
         let stepped = self.insist(Plain::Close(conn))?;
         self.follow(stepped)
     }
 
-    fn frame(&mut self, conn: ConnId, frame: Frame) -> Result<(), CoreStop> {
+    /// A frame of a client. One that finds no memory ends its connection.
+    pub fn frame(&mut self, conn: ConnId, frame: Frame) -> Result<(), CoreStop>
+        requires { IsBody frame.body }
+        ensures seat { self.new.seat.parts ≡ self.old.seat.parts }
+    {
         match self.make(CoreStep::Frame(conn, frame))? {
             Made::Stepped(stepped) => self.follow(stepped),
             Made::NoMemory => self.cut(conn),
         }
     }
 
-    fn broken(&mut self, conn: ConnId, fault: FrameFault, at: u64) -> Result<(), CoreStop> {
+    /// A fault in a client's bytes. One that finds no memory ends its connection.
+    pub fn broken(&mut self, conn: ConnId, fault: FrameFault, at: u64) -> Result<(), CoreStop>
+        ensures seat { self.new.seat.parts ≡ self.old.seat.parts }
+    {
         match self.make(CoreStep::Broken(conn, fault, at))? {
             Made::Stepped(stepped) => self.follow(stepped),
             Made::NoMemory => self.cut(conn),
         }
     }
 
-    fn post(&mut self, sink: SinkId) -> Result<(), CoreStop> {
-        self.post_to(sink)
+    /// Posts to a sink what waits for it. Where there is no memory it waits for the next time.
+    pub fn post(&mut self, sink: SinkId) -> Result<(), CoreStop>
+        ensures seat { self.new.seat.parts ≡ self.old.seat.parts }
+    {
+        self.make(CoreStep::Out(sink))?;
+        Ok(())
     }
 
-    fn notices(&mut self, sink: SinkId) -> Result<(), CoreStop> {
+    /// All notices that a sink's mixer has posted. Where there was one, connections that found no memory end behind the last, what waits for the
+    /// sinks is posted, and what waits for the clients is sent.
+    pub fn notices(&mut self, sink: SinkId) -> Result<(), CoreStop>
+        ensures seat { self.new.seat.parts ≡ self.old.seat.parts }
+    {
         if !self.notice(sink)? {
             return Ok(());
         }

@@ -7,7 +7,7 @@ use crate::handle::DeskHandle;
 use crate::lines::Errand;
 use crate::step::Stepped;
 use px_annals::{CoreEntry, Recorder};
-use px_core_cell::{CoreStep, Seats};
+use px_core_cell::Seats;
 use px_ends::Outlet;
 use px_handle::{CoreStop, Rest};
 use px_types::{ConnId, SinkId};
@@ -58,20 +58,12 @@ impl<R: Wait + Copy, C: Recorder<CoreEntry> + Drop, L: Seats, O: Outlet + Drop> 
         unreachable!()
     }
 
-    /// Posts to a sink what waits for it.
-    pub(crate) fn post_to(&mut self, sink: SinkId) -> Result<(), CoreStop>
-        ensures seat { self.new.seat.parts ≡ self.old.seat.parts }
-    {
-        self.make(CoreStep::Out(sink))?;
-        Ok(())
-    }
-
     // Posts to each sink what waits for it.
     fn post_all(&mut self) -> Result<(), CoreStop>
         ensures seat { self.new.seat.parts ≡ self.old.seat.parts }
     {
         for sink in 0..self.desk.sinks {
-            self.post_to(SinkId(sink))?;
+            self.post(SinkId(sink))?;
         }
         Ok(())
     }

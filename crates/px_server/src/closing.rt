@@ -8,6 +8,7 @@ ghost use Rattle.px_server.specs.Parts.{starts_of};
 ghost use Rattle.px_server.specs.Serving.{Ends};
 ghost use Rattle.px_server.specs.Taped.{AreTaping, HasTape};
 
+use crate::handle::CrewHandle;
 use crate::left::close_with;
 use crate::served::{LanePart, Served, decided, woven};
 use px_core_cell::Seats;
@@ -91,6 +92,7 @@ where
     ensures ends { Ends H.C.told H.C.faults H.C.fulls L.began H.D.now H.R.told H.R.faults H.R.fulls (map start_of lone.items) (H.now host.old) (H.now host.new) result.status result.lanes.items result.core }
     ensures core { IsSome result.core }
 {
+    let handle = CrewHandle { desk: handle };
     let (handle, stop) = serve_all(handle, host, gate, &mut lone);
-    ended(handle, stop, lone, lanes, turns, taped)
+    ended(handle.desk, stop, lone, lanes, turns, taped)
 }

@@ -1,9 +1,10 @@
 //! The serving call of a live server: the core under its lock, with the workers of `px_crew`. `sinks` makes what the sinks need, `left` has what is left of
-//! them, `served` what the call hands back, `closing` its end, and `call` the call itself. It exports `serve` with `Served` and `LanePart`, and the crew's `Gate` with `PaceGate`.
+//! them, `served` what the call hands back, `handle` the crew's handle on the desk, `closing` its end, and `call` the call itself. It exports `serve` with `Served` and `LanePart`, and the crew's `Gate` with `PaceGate`.
 #![tactic(auto)]
 
 mod call;
 mod closing;
+mod handle;
 mod left;
 mod served;
 mod sinks;
