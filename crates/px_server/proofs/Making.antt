@@ -51,6 +51,10 @@ pub taping_one : (all : List Bool) (one : Bool) → AllByRecursion (λ on. on �
 taping_one [] one none on = (on, tt)
 taping_one (first ∷ all) one those on = (those.0, taping_one all one those.1 on)
 
+-- how the sink of an entry with this index begins
+abbrev pub begin : ℕ → SinkSpec → Start
+begin index s = record { index = record { 0 = index }; sink = sink_for s }
+
 -- one more, and then the others
 pub map_then : {X Y : Type 0} (f : X → Y) (lone between after : List X) (y : Y) (others all : List Y)
     → map f between ≡ map f lone ++ y ∷ [] → all ≡ y ∷ others → map f after ≡ map f between ++ others → map f after ≡ map f lone ++ all

@@ -1,11 +1,11 @@
-use Rattle.std.proofs.Common.{rules, ◌≡◌, ◌∷◌, map, ap, refl}
+use Rattle.std.proofs.Common.{rules, ◌≡◌, ◌+◌, ◌∷◌, map, ap, refl}
 use Rattle.std.proofs.lemmas.Result.{on_ok_weaker, err_from_is_err_and}
 use Rattle.px_core_cell.specs.Cell.{ends_of}
 use Rattle.px_core_cell.specs.History.{fresh_ends}
 use Rattle.px_crew.specs.Working.{start_of}
 use Rattle.px_server.specs.Parts.{starts_from}
 use Rattle.px_crew.proofs.Later.{later_refl, later_later}
-use Rattle.px_server.proofs.Making.{map_then, adds_then}
+use Rattle.px_server.proofs.Making.{begin, map_then, adds_then}
 use Rattle.px_server.proofs.Parts.{adds_none}
 use Rattle.px_server.proofs.sinks.+make_from.Goals as goal
 
@@ -46,14 +46,14 @@ pub returns-in_ok-make_one-in-Some-clause-made : goal.returns-in_ok-make_one-in-
 returns-in_ok-make_one-in-Some-clause-made g n c =
     let cut : c.args.sinks.now ≡ c.in-Some.first.now ∷ c.in-Some.rest.now = search rules in
     on_ok_weaker c.make_from.result
-    (map_then start_of c.args.lone.now.items c.make_one.new.lone.items c.make_from.new.lone.items _ _ (starts_from c.args.index c.args.sinks.now) c.in_ok-make_one-in-Some.ensures.made (ap (starts_from c.args.index) cut))
+    (map_then start_of c.args.lone.now.items c.make_one.new.lone.items c.make_from.new.lone.items (begin c.args.index c.in-Some.first.now) (starts_from (c.args.index + 1) c.in-Some.rest.now) (starts_from c.args.index c.args.sinks.now) c.in_ok-make_one-in-Some.ensures.made (ap (starts_from c.args.index) cut))
     c.make_from.ensures.made
 
 pub returns-in_ok-make_one-in-Some-clause-ends : goal.returns-in_ok-make_one-in-Some-clause-ends
 returns-in_ok-make_one-in-Some-clause-ends g n c =
     let cut : c.args.sinks.now ≡ c.in-Some.first.now ∷ c.in-Some.rest.now = search rules in
     on_ok_weaker c.make_from.result
-    (map_then ends_of c.args.ends.now.items c.make_one.new.ends.items c.make_from.new.ends.items _ _ (map fresh_ends c.args.sinks.now) c.in_ok-make_one-in-Some.ensures.ends (ap (map fresh_ends) cut))
+    (map_then ends_of c.args.ends.now.items c.make_one.new.ends.items c.make_from.new.ends.items (fresh_ends c.in-Some.first.now) (map fresh_ends c.in-Some.rest.now) (map fresh_ends c.args.sinks.now) c.in_ok-make_one-in-Some.ensures.ends (ap (map fresh_ends) cut))
     c.make_from.ensures.ends
 
 pub returns-in_ok-make_one-in-Some-clause-boxes : goal.returns-in_ok-make_one-in-Some-clause-boxes
@@ -65,7 +65,7 @@ returns-in_ok-make_one-in-Some-clause-tapes g n c = on_ok_weaker c.make_from.res
 pub returns-in_ok-make_one-in-Some-clause-front : goal.returns-in_ok-make_one-in-Some-clause-front
 returns-in_ok-make_one-in-Some-clause-front g n c =
     let cut : c.args.sinks.now ≡ c.in-Some.first.now ∷ c.in-Some.rest.now = search rules in
-    adds_then (map start_of c.args.lone.now.items) (map start_of c.make_one.new.lone.items) (map start_of c.make_from.new.lone.items) _ _ (starts_from c.args.index c.args.sinks.now)
+    adds_then (map start_of c.args.lone.now.items) (map start_of c.make_one.new.lone.items) (map start_of c.make_from.new.lone.items) (begin c.args.index c.in-Some.first.now) (starts_from (c.args.index + 1) c.in-Some.rest.now) (starts_from c.args.index c.args.sinks.now)
     c.in_ok-make_one-in-Some.ensures.made (ap (starts_from c.args.index) cut) c.make_from.ensures.front
 
 pub returns-in_err-make_one-in-Some-clause-boxes : goal.returns-in_err-make_one-in-Some-clause-boxes
