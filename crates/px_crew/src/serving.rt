@@ -263,8 +263,8 @@ where
 }
 
 /// All that workers do, from their start to their end: one for each of these sinks, in order, and one for each client that the host hands out,
-/// until no more come or something fails. What is left is the handle with all shares, and why it stopped; the sinks are where they were, with
-/// what their workers met.
+/// until no more come or something fails. The handle has 65,552 shares: one for each link that a host can hand out, one for each of 16 sinks,
+/// and its own. What is left is the handle with all of them, and why the call stopped; the sinks are where they were, with what their workers met.
 pub fn serve_all<W, H, G>(
     handle: W,
     host: &mut H,
