@@ -1,17 +1,7 @@
 -- Starts of workers, and clients that come and go, one behind the other.
-use Rattle.std.proofs.Common.{◌≡◌, ℕ, ◌+◌, ◌≤◌, ◌++◌, [], List, length, length-append, arith, ap, refl, subst, ◌∙◌, ◌⊎◌, inl, inr}
-use Rattle.px_jobs.specs.declared.running.Spawned.{Spawned}
-use Rattle.px_jobs.specs.declared.running.Spawned.TheVariants.{Refused, NoMemory}
-use Rattle.px_jobs.specs.Jobs.{SpawnGives}
-use Rattle.px_crew.specs.declared.stop.Stop.{Stop}
-use Rattle.px_crew.specs.Hosted.{IsCauseOf}
+use Rattle.std.proofs.Common.{◌≡◌, ℕ, ◌+◌, ◌≤◌, ◌++◌, [], List, length, length-append, arith, ap, refl, ◌∙◌}
 use Rattle.px_crew.specs.Accepting.{Starting, Accepting, Starts, HasRoom, Takes}
-use Rattle.px_crew.proofs.Later.{later_refl, later_later, cause_later}
-
--- a job that comes back is the one that was given
-pub given_back : {J : Type 0} (s : Spawned J) (job back : J) → (s ≡ Refused back) ⊎ (s ≡ NoMemory back) → SpawnGives s job → back ≡ job
-given_back s job back (inl is) gives = subst (λ (r : Spawned _). SpawnGives r job) is gives
-given_back s job back (inr is) gives = subst (λ (r : Spawned _). SpawnGives r job) is gives
+use Rattle.px_crew.proofs.Later.{later_refl, later_later}
 
 pub starts_refl : {X Y D R C : Type 0} (a : Starting X Y D R C) → Starts a a
 starts_refl a = record { parts = refl; clients = refl; all = refl; capacity = refl; later = later_refl a.host; lent = refl }
@@ -26,9 +16,6 @@ starts_then a b c first then = record {
   lent = then.lent ∙ first.lent;
 }
 
-pub starts_cause : {X Y D R C : Type 0} (stop : Stop) (a b c : Starting X Y D R C) → Starts a b → IsCauseOf stop b.host c.host → IsCauseOf stop a.host c.host
-starts_cause stop a b c first = cause_later stop a.host b.host c.host first.later
-
 pub takes_refl : {X D R C : Type 0} (a : Accepting X D R C) → HasRoom a → Takes a a
 takes_refl a room = record { parts = refl; few = room.few; sinks = refl; later = later_refl a.host; lent = refl }
 
@@ -40,9 +27,6 @@ takes_then a b c first then = record {
   later = later_later a.host b.host c.host first.later then.later;
   lent = then.lent ∙ first.lent;
 }
-
-pub takes_cause : {X D R C : Type 0} (stop : Stop) (a b c : Accepting X D R C) → Takes a b → IsCauseOf stop b.host c.host → IsCauseOf stop a.host c.host
-takes_cause stop a b c first = cause_later stop a.host b.host c.host first.later
 
 -- there is room still
 pub room_then : {X D R C : Type 0} (a b : Accepting X D R C) → HasRoom a → Takes a b → HasRoom b

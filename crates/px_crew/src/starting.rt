@@ -13,7 +13,7 @@ use crate::worker::Worker;
 use px_annals::{LaneEntry, Recorder};
 use px_ends::{Device, Link};
 use px_handle::{CoreStop, Handle};
-use px_jobs::{Spawned, start};
+use px_jobs::start;
 use px_types::{ConnId, Mem, NoMemory};
 use std::collections::VecDeque;
 use std::sync::Arc;
@@ -38,8 +38,8 @@ where
     let rt = worker.handle.rt();
     let alloc = worker.handle.alloc();
     match start(&rt, alloc, SinkWork { worker, lone }) {
-        Spawned::Started(running) => Ok(SinkRun { running }),
-        Spawned::Refused(job) | Spawned::NoMemory(job) => Err(job.into_parts()),
+        Ok(running) => Ok(SinkRun { running }),
+        Err(job) => Err(job.into_parts()),
     }
 }
 
@@ -104,10 +104,9 @@ where
 {
     let rt = worker.handle.rt();
     let alloc = worker.handle.alloc();
-    let job = LinkWork { worker, conn, link };
-    match start(&rt, alloc, job) {
-        Spawned::Started(running) => Ok(Client { conn, running }),
-        Spawned::Refused(job) | Spawned::NoMemory(job) => Err(job.into_handle()),
+    match start(&rt, alloc, LinkWork { worker, conn, link }) {
+        Ok(running) => Ok(Client { conn, running }),
+        Err(job) => Err(job.into_handle()),
     }
 }
 

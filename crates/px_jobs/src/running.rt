@@ -1,9 +1,9 @@
 //! A job in its thread.
-ghost use Rattle.std.specs.Prelude.{◌≡◌, [], IfSome};
+ghost use Rattle.std.specs.Prelude.{◌≡◌, [], IfSome, IfOk, IfErr};
 ghost use Rattle.std.specs.Arc.{arc_value};
 ghost use Rattle.crossbeam_queue.specs.Passes.{IsPassOf};
 ghost use Rattle.px_mail.specs.Mailbox.{key_of, taken_by};
-ghost use Rattle.px_jobs.specs.Jobs.{given_to, SpawnGives};
+ghost use Rattle.px_jobs.specs.Jobs.{given_to};
 
 use crate::handed::{Handed, works};
 use crate::job::Job;
@@ -38,17 +38,6 @@ impl<J: Job> Running<J> {
     }
 }
 
-/// What starting a job answers.
-#[derive(Drop)]
-pub enum Spawned<J: Job> {
-    /// A thread works at it.
-    Started(Running<J>),
-    /// No thread could be started. The job, unworked.
-    Refused(J),
-    /// There was no memory for it. The job, unworked.
-    NoMemory(J),
-}
-
 // Starts the thread that waits for a job of that mailbox.
 fn waiting<R, J>(
     rt: &R,
@@ -81,15 +70,17 @@ where
     }
 }
 
-/// Starts a thread that does the job's work once. The job goes to it only when it is there, so what comes back is the very job.
-pub fn start<R, J>(rt: &R, alloc: Global, job: J) -> Spawned<J>
+/// Starts a thread that does the job's work once. The job goes to it only when it is there, so where there is no memory or no thread can be
+/// started, the very job comes back, unworked.
+pub fn start<R, J>(rt: &R, alloc: Global, job: J) -> Result<Running<J>, J>
 where
     R: Threads + Wait + Copy + Send + Sync + 'static,
     J: Job + 'static,
-    ensures { SpawnGives result job }
+    ensures ok { IfOk result (λ running. given_to running ≡ job) }
+    ensures err { IfErr result (λ back. back ≡ job) }
 {
     let Ok(shared) = Shared::<Handed<J>>::new(alloc, Snapshot::of(&job)) else {
-        return Spawned::NoMemory(job);
+        return Err(job);
     };
     let Shared {
         mailbox,
@@ -98,10 +89,10 @@ where
         take,
     } = shared;
     let Some(running) = waiting(rt, twin, take, Snapshot::of(&job), Snapshot::of(&job)) else {
-        return Spawned::Refused(job);
+        return Err(job);
     };
     match mailbox.post(rt, &mut post, Handed { job }) {
-        Ok(()) => Spawned::Started(running),
+        Ok(()) => Ok(running),
         Err(_) => unreachable!(),
     }
 }
