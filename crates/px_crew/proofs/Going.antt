@@ -1,26 +1,5 @@
--- The work of a sink goes on, and so it does after that; sinks go from those without a worker to those with one.
-use Rattle.std.proofs.Common.{◌≡◌, ℕ, ◌+◌, ◌<◌, ◌++◌, ◌∷◌, [], List, length, refl, ap, sym, ◌∙◌, arith, append_assoc}
-use Rattle.px_types.specs.declared.ids.SinkId.{SinkId}
-use Rattle.px_model.specs.Sink.{Sink}
-use Rattle.px_lane_cell.specs.History.{unturned}
-use Rattle.px_crew.specs.Working.{Unworked, Start, start_at, GoesOn}
-
-pub goes_refl : {D E : Type 0} (u : Unworked D E) → GoesOn u u
-goes_refl u = record { start = refl; boxes = refl; tapes = refl }
-
-pub goes_then : {D E : Type 0} (a b c : Unworked D E) → GoesOn a b → GoesOn b c → GoesOn a c
-goes_then a b c first then = record {
-  start = then.start ∙ first.start;
-  boxes = then.boxes ∙ first.boxes;
-  tapes = then.tapes ∙ first.tapes;
-}
-
-abbrev pub begun : SinkId → Sink → Start
-begun index sink = record { index = index; sink = sink }
-
--- a sink that goes on began as it did
-pub start_is : (index there : SinkId) (sink before : Sink) → index ≡ there → unturned sink ≡ unturned before → start_at index sink ≡ start_at there before
-start_is index there sink before is same = ap (λ (i : SinkId). begun i (unturned sink)) is ∙ ap (begun there) same
+-- Sinks go from those without a worker to those with one.
+use Rattle.std.proofs.Common.{◌≡◌, ℕ, ◌+◌, ◌<◌, ◌++◌, ◌∷◌, [], List, length, ap, sym, ◌∙◌, arith, append_assoc}
 
 module _ {X : Type 0} where
   -- what was taken from the front is there again

@@ -67,6 +67,15 @@ mailboxes_of u = u.cell.ends.boxes
 abbrev pub tapes_in : {D E : Type 0} → Unworked D E → Bool
 tapes_in u = is_some u.turns
 
+-- what stays of a sink, whatever its worker does: how it began, its mailboxes, and whether its turns are kept for a tape
+pub record Kept : Type 0 where
+  pub start : Start
+  pub boxes : Boxes
+  pub tapes : Bool
+
+abbrev pub kept_of : {D E : Type 0} → Unworked D E → Kept
+kept_of u = record { start = start_of u; boxes = mailboxes_of u; tapes = tapes_in u }
+
 -- the work goes on: at the same sink with the same mailboxes, and with a tape where there was one
 pub record GoesOn {D E : Type 0} (before after : Unworked D E) : Type 0 where
   pub start : start_of after ≡ start_of before

@@ -3,7 +3,7 @@ ghost use Rattle.std.specs.Prelude.{◌≡◌, ◌+◌, ◌≤◌, ◌<◌, ◌+
 ghost use Rattle.std.specs.VecDeque.{deque_len, deque_capacity};
 ghost use Rattle.px_crew.specs.Hosted.{IsLater, IsCauseOf, IsOwn};
 ghost use Rattle.px_crew.specs.Accepting.{HasRoom, Starts, Takes};
-ghost use Rattle.px_crew.specs.Working.{start_of, mailboxes_of, tapes_in};
+ghost use Rattle.px_crew.specs.Working.{start_of, mailboxes_of, tapes_in, kept_of};
 
 use crate::gate::Gate;
 use crate::hosting::{ask, next_link};
@@ -134,6 +134,7 @@ where
     fn accept_one(&mut self, host: &mut H) -> Result<(), Stop>
         requires room { HasRoom (record { parts = W.parts self.old.handle; clients = length self.old.clients.items; sinks = self.old.sinks; host = H.now host.old }) }
         ensures takes { Takes (record { parts = W.parts self.old.handle; clients = length self.old.clients.items; sinks = self.old.sinks; host = H.now host.old }) (record { parts = W.parts self.new.handle; clients = length self.new.clients.items; sinks = self.new.sinks; host = H.now host.new }) }
+        ensures links { OnOk result (((H.now host.old).links < 65535) × ((H.now host.new).links ≡ (H.now host.old).links + 1)) }
         ensures cause { IfErr result (λ stop. IsCauseOf stop (H.now host.old) (H.now host.new)) }
     {
         self.reap();
@@ -141,19 +142,17 @@ where
         self.admit(link, outlet)
     }
 
-    // Takes in clients until no more come.
+    // Takes in clients until no more come. A host hands out so many links at most.
     fn accept_all(&mut self, host: &mut H) -> Stop
         requires room { HasRoom (record { parts = W.parts self.old.handle; clients = length self.old.clients.items; sinks = self.old.sinks; host = H.now host.old }) }
         ensures takes { Takes (record { parts = W.parts self.old.handle; clients = length self.old.clients.items; sinks = self.old.sinks; host = H.now host.old }) (record { parts = W.parts self.new.handle; clients = length self.new.clients.items; sinks = self.new.sinks; host = H.now host.new }) }
         ensures cause { IsCauseOf result (H.now host.old) (H.now host.new) }
     {
-        let rt = self.handle.rt();
-        for _ in rt.forever() {
+        loop {
             if let Err(stop) = self.accept_one(host) {
                 return stop;
             }
         }
-        unreachable!()
     }
 
     // Starts the worker of the next sink, of those that there are, where the host lets it. Where that can't be, the sink stays.
@@ -209,9 +208,7 @@ where
     fn join_sinks(&mut self, lone: &mut VecDeque<Lone<H::D, H::R>>)
         requires room { length self.old.sinks.items + length lone.old.items ≤ deque_capacity lone.old }
         ensures parts { W.parts self.new.handle ≡ W.parts self.old.handle + length self.old.sinks.items }
-        ensures starts { map start_of lone.new.items ≡ map start_of (self.old.sinks.items ++ lone.old.items) }
-        ensures boxes { map mailboxes_of lone.new.items ≡ map mailboxes_of (self.old.sinks.items ++ lone.old.items) }
-        ensures tapes { map tapes_in lone.new.items ≡ map tapes_in (self.old.sinks.items ++ lone.old.items) }
+        ensures kept { map kept_of lone.new.items ≡ map kept_of (self.old.sinks.items ++ lone.old.items) }
     {
         while let Some(run) = self.sinks.pop_back() {
             lone.push_front_reserved(run.join(&mut self.handle));
@@ -222,9 +219,7 @@ where
     fn join_all(&mut self, lone: &mut VecDeque<Lone<H::D, H::R>>)
         requires room { length self.old.sinks.items + length lone.old.items ≤ deque_capacity lone.old }
         ensures parts { W.parts self.new.handle ≡ W.parts self.old.handle + length self.old.sinks.items + length self.old.clients.items }
-        ensures starts { map start_of lone.new.items ≡ map start_of (self.old.sinks.items ++ lone.old.items) }
-        ensures boxes { map mailboxes_of lone.new.items ≡ map mailboxes_of (self.old.sinks.items ++ lone.old.items) }
-        ensures tapes { map tapes_in lone.new.items ≡ map tapes_in (self.old.sinks.items ++ lone.old.items) }
+        ensures kept { map kept_of lone.new.items ≡ map kept_of (self.old.sinks.items ++ lone.old.items) }
     {
         self.join_clients();
         self.handle.finish();
@@ -236,9 +231,7 @@ where
         requires parts { W.parts self.handle + length self.sinks.items + length self.clients.items ≡ 65552 }
         requires room { length self.sinks.items + length lone.old.items ≤ deque_capacity lone.old }
         ensures seats { W.parts result ≡ 65552 }
-        ensures starts { map start_of lone.new.items ≡ map start_of (self.sinks.items ++ lone.old.items) }
-        ensures boxes { map mailboxes_of lone.new.items ≡ map mailboxes_of (self.sinks.items ++ lone.old.items) }
-        ensures tapes { map tapes_in lone.new.items ≡ map tapes_in (self.sinks.items ++ lone.old.items) }
+        ensures kept { map kept_of lone.new.items ≡ map kept_of (self.sinks.items ++ lone.old.items) }
     {
         self.join_all(lone);
         self.handle
@@ -250,9 +243,7 @@ where
         requires seats { W.parts self.handle ≡ 65552 }
         requires few { length lone.old.items ≤ 16 }
         ensures seats { W.parts result.0 ≡ 65552 }
-        ensures starts { map start_of lone.new.items ≡ map start_of lone.old.items }
-        ensures boxes { map mailboxes_of lone.new.items ≡ map mailboxes_of lone.old.items }
-        ensures tapes { map tapes_in lone.new.items ≡ map tapes_in lone.old.items }
+        ensures kept { map kept_of lone.new.items ≡ map kept_of lone.old.items }
         ensures later { IsLater (H.now host.old) (H.now host.new) }
         ensures lent { (H.now host.new).lent ≡ (H.now host.old).lent }
         ensures cause { IsCauseOf result.1 (H.now host.old) (H.now host.new) }

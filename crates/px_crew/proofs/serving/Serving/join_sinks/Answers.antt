@@ -1,6 +1,6 @@
 use Rattle.std.proofs.Common.{rules, ◌≡◌, ◌∙◌, ◌++◌, ◌∷◌, []}
-use Rattle.px_crew.specs.Working.{start_of, mailboxes_of, tapes_in}
-use Rattle.px_crew.proofs.Joining.{joined_one}
+use Rattle.px_crew.specs.Working.{kept_of}
+use Rattle.px_crew.proofs.Joining.{joined_one, kept_on}
 use Rattle.px_crew.proofs.serving.Serving.join_sinks.Goals as goal
 
 pub loop-run-preserved : goal.loop-run-preserved
@@ -12,10 +12,6 @@ loop-run-preserved g c =
     record {
       parts = search rules;
       room = search rules;
-      starts = joined_one start_of c.loop-run.self.sinks.items c.pop_back.new.self.items c.loop-run.lone.items c.push_front_reserved.new.self.items given back behind front
-          c.join.ensures.goes.start ∙ c.loop-run.invariant.starts;
-      tapes = joined_one tapes_in c.loop-run.self.sinks.items c.pop_back.new.self.items c.loop-run.lone.items c.push_front_reserved.new.self.items given back behind front
-          c.join.ensures.goes.tapes ∙ c.loop-run.invariant.tapes;
-      boxes = joined_one mailboxes_of c.loop-run.self.sinks.items c.pop_back.new.self.items c.loop-run.lone.items c.push_front_reserved.new.self.items given back behind front
-          c.join.ensures.goes.boxes ∙ c.loop-run.invariant.boxes;
+      kept = joined_one kept_of c.loop-run.self.sinks.items c.pop_back.new.self.items c.loop-run.lone.items c.push_front_reserved.new.self.items given back behind front
+          (kept_on given back c.join.ensures.goes) ∙ c.loop-run.invariant.kept;
     }

@@ -1,15 +1,13 @@
 use Rattle.std.proofs.Common.{◌≡◌, ◌+◌, ◌≤◌, ◌++◌, length, map}
 use Rattle.std.specs.VecDeque.{deque_capacity}
-use Rattle.px_crew.specs.Working.{start_of, mailboxes_of, tapes_in}
+use Rattle.px_crew.specs.Working.{kept_of}
 use Rattle.px_crew.proofs.serving.Serving.join_sinks.Given as goal
 
 abbrev pub invariant-loop-run : goal.invariant-loop-run
 invariant-loop-run g l = record {
   parts : g.W.Handle.parts l.self.handle + length l.self.sinks.items ≡ g.W.Handle.parts l.fn.self.handle + length l.fn.self.sinks.items;
   room : length l.self.sinks.items + length l.lone.items ≤ deque_capacity l.lone;
-  starts : map start_of (l.self.sinks.items ++ l.lone.items) ≡ map start_of (l.fn.self.sinks.items ++ l.fn.lone.items);
-  tapes : map tapes_in (l.self.sinks.items ++ l.lone.items) ≡ map tapes_in (l.fn.self.sinks.items ++ l.fn.lone.items);
-  boxes : map mailboxes_of (l.self.sinks.items ++ l.lone.items) ≡ map mailboxes_of (l.fn.self.sinks.items ++ l.fn.lone.items);
+  kept : map kept_of (l.self.sinks.items ++ l.lone.items) ≡ map kept_of (l.fn.self.sinks.items ++ l.fn.lone.items);
 }
 
 -- how many are left

@@ -1,6 +1,6 @@
 use Rattle.std.proofs.Common.{rules, ◌≤◌, ◌∙◌, ap, length, map}
 use Rattle.std.specs.VecDeque.{deque_capacity}
-use Rattle.px_crew.specs.Working.{start_of, mailboxes_of, tapes_in}
+use Rattle.px_crew.specs.Working.{kept_of}
 use Rattle.px_crew.proofs.Accepting.{room_left}
 use Rattle.px_crew.proofs.serving.Serving.worked.Goals as goal
 
@@ -25,14 +25,8 @@ joined-requires-clause-room g c κs within =
 pub returns-clause-seats : goal.returns-clause-seats
 returns-clause-seats g c = c.joined.ensures.seats
 
-pub returns-clause-starts : goal.returns-clause-starts
-returns-clause-starts g c = c.joined.ensures.starts ∙ ap (map start_of) c.work-stop.ensures.all
-
-pub returns-clause-boxes : goal.returns-clause-boxes
-returns-clause-boxes g c = c.joined.ensures.boxes ∙ ap (map mailboxes_of) c.work-stop.ensures.all
-
-pub returns-clause-tapes : goal.returns-clause-tapes
-returns-clause-tapes g c = c.joined.ensures.tapes ∙ ap (map tapes_in) c.work-stop.ensures.all
+pub returns-clause-kept : goal.returns-clause-kept
+returns-clause-kept g c = c.joined.ensures.kept ∙ ap (map kept_of) c.work-stop.ensures.all
 
 pub returns-clause-later : goal.returns-clause-later
 returns-clause-later g c = c.work-stop.ensures.later
