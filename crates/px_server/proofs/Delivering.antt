@@ -2,8 +2,6 @@
 use Rattle.std.proofs.Common.{◌≡◌, ℕ, zero, suc, ◌+◌, List, [], ◌∷◌, ◌++◌, length, map, Option, None, Some, IfSome, refl, sym, subst, ap, ◌∙◌, arith}
 use Rattle.std.specs.Prelude.{slice_get, flat_map}
 use Rattle.std.specs.Option.{option_to_list}
-use Rattle.std.specs.Arc.{arc_value}
-use Rattle.crossbeam_queue.specs.Passes.{IsPassOf}
 use Rattle.std.proofs.lemmas.List.{append_assoc, map-append, length-map}
 use Rattle.px_types.specs.declared.ids.SinkId.{SinkId}
 use Rattle.px_annals.specs.declared.entry.CoreEntry.{CoreEntry}
@@ -40,7 +38,7 @@ use Rattle.px_server.specs.Delivered.{IsFrontOf, plain_message, plain_notice, Is
 use Rattle.px_crew.specs.declared.lone.Met.{Met}
 use Rattle.px_crew.specs.Working.{Start, start_at, start_of, Unworked, IsHonest}
 use Rattle.px_server.specs.Parts.{starts_from, worked, HasPlayed, IsPart, AreTold}
-use Rattle.px_server.specs.Mailboxes.{boxes_at, boxes_in}
+use Rattle.px_server.specs.Mailboxes.{boxes_in}
 
 -- ---- both sides see the same
 
@@ -126,17 +124,6 @@ closed_is began entries sink e device after (Some lane) posted taken held notice
 }
 
 -- ---- a cell whose mailboxes are closed with the core's ends of them
-
--- the core's passes are those of its mailboxes
-pub end_posts : (cell ends : LaneEnds) (end : CoreEnd) → ends ≡ cell → boxes_at cell ≡ boxes_of end → IsPassOf (arc_value end.inbox).queue end.post.pass
-    → IsPassOf (arc_value ends.boxes.inbox).queue end.post.pass
-end_posts cell ends end same boxes posts =
-    (posts.0 ∙ sym (ap (λ (b : Boxes). b.inbox) boxes) ∙ sym (ap (λ (e : LaneEnds). (boxes_at e).inbox) same), posts.1)
-
-pub end_takes : (cell ends : LaneEnds) (end : CoreEnd) → ends ≡ cell → boxes_at cell ≡ boxes_of end → IsPassOf (arc_value end.outbox).queue end.take.pass
-    → IsPassOf (arc_value ends.boxes.outbox).queue end.take.pass
-end_takes cell ends end same boxes takes =
-    (takes.0 ∙ sym (ap (λ (b : Boxes). b.outbox) boxes) ∙ sym (ap (λ (e : LaneEnds). (boxes_at e).outbox) same), takes.1)
 
 pub closed_by : {D E : Type 0} (now : D → DeviceState) (told : E → Option (List LaneEntry)) (cell : Cell D E) (ends : LaneEnds) (recorder : E)
     (began : State PlainStream) (entries : List CoreEntry) (sink : SinkId) (end : CoreEnd) (messages : List (Msg KeptStream)) (notices : List (Notice KeptStream))
@@ -228,10 +215,6 @@ pub told_one : {D E : Type 0} (began : State PlainStream) (core : Option (List C
 told_one began core left rest one ends more end front next told =
     subst (λ (l : List _). AreTold began core l (end ∷ more)) front (subst (AreTold began core left) next told)
 
-abbrev first_boxes : Boxes → List Boxes → Boxes
-first_boxes other [] = other
-first_boxes other (b ∷ boxes) = b
-
 abbrev other_boxes : List Boxes → List Boxes
 other_boxes [] = []
 other_boxes (b ∷ boxes) = boxes
@@ -240,14 +223,6 @@ both_fronts : {D E : Type 0} (left rest : List (Unworked D E)) (one : Unworked D
     → left ≡ one ∷ rest → ends ≡ end ∷ more → map boxes_in left ≡ map boxes_of ends → boxes_in one ∷ map boxes_in rest ≡ boxes_of end ∷ map boxes_of more
 both_fronts left rest one ends more end front next same = ap (map boxes_in) (sym front) ∙ same ∙ ap (map boxes_of) next
 
-pub boxes_front : {D E : Type 0} (left rest : List (Unworked D E)) (one : Unworked D E) (ends more : List CoreEnd) (end : CoreEnd)
-    → left ≡ one ∷ rest → ends ≡ end ∷ more → map boxes_in left ≡ map boxes_of ends → boxes_in one ≡ boxes_of end
-boxes_front left rest one ends more end front next same = ap (first_boxes (boxes_of end)) (both_fronts left rest one ends more end front next same)
-
 pub boxes_rest : {D E : Type 0} (left rest : List (Unworked D E)) (one : Unworked D E) (ends more : List CoreEnd) (end : CoreEnd)
     → left ≡ one ∷ rest → ends ≡ end ∷ more → map boxes_in left ≡ map boxes_of ends → map boxes_in rest ≡ map boxes_of more
 boxes_rest left rest one ends more end front next same = ap other_boxes (both_fronts left rest one ends more end front next same)
-
-pub boxes_none : {D E : Type 0} (left rest : List (Unworked D E)) (one : Unworked D E) (ends : List CoreEnd)
-    → left ≡ one ∷ rest → ends ≡ [] → map boxes_in left ≡ map boxes_of ends → ⊥
-boxes_none left rest one ends front none same = zero_suc (length rest) (sym (ap length none) ∙ sym (same_count boxes_in boxes_of left ends same) ∙ ap length front)

@@ -1,18 +1,25 @@
 -- What is made for a sink.
-use Rattle.std.specs.List.{AllByRecursion}
-use Rattle.std.proofs.Common.{◌≡◌, ℕ, Bool, true, ◌+◌, ◌≤◌, ◌++◌, ◌∷◌, [], List, length, map, Option, None, Some, IfSome, IsTrue, ap, sym, subst, ◌∙◌, arith, rules, length-append, append_assoc}
-use Rattle.std.proofs.lemmas.List.{map-append}
+use Rattle.std.proofs.Common.{◌≡◌, ℕ, Bool, true, ◌+◌, ◌≤◌, ◌++◌, ◌∷◌, [], List, length, map, Option, None, Some, IfSome, IsTrue, refl, ap, sym, subst, ◌∙◌, arith, rules, length-append, append_assoc}
+use Rattle.std.proofs.lemmas.List.{map-append, append-nil}
+use Rattle.px_types.specs.declared.ids.SinkId.{SinkId}
 use Rattle.px_annals.specs.declared.entry.LaneEntry.{LaneEntry}
 use Rattle.px_ends.specs.Device.{DeviceState}
 use Rattle.px_ends.specs.Host.{HostState, Lent}
 use Rattle.px_session.specs.declared.header.SinkSpec.{SinkSpec}
 use Rattle.px_lane.specs.Lane.{Mixer}
 use Rattle.px_lane_cell.specs.Cell.{Cell}
+use Rattle.px_core_cell.specs.declared.ends.CoreEnd.{CoreEnd}
+use Rattle.px_core_cell.specs.Boxes.{Boxes, boxes_of}
+use Rattle.px_core_cell.specs.Cell.{ends_of}
+use Rattle.px_core_cell.specs.History.{fresh_ends}
 use Rattle.px_crew.specs.declared.lone.Met.TheVariants.{Nothing}
 use Rattle.px_server.specs.Fresh.{IsFresh}
 use Rattle.px_server.specs.Hosted.{HasLent}
-use Rattle.px_crew.specs.Working.{Start, IsHonest}
-use Rattle.px_server.specs.Parts.{sink_for, Adds}
+use Rattle.px_crew.specs.Working.{Start, start_of, Unworked, IsHonest}
+use Rattle.px_server.specs.Mailboxes.{boxes_in}
+use Rattle.px_server.specs.Made.{IsMade, AreMade, AddsOne, AddsAll}
+use Rattle.px_server.specs.Parts.{sink_for, start_for, starts_from, Adds}
+use Rattle.px_server.specs.Taped.{AreTaping}
 
 -- a cell over what was made for a sink has met nothing
 pub fresh_honest : {D E : Type 0} (now : D → DeviceState) (told : E → Option (List LaneEntry)) (faults fulls : E → ℕ) (sink : SinkSpec) (device : D) (recorder : E) (cell : Cell D E)
@@ -43,26 +50,75 @@ pub lent_more : {D R C X : Type 0} (lone same more : List X) (one : X) (h : Host
 lent_more {X = X} lone same more one h is then = subst (λ (n : ℕ). HasLent n 0 h) (sym (ap length then ∙ length-append same (one ∷ []) ∙ ap (λ (l : List X). length l + 1) is))
 
 -- each item of a list by a function, with one more behind it
-pub map_one : {X Y : Type 0} (f : X → Y) (lone same more : List X) (one : X) (y : Y) → same ≡ lone → more ≡ same ++ one ∷ [] → f one ≡ y → map f more ≡ map f lone ++ y ∷ []
-map_one f lone same more one y is then so = ap (map f) then ∙ map-append f same (one ∷ []) ∙ ap (λ (l : List _). map f l ++ f one ∷ []) is ∙ ap (λ (z : _). map f lone ++ z ∷ []) so
+pub map_one : {X Y : Type 0} (f : X → Y) (lone more : List X) (one : X) (y : Y) → more ≡ lone ++ one ∷ [] → f one ≡ y → map f more ≡ map f lone ++ y ∷ []
+map_one f lone more one y then so = ap (map f) then ∙ map-append f lone (one ∷ []) ∙ ap (λ (z : _). map f lone ++ z ∷ []) so
 
--- one more that keeps its turns
-pub taping_one : (all : List Bool) (one : Bool) → AllByRecursion (λ on. on ≡ true) all → one ≡ true → AllByRecursion (λ on. on ≡ true) (all ++ one ∷ [])
-taping_one [] one none on = (on, tt)
-taping_one (first ∷ all) one those on = (those.0, taping_one all one those.1 on)
-
--- how the sink of an entry with this index begins
-abbrev pub begin : ℕ → SinkSpec → Start
-begin index s = record { index = record { 0 = index }; sink = sink_for s }
-
--- one more, and then the others
-pub map_then : {X Y : Type 0} (f : X → Y) (lone between after : List X) (y : Y) (others all : List Y)
-    → map f between ≡ map f lone ++ y ∷ [] → all ≡ y ∷ others → map f after ≡ map f between ++ others → map f after ≡ map f lone ++ all
-map_then f lone between after y others all one is then =
-    then ∙ ap (λ (l : List _). l ++ others) one ∙ append_assoc (map f lone) (y ∷ []) others ∙ ap (λ (l : List _). map f lone ++ l) (sym is)
-
--- and a front of the others
+-- one more, and then a front of the others
 pub adds_then : (before between after : List Start) (y : Start) (others all : List Start)
     → between ≡ before ++ y ∷ [] → all ≡ y ∷ others → Adds between others after → Adds before all after
 adds_then before between after y others all one is adds =
     (y ∷ adds.0, (adds.1.0, is ∙ ap (λ (l : List Start). y ∷ l) adds.1.1), adds.2 ∙ ap (λ (l : List Start). l ++ adds.0) one ∙ append_assoc before (y ∷ []) adds.0)
+
+module _ {D E : Type 0} (taped : Bool) where
+  -- what was reserved changes nothing
+  pub adds_same : (index : SinkId) (sink : SinkSpec) (lone same more : List (Unworked D E)) (ends same_ends more_ends : List CoreEnd) (one : Unworked D E) (end : CoreEnd)
+      → same ≡ lone → same_ends ≡ ends → more ≡ same ++ one ∷ [] → more_ends ≡ same_ends ++ end ∷ [] → IsMade taped index sink one end
+      → AddsOne taped index sink lone ends more more_ends
+  adds_same index sink lone same more ends same_ends more_ends one end is are then also made =
+      (one, end, made, then ∙ ap (λ (l : List (Unworked D E)). l ++ one ∷ []) is, also ∙ ap (λ (l : List CoreEnd). l ++ end ∷ []) are)
+
+  -- for no entry
+  pub adds_nothing : (index : ℕ) (sinks : List SinkSpec) (lone : List (Unworked D E)) (ends : List CoreEnd) → sinks ≡ [] → AddsAll taped index sinks lone ends lone ends
+  adds_nothing index sinks lone ends none =
+      subst (λ (l : List SinkSpec). AddsAll taped index l lone ends lone ends) (sym none) ([], [], (refl, refl), sym (append-nil lone), sym (append-nil ends))
+
+  -- one more, and then the others
+  pub adds_all : (index : ℕ) (sink : SinkSpec) (rest sinks : List SinkSpec) (lone between after : List (Unworked D E)) (ends between_ends after_ends : List CoreEnd)
+      → sinks ≡ sink ∷ rest → AddsOne taped (record { 0 = index }) sink lone ends between between_ends → AddsAll taped (index + 1) rest between between_ends after after_ends
+      → AddsAll taped index sinks lone ends after after_ends
+  adds_all index sink rest sinks lone between after ends between_ends after_ends cut one all =
+      subst (λ (l : List SinkSpec). AddsAll taped index l lone ends after after_ends) (sym cut) (
+        one.0 ∷ all.0,
+        one.1 ∷ all.1,
+        (one.2, all.2),
+        all.3 ∙ ap (λ (l : List (Unworked D E)). l ++ all.0) one.3 ∙ append_assoc lone (one.0 ∷ []) all.0,
+        all.4 ∙ ap (λ (l : List CoreEnd). l ++ all.1) one.4 ∙ append_assoc ends (one.1 ∷ []) all.1,
+      )
+
+  -- where none were there, they are all
+  pub made_all : (sinks : List SinkSpec) (lone more : List (Unworked D E)) (ends more_ends : List CoreEnd) → lone ≡ [] → ends ≡ [] → AddsAll taped 0 sinks lone ends more more_ends
+      → AreMade taped 0 sinks more more_ends
+  made_all sinks lone more ends more_ends none no_ends adds =
+      subst (λ (l : List (Unworked D E)). AreMade taped 0 sinks l more_ends) (sym (adds.3 ∙ ap (λ (l : List (Unworked D E)). l ++ adds.0) none))
+      (subst (AreMade taped 0 sinks adds.0) (sym (adds.4 ∙ ap (λ (l : List CoreEnd). l ++ adds.1) no_ends)) adds.2)
+
+  -- how they begin
+  pub starts_made : (index : ℕ) (sinks : List SinkSpec) (lone : List (Unworked D E)) (ends : List CoreEnd) → AreMade taped index sinks lone ends → map start_of lone ≡ starts_from index sinks
+  starts_made index [] lone ends made = ap (map start_of) made.0
+  starts_made index (s ∷ sinks) [] ends made = absurd made
+  starts_made index (s ∷ sinks) (one ∷ lone) [] made = absurd made
+  starts_made index (s ∷ sinks) (one ∷ lone) (end ∷ ends) made =
+      ap (λ (x : Start). x ∷ map start_of lone) made.0.start ∙ ap (λ (l : List Start). start_for (record { 0 = index }) s ∷ l) (starts_made (index + 1) sinks lone ends made.1)
+
+  -- what the core's ends are
+  pub ends_made : (index : ℕ) (sinks : List SinkSpec) (lone : List (Unworked D E)) (ends : List CoreEnd) → AreMade taped index sinks lone ends → map ends_of ends ≡ map fresh_ends sinks
+  ends_made index [] lone ends made = ap (map ends_of) made.1
+  ends_made index (s ∷ sinks) [] ends made = absurd made
+  ends_made index (s ∷ sinks) (one ∷ lone) [] made = absurd made
+  ends_made index (s ∷ sinks) (one ∷ lone) (end ∷ ends) made =
+      ap (λ (x : _). x ∷ map ends_of ends) made.0.fresh ∙ ap (λ (l : List _). fresh_ends s ∷ l) (ends_made (index + 1) sinks lone ends made.1)
+
+  -- both sides have the same mailboxes
+  pub boxes_made : (index : ℕ) (sinks : List SinkSpec) (lone : List (Unworked D E)) (ends : List CoreEnd) → AreMade taped index sinks lone ends → map boxes_in lone ≡ map boxes_of ends
+  boxes_made index [] lone ends made = ap (map boxes_in) made.0 ∙ sym (ap (map boxes_of) made.1)
+  boxes_made index (s ∷ sinks) [] ends made = absurd made
+  boxes_made index (s ∷ sinks) (one ∷ lone) [] made = absurd made
+  boxes_made index (s ∷ sinks) (one ∷ lone) (end ∷ ends) made =
+      ap (λ (b : Boxes). b ∷ map boxes_in lone) made.0.boxes ∙ ap (λ (l : List Boxes). boxes_of end ∷ l) (boxes_made (index + 1) sinks lone ends made.1)
+
+  -- with a tape all keep their turns
+  pub taping_made : (index : ℕ) (sinks : List SinkSpec) (lone : List (Unworked D E)) (ends : List CoreEnd) → taped ≡ true → AreMade taped index sinks lone ends → AreTaping lone
+  taping_made index [] lone ends on made = subst AreTaping (sym made.0) tt
+  taping_made index (s ∷ sinks) [] ends on made = absurd made
+  taping_made index (s ∷ sinks) (one ∷ lone) [] on made = absurd made
+  taping_made index (s ∷ sinks) (one ∷ lone) (end ∷ ends) on made = (made.0.tapes ∙ on, taping_made (index + 1) sinks lone ends on made.1)

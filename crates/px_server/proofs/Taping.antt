@@ -39,32 +39,14 @@ none_kept told before after t t' same kept taped =
     subst (λ (o : Option (List LaneEntry)). IfSome o (λ entries. length t'.turns ≡ length entries)) (sym same)
     (subst (λ (turns : List Turn). IfSome (told before) (λ entries. length turns ≡ length entries)) (sym kept) taped)
 
--- a sink that has made none
-pub none_made : {E : Type 0} (told : E → Option (List LaneEntry)) (recorder : E) (turns : Option Turns)
-    → IfSome (told recorder) (λ entries. entries ≡ []) → IfSome turns (λ t. t.turns ≡ []) → AreTaped told recorder turns
-none_made told recorder None unnoted none = tt
-none_made told recorder (Some t) unnoted none = empty (told recorder) unnoted where
-  empty : (o : Option (List LaneEntry)) → IfSome o (λ entries. entries ≡ []) → IfSome o (λ entries. length t.turns ≡ length entries)
-  empty None are = tt
-  empty (Some entries) are = ap length none ∙ sym (ap length are)
-
 -- ---- several sinks
 
 abbrev AreOn : List Bool → Type 0
 AreOn ons = AllByRecursion (λ on. on ≡ true) ons
 
-pub taping_none : {D E : Type 0} (lone : List (Unworked D E)) → lone ≡ [] → AreTaping lone
-taping_none lone none = subst AreTaping (sym none) tt
-
 -- sinks keep theirs where they did before
 pub taping_since : {D E : Type 0} (lone last : List (Unworked D E)) → map tapes_in last ≡ map tapes_in lone → AreTaping lone → AreTaping last
 taping_since lone last same all = subst AreOn (sym same) all
-
-pub taping_more : {D E : Type 0} (lone next : List (Unworked D E)) (one : Unworked D E) → next ≡ lone ++ one ∷ [] → is_some one.turns ≡ true → AreTaping lone → AreTaping next
-taping_more lone next one more on all = subst AreTaping (sym more) (behind lone all) where
-  behind : (lone : List (Unworked _ _)) → AreTaping lone → AreTaping (lone ++ one ∷ [])
-  behind [] all = (on, tt)
-  behind (u ∷ lone) all = (all.0, behind lone all.1)
 
 pub taping_first : {D E : Type 0} (left rest : List (Unworked D E)) (one : Unworked D E) → left ≡ one ∷ rest → AreTaping left → (is_some one.turns ≡ true) × AreTaping rest
 taping_first left rest one front all = subst AreTaping front all

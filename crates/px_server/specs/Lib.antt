@@ -4,5 +4,6 @@ pub mod Causes
 pub mod Delivered
 pub mod Parts
 pub mod Fresh
+pub mod Made
 pub mod Taped
 pub mod Serving

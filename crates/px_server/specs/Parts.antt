@@ -1,6 +1,7 @@
 -- What is left of a server's sinks.
 use Rattle.std.specs.Prelude.{◌≡◌, ℕ, ◌+◌, List, [], ◌∷◌, ◌++◌, Option, None, Some, IfSome, ⊤}
 use Rattle.std.specs.List.{concat}
+use Rattle.px_types.specs.declared.ids.SinkId.{SinkId}
 use Rattle.px_annals.specs.declared.entry.CoreEntry.{CoreEntry}
 use Rattle.px_annals.specs.declared.entry.LaneEntry.{LaneEntry}
 use Rattle.px_annals.specs.declared.stream.PlainStream.{PlainStream}
@@ -27,10 +28,14 @@ use Rattle.px_server.specs.Delivered.{IsDelivered}
 abbrev pub sink_for : SinkSpec → Sink
 sink_for s = empty_sink (sample_spec (SinkSpec.spec s)) (SinkSpec.guard s) (SinkSpec.depth s)
 
+-- how it begins, where the entry has this index
+abbrev pub start_for : SinkId → SinkSpec → Start
+start_for index s = record { index = index; sink = sink_for s }
+
 -- those of all entries, where the first has this index
 abbrev pub starts_from : ℕ → List SinkSpec → List Start
 starts_from index [] = []
-starts_from index (s ∷ sinks) = record { index = record { 0 = index }; sink = sink_for s } ∷ starts_from (index + 1) sinks
+starts_from index (s ∷ sinks) = start_for (record { 0 = index }) s ∷ starts_from (index + 1) sinks
 
 abbrev pub starts_of : List SinkSpec → List Start
 starts_of sinks = starts_from 0 sinks

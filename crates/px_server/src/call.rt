@@ -1,5 +1,5 @@
 //! The serving call.
-ghost use Rattle.std.specs.Prelude.{◌≡◌, ◌+◌, ◌≤◌, [], length, map, IfOk, IfErr, OnOk, IfSome, None, true, vec_capacity};
+ghost use Rattle.std.specs.Prelude.{◌≡◌, ◌+◌, ◌≤◌, [], length, map, IfOk, IfErr, OnOk, IfSome, None, vec_capacity};
 ghost use Rattle.px_annals.specs.declared.stream.PlainStream.{PlainStream};
 ghost use Rattle.px_session.specs.HeaderRules.{IsHeader};
 ghost use Rattle.px_state.specs.State.{State, new_state};
@@ -12,8 +12,8 @@ ghost use Rattle.px_crew.specs.Working.{start_of};
 ghost use Rattle.px_server.specs.Parts.{starts_of, unworked, AreParts, IsFrontOf};
 ghost use Rattle.px_server.specs.Serving.{IsServed};
 ghost use Rattle.px_server.specs.Causes.{undecided};
-ghost use Rattle.px_server.specs.Taped.{AreTaping, HasTape};
-ghost use Rattle.px_server.specs.Mailboxes.{boxes_in};
+ghost use Rattle.px_server.specs.Made.{AreMade};
+ghost use Rattle.px_server.specs.Taped.{HasTape};
 
 use crate::closing::run;
 use crate::left::hand_back;
@@ -103,10 +103,7 @@ fn make_outside<H: Host>(
     ensures lent { HasLent (length lone.new.items) 0 (H.now host.new) }
     ensures core_lent { OnOk result (HasLent (length lone.new.items) 1 (H.now host.new)) }
     ensures cause { IfErr result (λ stop. IsCauseOf stop (H.now host.old) (H.now host.new)) }
-    ensures made { OnOk result (map start_of lone.new.items ≡ starts_of header.now.sinks) }
-    ensures ends { OnOk result (map ends_of ends.new.items ≡ map fresh_ends header.now.sinks) }
-    ensures boxes { OnOk result (map boxes_in lone.new.items ≡ map boxes_of ends.new.items) }
-    ensures tapes { OnOk result (taped ≡ true → AreTaping lone.new.items) }
+    ensures made { OnOk result (AreMade taped 0 header.now.sinks lone.new.items ends.new.items) }
     ensures front { IsFrontOf (map start_of lone.new.items) (starts_of header.now.sinks) }
     ensures none { IfOk result (λ recorder. IfSome (H.C.told recorder) (λ entries. entries ≡ [])) }
 {
@@ -212,15 +209,12 @@ where
     requires parts { (blank.parts ≡ L.parts) × (L.parts ≡ 65552) × (L.all ≡ 65552) }
     requires began { L.began ≡ new_state header.now }
     requires boxes { map boxes_of made.ends.items ≡ L.boxes }
-    requires both { map boxes_in made.lone.items ≡ map boxes_of made.ends.items }
-    requires ends { map ends_of made.ends.items ≡ map fresh_ends header.now.sinks }
-    requires sinks { map start_of made.lone.items ≡ starts_of header.now.sinks }
+    requires made { AreMade taped 0 header.now.sinks made.lone.items made.ends.items }
     requires untold { IfSome (H.C.told made.recorder) (λ entries. entries ≡ []) }
     requires none { lanes.items ≡ [] }
     requires room { length made.lone.items ≤ vec_capacity lanes }
     requires no_turns { made.turns.items ≡ [] }
     requires turns_room { length made.lone.items ≤ vec_capacity made.turns }
-    requires taping { taped ≡ true → AreTaping made.lone.items }
     requires lent { HasLent (length made.lone.items) 1 (H.now host.old) }
     ensures served { IsServed H.C.told H.C.faults H.C.fulls H.D.now H.R.told H.R.faults H.R.fulls header.now (H.now host.old) (H.now host.new) result.status result.lanes.items result.core }
     ensures tape { HasTape H.R.told taped result.status result.lanes.items result.tape }

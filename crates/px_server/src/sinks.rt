@@ -1,8 +1,7 @@
 //! The sinks of a server: what the host makes for each, and their cells.
-ghost use Rattle.std.specs.Prelude.{◌≡◌, ℕ, ◌+◌, ◌≤◌, ◌<◌, ◌++◌, ◌∷◌, [], List, length, map, IfOk, IfErr, OnOk, OnErr, IfSome, true, vec_len, vec_capacity};
+ghost use Rattle.std.specs.Prelude.{◌≡◌, ℕ, ◌+◌, ◌≤◌, ◌<◌, ◌++◌, ◌∷◌, [], List, length, map, IfOk, IfErr, OnOk, OnErr, IfSome, vec_len, vec_capacity};
 ghost use Rattle.std.specs.Option.{is_some};
 ghost use Rattle.std.specs.VecDeque.{deque_len, deque_capacity};
-ghost use Rattle.px_ends.specs.Host.{IsNewDevice, IsNewRecorder};
 ghost use Rattle.px_ends.specs.Device.{IsShape};
 ghost use Rattle.px_sample.specs.Format.{frame_size_of};
 ghost use Rattle.px_session.specs.HeaderRules.{IsSink, AreSinks, IsHeader};
@@ -14,11 +13,11 @@ ghost use Rattle.px_core_cell.specs.History.{fresh_ends};
 ghost use Rattle.px_crew.specs.Hosted.{IsLater, IsCauseOf};
 ghost use Rattle.px_server.specs.Hosted.{stop_by, HasLent};
 ghost use Rattle.px_crew.specs.declared.lone.Met.TheVariants.{Nothing};
-ghost use Rattle.px_crew.specs.Working.{start_of, IsHonest, tapes_in};
+ghost use Rattle.px_crew.specs.Working.{start_of, IsHonest};
 ghost use Rattle.px_server.specs.Parts.{sink_for, starts_of, starts_from, IsFrontOf, Adds};
 ghost use Rattle.px_server.specs.Fresh.{IsFresh};
-ghost use Rattle.px_server.specs.Mailboxes.{boxes_at, boxes_in};
-ghost use Rattle.px_server.specs.Taped.{AreTaping};
+ghost use Rattle.px_server.specs.Mailboxes.{boxes_at};
+ghost use Rattle.px_server.specs.Made.{IsMade, AreMade, AddsOne, AddsAll};
 
 use crate::served::stop_by;
 use px_annals::{LaneEntry, Recorder};
@@ -155,10 +154,7 @@ fn new_lone<H: Host>(
     ensures lent { OnOk result ((n : ℕ) → HasLent n 0 (H.now host.old) → HasLent (n + 1) 0 (H.now host.new)) }
     ensures kept { OnErr result ((n : ℕ) → HasLent n 0 (H.now host.old) → HasLent n 0 (H.now host.new)) }
     ensures cause { IfErr result (λ stop. IsCauseOf stop (H.now host.old) (H.now host.new)) }
-    ensures start { IfOk result (λ made. start_of made.0 ≡ record { index = index; sink = sink_for sink.now }) }
-    ensures core { IfOk result (λ made. ends_of made.1 ≡ fresh_ends sink.now) }
-    ensures boxes { IfOk result (λ made. boxes_in made.0 ≡ boxes_of made.1) }
-    ensures tapes { IfOk result (λ made. tapes_in made.0 ≡ taped) }
+    ensures made { IfOk result (λ made. IsMade taped index sink.now made.0 made.1) }
 {
     let (device, recorder) = match outside(alloc, sink, host) {
         Ok(made) => made,
@@ -216,10 +212,7 @@ fn make_one<H: Host>(
     ensures later { IsLater (H.now host.old) (H.now host.new) }
     ensures lent { HasLent (length lone.old.items) 0 (H.now host.old) → HasLent (length lone.new.items) 0 (H.now host.new) }
     ensures cause { IfErr result (λ stop. IsCauseOf stop (H.now host.old) (H.now host.new)) }
-    ensures made { OnOk result (map start_of lone.new.items ≡ map start_of lone.old.items ++ (record { index = record { 0 = index }; sink = sink_for sink.now }) ∷ []) }
-    ensures ends { OnOk result (map ends_of ends.new.items ≡ map ends_of ends.old.items ++ fresh_ends sink.now ∷ []) }
-    ensures boxes { OnOk result (map boxes_in lone.old.items ≡ map boxes_of ends.old.items → map boxes_in lone.new.items ≡ map boxes_of ends.new.items) }
-    ensures tapes { OnOk result (taped ≡ true → AreTaping lone.old.items → AreTaping lone.new.items) }
+    ensures made { OnOk result (AddsOne taped (record { 0 = index }) sink.now lone.old.items ends.old.items lone.new.items ends.new.items) }
     ensures stays { OnErr result (lone.new.items ≡ lone.old.items) }
 {
     let Ok(()) = reserve_one(lone, ends) else {
@@ -245,10 +238,7 @@ fn make_from<H: Host>(
     ensures later { IsLater (H.now host.old) (H.now host.new) }
     ensures lent { HasLent (length lone.old.items) 0 (H.now host.old) → HasLent (length lone.new.items) 0 (H.now host.new) }
     ensures cause { IfErr result (λ stop. IsCauseOf stop (H.now host.old) (H.now host.new)) }
-    ensures made { OnOk result (map start_of lone.new.items ≡ map start_of lone.old.items ++ starts_from index sinks.now) }
-    ensures ends { OnOk result (map ends_of ends.new.items ≡ map ends_of ends.old.items ++ map fresh_ends sinks.now) }
-    ensures boxes { OnOk result (map boxes_in lone.old.items ≡ map boxes_of ends.old.items → map boxes_in lone.new.items ≡ map boxes_of ends.new.items) }
-    ensures tapes { OnOk result (taped ≡ true → AreTaping lone.old.items → AreTaping lone.new.items) }
+    ensures made { OnOk result (AddsAll taped index sinks.now lone.old.items ends.old.items lone.new.items ends.new.items) }
     ensures front { Adds (map start_of lone.old.items) (starts_from index sinks.now) (map start_of lone.new.items) }
 {
     match sinks.split_first() {
@@ -274,10 +264,7 @@ pub(crate) fn make_all<H: Host>(
     ensures later { IsLater (H.now host.old) (H.now host.new) }
     ensures lent { HasLent 0 0 (H.now host.old) → HasLent (length lone.new.items) 0 (H.now host.new) }
     ensures cause { IfErr result (λ stop. IsCauseOf stop (H.now host.old) (H.now host.new)) }
-    ensures made { OnOk result (map start_of lone.new.items ≡ starts_of header.now.sinks) }
-    ensures ends { OnOk result (map ends_of ends.new.items ≡ map fresh_ends header.now.sinks) }
-    ensures boxes { OnOk result (map boxes_in lone.new.items ≡ map boxes_of ends.new.items) }
-    ensures tapes { OnOk result (taped ≡ true → AreTaping lone.new.items) }
+    ensures made { OnOk result (AreMade taped 0 header.now.sinks lone.new.items ends.new.items) }
     ensures front { IsFrontOf (map start_of lone.new.items) (starts_of header.now.sinks) }
 {
     make_from(alloc, taped, 0, header.sinks.as_slice(), host, lone, ends)

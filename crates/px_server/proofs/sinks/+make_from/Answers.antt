@@ -1,11 +1,10 @@
-use Rattle.std.proofs.Common.{rules, ◌≡◌, ◌+◌, ◌∷◌, map, ap, refl}
+use Rattle.std.proofs.Common.{rules, ◌≡◌, ◌+◌, ◌∷◌, length, map, ap, refl}
+use Rattle.std.proofs.lemmas.List.{nil_from_length}
 use Rattle.std.proofs.lemmas.Result.{on_ok_weaker, err_from_is_err_and}
-use Rattle.px_core_cell.specs.Cell.{ends_of}
-use Rattle.px_core_cell.specs.History.{fresh_ends}
 use Rattle.px_crew.specs.Working.{start_of}
-use Rattle.px_server.specs.Parts.{starts_from}
+use Rattle.px_server.specs.Parts.{start_for, starts_from}
 use Rattle.px_crew.proofs.Later.{later_refl, later_later}
-use Rattle.px_server.proofs.Making.{begin, map_then, adds_then}
+use Rattle.px_server.proofs.Making.{map_one, adds_then, adds_nothing, adds_all}
 use Rattle.px_server.proofs.Parts.{adds_none}
 use Rattle.px_server.proofs.sinks.+make_from.Goals as goal
 
@@ -18,11 +17,10 @@ returns-in-None-clause-lent g n c = λ lent. lent
 pub returns-in-None-clause-cause : goal.returns-in-None-clause-cause
 returns-in-None-clause-cause g n c = tt
 
-pub returns-in-None-clause-boxes : goal.returns-in-None-clause-boxes
-returns-in-None-clause-boxes g n c = λ so. so
-
-pub returns-in-None-clause-tapes : goal.returns-in-None-clause-tapes
-returns-in-None-clause-tapes g n c = λ on all. all
+pub returns-in-None-clause-made : goal.returns-in-None-clause-made
+returns-in-None-clause-made g n c =
+    let none : length c.args.sinks.now ≡ 0 = search rules in
+    adds_nothing c.args.taped c.args.index c.args.sinks.now c.args.lone.now.items c.args.ends.now.items (nil_from_length c.args.sinks.now none)
 
 pub returns-in-None-clause-front : goal.returns-in-None-clause-front
 returns-in-None-clause-front g n c = adds_none start_of c.args.lone.now.items c.args.lone.now.items (starts_from c.args.index c.args.sinks.now) refl
@@ -32,6 +30,9 @@ returns-in_err-make_one-in-Some-clause-later g n c = c.in_err-make_one-in-Some.e
 
 pub returns-in_err-make_one-in-Some-clause-lent : goal.returns-in_err-make_one-in-Some-clause-lent
 returns-in_err-make_one-in-Some-clause-lent g n c = c.in_err-make_one-in-Some.ensures.lent
+
+pub returns-in_err-make_one-in-Some-clause-made : goal.returns-in_err-make_one-in-Some-clause-made
+returns-in_err-make_one-in-Some-clause-made g n c = let p = err_from_is_err_and c.from_residual.result c.from_residual.ensures.1 in rw (p.1) tt
 
 pub returns-in_err-make_one-in-Some-clause-front : goal.returns-in_err-make_one-in-Some-clause-front
 returns-in_err-make_one-in-Some-clause-front g n c = adds_none start_of c.args.lone.now.items c.make_one.new.lone.items (starts_from c.args.index c.args.sinks.now) c.in_err-make_one-in-Some.ensures.stays
@@ -46,36 +47,16 @@ pub returns-in_ok-make_one-in-Some-clause-made : goal.returns-in_ok-make_one-in-
 returns-in_ok-make_one-in-Some-clause-made g n c =
     let cut : c.args.sinks.now ≡ c.in-Some.first.now ∷ c.in-Some.rest.now = search rules in
     on_ok_weaker c.make_from.result
-    (map_then start_of c.args.lone.now.items c.make_one.new.lone.items c.make_from.new.lone.items (begin c.args.index c.in-Some.first.now) (starts_from (c.args.index + 1) c.in-Some.rest.now) (starts_from c.args.index c.args.sinks.now) c.in_ok-make_one-in-Some.ensures.made (ap (starts_from c.args.index) cut))
+    (adds_all c.args.taped c.args.index c.in-Some.first.now c.in-Some.rest.now c.args.sinks.now
+    c.args.lone.now.items c.make_one.new.lone.items c.make_from.new.lone.items c.args.ends.now.items c.make_one.new.ends.items c.make_from.new.ends.items
+    cut c.in_ok-make_one-in-Some.ensures.made)
     c.make_from.ensures.made
-
-pub returns-in_ok-make_one-in-Some-clause-ends : goal.returns-in_ok-make_one-in-Some-clause-ends
-returns-in_ok-make_one-in-Some-clause-ends g n c =
-    let cut : c.args.sinks.now ≡ c.in-Some.first.now ∷ c.in-Some.rest.now = search rules in
-    on_ok_weaker c.make_from.result
-    (map_then ends_of c.args.ends.now.items c.make_one.new.ends.items c.make_from.new.ends.items (fresh_ends c.in-Some.first.now) (map fresh_ends c.in-Some.rest.now) (map fresh_ends c.args.sinks.now) c.in_ok-make_one-in-Some.ensures.ends (ap (map fresh_ends) cut))
-    c.make_from.ensures.ends
-
-pub returns-in_ok-make_one-in-Some-clause-boxes : goal.returns-in_ok-make_one-in-Some-clause-boxes
-returns-in_ok-make_one-in-Some-clause-boxes g n c = on_ok_weaker c.make_from.result (λ then so. then (c.in_ok-make_one-in-Some.ensures.boxes so)) c.make_from.ensures.boxes
-
-pub returns-in_ok-make_one-in-Some-clause-tapes : goal.returns-in_ok-make_one-in-Some-clause-tapes
-returns-in_ok-make_one-in-Some-clause-tapes g n c = on_ok_weaker c.make_from.result (λ then on all. then on (c.in_ok-make_one-in-Some.ensures.tapes on all)) c.make_from.ensures.tapes
 
 pub returns-in_ok-make_one-in-Some-clause-front : goal.returns-in_ok-make_one-in-Some-clause-front
 returns-in_ok-make_one-in-Some-clause-front g n c =
     let cut : c.args.sinks.now ≡ c.in-Some.first.now ∷ c.in-Some.rest.now = search rules in
-    adds_then (map start_of c.args.lone.now.items) (map start_of c.make_one.new.lone.items) (map start_of c.make_from.new.lone.items) (begin c.args.index c.in-Some.first.now) (starts_from (c.args.index + 1) c.in-Some.rest.now) (starts_from c.args.index c.args.sinks.now)
-    c.in_ok-make_one-in-Some.ensures.made (ap (starts_from c.args.index) cut) c.make_from.ensures.front
-
-pub returns-in_err-make_one-in-Some-clause-boxes : goal.returns-in_err-make_one-in-Some-clause-boxes
-returns-in_err-make_one-in-Some-clause-boxes g n c = let p = err_from_is_err_and c.from_residual.result c.from_residual.ensures.1 in rw (p.1) tt
-
-pub returns-in_err-make_one-in-Some-clause-ends : goal.returns-in_err-make_one-in-Some-clause-ends
-returns-in_err-make_one-in-Some-clause-ends g n c = let p = err_from_is_err_and c.from_residual.result c.from_residual.ensures.1 in rw (p.1) tt
-
-pub returns-in_err-make_one-in-Some-clause-made : goal.returns-in_err-make_one-in-Some-clause-made
-returns-in_err-make_one-in-Some-clause-made g n c = let p = err_from_is_err_and c.from_residual.result c.from_residual.ensures.1 in rw (p.1) tt
-
-pub returns-in_err-make_one-in-Some-clause-tapes : goal.returns-in_err-make_one-in-Some-clause-tapes
-returns-in_err-make_one-in-Some-clause-tapes g n c = let p = err_from_is_err_and c.from_residual.result c.from_residual.ensures.1 in rw (p.1) tt
+    let one = c.in_ok-make_one-in-Some.ensures.made in
+    adds_then (map start_of c.args.lone.now.items) (map start_of c.make_one.new.lone.items) (map start_of c.make_from.new.lone.items)
+    (start_for (record { 0 = c.args.index }) c.in-Some.first.now) (starts_from (c.args.index + 1) c.in-Some.rest.now) (starts_from c.args.index c.args.sinks.now)
+    (map_one start_of c.args.lone.now.items c.make_one.new.lone.items one.0 (start_for (record { 0 = c.args.index }) c.in-Some.first.now) one.3 one.2.start)
+    (ap (starts_from c.args.index) cut) c.make_from.ensures.front

@@ -1,12 +1,6 @@
-use Rattle.std.proofs.Common.{◌≡◌, ◌∙◌, ◌++◌, ◌∷◌, [], true, map, ap, sym, subst, refl}
-use Rattle.std.specs.List.{AllByRecursion}
 use Rattle.std.proofs.lemmas.Result.{err_from_is_err_and}
-use Rattle.px_core_cell.specs.Boxes.{boxes_of}
-use Rattle.px_core_cell.specs.Cell.{ends_of}
-use Rattle.px_crew.specs.Working.{start_of, tapes_in}
-use Rattle.px_server.specs.Mailboxes.{boxes_in}
 use Rattle.px_crew.proofs.Later.{later_refl}
-use Rattle.px_server.proofs.Making.{lent_as, lent_more, map_one, taping_one}
+use Rattle.px_server.proofs.Making.{lent_as, lent_more, adds_same}
 use Rattle.px_server.proofs.sinks.make_one.Goals as goal
 
 pub add_one-requires-clause-room : goal.add_one-requires-clause-room
@@ -14,42 +8,6 @@ add_one-requires-clause-room g c = c.in-Ok.ensures.room
 
 pub add_one-requires-clause-ends_room : goal.add_one-requires-clause-ends_room
 add_one-requires-clause-ends_room g c = c.in-Ok.ensures.ends_room
-
-pub returns-in_default-clause-made : goal.returns-in_default-clause-made
-returns-in_default-clause-made g c = tt
-
-pub returns-in_err-one-clause-made : goal.returns-in_err-one-clause-made
-returns-in_err-one-clause-made g c = let p = err_from_is_err_and c.from_residual.result c.from_residual.ensures.1 in rw (p.1) tt
-
-pub returns-in_default-clause-ends : goal.returns-in_default-clause-ends
-returns-in_default-clause-ends g c = tt
-
-pub returns-in_err-one-clause-ends : goal.returns-in_err-one-clause-ends
-returns-in_err-one-clause-ends g c = let p = err_from_is_err_and c.from_residual.result c.from_residual.ensures.1 in rw (p.1) tt
-
-pub returns-in_default-clause-boxes : goal.returns-in_default-clause-boxes
-returns-in_default-clause-boxes g c = tt
-
-pub returns-in_err-one-clause-boxes : goal.returns-in_err-one-clause-boxes
-returns-in_err-one-clause-boxes g c = let p = err_from_is_err_and c.from_residual.result c.from_residual.ensures.1 in rw (p.1) tt
-
-pub returns-in_default-clause-tapes : goal.returns-in_default-clause-tapes
-returns-in_default-clause-tapes g c = tt
-
-pub returns-in_err-one-clause-tapes : goal.returns-in_err-one-clause-tapes
-returns-in_err-one-clause-tapes g c = let p = err_from_is_err_and c.from_residual.result c.from_residual.ensures.1 in rw (p.1) tt
-
-pub returns-in_default-clause-stays : goal.returns-in_default-clause-stays
-returns-in_default-clause-stays g c = c.reserve_one.ensures.lone
-
-pub returns-in_err-one-clause-stays : goal.returns-in_err-one-clause-stays
-returns-in_err-one-clause-stays g c = let p = err_from_is_err_and c.from_residual.result c.from_residual.ensures.1 in rw (p.1) c.reserve_one.ensures.lone
-
-pub returns-clause-cause : goal.returns-clause-cause
-returns-clause-cause g c = tt
-
-pub returns-clause-stays : goal.returns-clause-stays
-returns-clause-stays g c = tt
 
 pub returns-in_default-clause-later : goal.returns-in_default-clause-later
 returns-in_default-clause-later g c = later_refl (g.H.Host.now c.args.host.now)
@@ -60,12 +18,24 @@ returns-in_default-clause-lent g c = lent_as c.args.lone.now.items c.reserve_one
 pub returns-in_default-clause-cause : goal.returns-in_default-clause-cause
 returns-in_default-clause-cause g c = tt
 
+pub returns-in_default-clause-made : goal.returns-in_default-clause-made
+returns-in_default-clause-made g c = tt
+
+pub returns-in_default-clause-stays : goal.returns-in_default-clause-stays
+returns-in_default-clause-stays g c = c.reserve_one.ensures.lone
+
 pub returns-in_err-one-clause-later : goal.returns-in_err-one-clause-later
 returns-in_err-one-clause-later g c = c.new_lone.ensures.later
 
 pub returns-in_err-one-clause-lent : goal.returns-in_err-one-clause-lent
 returns-in_err-one-clause-lent g c = λ lent.
     lent_as c.args.lone.now.items c.reserve_one.new.lone.items (g.H.Host.now c.new_lone.new.host) c.reserve_one.ensures.lone (c.in_err-one.ensures.kept _ lent)
+
+pub returns-in_err-one-clause-made : goal.returns-in_err-one-clause-made
+returns-in_err-one-clause-made g c = let p = err_from_is_err_and c.from_residual.result c.from_residual.ensures.1 in rw (p.1) tt
+
+pub returns-in_err-one-clause-stays : goal.returns-in_err-one-clause-stays
+returns-in_err-one-clause-stays g c = let p = err_from_is_err_and c.from_residual.result c.from_residual.ensures.1 in rw (p.1) c.reserve_one.ensures.lone
 
 pub returns-clause-later : goal.returns-clause-later
 returns-clause-later g c = c.new_lone.ensures.later
@@ -75,24 +45,14 @@ returns-clause-lent g c = λ lent.
     lent_more c.args.lone.now.items c.reserve_one.new.lone.items c.add_one.new.lone.items _ (g.H.Host.now c.new_lone.new.host) c.reserve_one.ensures.lone c.add_one.ensures.lone
     (c.in_ok-one.ensures.lent _ lent)
 
+pub returns-clause-cause : goal.returns-clause-cause
+returns-clause-cause g c = tt
+
 pub returns-clause-made : goal.returns-clause-made
 returns-clause-made g c =
-    map_one start_of c.args.lone.now.items c.reserve_one.new.lone.items c.add_one.new.lone.items _ _ c.reserve_one.ensures.lone c.add_one.ensures.lone
-    c.in_ok-one.ensures.start
+    adds_same c.args.taped (record { 0 = c.args.index }) c.args.sink.now
+    c.args.lone.now.items c.reserve_one.new.lone.items c.add_one.new.lone.items c.args.ends.now.items c.reserve_one.new.ends.items c.add_one.new.ends.items _ _
+    c.reserve_one.ensures.lone c.reserve_one.ensures.ends c.add_one.ensures.lone c.add_one.ensures.ends c.in_ok-one.ensures.made
 
-pub returns-clause-ends : goal.returns-clause-ends
-returns-clause-ends g c =
-    map_one ends_of c.args.ends.now.items c.reserve_one.new.ends.items c.add_one.new.ends.items c.in_ok-one.core _ c.reserve_one.ensures.ends c.add_one.ensures.ends c.in_ok-one.ensures.core
-
-pub returns-clause-boxes : goal.returns-clause-boxes
-returns-clause-boxes g c = λ so.
-    map_one boxes_in c.args.lone.now.items c.reserve_one.new.lone.items c.add_one.new.lone.items _ (boxes_of c.in_ok-one.core) c.reserve_one.ensures.lone c.add_one.ensures.lone
-    c.in_ok-one.ensures.boxes
-    ∙ ap (λ (l : _). l ++ boxes_of c.in_ok-one.core ∷ []) so
-    ∙ sym (map_one boxes_of c.args.ends.now.items c.reserve_one.new.ends.items c.add_one.new.ends.items c.in_ok-one.core (boxes_of c.in_ok-one.core) c.reserve_one.ensures.ends c.add_one.ensures.ends refl)
-
-pub returns-clause-tapes : goal.returns-clause-tapes
-returns-clause-tapes g c = λ on all.
-    subst (AllByRecursion (λ (b : _). b ≡ true))
-    (sym (map_one tapes_in c.args.lone.now.items c.reserve_one.new.lone.items c.add_one.new.lone.items _ c.args.taped c.reserve_one.ensures.lone c.add_one.ensures.lone c.in_ok-one.ensures.tapes))
-    (taping_one (map tapes_in c.args.lone.now.items) c.args.taped all on)
+pub returns-clause-stays : goal.returns-clause-stays
+returns-clause-stays g c = tt

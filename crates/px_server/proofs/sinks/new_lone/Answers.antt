@@ -37,14 +37,10 @@ returns-clause-later g c = c.outside.ensures.later
 pub returns-clause-lent : goal.returns-clause-lent
 returns-clause-lent g c = c.in-Ok.ensures.lent
 
-pub returns-clause-start : goal.returns-clause-start
-returns-clause-start g c = ap start_of c.new-lone.ensures ∙ ap (λ (s : _). begun c.args.index (unturned s)) c.in-Ok-cell_of.ensures.sink
-
-pub returns-clause-core : goal.returns-clause-core
-returns-clause-core g c = c.in-Ok-cell_of.ensures.core
-
-pub returns-clause-boxes : goal.returns-clause-boxes
-returns-clause-boxes g c = ap boxes_in c.new-lone.ensures ∙ c.in-Ok-cell_of.ensures.boxes
-
-pub returns-clause-tapes : goal.returns-clause-tapes
-returns-clause-tapes g c = ap tapes_in c.new-lone.ensures ∙ c.turns_of.ensures.tapes
+pub returns-clause-made : goal.returns-clause-made
+returns-clause-made g c = record {
+  start = ap start_of c.new-lone.ensures ∙ ap (λ (s : _). begun c.args.index (unturned s)) c.in-Ok-cell_of.ensures.sink;
+  fresh = c.in-Ok-cell_of.ensures.core;
+  boxes = ap boxes_in c.new-lone.ensures ∙ c.in-Ok-cell_of.ensures.boxes;
+  tapes = ap tapes_in c.new-lone.ensures ∙ c.turns_of.ensures.tapes;
+}
