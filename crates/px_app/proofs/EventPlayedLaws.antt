@@ -1,11 +1,8 @@
 -- What an event that the world has done leaves, once its records are written.
-use Rattle.std.proofs.Common.{◌≡◌, ◌≢◌, inl, ℕ, List, Option, None, Some, Result, Ok, Err, IfErr, refl, ap, subst, ◌∙◌}
+use Rattle.std.proofs.Common.{◌≡◌, ◌≢◌, inl, ℕ, List, Option, None, Some, refl, ap, subst, ◌∙◌}
 use Rattle.px_ends.specs.Told.{after_adding}
 use Rattle.px_ends.specs.Whole.{AddsFront}
 use Rattle.px_session.specs.declared.event.Event.{Event}
-use Rattle.px_session.specs.declared.fault.ReadError.{ReadError}
-use Rattle.px_session.specs.declared.fault.ReadError.TheVariants as error
-use Rattle.px_session.specs.Held.{FailsCount}
 use Rattle.px_world.specs.declared.fault.WorldFault.{WorldFault}
 use Rattle.px_world.specs.declared.fault.WorldFault.TheVariants.{Live, NotLive, NoSink, Worn, TooMany, NoMemory}
 use Rattle.px_world.specs.World.{World}
@@ -15,11 +12,9 @@ use Rattle.px_world.specs.Event.{world_after}
 use Rattle.px_app.specs.declared.refusal.Refusal.{Refusal}
 use Rattle.px_app.specs.declared.refusal.Why.TheVariants as why
 use Rattle.px_app.specs.Refusal.{number_of}
-use Rattle.px_app.specs.declared.ending.Ending.{Ending}
-use Rattle.px_app.specs.declared.ending.Ending.TheVariants as ending
 use Rattle.px_app.specs.declared.view.Lens.{Lens}
 use Rattle.px_app.specs.View.{part_of}
-use Rattle.px_app.specs.Step.{unread, Closes, EndReads, StepReads, barred, IsEventEnd, EventDone, EventCut, EventEnds}
+use Rattle.px_app.specs.Step.{barred, EventDone, EventCut, EventEnds}
 
 abbrev barred_so : ℕ → WorldFault → ℕ → Refusal
 barred_so at fault number = record { at = at; why = why.World fault number }
@@ -40,38 +35,3 @@ event_barred NotLive at number l w e held same refused = (NotLive, refused (λ (
 event_barred NoSink at number l w e held same refused = (NoSink, refused (λ (f : NoSink ≡ NoMemory). cc), ap (λ (n : ℕ). barred_so at NoSink n) same, refl)
 event_barred Worn at number l w e held same refused = (Worn, refused (λ (f : Worn ≡ NoMemory). cc), ap (λ (n : ℕ). barred_so at Worn n) same, refl)
 event_barred (TooMany asked there) at number l w e held same refused = (TooMany asked there, refused (λ (f : TooMany asked there ≡ NoMemory). cc), ap (λ (n : ℕ). barred_so at (TooMany asked there) n) same, refl)
-
-pub barred_end : (fault : WorldFault) (at number : ℕ) → IsEventEnd (barred at number fault)
-barred_end NoMemory at number = tt
-barred_end Live at number = tt
-barred_end NotLive at number = tt
-barred_end NoSink at number = tt
-barred_end Worn at number = tt
-barred_end (TooMany asked there) at number = tt
-
--- ---- counts
-
--- nothing was read
-pub event_reads : (result : Result Unit Ending) (before now : ℕ) → now ≡ before → IfErr result IsEventEnd → StepReads result before now
-event_reads (Ok done) before now same is = same
-event_reads (Err ending.Memory) before now same is = same
-event_reads (Err (ending.Refused refusal)) before now same is = same
-event_reads (Err ending.Done) before now same is = absurd is
-event_reads (Err ending.Usage) before now same is = absurd is
-event_reads (Err ending.ReadFault) before now same is = absurd is
-event_reads (Err ending.WriteFault) before now same is = absurd is
-event_reads (Err ending.NoSuchSink) before now same is = absurd is
-
-pub close_reads : (ended : Ending) (part : List ℕ) (held after : Option (List ℕ)) (before now : ℕ) → now ≡ before → Closes ended part held after → EndReads ended before now
-close_reads ending.Done part held after before now same closes = same
-close_reads ending.Memory part held after before now same closes = same
-close_reads (ending.Refused refusal) part held after before now same closes = absurd closes
-close_reads ending.Usage part held after before now same closes = absurd closes
-close_reads ending.ReadFault part held after before now same closes = absurd closes
-close_reads ending.WriteFault part held after before now same closes = absurd closes
-close_reads ending.NoSuchSink part held after before now same closes = absurd closes
-
-pub unread_reads : (e : ReadError) (before now : ℕ) → FailsCount e before now → EndReads (unread e) before now
-unread_reads error.Failed before now counts = counts
-unread_reads error.NoMemory before now counts = counts
-unread_reads (error.Refused at cause) before now counts = counts

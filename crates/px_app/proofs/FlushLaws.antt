@@ -1,9 +1,8 @@
 -- What waits is written, or a front of it.
-use Rattle.std.proofs.Common.{◌≡◌, inl, inr, ℕ, List, [], ◌++◌, true, false, Option, None, Some, Result, Ok, Err, OnOk, OnErr, is_ok, is_err, refl, sym, ap, subst, ◌∙◌, append_assoc}
 use Rattle.std.proofs.lemmas.Bool.{false≢true}
+use Rattle.std.proofs.Common.{◌≡◌, inl, inr, ℕ, List, [], ◌++◌, true, false, Option, None, Some, Result, Ok, Err, OnOk, OnErr, is_ok, is_err, refl, sym, ap, subst, ◌∙◌, append_assoc}
 use Rattle.std.proofs.lemmas.List.{append_cancel_left}
 use Rattle.std.proofs.lemmas.Option.{same_Some}
-use Rattle.px_types.specs.Faults.{Rose}
 use Rattle.px_ends.specs.Told.{after_adding}
 use Rattle.px_ends.specs.Whole.{AddsFront}
 use Rattle.px_ends.specs.declared.whole.WriteFailed.{WriteFailed}
@@ -18,8 +17,8 @@ use Rattle.px_pieces.specs.Pieces.{Waiting}
 use Rattle.px_app.specs.declared.playing.Playing.{Playing}
 use Rattle.px_app.specs.View.{Shown, parts_by, output_by}
 use Rattle.px_app.specs.Session.{Before, IsRefused}
-use Rattle.px_app.specs.Replay.{GivenBefore, Gives, PlayedFront, InputPlayed, InputCounted}
-use Rattle.px_app.specs.Step.{EndReads, Closes, Reached, ending_with}
+use Rattle.px_app.specs.Replay.{GivenBefore, Gives, PlayedFront, InputPlayed}
+use Rattle.px_app.specs.Step.{Closes, Reached, ending_with}
 use Rattle.px_app.proofs.FrontLaws.{whole_front, no_front}
 
 -- ---- bytes that are gathered
@@ -192,24 +191,3 @@ failed_says (Err e) P failed says = says
 pub flushed_says : (r : Result Unit WriteFailed) (P : Type 0) → is_err r ≡ false → OnOk r P → P
 flushed_says (Ok done) P flushed says = says
 flushed_says (Err e) P flushed says = absurd (false≢true (sym flushed))
-
--- ---- counts
-
-module _ (left now_left held now_held : Option (List ℕ)) (read now_read before after : ℕ) where
-  pub counts_all : (ended : Ending) → after ≡ before → EndReads ended read now_read → InputCounted (ending_with ended true) (ends_of left read held before) (ends_of now_left now_read now_held after)
-  counts_all ending.ReadFault same counts = (counts, inl same)
-  counts_all ending.Done same counts = (counts, same)
-  counts_all (ending.Refused refusal) same counts = (counts, same)
-  counts_all ending.NoSuchSink same counts = (counts, same)
-  counts_all ending.Memory same counts = (counts, same)
-  counts_all ending.WriteFault same counts = absurd counts
-  counts_all ending.Usage same counts = (counts, same)
-
-  pub counts_cut : (ended : Ending) → Rose before after → EndReads ended read now_read → InputCounted (ending_with ended false) (ends_of left read held before) (ends_of now_left now_read now_held after)
-  counts_cut ending.ReadFault rose counts = (counts, inr rose)
-  counts_cut ending.Done rose counts = (counts, rose)
-  counts_cut (ending.Refused refusal) rose counts = (counts, rose)
-  counts_cut ending.NoSuchSink rose counts = (counts, rose)
-  counts_cut ending.Memory rose counts = (counts, rose)
-  counts_cut ending.WriteFault rose counts = absurd counts
-  counts_cut ending.Usage rose counts = (counts, rose)

@@ -39,7 +39,7 @@ use Rattle.px_app.specs.Summary.{tally_by, tallied}
 use Rattle.px_app.specs.View.{Shown, lens_of, part_of, parts_by, ending_of, last_part, output_by}
 use Rattle.px_app.specs.Ends.{Ends, AreQuiet, KeptOrRose}
 use Rattle.px_app.specs.Replay.{WasUnnamed, PlayedFront, InputPlayed, InputCounted}
-use Rattle.px_app.specs.Step.{unread, EndReads, Closes, EventDone, EventCut, EventPlayed, Reached, Stepped}
+use Rattle.px_app.specs.Step.{unread, Closes, EventDone, EventCut, EventPlayed, Reached, Stepped}
 use Rattle.px_app.proofs.FrontLaws.{second_cut, whole_front, no_front}
 use Rattle.px_app.proofs.ViewLaws.{parts-push, parts-none, tally-push}
 use Rattle.px_app.proofs.ReadLaws.{header_first}
@@ -272,13 +272,3 @@ counted_from (ending.Refused refusal) first now after quiet counted = (counted.0
 counted_from ending.Usage first now after quiet counted = (counted.0 ∙ quiet.0, counted.1 ∙ quiet.1)
 counted_from ending.Memory first now after quiet counted = (counted.0 ∙ quiet.0, counted.1 ∙ quiet.1)
 counted_from ending.NoSuchSink first now after quiet counted = (counted.0 ∙ quiet.0, counted.1 ∙ quiet.1)
-
--- a replay that ended before its first event has written nothing
-pub begun_counts : (ended : Ending) (before after : Ends) → EndReads ended before.read_faults after.read_faults → after.write_faults ≡ before.write_faults → InputCounted ended before after
-begun_counts ending.ReadFault before after counts same = (counts, inl same)
-begun_counts ending.WriteFault before after counts same = absurd counts
-begun_counts ending.Done before after counts same = (counts, same)
-begun_counts (ending.Refused refusal) before after counts same = (counts, same)
-begun_counts ending.Usage before after counts same = (counts, same)
-begun_counts ending.Memory before after counts same = (counts, same)
-begun_counts ending.NoSuchSink before after counts same = (counts, same)

@@ -7,7 +7,6 @@ use Rattle.px_types.specs.Faults.{Rose}
 use Rattle.px_ends.specs.Told.{after_adding}
 use Rattle.px_ends.specs.Whole.{AddsFront}
 use Rattle.px_gen.specs.Generator.{generated}
-use Rattle.px_gen.specs.Writing.{Leaves, Faults}
 use Rattle.px_app.specs.declared.refusal.Refusal.{Refusal}
 use Rattle.px_app.specs.declared.ending.Ending.{Ending}
 use Rattle.px_app.specs.declared.ending.Ending.TheVariants as ending
@@ -17,37 +16,11 @@ use Rattle.px_app.specs.Ending.{status_of, line_of, IsRunStatus}
 use Rattle.px_app.specs.Report.{Says, Reported}
 use Rattle.px_app.specs.View.{Shown}
 use Rattle.px_app.specs.Replay.{WasRefused, WasUnnamed, InputPlayed, InputCounted}
-use Rattle.px_app.specs.Words.{Meaning, Replay, Gen, Means, AreOther, MadeFront, Makes, Made, made_by, Does, Ran, DoneWhole, DoneFront, DoneCompletes}
+use Rattle.px_app.specs.Words.{Meaning, Replay, Gen, Means, AreOther, MadeFront, Makes, Made, Does, Ran, DoneWhole, DoneFront, DoneCompletes}
 use Rattle.px_app.proofs.FrontLaws.{whole_front}
 use Rattle.px_app.proofs.ReportLaws as report
 use Rattle.px_app.proofs.ReplayLaws as replay
 use Rattle.px_app.proofs.UsageLaws as usage
-
--- ---- by the generator's status
-
-pub makes_by : (s : Status) (number count : ℕ) (before after : Ends) → after.left ≡ before.left → Leaves s (generated number count) before.held after.held → Makes (made_by s) number count before after
-makes_by status.Ok number count before after unread leaves = record { unread = unread; gained = leaves }
-makes_by status.Memory number count before after unread leaves = record { unread = unread; gained = leaves }
-makes_by status.WriteFault number count before after unread leaves = record { unread = unread; gained = leaves }
-makes_by status.Refused number count before after unread leaves = absurd leaves
-makes_by status.Usage number count before after unread leaves = absurd leaves
-makes_by status.ReadFault number count before after unread leaves = absurd leaves
-makes_by status.Device number count before after unread leaves = absurd leaves
-makes_by status.Host number count before after unread leaves = absurd leaves
-makes_by status.NoSuchSink number count before after unread leaves = absurd leaves
-makes_by status.HistoryFull number count before after unread leaves = absurd leaves
-
-pub makes_counts : (s : Status) (bytes : List ℕ) (before after : Ends) → after.read_faults ≡ before.read_faults → Leaves s bytes before.held after.held → Faults s before.write_faults after.write_faults → InputCounted (made_by s) before after
-makes_counts status.Ok bytes before after same leaves faults = (same, faults)
-makes_counts status.Memory bytes before after same leaves faults = (same, faults)
-makes_counts status.WriteFault bytes before after same leaves faults = (same, faults)
-makes_counts status.Refused bytes before after same leaves faults = absurd leaves
-makes_counts status.Usage bytes before after same leaves faults = absurd leaves
-makes_counts status.ReadFault bytes before after same leaves faults = absurd leaves
-makes_counts status.Device bytes before after same leaves faults = absurd leaves
-makes_counts status.Host bytes before after same leaves faults = absurd leaves
-makes_counts status.NoSuchSink bytes before after same leaves faults = absurd leaves
-makes_counts status.HistoryFull bytes before after same leaves faults = absurd leaves
 
 -- ---- a session that is made
 

@@ -4,22 +4,7 @@ use Rattle.std.specs.Prelude.{cond, nat_lt, nat_le}
 use Rattle.std.proofs.Math.Seq.{drop-cons}
 use Rattle.std.proofs.lemmas.Option.{same_Some}
 use Rattle.std.proofs.lemmas.Bool.{le-ltb, lt-ltb, lt-leb, le-leb, ltb-true, ltb-false, and_left, and_right, and_from}
-use Rattle.px_app.specs.Words.{is_digit, digits_behind, number_in, in_64_bits, of_one, of_three, meaning_in}
-
-pub one_word : (words : List (String Global)) (word : String Global) → 1 ≤ length words → length words < 2 → word ≡ get_or words 0 word → meaning_in (map string_bytes words) ≡ of_one (string_bytes word)
-one_word [] word some few is = absurd (omega arith)
-one_word (w ∷ []) word some few is = ap (λ (v : String Global). of_one (string_bytes v)) (sym is)
-one_word (w ∷ v ∷ more) word some few is = absurd (omega arith)
-
-pub three_words : (words : List (String Global)) (a b c : String Global) → 3 ≤ length words → length words < 4 → a ≡ get_or words 0 a → b ≡ get_or words 1 b → c ≡ get_or words 2 c → meaning_in (map string_bytes words) ≡ of_three (string_bytes a) (string_bytes b) (string_bytes c)
-three_words [] a b c some few p q r = absurd (omega arith)
-three_words (x ∷ []) a b c some few p q r = absurd (omega arith)
-three_words (x ∷ y ∷ []) a b c some few p q r = absurd (omega arith)
-three_words (x ∷ y ∷ z ∷ []) a b c some few p q r =
-    ap (λ (v : String Global). of_three (string_bytes v) (string_bytes y) (string_bytes z)) (sym p)
-    ∙ ap (λ (v : String Global). of_three (string_bytes a) (string_bytes v) (string_bytes z)) (sym q)
-    ∙ ap (λ (v : String Global). of_three (string_bytes a) (string_bytes b) (string_bytes v)) (sym r)
-three_words (x ∷ y ∷ z ∷ w ∷ more) a b c some few p q r = absurd (omega arith)
+use Rattle.px_app.specs.Words.{is_digit, digits_behind, in_64_bits, meaning_in}
 
 pub other_words : (words : List (String Global)) → (length words ≡ 1 → ⊥) → (length words ≡ 3 → ⊥) → meaning_in (map string_bytes words) ≡ None
 other_words [] one three = refl
@@ -29,10 +14,6 @@ other_words (x ∷ y ∷ z ∷ []) one three = absurd (three refl)
 other_words (x ∷ y ∷ z ∷ w ∷ more) one three = refl
 
 -- ---- numbers
-
-pub number_starts : (word : List ℕ) → 0 < length word → number_in word ≡ digits_behind 0 word
-number_starts [] some = absurd (omega arith)
-number_starts (c ∷ rest) some = refl
 
 -- a digit, or none, at the front
 digits_at : (n c : ℕ) (rest : List ℕ) (b : Bool) → is_digit c ≡ b → digits_behind n (c ∷ rest) ≡ cond b (digits_behind (n * 10 + (c - 0x30)) rest) None

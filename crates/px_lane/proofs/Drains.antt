@@ -1,5 +1,5 @@
 -- Drains that are answered one by one.
-use Rattle.std.proofs.Common.{◌≡◌, ℕ, ◌+◌, ◌<◌, ◌≤◌, List, [], ◌∷◌, ◌++◌, map, length, true, false, refl, ap, sym, ◌∙◌, arith, length-append, append_assoc, ⊎_elim}
+use Rattle.std.proofs.Common.{◌≡◌, ℕ, ◌+◌, ◌<◌, ◌≤◌, List, [], ◌∷◌, ◌++◌, map, length, true, false, refl, ap, sym, ◌∙◌, arith, length-append, ⊎_elim}
 use Rattle.std.specs.Prelude.{◌⊎◌}
 use Rattle.std.proofs.lemmas.Bool.{cond-true, cond-false, cond_both}
 use Rattle.px_model.specs.Stream.{Stream}
@@ -28,18 +28,6 @@ pub next_fits : (told start all rest : List (Notice Stream)) (n : Notice Stream)
     → told ++ here ≡ start ++ all → here ≡ n ∷ rest → length start + length all ≤ capacity → length told < capacity
 next_fits told start all rest n here capacity same is room =
     omega (arith, room, ap (λ (ns : List (Notice Stream)). length ns) same, length-append told here, length-append start all, ap (λ (ns : List (Notice Stream)). length ns) is)
-
-pub next_told : (told later start all rest here : List (Notice Stream)) (n : Notice Stream)
-    → told ++ here ≡ start ++ all → here ≡ n ∷ rest → later ≡ told ++ n ∷ [] → later ++ rest ≡ start ++ all
-next_told told later start all rest here n same is more =
-    ap (λ (ns : List (Notice Stream)). ns ++ rest) more ∙ append_assoc told (n ∷ []) rest ∙ ap (λ (ns : List (Notice Stream)). told ++ ns) (sym is) ∙ same
-
--- where frames are left, or no tag waits, no drain is answered
-pub none_less : (s : Stream) → (has_ended s ≡ false) ⊎ (s.draining ≡ []) → drained s ≡ s
-none_less s done =
-    ap (λ (tags : List ℕ). let v : Stream = record s { draining = tags } in v)
-    (⊎_elim (λ (left : has_ended s ≡ false). cond-false (has_ended s) [] s.draining left)
-    (λ (none : s.draining ≡ []). cond_both (has_ended s) [] s.draining (λ tags. tags ≡ s.draining) (λ e. sym none) (λ e. refl)) done)
 
 pub none_told : (i : ℕ) (s : Stream) → (has_ended s ≡ false) ⊎ (s.draining ≡ []) → drained_notices (record { index = i; stream = s }) ≡ []
 none_told i s done =

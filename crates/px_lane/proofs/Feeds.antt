@@ -10,7 +10,7 @@ use Rattle.px_model.specs.Control.{new_stream, attached, corked_to, triggered, p
 use Rattle.px_model.specs.Applied.{written_by}
 use Rattle.px_model.specs.Message.{Message, StreamMessage, InputFactors}
 use Rattle.px_model.specs.Orderly.{Inputs, Fits}
-use Rattle.px_model.specs.Sink.{Input as Stands, IsRising, IsStreamOf, stream_at, with_change}
+use Rattle.px_model.specs.Sink.{Input as Stands, IsStreamOf, stream_at, with_change}
 use Rattle.px_model.specs.Turn.{inputs_with, with_each_factors}
 use Rattle.px_model.proofs.Streams.{stream_by}
 use Rattle.px_model.proofs.Inputs.{AreInputs, change_keeps, without_keeps, with_keeps}
@@ -55,8 +55,3 @@ factors_suit channels factors i (x ∷ xs) h e =
     cond_both (x.index == i) (Some x.stream) (stream_at i xs) (λ o. SuitsAt o (StreamMessage.factors factors))
     (λ here. e ∙ sym h.0)
     (λ there. factors_suit channels factors i xs h.1 e)
-
--- and leave it fed
-pub factors_feed : (channels : ℕ) (factors : List ℕ) (i : ℕ) (xs : List Stands) → IsRising xs → AreFed channels xs → AreFed channels (with_change i (λ s. with_factors s factors) xs)
-factors_feed channels factors i xs rising h =
-    AreInputs.streams (change_keeps (IsFed channels) i (λ s. with_factors s factors) (λ s p. p) xs (record { rising = rising; streams = h }))

@@ -1,9 +1,8 @@
 -- Loops that take memory for each item of a list.
-use Rattle.std.proofs.Common.{◌≡◌, ℕ, zero, suc, ◌+◌, ◌<◌, List, [], ◌∷◌, ◌++◌, map, length, take, refl, ap, sym, ◌∙◌, subst, arith}
+use Rattle.std.proofs.Common.{◌≡◌, ℕ, zero, suc, ◌+◌, ◌<◌, List, [], ◌∷◌, ◌++◌, map, length, take, refl, sym, subst, arith}
 use Rattle.std.specs.Prelude.{slice_set, slice_index_or}
-use Rattle.std.specs.List.{AllByRecursion, concat}
-use Rattle.std.proofs.lemmas.List.Folds.{concat-append}
-use Rattle.std.proofs.lemmas.List.{take_more, take_more_set, append-nil}
+use Rattle.std.specs.List.{AllByRecursion}
+use Rattle.std.proofs.lemmas.List.{take_more_set}
 
 -- what it is in the definitions stays
 pub same_set : {X Y : Type 0} (f : X → Y) (xs : List X) (i : ℕ) (d y : X) → f y ≡ f (slice_index_or xs i d) → map f (slice_set xs i y) ≡ map f xs
@@ -26,10 +25,3 @@ all_in P f xs i x l is h = subst (λ (z : _). P (f z)) (sym is) (go xs i x l h)
     go [] i d l h = absurd (omega (arith, l))
     go (x ∷ xs) zero d l h = h.0
     go (x ∷ xs) (suc i) d l h = go xs i d (omega (arith, l)) h.1
-
-concat_join : (xs : List (List ℕ)) (b : List ℕ) → concat (xs ++ b ∷ []) ≡ concat xs ++ b
-concat_join xs b = concat-append xs (b ∷ []) ∙ ap (λ (bs : List ℕ). concat xs ++ bs) (append-nil b)
-
-pub concat_more : (xs : List (List ℕ)) (i : ℕ) (b : List ℕ) → i < length xs → b ≡ slice_index_or xs i b → concat (take (i + 1) xs) ≡ concat (take i xs) ++ b
-concat_more xs i b l is =
-    ap concat (take_more xs i b l ∙ ap (λ (c : List ℕ). take i xs ++ c ∷ []) (sym is)) ∙ concat_join (take i xs) b

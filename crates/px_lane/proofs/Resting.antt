@@ -1,5 +1,5 @@
 -- A turn in which nothing is consumed and no message comes.
-use Rattle.std.proofs.Common.{◌≡◌, ℕ, List, [], ◌∷◌, ◌++◌, map, Bool, true, false, refl, ap, sym, ◌∙◌, subst, arith}
+use Rattle.std.proofs.Common.{◌≡◌, ℕ, List, [], ◌∷◌, ◌++◌, map, Bool, true, false, refl, ap, sym, ◌∙◌, arith}
 use Rattle.std.specs.Prelude.{nat_lt, not, ◌&&◌, ◌||◌, ◌==◌, flat_map, length, min, if◌then◌else◌}
 use Rattle.std.specs.List.{AllByRecursion}
 use Rattle.px_model.specs.Queue.{is_short, left_of}
@@ -62,8 +62,3 @@ tell_nothing frames xs before e =
 all_empty : (xs : List Input) → AllByRecursion (HasRoom 0 0) xs
 all_empty [] = tt
 all_empty (x ∷ xs) = ((omega arith, omega arith), all_empty xs)
-
--- there is always room for nothing
-pub room_for_nothing : (room blocks : ℕ) (xs : List Input) → room ≡ 0 → blocks ≡ 0 → AllByRecursion (HasRoom room blocks) xs
-room_for_nothing room blocks xs e f =
-    subst (λ (r : ℕ). AllByRecursion (HasRoom r blocks) xs) (sym e) (subst (λ (b : ℕ). AllByRecursion (HasRoom 0 b) xs) (sym f) (all_empty xs))

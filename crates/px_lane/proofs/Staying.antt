@@ -6,9 +6,8 @@ use Rattle.std.proofs.lemmas.List.FromFn.{length-map-range_with_len}
 use Rattle.px_model.specs.Frame.{Frame}
 use Rattle.px_model.specs.Mix.{mix_of}
 use Rattle.px_model.specs.Sink.{Sink, Input, IsStreamOf, streams_of}
-use Rattle.px_model.specs.Turn.{next_horizon, settled, asked, remixed, fresh_mix}
+use Rattle.px_model.specs.Turn.{next_horizon, settled, remixed, fresh_mix}
 use Rattle.px_model.proofs.Places.{get-drop, get-take, get_right, get-range, same_gets}
-use Rattle.px_model.proofs.Rounds.{mix_asked}
 use Rattle.px_stream.specs.Samples.{samples}
 use Rattle.px_lane.specs.Unaltered.{MixesSame, IsUnaltered}
 use Rattle.px_lane.proofs.Sounding.{mix_gone}
@@ -33,13 +32,6 @@ pub told_stays : (sink : Sink) (n j i : ℕ) (inputs : List Input) → IsUnalter
 told_stays sink n j i inputs h same few fewer = record {
   within = omega (arith, h.within, few);
   mixed = λ k l. h.mixed k (omega (arith, l, few)) ∙ ap (λ (f : Frame). Some f) (sym (same k (omega (arith, l, fewer))));
-}
-
--- they ask for frames
-pub asked_stays : (sink : Sink) (n : ℕ) → IsUnaltered n sink → IsUnaltered n (asked sink)
-asked_stays sink n h = record {
-  within = h.within;
-  mixed = λ k l. h.mixed k l ∙ ap (λ (f : Frame). Some f) (sym (mix_asked samples sink.spec (sink.filled - sink.horizon) k sink.inputs));
 }
 
 -- ---- mixing

@@ -1,9 +1,8 @@
 -- The sums of a list of inputs.
-use Rattle.std.proofs.Common.{◌≡◌, ℕ, zero, suc, ◌+◌, ◌<◌, List, [], ◌∷◌, ◌++◌, length, map, take, get_or, ap, sym, ◌∙◌, arith, ℤ, pos, ◌+ℤ◌}
-use Rattle.std.proofs.lemmas.List.{take_more, map-append, ext_get_or}
+use Rattle.std.proofs.Common.{◌≡◌, ℕ, zero, suc, ◌<◌, List, [], ◌∷◌, length, map, get_or, ap, sym, ◌∙◌, arith, ℤ, pos}
+use Rattle.std.proofs.lemmas.List.{ext_get_or}
 use Rattle.std.proofs.lemmas.List.FromFn.{length-map-range_with_len, get_or-map-range_with_len}
-use Rattle.std.proofs.lemmas.List.Sums.{fold-append}
-use Rattle.std.specs.List.{fold, AllByRecursion, range_with_len}
+use Rattle.std.specs.List.{AllByRecursion, range_with_len}
 use Rattle.std.proofs.lemmas.List.Folds.{flat_map-map}
 use Rattle.std.specs.Int.{saturate_signed}
 use Rattle.px_sample.specs.declared.format.Format.{Format}
@@ -13,10 +12,10 @@ use Rattle.px_sample.specs.WorkValue.{packed_sample, packed_of}
 use Rattle.px_model.specs.Frame.{SampleSpec}
 use Rattle.px_model.specs.Stream.{Stream, frame_at}
 use Rattle.px_model.specs.Mix.{share_of, sum_of, mix_of}
-use Rattle.px_model.specs.Sink.{Input as Stands, streams_of}
+use Rattle.px_model.specs.Sink.{Input as Stands}
 use Rattle.px_lane.specs.declared.input.Input.{Input}
 use Rattle.px_stream.specs.Kept.{KeptStream}
-use Rattle.px_lane.specs.Inputs.{input_of, inputs_of}
+use Rattle.px_lane.specs.Inputs.{inputs_of}
 use Rattle.px_stream.specs.Samples.{samples, bit_width}
 use Rattle.px_msg.specs.View.{sample_spec}
 use Rattle.px_stream.proofs.Sounds.{format_known}
@@ -30,18 +29,6 @@ stream_of_input P (x ∷ inputs) (suc i) d all less = stream_of_input P inputs i
 
 abbrev shares : SampleSpec → ℕ → ℕ → List Stream → List ℤ
 shares sink k c streams = map (λ s. share_of samples sink s c (frame_at s k)) streams
-
--- one more input adds what its stream gives
-pub sum_more : (sink : SampleSpec) (inputs : List Input) (i : ℕ) (x : Input) (k c : ℕ) → i < length inputs → x ≡ get_or inputs i x
-    → sum_of samples sink (streams_of (inputs_of (take (i + 1) inputs))) k c
-    ≡ sum_of samples sink (streams_of (inputs_of (take i inputs))) k c +ℤ share_of samples sink x.stream.stream c (frame_at x.stream.stream k)
-sum_more sink inputs i x k c less is =
-    ap (λ (xs : List Input). sum_of samples sink (streams_of (inputs_of xs)) k c)
-    (take_more inputs i x less ∙ ap (λ (y : Input). take i inputs ++ y ∷ []) (sym is))
-    ∙ ap (λ (xs : List Stream). sum_of samples sink xs k c)
-    (ap streams_of (map-append input_of (take i inputs) (x ∷ [])) ∙ map-append (λ y. y.stream) (inputs_of (take i inputs)) (input_of x ∷ []))
-    ∙ ap (λ (xs : List ℤ). fold ◌+ℤ◌ (pos 0) xs) (map-append (λ s. share_of samples sink s c (frame_at s k)) (streams_of (inputs_of (take i inputs))) (x.stream.stream ∷ []))
-    ∙ fold-append ◌+ℤ◌ (pos 0) (shares sink k c (streams_of (inputs_of (take i inputs)))) (shares sink k c (x.stream.stream ∷ []))
 
 -- the list of the sums, by its places
 pub sums_listed : (f : ℕ → ℤ) (sums : List ℤ) (n : ℕ) → length sums ≡ n → ((c : ℕ) → c < n → get_or sums c (pos 0) ≡ f c) → sums ≡ map f (range_with_len 0 n)

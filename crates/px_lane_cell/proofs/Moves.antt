@@ -1,6 +1,5 @@
 -- One message more that is taken, and one notice more that is posted.
 use Rattle.std.proofs.Common.{◌≡◌, Bool, List, [], ◌∷◌, ◌++◌, refl, ap, sym, ◌∙◌, append_assoc, Option, Some, None}
-use Rattle.std.specs.Prelude.{IfSome, ⊤}
 use Rattle.std.proofs.lemmas.List.{map-append, append-nil}
 use Rattle.px_sample.specs.declared.spec.Spec.{Spec}
 use Rattle.px_model.specs.Stream.{Stream}
@@ -11,7 +10,7 @@ use Rattle.px_msg.specs.declared.notice.Notice.{Notice as Kept}
 use Rattle.px_msg.specs.View.{sample_spec}
 use Rattle.px_msg.proofs.Lawful.{front}
 use Rattle.px_stream.specs.Kept.{KeptStream}
-use Rattle.px_lane.specs.Lists.{plain_message, plain_notice, messages_of, notices_of}
+use Rattle.px_lane.specs.Lists.{plain_message, messages_of, notices_of}
 use Rattle.px_lane_cell.specs.Moved.{parcel_spec, AreTaken, Takes, Posts}
 
 -- ---- calls that a pass has written down
@@ -28,9 +27,6 @@ pub fronts : (key : Option Spec) (taken held : List (Msg KeptStream)) → AreTak
 fronts None taken held h = tt
 fronts (Some k) taken held h = front parcel_spec (sample_spec k) taken held h
 
-pub none_taken : (taken : List (Msg KeptStream)) (kept : List (Message Stream)) → Takes taken taken kept kept
-none_taken taken kept = record { got = []; moved = sym (append-nil taken); stands = sym (append-nil kept) }
-
 pub one_taken : (taken taken' taken'' : List (Msg KeptStream)) (kept kept' kept'' : List (Message Stream)) (m : Msg KeptStream) → Takes taken taken' kept kept' → taken'' ≡ taken' ++ m ∷ [] → kept'' ≡ kept' ++ plain_message m ∷ []
     → Takes taken taken'' kept kept''
 one_taken taken taken' taken'' kept kept' kept'' m h e f = record {
@@ -45,24 +41,8 @@ one_taken taken taken' taken'' kept kept' kept'' m h e f = record {
 
 -- ---- notices
 
-pub any_lawful : {K : Type 0} (key : Option K) → IfSome key (λ k. ⊤)
-any_lawful None = tt
-any_lawful (Some k) = tt
-
 pub none_posted : (posted : List (Kept KeptStream)) (notices : List (Notice Stream)) → Posts posted posted notices notices
 none_posted posted notices = record { gone = []; moved = sym (append-nil posted); stays = refl }
-
-pub one_posted : (posted posted' posted'' : List (Kept KeptStream)) (notices left left' : List (Notice Stream)) (n : Kept KeptStream) → Posts posted posted' notices left → left ≡ plain_notice n ∷ left' → posted'' ≡ posted' ++ n ∷ []
-    → Posts posted posted'' notices left'
-one_posted posted posted' posted'' notices left left' n h e f = record {
-  gone = h.gone ++ n ∷ [];
-  moved = f ∙ ap (λ l. l ++ n ∷ []) h.moved ∙ append_assoc posted h.gone (n ∷ []);
-  stays =
-      h.stays
-      ∙ ap (λ l. notices_of h.gone ++ l) e
-      ∙ sym (append_assoc (notices_of h.gone) (plain_notice n ∷ []) left')
-      ∙ ap (λ l. l ++ left') (sym (map-append plain_notice h.gone (n ∷ [])));
-}
 
 -- the notices that are left, with another for them
 pub same_left : (posted posted' : List (Kept KeptStream)) (notices left left' : List (Notice Stream)) → Posts posted posted' notices left → left' ≡ left → Posts posted posted' notices left'

@@ -35,13 +35,6 @@ all_marks marks after events are lawful others more = subst (AllByRecursion IsMa
   behind [] (e ∷ events) are lawful others = ((lawful.0, omega (arith, others)), behind [] events tt lawful.1 (omega (arith, others)))
   behind (m ∷ marks) events are lawful others = (are.0, behind marks events are.1 lawful others)
 
--- and one more place
-pub one_mark : (marks after : List Mark) (m : Mark) → AllByRecursion IsMark marks → IsMark m → after ≡ marks ++ m ∷ [] → AllByRecursion IsMark after
-one_mark marks after m are is more = subst (AllByRecursion IsMark) (sym more) (behind marks are) where
-  behind : (marks : List Mark) → AllByRecursion IsMark marks → AllByRecursion IsMark (marks ++ m ∷ [])
-  behind [] are = (is, tt)
-  behind (x ∷ marks) are = (are.0, behind marks are.1)
-
 -- bytes of a client, one piece more
 pub cut_more : (events after : List Event) (conn : ConnId) (piece left rest bytes : List ℕ) → after ≡ events ++ Bytes conn piece ∷ [] → rest ≡ piece ++ left
     → all_bytes events ++ rest ≡ bytes → all_bytes after ++ left ≡ bytes

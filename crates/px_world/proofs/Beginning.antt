@@ -1,5 +1,5 @@
 -- What a world keeps before its first event, and where an event was refused.
-use Rattle.std.proofs.Common.{◌≡◌, ◌+◌, ◌<◌, ℕ, true, take, List, [], ◌∷◌, ◌++◌, map, set, get_or, length, Some, Result, Err, refl, ap, sym, subst, ◌∙◌}
+use Rattle.std.proofs.Common.{◌≡◌, ◌+◌, ◌<◌, ℕ, true, take, List, [], ◌∷◌, ◌++◌, map, set, get_or, length, Some, refl, ap, sym, subst, ◌∙◌}
 use Rattle.std.specs.Prelude.{option_map, slice_get, All, IsFalse}
 use Rattle.std.specs.List.{AllByRecursion}
 use Rattle.std.proofs.lemmas.Bool.{cond_both}
@@ -7,7 +7,6 @@ use Rattle.std.proofs.lemmas.List.{length-map, map-set, map_push, map_more}
 use Rattle.std.proofs.lemmas.Option.{slice_get-map, slice_get-get_or, same_Some}
 use Rattle.px_session.specs.declared.header.Header.{Header}
 use Rattle.px_session.specs.declared.header.SinkSpec.{SinkSpec}
-use Rattle.px_session.specs.declared.event.Event.{Event}
 use Rattle.px_session.specs.HeaderRules.{IsHeader, IsSink, AreSinks}
 use Rattle.px_msg.specs.View.{sample_spec}
 use Rattle.px_model.specs.Stream.{Stream, IsStream}
@@ -18,19 +17,16 @@ use Rattle.px_core.proofs.StepLaws.{new_keeps}
 use Rattle.px_targets.proofs.Sinks.{is_of_header}
 use Rattle.px_world.specs.declared.fault.WorldFault.{WorldFault}
 use Rattle.px_world.specs.declared.fault.WorldFault.TheVariants.{Live, NotLive, NoSink, Worn, TooMany, NoMemory}
-use Rattle.px_world.specs.declared.outcome.Outcome.{Outcome}
 use Rattle.px_world.specs.declared.doors.Door.{Door}
 use Rattle.px_world.specs.declared.playing.Playing.{Playing}
-use Rattle.px_world.specs.World.{World, Mixer, new_mixer, new_world}
+use Rattle.px_world.specs.World.{Mixer, new_mixer, new_world}
 use Rattle.px_world.specs.Playing.{mixer_of}
-use Rattle.px_world.specs.Admission.{refusal_of}
-use Rattle.px_world.specs.Running.{Running, StandsFor}
+use Rattle.px_world.specs.Running.{StandsFor}
 use Rattle.px_world.specs.Keeping.{GivesStream, IsMixerOf, AreKept}
-use Rattle.px_world.specs.Doing.{Unless, loses, running_of, told_to_fail, Answered, IsRefused, Runs}
+use Rattle.px_world.specs.Doing.{Unless, loses, running_of, told_to_fail}
 use Rattle.px_world.proofs.Kept.{kept-notices}
 use Rattle.px_world.proofs.Sounding.{seen-at}
 use Rattle.px_world.proofs.Standing.{stands-first}
-use Rattle.px_world.proofs.Standings.{unless-memory}
 
 new-mixer-is : (header : Header) (index : ℕ) (s : SinkSpec) (m : Mixer) → slice_get header.sinks index ≡ Some s → slice_get (map new_mixer header.sinks) index ≡ Some m → IsMixerOf (new_state header) index s m
 new-mixer-is header index s m there mixer =
@@ -78,12 +74,6 @@ unless-lost NoSink A a going = a
 unless-lost Worn A a going = a
 unless-lost (TooMany asked there) A a going = a
 unless-lost NoMemory A a going = absurd cc
-
-pub refused-by : (after : Running) (w : World) (e : Event) (result : Result Outcome WorldFault) (fault : WorldFault) → Answered result (Runs after w e) (IsRefused w e) → result ≡ Err fault → (fault ≡ NoMemory → ⊥) → refusal_of w e ≡ Some fault
-refused-by after w e result fault runs is memory = unless-memory fault (refusal_of w e ≡ Some fault) memory (subst (λ (r : Result Outcome WorldFault). Answered r (Runs after w e) (IsRefused w e)) is runs)
-
-pub unchanged-by : (before after : Running) (result : Result Outcome WorldFault) (fault : WorldFault) → Answered result (λ _. Unit {0}) (λ _. after ≡ before) → result ≡ Err fault → (fault ≡ NoMemory → ⊥) → after ≡ before
-unchanged-by before after result fault rests is memory = unless-memory fault (after ≡ before) memory (subst (λ (r : Result Outcome WorldFault). Answered r (λ _. Unit {0}) (λ _. after ≡ before)) is rests)
 
 -- ---- a mixer whose device alone changes
 

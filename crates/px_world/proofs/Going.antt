@@ -1,7 +1,7 @@
 -- Steps of the core, one after the other, seen from what is left of them.
-use Rattle.std.proofs.Common.{◌≡◌, ℕ, zero, suc, ◌-◌, ◌<◌, ◌≤◌, List, [], ◌∷◌, ◌++◌, length, take, drop, map, replicate, None, Some, refl, ap, sym, subst, ◌∙◌, arith, append_assoc}
+use Rattle.std.proofs.Common.{◌≡◌, ℕ, zero, suc, ◌-◌, ◌<◌, ◌≤◌, List, [], ◌∷◌, ◌++◌, length, take, drop, map, replicate, Some, ap, sym, subst, ◌∙◌, arith, append_assoc}
 use Rattle.std.specs.Prelude.{All}
-use Rattle.std.proofs.lemmas.Option.{none-some, same_Some}
+use Rattle.std.proofs.lemmas.Option.{same_Some}
 use Rattle.px_types.specs.declared.ids.SinkId.{SinkId}
 use Rattle.px_model.specs.Frame.{SampleSpec}
 use Rattle.px_msg.specs.declared.message.Msg.{Msg}
@@ -109,14 +109,6 @@ next-first (y ∷ ys) x e = ap (λ z. z ∷ ys) (same_Some y x e)
 
 pub rest-next : {P : Type 0} (state next : State P) (sink : SinkId) → next ≡ handed_out sink state → waiting_for next sink ≡ rest_of (waiting_for state sink)
 rest-next state next sink e = ap (λ t. waiting_for t sink) e ∙ waiting-past state sink
-
--- no message waits, where none is next
-none-first : {A : Type 0} (all : List A) → first_of all ≡ None → all ≡ []
-none-first [] e = refl
-none-first (x ∷ xs) e = absurd (none-some x (sym e))
-
-pub none-next : {P : Type 0} (state : State P) (sink : SinkId) (left : ℕ) → 0 < left → left ≤ length (waiting_for state sink) → next_for state sink ≡ None → ⊥
-none-next state sink left h few e = none-left left (waiting_for state sink) h few (none-first (waiting_for state sink) e)
 
 -- those that are left once it was handed out
 pub outs-next : {P : Type 0} (spec_of : P → SampleSpec) (sink : SinkId) (state next whole : State P) (left : ℕ) → 0 < left → next ≡ handed_out sink state

@@ -16,4 +16,3 @@ pub mod Doing
 pub mod Sounding
 pub mod Standings
 pub mod Beginning
-pub mod Present

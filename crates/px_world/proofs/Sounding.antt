@@ -4,7 +4,7 @@ use Rattle.std.specs.Prelude.{nat_lt, option_map, replicate}
 use Rattle.std.specs.List.{slice_get, concat, AllByRecursion}
 use Rattle.std.proofs.lemmas.Bool.{cases_Bool, cond-true, cond-false, lt-ltb, le-ltb, ltb-false}
 use Rattle.std.proofs.lemmas.List.{length-map, map-set}
-use Rattle.std.proofs.lemmas.Option.{none-some, same_Some, slice_get-map, slice_get-get_or, slice_get_past}
+use Rattle.std.proofs.lemmas.Option.{none-some, same_Some, slice_get-map, slice_get-get_or}
 use Rattle.px_types.specs.declared.ids.SinkId.{SinkId}
 use Rattle.px_session.specs.declared.event.Event.TheVariants.{Turn, Collect}
 use Rattle.px_model.specs.Stream.{Stream, IsStream}
@@ -31,9 +31,6 @@ use Rattle.px_world.proofs.Kept.{kept-steps, kept-turn, kept-notices, turn-messa
 -- ---- a mixer among the others, each seen as one of the definitions
 
 module _ {X : Type 0} (v : X → Mixer) (xs : List X) (k : ℕ) where
-  pub unseen : length xs ≤ k → slice_get (map v xs) k ≡ None
-  unseen past = slice_get-map v xs k ∙ ap (option_map v) (slice_get_past xs k past)
-
   module _ (d : X) (within : k < length xs) where
     pub seen-at : slice_get (map v xs) k ≡ Some (v (get_or xs k d))
     seen-at = slice_get-map v xs k ∙ ap (option_map v) (slice_get-get_or xs k d within)
@@ -135,13 +132,6 @@ goes-on v xs k d e within core frames count waiting same none =
 -- ---- events of a sink that is there
 
 module _ (w : World) (core : State Stream) (ms : List Mixer) (same_core : w.core ≡ core) (same_mixers : w.mixers ≡ ms) (k : ℕ) where
-  pub no-sink-to-turn : (frames count : ℕ) → slice_get ms k ≡ None → refusal_of w (Turn k frames count) ≡ Some NoSink
-  no-sink-to-turn frames count none =
-      ap (λ o. turn_refusal o frames count (length (waiting_for w.core (record { 0 = k })))) (ap (λ l. slice_get l k) same_mixers ∙ none)
-
-  pub no-sink-to-collect : (count : ℕ) → slice_get ms k ≡ None → refusal_of w (Collect k count) ≡ Some NoSink
-  no-sink-to-collect count none = ap (λ o. collect_refusal o count) (ap (λ l. slice_get l k) same_mixers ∙ none)
-
   module _ (m : Mixer) (there : slice_get ms k ≡ Some m) where
     here : slice_get w.mixers k ≡ Some m
     here = ap (λ l. slice_get l k) same_mixers ∙ there

@@ -1,5 +1,5 @@
 -- An event that is done leaves a world that stands for the world after it.
-use Rattle.std.proofs.Common.{◌≡◌, ℕ, List, [], length, Some, Result, Ok, Err, refl, ap, sym, subst, ◌∙◌}
+use Rattle.std.proofs.Common.{◌≡◌, ℕ, List, [], length, Some, Result, Ok, Err, ap, sym, subst, ◌∙◌}
 use Rattle.std.specs.Prelude.{OnOk}
 use Rattle.std.specs.List.{concat, slice_get}
 use Rattle.px_session.specs.declared.event.Event.{Event}
@@ -66,37 +66,6 @@ unless-map NoSink A B f a = f a
 unless-map Worn A B f a = f a
 unless-map (TooMany asked there) A B f a = f a
 unless-map NoMemory A B f a = tt
-
--- so it holds where there was memory
-pub unless-memory : (fault : WorldFault) (A : Type 0) → (fault ≡ NoMemory → ⊥) → Unless fault A → A
-unless-memory Live A memory a = a
-unless-memory NotLive A memory a = a
-unless-memory NoSink A memory a = a
-unless-memory Worn A memory a = a
-unless-memory (TooMany asked there) A memory a = a
-unless-memory NoMemory A memory a = absurd (memory refl)
-
-abbrev made_of : State Stream → List Door → List Mixer → Running
-made_of core doors mixers = record { core = core; doors = doors; mixers = mixers }
-
-module _ (before after : Running) where
-  same-running : after.core ≡ before.core → after.doors ≡ before.doors → after.mixers ≡ before.mixers → after ≡ before
-  same-running core doors mixers =
-      ap (λ c. made_of c after.doors after.mixers) core ∙ ap (λ d. made_of before.core d after.mixers) doors ∙ ap (λ m. made_of before.core before.doors m) mixers
-
-  pub rests-connection : (given : Result (List Effect) WorldFault) (result : Result Outcome WorldFault) → IsSilent given result → Answered given (λ _. Unit {0}) (λ _. (after.core ≡ before.core) × (after.doors ≡ before.doors))
-      → after.mixers ≡ before.mixers → Answered result (λ _. Unit {0}) (λ _. after ≡ before)
-  rests-connection (Ok effects) (Ok outcome) silent stays same = tt
-  rests-connection (Ok effects) (Err fault) silent stays same = absurd silent
-  rests-connection (Err fault) (Ok outcome) silent stays same = absurd silent
-  rests-connection (Err fault) (Err other) silent stays same =
-      subst (λ f. Unless f (after ≡ before)) (sym silent)
-      (unless-map fault ((after.core ≡ before.core) × (after.doors ≡ before.doors)) (after ≡ before) (λ p. same-running p.0 p.1 same) stays)
-
-  pub rests-sink : (result : Result Outcome WorldFault) → Answered result (λ _. Unit {0}) (λ _. (after.core ≡ before.core) × (after.mixers ≡ before.mixers)) → after.doors ≡ before.doors → Answered result (λ _. Unit {0}) (λ _. after ≡ before)
-  rests-sink (Ok outcome) still same = tt
-  rests-sink (Err fault) still same =
-      unless-map fault ((after.core ≡ before.core) × (after.mixers ≡ before.mixers)) (after ≡ before) (λ p. same-running p.0 same p.1) still
 
 -- ---- what is kept where there is no sound
 

@@ -10,4 +10,3 @@ pub mod Outcome
 pub mod Keeping
 pub mod Playing
 pub mod Doing
-pub mod Present
