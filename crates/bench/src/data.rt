@@ -1,7 +1,7 @@
 // Data frames through a core.
 ghost use Rattle.std.specs.Prelude.{◌≡◌, ◌≢◌, ◌<◌, ◌≤◌, length, IfOk};
 ghost use Rattle.px_msg.specs.View.{sample_spec};
-ghost use Rattle.px_session.specs.HeaderRules.{IsHeader};
+ghost use Rattle.px_header.specs.HeaderRules.{IsHeader};
 
 use px_block::{Blocks, Fresh};
 use px_core::Core;
@@ -9,7 +9,8 @@ use px_ends::{Calls, MemSource};
 use px_frame::{Body, Frame, Packet};
 use px_msg::Parcel;
 use px_sample::Spec;
-use px_session::{Header, Reader, Step};
+use px_header::Header;
+use px_session::{Reader, Step};
 use px_types::{ConnId, Mem, NoMemory, SinkId, Text};
 use std::alloc::Global;
 

@@ -1,7 +1,7 @@
 -- What begins a session stays so whatever follows, and goes on event by event.
 use Rattle.std.proofs.Common.{◌≡◌, ◌⊎◌, inl, inr, ℕ, List, [], ◌∷◌, ◌++◌, None, Ok, Err, refl, ap, subst, ◌∙◌}
 use Rattle.std.proofs.lemmas.List.{append-nil}
-use Rattle.px_session.specs.declared.header.Header.{Header}
+use Rattle.px_header.specs.declared.header.Header.{Header}
 use Rattle.px_session.specs.declared.event.Event.{Event}
 use Rattle.px_session.specs.declared.event.Step.TheVariants as step
 use Rattle.px_session.specs.declared.fault.Cause.{Cause}

@@ -1,6 +1,6 @@
 -- Each list of bytes is a session that is played, or is refused.
 use Rattle.std.proofs.Common.{◌≡◌, ◌⊎◌, inl, inr, ℕ, List, [], ◌∷◌, ◌++◌, Option, None, Some, Ok, refl}
-use Rattle.px_session.specs.declared.header.Header.{Header}
+use Rattle.px_header.specs.declared.header.Header.{Header}
 use Rattle.px_session.specs.declared.event.Event.{Event}
 use Rattle.px_session.specs.Place.{Place, start_of}
 use Rattle.px_session.specs.HeaderReading.{header_at}

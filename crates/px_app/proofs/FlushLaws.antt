@@ -13,7 +13,7 @@ use Rattle.px_app.specs.declared.refusal.Refusal.{Refusal}
 use Rattle.px_app.specs.Ends.{Ends, Grew, ends_of}
 use Rattle.px_session.specs.Reader.{place_with}
 use Rattle.px_world.specs.World.{new_world}
-use Rattle.px_pieces.specs.Pieces.{Waiting}
+use Rattle.px_ends.specs.Pieces.{Waiting}
 use Rattle.px_app.specs.declared.playing.Playing.{Playing}
 use Rattle.px_app.specs.View.{Shown, parts_by, output_by}
 use Rattle.px_app.specs.Session.{Before, IsRefused}

@@ -17,3 +17,13 @@ pub mod UsageLaws
 pub mod RunLaws
 pub mod EitherLaws
 pub mod FinalLaws
+mod HeaderLaws
+mod BackLaws
+mod ServeLaws
+pub mod ServeRows
+pub mod Links
+pub mod ServeSteps
+pub mod Plainly
+pub mod Required
+pub mod Texts
+pub mod ServeReading

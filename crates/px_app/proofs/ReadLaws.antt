@@ -1,6 +1,6 @@
 -- What stands first in a session is a header, and behind it no header stands.
 use Rattle.std.proofs.Common.{◌≡◌, ℕ, List, ◌++◌, Bool, Ok, Option, true, false, refl, ap, subst, ◌∙◌}
-use Rattle.px_session.specs.declared.header.Header.{Header}
+use Rattle.px_header.specs.declared.header.Header.{Header}
 use Rattle.px_session.specs.declared.event.Step.{Step}
 use Rattle.px_session.specs.declared.event.Step.TheVariants as step
 use Rattle.px_session.specs.Place.{Place, done}

@@ -1,7 +1,7 @@
 -- What is refused stays so, whatever follows, and is no session that is played.
 use Rattle.std.proofs.Common.{◌≡◌, inl, inr, ℕ, List, [], ◌++◌, Option, None, Some, sym, ap, subst, ◌∙◌}
 use Rattle.px_ends.specs.Told.{before_taking, after_adding, IsAtEnd, WhereTold}
-use Rattle.px_session.specs.declared.header.Header.{Header}
+use Rattle.px_header.specs.declared.header.Header.{Header}
 use Rattle.px_session.specs.declared.event.Event.{Event}
 use Rattle.px_session.specs.declared.fault.Cause.TheVariants as cause
 use Rattle.px_session.specs.Place.{Place, Refusal as Broken, start_of}

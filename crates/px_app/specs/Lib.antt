@@ -9,3 +9,9 @@ pub mod Report
 pub mod Step
 pub mod Words
 pub mod Serving
+pub mod HeaderFile
+pub mod Back
+pub mod Tape
+pub mod Serves
+pub mod ServeCommand
+pub mod ServePlain

@@ -5,7 +5,7 @@ use Rattle.px_types.specs.declared.status.Status.TheVariants as status
 use Rattle.px_ends.specs.Told.{before_taking, after_adding, IsAtEnd, WhereTold}
 use Rattle.px_types.specs.Faults.{Rose}
 use Rattle.px_ends.specs.Whole.{AddsFront}
-use Rattle.px_session.specs.declared.header.Header.{Header}
+use Rattle.px_header.specs.declared.header.Header.{Header}
 use Rattle.px_session.specs.declared.event.Event.{Event}
 use Rattle.px_session.specs.declared.fault.Cause.TheVariants.{Truncated}
 use Rattle.px_session.specs.Place.{Place}

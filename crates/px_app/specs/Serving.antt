@@ -9,10 +9,10 @@ use Rattle.px_ends.specs.Device.{DeviceState}
 use Rattle.px_ends.specs.Host.{HostState}
 use Rattle.px_ends.specs.Told.{after_adding}
 use Rattle.px_ends.specs.Whole.{AddsFront}
-use Rattle.px_serve.specs.declared.serving.ServeEnd.{ServeEnd}
-use Rattle.px_serve.specs.declared.serving.ServeEnd.TheVariants as serve
-use Rattle.px_serve.specs.Serves.{ServesBy}
-use Rattle.px_serve.specs.Tape.{Output}
+use Rattle.px_app.specs.declared.serve.call.ServeEnd.{ServeEnd}
+use Rattle.px_app.specs.declared.serve.call.ServeEnd.TheVariants as serve
+use Rattle.px_app.specs.Serves.{ServesBy}
+use Rattle.px_app.specs.Tape.{Output}
 use Rattle.px_app.specs.declared.ending.Ending.TheVariants as ending
 use Rattle.px_app.specs.declared.refusal.Why.TheVariants as why
 use Rattle.px_app.specs.Ends.{Log}

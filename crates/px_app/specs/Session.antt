@@ -1,6 +1,6 @@
 -- What the bytes of a session are for a replay: they are played whole, or refused, behind the events before.
 use Rattle.std.specs.Prelude.{◌≡◌, ℕ, List, Ok, Err, Option, None, Some, ◌⊎◌}
-use Rattle.px_session.specs.declared.header.Header.{Header}
+use Rattle.px_header.specs.declared.header.Header.{Header}
 use Rattle.px_session.specs.declared.event.Event.{Event}
 use Rattle.px_session.specs.declared.event.Step.TheVariants as step
 use Rattle.px_session.specs.Place.{Place, Refusal as Broken, start_of}

@@ -4,7 +4,7 @@ use Rattle.std.specs.List.{flat_map}
 use Rattle.px_ends.specs.Told.{before_taking, after_adding}
 use Rattle.px_types.specs.Faults.{Rose}
 use Rattle.px_ends.specs.Whole.{AddsFront}
-use Rattle.px_session.specs.declared.header.Header.{Header}
+use Rattle.px_header.specs.declared.header.Header.{Header}
 use Rattle.px_session.specs.declared.event.Event.{Event}
 use Rattle.px_session.specs.declared.event.Event.TheVariants.{Turn}
 use Rattle.px_session.specs.declared.event.Step.{Step}

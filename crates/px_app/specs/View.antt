@@ -1,8 +1,8 @@
 -- What a replay shows of a session: the records of all that the server did, the bytes that one sink played, or a summary.
 use Rattle.std.specs.Prelude.{ℕ, bytes_eq, List, [], ◌∷◌, ◌++◌, Option, Some, option_map}
 use Rattle.std.specs.List.{concat, position}
-use Rattle.px_session.specs.declared.header.SinkSpec.{SinkSpec}
-use Rattle.px_session.specs.declared.header.Header.{Header}
+use Rattle.px_header.specs.declared.header.SinkSpec.{SinkSpec}
+use Rattle.px_header.specs.declared.header.Header.{Header}
 use Rattle.px_session.specs.declared.event.Event.{Event}
 use Rattle.px_session.specs.Spelling.{end_byte}
 use Rattle.px_world.specs.World.{World, Mixer, new_world}

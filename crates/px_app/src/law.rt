@@ -1,7 +1,7 @@
 //! That each input is played or refused, and refused in one way.
 
 ghost use Rattle.std.specs.Prelude.{◌≡◌, ◌≢◌, ◌⊎◌, ◌++◌, ℕ, List};
-ghost use Rattle.px_session.specs.declared.header.Header.{Header};
+ghost use Rattle.px_header.specs.declared.header.Header.{Header};
 ghost use Rattle.px_session.specs.declared.event.Event.{Event};
 ghost use Rattle.px_session.specs.declared.fault.Cause.TheVariants.{Truncated};
 ghost use Rattle.px_app.specs.declared.refusal.Refusal.{Refusal};

@@ -19,8 +19,9 @@ use crate::summary::summary;
 use crate::tally::Tally;
 use crate::view::{Lens, View, lens_of};
 use px_ends::{Sink, Source, write_all};
-use px_pieces::Pieces;
-use px_session::{Event, Header, Reader, write_end};
+use px_ends::Pieces;
+use px_header::Header;
+use px_session::{Event, Reader, write_end};
 use px_world::{World, WorldFault};
 use std::alloc::Global;
 

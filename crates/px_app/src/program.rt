@@ -15,7 +15,7 @@ ghost use Rattle.px_app.specs.Report.{Says};
 ghost use Rattle.px_app.specs.View.{Shown};
 ghost use Rattle.px_app.specs.Replay.{WasRefused, WasUnnamed, InputCounted};
 ghost use Rattle.px_app.specs.Serving.{is_serve, Served};
-ghost use Rattle.px_serve.specs.Tape.{out_end};
+ghost use Rattle.px_app.specs.Tape.{out_end};
 ghost use Rattle.px_app.specs.Words.{Meaning, Replay, Means, AreOther, Ran, DoneWhole, DoneFront, DoneCompletes};
 
 use crate::ending::Ending;
@@ -113,7 +113,7 @@ fn run_alone<S: Source, K: Sink, L: Sink>(
 /// `replay`, `replay --raw SINK` and `summary` replay the session that `input` has: see [`crate::replay`] and [`crate::View`].
 /// `gen NUMBER COUNT` writes the session that a number of 64 bits and a count up to 1,000,000 give, both in decimal digits
 /// alone: see [`px_gen::generate`]. `serve` with its options serves live clients on the sinks of the header that the host reads, and
-/// waits for them: see [`px_serve::serve_by`] and [`px_server::serve`]; with `--tape` the output then gets a session of what was done. Other words are `Usage`, and then nothing is read or written but
+/// waits for them: see [`serve_by`] and [`px_server::serve`]; with `--tape` the output then gets a session of what was done. Other words are `Usage`, and then nothing is read or written but
 /// the log's line. Where the log's line can't be written, the status is `WriteFault`.
 pub fn run<R, S, K, L, H>(
     rt: &R,

@@ -2,7 +2,7 @@
 
 ghost use Rattle.std.specs.Prelude.{◌≡◌, ◌<◌, ◌≤◌, ◌^◌, true, false, IfOk, OnOk, IfSome};
 ghost use Rattle.px_session.specs.Reader.{Takes};
-ghost use Rattle.px_session.specs.HeaderRules.{IsHeader};
+ghost use Rattle.px_header.specs.HeaderRules.{IsHeader};
 ghost use Rattle.px_session.specs.EventRules.{IsEvent};
 ghost use Rattle.px_session.specs.Held.{ReadCounts};
 ghost use Rattle.px_app.specs.Step.{header_step, event_step, unread};
@@ -10,7 +10,8 @@ ghost use Rattle.px_app.specs.Step.{header_step, event_step, unread};
 use crate::ending::Ending;
 use crate::refusal::{Refusal, Why};
 use px_ends::Source;
-use px_session::{Event, Header, ReadError, Reader, Step};
+use px_header::Header;
+use px_session::{Event, ReadError, Reader, Step};
 
 /// The header.
 pub(crate) fn next_header<S: Source>(

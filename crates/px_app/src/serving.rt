@@ -2,14 +2,14 @@
 
 ghost use Rattle.std.specs.Prelude.{◌≡◌, map, string_bytes};
 ghost use Rattle.px_app.specs.Ends.{log_end};
-ghost use Rattle.px_serve.specs.Tape.{out_end};
+ghost use Rattle.px_app.specs.Tape.{out_end};
 ghost use Rattle.px_app.specs.Serving.{is_serve, line_of_status, StatusReported, Served};
 
 use crate::ending::Ending;
 use crate::log::report;
 use crate::refusal::{Refusal, Why};
 use px_ends::{Host, Sink, write_all};
-use px_serve::{ServeEnd, serve_by};
+use crate::serve::{ServeEnd, serve_by};
 use px_types::Status;
 use std::alloc::Global;
 use std::rt::Clock;

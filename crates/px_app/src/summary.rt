@@ -4,7 +4,7 @@ ghost use Rattle.std.specs.Prelude.{◌≡◌, ◌++◌, IfOk, OnOk, string_byte
 ghost use Rattle.px_app.specs.Summary.{tally_lines, sink_line, sink_lines};
 
 use crate::tally::Tally;
-use px_session::SinkSpec;
+use px_header::SinkSpec;
 use px_types::{Mem, Text};
 use px_world::World;
 use std::alloc::{AllocError, Global};

@@ -4,7 +4,7 @@ ghost use Rattle.std.specs.Prelude.{◌≡◌, bytes_eq};
 ghost use Rattle.std.specs.List.{position};
 ghost use Rattle.px_app.specs.View.{shown_of, lens_of};
 
-use px_session::SinkSpec;
+use px_header::SinkSpec;
 
 /// What a replay shows of a session. Own: PulseAudio records no sessions.
 #[derive(Clone, Copy, Debug)]

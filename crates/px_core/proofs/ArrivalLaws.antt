@@ -8,8 +8,8 @@ use Rattle.std.proofs.lemmas.List.{append-nil}
 use Rattle.std.proofs.lemmas.Option.{none-some, same_Some}
 use Rattle.px_types.specs.declared.ids.InputId.{InputId}
 use Rattle.px_types.specs.declared.ids.SinkId.{SinkId}
-use Rattle.px_session.specs.declared.header.SinkSpec.{SinkSpec}
-use Rattle.px_session.specs.HeaderRules.{IsSink}
+use Rattle.px_header.specs.declared.header.SinkSpec.{SinkSpec}
+use Rattle.px_header.specs.HeaderRules.{IsSink}
 use Rattle.px_model.specs.Frame.{SampleSpec}
 use Rattle.px_model.specs.Orderly.{IsParcel}
 use Rattle.px_chmap.specs.Plan.{FeedsAll}
@@ -32,7 +32,7 @@ use Rattle.px_ctl_play.specs.Arrival.{joined_by, is_settled_with, settled_with, 
 use Rattle.px_ctl_play.specs.Factors.{own_factors, regrouped}
 use Rattle.px_ctl_play.specs.Move.{feed_to}
 use Rattle.px_ctl_play.specs.Told.{same_spec}
-use Rattle.px_targets.specs.Sinks.{target_of}
+use Rattle.px_sinks.specs.Sinks.{target_of}
 use Rattle.px_state.specs.declared.delayed.Delayed.{Delayed}
 use Rattle.px_state.specs.Delayed.{is_of, delayed_of, Suits, Waits, IsDelayed}
 use Rattle.px_state.specs.State.{State, has_index, input_of, is_settled, settled_on}

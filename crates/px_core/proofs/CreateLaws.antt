@@ -15,8 +15,8 @@ use Rattle.px_sample.specs.Format.{code_of, format_with, frame_size_of}
 use Rattle.px_chmap.specs.Plan.{FeedsAll}
 use Rattle.px_chmap.proofs.PlanLemmas.{plan_fits}
 use Rattle.px_chmap.specs.ChannelMap.{IsChannelMap}
-use Rattle.px_session.specs.declared.header.SinkSpec.{SinkSpec}
-use Rattle.px_session.specs.HeaderRules.{IsSink, AreSinks}
+use Rattle.px_header.specs.declared.header.SinkSpec.{SinkSpec}
+use Rattle.px_header.specs.HeaderRules.{IsSink, AreSinks}
 use Rattle.px_model.specs.Frame.{SampleSpec}
 use Rattle.px_model.specs.Orderly.{IsPlayable, IsRepaired, IsNewStream}
 use Rattle.px_msg.specs.Repair.{UNSET, MAXLENGTH, repaired, frames_asked, between_one_and, maxlength_of, tlength_of, minreq_of, prebuf_of}
@@ -42,9 +42,9 @@ use Rattle.px_ctl_play.proofs.Passed.{IsCreated, create_passed}
 use Rattle.px_core.specs.Command.{create_on}
 use Rattle.px_core.specs.Grouped.{channels_there, IsGroupOf}
 use Rattle.px_state.specs.Plan.{Plan}
-use Rattle.px_targets.specs.Sinks.{group_of, group_named}
+use Rattle.px_sinks.specs.Sinks.{group_of, group_named}
 use Rattle.px_core.proofs.RowLaws.{Each, each_by}
-use Rattle.px_targets.proofs.Sinks.{IsThere}
+use Rattle.px_sinks.proofs.Sinks.{IsThere}
 use Rattle.px_core.specs.Keeps.{IsInput, IsKept, IsRising}
 use Rattle.px_core.specs.Lawful.{IsNew}
 use Rattle.px_core.proofs.ListLaws.{all_weaken}

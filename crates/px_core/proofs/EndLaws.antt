@@ -39,7 +39,7 @@ use Rattle.px_core.specs.Parcels.{given_in}
 use Rattle.px_core.specs.Keeps.{AreDistinct, IsSteady, IsKept, IsStep}
 use Rattle.px_core.specs.Lawful.{Lawful, AreLawfulOwing, owed_after}
 use Rattle.px_core.specs.Ending.{is_end_of, ends_of, goes_on, begins_with, begins_of, begins_by}
-use Rattle.px_shown.specs.Shown.{told_between}
+use Rattle.px_subscribe.specs.Moments.{told_between}
 use Rattle.px_state.specs.Events.{scene_of, step_events}
 use Rattle.px_core.specs.Step.{Step, connect, frame, broken, close, cut, sweep, notice, out, body_answer, frame_of, answer_of, answered, stepped, effects_of, stepped_by, effects_by}
 use Rattle.px_core.proofs.AnswerLaws.{IsLawful}

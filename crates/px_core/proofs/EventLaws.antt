@@ -8,10 +8,10 @@ use Rattle.px_types.specs.declared.ids.ConnId.{ConnId}
 use Rattle.px_plan.specs.declared.input.Connection.{Connection}
 use Rattle.px_plan.specs.declared.sending.Reason.TheVariants.{Limit}
 use Rattle.px_plan.specs.Plan.{idle}
-use Rattle.px_events.specs.declared.announce.Subscriber.{Subscriber}
-use Rattle.px_events.specs.declared.event.Event.{Event}
-use Rattle.px_events.specs.Event.{message_of, hears}
-use Rattle.px_events.specs.Announce.{told_to, announced, announced_all}
+use Rattle.px_subscribe.specs.declared.announce.Subscriber.{Subscriber}
+use Rattle.px_subscribe.specs.declared.event.Event.{Event}
+use Rattle.px_subscribe.specs.Event.{message_of, hears}
+use Rattle.px_subscribe.specs.Announce.{told_to, announced, announced_all}
 use Rattle.px_plan.specs.declared.sending.Sending.{Sending}
 use Rattle.px_tag.specs.Item.{number}
 use Rattle.px_state.specs.declared.effect.Effect.{Effect}

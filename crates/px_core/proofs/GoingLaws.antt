@@ -11,7 +11,7 @@ use Rattle.px_state.specs.State.{is_leaving, goes_on, has_index, input_of, waiti
 use Rattle.px_state.specs.Change.{change_first, drop_first, leaving}
 use Rattle.px_core.specs.Keeps.{IsGoing, IsAwaiting}
 use Rattle.px_core.proofs.ListLaws.{all_weaken}
-use Rattle.px_inputs.proofs.ByStream.{found-changed, found-dropped}
+use Rattle.px_input_table.proofs.ByStream.{found-changed, found-dropped}
 
 -- the input that was found is there and goes on
 abbrev Goes : Option Input → Type 0

@@ -8,7 +8,7 @@ use Rattle.std.proofs.lemmas.List.Elements.{filter-append}
 use Rattle.std.proofs.lemmas.Option.{none-some, same_Some, slice_get_within}
 use Rattle.px_types.specs.declared.ids.InputId.{InputId}
 use Rattle.px_types.specs.declared.ids.SinkId.{SinkId}
-use Rattle.px_session.specs.declared.header.SinkSpec.{SinkSpec}
+use Rattle.px_header.specs.declared.header.SinkSpec.{SinkSpec}
 use Rattle.px_vol.specs.Volume.{norm}
 use Rattle.px_flat.specs.FlatVolume.{FlatGroup, member_of, new_group}
 use Rattle.px_flat.proofs.Inputs.{rest_of, found_in, unfound_in}
@@ -35,9 +35,9 @@ use Rattle.px_core.specs.Lawful.{Lawful, AreLawfulOwing, owed_for, owed_after}
 use Rattle.px_core.specs.Keeps.{IsInput}
 use Rattle.px_core.specs.Notice.{is_on, input_on}
 use Rattle.px_state.specs.Out.{on_way, inputs_past, past}
-use Rattle.px_targets.specs.Sinks.{group_named}
+use Rattle.px_sinks.specs.Sinks.{group_named}
 use Rattle.px_core.proofs.ListLaws.{same_passed, same_left, all_weaken, found_test}
-use Rattle.px_targets.proofs.Sinks.{IsThere}
+use Rattle.px_sinks.proofs.Sinks.{IsThere}
 use Rattle.px_core.proofs.ChangeLaws.{sink_at, pushed_other}
 
 abbrev channels_of : Input → ℕ

@@ -24,22 +24,22 @@ use Rattle.px_plan.specs.declared.input.Input.{Input}
 use Rattle.px_plan.specs.declared.input.Way.{Way}
 use Rattle.px_plan.specs.declared.input.Way.TheVariants.{There, Left}
 use Rattle.px_plan.specs.Plan.{Planned}
-use Rattle.px_inputs.specs.Inputs.{on_way}
+use Rattle.px_input_table.specs.Inputs.{on_way}
 use Rattle.px_frame.specs.Fault.{code_of}
 use Rattle.px_reply.specs.declared.info.InputInfo.{InputInfo}
 use Rattle.px_ctl_info.specs.Infos.{told_of, member_with, inputs_with, inputs_told}
 use Rattle.px_msg.specs.declared.message.Msg.{Msg}
 use Rattle.px_msg.specs.declared.message.Msg.TheVariants.{New, Attach, Detach, Write, Cork, Flush, Trigger, Prebuf, Drain, Attr, Factors, Query}
-use Rattle.px_shown.proofs.Unchanged.{none_since}
-use Rattle.px_events.specs.declared.announce.Subscriber.{Subscriber}
-use Rattle.px_events.specs.declared.event.Event.{Event}
-use Rattle.px_events.specs.declared.event.Facility.{Facility}
-use Rattle.px_events.specs.declared.event.Facility.TheVariants as facility
-use Rattle.px_events.specs.Event.{message_of, hears}
-use Rattle.px_events.specs.Announce.{told_to, announced, announced_all}
-use Rattle.px_events.specs.Became.{events_between}
-use Rattle.px_events.specs.Told.{infos_in}
-use Rattle.px_shown.specs.Shown.{telling_of, given_in, subscriber_of, subscribers_of}
+use Rattle.px_subscribe.proofs.Unchanged.{none_since}
+use Rattle.px_subscribe.specs.declared.announce.Subscriber.{Subscriber}
+use Rattle.px_subscribe.specs.declared.event.Event.{Event}
+use Rattle.px_subscribe.specs.declared.event.Facility.{Facility}
+use Rattle.px_subscribe.specs.declared.event.Facility.TheVariants as facility
+use Rattle.px_subscribe.specs.Event.{message_of, hears}
+use Rattle.px_subscribe.specs.Announce.{told_to, announced, announced_all}
+use Rattle.px_subscribe.specs.Became.{events_between}
+use Rattle.px_subscribe.specs.InfoBytes.{infos_in}
+use Rattle.px_subscribe.specs.Moments.{telling_of, given_in, subscriber_of, subscribers_of}
 use Rattle.px_state.specs.Effect.{sent, sending, fits}
 use Rattle.px_state.specs.State.{State, has_number, has_index, goes_on, connection_of}
 use Rattle.px_state.specs.Plan.{sent_all, ended_by}

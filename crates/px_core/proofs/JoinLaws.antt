@@ -7,7 +7,7 @@ use Rattle.std.proofs.lemmas.Bool.{cond-true, cond-false, eq-eqb, ne_eqb}
 use Rattle.std.proofs.lemmas.Option.{none-some, same_Some}
 use Rattle.px_types.specs.declared.ids.InputId.{InputId}
 use Rattle.px_types.specs.declared.ids.SinkId.{SinkId}
-use Rattle.px_session.specs.declared.header.SinkSpec.{SinkSpec}
+use Rattle.px_header.specs.declared.header.SinkSpec.{SinkSpec}
 use Rattle.px_model.specs.Frame.{SampleSpec}
 use Rattle.px_flat.specs.declared.member.Member.{Member}
 use Rattle.px_flat.specs.Member.{is_input, channels_of}
@@ -18,7 +18,7 @@ use Rattle.px_plan.specs.declared.input.Input.{Input}
 use Rattle.px_plan.specs.declared.input.Standing.TheVariants.{Moving}
 use Rattle.px_plan.specs.declared.target.Target.{Target}
 use Rattle.px_ctl_play.specs.Arrival.{HasChannels, CanJoin}
-use Rattle.px_targets.specs.Sinks.{target_of, target_at}
+use Rattle.px_sinks.specs.Sinks.{target_of, target_at}
 use Rattle.px_state.specs.State.{State, has_index, input_of}
 use Rattle.px_core.specs.Keeps.{IsFedAt, GoesTo, GoesThere, IsInput, IsKept}
 use Rattle.px_core.proofs.ListLaws.{found_all}

@@ -64,11 +64,11 @@ use Rattle.px_ctl_play.specs.Create.{latency_of}
 use Rattle.px_ctl_play.specs.Move.{feed_to}
 use Rattle.px_state.specs.Delayed.{delayed_of}
 use Rattle.px_core.specs.Notice.{input_on, owner_of, left_of, arrival_between, arrival_at, arrived_with, given_up_by, given_up, notice_answer}
-use Rattle.px_targets.specs.Sinks.{rate_on, target_at}
+use Rattle.px_sinks.specs.Sinks.{rate_on, target_at}
 use Rattle.px_core.specs.Step.{Step, connect, frame, broken, close, cut, sweep, notice, out, body_answer, frame_of, sender_of, answer_of, answered as after_plan, answer_effects, stepped, effects_of}
-use Rattle.px_events.specs.Became.{events_between}
-use Rattle.px_events.specs.Told.{infos_in}
-use Rattle.px_shown.specs.Shown.{telling_of, subscribers_of, given_in, told_between}
+use Rattle.px_subscribe.specs.Became.{events_between}
+use Rattle.px_subscribe.specs.InfoBytes.{infos_in}
+use Rattle.px_subscribe.specs.Moments.{telling_of, subscribers_of, given_in, told_between}
 use Rattle.px_state.specs.Events.{scene_of, step_events}
 use Rattle.px_state.proofs.SceneLaws.{events_are, none_events}
 use Rattle.px_core.proofs.EventLaws.{events_no_error}

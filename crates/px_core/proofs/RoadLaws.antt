@@ -4,7 +4,7 @@ use Rattle.std.specs.Prelude.{not, nat_eq, slice_get, IfSome, IsSome}
 use Rattle.std.proofs.lemmas.Bool.{cond_both, eqb-false, ltb-true}
 use Rattle.std.proofs.lemmas.Option.{same_Some, slice_get_within}
 use Rattle.px_types.specs.declared.error_code.ErrorCode.TheVariants.{Busy, Invalid, NoEntity, NotSupported, TooLarge}
-use Rattle.px_session.specs.declared.header.SinkSpec.{SinkSpec}
+use Rattle.px_header.specs.declared.header.SinkSpec.{SinkSpec}
 use Rattle.px_reply.specs.Front.{reply_to}
 use Rattle.px_plan.specs.declared.change.Change.TheVariants.{Moves}
 use Rattle.px_plan.specs.declared.input.Input.{Input}
@@ -24,7 +24,7 @@ use Rattle.px_core.proofs.AnswerLaws.{IsLawful}
 use Rattle.px_core.proofs.RowLaws.{Each, each_check}
 use Rattle.px_core.proofs.VerbLaws.{by_own}
 use Rattle.px_core.proofs.VolumeLaws.{going_is}
-use Rattle.px_targets.proofs.Sinks.{IsThere}
+use Rattle.px_sinks.proofs.Sinks.{IsThere}
 
 module _ {P : Type 0} (state : State P) (index tag : ℕ) (named : Named) (found : (target : Target) → target_in named ≡ Some target → IsThere state.sinks target) where
   abbrev answer : Plan P

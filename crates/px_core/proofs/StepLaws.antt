@@ -22,8 +22,8 @@ use Rattle.px_frame.specs.declared.frame.Body.{Body}
 use Rattle.px_frame.specs.declared.frame.Body.TheVariants.{Control, Write}
 use Rattle.px_frame.specs.Frame.{IsBody}
 use Rattle.px_frame.specs.Fault.{code_of as rule_of}
-use Rattle.px_session.specs.declared.header.Header.{Header}
-use Rattle.px_session.specs.HeaderRules.{IsHeader}
+use Rattle.px_header.specs.declared.header.Header.{Header}
+use Rattle.px_header.specs.HeaderRules.{IsHeader}
 use Rattle.px_names.specs.Names.{Naming, same_text, sink_named}
 use Rattle.px_names.specs.Clients.{new_client, client_on, client_numbered}
 use Rattle.px_names.specs.InputLists.{list_of as list_of_input}
@@ -59,7 +59,7 @@ use Rattle.px_core.specs.Orderly.{inputs_there}
 use Rattle.px_core.specs.Keeps.{AreDistinct, AreInStep, IsKept, IsStep, Spares, handed_out_by}
 use Rattle.px_state.specs.Out.{next_for, handed_out}
 use Rattle.px_state.specs.Plan.{Plan, refused, reply_fits, requested, broken_off}
-use Rattle.px_targets.specs.Sinks.{rate_of, rate_on, depth_of, sink_of, named_by}
+use Rattle.px_sinks.specs.Sinks.{rate_of, rate_on, depth_of, sink_of, named_by}
 use Rattle.px_core.specs.Step.{Step, connect, frame, broken, close, cut, sweep, notice, out, body_answer, frame_of, answered, answer_of, stepped, stepped_by}
 use Rattle.px_core.proofs.ListLaws.{all_push}
 use Rattle.px_core.proofs.ChangeLaws.{sink_at, held_on}
@@ -68,7 +68,7 @@ use Rattle.px_core.proofs.GroupLaws.{changes_grouped, past_grouped, new_grouped}
 use Rattle.px_core.proofs.VerbLaws.{others_keep, changes_follow}
 use Rattle.px_core.proofs.RowLaws.{Each, each_check, each_then}
 use Rattle.px_core.proofs.Going.{going_by_own}
-use Rattle.px_targets.proofs.Sinks.{named_there}
+use Rattle.px_sinks.proofs.Sinks.{named_there}
 use Rattle.px_core.proofs.EntryLaws.{found_by_index}
 use Rattle.px_core.proofs.AnswerLaws.{IsLawful, data_lawful, away, left_lawful}
 use Rattle.px_core.proofs.ArrivalLaws.{IsSound, spec_is, arrival_sound, arrival_committed}

@@ -26,7 +26,7 @@ use Rattle.px_core.specs.Lawful.{HasLeft, Lawful, AreLawfulOwing, owed_after}
 use Rattle.px_state.specs.Out.{on_way, inputs_past, past}
 use Rattle.px_core.proofs.ListLaws.{all_weaken, all_drop, all_push, found_test}
 use Rattle.px_core.proofs.VerbLaws.{by_own, none_goes}
-use Rattle.px_inputs.proofs.ByStream.{found-changed, found-dropped}
+use Rattle.px_input_table.proofs.ByStream.{found-changed, found-dropped}
 
 -- they all do
 abbrev pub Still : {P : Type 0} → State P → Type 0

@@ -50,7 +50,7 @@ use Rattle.px_ctl_play.proofs.Passed.{IsCreated, create_passed}
 use Rattle.px_state.specs.State.{State, stream_of, input_named}
 use Rattle.px_state.specs.Plan.{Plan, plan_effects}
 use Rattle.px_core.specs.Command.{default_sink, sink_volume, sink_mute, input_volume, input_mute, row}
-use Rattle.px_targets.specs.Sinks.{rate_of, depth_of, sink_of, named_by, group_named, group_under, targets_of}
+use Rattle.px_sinks.specs.Sinks.{rate_of, depth_of, sink_of, named_by, group_named, group_under, targets_of}
 use Rattle.px_core.proofs.RowLaws.{Each, each_check, each_then, each_by}
 
 -- ---- replies: the fifth byte, the last of a reply's first number, is 2

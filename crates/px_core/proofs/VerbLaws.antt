@@ -10,7 +10,7 @@ use Rattle.px_types.specs.declared.ids.SinkId.{SinkId}
 use Rattle.px_names.specs.Names.{Naming}
 use Rattle.px_names.specs.declared.input_lists.InputList.{InputList}
 use Rattle.px_names.specs.InputLists.{with_list_of, without_list_of}
-use Rattle.px_session.specs.declared.header.SinkSpec.{SinkSpec}
+use Rattle.px_header.specs.declared.header.SinkSpec.{SinkSpec}
 use Rattle.px_model.specs.Frame.{SampleSpec}
 use Rattle.px_model.specs.Orderly.{Inputs, IsWhole}
 use Rattle.px_flat.specs.FlatVolume.{FlatGroup}

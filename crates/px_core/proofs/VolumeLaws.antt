@@ -4,7 +4,7 @@ use Rattle.std.specs.Prelude.{not, slice_get}
 use Rattle.std.proofs.lemmas.Option.{none-some, slice_get_within}
 use Rattle.px_types.specs.declared.ids.SinkId.{SinkId}
 use Rattle.px_types.specs.declared.error_code.ErrorCode.TheVariants.{Busy, Invalid, NoEntity}
-use Rattle.px_session.specs.declared.header.SinkSpec.{SinkSpec}
+use Rattle.px_header.specs.declared.header.SinkSpec.{SinkSpec}
 use Rattle.px_model.specs.Frame.{SampleSpec}
 use Rattle.px_flat.specs.declared.member.Member.{Member}
 use Rattle.px_flat.specs.FlatVolume.{FlatGroup, member_of, with_sink_volume, with_sink_mute, with_input_volume, with_input_mute}
@@ -22,11 +22,11 @@ use Rattle.px_state.specs.State.{State, goes_on, going, has_index, input_named, 
 use Rattle.px_core.specs.Command.{sink_volume, sink_mute, input_volume, input_mute}
 use Rattle.px_core.specs.Grouped.{IsGroupOf}
 use Rattle.px_core.specs.Keeps.{IsInput, IsKept}
-use Rattle.px_targets.specs.Sinks.{group_of, group_named, group_under}
+use Rattle.px_sinks.specs.Sinks.{group_of, group_named, group_under}
 use Rattle.px_core.proofs.AnswerLaws.{IsLawful, regroups, rising_filter}
 use Rattle.px_core.proofs.ListLaws.{found_all}
 use Rattle.px_core.proofs.RowLaws.{Each, each_check, each_then}
-use Rattle.px_targets.proofs.Sinks.{IsThere}
+use Rattle.px_sinks.proofs.Sinks.{IsThere}
 
 same_group : (sink : SinkId) (s : SinkSpec) (inputs : List Input) (group after : FlatGroup) → HasSameInputs group after → IsGroupOf sink s inputs group → IsGroupOf sink s inputs after
 same_group sink s inputs group after same is = record { channels = same.channels ∙ is.channels; members = λ i. same.inputs i ∙ is.members i }

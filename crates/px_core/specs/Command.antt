@@ -35,7 +35,7 @@ use Rattle.px_ctl_vol.specs.Sinks.{set_sink_volume, set_sink_mute}
 use Rattle.px_state.specs.State.{State, stream_of, input_named}
 use Rattle.px_core.specs.Notice.{owner_of}
 use Rattle.px_state.specs.Plan.{Plan, refused, requested, broken_off}
-use Rattle.px_targets.specs.Sinks.{rate_of, depth_of, sink_of, named_as, named_by, group_named, group_under, targets_of}
+use Rattle.px_sinks.specs.Sinks.{rate_of, depth_of, sink_of, named_as, named_by, group_named, group_under, targets_of}
 
 -- ---- the commands
 

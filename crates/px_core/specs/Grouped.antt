@@ -3,7 +3,7 @@ use Rattle.std.specs.Prelude.{◌≡◌, ℕ, Bool, false, not, nat_eq, List, ma
 use Rattle.std.specs.List.{list_any}
 use Rattle.px_types.specs.declared.ids.InputId.{InputId}
 use Rattle.px_types.specs.declared.ids.SinkId.{SinkId}
-use Rattle.px_session.specs.declared.header.SinkSpec.{SinkSpec}
+use Rattle.px_header.specs.declared.header.SinkSpec.{SinkSpec}
 use Rattle.px_flat.specs.Inputs.{channels_in}
 use Rattle.px_flat.specs.FlatVolume.{FlatGroup}
 use Rattle.px_plan.specs.declared.input.Input.{Input}

@@ -5,12 +5,12 @@ use Rattle.px_model.specs.Frame.{SampleSpec}
 use Rattle.px_names.specs.declared.client.Client.{Client}
 use Rattle.px_names.specs.Clients.{client_on, mask_of}
 use Rattle.px_plan.specs.declared.input.Connection.{Connection}
-use Rattle.px_events.specs.declared.event.Event.{Event}
-use Rattle.px_events.specs.Event.{message_of, hears}
-use Rattle.px_events.specs.Infos.{Infos, Given}
-use Rattle.px_events.specs.Became.{events_between}
-use Rattle.px_events.specs.Told.{infos_in}
-use Rattle.px_shown.specs.Shown.{telling_of, given_in}
+use Rattle.px_subscribe.specs.declared.event.Event.{Event}
+use Rattle.px_subscribe.specs.Event.{message_of, hears}
+use Rattle.px_subscribe.specs.Infos.{Infos, Given}
+use Rattle.px_subscribe.specs.Became.{events_between}
+use Rattle.px_subscribe.specs.InfoBytes.{infos_in}
+use Rattle.px_subscribe.specs.Moments.{telling_of, given_in}
 use Rattle.px_state.specs.declared.effect.Effect.{Effect}
 use Rattle.px_state.specs.declared.effect.Effect.TheVariants.{Sent, Closed}
 use Rattle.px_state.specs.Effect.{sent}

@@ -25,7 +25,7 @@ use Rattle.px_state.specs.State.{State}
 use Rattle.px_core.specs.Connecting.{going_on}
 use Rattle.px_state.specs.Plan.{Plan}
 use Rattle.px_state.specs.Delayed.{delayed_of}
-use Rattle.px_targets.specs.Sinks.{rate_on, target_at}
+use Rattle.px_sinks.specs.Sinks.{rate_on, target_at}
 
 -- the input with an index, where it is on the sink
 abbrev pub is_on : SinkId → InputId → Input → Bool

@@ -2,7 +2,7 @@
 use Rattle.std.specs.Prelude.{◌≡◌, ℕ, Bool, true, false, cond, ◌&&◌, nat_eq, List, [], ◌∷◌, map, filter, slice_get, Option, None, Some}
 use Rattle.std.specs.FinMap as finite
 use Rattle.px_types.specs.declared.ids.SinkId.{SinkId}
-use Rattle.px_session.specs.declared.header.SinkSpec.{SinkSpec}
+use Rattle.px_header.specs.declared.header.SinkSpec.{SinkSpec}
 use Rattle.px_model.specs.Frame.{SampleSpec}
 use Rattle.px_model.specs.Orderly.{Inputs, IsOrderly}
 use Rattle.px_msg.specs.View.{sample_spec, message_of}

@@ -3,7 +3,7 @@
 ghost use Rattle.std.specs.Prelude.{◌≡◌, IfOk, IfErr, OnOk, OnErr, None, Some, slice_get};
 ghost use Rattle.px_plan.specs.declared.input.Standing.TheVariants.{Moving};
 ghost use Rattle.px_plan.specs.Target.{IsTarget};
-ghost use Rattle.px_targets.specs.Sinks.{target_at};
+ghost use Rattle.px_sinks.specs.Sinks.{target_at};
 ghost use Rattle.px_core.specs.Keeps.{IsKept};
 ghost use Rattle.px_core.specs.Notice.{arrival_at, arrival_between, arrived_with};
 ghost use Rattle.px_state.specs.State.{input_of};
@@ -16,7 +16,7 @@ use px_flat::Group;
 use px_msg::{Msg, Parcel};
 use px_plan::{Input, Target};
 use px_state::{Effects, Tables, delayed_count, finish_arrival};
-use px_targets::{group_on, target_at};
+use px_sinks::{group_on, target_at};
 use px_types::{Mem, SinkId};
 use std::alloc::Global;
 

@@ -4,7 +4,7 @@
 ghost use Rattle.std.specs.Prelude.{◌≡◌, [], IfOk};
 ghost use Rattle.std.specs.List.{AllByRecursion};
 ghost use Rattle.px_cmd.specs.Meant.{meant};
-ghost use Rattle.px_session.specs.HeaderRules.{AreSinks};
+ghost use Rattle.px_header.specs.HeaderRules.{AreSinks};
 ghost use Rattle.px_state.specs.Tables.{state_of};
 ghost use Rattle.px_core.specs.Command.{is_barred, read_answer, command_answer, packet_answer};
 ghost use Rattle.px_core.specs.Grouped.{AreGrouped};

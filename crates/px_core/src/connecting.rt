@@ -9,7 +9,7 @@ ghost use Rattle.px_frame.specs.Fault.{code_of};
 ghost use Rattle.px_plan.specs.declared.input.Connection.{Connection};
 ghost use Rattle.px_plan.specs.declared.input.Input.{Input};
 ghost use Rattle.px_plan.specs.Plan.{changing};
-ghost use Rattle.px_session.specs.HeaderRules.{AreSinks};
+ghost use Rattle.px_header.specs.HeaderRules.{AreSinks};
 ghost use Rattle.px_state.specs.State.{connection_of, marked_of, is_from};
 ghost use Rattle.px_core.specs.Connecting.{is_full, connected, going_on, ended, ends, swept, sweep_of};
 ghost use Rattle.px_state.specs.Change.{joined};
@@ -22,7 +22,7 @@ ghost use Rattle.px_state.specs.Tables.{state_of};
 use crate::found::{connection_of, going_on};
 use px_flat::Group;
 use px_frame::FrameFault;
-use px_inputs::goes_on;
+use px_input_table::goes_on;
 use px_msg::Msg;
 use px_plan::{Change, Connection, Input, Plan, Reason};
 use px_state::{

@@ -4,10 +4,10 @@ ghost use Rattle.std.specs.Prelude.{◌≡◌, ◌≤◌, [], false, All, IfSome
 ghost use Rattle.std.specs.List.{AllByRecursion};
 ghost use Rattle.px_plan.specs.declared.input.Input.{Input};
 ghost use Rattle.px_plan.specs.Row.{Plans};
-ghost use Rattle.px_session.specs.HeaderRules.{AreSinks};
+ghost use Rattle.px_header.specs.HeaderRules.{AreSinks};
 ghost use Rattle.px_ctl_info.specs.Infos.{sink_info, sink_infos, input_info, input_infos};
 ghost use Rattle.px_ctl_info.specs.Sinks.{server_info};
-ghost use Rattle.px_targets.specs.Sinks.{named_by, targets_of};
+ghost use Rattle.px_sinks.specs.Sinks.{named_by, targets_of};
 ghost use Rattle.px_core.specs.Command.{default_sink};
 ghost use Rattle.px_core.specs.Keeps.{IsInput};
 ghost use Rattle.px_state.specs.State.{input_named};
@@ -19,7 +19,7 @@ use px_flat::Group;
 use px_msg::Msg;
 use px_plan::{Input, Plan, Refusal};
 use px_state::Tables;
-use px_targets::{default_sink, named_by, targets_of};
+use px_sinks::{default_sink, named_by, targets_of};
 use std::alloc::Global;
 
 /// The sink that is named.

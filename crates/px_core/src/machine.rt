@@ -3,7 +3,7 @@
 ghost use Rattle.std.specs.Prelude.{◌≡◌, ◌<◌, ◌+◌, length, IfOk, IfErr, IfSome, IsSome, OnOk, OnErr};
 ghost use Rattle.std.specs.Option.{option_to_list};
 ghost use Rattle.px_frame.specs.Frame.{IsBody};
-ghost use Rattle.px_session.specs.HeaderRules.{IsHeader};
+ghost use Rattle.px_header.specs.HeaderRules.{IsHeader};
 ghost use Rattle.px_state.specs.Effect.{IsSendable};
 ghost use Rattle.px_state.specs.State.{new_state};
 ghost use Rattle.px_core.specs.Step.{Step, stepped, effects_of};
@@ -15,7 +15,7 @@ use crate::{frames, notice};
 use px_frame::{Frame, FrameFault};
 use px_msg::{Msg, Notice, Parcel};
 use px_plan::Reason;
-use px_session::Header;
+use px_header::Header;
 use px_state::{Effect, Effects, Tables, closed_for, hand_out, new_tables, outgoing, put_back};
 use px_types::{ConnId, Mem, SinkId};
 use std::alloc::Global;

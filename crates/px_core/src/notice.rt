@@ -2,7 +2,7 @@
 //! own).
 
 ghost use Rattle.std.specs.Prelude.{◌≡◌, [], None, Some, slice_get, IfOk, IfErr, OnOk, OnErr};
-ghost use Rattle.px_session.specs.HeaderRules.{AreSinks};
+ghost use Rattle.px_header.specs.HeaderRules.{AreSinks};
 ghost use Rattle.px_ctl_play.specs.Told.{IsMemberIn};
 ghost use Rattle.px_core.specs.Keeps.{IsKept, IsRising};
 ghost use Rattle.px_core.specs.Notice.{IsNews, owner_of, told_of, drained_of, measured_of, input_on, left_of, given_up, notice_answer};
@@ -17,7 +17,7 @@ use px_flat::Group;
 use px_msg::{Msg, Notice, Parcel};
 use px_plan::{Connection, Input, Plan, Standing};
 use px_state::{Effects, Tables, finish};
-use px_targets::{group_on, rate_on};
+use px_sinks::{group_on, rate_on};
 use px_types::{InputId, Mem, SinkId};
 use std::alloc::Global;
 

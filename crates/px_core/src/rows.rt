@@ -8,8 +8,8 @@ ghost use Rattle.px_plan.specs.Row.{Plans};
 ghost use Rattle.px_plan.specs.Target.{IsNamed};
 ghost use Rattle.px_names.specs.Clients.{client_on};
 ghost use Rattle.px_ctl_info.specs.Clients.{set_client_name};
-ghost use Rattle.px_session.specs.HeaderRules.{AreSinks};
-ghost use Rattle.px_targets.specs.Sinks.{named_by};
+ghost use Rattle.px_header.specs.HeaderRules.{AreSinks};
+ghost use Rattle.px_sinks.specs.Sinks.{named_by};
 ghost use Rattle.px_state.specs.State.{stream_of};
 ghost use Rattle.px_state.specs.Tables.{state_of};
 ghost use Rattle.px_core.specs.Command.{IsOnPlaying, IsOnStream, IsOnProperties, IsOnClients, IsOnServer, IsRead, new_attributes, create_on, row};
@@ -31,7 +31,7 @@ use px_msg::Msg;
 use px_plan::{Connection, Input, Named, Plan, Refusal};
 use px_state::Tables;
 use px_tag::PropList;
-use px_targets::{depth_of, group_named, named_by, rate_of, sink_of};
+use px_sinks::{depth_of, group_named, named_by, rate_of, sink_of};
 use std::alloc::Global;
 
 // A text that a command may give.

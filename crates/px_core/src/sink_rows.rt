@@ -4,9 +4,9 @@ ghost use Rattle.std.specs.Prelude.{[], false};
 ghost use Rattle.std.specs.List.{AllByRecursion};
 ghost use Rattle.px_plan.specs.declared.input.Connection.{Connection};
 ghost use Rattle.px_plan.specs.Row.{Plans};
-ghost use Rattle.px_session.specs.HeaderRules.{AreSinks};
+ghost use Rattle.px_header.specs.HeaderRules.{AreSinks};
 ghost use Rattle.px_ctl_play.specs.Move.{move_input};
-ghost use Rattle.px_targets.specs.Sinks.{named_by};
+ghost use Rattle.px_sinks.specs.Sinks.{named_by};
 ghost use Rattle.px_state.specs.State.{input_named};
 ghost use Rattle.px_state.specs.Tables.{state_of};
 ghost use Rattle.px_core.specs.Command.{IsOnInputs, IsOnSinks, killed_input, row};
@@ -21,7 +21,7 @@ use px_flat::Group;
 use px_msg::Msg;
 use px_plan::{Input, Plan, Refusal};
 use px_state::Tables;
-use px_targets::named_by;
+use px_sinks::named_by;
 use std::alloc::Global;
 
 // An input is to be on the sink that is named.

@@ -2,11 +2,11 @@
 
 ghost use Rattle.std.specs.Prelude.{[], false};
 ghost use Rattle.px_plan.specs.Row.{Plans};
-ghost use Rattle.px_session.specs.HeaderRules.{AreSinks};
+ghost use Rattle.px_header.specs.HeaderRules.{AreSinks};
 ghost use Rattle.px_core.specs.Command.{sink_volume, sink_mute, input_volume, input_mute};
 ghost use Rattle.px_state.specs.State.{input_named};
 ghost use Rattle.px_state.specs.Tables.{state_of};
-ghost use Rattle.px_targets.specs.Sinks.{named_by};
+ghost use Rattle.px_sinks.specs.Sinks.{named_by};
 
 use px_cmd::SinkRef;
 use px_ctl_vol::{set_input_mute, set_input_volume, set_sink_mute, set_sink_volume};
@@ -15,7 +15,7 @@ use px_msg::Msg;
 use px_plan::{Plan, Refusal};
 use px_state::Tables;
 use px_tag::RawVolume;
-use px_targets::{group_named, group_under, named_by};
+use px_sinks::{group_named, group_under, named_by};
 use std::alloc::Global;
 
 /// The volume of the sink that is named.

@@ -11,7 +11,7 @@ use Rattle.crossbeam_queue.specs.Fifo.{Held}
 use Rattle.px_mail.specs.Mailbox.{IsHeldOf, IsLawful}
 use Rattle.px_types.specs.declared.ids.SinkId.{SinkId}
 use Rattle.px_annals.specs.declared.stream.PlainStream.{PlainStream}
-use Rattle.px_session.specs.declared.header.SinkSpec.{SinkSpec}
+use Rattle.px_header.specs.declared.header.SinkSpec.{SinkSpec}
 use Rattle.px_sample.specs.declared.spec.Spec.{Spec}
 use Rattle.px_model.specs.Orderly.{Inputs, IsOrderly, inputs_left_by}
 use Rattle.px_msg.specs.declared.message.Msg.{Msg}

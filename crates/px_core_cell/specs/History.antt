@@ -7,9 +7,9 @@ use Rattle.px_annals.specs.declared.entry.CoreEntry.{CoreEntry}
 use Rattle.px_annals.specs.declared.stream.PlainStream.{PlainStream}
 use Rattle.px_annals.specs.declared.step.PlainStep.{PlainStep}
 use Rattle.px_annals.specs.declared.step.PlainStep.TheVariants as steps
-use Rattle.px_session.specs.declared.header.Header.{Header}
-use Rattle.px_session.specs.declared.header.SinkSpec.{SinkSpec}
-use Rattle.px_session.specs.HeaderRules.{IsHeader}
+use Rattle.px_header.specs.declared.header.Header.{Header}
+use Rattle.px_header.specs.declared.header.SinkSpec.{SinkSpec}
+use Rattle.px_header.specs.HeaderRules.{IsHeader}
 use Rattle.px_msg.specs.declared.notice.Notice.{Notice}
 use Rattle.px_msg.specs.View.{sample_spec}
 use Rattle.px_msg.specs.Letters.{AreLawful, inputs_after}

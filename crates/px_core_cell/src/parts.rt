@@ -1,7 +1,7 @@
 //! What lies under the core's lock, and its steps.
 
 ghost use Rattle.std.specs.Prelude.{◌≡◌, ◌-◌, ◌^◌, ◌<◌, Some, true, slice_get, Ok, Err, IfOk, MatchResult, map};
-ghost use Rattle.px_session.specs.declared.header.SinkSpec.{SinkSpec};
+ghost use Rattle.px_header.specs.declared.header.SinkSpec.{SinkSpec};
 ghost use Rattle.px_core.specs.Keeps.{IsKept};
 ghost use Rattle.px_core_cell.specs.declared.step.CoreStep.TheVariants as asked;
 ghost use Rattle.px_core_cell.specs.Cell.{ends_of, desk_of, cell_of, calls_of, calls_in};

@@ -2,7 +2,7 @@
 
 ghost use Rattle.std.specs.Prelude.{◌≡◌, ◌⊎◌, ◌++◌, [], ◌∷◌, None, Some, true, false, slice_get, IsSome, IfSome, IfOk, OnOk, OnErr};
 ghost use Rattle.px_mail.specs.Mailbox.{stored_by, found_by};
-ghost use Rattle.px_session.specs.declared.header.SinkSpec.{SinkSpec};
+ghost use Rattle.px_header.specs.declared.header.SinkSpec.{SinkSpec};
 ghost use Rattle.px_state.specs.Out.{waiting_for};
 ghost use Rattle.px_core.specs.Keeps.{IsKept};
 ghost use Rattle.px_core.specs.Step.{Step, stepped, effects_of};

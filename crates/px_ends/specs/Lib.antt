@@ -7,3 +7,4 @@ pub mod Device
 pub mod MemoryDevice
 pub mod MemoryClock
 pub mod Host
+pub mod Pieces

@@ -1,6 +1,6 @@
 //! The outside as traits, each with its told content and a count of faults that never falls, and their forms in memory for
 //! replays and tests. It exports `Source`, `Sink`, `Link`, `Outlet`, `Clock`, `Device` and `Host`, their answers and shapes, `Calls`,
-//! `MemSource`, `MemSink`, `MemLink`, `MemClock`, `MemDevice` with `Played`, `NoHost` and `NoOutlet`, and the loops that fill a buffer or write all bytes.
+//! `MemSource`, `MemSink`, `MemLink`, `MemClock`, `MemDevice` with `Played`, `NoHost` and `NoOutlet`, `Pieces` for output that is gathered and written in few calls, and the loops that fill a buffer or write all bytes.
 #![tactic(auto)]
 
 mod bytes;
@@ -17,6 +17,7 @@ mod memory_sink;
 mod memory_source;
 mod no_host;
 mod no_outlet;
+mod pieces;
 mod played;
 mod whole;
 
@@ -33,5 +34,6 @@ pub use memory_sink::MemSink;
 pub use memory_source::MemSource;
 pub use no_host::NoHost;
 pub use no_outlet::NoOutlet;
+pub use pieces::Pieces;
 pub use played::Played;
 pub use whole::{Filled, WriteFailed, fill, write_all};

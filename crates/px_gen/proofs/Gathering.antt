@@ -7,7 +7,7 @@ use Rattle.px_ends.specs.Told.{after_adding}
 use Rattle.px_ends.specs.Whole.{AddsFront}
 use Rattle.px_ends.proofs.ToldBytes.{adding_nothing, adding_both}
 use Rattle.px_session.specs.declared.event.Event.{Event}
-use Rattle.px_session.specs.declared.header.Header.{Header}
+use Rattle.px_header.specs.declared.header.Header.{Header}
 use Rattle.px_session.specs.Spelling.{event, end_byte}
 use Rattle.px_session.specs.Spelling as spelling
 use Rattle.px_gen.specs.declared.writing.Stop.{Stop}

@@ -13,8 +13,9 @@ use crate::opening::{header, opening};
 use crate::step::step;
 use crate::writing::{Stop, write_events};
 use px_ends::Sink;
-use px_pieces::Pieces;
-use px_session::{Event, Header, write_end, write_header};
+use px_ends::Pieces;
+use px_header::Header;
+use px_session::{Event, write_end, write_header};
 use px_types::Status;
 use std::alloc::Global;
 

@@ -11,10 +11,10 @@ use Rattle.px_model.specs.Mix.{sum_of}
 use Rattle.px_model.specs.Sink.{Input as Stands, streams_of}
 use Rattle.px_mixcache.specs.Cache.{KeptSums, kept_at}
 use Rattle.px_stream.specs.Samples.{samples}
-use Rattle.px_sums.specs.Kept.{IsSumOf, AddLittle, AreKept, from_on, share_at}
-use Rattle.px_sums.proofs.Added.{added_range}
-use Rattle.px_sums.proofs.Follows as follows
-use Rattle.px_share.specs.Keeping.{IsKept, AreSmall, share_in}
+use Rattle.px_kept_mix.specs.Kept.{IsSumOf, AddLittle, AreKept, from_on, share_at}
+use Rattle.px_kept_mix.proofs.Added.{added_range}
+use Rattle.px_kept_mix.proofs.Follows as follows
+use Rattle.px_kept_mix.specs.Keeping.{IsKept, AreSmall, share_in}
 use Rattle.px_lane.specs.declared.input.Input.{Input}
 use Rattle.px_lane.specs.Inputs.{input_of, inputs_of}
 

@@ -11,8 +11,8 @@ use Rattle.px_model.specs.Control.{with_factors}
 use Rattle.px_model.specs.Sink.{Input as Stands, IsRising, stream_at, with_stream, with_change, with_input}
 use Rattle.px_kernel.specs.Kernel.{changed}
 use Rattle.px_mixcache.specs.Cache.{KeptSums, kept_at}
-use Rattle.px_sums.specs.Kept.{from_on, AddLittle, changed_there}
-use Rattle.px_share.specs.Keeping.{SharesThere, AreSmall, IsKept, SoundsBefore}
+use Rattle.px_kept_mix.specs.Kept.{from_on, AddLittle, changed_there}
+use Rattle.px_kept_mix.specs.Keeping.{SharesThere, AreSmall, IsKept, SoundsBefore}
 use Rattle.px_stream.specs.Heard.{SoundsSame}
 use Rattle.px_stream.specs.Kept.{KeptStream}
 use Rattle.px_stream.specs.Samples.{samples}

@@ -18,7 +18,7 @@ use Rattle.px_stream.specs.Samples.{samples}
 use Rattle.px_stream.specs.Heard.{heard_at, SoundsSame}
 use Rattle.px_model.specs.Message.{StreamMessage}
 use Rattle.px_model.specs.Applied.{applied}
-use Rattle.px_share.specs.Keeping.{SoundsBefore}
+use Rattle.px_kept_mix.specs.Keeping.{SoundsBefore}
 use Rattle.px_stream.proofs.Sounding.{unaltered_sounds}
 use Rattle.px_lane.specs.Unaltered.{MixesSame}
 use Rattle.px_lane.specs.Costs.{unaltered_there}

@@ -2,16 +2,16 @@
 ghost use Rattle.std.specs.Prelude.{◌≡◌, ℕ, ◌+◌, ◌-◌, ◌*◌, ◌<◌, ◌≤◌, length, pos};
 ghost use Rattle.px_msg.specs.View.{sample_spec};
 ghost use Rattle.px_mixcache.specs.Cache.{kept_at};
-ghost use Rattle.px_share.specs.Keeping.{IsKept, IsAsLarge};
+ghost use Rattle.px_kept_mix.specs.Keeping.{IsKept, IsAsLarge};
 ghost use Rattle.px_stream.specs.Samples.{samples};
-ghost use Rattle.px_sums.specs.Kept.{AreKept};
+ghost use Rattle.px_kept_mix.specs.Kept.{AreKept};
 ghost use Rattle.px_lane.specs.Inputs.{inputs_of};
 ghost use Rattle.px_lane.specs.Mixed.{CanMix};
 
 use crate::input::Input;
 use px_kernel::Steps;
 use px_sample::Spec;
-use px_share::KeptMix;
+use px_kept_mix::KeptMix;
 use std::sync::ledger::Ledger;
 
 /// Adds what the stream of each input gives to the sums from a frame on, where they hold nothing yet. Takes no memory.

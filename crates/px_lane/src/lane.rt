@@ -21,7 +21,7 @@ use crate::{MsgList, NoticeList};
 use px_block::BlockSource;
 use px_ends::{Device, DeviceFault};
 use px_kernel::Steps;
-use px_session::SinkSpec;
+use px_header::SinkSpec;
 use px_types::{Mem, NoMemory};
 use std::alloc::Global;
 use std::marker::Model;

@@ -29,7 +29,7 @@ use px_block::BlockSource;
 use px_kernel::Steps;
 use px_msg::InputFactors;
 use px_sample::Spec;
-use px_share::KeptMix;
+use px_kept_mix::KeptMix;
 use px_stream::{Stream, StreamMsg};
 use px_types::{InputId, Mem, NoMemory};
 use px_vol::Factors;
@@ -48,7 +48,7 @@ pub(crate) struct MixedInputs {
 
 impl Model for MixedInputs {
     ghost use Rattle.std.specs.Prelude.{◌≡◌, ◌≤◌};
-    ghost use Rattle.px_share.specs.Keeping.{IsKept};
+    ghost use Rattle.px_kept_mix.specs.Keeping.{IsKept};
     ghost use Rattle.px_lane.specs.Mixing.{IsMixed};
     ghost use Rattle.px_lane.specs.Mixed.{SummedInputs, CanMix};
 

@@ -27,7 +27,7 @@ use Rattle.px_lane_cell.specs.Cell.{Cell, IsCell}
 use Rattle.px_lane_cell.specs.Meaning.{history_meant}
 use Rattle.px_lane_cell.specs.History.{unturned, IsAfter}
 use Rattle.px_ends.specs.Device.{DeviceState}
-use Rattle.px_session.specs.declared.header.SinkSpec.{SinkSpec}
+use Rattle.px_header.specs.declared.header.SinkSpec.{SinkSpec}
 use Rattle.px_state.specs.State.{State}
 use Rattle.px_core_cell.specs.declared.ends.CoreEnd.{CoreEnd}
 use Rattle.px_core_cell.specs.Boxes.{Boxes, boxes_of}
@@ -35,8 +35,8 @@ use Rattle.px_core_cell.specs.Cell.{SinkEnds, ends_of}
 use Rattle.px_core_cell.specs.History.{IsTold}
 use Rattle.px_core_cell.specs.Parcel.{seen_message, seen_notice}
 use Rattle.px_server.specs.Delivered.{IsFrontOf, plain_message, plain_notice, IsDelivered}
-use Rattle.px_crew.specs.declared.lone.Met.{Met}
-use Rattle.px_crew.specs.Working.{Start, start_at, start_of, Unworked, IsHonest}
+use Rattle.px_workers.specs.declared.lone.Met.{Met}
+use Rattle.px_workers.specs.Working.{Start, start_at, start_of, Unworked, IsHonest}
 use Rattle.px_server.specs.Parts.{starts_from, worked, HasPlayed, IsPart, AreTold}
 use Rattle.px_server.specs.Mailboxes.{boxes_in}
 

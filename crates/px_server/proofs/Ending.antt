@@ -10,22 +10,22 @@ use Rattle.px_annals.specs.declared.recorder.RecordFault.{RecordFault}
 use Rattle.px_annals.specs.declared.stream.PlainStream.{PlainStream}
 use Rattle.px_ends.specs.Device.{DeviceState}
 use Rattle.px_ends.specs.Host.{HostState}
-use Rattle.px_session.specs.declared.header.Header.{Header}
-use Rattle.px_session.specs.declared.header.SinkSpec.{SinkSpec}
+use Rattle.px_header.specs.declared.header.Header.{Header}
+use Rattle.px_header.specs.declared.header.SinkSpec.{SinkSpec}
 use Rattle.px_state.specs.State.{State, new_state}
 use Rattle.px_core_cell.specs.Cause.{IsCaused}
 use Rattle.px_core_cell.specs.Cell.{Cell, SinkEnds}
 use Rattle.px_core_cell.specs.History.{IsReplay, IsTold}
 use Rattle.px_server.specs.declared.served.LanePart.{LanePart}
-use Rattle.px_crew.specs.declared.stop.Stop.{Stop}
-use Rattle.px_crew.specs.declared.stop.Stop.TheVariants as stops
+use Rattle.px_workers.specs.declared.stop.Stop.{Stop}
+use Rattle.px_workers.specs.declared.stop.Stop.TheVariants as stops
 use Rattle.px_server.specs.Causes.{decided, undecided}
-use Rattle.px_crew.specs.Hosted.{IsLater, IsCauseOf}
+use Rattle.px_workers.specs.Hosted.{IsLater, IsCauseOf}
 use Rattle.px_server.specs.Hosted.{HasLent}
-use Rattle.px_crew.specs.Working.{Start, start_of, Unworked}
+use Rattle.px_workers.specs.Working.{Start, start_of, Unworked}
 use Rattle.px_server.specs.Parts.{Worked, AreParts, IsFrontOf, unworked, starts_of, starts_from}
 use Rattle.px_server.specs.Serving.{first_met, IsDecided, Ends, IsServed}
-use Rattle.px_crew.proofs.Later.{later_later, cause_later}
+use Rattle.px_workers.proofs.Later.{later_later, cause_later}
 use Rattle.px_server.proofs.Parts.{parts_count, starts_unworked}
 
 none_there : (C : Type 0) → IsSome {T = C} None → ⊥

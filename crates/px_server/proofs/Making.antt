@@ -5,17 +5,17 @@ use Rattle.px_types.specs.declared.ids.SinkId.{SinkId}
 use Rattle.px_annals.specs.declared.entry.LaneEntry.{LaneEntry}
 use Rattle.px_ends.specs.Device.{DeviceState}
 use Rattle.px_ends.specs.Host.{HostState, Lent}
-use Rattle.px_session.specs.declared.header.SinkSpec.{SinkSpec}
+use Rattle.px_header.specs.declared.header.SinkSpec.{SinkSpec}
 use Rattle.px_lane.specs.Lane.{Mixer}
 use Rattle.px_lane_cell.specs.Cell.{Cell}
 use Rattle.px_core_cell.specs.declared.ends.CoreEnd.{CoreEnd}
 use Rattle.px_core_cell.specs.Boxes.{Boxes, boxes_of}
 use Rattle.px_core_cell.specs.Cell.{ends_of}
 use Rattle.px_core_cell.specs.History.{fresh_ends}
-use Rattle.px_crew.specs.declared.lone.Met.TheVariants.{Nothing}
+use Rattle.px_workers.specs.declared.lone.Met.TheVariants.{Nothing}
 use Rattle.px_server.specs.Fresh.{IsFresh}
 use Rattle.px_server.specs.Hosted.{HasLent}
-use Rattle.px_crew.specs.Working.{Start, start_of, Unworked, IsHonest}
+use Rattle.px_workers.specs.Working.{Start, start_of, Unworked, IsHonest}
 use Rattle.px_server.specs.Mailboxes.{boxes_in}
 use Rattle.px_server.specs.Made.{IsMade, AreMade, AddsOne, AddsAll}
 use Rattle.px_server.specs.Parts.{sink_for, start_for, starts_from, Adds}

@@ -1,7 +1,7 @@
 -- Mailboxes that are the same have the same names.
 use Rattle.std.proofs.Common.{◌≡◌, List, [], ◌∷◌, map, refl, sym, ap, ◌∙◌}
 use Rattle.px_core_cell.specs.Boxes.{Boxes}
-use Rattle.px_crew.specs.Working.{Unworked, mailboxes_of}
+use Rattle.px_workers.specs.Working.{Unworked, mailboxes_of}
 use Rattle.px_server.specs.Mailboxes.{names_of, boxes_in}
 
 module _ {D E : Type 0} where

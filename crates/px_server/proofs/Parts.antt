@@ -13,7 +13,7 @@ use Rattle.px_state.specs.State.{State}
 use Rattle.px_server.specs.declared.served.LanePart.{LanePart}
 use Rattle.px_server.specs.Causes.{status_of_met}
 use Rattle.px_server.specs.Delivered.{IsDelivered}
-use Rattle.px_crew.specs.Working.{Start, start_of, Unworked}
+use Rattle.px_workers.specs.Working.{Start, start_of, Unworked}
 use Rattle.px_server.specs.Parts.{Worked, IsPart, AreParts, Adds, unworked}
 use Rattle.px_server.specs.Serving.{first_met}
 

@@ -11,12 +11,12 @@ use Rattle.px_annals.specs.History.{noted}
 use Rattle.px_ends.specs.Host.{HostState}
 use Rattle.px_session.specs.declared.event.Event.{Event}
 use Rattle.px_server.specs.declared.served.LanePart.{LanePart}
-use Rattle.px_crew.specs.declared.stop.Stop.{Stop}
-use Rattle.px_crew.specs.declared.stop.Stop.TheVariants as stops
+use Rattle.px_workers.specs.declared.stop.Stop.{Stop}
+use Rattle.px_workers.specs.declared.stop.Stop.TheVariants as stops
 use Rattle.px_server.specs.Causes.{decided, undecided, recorded}
-use Rattle.px_crew.specs.Hosted.{IsCauseOf}
+use Rattle.px_workers.specs.Hosted.{IsCauseOf}
 use Rattle.px_server.specs.Taped.{AreTaping, added, entries_in, AreCounted, HasTape}
-use Rattle.px_crew.specs.Working.{Unworked, AreTaped, tapes_in}
+use Rattle.px_workers.specs.Working.{Unworked, AreTaped, tapes_in}
 use Rattle.px_tape.specs.declared.turns.Turn.{Turn}
 use Rattle.px_tape.specs.Tape.{Turns, turns_in, total}
 

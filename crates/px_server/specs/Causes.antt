@@ -4,10 +4,10 @@ use Rattle.px_types.specs.declared.status.Status.{Status}
 use Rattle.px_types.specs.declared.status.Status.TheVariants as status
 use Rattle.px_annals.specs.declared.recorder.RecordFault.{RecordFault}
 use Rattle.px_annals.specs.declared.recorder.RecordFault.TheVariants as record_fault
-use Rattle.px_crew.specs.declared.stop.Stop.{Stop}
-use Rattle.px_crew.specs.declared.stop.Stop.TheVariants as stop
-use Rattle.px_crew.specs.declared.lone.Met.{Met}
-use Rattle.px_crew.specs.declared.lone.Met.TheVariants as met
+use Rattle.px_workers.specs.declared.stop.Stop.{Stop}
+use Rattle.px_workers.specs.declared.stop.Stop.TheVariants as stop
+use Rattle.px_workers.specs.declared.lone.Met.{Met}
+use Rattle.px_workers.specs.declared.lone.Met.TheVariants as met
 
 abbrev pub status_of_record : RecordFault → Status
 status_of_record record_fault.NoMemory = status.Memory

@@ -4,7 +4,7 @@ use Rattle.px_annals.specs.declared.entry.LaneEntry.{LaneEntry}
 use Rattle.px_ends.specs.Told.{WhereTold}
 use Rattle.px_ends.specs.Device.{DeviceState}
 use Rattle.px_lane.specs.Lane.{IsAttached}
-use Rattle.px_session.specs.declared.header.SinkSpec.{SinkSpec}
+use Rattle.px_header.specs.declared.header.SinkSpec.{SinkSpec}
 use Rattle.px_server.specs.Parts.{sink_for}
 
 -- a device of the sink that has played nothing, and a recorder that holds nothing, where they tell; neither has failed

@@ -3,8 +3,8 @@ use Rattle.std.specs.Prelude.{ℕ, ◌≤◌, IfSome}
 use Rattle.px_ends.specs.Host.{HostState, Lent}
 use Rattle.px_ends.specs.declared.host.HostFault.{HostFault}
 use Rattle.px_ends.specs.declared.host.HostFault.TheVariants as host_fault
-use Rattle.px_crew.specs.declared.stop.Stop.{Stop}
-use Rattle.px_crew.specs.declared.stop.Stop.TheVariants.{Memory, Host}
+use Rattle.px_workers.specs.declared.stop.Stop.{Stop}
+use Rattle.px_workers.specs.declared.stop.Stop.TheVariants.{Memory, Host}
 
 -- the stop that a host's fault is
 abbrev pub stop_by : HostFault → Stop

@@ -1,12 +1,12 @@
 -- What is made for the sinks of a header.
 use Rattle.std.specs.Prelude.{◌≡◌, ℕ, ◌+◌, Bool, List, [], ◌∷◌, ◌++◌, ⊤}
 use Rattle.px_types.specs.declared.ids.SinkId.{SinkId}
-use Rattle.px_session.specs.declared.header.SinkSpec.{SinkSpec}
+use Rattle.px_header.specs.declared.header.SinkSpec.{SinkSpec}
 use Rattle.px_core_cell.specs.declared.ends.CoreEnd.{CoreEnd}
 use Rattle.px_core_cell.specs.Boxes.{boxes_of}
 use Rattle.px_core_cell.specs.Cell.{ends_of}
 use Rattle.px_core_cell.specs.History.{fresh_ends}
-use Rattle.px_crew.specs.Working.{Unworked, start_of, tapes_in}
+use Rattle.px_workers.specs.Working.{Unworked, start_of, tapes_in}
 use Rattle.px_server.specs.Mailboxes.{boxes_in}
 use Rattle.px_server.specs.Parts.{start_for}
 

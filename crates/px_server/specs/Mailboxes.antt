@@ -3,7 +3,7 @@ use Rattle.std.specs.Arc.{arc_value}
 use Rattle.px_lane_cell.specs.declared.ends.Boxes.{Boxes as Held}
 use Rattle.px_lane_cell.specs.declared.ends.LaneEnds.{LaneEnds}
 use Rattle.px_core_cell.specs.Boxes.{Boxes, name_of}
-use Rattle.px_crew.specs.Working.{Unworked, mailboxes_of}
+use Rattle.px_workers.specs.Working.{Unworked, mailboxes_of}
 
 -- mailboxes, by their names
 abbrev pub names_of : Held → Boxes

@@ -10,7 +10,7 @@ use Rattle.px_ends.specs.Device.{DeviceState}
 use Rattle.px_model.specs.Sink.{Sink, empty_sink}
 use Rattle.px_model.specs.Deciding.{replay_played, IsHistory}
 use Rattle.px_msg.specs.View.{sample_spec}
-use Rattle.px_session.specs.declared.header.SinkSpec.{SinkSpec}
+use Rattle.px_header.specs.declared.header.SinkSpec.{SinkSpec}
 use Rattle.px_stream.specs.Samples.{samples}
 use Rattle.px_state.specs.State.{State}
 use Rattle.px_core_cell.specs.declared.ends.CoreEnd.{CoreEnd}
@@ -19,8 +19,8 @@ use Rattle.px_core_cell.specs.History.{IsTold}
 use Rattle.px_lane_cell.specs.Meaning.{history_meant}
 use Rattle.px_lane_cell.specs.History.{left_at_stop, ArePlayed}
 use Rattle.px_server.specs.declared.served.LanePart.{LanePart}
-use Rattle.px_crew.specs.declared.lone.Met.{Met}
-use Rattle.px_crew.specs.Working.{Start, start_of, IsMet, Unworked}
+use Rattle.px_workers.specs.declared.lone.Met.{Met}
+use Rattle.px_workers.specs.Working.{Start, start_of, IsMet, Unworked}
 pub use Rattle.px_server.specs.Delivered.{IsFrontOf}
 use Rattle.px_server.specs.Delivered.{IsDelivered}
 

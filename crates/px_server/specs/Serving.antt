@@ -9,15 +9,15 @@ use Rattle.px_annals.specs.declared.recorder.RecordFault.{RecordFault}
 use Rattle.px_annals.specs.declared.stream.PlainStream.{PlainStream}
 use Rattle.px_ends.specs.Device.{DeviceState}
 use Rattle.px_ends.specs.Host.{HostState}
-use Rattle.px_session.specs.declared.header.Header.{Header}
+use Rattle.px_header.specs.declared.header.Header.{Header}
 use Rattle.px_state.specs.State.{State, new_state}
 use Rattle.px_core_cell.specs.Cause.{IsCaused}
 use Rattle.px_server.specs.declared.served.LanePart.{LanePart}
-use Rattle.px_crew.specs.declared.stop.Stop.{Stop}
-use Rattle.px_crew.specs.Hosted.{IsLater, IsCauseOf}
+use Rattle.px_workers.specs.declared.stop.Stop.{Stop}
+use Rattle.px_workers.specs.Hosted.{IsLater, IsCauseOf}
 use Rattle.px_server.specs.Hosted.{HasLent}
 use Rattle.px_server.specs.Causes.{status_of_met, decided}
-use Rattle.px_crew.specs.Working.{Start}
+use Rattle.px_workers.specs.Working.{Start}
 use Rattle.px_server.specs.Parts.{Worked, starts_of, told_there, AreParts, IsFrontOf}
 
 -- the status of the first sink whose worker met something, in the order of the sinks

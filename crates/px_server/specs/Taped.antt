@@ -6,7 +6,7 @@ use Rattle.px_types.specs.declared.status.Status.TheVariants as status
 use Rattle.px_annals.specs.declared.entry.LaneEntry.{LaneEntry}
 use Rattle.px_session.specs.declared.event.Event.{Event}
 use Rattle.px_server.specs.declared.served.LanePart.{LanePart}
-use Rattle.px_crew.specs.Working.{Unworked, tapes_in}
+use Rattle.px_workers.specs.Working.{Unworked, tapes_in}
 use Rattle.px_tape.specs.Tape.{turns_in}
 
 -- all sinks keep their turns for a tape

@@ -1,8 +1,8 @@
 //! The end of a serving call: what it hands back once its workers have ended.
 ghost use Rattle.std.specs.Prelude.{◌≡◌, ◌≤◌, [], List, length, map, true, IsSome, vec_capacity};
-ghost use Rattle.px_session.specs.declared.header.SinkSpec.{SinkSpec};
-ghost use Rattle.px_crew.specs.Hosted.{IsLater, IsCauseOf};
-ghost use Rattle.px_crew.specs.Working.{start_of};
+ghost use Rattle.px_header.specs.declared.header.SinkSpec.{SinkSpec};
+ghost use Rattle.px_workers.specs.Hosted.{IsLater, IsCauseOf};
+ghost use Rattle.px_workers.specs.Working.{start_of};
 ghost use Rattle.px_server.specs.Mailboxes.{boxes_in};
 ghost use Rattle.px_server.specs.Parts.{starts_of};
 ghost use Rattle.px_server.specs.Serving.{Ends};
@@ -11,9 +11,9 @@ ghost use Rattle.px_server.specs.Taped.{AreTaping, HasTape};
 use crate::handle::CrewHandle;
 use crate::left::close_with;
 use crate::served::{LanePart, Served, decided, woven};
-use px_core_cell::Seats;
-use px_crew::{Gate, Lone, Stop, serve_all};
-use px_desk::DeskHandle;
+use px_cell::Seats;
+use px_workers::{Gate, Lone, Stop, serve_all};
+use px_shared::DeskHandle;
 use px_ends::Host;
 use px_tape::SinkTurns;
 use std::collections::VecDeque;

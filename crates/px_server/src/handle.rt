@@ -2,11 +2,11 @@
 ghost use Rattle.std.specs.Prelude.{◌≡◌};
 
 use px_annals::{CoreEntry, Recorder};
-use px_core_cell::Seats;
-use px_desk::DeskHandle;
+use px_cell::Seats;
+use px_shared::DeskHandle;
 use px_ends::Outlet;
 use px_frame::{Frame, FrameFault};
-use px_handle::{CoreStop, Handle, Next};
+use px_worker_api::{CoreStop, Handle, Next};
 use px_pool::PoolSeat;
 use px_tape::Tape;
 use px_types::{ConnId, Mem, SinkId};

@@ -1,4 +1,4 @@
-//! The serving call of a live server: the core under its lock, with the workers of `px_crew`. `sinks` makes what the sinks need, `left` has what is left of
+//! The serving call of a live server: the core under its lock, with the workers of `px_workers`. `sinks` makes what the sinks need, `left` has what is left of
 //! them, `served` what the call hands back, `handle` the crew's handle on the desk, `closing` its end, and `call` the call itself. It exports `serve` with `Served` and `LanePart`, and the crew's `Gate` with `PaceGate`.
 #![tactic(auto)]
 
@@ -10,5 +10,5 @@ mod served;
 mod sinks;
 
 pub use call::serve;
-pub use px_crew::{Gate, PaceGate};
+pub use px_workers::{Gate, PaceGate};
 pub use served::{LanePart, Served};

@@ -1,13 +1,13 @@
 //! What a serving call hands back, with its statuses.
 
 ghost use Rattle.std.specs.Prelude.{◌≡◌, ◌⊎◌, false, true, IfSome, IsSome, None};
-ghost use Rattle.px_crew.specs.declared.stop.Stop.TheVariants.{Memory, Over};
+ghost use Rattle.px_workers.specs.declared.stop.Stop.TheVariants.{Memory, Over};
 ghost use Rattle.px_server.specs.Causes.{status_of_record, status_of_met, decided, undecided};
 ghost use Rattle.px_server.specs.Hosted.{stop_by};
 ghost use Rattle.px_tape.specs.Tape.{turns_in, total};
 
 use px_annals::RecordFault;
-use px_crew::{Met, Stop};
+use px_workers::{Met, Stop};
 use px_ends::{Host, HostFault};
 use px_tape::{Events, SinkTurns, Tape};
 use px_types::{SinkId, Status};

@@ -1,7 +1,7 @@
 -- What a reader's answer over the bytes that it took says of all bytes that were ahead of it.
 use Rattle.std.proofs.Common.{◌≡◌, ◌<◌, ◌≤◌, ℕ, length, Bool, true, false, List, [], ◌∷◌, ◌++◌, arith, Option, None, Some, Result, Ok, Err, refl, sym, ap, subst, ◌∙◌, append_assoc}
 use Rattle.std.proofs.lemmas.List.{append-nil}
-use Rattle.px_session.specs.declared.header.Header.{Header}
+use Rattle.px_header.specs.declared.header.Header.{Header}
 use Rattle.px_session.specs.declared.event.Step.{Step}
 use Rattle.px_session.specs.declared.event.Step.TheVariants as step
 use Rattle.px_session.specs.declared.fault.Cause.{Cause}
@@ -13,10 +13,10 @@ use Rattle.px_session.specs.EventReading.{event_at}
 use Rattle.std.specs.List.{AllByRecursion}
 use Rattle.px_session.specs.declared.event.Event.{Event}
 use Rattle.px_session.specs.declared.event.Event.TheVariants as event
-use Rattle.px_session.specs.declared.header.SinkSpec.{SinkSpec}
+use Rattle.px_header.specs.declared.header.SinkSpec.{SinkSpec}
 use Rattle.px_session.specs.EventRules.{IsEvent, IsStep}
 use Rattle.px_session.specs.Writing.{FitsSink, FitsEvent, FitsStep}
-use Rattle.px_session.specs.HeaderRules.{AreSinks, IsHeader}
+use Rattle.px_header.specs.HeaderRules.{AreSinks, IsHeader}
 use Rattle.px_session.specs.Law.{AreBytes}
 use Rattle.px_session.specs.Session.{first_at, step_at}
 use Rattle.px_session.specs.Reader.{Reader, place_with, all_ahead, Stepped, EndsWith, Takes, Gives}

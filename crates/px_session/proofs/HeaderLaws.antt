@@ -8,10 +8,10 @@ use Rattle.px_sample.specs.declared.format.Format.{Format}
 use Rattle.px_sample.specs.declared.format.Format.TheVariants.{U8, Alaw, Ulaw, S16Le, S16Be, Float32Le, Float32Be, S32Le, S32Be, S24Le, S24Be, S24In32Le, S24In32Be}
 use Rattle.px_sample.specs.declared.spec.Spec.{Spec}
 use Rattle.px_sample.specs.Format.{code_of, IsLinear}
-use Rattle.px_session.specs.declared.header.SinkSpec.{SinkSpec}
+use Rattle.px_header.specs.declared.header.SinkSpec.{SinkSpec}
 use Rattle.px_session.specs.Place.{Place, Reading, bytes_at}
 use Rattle.px_session.specs.Field.{byte_at, word_at, ruled}
-use Rattle.px_session.specs.HeaderRules.{is_from_to, is_name, is_new, formats, format_of, IsFromTo}
+use Rattle.px_header.specs.HeaderRules.{is_from_to, is_name, is_new, formats, format_of, IsFromTo}
 use Rattle.px_session.specs.HeaderReading.{no_magic, compared, letter_at, letters_at, magic_at, name_at, known, format_at, spec_at}
 use Rattle.px_session.specs.Spelling.{word, magic}
 use Rattle.px_session.specs.Law.{Stands, IsLaw}

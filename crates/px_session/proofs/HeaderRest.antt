@@ -1,7 +1,7 @@
 -- A sink, and a header, whose first fields were read: what is read is what is left of it.
 use Rattle.std.proofs.Common.{◌≡◌, ℕ, List, Ok, refl}
 use Rattle.px_sample.specs.declared.spec.Spec.{Spec}
-use Rattle.px_session.specs.declared.header.SinkSpec.{SinkSpec}
+use Rattle.px_header.specs.declared.header.SinkSpec.{SinkSpec}
 use Rattle.px_session.specs.Place.{Place, bytes_at, and_then}
 use Rattle.px_session.specs.HeaderReading.{magic_at, name_at, spec_at, sink_at, header_at}
 use Rattle.px_session.specs.HeaderRest.{rest_of_sink_at, rest_of_header_at}

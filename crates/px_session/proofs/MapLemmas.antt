@@ -7,7 +7,7 @@ use Rattle.px_sample.specs.declared.spec.Spec.{Spec}
 use Rattle.px_chmap.specs.ChannelMap.{IsChannelMap}
 use Rattle.px_session.specs.Place.{Place}
 use Rattle.px_session.specs.Field.{byte_at, word_at, broken_at, checked, ruled}
-use Rattle.px_session.specs.HeaderRules.{is_from_to, IsFromTo}
+use Rattle.px_header.specs.HeaderRules.{is_from_to, IsFromTo}
 use Rattle.px_session.specs.HeaderReading.{format_at, spec_at, more_at, position_at}
 use Rattle.px_session.proofs.Steps.{go_on_ok, then_ok, test_ok}
 use Rattle.px_session.proofs.Steady.{ok_is}

@@ -3,7 +3,7 @@ use Rattle.std.proofs.Common.{◌≡◌, ℕ, zero, suc, ◌+◌, ◌<◌, ◌�
 use Rattle.std.specs.List.{flat_map, AllByRecursion}
 use Rattle.std.proofs.lemmas.Bool.{ltb-false}
 use Rattle.std.proofs.lemmas.List.{drop_at}
-use Rattle.px_session.specs.declared.header.Header.{Header}
+use Rattle.px_header.specs.declared.header.Header.{Header}
 use Rattle.px_session.specs.declared.event.Event.{Event}
 use Rattle.px_session.specs.declared.event.Step.{Step}
 use Rattle.px_session.specs.declared.event.Step.TheVariants as step
@@ -12,7 +12,7 @@ use Rattle.px_session.specs.Place.{Place, Refusal, past, limit, available, short
 use Rattle.px_session.specs.Field.{byte_at}
 use Rattle.px_session.specs.HeaderReading.{header_at}
 use Rattle.px_session.specs.EventReading.{end_at, fields_at, event_at}
-use Rattle.px_session.specs.HeaderRules.{IsHeader}
+use Rattle.px_header.specs.HeaderRules.{IsHeader}
 use Rattle.px_session.specs.EventRules.{IsEvent}
 use Rattle.px_session.specs.Session.{Ending, Ended, Broken, EndsSo, Stand, Session, NoHeader, Events, IsSession}
 use Rattle.px_session.specs.SessionLaw.{IsSpelled, IsRefusedBy, Lead}

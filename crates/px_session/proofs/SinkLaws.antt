@@ -6,11 +6,11 @@ use Rattle.std.proofs.lemmas.List.{append-nil}
 use Rattle.std.proofs.lemmas.List.Elements.{All-from_recursion, recursion_from_All}
 use Rattle.px_sample.specs.Format.{code_of}
 use Rattle.px_chmap.specs.ChannelMap.{IsChannelMap}
-use Rattle.px_session.specs.declared.header.SinkSpec.{SinkSpec}
-use Rattle.px_session.specs.declared.header.Header.{Header}
+use Rattle.px_header.specs.declared.header.SinkSpec.{SinkSpec}
+use Rattle.px_header.specs.declared.header.Header.{Header}
 use Rattle.px_session.specs.Place.{Reading, bytes_at}
 use Rattle.px_session.specs.Field.{byte_at, word_at, ruled}
-use Rattle.px_session.specs.HeaderRules.{is_from_to, is_depth, IsFromTo, IsSink, AreSinks, IsHeader}
+use Rattle.px_header.specs.HeaderRules.{is_from_to, is_depth, IsFromTo, IsSink, AreSinks, IsHeader}
 use Rattle.px_session.specs.HeaderReading.{magic_at, name_at, spec_at, more_at, position_at, Room, room_at, sink_at, header_at}
 use Rattle.px_session.specs.Spelling.{word, magic, sink, header}
 use Rattle.px_session.specs.Law.{IsLaw}

@@ -4,7 +4,7 @@ use Rattle.std.specs.Prelude.{◌&&◌, ◌==◌}
 use Rattle.std.specs.Int.{w32, from_be_bytes}
 use Rattle.px_types.specs.declared.ids.ConnId.{ConnId}
 use Rattle.px_sample.specs.declared.format.Format.{Format}
-use Rattle.px_session.specs.declared.header.SinkSpec.{SinkSpec}
+use Rattle.px_header.specs.declared.header.SinkSpec.{SinkSpec}
 use Rattle.px_session.specs.declared.event.Event.{Event}
 use Rattle.px_session.specs.declared.event.Event.TheVariants as event
 use Rattle.px_session.specs.declared.event.Step.{Step}
@@ -12,7 +12,7 @@ use Rattle.px_session.specs.declared.event.Step.TheVariants as step
 use Rattle.px_session.specs.declared.fault.Cause.TheVariants as cause
 use Rattle.px_session.specs.Place.{Place, Reading, Refusal, bytes_at, done}
 use Rattle.px_session.specs.Field.{byte_at, word_at, broken_at, checked, ruled}
-use Rattle.px_session.specs.HeaderRules.{is_from_to, is_name, is_new, format_of, is_depth}
+use Rattle.px_header.specs.HeaderRules.{is_from_to, is_name, is_new, format_of, is_depth}
 use Rattle.px_session.specs.HeaderReading.{no_magic, compared, letter_at, letters_at, magic_at, name_at, known, format_at, spec_at, more_at, position_at, room_at, sink_at, header_at}
 use Rattle.px_session.specs.EventReading.{ended_by, end_at, conn_at, sized_at, data_at, turn_at, collect_at, fields_at, event_at}
 use Rattle.px_session.specs.Session.{first_at, step_at}

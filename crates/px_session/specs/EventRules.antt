@@ -5,7 +5,7 @@ use Rattle.px_session.specs.declared.event.Event.{Event}
 use Rattle.px_session.specs.declared.event.Event.TheVariants.{Connect, Bytes, Close, Cut, Turn, Collect}
 use Rattle.px_session.specs.declared.event.Step.{Step}
 use Rattle.px_session.specs.declared.event.Step.TheVariants as step
-use Rattle.px_session.specs.HeaderRules.{IsHeader}
+use Rattle.px_header.specs.HeaderRules.{IsHeader}
 use Rattle.px_session.specs.Writing.{most_bytes}
 
 abbrev pub IsConn : ConnId → Type 0

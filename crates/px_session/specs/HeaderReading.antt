@@ -2,12 +2,12 @@
 use Rattle.std.specs.Prelude.{ℕ, zero, suc, ◌&&◌, List, [], ◌∷◌, ◌++◌, Option, Some, None, Ok, Err, nat_le, ◌==◌, if◌then◌else◌}
 use Rattle.px_sample.specs.declared.format.Format.{Format}
 use Rattle.px_sample.specs.declared.spec.Spec.{Spec}
-use Rattle.px_session.specs.declared.header.SinkSpec.{SinkSpec}
-use Rattle.px_session.specs.declared.header.Header.{Header}
+use Rattle.px_header.specs.declared.header.SinkSpec.{SinkSpec}
+use Rattle.px_header.specs.declared.header.Header.{Header}
 use Rattle.px_session.specs.declared.fault.Cause.TheVariants as cause
 use Rattle.px_session.specs.Place.{Place, Reading, Refusal, bytes_at, done, go_on, ◌>>=◌}
 use Rattle.px_session.specs.Field.{byte_at, word_at, ruled, broken_at}
-use Rattle.px_session.specs.HeaderRules.{is_from_to, is_name, is_new, format_of, is_depth}
+use Rattle.px_header.specs.HeaderRules.{is_from_to, is_name, is_new, format_of, is_depth}
 
 abbrev pub no_magic : ℕ → Refusal
 no_magic start = record { at = start; cause = cause.Magic }

@@ -1,11 +1,11 @@
 -- What is left to read of a sink, and of a header, once its first fields are read.
 use Rattle.std.specs.Prelude.{ℕ, List, []}
 use Rattle.px_sample.specs.declared.spec.Spec.{Spec}
-use Rattle.px_session.specs.declared.header.SinkSpec.{SinkSpec}
-use Rattle.px_session.specs.declared.header.Header.{Header}
+use Rattle.px_header.specs.declared.header.SinkSpec.{SinkSpec}
+use Rattle.px_header.specs.declared.header.Header.{Header}
 use Rattle.px_session.specs.Place.{Reading, done, ◌>>=◌}
 use Rattle.px_session.specs.Field.{byte_at, ruled}
-use Rattle.px_session.specs.HeaderRules.{is_from_to}
+use Rattle.px_header.specs.HeaderRules.{is_from_to}
 use Rattle.px_session.specs.HeaderReading.{more_at, position_at, room_at, sink_at}
 
 -- the sink with this name and this sample spec

@@ -1,6 +1,5 @@
 pub mod Place
 pub mod Field
-pub mod HeaderRules
 pub mod HeaderReading
 pub mod HeaderRest
 pub mod EventReading

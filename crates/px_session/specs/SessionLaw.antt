@@ -1,12 +1,12 @@
 -- The laws of whole sessions.
 use Rattle.std.specs.Prelude.{◌≡◌, ℕ, ◌+◌, List, [], ◌∷◌, ◌++◌, length, Ok}
 use Rattle.std.specs.List.{flat_map, AllByRecursion}
-use Rattle.px_session.specs.declared.header.Header.{Header}
+use Rattle.px_header.specs.declared.header.Header.{Header}
 use Rattle.px_session.specs.declared.event.Event.{Event}
 use Rattle.px_session.specs.declared.event.Step.TheVariants as step
 use Rattle.px_session.specs.Place.{Place, Refusal}
 use Rattle.px_session.specs.EventReading.{event_at}
-use Rattle.px_session.specs.HeaderRules.{IsHeader}
+use Rattle.px_header.specs.HeaderRules.{IsHeader}
 use Rattle.px_session.specs.EventRules.{IsEvent}
 use Rattle.px_session.specs.Session.{Ending, Ended, Broken, EndsSo, Session, NoHeader, Events}
 use Rattle.px_session.specs.Spelling as spelling

@@ -1,6 +1,6 @@
 //! The events of a session, and what a reader gives.
 
-use crate::header::Header;
+use px_header::Header;
 use px_types::{ConnId, Text};
 
 /// An event of a session. A connection is named from its Connect to its Close. Own: PulseAudio records no sessions.

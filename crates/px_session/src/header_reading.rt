@@ -5,13 +5,13 @@ ghost use Rattle.std.specs.List.{list_all};
 ghost use Rattle.px_sample.specs.Format.{code_of};
 ghost use Rattle.px_session.specs.Place.{bytes_at, Gives, Reads};
 ghost use Rattle.px_session.specs.Field.{byte_at, word_at, ruled};
-ghost use Rattle.px_session.specs.HeaderRules.{is_from_to, IsFromTo, is_name, is_new, format_of, is_depth};
+ghost use Rattle.px_header.specs.HeaderRules.{is_from_to, IsFromTo, is_name, is_new, format_of, is_depth};
 ghost use Rattle.px_session.specs.HeaderReading.{letter_at, magic_at, name_at, format_at, spec_at, position_at, more_at, room_at, sink_at, header_at};
 ghost use Rattle.px_session.specs.HeaderRest.{rest_of_sink_at, rest_of_header_at};
 ghost use Rattle.px_session.specs.Seen.{place_of, room_of};
 
 use crate::fault::{Cause, ReadError};
-use crate::header::{Header, SinkSpec, SinkSpecs};
+use px_header::{Header, SinkSpec, SinkSpecs};
 use crate::place::Place;
 use px_chmap::Map;
 use px_sample::{Format, Spec};

@@ -2,11 +2,11 @@
 
 ghost use Rattle.std.specs.Prelude.{◌≡◌, ◌≢◌, ◌≤◌, ◌<◌, ℕ, List, ◌++◌, length};
 ghost use Rattle.std.specs.List.{AllByRecursion};
-ghost use Rattle.px_session.specs.declared.header.Header.{Header};
+ghost use Rattle.px_header.specs.declared.header.Header.{Header};
 ghost use Rattle.px_session.specs.declared.event.Event.{Event};
 ghost use Rattle.px_session.specs.declared.fault.Cause.TheVariants as cause;
 ghost use Rattle.px_session.specs.Place.{Place, Refusal, limit};
-ghost use Rattle.px_session.specs.HeaderRules.{IsHeader};
+ghost use Rattle.px_header.specs.HeaderRules.{IsHeader};
 ghost use Rattle.px_session.specs.EventRules.{IsEvent};
 ghost use Rattle.px_session.specs.Law.{AreBytes};
 ghost use Rattle.px_session.specs.Session.{Ending, Ended, Stand, Session, Events, IsSession};

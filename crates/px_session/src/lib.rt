@@ -7,7 +7,6 @@ mod event;
 mod event_reading;
 mod fault;
 mod found;
-mod header;
 mod header_reading;
 mod held;
 mod law;
@@ -20,8 +19,8 @@ mod writer;
 
 pub use event::{Event, Step};
 pub use fault::{Cause, ReadError, WriteError};
-pub use header::{Header, SinkSpec, SinkSpecs};
 pub use law::{one_reading, reading_in_steps, refusals_are_final, refusals_at_the_end};
 pub use output::OutRecord;
 pub use reader::Reader;
+pub use px_header::{Header, SinkSpec, SinkSpecs};
 pub use writer::{write_effect, write_end, write_event, write_header};

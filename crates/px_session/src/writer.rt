@@ -12,7 +12,7 @@ ghost use Rattle.px_session.specs.Writing.{FitsSink, FitsHeader, FitsEvent, Fits
 
 use crate::event::Event;
 use crate::fault::WriteError;
-use crate::header::{Header, SinkSpec};
+use px_header::{Header, SinkSpec};
 use crate::output::OutRecord;
 use px_ends::{Sink, write_all};
 use px_types::ConnId;

@@ -8,9 +8,9 @@ use Rattle.px_msg.specs.declared.message.Msg.{Msg}
 use Rattle.px_msg.specs.declared.message.Msg.TheVariants.{Attach}
 use Rattle.px_plan.specs.declared.change.Change.TheVariants.{Arrives}
 use Rattle.px_plan.specs.declared.sending.Sending.{Sending}
-use Rattle.px_session.specs.declared.header.SinkSpec.{SinkSpec}
-use Rattle.px_shown.specs.Scene.{Scene, scene_after, scene_arrived, scene_joined, are_quiet, are_deaf, nobody_hears}
-use Rattle.px_shown.specs.Shown.{told_between}
+use Rattle.px_header.specs.declared.header.SinkSpec.{SinkSpec}
+use Rattle.px_subscribe.specs.Scene.{Scene, scene_after, scene_arrived, scene_joined, are_quiet, are_deaf, nobody_hears}
+use Rattle.px_subscribe.specs.Moments.{told_between}
 use Rattle.px_state.specs.declared.effect.Effect.{Effect}
 use Rattle.px_state.specs.State.{State}
 use Rattle.px_state.specs.Change.{Change, committed}

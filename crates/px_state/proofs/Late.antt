@@ -10,7 +10,7 @@ use Rattle.px_state.specs.declared.delayed.Delayed.{Delayed}
 use Rattle.px_state.specs.Delayed.{is_of}
 use Rattle.px_state.specs.State.{State}
 use Rattle.px_state.specs.Change.{drop_first, releasing}
-use Rattle.px_inputs.proofs.First.{found_there, unfound}
+use Rattle.px_input_table.proofs.First.{found_there, unfound}
 use Rattle.px_state.proofs.Found.{none_goes}
 
 pub no_message : {P : Type 0} (index : InputId) (ds : List (Delayed P)) → position (is_of index) ds ≡ None → None ≡ option_map (λ d. Delayed.message d) (find (is_of index) ds)

@@ -3,7 +3,7 @@ use Rattle.std.proofs.Common.{arith, ◌≡◌, ℕ, ◌+◌, ◌≤◌, length,
 use Rattle.std.specs.Prelude.{vec_capacity}
 use Rattle.px_state.specs.declared.tables.Tables.{Tables}
 use Rattle.px_names.specs.InputLists.{RoomyLists}
-use Rattle.px_inputs.specs.InputTable.{RoomyInputs}
+use Rattle.px_input_table.specs.InputTable.{RoomyInputs}
 use Rattle.px_state.specs.Tables.{HasRoom, HavePlaces}
 use Rattle.px_state.proofs.Waiting.{fewer_places}
 

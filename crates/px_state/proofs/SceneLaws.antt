@@ -9,11 +9,11 @@ use Rattle.px_plan.specs.declared.input.Input.{Input}
 use Rattle.px_plan.specs.declared.input.Standing.{Standing}
 use Rattle.px_plan.specs.declared.input.Standing.TheVariants.{Settled, Moving, Leaving}
 use Rattle.px_plan.specs.declared.change.Change.TheVariants.{Authed, Named, Masked, Defaulted, Made, Described, Leaves, Moves, Arrives, Released, Said, Regrouped, Asked, Answered, Gone, Ended, Forgotten}
-use Rattle.px_session.specs.declared.header.SinkSpec.{SinkSpec}
-use Rattle.px_shown.specs.Shown.{telling_of, told_between}
-use Rattle.px_shown.proofs.Unchanged.{none_since, quiet_tells_nothing}
-use Rattle.px_shown.proofs.Deaf.{deaf_changes, deaf_joined}
-use Rattle.px_shown.specs.Scene.{Scene, scene_at, are_quiet, are_deaf, nobody_hears, left_by, left_of, sent_by, sent_of, come_by, come_of, said_by, said_of, scene_changed, scene_after}
+use Rattle.px_header.specs.declared.header.SinkSpec.{SinkSpec}
+use Rattle.px_subscribe.specs.Moments.{telling_of, told_between}
+use Rattle.px_subscribe.proofs.Unchanged.{none_since, quiet_tells_nothing}
+use Rattle.px_subscribe.proofs.Deaf.{deaf_changes, deaf_joined}
+use Rattle.px_subscribe.specs.Scene.{Scene, scene_at, are_quiet, are_deaf, nobody_hears, left_by, left_of, sent_by, sent_of, come_by, come_of, said_by, said_of, scene_changed, scene_after}
 use Rattle.px_state.specs.declared.delayed.Delayed.{Delayed}
 use Rattle.px_state.specs.Delayed.{is_of}
 use Rattle.px_state.specs.State.{State, input_of}

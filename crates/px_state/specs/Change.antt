@@ -17,10 +17,10 @@ use Rattle.px_plan.specs.declared.input.Standing.{Standing}
 use Rattle.px_plan.specs.declared.input.Standing.TheVariants.{Settled, Moving, Leaving}
 use Rattle.px_plan.specs.declared.change.Change.{Change as AnyChange}
 use Rattle.px_plan.specs.declared.change.Change.TheVariants.{Authed, Named, Masked, Defaulted, Made, Described, Leaves, Moves, Arrives, Released, Said, Regrouped, Asked, Answered, Gone, Ended, Forgotten}
-pub use Rattle.px_inputs.specs.Lists.{change_first, drop_first}
-pub use Rattle.px_inputs.specs.Inputs.{leaving, with_attr, moving_to, arrived_at}
-pub use Rattle.px_inputs.specs.Connections.{authed, marked, with_streams}
-pub use Rattle.px_shown.specs.Scene.{inputs_told, new_connection}
+pub use Rattle.px_input_table.specs.Lists.{change_first, drop_first}
+pub use Rattle.px_input_table.specs.Inputs.{leaving, with_attr, moving_to, arrived_at}
+pub use Rattle.px_input_table.specs.Connections.{authed, marked, with_streams}
+pub use Rattle.px_subscribe.specs.Scene.{inputs_told, new_connection}
 use Rattle.px_state.specs.declared.delayed.Delayed.{Delayed}
 use Rattle.px_state.specs.Delayed.{is_of, delayed_of_others}
 use Rattle.px_state.specs.State.{State, has_number, has_index, input_of, is_as, waiting_of_others}

@@ -1,7 +1,7 @@
 -- What a step tells those who subscribed, by the states before it and after it.
 use Rattle.std.specs.Prelude.{List}
-use Rattle.px_shown.specs.Scene.{Scene, scene_at}
-use Rattle.px_shown.specs.Shown.{told_between}
+use Rattle.px_subscribe.specs.Scene.{Scene, scene_at}
+use Rattle.px_subscribe.specs.Moments.{told_between}
 use Rattle.px_state.specs.declared.effect.Effect.{Effect}
 use Rattle.px_state.specs.Plan.{sent_all}
 use Rattle.px_state.specs.State.{State}

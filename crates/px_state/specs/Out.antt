@@ -7,7 +7,7 @@ use Rattle.px_msg.specs.declared.message.Msg.TheVariants.{New, Attach, Detach, W
 use Rattle.px_plan.specs.declared.input.Input.{Input}
 use Rattle.px_plan.specs.declared.input.Way.{Way}
 use Rattle.px_plan.specs.declared.input.Way.TheVariants.{Coming, There, Left}
-pub use Rattle.px_inputs.specs.Inputs.{on_way}
+pub use Rattle.px_input_table.specs.Inputs.{on_way}
 use Rattle.px_state.specs.State.{State, has_index}
 use Rattle.px_state.specs.Change.{change_first}
 

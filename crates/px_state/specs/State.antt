@@ -2,8 +2,8 @@
 use Rattle.std.specs.Prelude.{ℕ, List, [], map, filter, length, replicate}
 use Rattle.px_names.specs.Names.{Naming}
 use Rattle.px_names.specs.declared.input_lists.InputList.{InputList}
-use Rattle.px_session.specs.declared.header.Header.{Header}
-use Rattle.px_session.specs.declared.header.SinkSpec.{SinkSpec}
+use Rattle.px_header.specs.declared.header.Header.{Header}
+use Rattle.px_header.specs.declared.header.SinkSpec.{SinkSpec}
 use Rattle.px_flat.specs.FlatVolume.{FlatGroup, new_group}
 use Rattle.px_msg.specs.declared.message.Msg.{Msg}
 use Rattle.px_plan.specs.declared.input.Connection.{Connection}

@@ -2,7 +2,7 @@
 
 ghost use Rattle.std.specs.Prelude.{◌≡◌, ◌+◌, [], length, IfOk, IfErr, OnOk, OnErr, None};
 ghost use Rattle.px_ctl_play.specs.Arrival.{arriving_with};
-ghost use Rattle.px_session.specs.HeaderRules.{AreSinks};
+ghost use Rattle.px_header.specs.HeaderRules.{AreSinks};
 ghost use Rattle.px_state.specs.Answered.{answered, answer_effects};
 ghost use Rattle.px_state.specs.Tables.{state_of, HasRoom};
 

@@ -26,7 +26,7 @@ fn set_version<P>(tables: &mut Tables<P>, conn: ConnId, version: u16)
     ensures state { state_of tables.new ≡ changed (state_of tables.old) (Authed conn version) }
     ensures room { (n : ℕ) → HasRoom (n + 1) tables.old → HasRoom n tables.new }
 {
-    px_inputs::set_version(&mut tables.connections, conn, version);
+    px_input_table::set_version(&mut tables.connections, conn, version);
 }
 
 // A connection is to end.
@@ -34,7 +34,7 @@ fn mark<P>(tables: &mut Tables<P>, conn: ConnId)
     ensures state { state_of tables.new ≡ with_connection conn marked (state_of tables.old) }
     ensures room { (n : ℕ) → HasRoom (n + 1) tables.old → HasRoom n tables.new }
 {
-    px_inputs::mark(&mut tables.connections, conn);
+    px_input_table::mark(&mut tables.connections, conn);
 }
 
 // A connection and its client are given up.
@@ -42,7 +42,7 @@ fn forget<P>(tables: &mut Tables<P>, conn: ConnId)
     ensures state { state_of tables.new ≡ changed (state_of tables.old) (Forgotten conn) }
     ensures room { (n : ℕ) → HasRoom (n + 1) tables.old → HasRoom n tables.new }
 {
-    px_inputs::forget(&mut tables.connections, conn);
+    px_input_table::forget(&mut tables.connections, conn);
     tables.names.forget(conn);
 }
 

@@ -3,7 +3,7 @@
 ghost use Rattle.std.specs.Prelude.{◌≡◌, ◌≤◌, ◌+◌, [], ℕ, length, vec_capacity, Some, IfOk, OnOk, OnErr};
 ghost use Rattle.std.specs.List.{find};
 ghost use Rattle.px_plan.specs.declared.change.Change.TheVariants.{Made, Described, Leaves, Moves, Arrives, Released, Said, Regrouped, Asked, Answered, Gone};
-ghost use Rattle.px_session.specs.HeaderRules.{AreSinks};
+ghost use Rattle.px_header.specs.HeaderRules.{AreSinks};
 ghost use Rattle.px_state.specs.Change.{changed, committed, inputs_told, posting, delaying, saying, ending, departs, arrives, releasing};
 ghost use Rattle.px_state.specs.Delayed.{is_of};
 ghost use Rattle.px_state.specs.Families.{IsOfInput};
@@ -18,11 +18,11 @@ use crate::events::answer_effects;
 use crate::tables::Tables;
 use crate::{awaited, clients, delayed, queues};
 use px_flat::Group;
-use px_inputs::InputTable;
+use px_input_table::InputTable;
 use px_msg::Msg;
 use px_plan::{Change, Input, Plan, Standing, Waiting};
 use px_tag::PropList;
-use px_targets::set_group;
+use px_sinks::set_group;
 use px_types::{ConnId, InputId, Mem, SinkId};
 use std::alloc::Global;
 use std::collections::VecDeque;
@@ -233,7 +233,7 @@ fn make<P: Drop>(tables: &mut Tables<P>, x: Input, new: Msg<P>, streams: u32, in
     ensures room { (n : ℕ) → HasRoom (n + 1) tables.old → HasRoom n tables.new }
 {
     let sink = x.sink;
-    px_inputs::set_streams(&mut tables.connections, x.conn, streams);
+    px_input_table::set_streams(&mut tables.connections, x.conn, streams);
     tables.inputs.push(x);
     tables.inputs_made = inputs;
     post(tables, sink, new);

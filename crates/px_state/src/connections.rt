@@ -32,5 +32,5 @@ pub fn join<P>(tables: &mut Tables<P>, conn: ConnId) -> Mem<()>
 pub fn mark<P>(tables: &mut Tables<P>, conn: ConnId)
     ensures { state_of tables.new ≡ with_connection conn marked (state_of tables.old) }
 {
-    px_inputs::mark(&mut tables.connections, conn);
+    px_input_table::mark(&mut tables.connections, conn);
 }

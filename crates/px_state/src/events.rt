@@ -1,7 +1,7 @@
 //! What a step tells those who subscribed, reckoned before it is made: once it is, nothing may take memory.
 
 ghost use Rattle.std.specs.Prelude.{◌≡◌, ◌++◌, ◌∷◌, [], ◌+◌, ◌<◌, IfOk, OnOk};
-ghost use Rattle.px_session.specs.HeaderRules.{AreSinks};
+ghost use Rattle.px_header.specs.HeaderRules.{AreSinks};
 ghost use Rattle.px_msg.specs.declared.message.Msg.{Msg as Message};
 ghost use Rattle.px_plan.specs.declared.change.Change.TheVariants.{Arrives};
 ghost use Rattle.px_state.specs.Answered.{answer_effects};
@@ -16,7 +16,7 @@ use crate::tables::Tables;
 use px_flat::Group;
 use px_msg::Msg;
 use px_plan::Plan;
-use px_shown::{Scene, are_deaf, are_quiet, nobody_hears};
+use px_subscribe::{Scene, are_deaf, are_quiet, nobody_hears};
 use px_types::{ConnId, InputId, Mem};
 use std::alloc::Global;
 

@@ -7,7 +7,7 @@ ghost use Rattle.px_state.specs.Tables.{state_of, core_of, rooms_of};
 
 use crate::queues;
 use crate::tables::Tables;
-use px_inputs::InputTable;
+use px_input_table::InputTable;
 use px_msg::Msg;
 use px_plan::Way;
 use px_types::SinkId;

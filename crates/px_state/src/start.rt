@@ -1,20 +1,20 @@
 //! The tables of a server before its first step.
 
 ghost use Rattle.std.specs.Prelude.{◌≡◌, ◌++◌, ◌∷◌, [], map, replicate, length, List, IfOk, OnOk};
-ghost use Rattle.px_session.specs.declared.header.SinkSpec.{SinkSpec};
-ghost use Rattle.px_session.specs.HeaderRules.{IsHeader, AreSinks};
+ghost use Rattle.px_header.specs.declared.header.SinkSpec.{SinkSpec};
+ghost use Rattle.px_header.specs.HeaderRules.{IsHeader, AreSinks};
 ghost use Rattle.std.specs.List.{AllByRecursion};
 ghost use Rattle.px_flat.specs.FlatVolume.{new_group};
-ghost use Rattle.px_targets.specs.Sinks.{IsOfHeader};
+ghost use Rattle.px_sinks.specs.Sinks.{IsOfHeader};
 ghost use Rattle.px_state.specs.State.{new_state};
 ghost use Rattle.px_state.specs.Tables.{lists_of, state_of};
 
 use crate::tables::Tables;
 use px_flat::Group;
-use px_inputs::InputTable;
+use px_input_table::InputTable;
 use px_msg::Msg;
 use px_names::{InputLists, Names, SinkNames};
-use px_session::{Header, SinkSpec, SinkSpecs};
+use px_header::{Header, SinkSpec, SinkSpecs};
 use px_types::{Mem, Text};
 use std::alloc::Global;
 use std::collections::VecDeque;

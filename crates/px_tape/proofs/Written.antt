@@ -6,10 +6,10 @@ use Rattle.px_ends.specs.Told.{after_adding}
 use Rattle.px_ends.specs.Whole.{AddsFront}
 use Rattle.px_session.specs.declared.event.Event.{Event}
 use Rattle.px_session.specs.declared.event.Event.TheVariants.{Connect, Bytes, Close, Cut, Turn, Collect}
-use Rattle.px_session.specs.declared.header.Header.{Header}
-use Rattle.px_session.specs.declared.header.SinkSpec.{SinkSpec}
+use Rattle.px_header.specs.declared.header.Header.{Header}
+use Rattle.px_header.specs.declared.header.SinkSpec.{SinkSpec}
 use Rattle.px_session.specs.EventRules.{IsEvent}
-use Rattle.px_session.specs.HeaderRules.{AreSinks, IsHeader}
+use Rattle.px_header.specs.HeaderRules.{AreSinks, IsHeader}
 use Rattle.px_session.specs.Writing.{FitsSink, FitsHeader, FitsEvent}
 use Rattle.px_session.proofs.Added.{front_then}
 

@@ -4,7 +4,7 @@ ghost use Rattle.std.specs.List.{flat_map, AllByRecursion};
 ghost use Rattle.px_ends.specs.Told.{after_adding};
 ghost use Rattle.px_ends.specs.Whole.{AddsFront};
 ghost use Rattle.px_session.specs.EventRules.{IsEvent};
-ghost use Rattle.px_session.specs.HeaderRules.{IsHeader};
+ghost use Rattle.px_header.specs.HeaderRules.{IsHeader};
 ghost use Rattle.px_session.specs.Spelling.{event, session};
 ghost use Rattle.px_session.specs.Writing.{FitsEvent};
 ghost use Rattle.px_session.specs.declared.event.Event.TheVariants as kind;
@@ -12,7 +12,8 @@ ghost use Rattle.px_tape.specs.Tape.{begun};
 ghost use Rattle.px_types.specs.Faults.{Rose};
 
 use px_ends::Sink;
-use px_session::{Event, Header, WriteError, write_end, write_event, write_header};
+use px_header::Header;
+use px_session::{Event, WriteError, write_end, write_event, write_header};
 use px_types::{ConnId, Mem, SinkId};
 use std::alloc::Global;
 use std::marker::Model;

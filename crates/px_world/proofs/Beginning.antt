@@ -5,16 +5,16 @@ use Rattle.std.specs.List.{AllByRecursion}
 use Rattle.std.proofs.lemmas.Bool.{cond_both}
 use Rattle.std.proofs.lemmas.List.{length-map, map-set, map_push, map_more}
 use Rattle.std.proofs.lemmas.Option.{slice_get-map, slice_get-get_or, same_Some}
-use Rattle.px_session.specs.declared.header.Header.{Header}
-use Rattle.px_session.specs.declared.header.SinkSpec.{SinkSpec}
-use Rattle.px_session.specs.HeaderRules.{IsHeader, IsSink, AreSinks}
+use Rattle.px_header.specs.declared.header.Header.{Header}
+use Rattle.px_header.specs.declared.header.SinkSpec.{SinkSpec}
+use Rattle.px_header.specs.HeaderRules.{IsHeader, IsSink, AreSinks}
 use Rattle.px_msg.specs.View.{sample_spec}
 use Rattle.px_model.specs.Stream.{Stream, IsStream}
 use Rattle.px_model.proofs.Rounds.{empty_keeps}
 use Rattle.px_state.specs.State.{State, new_state}
 use Rattle.px_core.proofs.ParcelLaws.{new_carry}
 use Rattle.px_core.proofs.StepLaws.{new_keeps}
-use Rattle.px_targets.proofs.Sinks.{is_of_header}
+use Rattle.px_sinks.proofs.Sinks.{is_of_header}
 use Rattle.px_world.specs.declared.fault.WorldFault.{WorldFault}
 use Rattle.px_world.specs.declared.fault.WorldFault.TheVariants.{Live, NotLive, NoSink, Worn, TooMany, NoMemory}
 use Rattle.px_world.specs.declared.doors.Door.{Door}

@@ -1,6 +1,6 @@
 -- A world that runs goes on to stand for a world of the definitions.
 use Rattle.std.proofs.Common.{◌≡◌, [], map, None, ap, sym, subst, ◌∙◌}
-use Rattle.px_session.specs.declared.header.Header.{Header}
+use Rattle.px_header.specs.declared.header.Header.{Header}
 use Rattle.px_session.specs.declared.event.Event.{Event}
 use Rattle.px_model.specs.Stream.{Stream}
 use Rattle.px_state.specs.State.{new_state}

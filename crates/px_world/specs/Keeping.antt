@@ -1,7 +1,7 @@
 -- What a world that runs keeps: the core keeps what a core keeps, each sink's mixer has the inputs that the core knows to be there, and each parcel is a stream with all that a stream keeps.
 use Rattle.std.specs.Prelude.{◌≡◌, ℕ, List, length, Some}
 use Rattle.std.specs.List.{slice_get, AllByRecursion}
-use Rattle.px_session.specs.declared.header.SinkSpec.{SinkSpec}
+use Rattle.px_header.specs.declared.header.SinkSpec.{SinkSpec}
 use Rattle.px_model.specs.Notice.{Notice}
 use Rattle.px_model.specs.Stream.{Stream, IsStream}
 use Rattle.px_model.specs.Sink.{IsSink, specs_of}

@@ -1,7 +1,7 @@
 -- What a replay writes: the records of each event's effects and of the frames that it played, in order, and then the end byte.
 use Rattle.std.specs.Prelude.{◌≡◌, ℕ, cond, nat_eq, List, [], ◌∷◌, ◌++◌, length, None}
 use Rattle.std.specs.List.{concat, flat_map}
-use Rattle.px_session.specs.declared.header.Header.{Header}
+use Rattle.px_header.specs.declared.header.Header.{Header}
 use Rattle.px_session.specs.declared.event.Event.{Event}
 use Rattle.px_session.specs.declared.event.Event.TheVariants.{Connect, Bytes, Close, Cut, Turn, Collect}
 use Rattle.px_session.specs.Output.{sent_record, closed_record, played_record, ended_output}

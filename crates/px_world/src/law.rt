@@ -2,8 +2,8 @@
 
 ghost use Rattle.std.specs.Prelude.{◌≡◌, ℕ, List, [], ◌∷◌, ◌++◌, length, Some, None};
 ghost use Rattle.std.specs.List.{slice_get};
-ghost use Rattle.px_session.specs.declared.header.Header.{Header};
-ghost use Rattle.px_session.specs.declared.header.SinkSpec.{SinkSpec};
+ghost use Rattle.px_header.specs.declared.header.Header.{Header};
+ghost use Rattle.px_header.specs.declared.header.SinkSpec.{SinkSpec};
 ghost use Rattle.px_session.specs.declared.event.Event.{Event};
 ghost use Rattle.px_model.specs.Deciding.{replay, replay_played, IsHistory};
 ghost use Rattle.px_stream.specs.Samples.{samples};

@@ -2,8 +2,8 @@
 
 ghost use Rattle.std.specs.Prelude.{◌≡◌, ◌≢◌, ◌<◌, List, All, length, map, option_map, IfOk, OnOk, Err, Some};
 ghost use Rattle.std.specs.List.{AllByRecursion, slice_get};
-ghost use Rattle.px_session.specs.HeaderRules.{IsHeader, IsSink};
-ghost use Rattle.px_session.specs.declared.header.SinkSpec.{SinkSpec as Spec};
+ghost use Rattle.px_header.specs.HeaderRules.{IsHeader, IsSink};
+ghost use Rattle.px_header.specs.declared.header.SinkSpec.{SinkSpec as Spec};
 ghost use Rattle.px_world.specs.World.{World as SpecWorld, new_mixer, new_world};
 ghost use Rattle.px_world.specs.Admission.{refusal_of};
 ghost use Rattle.px_world.specs.Event.{world_after, change_at};
@@ -25,7 +25,8 @@ use crate::spares::Spares;
 use crate::stepping::WorldCore;
 use crate::{Frames, Outcome, WorldFault};
 use px_core::Core;
-use px_session::{Event, Header, SinkSpec};
+use px_header::{Header, SinkSpec};
+use px_session::Event;
 use px_types::{Mem, SinkId, Text};
 use std::alloc::Global;
 use std::marker::Model;

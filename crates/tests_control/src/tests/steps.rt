@@ -1,14 +1,15 @@
 ghost use Rattle.std.specs.Prelude.{◌≡◌, ◌<◌, ◌≤◌, length, IfOk};
 ghost use Rattle.px_frame.specs.Frame.{IsBody};
 ghost use Rattle.px_msg.specs.View.{sample_spec};
-ghost use Rattle.px_session.specs.HeaderRules.{IsHeader};
+ghost use Rattle.px_header.specs.HeaderRules.{IsHeader};
 
 use px_core::Core;
 use px_ends::{Calls, MemSource};
 use px_frame::{Body, Frame, Packet};
 use px_msg::{Msg, Notice, Parcel};
 use px_sample::{Format, Spec};
-use px_session::{Header, Reader, Step};
+use px_header::Header;
+use px_session::{Reader, Step};
 use px_types::{ConnId, InputId, Mem, NoMemory, SinkId, Text};
 use std::alloc::Global;
 

@@ -1,7 +1,7 @@
 ghost use Rattle.std.specs.Prelude.{IfOk};
 ghost use Rattle.px_core_cell.specs.Step.{IsAsked};
 
-use px_core_cell::CoreStep;
+use px_cell::CoreStep;
 use px_frame::{Body, Frame, Packet};
 use px_types::{ConnId, Mem};
 use std::alloc::Global;

@@ -1,16 +1,17 @@
 ghost use Rattle.std.specs.Prelude.{◌≡◌, map, IfOk};
 ghost use Rattle.std.specs.Arc.{arc_value};
 ghost use Rattle.crossbeam_queue.specs.Passes.{IsPassOf};
-ghost use Rattle.px_session.specs.HeaderRules.{IsHeader};
+ghost use Rattle.px_header.specs.HeaderRules.{IsHeader};
 ghost use Rattle.px_core_cell.specs.Cell.{ends_of};
 ghost use Rattle.px_core_cell.specs.History.{Begins, fresh_ends};
 
 use px_core::Core;
-use px_core_cell::{CellCore, CoreEnd, CoreEnds};
+use px_cell::{CellCore, CoreEnd, CoreEnds};
 use px_ends::{Calls, MemSource};
 use px_mail::{Mailbox, PostPass, Shared, TakePass};
 use px_msg::{Msg, Notice};
-use px_session::{Header, Reader, SinkSpec, Step};
+use px_header::{Header, SinkSpec};
+use px_session::{Reader, Step};
 use px_stream::Stream;
 use px_types::{Mem, NoMemory, SinkId, Text};
 use std::alloc::Global;

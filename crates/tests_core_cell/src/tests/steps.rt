@@ -7,7 +7,7 @@ use crate::tests::asking::{AUTH, CREATE, framed};
 use crate::tests::recorder::Crowded;
 use crate::tests::scene::{Mixer, OUT, Scene, new_scene, taken};
 use px_annals::{CoreEntry, NoRecorder, Recorder};
-use px_core_cell::{CoreState, CoreStep, StepFault};
+use px_cell::{CoreState, CoreStep, StepFault};
 use px_msg::Notice;
 use px_types::{ConnId, InputId, Mem};
 use std::alloc::Global;

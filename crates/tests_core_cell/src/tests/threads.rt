@@ -7,7 +7,7 @@ ghost use Rattle.px_core_cell.specs.Step.{IsAsked};
 use crate::tests::asking::{AUTH, CREATE, DRAIN, framed};
 use crate::tests::scene::{Mixer, OUT, Scene, new_scene, taken};
 use px_annals::NoRecorder;
-use px_core_cell::{CellCore, CoreCell, CoreEnds, CoreSeat, CoreStep, Seats, StepFault};
+use px_cell::{CellCore, CoreCell, CoreEnds, CoreSeat, CoreStep, Seats, StepFault};
 use px_msg::Msg;
 use px_types::{ConnId, Mem};
 use std::alloc::Global;

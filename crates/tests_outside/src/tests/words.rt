@@ -1,4 +1,4 @@
-use px_serve_words::{ServeWords, WordsFault, read_serve_words};
+use px_app::{ServeWords, WordsFault, read_serve_words};
 use px_types::Mem;
 use std::alloc::Global;
 

@@ -1,10 +1,11 @@
 //! A world whose sink has failed.
 ghost use Rattle.std.specs.Prelude.{IfOk};
-ghost use Rattle.px_session.specs.HeaderRules.{IsHeader};
+ghost use Rattle.px_header.specs.HeaderRules.{IsHeader};
 
 use super::faults::session;
 use px_ends::{Calls, MemSource};
-use px_session::{Event, Header, Reader, Step};
+use px_header::Header;
+use px_session::{Event, Reader, Step};
 use px_types::{ConnId, Mem, NoMemory, SinkId, Text};
 use px_world::{World, WorldFault};
 use std::alloc::Global;

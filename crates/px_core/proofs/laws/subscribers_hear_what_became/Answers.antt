@@ -1,5 +1,5 @@
 use Rattle.std.proofs.Common.{[], ◌∷◌}
-use Rattle.px_events.proofs.Telling.{tell_what_became}
+use Rattle.px_subscribe.proofs.Telling.{tell_what_became}
 use Rattle.px_core.specs.Heard.{infos_of, given_by}
 use Rattle.px_core.specs.Step.{stepped}
 use Rattle.px_core.proofs.StepLaws as steps

@@ -3,9 +3,9 @@ use Rattle.std.specs.Option.{option_map}
 use Rattle.px_names.specs.Names.{sink_named}
 use Rattle.px_plan.specs.declared.target.Named.{Named}
 use Rattle.px_plan.specs.Target.{target_of}
-use Rattle.px_targets.specs.Sinks.{group_named}
+use Rattle.px_sinks.specs.Sinks.{group_named}
 use Rattle.px_core.proofs.GroupLaws.{named_ready}
-use Rattle.px_targets.proofs.Sinks.{named_there}
+use Rattle.px_sinks.proofs.Sinks.{named_there}
 use Rattle.px_core.proofs.rows.create_by.Goals as goal
 
 pub create-requires-clause-ready : goal.create-requires-clause-ready

@@ -6,9 +6,9 @@ use Rattle.px_model.specs.Mix.{sum_of}
 use Rattle.px_model.specs.Sink.{Input as Stands, streams_of}
 use Rattle.px_mixcache.specs.Cache.{kept_at}
 use Rattle.px_stream.specs.Samples.{samples}
-use Rattle.px_sums.specs.Kept.{IsSumOf}
-use Rattle.px_sums.proofs.Follows as follows
-use Rattle.px_share.specs.Keeping.{share_in}
+use Rattle.px_kept_mix.specs.Kept.{IsSumOf}
+use Rattle.px_kept_mix.proofs.Follows as follows
+use Rattle.px_kept_mix.specs.Keeping.{share_in}
 use Rattle.px_lane.specs.declared.input.Input.{Input}
 use Rattle.px_lane.specs.Inputs.{input_of, inputs_of}
 use Rattle.px_lane.proofs.Sharing.{fed_at}

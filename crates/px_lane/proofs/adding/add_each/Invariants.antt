@@ -4,9 +4,9 @@ use Rattle.px_msg.specs.View.{sample_spec}
 use Rattle.px_mixcache.specs.Cache.{kept_at}
 use Rattle.px_model.specs.Mix.{sum_of}
 use Rattle.px_model.specs.Sink.{Input, streams_of}
-use Rattle.px_share.specs.Keeping.{IsAsLarge, share_in}
+use Rattle.px_kept_mix.specs.Keeping.{IsAsLarge, share_in}
 use Rattle.px_stream.specs.Samples.{samples}
-use Rattle.px_sums.specs.Kept.{IsSumOf}
+use Rattle.px_kept_mix.specs.Kept.{IsSumOf}
 use Rattle.px_lane.specs.Inputs.{inputs_of}
 use Rattle.px_lane.proofs.adding.add_each.Given as goal
 

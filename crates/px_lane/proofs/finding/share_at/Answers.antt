@@ -1,6 +1,6 @@
 use Rattle.std.proofs.Common.{Option, sym, subst}
 use Rattle.px_model.specs.Stream.{Stream}
-use Rattle.px_share.specs.Keeping.{SharesThere, AreLittleThere}
+use Rattle.px_kept_mix.specs.Keeping.{SharesThere, AreLittleThere}
 use Rattle.px_lane.proofs.Places.{at_stream, gap_stream}
 use Rattle.px_lane.proofs.Sharing.{fed_at, nothing_shared}
 use Rattle.px_lane.proofs.finding.share_at.Goals as goal

@@ -1,6 +1,6 @@
-use Rattle.px_crew.specs.declared.stop.Stop.TheVariants.{Memory}
+use Rattle.px_workers.specs.declared.stop.Stop.TheVariants.{Memory}
 use Rattle.px_server.proofs.Ending.{front_none, unserved_is}
-use Rattle.px_crew.proofs.Later.{later_refl}
+use Rattle.px_workers.proofs.Later.{later_refl}
 use Rattle.px_server.proofs.Lending.{lent_none}
 use Rattle.px_server.proofs.Taping.{untaped}
 use Rattle.px_server.proofs.call.serve.Goals as goal

@@ -1,7 +1,7 @@
 use Rattle.std.proofs.Common.{length, arith, ◌∙◌}
-use Rattle.px_crew.specs.declared.stop.Stop.TheVariants.{Memory}
+use Rattle.px_workers.specs.declared.stop.Stop.TheVariants.{Memory}
 use Rattle.px_server.proofs.Ending.{few_begin, front_all, unserved_is, served_is}
-use Rattle.px_crew.proofs.Later.{later_refl}
+use Rattle.px_workers.proofs.Later.{later_refl}
 use Rattle.px_server.proofs.Lending.{lent_same, lent_less}
 use Rattle.px_server.proofs.Making.{starts_made, ends_made, boxes_made, taping_made}
 use Rattle.px_server.proofs.Taping.{untaped}

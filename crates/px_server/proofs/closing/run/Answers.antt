@@ -1,6 +1,6 @@
 use Rattle.std.proofs.Common.{◌∙◌, ◌≤◌, sym, subst, map}
 use Rattle.std.specs.Prelude.{vec_capacity}
-use Rattle.px_crew.specs.Working.{start_of, mailboxes_of}
+use Rattle.px_workers.specs.Working.{start_of, mailboxes_of}
 use Rattle.px_server.proofs.Delivering.{same_count}
 use Rattle.px_server.proofs.Ending.{ends_since}
 use Rattle.px_server.proofs.Naming.{same_boxes}

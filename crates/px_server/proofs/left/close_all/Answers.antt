@@ -5,7 +5,7 @@ use Rattle.px_core_cell.specs.History.{IsTold}
 use Rattle.px_lane_cell.specs.History.{unturned}
 use Rattle.px_server.specs.Delivered.{IsDelivered}
 use Rattle.px_server.specs.Parts.{unworked}
-use Rattle.px_crew.specs.Working.{Unworked, AreTaped}
+use Rattle.px_workers.specs.Working.{Unworked, AreTaped}
 use Rattle.px_server.proofs.Parts.{part_told, handed_none, handed_one, handed_all, met_one, met_all}
 use Rattle.px_server.proofs.Delivering.{told_one, told_is, boxes_rest}
 use Rattle.px_server.proofs.Taping.{taping_first, counted_none, counted_one}

@@ -1,5 +1,5 @@
 use Rattle.std.proofs.Common.{rules, ◌≡◌, ◌∷◌, [], ◌++◌, None}
-use Rattle.px_crew.specs.Working.{Unworked}
+use Rattle.px_workers.specs.Working.{Unworked}
 use Rattle.px_server.proofs.Parts.{handed_none, handed_one, handed_all}
 use Rattle.px_server.proofs.left.hand_back.Goals as goal
 

@@ -1,9 +1,9 @@
 use Rattle.std.proofs.Common.{rules, ◌≡◌, ◌+◌, ◌∷◌, length, map, ap, refl}
 use Rattle.std.proofs.lemmas.List.{nil_from_length}
 use Rattle.std.proofs.lemmas.Result.{on_ok_weaker, err_from_is_err_and}
-use Rattle.px_crew.specs.Working.{start_of}
+use Rattle.px_workers.specs.Working.{start_of}
 use Rattle.px_server.specs.Parts.{start_for, starts_from}
-use Rattle.px_crew.proofs.Later.{later_refl, later_later}
+use Rattle.px_workers.proofs.Later.{later_refl, later_later}
 use Rattle.px_server.proofs.Making.{map_one, adds_then, adds_nothing, adds_all}
 use Rattle.px_server.proofs.Parts.{adds_none}
 use Rattle.px_server.proofs.sinks.+make_from.Goals as goal

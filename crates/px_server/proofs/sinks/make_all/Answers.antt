@@ -1,6 +1,6 @@
 use Rattle.std.proofs.Common.{List, subst}
 use Rattle.std.proofs.lemmas.Result.{on_ok_weaker}
-use Rattle.px_session.specs.declared.header.SinkSpec.{SinkSpec}
+use Rattle.px_header.specs.declared.header.SinkSpec.{SinkSpec}
 use Rattle.px_server.specs.Made.{AreMade}
 use Rattle.px_server.proofs.Making.{made_all}
 use Rattle.px_server.proofs.sinks.make_all.Goals as goal

@@ -1,5 +1,5 @@
 use Rattle.std.proofs.lemmas.Result.{err_from_is_err_and}
-use Rattle.px_crew.proofs.Later.{later_refl}
+use Rattle.px_workers.proofs.Later.{later_refl}
 use Rattle.px_server.proofs.Making.{lent_as, lent_more, adds_same}
 use Rattle.px_server.proofs.sinks.make_one.Goals as goal
 

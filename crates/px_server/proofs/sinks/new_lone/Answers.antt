@@ -1,7 +1,7 @@
 use Rattle.std.proofs.Common.{ap, sym, subst, ◌∙◌}
 use Rattle.px_lane_cell.specs.History.{unturned}
-use Rattle.px_crew.specs.Hosted.{IsCauseOf}
-use Rattle.px_crew.specs.Working.{start_of, tapes_in}
+use Rattle.px_workers.specs.Hosted.{IsCauseOf}
+use Rattle.px_workers.specs.Working.{start_of, tapes_in}
 use Rattle.px_server.specs.Mailboxes.{boxes_in}
 use Rattle.px_server.proofs.Making.{lent_fewer}
 use Rattle.px_server.proofs.Parts.{begun}

@@ -1,7 +1,7 @@
 use Rattle.std.proofs.Common.{◌≡◌, ◌++◌, take, drop, suc, sym, subst}
 use Rattle.std.specs.List.{flat_map}
 use Rattle.std.proofs.lemmas.Result.{err_from_is_err_and}
-use Rattle.px_session.specs.declared.header.SinkSpec.{SinkSpec}
+use Rattle.px_header.specs.declared.header.SinkSpec.{SinkSpec}
 use Rattle.px_session.specs.Spelling.{sink}
 use Rattle.px_session.proofs.Added.{front_then, flat_map_around}
 use Rattle.px_session.proofs.writer.write_sinks.Goals as goal

@@ -1,7 +1,7 @@
 use Rattle.std.proofs.Common.{◌≡◌, Some, None, sym, ◌∙◌}
 use Rattle.std.specs.List.{position}
 use Rattle.px_state.specs.State.{is_as}
-use Rattle.px_inputs.proofs.First.{dropped, undropped}
+use Rattle.px_input_table.proofs.First.{dropped, undropped}
 use Rattle.px_state.proofs.awaited.answer.Goals as goal
 
 pub returns-in-Some-clause-items : goal.returns-in-Some-clause-items

@@ -1,5 +1,5 @@
 use Rattle.std.proofs.Common.{arith, ◌∙◌, ap, length}
-use Rattle.px_inputs.specs.InputTable.{RoomyInputs}
+use Rattle.px_input_table.specs.InputTable.{RoomyInputs}
 use Rattle.px_state.proofs.Rooms.{less_room, same_listed, same_waits, same_delays, room_left}
 use Rattle.px_state.proofs.commit.arrive.Goals as goal
 

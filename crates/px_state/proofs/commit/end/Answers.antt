@@ -1,6 +1,6 @@
 use Rattle.std.proofs.Common.{arith, ◌∙◌, ap, length}
 use Rattle.std.specs.Prelude.{vec_capacity}
-use Rattle.px_inputs.specs.InputTable.{RoomyInputs}
+use Rattle.px_input_table.specs.InputTable.{RoomyInputs}
 use Rattle.px_state.proofs.Waiting.{fewer_places}
 use Rattle.px_state.proofs.Rooms.{less_room, same_listed, room_left}
 use Rattle.px_state.proofs.commit.end.Goals as goal

@@ -1,7 +1,7 @@
 use Rattle.std.proofs.Common.{arith, ◌∙◌, ap, sym, subst, length}
 use Rattle.std.specs.Prelude.{vec_capacity}
 use Rattle.px_names.specs.InputLists.{RoomyLists}
-use Rattle.px_inputs.specs.InputTable.{RoomyInputs}
+use Rattle.px_input_table.specs.InputTable.{RoomyInputs}
 use Rattle.px_state.specs.Tables.{HavePlaces}
 use Rattle.px_state.proofs.Waiting.{fewer_places}
 use Rattle.px_state.proofs.Rooms.{less_room, same_listed, same_waits, same_delays, room_left}

@@ -1,6 +1,6 @@
 use Rattle.std.proofs.Common.{◌≡◌, Some, None, sym, ◌∙◌}
 use Rattle.std.specs.List.{position}
-use Rattle.px_inputs.proofs.First.{dropped, undropped}
+use Rattle.px_input_table.proofs.First.{dropped, undropped}
 use Rattle.px_state.specs.Delayed.{is_of}
 use Rattle.px_state.proofs.Late.{no_message, its_message}
 use Rattle.px_state.proofs.delayed.take_first.Goals as goal

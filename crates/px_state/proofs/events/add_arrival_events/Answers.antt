@@ -1,6 +1,6 @@
 use Rattle.std.proofs.Common.{◌∷◌, sym, ap, ◌∙◌}
 use Rattle.px_plan.specs.declared.change.Change.TheVariants.{Arrives}
-use Rattle.px_shown.specs.Scene.{nobody_hears}
+use Rattle.px_subscribe.specs.Scene.{nobody_hears}
 use Rattle.px_state.specs.Tables.{state_of}
 use Rattle.px_state.proofs.AddedLaws.{deaf_added, arrival_added}
 use Rattle.px_state.proofs.events.add_arrival_events.Goals as goal

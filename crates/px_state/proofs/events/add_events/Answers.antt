@@ -1,5 +1,5 @@
 use Rattle.std.proofs.Common.{sym, ap, ◌∙◌}
-use Rattle.px_shown.specs.Scene.{nobody_hears}
+use Rattle.px_subscribe.specs.Scene.{nobody_hears}
 use Rattle.px_state.specs.Tables.{state_of}
 use Rattle.px_state.proofs.AddedLaws.{quiet_added, deaf_added, changes_added}
 use Rattle.px_state.proofs.events.add_events.Goals as goal

@@ -1,5 +1,5 @@
 use Rattle.std.proofs.Common.{sym, ap, ◌∙◌}
-use Rattle.px_shown.specs.Scene.{are_deaf}
+use Rattle.px_subscribe.specs.Scene.{are_deaf}
 use Rattle.px_state.specs.Tables.{state_of}
 use Rattle.px_state.proofs.AddedLaws.{deaf_joined, join_added}
 use Rattle.px_state.proofs.events.joined_events.Goals as goal

@@ -1,8 +1,8 @@
 use Rattle.std.proofs.Common.{arith, ◌≡◌, ℕ, suc, ◌+◌, ◌<◌, List, [], ◌∷◌, ◌++◌, map, drop, length, get_or, drop-cons, append_assoc, ap, sym, subst, ◌∙◌}
-use Rattle.px_session.specs.declared.header.SinkSpec.{SinkSpec}
+use Rattle.px_header.specs.declared.header.SinkSpec.{SinkSpec}
 use Rattle.px_flat.specs.FlatVolume.{new_group}
-use Rattle.px_targets.specs.Sinks.{IsOfHeader}
-use Rattle.px_targets.proofs.Sinks.{next_of_header}
+use Rattle.px_sinks.specs.Sinks.{IsOfHeader}
+use Rattle.px_sinks.proofs.Sinks.{next_of_header}
 use Rattle.px_state.proofs.start.groups_for.Goals as goal
 
 -- one more of those that are left is made

@@ -1,10 +1,10 @@
 use Rattle.std.proofs.Common.{List, [], length, map, replicate, ap, sym, subst, ◌∙◌}
 use Rattle.std.specs.List.{AllByRecursion}
 use Rattle.px_flat.specs.FlatVolume.{new_group}
-use Rattle.px_session.specs.HeaderRules.{AreSinks}
-use Rattle.px_session.specs.declared.header.SinkSpec.{SinkSpec}
-use Rattle.px_targets.specs.Sinks.{IsOfHeader}
-use Rattle.px_targets.proofs.Sinks.{each_of_header}
+use Rattle.px_header.specs.HeaderRules.{AreSinks}
+use Rattle.px_header.specs.declared.header.SinkSpec.{SinkSpec}
+use Rattle.px_sinks.specs.Sinks.{IsOfHeader}
+use Rattle.px_sinks.proofs.Sinks.{each_of_header}
 use Rattle.px_state.proofs.start.new_tables.Goals as goal
 
 pub queues_and_groups-requires : goal.queues_and_groups-requires

@@ -1,7 +1,7 @@
 use Rattle.std.proofs.Common.{List, ap, arith, subst, sym, ◌∙◌}
 use Rattle.std.specs.List.{AllByRecursion}
-use Rattle.px_session.specs.declared.header.SinkSpec.{SinkSpec}
-use Rattle.px_session.specs.HeaderRules.{IsSink}
+use Rattle.px_header.specs.declared.header.SinkSpec.{SinkSpec}
+use Rattle.px_header.specs.HeaderRules.{IsSink}
 use Rattle.px_world.specs.World.{new_mixer}
 use Rattle.px_world.specs.Playing.{mixer_of, IsPlaying}
 use Rattle.px_world.proofs.Beginning.{mixers-next, each-push}

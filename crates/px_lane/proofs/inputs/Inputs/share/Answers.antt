@@ -3,7 +3,7 @@ use Rattle.px_model.specs.Sink.{Input as Stands, IsRising, stream_at}
 use Rattle.px_lane.specs.Room.{RoomyInputs}
 use Rattle.px_lane.specs.Inputs.{inputs_of}
 use Rattle.px_lane.specs.Taking.{AreFed}
-use Rattle.px_share.specs.Keeping.{SharesThere, AreLittleThere}
+use Rattle.px_kept_mix.specs.Keeping.{SharesThere, AreLittleThere}
 use Rattle.px_lane.proofs.inputs.Inputs.share.Goals as goal
 
 pub share_at-requires-clause-rising : goal.share_at-requires-clause-rising

@@ -1,8 +1,8 @@
 use Rattle.std.proofs.Common.{List, refl, sym, subst}
 use Rattle.px_model.specs.Sink.{Input}
 use Rattle.px_model.specs.Turn.{asked_stream}
-use Rattle.px_share.specs.Keeping.{IsKept}
-use Rattle.px_share.proofs.Exchanging.{asked}
+use Rattle.px_kept_mix.specs.Keeping.{IsKept}
+use Rattle.px_kept_mix.proofs.Exchanging.{asked}
 use Rattle.px_lane.specs.Mixed.{CanMix}
 use Rattle.px_lane.proofs.Sharing.{can_mix_each}
 use Rattle.px_lane.proofs.mixed.MixedInputs.ask.Goals as goal

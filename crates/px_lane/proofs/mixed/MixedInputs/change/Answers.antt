@@ -5,9 +5,9 @@ use Rattle.px_model.specs.Mix.{mix_of}
 use Rattle.px_model.specs.Sink.{Input, streams_of, stream_at, with_change}
 use Rattle.px_stream.specs.Samples.{samples}
 use Rattle.px_stream.specs.Messages.{message_of}
-use Rattle.px_sums.specs.Kept.{changed_there}
-use Rattle.px_share.specs.Keeping.{AreLittleThere, SharesThere, SoundsBefore, IsKept}
-use Rattle.px_share.proofs.Exchanging.{small, one_more_small, changes}
+use Rattle.px_kept_mix.specs.Kept.{changed_there}
+use Rattle.px_kept_mix.specs.Keeping.{AreLittleThere, SharesThere, SoundsBefore, IsKept}
+use Rattle.px_kept_mix.proofs.Exchanging.{small, one_more_small, changes}
 use Rattle.px_lane.specs.Mixed.{SummedInputs, CanMix}
 use Rattle.px_lane.specs.Costs.{unaltered_there}
 use Rattle.px_lane.proofs.Sharing.{roomy, changed_at_index}

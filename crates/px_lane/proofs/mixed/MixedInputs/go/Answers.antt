@@ -2,8 +2,8 @@ use Rattle.std.proofs.Common.{ℕ, ◌-◌, List, ap, sym, ◌∙◌, subst}
 use Rattle.std.specs.List.{AllByRecursion}
 use Rattle.px_model.specs.Stream.{IsStream}
 use Rattle.px_model.specs.Sink.{Input}
-use Rattle.px_share.specs.Keeping.{IsKept}
-use Rattle.px_share.proofs.Exchanging.{forward}
+use Rattle.px_kept_mix.specs.Keeping.{IsKept}
+use Rattle.px_kept_mix.proofs.Exchanging.{forward}
 use Rattle.px_lane.specs.Mixed.{SummedInputs, CanMix}
 use Rattle.px_lane.proofs.Sharing.{can_mix_gone}
 use Rattle.px_lane.proofs.mixed.MixedInputs.go.Goals as goal

@@ -1,7 +1,7 @@
 use Rattle.std.proofs.Common.{◌+◌, ◌*◌, ◌≤◌, List, false, ap, sym, ◌∙◌, subst, arith}
 use Rattle.px_model.specs.Sink.{Input, stream_at, with_input}
-use Rattle.px_share.specs.Keeping.{AreLittle, IsKept}
-use Rattle.px_share.proofs.Exchanging.{small, one_more_small, comes}
+use Rattle.px_kept_mix.specs.Keeping.{AreLittle, IsKept}
+use Rattle.px_kept_mix.proofs.Exchanging.{small, one_more_small, comes}
 use Rattle.px_lane.specs.Mixed.{SummedInputs, CanMix}
 use Rattle.px_lane.proofs.Sharing.{roomy}
 use Rattle.px_lane.proofs.Costs.{two_shares}

@@ -2,9 +2,9 @@ use Rattle.std.proofs.Common.{◌+◌, ◌-◌, ◌*◌, ◌≤◌, List, length
 use Rattle.px_msg.specs.View.{sample_spec}
 use Rattle.px_model.specs.Sink.{Input}
 use Rattle.px_stream.specs.Samples.{samples}
-use Rattle.px_sums.specs.Kept.{AreKept}
+use Rattle.px_kept_mix.specs.Kept.{AreKept}
 use Rattle.px_mixcache.specs.Cache.{kept_at}
-use Rattle.px_share.specs.Keeping.{IsKept}
+use Rattle.px_kept_mix.specs.Keeping.{IsKept}
 use Rattle.px_lane.proofs.Growing.{extended_kept}
 use Rattle.px_lane.specs.Mixed.{SummedInputs, CanMix}
 use Rattle.px_lane.proofs.Costs.{grown, as_many}

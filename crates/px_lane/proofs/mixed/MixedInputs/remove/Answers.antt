@@ -1,7 +1,7 @@
 use Rattle.std.proofs.Common.{◌+◌, ◌*◌, ◌≤◌, List, sym, ◌∙◌, subst, arith}
 use Rattle.px_model.specs.Sink.{Input, without_input}
-use Rattle.px_share.specs.Keeping.{IsKept}
-use Rattle.px_share.proofs.Exchanging.{small, leaves}
+use Rattle.px_kept_mix.specs.Keeping.{IsKept}
+use Rattle.px_kept_mix.proofs.Exchanging.{small, leaves}
 use Rattle.px_lane.specs.Mixed.{SummedInputs, CanMix}
 use Rattle.px_lane.proofs.Sharing.{roomy}
 use Rattle.px_lane.proofs.Costs.{one_share}

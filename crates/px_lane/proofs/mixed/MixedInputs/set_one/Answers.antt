@@ -2,9 +2,9 @@ use Rattle.std.proofs.Common.{◌≡◌, ◌+◌, ◌*◌, ◌≤◌, List, Opti
 use Rattle.px_model.specs.Control.{with_factors}
 use Rattle.px_model.specs.Stream.{Stream}
 use Rattle.px_model.specs.Sink.{Input, stream_at, with_change}
-use Rattle.px_sums.specs.Kept.{changed_there}
-use Rattle.px_share.specs.Keeping.{AreLittleThere, SharesThere, IsKept}
-use Rattle.px_share.proofs.Exchanging.{small, one_more_small, changes}
+use Rattle.px_kept_mix.specs.Kept.{changed_there}
+use Rattle.px_kept_mix.specs.Keeping.{AreLittleThere, SharesThere, IsKept}
+use Rattle.px_kept_mix.proofs.Exchanging.{small, one_more_small, changes}
 use Rattle.px_lane.specs.Mixed.{SummedInputs, CanMix}
 use Rattle.px_lane.specs.Taking.{AreFed}
 use Rattle.px_lane.proofs.Sharing.{roomy, sounds_there, changed_at_index, can_mix_factors}

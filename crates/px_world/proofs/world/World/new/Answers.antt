@@ -1,5 +1,5 @@
 use Rattle.std.proofs.Common.{List, map, ap, ◌∙◌}
-use Rattle.px_session.specs.declared.header.SinkSpec.{SinkSpec}
+use Rattle.px_header.specs.declared.header.SinkSpec.{SinkSpec}
 use Rattle.px_world.specs.World.{new_mixer}
 use Rattle.px_world.proofs.Beginning.{kept_begins}
 use Rattle.px_world.proofs.world.World.new.Goals as goal

@@ -1,0 +1,7 @@
+use Rattle.std.proofs.Common.{◌∙◌, ap₂}
+use Rattle.std.proofs.lemmas.Result.{IfOk-weaker}
+use Rattle.clap.specs.Words.{with_rule}
+use Rattle.px_app.proofs.serve_words.command.with_paths.Goals as goal
+
+pub returns : goal.returns
+returns c = IfOk-weaker c.arg.result _ _ (λ more adds. adds.shape c.path.ensures.own ∙ ap₂ with_rule c.in_ok-with_sources.ensures c.path.ensures.rule) c.arg.ensures

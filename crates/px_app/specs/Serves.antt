@@ -1,0 +1,76 @@
+-- What the words of `serve` do.
+use Rattle.std.specs.Prelude.{◌≡◌, ◌⊎◌, ℕ, Bool, List, [], Option, Ok, Err}
+use Rattle.clap.specs.Words.{fault_of}
+use Rattle.px_types.specs.declared.status.Status.{Status}
+use Rattle.px_types.specs.declared.status.Status.TheVariants as status
+use Rattle.px_annals.specs.declared.entry.CoreEntry.{CoreEntry}
+use Rattle.px_annals.specs.declared.entry.LaneEntry.{LaneEntry}
+use Rattle.px_ends.specs.declared.host.ServeOptions.{ServeOptions}
+use Rattle.px_ends.specs.Device.{DeviceState}
+use Rattle.px_ends.specs.Host.{HostState, FailsOnce, started_by}
+use Rattle.px_ends.specs.Told.{WhereTold}
+use Rattle.px_session.specs.declared.event.Event.{Event}
+use Rattle.px_header.specs.declared.header.Header.{Header}
+use Rattle.px_header.specs.HeaderRules.{IsHeader}
+use Rattle.px_app.specs.declared.serve_words.words.ServeWords.{ServeWords}
+use Rattle.px_app.specs.ServeCommand.{serve_command, rows, Reads, Refused as Denied}
+use Rattle.px_app.specs.ServePlain.{Plain}
+use Rattle.px_server.specs.declared.served.LanePart.{LanePart}
+use Rattle.px_server.specs.Serving.{IsServed}
+use Rattle.px_server.specs.Taped.{HasTape}
+use Rattle.px_app.specs.declared.serve.call.ServeEnd.{ServeEnd}
+use Rattle.px_app.specs.declared.serve.call.ServeEnd.TheVariants.{Usage, Refused, Ended}
+use Rattle.px_app.specs.HeaderFile.{header_of}
+use Rattle.px_app.specs.Back.{TakesParts, TakesCores}
+use Rattle.px_app.specs.Tape.{Output, WritesTape}
+
+-- what the words say; of plain words that is what they spell
+pub record IsSaid (texts : List (List ℕ)) (said : ServeWords) : Type 0 where
+  pub taken : fault_of serve_command texts ≡ []
+  pub reads : Reads (rows texts) said
+  pub plain : (other : ServeWords) → Plain texts other → said ≡ other
+
+-- the words are none of `serve`, and then they aren't plain
+abbrev pub AreNone : List (List ℕ) → Type 0
+AreNone texts = Denied texts × ((said : ServeWords) → Plain texts said → ⊥)
+
+module _ {D R C : Type 0} (core_told : C → Option (List CoreEntry)) (core_faults core_fulls : C → ℕ) (now : D → DeviceState) (told : R → Option (List LaneEntry)) (faults fulls : R → ℕ) where
+  -- a serving call on the sinks of a header, after which the host took back all that was handed out, and the tape was written, where there is one
+  pub record IsServing (header : Header) (taped : Bool) (before after : HostState D R C) (out_before out_after : Output) (answered : Status) : Type 0 where
+    pub parts : List (LanePart D R)
+    pub core : Option C
+    pub served_state : HostState D R C
+    pub parts_state : HostState D R C
+    pub ended : Status
+    pub tape : Option (List Event)
+    pub served : IsServed core_told core_faults core_fulls now told faults fulls header before served_state ended parts core
+    pub recorded : HasTape told taped ended parts tape
+    pub written : WritesTape header tape out_before out_after ended answered
+    pub parts_back : TakesParts now faults fulls parts served_state parts_state
+    pub core_back : TakesCores core_faults core_fulls core parts_state after
+
+  -- there was no serving call: no memory, or the start failed
+  abbrev pub IsEarly : ServeOptions → Status → HostState D R C → HostState D R C → Type 0
+  IsEarly options answered before after =
+      ((answered ≡ status.Memory) × ((after ≡ before) ⊎ (after ≡ started_by options before)))
+      ⊎ ((answered ≡ status.Host) × FailsOnce before after)
+
+  -- the host was started with these options, and what its header file has was served, if it is a header
+  abbrev pub ServesWith : ServeWords → ServeEnd → HostState D R C → HostState D R C → Output → Output → Type 0
+  ServesWith said Usage before after out_before out_after = ⊥
+  ServesWith said (Refused at cause) before after out_before out_after =
+      (bytes : List ℕ) × WhereTold before.header (λ all. bytes ≡ all) × (header_of bytes ≡ Err (record { at = at; cause = cause })) × (after ≡ started_by said.options before)
+      × (out_after ≡ out_before)
+  ServesWith said (Ended answered) before after out_before out_after =
+      (IsEarly said.options answered before after × (out_after ≡ out_before))
+      ⊎ ((bytes : List ℕ) × (header : Header) × WhereTold before.header (λ all. bytes ≡ all) × (header_of bytes ≡ Ok header)
+      × IsHeader header × IsServing header said.tape (started_by said.options before) after out_before out_after answered)
+
+  -- by these words
+  abbrev pub ServesBy : List (List ℕ) → ServeEnd → HostState D R C → HostState D R C → Output → Output → Type 0
+  ServesBy texts Usage before after out_before out_after = AreNone texts × (after ≡ before) × (out_after ≡ out_before)
+  ServesBy texts (Refused at cause) before after out_before out_after =
+      (said : ServeWords) × IsSaid texts said × ServesWith said (Refused at cause) before after out_before out_after
+  ServesBy texts (Ended answered) before after out_before out_after =
+      ((answered ≡ status.Memory) × (after ≡ before) × (out_after ≡ out_before))
+      ⊎ ((said : ServeWords) × IsSaid texts said × ServesWith said (Ended answered) before after out_before out_after)

@@ -1,0 +1,55 @@
+// What the words of `serve` say, and why they aren't taken.
+use px_ends::ServeOptions;
+use px_types::NoMemory;
+use std::alloc::AllocError;
+use std::error::Error;
+use std::fmt;
+
+/// What the words of `serve` ask for: the options of the server, and whether it records a tape.
+#[derive(Debug, Drop)]
+pub struct ServeWords {
+    pub options: ServeOptions,
+    pub tape: bool,
+}
+
+/// Why words of `serve` aren't taken.
+#[derive(Clone, Copy, Debug, PartialEq, Eq)]
+pub enum WordsFault {
+    /// They aren't the words of this command.
+    Usage,
+    /// There was no memory to read them.
+    NoMemory,
+}
+
+impl fmt::Display for WordsFault {
+    fn fmt<W: fmt::Write>(&self, f: &mut fmt::Formatter<W>) -> fmt::Result {
+        f.write_str(match self {
+            WordsFault::Usage => "wrong words",
+            WordsFault::NoMemory => "out of memory",
+        })
+    }
+}
+
+impl Error for WordsFault {}
+
+impl From<AllocError> for WordsFault {
+    ghost use Rattle.std.specs.Prelude.{◌≡◌};
+    ghost use Rattle.px_app.specs.declared.serve_words.words.WordsFault.TheVariants as fault;
+
+    ghost from_gives = { λ _ f. f ≡ fault.NoMemory };
+
+    fn from(_: AllocError) -> Self {
+        WordsFault::NoMemory
+    }
+}
+
+impl From<NoMemory> for WordsFault {
+    ghost use Rattle.std.specs.Prelude.{◌≡◌};
+    ghost use Rattle.px_app.specs.declared.serve_words.words.WordsFault.TheVariants as fault;
+
+    ghost from_gives = { λ _ f. f ≡ fault.NoMemory };
+
+    fn from(_: NoMemory) -> Self {
+        WordsFault::NoMemory
+    }
+}

@@ -1,4 +1,0 @@
-mod Accepting
-mod Going
-pub mod Later
-mod Joining

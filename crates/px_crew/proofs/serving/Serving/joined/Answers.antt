@@ -1,4 +1,0 @@
-use Rattle.px_crew.proofs.serving.Serving.joined.Goals as goal
-
-pub returns-clause-kept : goal.returns-clause-kept
-returns-clause-kept g c = c.join_all.ensures.kept

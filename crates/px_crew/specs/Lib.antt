@@ -1,3 +1,0 @@
-pub mod Hosted
-pub mod Accepting
-pub mod Working

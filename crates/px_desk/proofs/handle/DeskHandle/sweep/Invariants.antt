@@ -1,5 +1,0 @@
-use Rattle.std.proofs.Common.{◌≡◌}
-use Rattle.px_desk.proofs.handle.DeskHandle.sweep.Given as goal
-
-abbrev pub invariant-loop : goal.invariant-loop
-invariant-loop g l = l.self.seat.parts ≡ l.fn.self.seat.parts

@@ -1,3 +1,0 @@
-pub mod Telling
-mod Nearest
-mod Added

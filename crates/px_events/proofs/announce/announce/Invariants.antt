@@ -1,7 +1,0 @@
-use Rattle.std.proofs.Common.{◌≡◌, ◌++◌, drop}
-use Rattle.px_events.specs.Announce.{announced}
-use Rattle.px_events.proofs.announce.announce.Given as goal
-
--- what was said so far, and to those who are left, is all
-abbrev pub invariant-loop-one : goal.invariant-loop-one
-invariant-loop-one l = l.sendings.items ++ announced (drop l.one-index l.subscribers) l.event ≡ l.fn.sendings.items ++ announced l.subscribers l.event

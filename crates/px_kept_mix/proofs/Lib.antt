@@ -1,0 +1,10 @@
+pub mod Exchanging
+pub mod Moving
+pub mod Putting
+pub mod Ranges
+pub mod Reading
+pub mod Showing
+pub mod Sounding
+pub mod Added
+pub mod Shares
+pub mod Follows

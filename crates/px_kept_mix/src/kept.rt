@@ -1,0 +1,335 @@
+// The kept sums of a sink's mix.
+ghost use Rattle.std.specs.Prelude.{◌≡◌, ℕ, ◌+◌, ◌-◌, ◌*◌, ◌/◌, ◌^◌, ◌<◌, ◌≤◌, ◌⊎◌, List, length, map, All, FitsSigned, IfOk, pos, slice_index_or};
+ghost use Rattle.std.specs.Int.{w32};
+ghost use Rattle.std.specs.List.{concat, range_with_len};
+ghost use Rattle.px_sample.specs.Format.{frame_size_of, IsLinear};
+ghost use Rattle.px_msg.specs.View.{sample_spec};
+ghost use Rattle.px_model.specs.Mix.{mix_of};
+ghost use Rattle.px_model.specs.Sink.{Input, streams_of};
+ghost use Rattle.px_model.specs.Queue.{nothing};
+ghost use Rattle.px_model.specs.Stream.{frame_at};
+ghost use Rattle.px_kernel.specs.Kernel.{changed};
+ghost use Rattle.px_mixcache.specs.Cache.{KeptSums, kept_at, part_at};
+ghost use Rattle.px_stream.specs.Samples.{samples};
+ghost use Rattle.px_stream.specs.Values.{value_at};
+ghost use Rattle.px_kept_mix.specs.Kept.{IsSumOf};
+ghost use Rattle.px_kept_mix.specs.Keeping.{IsKept, IsAsLarge, AreSmall, Shares, AreLittle};
+
+use px_kernel::Steps;
+use px_mixcache::MixCache;
+use px_sample::{Spec, Width};
+use px_stream::Stream;
+use px_types::{Mem, NoMemory};
+use px_vol::Factors;
+use std::alloc::Global;
+use std::marker::Model;
+use std::sync::ledger::Ledger;
+
+/// What the streams of a sink add up to, frame by frame from the horizon on and channel by channel, before it is clipped, with the room to
+/// read a stream's values there (own: PulseAudio mixes anew what it rewinds).
+#[derive(Debug, Drop)]
+pub struct KeptMix {
+    cache: MixCache,
+    frames: u32,
+    // a place for each sum
+    values: Vec<i32>,
+}
+
+impl Model for KeptMix {
+    ghost use Rattle.std.specs.Prelude.{◌≡◌, ◌*◌, ◌≤◌, length, All, FitsSigned};
+    ghost use Rattle.std.specs.Int.{w32};
+    ghost use Rattle.px_mixcache.specs.Cache.{KeptSums};
+
+    ghost Value = { KeptSums };
+
+    ghost view = { λ k. k.cache };
+
+    ghost invariant = { λ k. (k.frames ≡ k.cache.frames) × (k.cache.frames ≤ k.cache.depth) × (k.cache.depth ≤ 65536) × (1 ≤ length k.cache.runs) × (length k.values.items ≡ length k.cache.runs * k.cache.depth) × All (FitsSigned w32) k.values.items };
+}
+
+// Silences places, from one up to another.
+fn silence(values: &mut [i32], from: usize, to: usize)
+    requires order { from ≤ to }
+    requires inside { to ≤ length values.old }
+    ensures size { length values.new ≡ length values.old }
+    ensures silent { (i : ℕ) → from ≤ i → i < to → slice_index_or values.new i (pos 0) ≡ pos 0 }
+    ensures before { (i : ℕ) → i < from → slice_index_or values.new i (pos 0) ≡ slice_index_or values.old i (pos 0) }
+    ensures after { (i : ℕ) → to ≤ i → slice_index_or values.new i (pos 0) ≡ slice_index_or values.old i (pos 0) }
+    ensures words { All (FitsSigned w32) values.old → All (FitsSigned w32) values.new }
+{
+    for i in from..to {
+        values[i] = 0;
+    }
+}
+
+// Silences the places of each run behind the first so many. A run that is full isn't cleared.
+fn silence_behind(values: &mut [i32], runs: usize, run: usize, given: usize)
+    requires runs { length values.old ≡ run * runs }
+    requires few { given ≤ run }
+    ensures size { length values.new ≡ length values.old }
+    ensures before { (c j : ℕ) → c < runs → j < given → slice_index_or values.new (c * run + j) (pos 0) ≡ slice_index_or values.old (c * run + j) (pos 0) }
+    ensures silent { (c j : ℕ) → c < runs → given ≤ j → j < run → slice_index_or values.new (c * run + j) (pos 0) ≡ pos 0 }
+    ensures words { All (FitsSigned w32) values.old → All (FitsSigned w32) values.new }
+{
+    if given == run {
+        return;
+    }
+    for c in 0..runs {
+        silence(values, c * run + given, c * run + run);
+    }
+}
+
+// Moves the first so many values of each run together, so that as many runs of these stand at the front.
+fn close_up(values: &mut [i32], runs: usize, run: usize, given: usize)
+    requires runs { length values.old ≡ run * runs }
+    requires few { given ≤ run }
+    ensures size { length values.new ≡ length values.old }
+    ensures values { (c j : ℕ) → c < runs → j < given → slice_index_or values.new (c * given + j) (pos 0) ≡ slice_index_or values.old (c * run + j) (pos 0) }
+    ensures words { All (FitsSigned w32) values.old → All (FitsSigned w32) values.new }
+{
+    for c in 1..runs {
+        let start = c * run;
+        values.copy_within(start..start + given, c * given);
+    }
+}
+
+// Makes runs of the first so many values of each run, and of nothing behind them, at the front, and answers how many places of a run are left.
+// Runs that are nearly full are left as long as they are, since to silence the rest costs less there than to move what is given.
+fn shorten(values: &mut [i32], runs: usize, run: usize, given: usize) -> usize
+    requires runs { length values.old ≡ run * runs }
+    requires few { given ≤ run }
+    ensures size { length values.new ≡ length values.old }
+    ensures left { (result ≡ given) ⊎ (result ≡ run) }
+    ensures values { (c j : ℕ) → c < runs → j < given → slice_index_or values.new (c * result + j) (pos 0) ≡ slice_index_or values.old (c * run + j) (pos 0) }
+    ensures silent { (c j : ℕ) → c < runs → given ≤ j → j < result → slice_index_or values.new (c * result + j) (pos 0) ≡ pos 0 }
+    ensures words { All (FitsSigned w32) values.old → All (FitsSigned w32) values.new }
+{
+    if given > run / 4 * 3 {
+        silence_behind(values, runs, run, given);
+        run
+    } else {
+        close_up(values, runs, run, given);
+        given
+    }
+}
+
+// Gives the work values of a stream's frames from one on, at most so many of each run, at the front, and answers how many there are of each. Silence
+// is 0, and so is nothing, which is all that the stream gives behind them.
+fn read<T: Ledger>(
+    stream: &Stream,
+    from: u32,
+    width: Width,
+    run: usize,
+    values: &mut [i32],
+    steps: &mut Steps<T>,
+) -> usize
+    requires runs { length values.old ≡ run * length stream.now.stream.feed }
+    requires words { All (FitsSigned w32) values.old }
+    requires near { from + run < 2 ^ 32 }
+    ensures size { length values.new ≡ length values.old }
+    ensures few { result ≤ run }
+    ensures values { (c j : ℕ) → c < length stream.now.stream.feed → j < result → slice_index_or values.new (c * result + j) (pos 0) ≡ value_at width stream.now.stream c (frame_at stream.now.stream (from + j)) }
+    ensures end { (j : ℕ) → result ≤ j → j < run → frame_at stream.now.stream (from + j) ≡ nothing }
+    ensures words { All (FitsSigned w32) values.new }
+    ensures ticks { steps.new ≤ steps.old + length stream.now.stream.feed * result }
+{
+    let given = stream.frame_values(from, width, values, steps);
+    let runs = stream.factors().values().len();
+    shorten(values, runs, run, given as usize)
+}
+
+// Adds to the sums from a frame on what a stream gives there, or takes it away. There is room for the values of as many frames; where the stream
+// gives none, nothing is added.
+fn change<T: Ledger>(
+    cache: &mut MixCache,
+    values: &mut [i32],
+    frames: usize,
+    sink: &Spec,
+    stream: &Stream,
+    from: u32,
+    add: bool,
+    steps: &mut Steps<T>,
+)
+    requires channels { length cache.old.runs ≡ sink.now.channels }
+    requires some { 1 ≤ sink.now.channels }
+    requires fed { length stream.now.stream.feed ≡ sink.now.channels }
+    requires from { from + frames ≡ cache.old.frames }
+    requires near { cache.old.frames ≤ 65536 }
+    requires size { length values.old ≡ sink.now.channels * frames }
+    requires words { All (FitsSigned w32) values.old }
+    requires room { AreSmall 258 cache.old }
+    ensures size { length values.new ≡ length values.old }
+    ensures words { All (FitsSigned w32) values.new }
+    ensures large { IsAsLarge cache.old cache.new }
+    ensures sums { Shares add sink.now stream.now.stream from cache.old cache.new }
+    ensures little { AreLittle sink.now stream.now.stream from cache.old.frames }
+    ensures ticks { steps.new ≤ steps.old + 2 * (sink.now.channels * frames) }
+{
+    let given = read(stream, from, sink.format.width(), frames, values, steps);
+    let places = sink.channels as usize * given;
+    put(
+        cache,
+        &values[..places],
+        stream.factors(),
+        stream.factors().values(),
+        from,
+        add,
+        steps,
+    );
+}
+
+// Adds to the sums from a frame on what the values give there by the factors, or takes it away.
+fn put<T: Ledger>(
+    cache: &mut MixCache,
+    values: &[i32],
+    factors: &Factors,
+    numbers: &[u32],
+    from: u32,
+    add: bool,
+    steps: &mut Steps<T>,
+)
+    requires same { numbers.now ≡ factors.now }
+    requires channels { length factors.now ≡ length cache.old.runs }
+    requires whole { length values.now ≡ length cache.old.runs * (length values.now / length cache.old.runs) }
+    requires inside { from + length values.now / length cache.old.runs ≤ cache.old.frames }
+    requires words { All (FitsSigned w32) values.now }
+    requires room { AreSmall 258 cache.old }
+    ensures large { IsAsLarge cache.old cache.new }
+    ensures sums { (c k : ℕ) → c < length cache.old.runs → k < cache.old.frames → kept_at cache.new c k ≡ changed add (kept_at cache.old c k) (part_at from (length values.now / length cache.old.runs) values.now factors.now c k) }
+    ensures little { (c k : ℕ) → c < length cache.old.runs → IsSumOf 1 (part_at from (length values.now / length cache.old.runs) values.now factors.now c k) }
+    ensures ticks { steps.new ≡ steps.old + length values.now }
+{
+    cache.change(from, values, factors, add, steps);
+}
+
+// The same over the first places for values, of so many frames.
+fn change_over<T: Ledger>(
+    cache: &mut MixCache,
+    values: &mut [i32],
+    frames: usize,
+    sink: &Spec,
+    stream: &Stream,
+    from: u32,
+    add: bool,
+    steps: &mut Steps<T>,
+)
+    requires channels { length cache.old.runs ≡ sink.now.channels }
+    requires some { 1 ≤ sink.now.channels }
+    requires fed { length stream.now.stream.feed ≡ sink.now.channels }
+    requires from { from + frames ≡ cache.old.frames }
+    requires near { cache.old.frames ≤ 65536 }
+    requires size { sink.now.channels * frames ≤ length values.old }
+    requires words { All (FitsSigned w32) values.old }
+    requires room { AreSmall 258 cache.old }
+    ensures size { length values.new ≡ length values.old }
+    ensures words { All (FitsSigned w32) values.new }
+    ensures large { IsAsLarge cache.old cache.new }
+    ensures sums { Shares add sink.now stream.now.stream from cache.old cache.new }
+    ensures little { AreLittle sink.now stream.now.stream from cache.old.frames }
+    ensures ticks { steps.new ≤ steps.old + 2 * (sink.now.channels * frames) }
+{
+    let places = sink.channels as usize * frames;
+    change(
+        cache,
+        &mut values[..places],
+        frames,
+        sink,
+        stream,
+        from,
+        add,
+        steps,
+    );
+}
+
+impl KeptMix {
+    /// Sums of as many channels as a sink has, that hold no frames and may hold so many. Takes their room.
+    pub fn new(alloc: Global, sink: &Spec, depth: u32) -> Mem<KeptMix>
+        requires some { 1 ≤ sink.now.channels }
+        requires few { sink.now.channels ≤ 32 }
+        requires low { depth ≤ 65536 }
+        ensures depth { IfOk result (λ kept. kept.depth ≡ depth) }
+        ensures frames { IfOk result (λ kept. kept.frames ≡ 0) }
+        ensures channels { IfOk result (λ kept. length kept.runs ≡ sink.now.channels) }
+    {
+        let values = vec![in alloc; 0; sink.channels as usize * depth as usize]?;
+        Ok(KeptMix {
+            cache: MixCache::new(alloc, sink.channels, depth)?,
+            frames: 0,
+            values,
+        })
+    }
+
+    /// Gives up the first so many frames. Takes no memory.
+    pub fn advance(&mut self, frames: u32)
+        requires { frames ≤ self.old.frames }
+        ensures depth { self.new.depth ≡ self.old.depth }
+        ensures frames { self.new.frames ≡ self.old.frames - frames }
+        ensures channels { length self.new.runs ≡ length self.old.runs }
+        ensures sums { (c k : ℕ) → c < length self.old.runs → kept_at self.new c k ≡ kept_at self.old c (frames + k) }
+    {
+        self.cache.advance(frames);
+        self.frames -= frames;
+    }
+
+    /// Holds frames of nothing behind those that it holds, so that there are so many. Takes no memory.
+    pub fn extend(&mut self, to: u32)
+        requires more { self.old.frames ≤ to }
+        requires fits { to ≤ self.old.depth }
+        ensures depth { self.new.depth ≡ self.old.depth }
+        ensures frames { self.new.frames ≡ to }
+        ensures channels { length self.new.runs ≡ length self.old.runs }
+        ensures sums { (c k : ℕ) → c < length self.old.runs → kept_at self.new c k ≡ kept_at self.old c k }
+        ensures nothing { (c k : ℕ) → c < length self.old.runs → self.old.frames ≤ k → kept_at self.new c k ≡ pos 0 }
+    {
+        self.cache.extend(to);
+        self.frames = to;
+    }
+
+    /// Adds what a stream gives to the sums, from a frame on, or takes it away. Takes no memory.
+    pub fn change<T: Ledger>(
+        &mut self,
+        sink: &Spec,
+        stream: &Stream,
+        from: u32,
+        add: bool,
+        steps: &mut Steps<T>,
+    )
+        requires channels { length self.old.runs ≡ sink.now.channels }
+        requires fed { length stream.now.stream.feed ≡ sink.now.channels }
+        requires from { from ≤ self.old.frames }
+        requires room { AreSmall 258 self.old }
+        ensures large { IsAsLarge self.old self.new }
+        ensures sums { Shares add sink.now stream.now.stream from self.old self.new }
+        ensures little { AreLittle sink.now stream.now.stream from self.old.frames }
+        ensures ticks { steps.new ≤ steps.old + 2 * (sink.now.channels * (self.old.frames - from)) }
+    {
+        let frames = self.frames - from;
+        if frames == 0 {
+            return;
+        }
+        change_over(
+            &mut self.cache,
+            self.values.as_mut_slice(),
+            frames as usize,
+            sink,
+            stream,
+            from,
+            add,
+            steps,
+        );
+    }
+
+    /// Puts the frames from one on into `out`, all that are held, as a device gets them: each sum clipped to the sink's width, once, and
+    /// packed. Takes no memory.
+    pub fn show<T: Ledger>(&self, sink: &Spec, from: u32, out: &mut [u8], steps: &mut Steps<T>)
+        requires linear { IsLinear sink.now.format }
+        requires channels { length self.now.runs ≡ sink.now.channels }
+        requires from { from ≤ self.now.frames }
+        requires whole { length out.old ≡ (self.now.frames - from) * frame_size_of sink.now }
+        ensures bytes { (inputs : List Input) → IsKept sink.now inputs self.now → out.new ≡ concat (map (mix_of samples (sample_spec sink.now) (streams_of inputs)) (range_with_len from (self.now.frames - from))) }
+        ensures ticks { steps.new ≡ steps.old + sink.now.channels * (self.now.frames - from) }
+    {
+        self.cache
+            .frames(from, self.frames - from, sink.format, out, steps);
+    }
+}

@@ -1,3 +1,0 @@
-mod HeaderLaws
-mod BackLaws
-mod ServeLaws

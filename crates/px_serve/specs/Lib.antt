@@ -1,4 +1,0 @@
-pub mod HeaderFile
-pub mod Back
-pub mod Tape
-pub mod Serves

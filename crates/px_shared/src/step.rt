@@ -1,0 +1,186 @@
+//! Steps of the core, with what they do to the clients' lines and to the tape.
+
+ghost use Rattle.std.specs.Prelude.{◌≡◌, ◌+◌, ◌≤◌, length, IfOk};
+ghost use Rattle.px_core_cell.specs.Step.{IsAsked, HandsBack};
+ghost use Rattle.px_shared.specs.Taped.{AreEventsOf};
+ghost use Rattle.px_tape.specs.Tape.{turns_in};
+
+use crate::desk::Desk;
+use crate::lines::Lines;
+use px_annals::{CoreEntry, Recorder};
+use px_core_cell::{CoreSeat, CoreStep, Seats, StepFault};
+use px_ends::Outlet;
+use px_tape::{Events, Tape};
+use px_types::Mem;
+use std::alloc::Global;
+use std::sync::Wait;
+use std::sync::atomic::Ordering;
+
+// The events that a step is on a tape. Sweeps have none there, since a session's events are each swept after, and neither have the messages
+// that are posted.
+fn events_of(alloc: Global, step: &CoreStep) -> Mem<Events>
+    requires { IsAsked step.now }
+    ensures events { IfOk result (AreEventsOf step.now) }
+    ensures turns { IfOk result (λ events. turns_in events ≡ 0) }
+{
+    match step {
+        CoreStep::Connect(conn) => Events::connect(alloc, *conn),
+        CoreStep::Frame(conn, frame) => Events::frame(alloc, *conn, &frame.body),
+        CoreStep::Broken(conn, fault, _) => Events::fault(alloc, *conn, *fault),
+        CoreStep::Close(conn) => Events::close(alloc, *conn),
+        CoreStep::Cut(conn) => Events::cut(alloc, *conn),
+        CoreStep::Notice(sink) => Events::notice(alloc, *sink),
+        CoreStep::Sweep | CoreStep::Out(_) => Ok(Events::new(alloc)),
+    }
+}
+
+/// What became of a step.
+#[derive(Clone, Copy, Debug, PartialEq, Eq)]
+pub(crate) enum Stepped {
+    /// It was done.
+    Done,
+    /// It was done, and the sweep that it owed behind it.
+    Swept,
+    /// There was nothing to do.
+    Nothing,
+}
+
+// Makes a step, and puts what it does to the outside behind what waits in the clients' lines. Whether there was something to do.
+fn step_in<W: Wait, C: Recorder<CoreEntry> + Drop, L: Seats, O: Outlet + Drop>(
+    rt: &W,
+    alloc: Global,
+    desk: &Desk<C, L, O>,
+    lines: &mut Lines<O>,
+    step: CoreStep,
+    seat: &mut CoreSeat<L>,
+) -> Result<bool, StepFault>
+    requires lawful { IsAsked step }
+    ensures seat { seat.new.parts ≡ seat.old.parts }
+    ensures back { HandsBack step result }
+{
+    match desk.core.step(rt, alloc, step, seat)? {
+        Some(effects) => {
+            if !effects.as_slice().is_empty() {
+                desk.waiting.store(true, Ordering::SeqCst);
+            }
+            if !lines.put(effects) {
+                desk.short.store(true, Ordering::SeqCst);
+            }
+            Ok(true)
+        }
+        None => Ok(false),
+    }
+}
+
+// Makes the sweep that a step owes. Where that can't be, it is owed still.
+fn sweep_in<W: Wait, C: Recorder<CoreEntry> + Drop, L: Seats, O: Outlet + Drop>(
+    rt: &W,
+    alloc: Global,
+    desk: &Desk<C, L, O>,
+    lines: &mut Lines<O>,
+    seat: &mut CoreSeat<L>,
+) -> Stepped
+    ensures seat { seat.new.parts ≡ seat.old.parts }
+{
+    match step_in(rt, alloc, desk, lines, CoreStep::Sweep, seat) {
+        Ok(_) => Stepped::Swept,
+        Err(_) => Stepped::Done,
+    }
+}
+
+// Makes a step, and the sweep that it owes, with the lines locked.
+fn step_swept<W: Wait, C: Recorder<CoreEntry> + Drop, L: Seats, O: Outlet + Drop>(
+    rt: &W,
+    alloc: Global,
+    desk: &Desk<C, L, O>,
+    lines: &mut Lines<O>,
+    step: CoreStep,
+    seat: &mut CoreSeat<L>,
+) -> Result<Stepped, StepFault>
+    requires lawful { IsAsked step }
+    ensures seat { seat.new.parts ≡ seat.old.parts }
+    ensures back { HandsBack step result }
+{
+    let owes = owes_sweep(&step);
+    if !step_in(rt, alloc, desk, lines, step, seat)? {
+        return Ok(Stepped::Nothing);
+    }
+    if owes {
+        Ok(sweep_in(rt, alloc, desk, lines, seat))
+    } else {
+        Ok(Stepped::Done)
+    }
+}
+
+/// Makes a step, and what it does to the outside comes into the clients' lines; so does what the sweep does that it owes. The lines are locked
+/// meanwhile, so that they have the packets in the order of the steps.
+pub(crate) fn step_lined<W: Wait, C: Recorder<CoreEntry> + Drop, L: Seats, O: Outlet + Drop>(
+    rt: &W,
+    alloc: Global,
+    desk: &Desk<C, L, O>,
+    step: CoreStep,
+    seat: &mut CoreSeat<L>,
+) -> Result<Stepped, StepFault>
+    requires lawful { IsAsked step }
+    ensures seat { seat.new.parts ≡ seat.old.parts }
+    ensures back { HandsBack step result }
+{
+    let mut lines = desk.lines.lock(rt);
+    step_swept(rt, alloc, desk, &mut lines, step, seat)
+}
+
+// Whether a sweep is owed behind a step.
+fn owes_sweep(step: &CoreStep) -> bool {
+    !matches!(step, CoreStep::Sweep | CoreStep::Out(_))
+}
+
+// The events of a step, for which the tape has room.
+fn ready_events(alloc: Global, tape: &mut Tape, step: &CoreStep) -> Mem<Events>
+    requires { IsAsked step.now }
+    ensures turns { IfOk result (λ events. turns_in events ≡ 0) }
+    ensures room { IfOk result (λ events. length tape.new.marks + length events ≤ tape.new.capacity) }
+{
+    let events = events_of(alloc, step)?;
+    tape.ready(events.len())?;
+    Ok(events)
+}
+
+// Makes a step, whose events go onto this tape where it was done.
+fn step_onto<W: Wait, C: Recorder<CoreEntry> + Drop, L: Seats, O: Outlet + Drop>(
+    rt: &W,
+    alloc: Global,
+    desk: &Desk<C, L, O>,
+    tape: &mut Tape,
+    step: CoreStep,
+    seat: &mut CoreSeat<L>,
+) -> Result<Stepped, StepFault>
+    requires lawful { IsAsked step }
+    ensures seat { seat.new.parts ≡ seat.old.parts }
+    ensures back { HandsBack step result }
+{
+    let Ok(events) = ready_events(alloc, tape, &step) else {
+        drop(step);
+        return Err(StepFault::NoMemory);
+    };
+    let stepped = step_lined(rt, alloc, desk, step, seat)?;
+    if stepped != Stepped::Nothing {
+        tape.add(events);
+    }
+    Ok(stepped)
+}
+
+/// Makes a step, whose events go onto the tape where it was done. The tape is locked meanwhile, and has room for them before.
+pub(crate) fn step_taped<W: Wait, C: Recorder<CoreEntry> + Drop, L: Seats, O: Outlet + Drop>(
+    rt: &W,
+    alloc: Global,
+    desk: &Desk<C, L, O>,
+    step: CoreStep,
+    seat: &mut CoreSeat<L>,
+) -> Result<Stepped, StepFault>
+    requires lawful { IsAsked step }
+    ensures seat { seat.new.parts ≡ seat.old.parts }
+    ensures back { HandsBack step result }
+{
+    let mut tape = desk.tape.lock(rt);
+    step_onto(rt, alloc, desk, &mut tape, step, seat)
+}

@@ -1,4 +1,0 @@
-pub mod Unchanged
-pub mod Deaf
-mod Parts
-mod Made

@@ -1,7 +1,0 @@
-use Rattle.std.proofs.Common.{◌≡◌, ◌++◌, drop}
-use Rattle.px_shown.specs.Shown.{subscribers_in}
-use Rattle.px_shown.proofs.told.subscribers_in.Given as goal
-
--- those that were added so far, and those that are left, are all
-abbrev pub invariant-loop-c : goal.invariant-loop-c
-invariant-loop-c l = l.all.items ++ subscribers_in l.clients (drop l.c-index l.connections) ≡ subscribers_in l.clients l.connections

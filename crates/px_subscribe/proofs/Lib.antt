@@ -1,0 +1,7 @@
+pub mod Telling
+mod Nearest
+mod Added
+pub mod Unchanged
+pub mod Deaf
+mod Parts
+mod Made

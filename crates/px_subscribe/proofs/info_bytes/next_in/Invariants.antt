@@ -1,0 +1,7 @@
+use Rattle.std.proofs.Common.{◌≡◌, drop}
+use Rattle.px_subscribe.specs.InfoBytes.{next_in}
+use Rattle.px_subscribe.proofs.info_bytes.next_in.Given as goal
+
+-- those that are left give, from the nearest so far on, what all give
+abbrev pub invariant-loop-t : goal.invariant-loop-t
+invariant-loop-t l = next_in (drop l.t-index l.told) l.from l.next ≡ next_in l.told l.from l.end

@@ -1,0 +1,60 @@
+-- The events between two moments: what became of each object, by what is told of it then and now.
+use Rattle.std.specs.Prelude.{◌≡◌, ℕ, ◌<◌, Bool, cond, ◌&&◌, nat_eq, bytes_eq, List, [], ◌++◌, filter, flat_map, Option, None, Some, option_map, option_to_list}
+use Rattle.std.specs.List.{range_with_len}
+use Rattle.px_reply.specs.Front.{reply_to}
+use Rattle.px_reply.specs.Info.{server_reply, with_sink, with_input, with_client}
+use Rattle.px_subscribe.specs.declared.event.Facility.{Facility}
+use Rattle.px_subscribe.specs.declared.event.Facility.TheVariants.{Sink, Input, Client, Server}
+use Rattle.px_subscribe.specs.declared.event.Kind.{Kind}
+use Rattle.px_subscribe.specs.declared.event.Kind.TheVariants.{New, Change, Remove}
+use Rattle.px_subscribe.specs.declared.event.Event.{Event}
+use Rattle.px_subscribe.specs.Event.{facility_code}
+use Rattle.px_subscribe.specs.Infos.{Infos, Given}
+
+-- the index of the server
+abbrev pub NO_INDEX : ℕ
+NO_INDEX = 0xFFFFFFFF
+
+-- what became of an object: it has come, gone, or changed where the bytes differ in which it is told
+abbrev pub became : {A : Type 0} → (A → List ℕ) → Option A → Option A → Option Kind
+became told None None = None
+became told None (Some after) = Some New
+became told (Some before) None = Some Remove
+became told (Some before) (Some after) = cond (bytes_eq (told before) (told after)) None (Some Change)
+
+abbrev pub event : Facility → ℕ → Kind → Event
+event facility index kind = record { facility = facility; kind = kind; index = index }
+
+-- the event of one object, where there is one
+abbrev pub events_at : {A : Type 0} → Facility → (A → List ℕ) → (ℕ → Option A) → (ℕ → Option A) → ℕ → List Event
+events_at facility told before after index = option_to_list (option_map (event facility index) (became told (before index) (after index)))
+
+-- those of all objects of a facility, in rising index
+abbrev pub events_of : {A : Type 0} → Facility → (A → List ℕ) → (ℕ → Option A) → (ℕ → Option A) → ℕ → List Event
+events_of facility told before after given = flat_map (events_at facility told before after) (range_with_len 0 given)
+
+abbrev pub server_events : Infos → Infos → List Event
+server_events before after = option_to_list (option_map (event Server NO_INDEX) (became (server_reply 0) before.server after.server))
+
+-- sinks, inputs, clients, and then the server
+abbrev pub events_between : Given → Infos → Infos → List Event
+events_between given before after =
+    events_of Sink (with_sink (reply_to 0)) before.sinks after.sinks given.sinks
+    ++ events_of Input (with_input (reply_to 0)) before.inputs after.inputs given.inputs
+    ++ events_of Client (with_client (reply_to 0)) before.clients after.clients given.clients
+    ++ server_events before after
+
+-- ---- the law
+
+abbrev pub is_about : Facility → ℕ → Event → Bool
+is_about facility index e = nat_eq (facility_code e.facility) (facility_code facility) && nat_eq e.index index
+
+abbrev pub about : Facility → ℕ → List Event → List Event
+about facility index events = filter (is_about facility index) events
+
+-- the events about an object are the one that says what became of it, or none
+pub record TellWhatBecame (given : Given) (before after : Infos) : Type 0 where
+  pub sinks : (i : ℕ) → i < given.sinks → about Sink i (events_between given before after) ≡ events_at Sink (with_sink (reply_to 0)) before.sinks after.sinks i
+  pub inputs : (i : ℕ) → i < given.inputs → about Input i (events_between given before after) ≡ events_at Input (with_input (reply_to 0)) before.inputs after.inputs i
+  pub clients : (i : ℕ) → i < given.clients → about Client i (events_between given before after) ≡ events_at Client (with_client (reply_to 0)) before.clients after.clients i
+  pub server : about Server NO_INDEX (events_between given before after) ≡ server_events before after

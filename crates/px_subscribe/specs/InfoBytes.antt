@@ -1,0 +1,108 @@
+-- Objects with the bytes in which they are told, and the events between two moments of which all infos are given.
+use Rattle.std.specs.Prelude.{◌≡◌, ◌≤◌, ℕ, Bool, cond, ◌&&◌, nat_eq, nat_le, nat_lt, List, [], ◌∷◌, map, Option, None, Some, IsTrue, IfSome, All, option_map}
+use Rattle.std.specs.List.{find}
+use Rattle.px_tag.specs.Item.{IsText, is_text}
+use Rattle.px_reply.specs.declared.info.SinkInfo.{SinkInfo}
+use Rattle.px_reply.specs.declared.info.InputInfo.{InputInfo}
+use Rattle.px_reply.specs.declared.info.ClientInfo.{ClientInfo}
+use Rattle.px_reply.specs.declared.info.ServerInfo.{ServerInfo}
+use Rattle.px_reply.specs.Front.{reply_to}
+use Rattle.px_reply.specs.Info.{with_sink, with_input, with_client}
+use Rattle.px_subscribe.specs.declared.event.Facility.{Facility}
+use Rattle.px_subscribe.specs.declared.event.Facility.TheVariants.{Sink, Input, Client}
+use Rattle.px_subscribe.specs.declared.event.Event.{Event}
+use Rattle.px_subscribe.specs.declared.between.Counts.{Counts}
+use Rattle.px_subscribe.specs.declared.info_bytes.Told.{Told}
+use Rattle.px_subscribe.specs.Became.{events_at, events_of}
+use Rattle.px_subscribe.specs.Infos.{Infos, Given}
+
+-- ---- infos by their index, the first of each
+
+abbrev pub sink_at : List SinkInfo → ℕ → Option SinkInfo
+sink_at infos i = find (λ s. nat_eq (SinkInfo.index s) i) infos
+
+abbrev pub input_at : List InputInfo → ℕ → Option InputInfo
+input_at infos i = find (λ x. nat_eq (InputInfo.index x) i) infos
+
+abbrev pub client_at : List ClientInfo → ℕ → Option ClientInfo
+client_at infos i = find (λ c. nat_eq (ClientInfo.index c) i) infos
+
+-- ---- what a packet can say: names without a zero byte, and up to 32 channels
+
+abbrev pub IsSinkTold : SinkInfo → Type 0
+IsSinkTold info = IsTrue (is_text info.name) × (info.spec.channels ≤ 32)
+
+abbrev pub IsInputTold : InputInfo → Type 0
+IsInputTold info = IsText info.name × (info.spec.channels ≤ 32)
+
+abbrev pub IsClientTold : ClientInfo → Type 0
+IsClientTold info = IsText info.name
+
+abbrev pub IsServerTold : ServerInfo → Type 0
+IsServerTold info = IsTrue (is_text info.name) × (info.spec.channels ≤ 32)
+
+-- ---- all that is told at one moment
+
+pub record Telling : Type 0 where
+  pub sinks : List SinkInfo
+  pub inputs : List InputInfo
+  pub clients : List ClientInfo
+  pub server : Option ServerInfo
+
+abbrev pub infos_in : Telling → Infos
+infos_in told = record {
+  sinks = sink_at told.sinks;
+  inputs = input_at told.inputs;
+  clients = client_at told.clients;
+  server = told.server;
+}
+
+pub record IsTelling (told : Telling) : Type 0 where
+  pub sinks : All IsSinkTold told.sinks
+  pub inputs : All IsInputTold told.inputs
+  pub clients : All IsClientTold told.clients
+  pub server : IfSome told.server IsServerTold
+
+-- how many indices were given
+abbrev pub given_by : Counts → Given
+given_by counts = record { sinks = counts.sinks; inputs = counts.inputs; clients = counts.clients }
+
+-- the events of each facility
+abbrev pub sinks_events : List SinkInfo → List SinkInfo → ℕ → List Event
+sinks_events before after given = events_of Sink (with_sink (reply_to 0)) (sink_at before) (sink_at after) given
+
+abbrev pub inputs_events : List InputInfo → List InputInfo → ℕ → List Event
+inputs_events before after given = events_of Input (with_input (reply_to 0)) (input_at before) (input_at after) given
+
+abbrev pub clients_events : List ClientInfo → List ClientInfo → ℕ → List Event
+clients_events before after given = events_of Client (with_client (reply_to 0)) (client_at before) (client_at after) given
+
+-- ---- each as an index and bytes
+
+abbrev pub sink_told : SinkInfo → Told
+sink_told info = record { index = info.index; bytes = with_sink (reply_to 0) info }
+
+abbrev pub input_told : InputInfo → Told
+input_told info = record { index = info.index; bytes = with_input (reply_to 0) info }
+
+abbrev pub client_told : ClientInfo → Told
+client_told info = record { index = info.index; bytes = with_client (reply_to 0) info }
+
+abbrev pub is_at : ℕ → Told → Bool
+is_at i t = nat_eq t.index i
+
+abbrev pub bytes_at : List Told → ℕ → Option (List ℕ)
+bytes_at told i = option_map (λ t. t.bytes) (find (is_at i) told)
+
+-- the events of the objects of a facility
+abbrev pub told_events : Facility → List Told → List Told → ℕ → List Event
+told_events facility before after given = events_of facility (λ bytes. bytes) (bytes_at before) (bytes_at after) given
+
+-- ---- the least index from one on, or the end where none lies below it
+
+abbrev pub nearer : ℕ → Told → ℕ → ℕ
+nearer from t end = cond (nat_le from t.index && nat_lt t.index end) t.index end
+
+abbrev pub next_in : List Told → ℕ → ℕ → ℕ
+next_in [] from end = end
+next_in (t ∷ told) from end = next_in told from (nearer from t end)

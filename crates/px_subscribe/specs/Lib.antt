@@ -1,0 +1,7 @@
+pub mod Event
+pub mod Announce
+pub mod Infos
+pub mod Became
+pub mod InfoBytes
+pub mod Scene
+pub mod Moments

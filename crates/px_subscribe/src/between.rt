@@ -1,0 +1,244 @@
+//! The events between two moments.
+
+ghost use Rattle.std.specs.Prelude.{◌≡◌, ◌++◌, ◌≤◌, Option, All, IfSome, IfOk, OnOk};
+ghost use Rattle.std.specs.Option.{option_to_list};
+ghost use Rattle.px_reply.specs.Info.{server_reply};
+ghost use Rattle.px_subscribe.specs.declared.event.Facility.TheVariants.{Sink, Input, Client, Server};
+ghost use Rattle.std.specs.Option.{option_map};
+ghost use Rattle.px_subscribe.specs.Infos.{Given};
+ghost use Rattle.px_subscribe.specs.Became.{NO_INDEX, became, event, events_at, events_of, events_between};
+ghost use Rattle.px_subscribe.specs.InfoBytes.{IsSinkTold, IsInputTold, IsClientTold, IsServerTold, IsTelling, infos_in, given_by, sinks_events, inputs_events, clients_events, bytes_at, told_events};
+
+use crate::event::{Event, Facility, Kind, NO_INDEX};
+use crate::info_bytes::{Told, VERSION, bytes_at, clients_told, inputs_told, next_in, sinks_told};
+use px_reply::{ClientInfo, InputInfo, ServerInfo, SinkInfo};
+use px_tag::Packet;
+use px_types::{Mem, NoMemory};
+use std::alloc::Global;
+use std::marker::Model;
+
+/// All that is told at one moment, each object once.
+#[derive(Drop)]
+pub struct Moment {
+    pub sinks: Vec<SinkInfo>,
+    pub inputs: Vec<InputInfo>,
+    pub clients: Vec<ClientInfo>,
+    pub server: Option<ServerInfo>,
+}
+
+impl Model for Moment {
+    ghost use Rattle.px_subscribe.specs.InfoBytes.{Telling};
+
+    ghost Value = { Telling };
+
+    ghost view = { λ m. record { sinks = m.sinks.items; inputs = m.inputs.items; clients = m.clients.items; server = m.server } };
+}
+
+/// How many indices were ever given, from 0 on.
+#[derive(Clone, Copy, Debug, Drop)]
+pub struct Counts {
+    pub sinks: u32,
+    pub inputs: u32,
+    pub clients: u32,
+}
+
+// What became of an object that is told so.
+fn became(before: Option<&[u8]>, after: Option<&[u8]>) -> Option<Kind>
+    ensures { result ≡ became (λ bytes. bytes) (option_map (λ b. b.now) before.entry) (option_map (λ b. b.now) after.entry) }
+{
+    match before {
+        None => match after {
+            None => None,
+            Some(_) => Some(Kind::New),
+        },
+        Some(before) => match after {
+            None => Some(Kind::Remove),
+            Some(after) => {
+                if before == after {
+                    None
+                } else {
+                    Some(Kind::Change)
+                }
+            }
+        },
+    }
+}
+
+// The event of one object, where there is one.
+fn add_at(
+    events: &mut Vec<Event>,
+    facility: Facility,
+    before: &[Told],
+    after: &[Told],
+    index: u32,
+) -> Mem<()>
+    ensures { OnOk result (events.new.items ≡ events.old.items ++ events_at facility (λ bytes. bytes) (bytes_at before.now) (bytes_at after.now) index) }
+{
+    if let Some(kind) = became(bytes_at(before, index), bytes_at(after, index)) {
+        events.push(Event {
+            facility,
+            kind,
+            index,
+        })?;
+    }
+    Ok(())
+}
+
+// Those of all objects of a facility, in rising index: one that is told at neither moment has none.
+fn add_all(
+    events: &mut Vec<Event>,
+    facility: Facility,
+    before: &[Told],
+    after: &[Told],
+    given: u32,
+) -> Mem<()>
+    ensures { OnOk result (events.new.items ≡ events.old.items ++ told_events facility before.now after.now given) }
+{
+    let mut from = 0;
+    while from < given {
+        let next = next_in(after, from, next_in(before, from, given));
+        if next >= given {
+            return Ok(());
+        }
+        add_at(events, facility, before, after, next)?;
+        from = next + 1;
+    }
+    Ok(())
+}
+
+// What is told of the server, in a reply.
+fn server_told(alloc: Global, info: &Option<ServerInfo>) -> Mem<Option<Packet>>
+    requires { IfSome info.now IsServerTold }
+    ensures { IfOk result (λ told. told ≡ option_map (server_reply 0) info.now) }
+{
+    match info {
+        None => Ok(None),
+        Some(info) => match px_reply::server_info(alloc, 0, VERSION, info) {
+            Ok(bytes) => Ok(Some(bytes)),
+            Err(_) => Err(NoMemory),
+        },
+    }
+}
+
+// A packet's bytes, where there is one.
+fn slice_of(packet: &Option<Packet>) -> Option<&[u8]>
+    ensures { option_map (λ bytes. bytes.now) result ≡ packet.now }
+{
+    match packet {
+        None => None,
+        Some(packet) => Some(packet.as_slice()),
+    }
+}
+
+// The server's event, where there is one.
+fn add_server(
+    alloc: Global,
+    events: &mut Vec<Event>,
+    before: &Option<ServerInfo>,
+    after: &Option<ServerInfo>,
+) -> Mem<()>
+    requires before { IfSome before.now IsServerTold }
+    requires after { IfSome after.now IsServerTold }
+    ensures { OnOk result (events.new.items ≡ events.old.items ++ option_to_list (option_map (event Server NO_INDEX) (became (server_reply 0) before.now after.now))) }
+{
+    let before = server_told(alloc, before)?;
+    let after = server_told(alloc, after)?;
+    if let Some(kind) = became(slice_of(&before), slice_of(&after)) {
+        events.push(Event {
+            facility: Facility::Server,
+            kind,
+            index: NO_INDEX,
+        })?;
+    }
+    Ok(())
+}
+
+// Those of all sinks.
+#[tactic(auto, using(crate::proofs::Nearest::sinks_told_so))]
+fn add_sinks(
+    alloc: Global,
+    events: &mut Vec<Event>,
+    before: &[SinkInfo],
+    after: &[SinkInfo],
+    given: u32,
+) -> Mem<()>
+    requires before { All IsSinkTold before.now }
+    requires after { All IsSinkTold after.now }
+    ensures { OnOk result (events.new.items ≡ events.old.items ++ sinks_events before.now after.now given) }
+{
+    let before = sinks_told(alloc, before)?;
+    let after = sinks_told(alloc, after)?;
+    add_all(events, Facility::Sink, &before, &after, given)?;
+    Ok(())
+}
+
+// Those of all inputs.
+#[tactic(auto, using(crate::proofs::Nearest::inputs_told_so))]
+fn add_inputs(
+    alloc: Global,
+    events: &mut Vec<Event>,
+    before: &[InputInfo],
+    after: &[InputInfo],
+    given: u32,
+) -> Mem<()>
+    requires before { All IsInputTold before.now }
+    requires after { All IsInputTold after.now }
+    ensures { OnOk result (events.new.items ≡ events.old.items ++ inputs_events before.now after.now given) }
+{
+    let before = inputs_told(alloc, before)?;
+    let after = inputs_told(alloc, after)?;
+    add_all(events, Facility::Input, &before, &after, given)?;
+    Ok(())
+}
+
+// Those of all clients.
+#[tactic(auto, using(crate::proofs::Nearest::clients_told_so))]
+fn add_clients(
+    alloc: Global,
+    events: &mut Vec<Event>,
+    before: &[ClientInfo],
+    after: &[ClientInfo],
+    given: u32,
+) -> Mem<()>
+    requires before { All IsClientTold before.now }
+    requires after { All IsClientTold after.now }
+    ensures { OnOk result (events.new.items ≡ events.old.items ++ clients_events before.now after.now given) }
+{
+    let before = clients_told(alloc, before)?;
+    let after = clients_told(alloc, after)?;
+    add_all(events, Facility::Client, &before, &after, given)?;
+    Ok(())
+}
+
+/// The events between two moments: of each sink, input and client that is new, is gone, or of which something else is told, in
+/// rising index, and then of the server. What is told has names without a zero byte and up to 32 channels; each index lies
+/// below the count of those that were given.
+pub fn events_between(
+    alloc: Global,
+    given: Counts,
+    before: &Moment,
+    after: &Moment,
+) -> Mem<Vec<Event>>
+    requires before { IsTelling before.now }
+    requires after { IsTelling after.now }
+    ensures { IfOk result (λ events. events.items ≡ events_between (given_by given) (infos_in before.now) (infos_in after.now)) }
+{
+    let mut events = Vec::new(alloc);
+    add_sinks(alloc, &mut events, &before.sinks, &after.sinks, given.sinks)?;
+    add_inputs(
+        alloc,
+        &mut events,
+        &before.inputs,
+        &after.inputs,
+        given.inputs,
+    )?;
+    add_clients(
+        alloc,
+        &mut events,
+        &before.clients,
+        &after.clients,
+        given.clients,
+    )?;
+    add_server(alloc, &mut events, &before.server, &after.server)?;
+    Ok(events)
+}

@@ -1,0 +1,101 @@
+//! An event: of which kind of object, what became of it, and which one (PulseAudio: `pa_subscription_event_type_t` and
+//! `pa_subscription_mask_t` of `pulse/def.h`).
+
+ghost use Rattle.std.specs.Prelude.{◌≡◌, ◌≤◌, IfOk};
+ghost use Rattle.px_subscribe.specs.Event.{facility_code, kind_code, number_of, message_of, hears};
+
+use px_tag::Packet;
+use px_types::{Mem, NoMemory};
+use std::alloc::Global;
+
+/// The index in an event of the server itself.
+pub const NO_INDEX: u32 = 0xFFFF_FFFF;
+
+/// A kind of object that events are told of.
+#[derive(Clone, Copy, Debug, PartialEq, Eq)]
+pub enum Facility {
+    Sink,
+    Input,
+    Client,
+    Server,
+}
+
+/// What became of an object.
+#[derive(Clone, Copy, Debug, PartialEq, Eq)]
+pub enum Kind {
+    /// It is there, and wasn't before.
+    New,
+    /// What is told of it has changed.
+    Change,
+    /// It is there no more.
+    Remove,
+}
+
+/// What became of one object.
+#[derive(Clone, Copy, Debug, PartialEq, Eq)]
+pub struct Event {
+    pub facility: Facility,
+    pub kind: Kind,
+    /// The index of the sink, the input or the client; 0xFFFFFFFF of the server.
+    pub index: u32,
+}
+
+impl Facility {
+    /// Its number in events. Takes no memory.
+    pub fn code(self) -> u32
+        ensures value { result ≡ facility_code self }
+        ensures small { result ≤ 7 }
+    {
+        match self {
+            Facility::Sink => 0,
+            Facility::Input => 2,
+            Facility::Client => 5,
+            Facility::Server => 7,
+        }
+    }
+}
+
+impl Kind {
+    /// Its number in events. Takes no memory.
+    pub fn code(self) -> u32
+        ensures value { result ≡ kind_code self }
+        ensures small { result ≤ 32 }
+    {
+        match self {
+            Kind::New => 0,
+            Kind::Change => 0x10,
+            Kind::Remove => 0x20,
+        }
+    }
+}
+
+impl Event {
+    /// Facility and kind as one number. Takes no memory.
+    pub fn number(self) -> u32
+        ensures { result ≡ number_of self }
+    {
+        self.facility.code() + self.kind.code()
+    }
+
+    /// SUBSCRIBE_EVENT of it.
+    pub fn message(self, alloc: Global) -> Mem<Packet>
+        ensures { IfOk result (λ packet. packet ≡ message_of self) }
+    {
+        match px_reply::event(alloc, self.number(), self.index) {
+            Ok(packet) => Ok(packet),
+            Err(_) => Err(NoMemory),
+        }
+    }
+}
+
+/// Whether a mask has a facility's bit. Takes no memory.
+pub fn hears(mask: u32, facility: Facility) -> bool
+    ensures { result ≡ hears mask facility }
+{
+    match facility {
+        Facility::Sink => mask % 2 == 1,
+        Facility::Input => mask / 4 % 2 == 1,
+        Facility::Client => mask / 32 % 2 == 1,
+        Facility::Server => mask / 128 % 2 == 1,
+    }
+}

@@ -1,0 +1,267 @@
+//! What is told of a scene, and of one scene after another.
+
+ghost use Rattle.std.specs.Prelude.{◌≡◌, ◌≤◌, ◌++◌, ◌∷◌, [], List, All, true, IfOk, IfSome, OnOk, option_map, length};
+ghost use Rattle.px_names.specs.declared.client.Client.{Client};
+ghost use Rattle.px_plan.specs.declared.input.Connection.{Connection};
+ghost use Rattle.px_plan.specs.declared.input.Input.{Input};
+ghost use Rattle.px_header.specs.HeaderRules.{AreSinks};
+ghost use Rattle.px_names.specs.Clients.{client_on, mask_of};
+ghost use Rattle.px_ctl_info.specs.Sinks.{server_of};
+ghost use Rattle.px_sinks.specs.Sinks.{target_at};
+ghost use Rattle.px_subscribe.specs.InfoBytes.{IsTelling, IsServerTold};
+ghost use Rattle.px_subscribe.specs.Scene.{scene_after, scene_arrived, scene_joined};
+ghost use Rattle.px_subscribe.specs.Moments.{telling_of, subscriber_of, subscribers_in, subscribers_of, told_since, told_between};
+
+use crate::scene::Scene;
+use px_ctl_info::{clients_told, inputs_told, server_of, sinks_told};
+use crate::announce::{Subscriber, announce_all};
+use crate::between::{Counts, Moment, events_between};
+use px_flat::Group;
+use px_msg::Msg;
+use px_names::Client;
+use px_plan::{Change, Connection, Input, Sending};
+use px_reply::ServerInfo;
+use px_header::SinkSpec;
+use px_sinks::{target_at, targets_of};
+use px_types::{ConnId, InputId, Mem, NoMemory, SinkId};
+use std::alloc::Global;
+
+/// The most channels of what a packet can tell.
+const MOST_CHANNELS: u8 = 32;
+
+// How many sinks there are, where that is a number of 32 bits.
+fn count_of(sinks: &[SinkSpec]) -> Mem<u32>
+    ensures { IfOk result (λ count. count ≡ length sinks.now) }
+{
+    match u32::try_from(sinks.len()) {
+        Ok(count) => Ok(count),
+        Err(_) => Err(NoMemory),
+    }
+}
+
+// Whether each has few enough channels.
+fn are_few(inputs: &[Input]) -> bool
+    ensures { result ≡ true → All (λ x. (Input.spec x).channels ≤ 32) inputs.now }
+{
+    inputs.iter().all(|x| x.spec.channels <= MOST_CHANNELS)
+}
+
+// What is told of the server.
+fn server_told(alloc: Global, sinks: &[SinkSpec], fallback: SinkId) -> Mem<Option<ServerInfo>>
+    requires { AreSinks [] sinks.now }
+    ensures value { IfOk result (λ info. info ≡ option_map server_of (target_at sinks.now fallback)) }
+    ensures told { IfOk result (λ info. IfSome info IsServerTold) }
+{
+    match target_at(alloc, sinks, fallback)? {
+        None => Ok(None),
+        Some(target) => Ok(Some(server_of(alloc, &target)?)),
+    }
+}
+
+// The client of a connection.
+fn client_on(clients: &[Client], conn: ConnId) -> Option<&Client>
+    ensures { option_map (λ client. client.now) result ≡ client_on clients.now conn }
+{
+    clients.iter().find(|client| client.conn.0 == conn.0)
+}
+
+// Its mask; nothing where there is none.
+fn mask_on(clients: &[Client], conn: ConnId) -> u32
+    ensures { result ≡ mask_of (client_on clients.now conn) }
+{
+    match client_on(clients, conn) {
+        None => 0,
+        Some(client) => client.mask,
+    }
+}
+
+// One more connection, where it goes on.
+fn add_subscriber(all: &mut Vec<Subscriber>, clients: &[Client], c: &Connection) -> Mem<()>
+    ensures { OnOk result ((more : List Connection) → all.new.items ++ subscribers_in clients.now more ≡ all.old.items ++ subscribers_in clients.now (c.now ∷ more)) }
+{
+    if !c.marked {
+        all.push(Subscriber {
+            conn: c.conn,
+            mask: mask_on(clients, c.conn),
+        })?;
+    }
+    Ok(())
+}
+
+// The connections that go on, with the masks of their clients.
+fn subscribers_in(
+    alloc: Global,
+    clients: &[Client],
+    connections: &[Connection],
+) -> Mem<Vec<Subscriber>>
+    ensures { IfOk result (λ all. all.items ≡ subscribers_in clients.now connections.now) }
+{
+    let mut all = Vec::new(alloc);
+    for c in connections {
+        add_subscriber(&mut all, clients, c)?;
+    }
+    Ok(all)
+}
+
+impl Scene {
+    /// What the commands for lists of infos tell, and the one for the server, of these sinks. An input of more than 32 channels,
+    /// which no sink plays, is none that can be told: then there is no answer, as for want of memory.
+    pub fn moment(&self, alloc: Global, sinks: &[SinkSpec]) -> Mem<Moment>
+        requires { AreSinks [] sinks.now }
+        ensures value { IfOk result (λ told. told ≡ telling_of sinks.now self.now) }
+        ensures told { IfOk result IsTelling }
+    {
+        if !are_few(&self.inputs) {
+            return Err(NoMemory);
+        }
+        let targets = targets_of(alloc, sinks)?;
+        Ok(Moment {
+            sinks: sinks_told(alloc, &targets, &self.groups)?,
+            inputs: inputs_told(alloc, &self.inputs, &self.groups, &self.lists)?,
+            clients: clients_told(alloc, &self.clients)?,
+            server: server_told(alloc, sinks, self.fallback)?,
+        })
+    }
+
+    /// The connections that go on, in order of connecting, with the masks of their clients.
+    pub fn subscribers(&self, alloc: Global) -> Mem<Vec<Subscriber>>
+        ensures { IfOk result (λ all. all.items ≡ subscribers_of self.now) }
+    {
+        subscribers_in(alloc, &self.clients, &self.connections)
+    }
+
+    // What those who subscribe in this scene are told, once this was told before it.
+    fn told_since(
+        &self,
+        alloc: Global,
+        sinks: &[SinkSpec],
+        clients_made: u32,
+        before: &Moment,
+    ) -> Mem<Vec<Sending>>
+        requires sinks { AreSinks [] sinks.now }
+        requires before { IsTelling before.now }
+        ensures { IfOk result (λ told. told.items ≡ told_since sinks.now clients_made before.now self.now) }
+    {
+        let after = self.moment(alloc, sinks)?;
+        let given = Counts {
+            sinks: count_of(sinks)?,
+            inputs: self.inputs_made,
+            clients: clients_made,
+        };
+        let events = events_between(alloc, given, before, &after)?;
+        let subscribers = self.subscribers(alloc)?;
+        announce_all(alloc, &subscribers, &events)
+    }
+
+    // Makes the changes, and tells those who subscribe then what came of them, once this was told before.
+    fn make_and_tell<P>(
+        &mut self,
+        alloc: Global,
+        sinks: &[SinkSpec],
+        clients_made: u32,
+        changes: &[Change<Msg<P>, Group>],
+        before: &Moment,
+    ) -> Mem<Vec<Sending>>
+        requires sinks { AreSinks [] sinks.now }
+        requires before { IsTelling before.now }
+        ensures { IfOk result (λ told. told.items ≡ told_since sinks.now clients_made before.now (scene_after self.old changes.now)) }
+    {
+        self.make(alloc, changes)?;
+        self.told_since(alloc, sinks, clients_made, before)
+    }
+
+    // Makes the changes, and tells those who subscribe then what came of them.
+    fn change_and_tell<P>(
+        &mut self,
+        alloc: Global,
+        sinks: &[SinkSpec],
+        clients_made: u32,
+        changes: &[Change<Msg<P>, Group>],
+    ) -> Mem<Vec<Sending>>
+        requires { AreSinks [] sinks.now }
+        ensures { IfOk result (λ told. told.items ≡ told_between sinks.now clients_made self.old (scene_after self.old changes.now)) }
+    {
+        let before = self.moment(alloc, sinks)?;
+        self.make_and_tell(alloc, sinks, clients_made, changes, &before)
+    }
+
+    // Lets an input that moves arrive, makes the changes after that, and tells those who subscribe then what came of both.
+    fn arrive_and_tell<P>(
+        &mut self,
+        alloc: Global,
+        sinks: &[SinkSpec],
+        clients_made: u32,
+        input: InputId,
+        later: &[Change<Msg<P>, Group>],
+    ) -> Mem<Vec<Sending>>
+        requires { AreSinks [] sinks.now }
+        ensures { IfOk result (λ told. told.items ≡ told_between sinks.now clients_made self.old (scene_after (scene_arrived input self.old) later.now)) }
+    {
+        let before = self.moment(alloc, sinks)?;
+        self.arrive(input);
+        self.make_and_tell(alloc, sinks, clients_made, later, &before)
+    }
+
+    // Takes in a client, and tells those who subscribe then what came of it, once this was told before.
+    fn join_and_tell(
+        &mut self,
+        alloc: Global,
+        sinks: &[SinkSpec],
+        clients_made: u32,
+        conn: ConnId,
+        client: u32,
+        before: &Moment,
+    ) -> Mem<Vec<Sending>>
+        requires sinks { AreSinks [] sinks.now }
+        requires before { IsTelling before.now }
+        ensures { IfOk result (λ told. told.items ≡ told_since sinks.now clients_made before.now (scene_joined conn client self.old)) }
+    {
+        self.join(alloc, conn, client)?;
+        self.told_since(alloc, sinks, clients_made, before)
+    }
+
+    /// What those who subscribe once the changes are made are told of them, of these sinks, where so many clients were ever made.
+    pub fn told_of<P>(
+        mut self,
+        alloc: Global,
+        sinks: &[SinkSpec],
+        clients_made: u32,
+        changes: &[Change<Msg<P>, Group>],
+    ) -> Mem<Vec<Sending>>
+        requires { AreSinks [] sinks.now }
+        ensures { IfOk result (λ told. told.items ≡ told_between sinks.now clients_made self (scene_after self changes.now)) }
+    {
+        self.change_and_tell(alloc, sinks, clients_made, changes)
+    }
+
+    /// What they are told of an input that is on the sink that it moves to, and of the changes after that.
+    pub fn told_arrived<P>(
+        mut self,
+        alloc: Global,
+        sinks: &[SinkSpec],
+        clients_made: u32,
+        input: InputId,
+        later: &[Change<Msg<P>, Group>],
+    ) -> Mem<Vec<Sending>>
+        requires { AreSinks [] sinks.now }
+        ensures { IfOk result (λ told. told.items ≡ told_between sinks.now clients_made self (scene_after (scene_arrived input self) later.now)) }
+    {
+        self.arrive_and_tell(alloc, sinks, clients_made, input, later)
+    }
+
+    /// What they are told of a client that connects, the last of so many that were ever made.
+    pub fn told_joined(
+        mut self,
+        alloc: Global,
+        sinks: &[SinkSpec],
+        clients_made: u32,
+        conn: ConnId,
+        client: u32,
+    ) -> Mem<Vec<Sending>>
+        requires { AreSinks [] sinks.now }
+        ensures { IfOk result (λ told. told.items ≡ told_between sinks.now clients_made self (scene_joined conn client self)) }
+    {
+        let before = self.moment(alloc, sinks)?;
+        self.join_and_tell(alloc, sinks, clients_made, conn, client, &before)
+    }
+}

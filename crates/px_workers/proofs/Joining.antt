@@ -1,0 +1,41 @@
+-- Sinks whose workers end go before those that no worker had, and what stays of each.
+use Rattle.std.proofs.Common.{◌≡◌, List, [], ◌∷◌, ◌++◌, Bool, map, sym, ◌∙◌, ap}
+use Rattle.std.proofs.lemmas.List.{append_assoc, map-append}
+use Rattle.std.proofs.lemmas.Simd.{map-map}
+use Rattle.px_lane_cell.specs.declared.ends.Boxes.{Boxes}
+use Rattle.px_workers.specs.Working.{Unworked, Start, start_of, mailboxes_of, tapes_in, Kept, kept_of, GoesOn}
+
+abbrev pub keeping : Start → Boxes → Bool → Kept
+keeping start boxes tapes = record { start = start; boxes = boxes; tapes = tapes }
+
+module _ {D E : Type 0} where
+  -- what work that goes on keeps
+  pub kept_on : (before after : Unworked D E) → GoesOn before after → kept_of after ≡ kept_of before
+  kept_on before after goes =
+      ap (λ (s : Start). keeping s (mailboxes_of after) (tapes_in after)) goes.start
+      ∙ ap (λ (b : Boxes). keeping (start_of before) b (tapes_in after)) goes.boxes
+      ∙ ap (keeping (start_of before) (mailboxes_of before)) goes.tapes
+
+  -- each part of what was kept
+  kept_part : {X : Type 0} (part : Kept → X) (lone before : List (Unworked D E)) → map kept_of lone ≡ map kept_of before → map (λ u. part (kept_of u)) lone ≡ map (λ u. part (kept_of u)) before
+  kept_part part lone before kept = sym (map-map part kept_of lone) ∙ ap (map part) kept ∙ map-map part kept_of before
+
+  pub starts_kept : (lone before : List (Unworked D E)) → map kept_of lone ≡ map kept_of before → map start_of lone ≡ map start_of before
+  starts_kept = kept_part (λ k. k.start)
+
+  pub boxes_kept : (lone before : List (Unworked D E)) → map kept_of lone ≡ map kept_of before → map mailboxes_of lone ≡ map mailboxes_of before
+  boxes_kept = kept_part (λ k. k.boxes)
+
+  pub tapes_kept : (lone before : List (Unworked D E)) → map kept_of lone ≡ map kept_of before → map tapes_in lone ≡ map tapes_in before
+  tapes_kept = kept_part (λ k. k.tapes)
+
+-- one was joined, and stands before those that no worker had
+pub joined_one : {X Y : Type 0} (f : X → Y) (sinks rest lone next : List X) (given back : X)
+    → sinks ≡ rest ++ given ∷ [] → next ≡ back ∷ lone → f back ≡ f given → map f (rest ++ next) ≡ map f (sinks ++ lone)
+joined_one f sinks rest lone next given back behind front same =
+    ap (λ (l : List _). map f (rest ++ l)) front
+    ∙ map-append f rest (back ∷ lone)
+    ∙ ap (λ (y : _). map f rest ++ (y ∷ map f lone)) same
+    ∙ sym (map-append f rest (given ∷ lone))
+    ∙ ap (map f) (sym (append_assoc rest (given ∷ []) lone))
+    ∙ ap (λ (l : List _). map f (l ++ lone)) (sym behind)

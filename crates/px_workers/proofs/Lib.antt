@@ -1,0 +1,5 @@
+mod Accepting
+mod Going
+pub mod Later
+mod Joining
+pub mod Empty

@@ -1,0 +1,4 @@
+pub mod Hosted
+pub mod Accepting
+pub mod Working
+pub mod Jobs

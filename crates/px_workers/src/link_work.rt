@@ -1,0 +1,192 @@
+//! The work at one client's link.
+
+ghost use Rattle.std.specs.Prelude.{◌≡◌, ◌<◌, All, length};
+ghost use Rattle.px_frame.specs.Frame.{IsBody};
+
+use crate::gate::Gate;
+use crate::starting::depart;
+use crate::worker::Worker;
+use px_ends::{Link, Recv, Sent};
+use px_frame::{Decoder, Frame, FrameError};
+use px_worker_api::{CoreStop, Handle, Next, Rest};
+use crate::job::Job;
+use px_types::ConnId;
+use std::collections::VecDeque;
+use std::sync::Wait;
+
+// How many bytes are received at once.
+const PIECE: usize = 16_384;
+
+// Whether a client is still there.
+#[derive(Clone, Copy, PartialEq, Eq)]
+enum Flow {
+    On,
+    Ended,
+}
+
+/// The work at one client's link: what it sends goes to the core frame by frame, and what the core has for it is sent, where whoever made the
+/// step hasn't.
+#[derive(Drop)]
+pub(crate) struct LinkWork<W: Handle, A, G> {
+    pub worker: Worker<W, G>,
+    pub conn: ConnId,
+    pub link: A,
+}
+
+// Sends what is left of a packet, as far as the link is ready.
+fn send_rest<A: Link>(link: &mut A, sending: &mut Option<Rest>) -> Sent {
+    let Some(rest) = sending else {
+        return Sent::Bytes(0);
+    };
+    let bytes = rest.packet.bytes();
+    let left = &bytes[rest.sent.min(bytes.len())..];
+    if left.is_empty() {
+        return Sent::Bytes(0);
+    }
+    match link.send(left) {
+        Sent::Bytes(count) => {
+            rest.sent = rest.sent.saturating_add(count);
+            Sent::Bytes(count)
+        }
+        other => other,
+    }
+}
+
+impl<W, A, G> LinkWork<W, A, G>
+where
+    W: Handle,
+    A: Link + Drop,
+    G: Gate + Drop,
+{
+    /// The handle of work that no thread does.
+    pub(crate) fn into_handle(self) -> W
+        ensures { result ≡ self.worker.handle }
+    {
+        self.worker.handle
+    }
+
+    // What stands first in the client's line is to be sent next. Where nothing does, how it goes on.
+    fn fetch(&mut self, sending: &mut Option<Rest>) -> Option<Flow>
+        ensures parts { W.parts self.new.worker.handle ≡ W.parts self.old.worker.handle }
+    {
+        match self.worker.handle.next_packet(self.conn) {
+            Next::Packet(rest) => {
+                *sending = Some(rest);
+                None
+            }
+            Next::Nothing => {
+                *sending = None;
+                Some(Flow::On)
+            }
+            Next::Ended => Some(Flow::Ended),
+        }
+    }
+
+    // Sends what waits for the client and nobody else has sent, as far as its link is ready.
+    fn send(&mut self, sending: &mut Option<Rest>) -> Flow
+        ensures parts { W.parts self.new.worker.handle ≡ W.parts self.old.worker.handle }
+    {
+        let rt = self.worker.handle.rt();
+        for _ in rt.forever() {
+            match send_rest(&mut self.link, sending) {
+                Sent::Bytes(0) => {
+                    if let Some(flow) = self.fetch(sending) {
+                        return flow;
+                    }
+                }
+                Sent::Bytes(_) => {}
+                Sent::NotYet => return Flow::On,
+                Sent::Failed => return Flow::Ended,
+            }
+        }
+        unreachable!()
+    }
+
+    // The frames of some bytes, each a step.
+    fn take(&mut self, frames: Vec<Frame>) -> Result<(), CoreStop>
+        requires { All (λ f. IsBody f.body) frames.items }
+        ensures parts { W.parts self.new.worker.handle ≡ W.parts self.old.worker.handle }
+    {
+        let mut frames = VecDeque::from_vec(frames);
+        while let Some(frame) = frames.pop_front() {
+            self.worker.handle.frame(self.conn, frame)?;
+            self.worker.gate.after_packet(self.conn);
+        }
+        Ok(())
+    }
+
+    // Some bytes of the client.
+    fn hear(&mut self, decoder: &mut Decoder, bytes: &[u8]) -> Result<(), CoreStop>
+        ensures parts { W.parts self.new.worker.handle ≡ W.parts self.old.worker.handle }
+    {
+        match decoder.feed(bytes, &mut self.worker.blocks) {
+            Ok(frames) => self.take(frames.into_vec()),
+            Err(FrameError::Fault { frames, fault, at }) => {
+                self.take(frames.into_vec())?;
+                self.worker.handle.broken(self.conn, fault, at)
+            }
+            Err(FrameError::Failed { .. }) => Ok(()),
+            Err(FrameError::NoMemory) => self.worker.handle.cut(self.conn),
+        }
+    }
+
+    // One round: what came is heard, and what nobody else has sent is sent. Where nothing came for a while it is looked for.
+    fn round(&mut self, sending: &mut Option<Rest>, decoder: &mut Decoder, piece: &mut [u8]) -> Flow
+        requires { 0 < length piece.old }
+        ensures piece { length piece.new ≡ length piece.old }
+        ensures parts { W.parts self.new.worker.handle ≡ W.parts self.old.worker.handle }
+    {
+        match self.link.recv(piece) {
+            Recv::Bytes(count) => match self.hear(decoder, &piece[..count]) {
+                Ok(()) if self.worker.handle.is_sender() => self.send(sending),
+                Ok(()) => Flow::On,
+                Err(_) => Flow::Ended,
+            },
+            Recv::NotYet => self.send(sending),
+            Recv::End | Recv::Failed => Flow::Ended,
+        }
+    }
+
+    // All rounds until the client or the server ends.
+    fn rounds(&mut self, sending: &mut Option<Rest>, decoder: &mut Decoder, piece: &mut [u8])
+        requires { 0 < length piece.old }
+        ensures parts { W.parts self.new.worker.handle ≡ W.parts self.old.worker.handle }
+    {
+        let rt = self.worker.handle.rt();
+        for _ in rt.forever() {
+            if self.round(sending, decoder, piece) == Flow::Ended {
+                return;
+            }
+        }
+        unreachable!()
+    }
+
+    // Serves the client until it or the server ends.
+    fn serve(&mut self)
+        ensures parts { W.parts self.new.worker.handle ≡ W.parts self.old.worker.handle }
+    {
+        let mut decoder = Decoder::new(self.worker.handle.alloc());
+        let mut sending = None;
+        let mut piece = [0u8; PIECE];
+        self.rounds(&mut sending, &mut decoder, &mut piece);
+    }
+}
+
+impl<W, A, G> Job for LinkWork<W, A, G>
+where
+    W: Handle + Send,
+    W::Blocks: Send,
+    A: Link + Drop + Send,
+    G: Gate + Drop + Send + Sync,
+{
+    ghost use Rattle.std.specs.Prelude.{◌≡◌, refl};
+
+    ghost keeps = { λ before after. W.parts after.worker.handle ≡ W.parts before.worker.handle };
+
+    fn work(&mut self) {
+        self.serve();
+        depart(&mut self.worker.handle, self.conn);
+    }
+
+    ghost keeps_itself = { λ job. refl };
+}

@@ -1,0 +1,212 @@
+//! The starts of workers.
+ghost use Rattle.std.specs.Prelude.{◌≡◌, ◌+◌, ◌≤◌, ◌<◌, ◌++◌, ◌∷◌, [], length, IfOk, IfErr, OnOk};
+ghost use Rattle.std.specs.VecDeque.{deque_len, deque_capacity};
+ghost use Rattle.px_workers.specs.Hosted.{IsOwn};
+
+use crate::gate::Gate;
+use crate::link_work::LinkWork;
+use crate::lone::Lone;
+use crate::runs::{Client, SinkRun};
+use crate::sink_work::SinkWork;
+use crate::stop::Stop;
+use crate::worker::Worker;
+use px_annals::{LaneEntry, Recorder};
+use px_ends::{Device, Link};
+use px_worker_api::{CoreStop, Handle};
+use crate::running::start;
+use px_types::{ConnId, Mem, NoMemory};
+use std::collections::VecDeque;
+use std::sync::Arc;
+use std::thread::Threads;
+
+// Starts a worker with a sink. Where that can't be, its handle and the sink come back.
+fn start_with<W, D, E, G>(
+    worker: Worker<W, G>,
+    lone: Lone<D, E>,
+) -> Result<SinkRun<W, D, E, G>, (W, Lone<D, E>)>
+where
+    W: Handle + Send,
+    W::Rt: Threads + Send + Sync,
+    W::Blocks: Send,
+    D: Device + Drop + Send + 'static,
+    E: Recorder<LaneEntry> + Drop + Send + 'static,
+    G: Gate + Drop + Send + Sync + 'static,
+    requires { W.parts worker.handle ≡ 1 }
+    ensures ok { IfOk result (λ run. run ≡ lone) }
+    ensures err { IfErr result (λ back. (W.parts back.0 ≡ 1) × (back.1 ≡ lone)) }
+{
+    let rt = worker.handle.rt();
+    let alloc = worker.handle.alloc();
+    match start(&rt, alloc, SinkWork { worker, lone }) {
+        Ok(running) => Ok(SinkRun { running }),
+        Err(job) => Err(job.into_parts()),
+    }
+}
+
+// Starts a worker with a sink, with one share of this handle's. Where that can't be, the sink comes back, and the share.
+fn start_sink<W, D, E, G>(
+    handle: &mut W,
+    gate: &Arc<G>,
+    lone: Lone<D, E>,
+) -> Result<SinkRun<W, D, E, G>, Lone<D, E>>
+where
+    W: Handle + Send,
+    W::Rt: Threads + Send + Sync,
+    W::Blocks: Send,
+    D: Device + Drop + Send + 'static,
+    E: Recorder<LaneEntry> + Drop + Send + 'static,
+    G: Gate + Drop + Send + Sync + 'static,
+    requires { 1 < W.parts handle.old }
+    ensures ok { IfOk result (λ run. (run ≡ lone) × (W.parts handle.new + 1 ≡ W.parts handle.old)) }
+    ensures err { IfErr result (λ back. (back ≡ lone) × (W.parts handle.new ≡ W.parts handle.old)) }
+{
+    let Ok(worker) = Worker::new(handle, gate) else {
+        return Err(lone);
+    };
+    match start_with(worker, lone) {
+        Ok(run) => Ok(run),
+        Err((other, lone)) => {
+            handle.take_back(other);
+            Err(lone)
+        }
+    }
+}
+
+/// Opens a client's line, and has it connect.
+pub(crate) fn connect<W: Handle>(
+    handle: &mut W,
+    conn: ConnId,
+    outlet: Option<W::Outlet>,
+) -> Result<(), Stop>
+    ensures parts { W.parts handle.new ≡ W.parts handle.old }
+    ensures cause { IfErr result IsOwn }
+{
+    if handle.open_line(conn, outlet).is_err() {
+        return Err(Stop::Memory);
+    }
+    // a core that has made as many steps as are counted serves no more clients, and nothing has failed
+    if let Err(CoreStop::Unrecorded(fault)) = handle.connect(conn) {
+        return Err(Stop::Unrecorded(fault));
+    }
+    Ok(())
+}
+
+// Starts a worker with a client's link. Where that can't be, its handle comes back.
+fn start_link<W, A, G>(worker: Worker<W, G>, conn: ConnId, link: A) -> Result<Client<W, A, G>, W>
+where
+    W: Handle + Send,
+    W::Rt: Threads + Send + Sync,
+    W::Blocks: Send,
+    A: Link + Drop + Send + 'static,
+    G: Gate + Drop + Send + Sync + 'static,
+    requires { W.parts worker.handle ≡ 1 }
+    ensures { IfErr result (λ back. W.parts back ≡ 1) }
+{
+    let rt = worker.handle.rt();
+    let alloc = worker.handle.alloc();
+    match start(&rt, alloc, LinkWork { worker, conn, link }) {
+        Ok(running) => Ok(Client { conn, running }),
+        Err(job) => Err(job.into_handle()),
+    }
+}
+
+/// Starts a worker with a client's link, with one share of this handle's, where there is room for it. Where that can't be, the share comes
+/// back.
+pub(crate) fn add_client<W, A, G>(
+    handle: &mut W,
+    gate: &Arc<G>,
+    clients: &mut VecDeque<Client<W, A, G>>,
+    conn: ConnId,
+    link: A,
+) -> Mem<()>
+where
+    W: Handle + Send,
+    W::Rt: Threads + Send + Sync,
+    W::Blocks: Send,
+    A: Link + Drop + Send + 'static,
+    G: Gate + Drop + Send + Sync + 'static,
+    requires seats { 1 < W.parts handle.old }
+    requires room { deque_len clients.old < deque_capacity clients.old }
+    ensures parts { W.parts handle.new + length clients.new.items ≡ W.parts handle.old + length clients.old.items }
+    ensures more { length clients.new.items ≤ length clients.old.items + 1 }
+{
+    let worker = Worker::new(handle, gate)?;
+    match start_link(worker, conn, link) {
+        Ok(client) => {
+            clients.push_back_reserved(client);
+            Ok(())
+        }
+        Err(other) => {
+            handle.take_back(other);
+            Err(NoMemory)
+        }
+    }
+}
+
+// Starts a sink's worker. Where that can't be, the sink comes back.
+fn add_sink<W, D, E, G>(
+    handle: &mut W,
+    gate: &Arc<G>,
+    sinks: &mut VecDeque<SinkRun<W, D, E, G>>,
+    one: Lone<D, E>,
+) -> Result<(), Lone<D, E>>
+where
+    W: Handle + Send,
+    W::Rt: Threads + Send + Sync,
+    W::Blocks: Send,
+    D: Device + Drop + Send + 'static,
+    E: Recorder<LaneEntry> + Drop + Send + 'static,
+    G: Gate + Drop + Send + Sync + 'static,
+    requires { 1 < W.parts handle.old }
+    ensures ok { OnOk result ((sinks.new.items ≡ sinks.old.items ++ one ∷ []) × (W.parts handle.new + 1 ≡ W.parts handle.old)) }
+    ensures err { IfErr result (λ back. (back ≡ one) × (sinks.new.items ≡ sinks.old.items) × (W.parts handle.new ≡ W.parts handle.old)) }
+{
+    if sinks.reserve(1).is_err() {
+        return Err(one);
+    }
+    let run = start_sink(handle, gate, one)?;
+    sinks.push_back_reserved(run);
+    Ok(())
+}
+
+/// A client goes, and its line with it.
+pub(crate) fn depart<W: Handle>(handle: &mut W, conn: ConnId)
+    ensures { W.parts handle.new ≡ W.parts handle.old }
+{
+    // where the core makes no more steps, no client is served any more
+    let _closed = handle.close(conn);
+    handle.shut_line(conn);
+}
+
+/// Starts the worker of the next sink, of those that there are. Where that can't be, the sink stays.
+pub(crate) fn start_next<W, D, E, G>(
+    handle: &mut W,
+    gate: &Arc<G>,
+    sinks: &mut VecDeque<SinkRun<W, D, E, G>>,
+    lone: &mut VecDeque<Lone<D, E>>,
+) -> Mem<()>
+where
+    W: Handle + Send,
+    W::Rt: Threads + Send + Sync,
+    W::Blocks: Send,
+    D: Device + Drop + Send + 'static,
+    E: Recorder<LaneEntry> + Drop + Send + 'static,
+    G: Gate + Drop + Send + Sync + 'static,
+    requires seats { 1 < W.parts handle.old }
+    requires some { 0 < length lone.old.items }
+    ensures parts { W.parts handle.new + length lone.old.items ≡ W.parts handle.old + length lone.new.items }
+    ensures all { sinks.new.items ++ lone.new.items ≡ sinks.old.items ++ lone.old.items }
+    ensures capacity { deque_capacity lone.new ≡ deque_capacity lone.old }
+    ensures fewer { OnOk result (length lone.new.items < length lone.old.items) }
+{
+    let Some(one) = lone.pop_front() else {
+        unreachable!()
+    };
+    match add_sink(handle, gate, sinks, one) {
+        Ok(()) => Ok(()),
+        Err(one) => {
+            lone.push_front_reserved(one);
+            Err(NoMemory)
+        }
+    }
+}
