@@ -2,8 +2,8 @@
 //! made goes back to it. `source` has the bytes of the header file, `header` reads them, `back` hands back, and `call` is the one call.
 
 mod back;
-mod header;
 mod call;
+mod header;
 mod source;
 
 pub use call::{ServeEnd, serve_by};

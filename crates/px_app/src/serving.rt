@@ -8,8 +8,8 @@ ghost use Rattle.px_app.specs.Serving.{is_serve, line_of_status, StatusReported,
 use crate::ending::Ending;
 use crate::log::report;
 use crate::refusal::{Refusal, Why};
-use px_ends::{Host, Sink, write_all};
 use crate::serve::{ServeEnd, serve_by};
+use px_ends::{Host, Sink, write_all};
 use px_types::Status;
 use std::alloc::Global;
 use std::rt::Clock;

@@ -15,8 +15,8 @@ use px_ctl_play::{Arrival, arrive};
 use px_flat::Group;
 use px_msg::{Msg, Parcel};
 use px_plan::{Input, Target};
-use px_state::{Effects, Tables, delayed_count, finish_arrival};
 use px_sinks::{group_on, target_at};
+use px_state::{Effects, Tables, delayed_count, finish_arrival};
 use px_types::{Mem, SinkId};
 use std::alloc::Global;
 

@@ -18,8 +18,8 @@ use px_ctl_info::{SERVER_VERSION, input_info, input_infos, server_info, sink_inf
 use px_flat::Group;
 use px_msg::Msg;
 use px_plan::{Input, Plan, Refusal};
-use px_state::Tables;
 use px_sinks::{default_sink, named_by, targets_of};
+use px_state::Tables;
 use std::alloc::Global;
 
 /// The sink that is named.

@@ -13,9 +13,9 @@ ghost use Rattle.px_state.specs.Out.{waiting_for, next_for, put_back, sent, unse
 use crate::connecting::{break_off, connect, end, sweep_away};
 use crate::{frames, notice};
 use px_frame::{Frame, FrameFault};
+use px_header::Header;
 use px_msg::{Msg, Notice, Parcel};
 use px_plan::Reason;
-use px_header::Header;
 use px_state::{Effect, Effects, Tables, closed_for, hand_out, new_tables, outgoing, put_back};
 use px_types::{ConnId, Mem, SinkId};
 use std::alloc::Global;

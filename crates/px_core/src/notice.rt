@@ -16,8 +16,8 @@ use px_ctl_play::{News, Progress, drained, hands_over, left, measured, tell};
 use px_flat::Group;
 use px_msg::{Msg, Notice, Parcel};
 use px_plan::{Connection, Input, Plan, Standing};
-use px_state::{Effects, Tables, finish};
 use px_sinks::{group_on, rate_on};
+use px_state::{Effects, Tables, finish};
 use px_types::{InputId, Mem, SinkId};
 use std::alloc::Global;
 

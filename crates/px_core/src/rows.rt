@@ -29,9 +29,9 @@ use px_ctl_play::{attributes, cork, create, delete, drain, flush, latency, prebu
 use px_flat::Group;
 use px_msg::Msg;
 use px_plan::{Connection, Input, Named, Plan, Refusal};
+use px_sinks::{depth_of, group_named, named_by, rate_of, sink_of};
 use px_state::Tables;
 use px_tag::PropList;
-use px_sinks::{depth_of, group_named, named_by, rate_of, sink_of};
 use std::alloc::Global;
 
 // A text that a command may give.

@@ -20,8 +20,8 @@ use px_ctl_play::{kill_input, move_input};
 use px_flat::Group;
 use px_msg::Msg;
 use px_plan::{Input, Plan, Refusal};
-use px_state::Tables;
 use px_sinks::named_by;
+use px_state::Tables;
 use std::alloc::Global;
 
 // An input is to be on the sink that is named.

@@ -13,9 +13,9 @@ use px_ctl_vol::{set_input_mute, set_input_volume, set_sink_mute, set_sink_volum
 use px_flat::Group;
 use px_msg::Msg;
 use px_plan::{Plan, Refusal};
+use px_sinks::{group_named, group_under, named_by};
 use px_state::Tables;
 use px_tag::RawVolume;
-use px_sinks::{group_named, group_under, named_by};
 use std::alloc::Global;
 
 /// The volume of the sink that is named.

@@ -6,8 +6,8 @@ ghost use Rattle.px_gen.specs.Generator.{header, sink_at, client_events, opening
 
 use crate::client::{COOKIE, auth, create};
 use px_chmap::Map;
-use px_sample::{Format, Spec};
 use px_header::{Header, SinkSpec, SinkSpecs};
+use px_sample::{Format, Spec};
 use px_session::Event;
 use px_types::{ConnId, Mem, Text};
 use std::alloc::Global;

@@ -9,9 +9,9 @@ ghost use Rattle.px_lane.specs.Inputs.{inputs_of};
 ghost use Rattle.px_lane.specs.Mixed.{CanMix};
 
 use crate::input::Input;
+use px_kept_mix::KeptMix;
 use px_kernel::Steps;
 use px_sample::Spec;
-use px_kept_mix::KeptMix;
 use std::sync::ledger::Ledger;
 
 /// Adds what the stream of each input gives to the sums from a frame on, where they hold nothing yet. Takes no memory.

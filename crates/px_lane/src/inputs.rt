@@ -22,10 +22,10 @@ use crate::finding::{
 use crate::input::Input;
 use crate::memory::reserve_inputs;
 use px_block::BlockSource;
+use px_kept_mix::KeptMix;
 use px_kernel::Steps;
 use px_msg::Notice;
 use px_sample::Spec;
-use px_kept_mix::KeptMix;
 use px_stream::{Stream, StreamMsg};
 use px_types::{InputId, Mem, NoMemory};
 use px_vol::Factors;

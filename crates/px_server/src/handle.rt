@@ -3,13 +3,13 @@ ghost use Rattle.std.specs.Prelude.{◌≡◌};
 
 use px_annals::{CoreEntry, Recorder};
 use px_cell::Seats;
-use px_shared::DeskHandle;
 use px_ends::Outlet;
 use px_frame::{Frame, FrameFault};
-use px_worker_api::{CoreStop, Handle, Next};
 use px_pool::PoolSeat;
+use px_shared::DeskHandle;
 use px_tape::Tape;
 use px_types::{ConnId, Mem, SinkId};
+use px_worker_api::{CoreStop, Handle, Next};
 use std::alloc::Global;
 use std::sync::{Mutex, Wait};
 

@@ -20,13 +20,14 @@ ghost use Rattle.px_tape.specs.Tape.{Turns, total};
 
 use crate::served::{LanePart, status_of_met};
 use px_annals::{CoreEntry, LaneEntry, RecordFault, Recorder};
-use px_cell::{CoreEnd, CoreEnds, CoreParts, Seats, StepLog};
-use px_workers::Lone;
-use px_shared::DeskHandle;
+use px_cell::{
+    CoreEnd, CoreEnds, CoreParts, LaneCell, LaneCellParts, LaneEnds, LanePasses, Seats, StepLog,
+};
 use px_ends::{Device, Outlet};
-use px_cell::{LaneCell, LaneCellParts, LaneEnds, LanePasses};
+use px_shared::DeskHandle;
 use px_tape::SinkTurns;
 use px_types::{SinkId, Status};
+use px_workers::Lone;
 use std::collections::VecDeque;
 use std::sync::Wait;
 

@@ -7,10 +7,10 @@ ghost use Rattle.px_server.specs.Hosted.{stop_by};
 ghost use Rattle.px_tape.specs.Tape.{turns_in, total};
 
 use px_annals::RecordFault;
-use px_workers::{Met, Stop};
 use px_ends::{Host, HostFault};
 use px_tape::{Events, SinkTurns, Tape};
 use px_types::{SinkId, Status};
+use px_workers::{Met, Stop};
 use std::alloc::Global;
 
 /// What the host made for a sink, once its worker has ended.

@@ -21,17 +21,16 @@ ghost use Rattle.px_server.specs.Made.{IsMade, AreMade, AddsOne, AddsAll};
 
 use crate::served::stop_by;
 use px_annals::{LaneEntry, Recorder};
-use px_cell::{CoreEnd, CoreEnds};
-use px_workers::{Lone, Stop};
+use px_cell::{Boxes, CoreEnd, CoreEnds, LaneCell, LaneEnds, LanePasses};
 use px_ends::{Device, DeviceShape, Host, HostFault};
+use px_header::{Header, SinkSpec};
 use px_lane::Lane;
-use px_cell::{Boxes, LaneCell, LaneEnds, LanePasses};
 use px_mail::Shared;
 use px_msg::{Msg, Notice};
-use px_header::{Header, SinkSpec};
 use px_stream::Stream;
 use px_tape::SinkTurns;
 use px_types::{Mem, NoMemory, SinkId};
+use px_workers::{Lone, Stop};
 use std::alloc::Global;
 use std::collections::VecDeque;
 

@@ -11,9 +11,9 @@ ghost use Rattle.px_session.specs.HeaderRest.{rest_of_sink_at, rest_of_header_at
 ghost use Rattle.px_session.specs.Seen.{place_of, room_of};
 
 use crate::fault::{Cause, ReadError};
-use px_header::{Header, SinkSpec, SinkSpecs};
 use crate::place::Place;
 use px_chmap::Map;
+use px_header::{Header, SinkSpec, SinkSpecs};
 use px_sample::{Format, Spec};
 use px_types::{Mem, Text};
 use std::alloc::Global;

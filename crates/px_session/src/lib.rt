@@ -21,6 +21,6 @@ pub use event::{Event, Step};
 pub use fault::{Cause, ReadError, WriteError};
 pub use law::{one_reading, reading_in_steps, refusals_are_final, refusals_at_the_end};
 pub use output::OutRecord;
-pub use reader::Reader;
 pub use px_header::{Header, SinkSpec, SinkSpecs};
+pub use reader::Reader;
 pub use writer::{write_effect, write_end, write_event, write_header};

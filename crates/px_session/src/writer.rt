@@ -12,9 +12,9 @@ ghost use Rattle.px_session.specs.Writing.{FitsSink, FitsHeader, FitsEvent, Fits
 
 use crate::event::Event;
 use crate::fault::WriteError;
-use px_header::{Header, SinkSpec};
 use crate::output::OutRecord;
 use px_ends::{Sink, write_all};
+use px_header::{Header, SinkSpec};
 use px_types::ConnId;
 
 /// The byte that ends a session, and an output.

@@ -4,8 +4,8 @@ ghost use Rattle.std.specs.Prelude.{◌≡◌, ◌++◌, ◌∷◌, [], OnOk, On
 use px_core::{Effect, Effects};
 use px_ends::{Outlet, Sent};
 use px_frame::Packet;
-use px_worker_api::{Next, Rest};
 use px_types::{ConnId, Mem};
+use px_worker_api::{Next, Rest};
 use std::alloc::Global;
 use std::collections::VecDeque;
 use std::mem;

@@ -9,8 +9,8 @@ use crate::step::Stepped;
 use px_annals::{CoreEntry, Recorder};
 use px_core_cell::Seats;
 use px_ends::Outlet;
-use px_worker_api::{CoreStop, Rest};
 use px_types::{ConnId, SinkId};
+use px_worker_api::{CoreStop, Rest};
 use std::sync::Wait;
 use std::sync::atomic::Ordering;
 

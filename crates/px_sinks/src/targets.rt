@@ -10,9 +10,9 @@ ghost use Rattle.px_plan.specs.Target.{IsTarget, IsNamed};
 ghost use Rattle.px_sinks.specs.Sinks.{MOST_SINKS, IsOfHeader, rate_on, rate_of, depth_of, sink_of, target_of, target_at, found_as, named_as, named_by, targets_from, targets_of};
 
 use px_cmd::SinkRef;
+use px_header::SinkSpec;
 use px_names::{NO_INDEX, Names};
 use px_plan::{Input, Named, Target};
-use px_header::SinkSpec;
 use px_types::{ErrorCode, Mem, SinkId, Text};
 use std::alloc::Global;
 

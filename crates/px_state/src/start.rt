@@ -11,10 +11,10 @@ ghost use Rattle.px_state.specs.Tables.{lists_of, state_of};
 
 use crate::tables::Tables;
 use px_flat::Group;
+use px_header::{Header, SinkSpec, SinkSpecs};
 use px_input_table::InputTable;
 use px_msg::Msg;
 use px_names::{InputLists, Names, SinkNames};
-use px_header::{Header, SinkSpec, SinkSpecs};
 use px_types::{Mem, Text};
 use std::alloc::Global;
 use std::collections::VecDeque;

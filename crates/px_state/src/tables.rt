@@ -2,11 +2,11 @@
 
 use crate::delayed::Delayed;
 use px_flat::Group;
+use px_header::SinkSpecs;
 use px_input_table::InputTable;
 use px_msg::Msg;
 use px_names::{InputLists, Names};
 use px_plan::{Connection, Waiting};
-use px_header::SinkSpecs;
 use std::collections::VecDeque;
 
 /// The state of the core. `P` is the type of a parcel: a stream on its way from one sink to another.

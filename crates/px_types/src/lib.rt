@@ -1,10 +1,11 @@
 //! The names and codes that the whole server shares: numbers of connections, inputs and sinks, byte lists, the protocol's
-//! error codes and the program's statuses. It exports `ConnId`, `InputId`, `SinkId`, `Text`, `NoMemory`, `Mem`, `ErrorCode`
-//! and `Status`.
+//! error codes, the program's statuses and the limits. It exports `ConnId`, `InputId`, `SinkId`, `Text`, `NoMemory`, `Mem`,
+//! `ErrorCode` and `Status`, and the module `limits`.
 #![tactic(auto)]
 
 mod error_code;
 mod ids;
+pub mod limits;
 mod memory;
 mod status;
 mod text;

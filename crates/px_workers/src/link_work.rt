@@ -4,13 +4,13 @@ ghost use Rattle.std.specs.Prelude.{◌≡◌, ◌<◌, All, length};
 ghost use Rattle.px_frame.specs.Frame.{IsBody};
 
 use crate::gate::Gate;
+use crate::job::Job;
 use crate::starting::depart;
 use crate::worker::Worker;
 use px_ends::{Link, Recv, Sent};
 use px_frame::{Decoder, Frame, FrameError};
-use px_worker_api::{CoreStop, Handle, Next, Rest};
-use crate::job::Job;
 use px_types::ConnId;
+use px_worker_api::{CoreStop, Handle, Next, Rest};
 use std::collections::VecDeque;
 use std::sync::Wait;
 

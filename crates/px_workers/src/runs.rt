@@ -6,12 +6,12 @@ ghost use Rattle.px_workers.specs.Working.{GoesOn};
 use crate::gate::Gate;
 use crate::link_work::LinkWork;
 use crate::lone::Lone;
+use crate::running::Running;
 use crate::sink_work::SinkWork;
 use px_annals::{LaneEntry, Recorder};
 use px_ends::{Device, Link};
-use px_worker_api::Handle;
-use crate::running::Running;
 use px_types::ConnId;
+use px_worker_api::Handle;
 use std::marker::Model;
 use std::thread::Threads;
 

@@ -3,12 +3,12 @@ ghost use Rattle.std.specs.Prelude.{◌≡◌};
 ghost use Rattle.px_workers.specs.Working.{GoesOn};
 
 use crate::gate::Gate;
+use crate::job::Job;
 use crate::lone::{Lone, Went};
 use crate::worker::Worker;
 use px_annals::{LaneEntry, Recorder};
 use px_ends::Device;
 use px_worker_api::{CoreStop, Handle};
-use crate::job::Job;
 
 // How many messages a mailbox holds.
 const FULL: u32 = 256;

@@ -1,8 +1,8 @@
 //! What each worker has.
 ghost use Rattle.std.specs.Prelude.{◌≡◌, ◌+◌, ◌<◌, IfOk, OnErr};
 
-use px_worker_api::Handle;
 use px_types::Mem;
+use px_worker_api::Handle;
 use std::sync::Arc;
 
 /// A worker: its handle on what all share, the gate that says when it goes on, and where its blocks come from.

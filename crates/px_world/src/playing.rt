@@ -18,9 +18,9 @@ ghost use Rattle.px_world.specs.Doing.{told_to_fail};
 
 use crate::spares::Spares;
 use px_ends::{DeviceShape, MemDevice, Played};
+use px_header::SinkSpec;
 use px_kernel::Steps;
 use px_lane::{Lane, LaneFault, MsgList, NoticeList, Turned};
-use px_header::SinkSpec;
 use px_types::{Mem, NoMemory};
 use std::alloc::Global;
 use std::marker::Brand;

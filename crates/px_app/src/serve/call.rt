@@ -6,10 +6,10 @@ ghost use Rattle.px_app.specs.Serves.{IsServing, ServesWith, ServesBy};
 
 use crate::serve::back::{hand_core, hand_parts};
 use crate::serve::header::header_in;
-use px_ends::{HeaderRead, Host, Sink};
 use crate::serve_words::{ServeWords, WordsFault, read_serve_words};
-use px_server::{PaceGate, Served, serve};
+use px_ends::{HeaderRead, Host, Sink};
 use px_header::Header;
+use px_server::{PaceGate, Served, serve};
 use px_session::{Cause, ReadError};
 use px_tape::Events;
 use px_types::Status;

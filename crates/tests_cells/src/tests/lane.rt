@@ -5,14 +5,14 @@ ghost use Rattle.px_mail.specs.Mailbox.{key_of, posted_by};
 ghost use Rattle.tests_cells.specs.Gains.{IsGain, IsNew, Sends};
 
 use crate::tests::crowded::Crowded;
+use px_cell::{Boxes, LaneCell, LaneEnds, LanePasses};
 use px_chmap::Map;
 use px_ends::{DeviceShape, MemDevice};
+use px_header::SinkSpec;
 use px_lane::Lane;
-use px_cell::{Boxes, LaneCell, LaneEnds, LanePasses};
 use px_mail::{Full, Mailbox, PostPass, Shared};
 use px_msg::{FactorList, InputFactors, Msg, Notice};
 use px_sample::{Format, Spec};
-use px_header::SinkSpec;
 use px_stream::Stream;
 use px_types::{InputId, Mem, NoMemory, Text};
 use px_vol::Factors;

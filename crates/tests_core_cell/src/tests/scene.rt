@@ -5,12 +5,12 @@ ghost use Rattle.px_header.specs.HeaderRules.{IsHeader};
 ghost use Rattle.px_core_cell.specs.Cell.{ends_of};
 ghost use Rattle.px_core_cell.specs.History.{Begins, fresh_ends};
 
-use px_core::Core;
 use px_cell::{CellCore, CoreEnd, CoreEnds};
+use px_core::Core;
 use px_ends::{Calls, MemSource};
+use px_header::{Header, SinkSpec};
 use px_mail::{Mailbox, PostPass, Shared, TakePass};
 use px_msg::{Msg, Notice};
-use px_header::{Header, SinkSpec};
 use px_session::{Reader, Step};
 use px_stream::Stream;
 use px_types::{Mem, NoMemory, SinkId, Text};

@@ -3,10 +3,10 @@ ghost use Rattle.std.specs.Prelude.{IfOk};
 ghost use Rattle.px_header.specs.HeaderRules.{IsHeader};
 
 use super::hosts::{Machine, header, host, nothing_sent, one_client};
-use px_mem_host::MemHost;
 use px_app::header_in;
-use px_server::{Gate, serve};
 use px_header::Header;
+use px_mem_host::MemHost;
+use px_server::{Gate, serve};
 use px_types::{ConnId, Mem, NoMemory, SinkId, Status};
 use std::alloc::Global;
 use std::rt::Clock;
