@@ -30,12 +30,12 @@ use Rattle.px_core.specs.Step.{Step, out, stepped, effects_of, stepped_by, effec
 use Rattle.px_core.proofs.HearingLaws.{untold}
 use Rattle.px_core_cell.specs.declared.step.CoreStep.{CoreStep}
 use Rattle.px_core_cell.specs.declared.step.CoreStep.TheVariants as asked
-use Rattle.px_core_cell.specs.Cell.{Desk, SinkEnds}
+use Rattle.px_core_cell.specs.Cell.{Logged, SinkEnds}
 use Rattle.px_core_cell.specs.History.{sink_at, noticed_in, owes}
 use Rattle.px_core_cell.specs.Parcel.{spec_of}
 use Rattle.px_core_cell.specs.Plain.{plain_run, plain_notice, plain_body, run_for, notice_for, body_for, fault_for, steps_of}
 use Rattle.px_core_cell.proofs.Places.{elsewhere, there}
-use Rattle.px_core_cell.specs.Step.{is_own, waits, step_for, IsEntryFor, steps_done, noticed_done, IsEndAfter, DeskDoes, Does, DoesAt, Fetches, PostsMany, NoticeGives, OwnGives}
+use Rattle.px_core_cell.specs.Step.{is_own, waits, step_for, IsEntryFor, steps_done, noticed_done, IsEndAfter, LoggedDoes, Does, DoesAt, Fetches, PostsMany, NoticeGives, OwnGives}
 
 -- ---- plain forms mean what they were made of
 
@@ -175,26 +175,26 @@ handed sink n before after e f h = record {
 -- ---- all of it
 
 module _ {C : Type 0} (told : C → Option (List CoreEntry)) where
-  pub desk_rests : (before after : Desk C) → after.state ≡ before.state → told after.recorder ≡ told before.recorder → after.steps ≡ before.steps → after.owed ≡ before.owed → DeskDoes told None before after
-  desk_rests before after state same steps owed = record { state = state; told_new = same; steps = omega (arith, steps); owed = owed }
+  pub logged_rests : (before after : Logged C) → after.state ≡ before.state → told after.recorder ≡ told before.recorder → after.steps ≡ before.steps → after.owed ≡ before.owed → LoggedDoes told None before after
+  logged_rests before after state same steps owed = record { state = state; told_new = same; steps = omega (arith, steps); owed = owed }
 
-  pub desk_moves : (d : PlainStep) (before after : Desk C) → after.state ≡ stepped_by spec_of before.state (steps_of d) → told after.recorder ≡ noted (record { step = d }) (told before.recorder) → after.steps ≡ before.steps + 1 → after.owed ≡ owes before.owed d
-      → DeskDoes told (Some d) before after
-  desk_moves d before after state is steps owed = record { state = state; told_new = is; steps = steps; owed = owed }
+  pub logged_moves : (d : PlainStep) (before after : Logged C) → after.state ≡ stepped_by spec_of before.state (steps_of d) → told after.recorder ≡ noted (record { step = d }) (told before.recorder) → after.steps ≡ before.steps + 1 → after.owed ≡ owes before.owed d
+      → LoggedDoes told (Some d) before after
+  logged_moves d before after state is steps owed = record { state = state; told_new = is; steps = steps; owed = owed }
 
   -- no sink has a part in it
-  pub apart : (made : Option PlainStep) (before after : Desk C) (ends : List SinkEnds) → DeskDoes told made before after → ((index : ℕ) → Spared before.state index made) → Does told made (record { desk = before; ends = ends }) (record { desk = after; ends = ends })
-  apart made before after ends desk spared = record {
-    desk = desk;
+  pub apart : (made : Option PlainStep) (before after : Logged C) (ends : List SinkEnds) → LoggedDoes told made before after → ((index : ℕ) → Spared before.state index made) → Does told made (record { logged = before; ends = ends }) (record { logged = after; ends = ends })
+  apart made before after ends logged spared = record {
+    logged = logged;
     count = refl;
     ends = λ index e f was is. subst (λ x. IsEndAfter made before.state index e x) (same_Some e f (sym was ∙ is)) (stays before.state index made (spared index) e);
   }
 
   -- one has
-  pub at : (made : Option PlainStep) (place : ℕ) (before after : Desk C) (ends : List SinkEnds) (e f : SinkEnds) → slice_get ends place ≡ Some e → DoesAt told made place before after e f → ((index : ℕ) → (place ≡ index → ⊥) → Spared before.state index made)
-      → Does told made (record { desk = before; ends = ends }) (record { desk = after; ends = set ends place f })
+  pub at : (made : Option PlainStep) (place : ℕ) (before after : Logged C) (ends : List SinkEnds) (e f : SinkEnds) → slice_get ends place ≡ Some e → DoesAt told made place before after e f → ((index : ℕ) → (place ≡ index → ⊥) → Spared before.state index made)
+      → Does told made (record { logged = before; ends = ends }) (record { logged = after; ends = set ends place f })
   at made place before after ends e f here does spared = record {
-    desk = does.desk;
+    logged = does.logged;
     count = length-set ends place f;
     ends = λ index x y was is. by index x y was is (nat_eq place index) refl;
   }
@@ -214,7 +214,7 @@ module _ {C : Type 0} (told : C → Option (List CoreEntry)) where
       IfSome kept (λ n. (after ≡ stepped spec_of before (Step.notice (sink_at index) n)) × (effects ≡ effects_of spec_of before (Step.notice (sink_at index) n)))
 
   -- one that was fetched and collected
-  pub notice_done : (index : ℕ) (before after : Desk C) (e k f : SinkEnds) (n : Notice PlainStream) (effects : List Effect) → Fetches e k → k.kept ≡ Some n → f ≡ record k { kept = None }
+  pub notice_done : (index : ℕ) (before after : Logged C) (e k f : SinkEnds) (n : Notice PlainStream) (effects : List Effect) → Fetches e k → k.kept ≡ Some n → f ≡ record k { kept = None }
       → Collects index k.kept before.state after.state effects → told after.recorder ≡ noted (record { step = plain.Notice index (plain_notice n) }) (told before.recorder) → after.steps ≡ before.steps + 1 → after.owed ≡ true
       → after.fault ≡ before.fault → NoticeGives told index before after e f (Ok (Some effects))
   notice_done index before after e k f n effects fetch has is collects same steps owed fault =
@@ -222,7 +222,7 @@ module _ {C : Type 0} (told : C → Option (List CoreEntry)) where
       let back : Step.notice (sink_at index) n ≡ Step.notice (sink_at index) (notice_for (plain_notice n)) = ap (λ (m : Notice PlainStream). Step.notice (sink_at index) m) (sym (notice_back n)) in (
         n,
         record {
-          desk = desk_moves (plain.Notice index (plain_notice n)) before after (did.0 ∙ ap (λ (s : Step PlainStream). stepped spec_of before.state s) back) same steps owed;
+          logged = logged_moves (plain.Notice index (plain_notice n)) before after (did.0 ∙ ap (λ (s : Step PlainStream). stepped spec_of before.state s) back) same steps owed;
           end = collected before.state index e k f n fetch has is;
         },
         did.1 ∙ ap (λ (s : Step PlainStream). effects_of spec_of before.state s) back ∙ sym (one_effects before.state (Step.notice (sink_at index) (notice_for (plain_notice n)))),
@@ -230,13 +230,13 @@ module _ {C : Type 0} (told : C → Option (List CoreEntry)) where
       )
 
   -- a step that no sink has a part in
-  pub own_done : (step : CoreStep) (d : PlainStep) (before after : Desk C) (effects : List Effect) → is_own step ≡ true → IsEntryFor step d → after.state ≡ stepped spec_of before.state (step_for step)
+  pub own_done : (step : CoreStep) (d : PlainStep) (before after : Logged C) (effects : List Effect) → is_own step ≡ true → IsEntryFor step d → after.state ≡ stepped spec_of before.state (step_for step)
       → told after.recorder ≡ noted (record { step = d }) (told before.recorder) → after.steps ≡ before.steps + 1 → after.owed ≡ owes before.owed d → effects ≡ effects_of spec_of before.state (step_for step) → after.fault ≡ before.fault
       → OwnGives told step before after (Ok effects)
   own_done step d before after effects own is state same steps owed are fault = (
     d,
     is,
-    desk_moves d before after (state ∙ ap (λ (l : List (Step PlainStream)). stepped_by spec_of before.state l) (sym (own_steps step d own is))) same steps owed,
+    logged_moves d before after (state ∙ ap (λ (l : List (Step PlainStream)). stepped_by spec_of before.state l) (sym (own_steps step d own is))) same steps owed,
     are ∙ sym (one_effects before.state (step_for step)) ∙ ap (λ (l : List (Step PlainStream)). effects_by spec_of before.state l) (sym (own_steps step d own is)),
     fault,
   )

@@ -17,7 +17,7 @@ use Rattle.px_core_cell.specs.declared.step.CoreStep.TheVariants as asked
 use Rattle.px_core_cell.specs.declared.step.StepFault.{StepFault}
 use Rattle.px_core_cell.specs.declared.step.StepFault.TheVariants.{NoMemory, Worn, Recorder, Owed}
 use Rattle.px_core_cell.specs.Boxes.{Boxes, boxes_of}
-use Rattle.px_core_cell.specs.Cell.{Desk, Cell, SinkEnds, desk_of}
+use Rattle.px_core_cell.specs.Cell.{Logged, Cell, SinkEnds, logged_of}
 use Rattle.px_core_cell.specs.History.{IsSound}
 use Rattle.px_core_cell.specs.Plain.{plain_notice}
 use Rattle.px_core_cell.specs.Step.{HandsAll, Finishes, NoticeGives, OutGives, NowhereGives, FreeGives}
@@ -44,18 +44,18 @@ none_at seen ends place n count past e is =
     none-some e (sym (slice_get_past (map seen ends) place (omega (arith, count, past, length-map ends seen))) ∙ is)
 
 -- a sink whose ends are there is there itself
-pub is_there : {C : Type 0} (cell : Cell C) (sink : SinkId) (e : SinkEnds) → IsSound cell → sink.0 < length cell.ends → slice_get cell.ends sink.0 ≡ Some e → IsThere sink cell.desk.state e
+pub is_there : {C : Type 0} (cell : Cell C) (sink : SinkId) (e : SinkEnds) → IsSound cell → sink.0 < length cell.ends → slice_get cell.ends sink.0 ≡ Some e → IsThere sink cell.logged.state e
 is_there cell sink e h inside is =
-    let s = sink_there cell.desk.state.sinks sink.0 (subst (λ (n : ℕ). sink.0 < n) h.count inside) in
+    let s = sink_there cell.logged.state.sinks sink.0 (subst (λ (n : ℕ). sink.0 < n) h.count inside) in
     (s.0, s.1, h.heard sink.0 s.0 e s.1 is)
 
 module _ {C : Type 0} (told : C → Option (List CoreEntry)) where
-  abbrev cell : Desk C → List SinkEnds → Cell C
-  cell desk ends = record { desk = desk; ends = ends }
+  abbrev cell : Logged C → List SinkEnds → Cell C
+  cell logged ends = record { logged = logged; ends = ends }
 
   -- ---- its notice
 
-  pub notice_gives : (sink : SinkId) (before after : Desk C) (ends : List SinkEnds) (e f : SinkEnds) (result : Result (Option (List Effect)) StepFault) → slice_get ends sink.0 ≡ Some e → NoticeGives told sink.0 before after e f result
+  pub notice_gives : (sink : SinkId) (before after : Logged C) (ends : List SinkEnds) (e f : SinkEnds) (result : Result (Option (List Effect)) StepFault) → slice_get ends sink.0 ≡ Some e → NoticeGives told sink.0 before after e f result
       → FreeGives told (asked.Notice sink) (cell before ends) (cell after (set ends sink.0 f)) result
   notice_gives sink before after ends e f (Ok (Some effects)) here gives = record {
     entry = plain.Notice sink.0 (plain_notice gives.0);
@@ -79,10 +79,10 @@ module _ {C : Type 0} (told : C → Option (List CoreEntry)) where
   abbrev pub EffectsGive : SinkId → Cell C → Cell C → Result (List Effect) StepFault → Type 0
   EffectsGive sink before after result = MatchResult result (λ effects. FreeGives told (asked.Out sink) before after (Ok (Some effects))) (λ e. FreeGives told (asked.Out sink) before after (Err e))
 
-  handed_all : (sink : SinkId) (after : Desk C) (ends : List SinkEnds) (f : SinkEnds) → HandsAll sink after.state f → Finishes (asked.Out sink) (cell after (set ends sink.0 f))
+  handed_all : (sink : SinkId) (after : Logged C) (ends : List SinkEnds) (f : SinkEnds) → HandsAll sink after.state f → Finishes (asked.Out sink) (cell after (set ends sink.0 f))
   handed_all sink after ends f all x is = subst (λ (y : SinkEnds). HandsAll sink after.state y) (there ends sink.0 f x is) all
 
-  pub out_gives : (sink : SinkId) (before after : Desk C) (ends : List SinkEnds) (e f : SinkEnds) (result : Result (List Effect) StepFault) → slice_get ends sink.0 ≡ Some e → OutGives told sink before after e f result
+  pub out_gives : (sink : SinkId) (before after : Logged C) (ends : List SinkEnds) (e f : SinkEnds) (result : Result (List Effect) StepFault) → slice_get ends sink.0 ≡ Some e → OutGives told sink before after e f result
       → EffectsGive sink (cell before ends) (cell after (set ends sink.0 f)) result
   out_gives sink before after ends e f (Ok effects) here gives = record {
     entry = plain.Out sink.0 gives.0;
@@ -100,16 +100,16 @@ module _ {C : Type 0} (told : C → Option (List CoreEntry)) where
   -- ---- none, to a sink that isn't there
 
   pub nowhere_gives : {R : Ghosts C CoreEntry} (sink : SinkId) (state : State PlainStream) (before after : StepLog C R) (ends : List SinkEnds) (result : Result (List Effect) StepFault)
-      → ((e : SinkEnds) → slice_get ends sink.0 ≡ Some e → ⊥) → NowhereGives told sink.0 before after result → EffectsGive sink (cell (desk_of state before) ends) (cell (desk_of state after) ends) result
+      → ((e : SinkEnds) → slice_get ends sink.0 ≡ Some e → ⊥) → NowhereGives told sink.0 before after result → EffectsGive sink (cell (logged_of state before) ends) (cell (logged_of state after) ends) result
   nowhere_gives sink state before after ends (Ok effects) none gives = record {
     entry = plain.Out sink.0 0;
     entry_for = (0, refl);
-    does = apart told (Some (plain.Out sink.0 0)) (desk_of state before) (desk_of state after) ends (gives.0 state) (λ index. record { told = refl; noticed = refl });
+    does = apart told (Some (plain.Out sink.0 0)) (logged_of state before) (logged_of state after) ends (gives.0 state) (λ index. record { told = refl; noticed = refl });
     effects_are = gives.1;
     finishes = λ e is. absurd (none e is);
     fault = gives.2;
   }
   nowhere_gives sink state before after ends (Err NoMemory) none gives = absurd gives
   nowhere_gives sink state before after ends (Err Worn) none gives = gives
-  nowhere_gives sink state before after ends (Err (Recorder why)) none gives = (apart told None (desk_of state before) (desk_of state after) ends (gives.0 state) (λ index. nothing_spared state index), gives.1)
+  nowhere_gives sink state before after ends (Err (Recorder why)) none gives = (apart told None (logged_of state before) (logged_of state after) ends (gives.0 state) (λ index. nothing_spared state index), gives.1)
   nowhere_gives sink state before after ends (Err (Owed back)) none gives = gives

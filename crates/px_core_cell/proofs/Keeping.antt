@@ -83,39 +83,39 @@ module _ {C : Type 0} (told : C → Option (List CoreEntry)) (began : State Plai
   ends_before : (made : Option PlainStep) (before after : Cell C) → Does told made before after → (index : ℕ) (f : SinkEnds) → slice_get after.ends index ≡ Some f → slice_get before.ends index ≡ Some (get_or before.ends index f)
   ends_before made before after does index f is = slice_get-get_or before.ends index f (subst (λ (n : ℕ). index < n) does.count (slice_get_within after.ends index f is))
 
-  end_after : (made : Option PlainStep) (before after : Cell C) → Does told made before after → (index : ℕ) (f : SinkEnds) → slice_get after.ends index ≡ Some f → IsEndAfter made before.desk.state index (get_or before.ends index f) f
+  end_after : (made : Option PlainStep) (before after : Cell C) → Does told made before after → (index : ℕ) (f : SinkEnds) → slice_get after.ends index ≡ Some f → IsEndAfter made before.logged.state index (get_or before.ends index f) f
   end_after made before after does index f is = does.ends index (get_or before.ends index f) f (ends_before made before after does index f is) is
 
   sound_after : (made : Option PlainStep) (before after : Cell C) → AllByRecursion IsStep (steps_done made) → IsSound before → Does told made before after → IsSound after
   sound_after made before after fine h does =
-      let sinks : after.desk.state.sinks ≡ before.desk.state.sinks = ap (λ (s : State PlainStream). s.sinks) does.desk.state ∙ steps_sinks spec_of before.desk.state (steps_done made) in
+      let sinks : after.logged.state.sinks ≡ before.logged.state.sinks = ap (λ (s : State PlainStream). s.sinks) does.logged.state ∙ steps_sinks spec_of before.logged.state (steps_done made) in
       record {
-        core = subst (λ (s : State PlainStream). IsKept spec_of s) (sym does.desk.state) (steps_keep spec_of before.desk.state (steps_done made) fine h.core);
+        core = subst (λ (s : State PlainStream). IsKept spec_of s) (sym does.logged.state) (steps_keep spec_of before.logged.state (steps_done made) fine h.core);
         count = does.count ∙ h.count ∙ ap (λ (l : List SinkSpec). length l) (sym sinks);
         heard = λ index s f there is.
             let e : SinkEnds = get_or before.ends index f in
             let end = end_after made before after does index f is in
-            let was : slice_get before.desk.state.sinks index ≡ Some s = ap (λ (l : List SinkSpec). slice_get l index) (sym sinks) ∙ there in
-            let now = heard_on before.desk.state index s e (steps_done made) was fine h.core (h.heard index s e was (ends_before made before after does index f is)) in
+            let was : slice_get before.logged.state.sinks index ≡ Some s = ap (λ (l : List SinkSpec). slice_get l index) (sym sinks) ∙ there in
+            let now = heard_on before.logged.state index s e (steps_done made) was fine h.core (h.heard index s e was (ends_before made before after does index f is)) in
             record {
               key = end.key ∙ now.key;
               lawful = subst (λ (l : List (Msg PlainStream)). AreLawful spec_of (sample_spec s.spec) l) (sym end.posted) now.lawful;
-              inputs = ap (λ (x : State PlainStream). inputs_there x (sink_at index)) does.desk.state ∙ now.inputs ∙ ap (λ (l : List (Msg PlainStream)). inputs_after spec_of l) (sym end.posted);
+              inputs = ap (λ (x : State PlainStream). inputs_there x (sink_at index)) does.logged.state ∙ now.inputs ∙ ap (λ (l : List (Msg PlainStream)). inputs_after spec_of l) (sym end.posted);
             };
       }
 
   replay_after : (made : Option PlainStep) (before after : Cell C) (entries : List CoreEntry) → IsReplay began before entries → Does told made before after → IsReplay began after (entries ++ those made)
   replay_after made before after entries h does = record {
-    state = does.desk.state ∙ ap (λ (s : State PlainStream). stepped_by spec_of s (steps_done made)) h.state
+    state = does.logged.state ∙ ap (λ (s : State PlainStream). stepped_by spec_of s (steps_done made)) h.state
         ∙ sym (fold-append (stepped spec_of) began (steps_in entries) (steps_done made)) ∙ ap (λ (l : List (Step PlainStream)). stepped_by spec_of began l) (sym (all_steps entries made));
-    steps = omega (arith, does.desk.steps, h.steps, those_count made, length-append entries (those made));
-    owed = does.desk.owed ∙ ap (λ (b : Bool). owed_after made b) h.owed ∙ sym (those_owed made entries);
+    steps = omega (arith, does.logged.steps, h.steps, those_count made, length-append entries (those made));
+    owed = does.logged.owed ∙ ap (λ (b : Bool). owed_after made b) h.owed ∙ sym (those_owed made entries);
     told = λ index f is.
         let e : SinkEnds = get_or before.ends index f in
         let end = end_after made before after does index f is in
         let was = h.told index e (ends_before made before after does index f is) in
         record {
-          posted = end.posted ∙ ap (λ (l : List (Msg PlainStream)). l ++ told_by spec_of (sink_at index) before.desk.state (steps_done made)) was.posted
+          posted = end.posted ∙ ap (λ (l : List (Msg PlainStream)). l ++ told_by spec_of (sink_at index) before.logged.state (steps_done made)) was.posted
               ∙ ap (λ (s : State PlainStream). told_by spec_of (sink_at index) began (steps_in entries) ++ told_by spec_of (sink_at index) s (steps_done made)) h.state
               ∙ sym (told_joined spec_of (sink_at index) (steps_in entries) (steps_done made) began)
               ∙ ap (λ (l : List (Step PlainStream)). told_by spec_of (sink_at index) began l) (sym (all_steps entries made));
@@ -127,7 +127,7 @@ module _ {C : Type 0} (told : C → Option (List CoreEntry)) (began : State Plai
         };
   }
 
-  replays : (made : Option PlainStep) (before after : Cell C) → Does told made before after → (o : Option (List CoreEntry)) → told before.desk.recorder ≡ o → IfSome o (IsReplay began before) → IfSome (entered made o) (IsReplay began after)
+  replays : (made : Option PlainStep) (before after : Cell C) → Does told made before after → (o : Option (List CoreEntry)) → told before.logged.recorder ≡ o → IfSome o (IsReplay began before) → IfSome (entered made o) (IsReplay began after)
   replays None before after does None e h = tt
   replays None before after does (Some entries) e h = subst (λ (l : List CoreEntry). IsReplay began after l) (append-nil entries) (replay_after None before after entries h does)
   replays (Some d) before after does None e h = tt
@@ -136,7 +136,7 @@ module _ {C : Type 0} (told : C → Option (List CoreEntry)) (began : State Plai
   pub goes_on : (made : Option PlainStep) (before after : Cell C) → AllByRecursion IsStep (steps_done made) → IsCell told began before → Does told made before after → IsCell told began after
   goes_on made before after fine h does = record {
     sound = sound_after made before after fine h.sound does;
-    replay = subst (λ (o : Option (List CoreEntry)). IfSome o (IsReplay began after)) (sym does.desk.told_new) (replays made before after does (told before.desk.recorder) refl h.replay);
+    replay = subst (λ (o : Option (List CoreEntry)). IfSome o (IsReplay began after)) (sym does.logged.told_new) (replays made before after does (told before.logged.recorder) refl h.replay);
   }
 
   same : (before after : Cell C) → after ≡ before → IsCell told began before → IsCell told began after
@@ -157,13 +157,13 @@ module _ {C : Type 0} (told : C → Option (List CoreEntry)) (began : State Plai
   counted (Ok (Some effects)) = 1
   counted (Err fault) = 0
 
-  pub steps_after : (step : CoreStep) (before after : Cell C) (result : Result (Option (List Effect)) StepFault) → StepGives told step before after result → after.desk.steps ≡ before.desk.steps + counted result
-  steps_after step before after (Ok None) gives = omega (arith, ap (λ (c : Cell C). c.desk.steps) gives.1.1)
-  steps_after step before after (Ok (Some effects)) gives = gives.1.does.desk.steps
-  steps_after step before after (Err NoMemory) gives = gives.1.0.desk.steps
-  steps_after step before after (Err Worn) gives = omega (arith, ap (λ (c : Cell C). c.desk.steps) gives.2)
-  steps_after step before after (Err (Recorder why)) gives = gives.1.0.desk.steps
-  steps_after step before after (Err (Owed back)) gives = omega (arith, ap (λ (c : Cell C). c.desk.steps) gives.2)
+  pub steps_after : (step : CoreStep) (before after : Cell C) (result : Result (Option (List Effect)) StepFault) → StepGives told step before after result → after.logged.steps ≡ before.logged.steps + counted result
+  steps_after step before after (Ok None) gives = omega (arith, ap (λ (c : Cell C). c.logged.steps) gives.1.1)
+  steps_after step before after (Ok (Some effects)) gives = gives.1.does.logged.steps
+  steps_after step before after (Err NoMemory) gives = gives.1.0.logged.steps
+  steps_after step before after (Err Worn) gives = omega (arith, ap (λ (c : Cell C). c.logged.steps) gives.2)
+  steps_after step before after (Err (Recorder why)) gives = gives.1.0.logged.steps
+  steps_after step before after (Err (Owed back)) gives = omega (arith, ap (λ (c : Cell C). c.logged.steps) gives.2)
 
   pub counted_one : (o : Option (List Effect)) → is_some o ≡ true → counted (Ok o) ≡ 1
   counted_one None h = absurd (true≢false (sym h))

@@ -29,7 +29,7 @@ pub record Calls : Type 0 where
   pub found : List Bool
 
 -- the core, its recorder with the first fault of that, how many steps were done, and whether a sweep is owed
-pub record Desk (C : Type 0) : Type 0 where
+pub record Logged (C : Type 0) : Type 0 where
   pub state : State PlainStream
   pub recorder : C
   pub fault : Option RecordFault
@@ -38,7 +38,7 @@ pub record Desk (C : Type 0) : Type 0 where
 
 -- with its ends in the order of the sinks
 pub record Cell (C : Type 0) : Type 0 where
-  pub desk : Desk C
+  pub logged : Logged C
   pub ends : List SinkEnds
 
 abbrev pub ends_of : CoreEnd → SinkEnds
@@ -49,11 +49,11 @@ ends_of e = record {
   kept = e.kept;
 }
 
-abbrev pub desk_of : {C : Type 0} {R : Ghosts C CoreEntry} → State PlainStream → StepLog C R → Desk C
-desk_of state log = record { state = state; recorder = log.recorder; fault = log.fault; steps = log.steps; owed = log.owed }
+abbrev pub logged_of : {C : Type 0} {R : Ghosts C CoreEntry} → State PlainStream → StepLog C R → Logged C
+logged_of state log = record { state = state; recorder = log.recorder; fault = log.fault; steps = log.steps; owed = log.owed }
 
 abbrev pub cell_of : {C : Type 0} {R : Ghosts C CoreEntry} → CoreParts C R → Cell C
-cell_of p = record { desk = desk_of p.core.state p.log; ends = map ends_of p.ends.items }
+cell_of p = record { logged = logged_of p.core.state p.log; ends = map ends_of p.ends.items }
 
 abbrev pub calls_of : CoreEnd → Calls
 calls_of e = record { stored = stored_by e.post.pass; found = found_by e.take.pass }

@@ -75,10 +75,10 @@ pub record IsHeard (state : State PlainStream) (index : ℕ) (s : SinkSpec) (e :
 
 -- whether the recorder tells or not
 pub record IsSound {C : Type 0} (cell : Cell C) : Type 0 where
-  pub core : IsKept spec_of cell.desk.state
-  pub count : length cell.ends ≡ length cell.desk.state.sinks
-  pub heard : (index : ℕ) (s : SinkSpec) (e : SinkEnds) → slice_get cell.desk.state.sinks index ≡ Some s → slice_get cell.ends index ≡ Some e
-      → IsHeard cell.desk.state index s e
+  pub core : IsKept spec_of cell.logged.state
+  pub count : length cell.ends ≡ length cell.logged.state.sinks
+  pub heard : (index : ℕ) (s : SinkSpec) (e : SinkEnds) → slice_get cell.logged.state.sinks index ≡ Some s → slice_get cell.ends index ≡ Some e
+      → IsHeard cell.logged.state index s e
 
 -- a sink was posted what the entries hand out to it, in order, and was taken from it what they have of it, and then the notice that is kept
 pub record IsTold (began : State PlainStream) (entries : List CoreEntry) (index : ℕ) (e : SinkEnds) : Type 0 where
@@ -87,15 +87,15 @@ pub record IsTold (began : State PlainStream) (entries : List CoreEntry) (index 
 
 -- the core is the replay of its entries, one a step
 pub record IsReplay {C : Type 0} (began : State PlainStream) (cell : Cell C) (entries : List CoreEntry) : Type 0 where
-  pub state : cell.desk.state ≡ replayed began entries
-  pub steps : cell.desk.steps ≡ length entries
-  pub owed : cell.desk.owed ≡ owed_by entries
+  pub state : cell.logged.state ≡ replayed began entries
+  pub steps : cell.logged.steps ≡ length entries
+  pub owed : cell.logged.owed ≡ owed_by entries
   pub told : (index : ℕ) (e : SinkEnds) → slice_get cell.ends index ≡ Some e → IsTold began entries index e
 
 -- all of it: told gives the entries of a recorder that tells
 pub record IsCell {C : Type 0} (told : C → Option (List CoreEntry)) (began : State PlainStream) (cell : Cell C) : Type 0 where
   pub sound : IsSound cell
-  pub replay : IfSome (told cell.desk.recorder) (IsReplay began cell)
+  pub replay : IfSome (told cell.logged.recorder) (IsReplay began cell)
 
 -- ---- how one begins
 
@@ -117,4 +117,4 @@ pub record Begins (state : State PlainStream) (ends : List SinkEnds) : Type 0 wh
   pub ends_are : ends ≡ map fresh_ends header.sinks
 
 abbrev pub first_cell : {C : Type 0} → State PlainStream → C → List SinkEnds → Cell C
-first_cell state recorder ends = record { desk = record { state = state; recorder = recorder; fault = None; steps = 0; owed = false }; ends = ends }
+first_cell state recorder ends = record { logged = record { state = state; recorder = recorder; fault = None; steps = 0; owed = false }; ends = ends }

@@ -24,7 +24,7 @@ use Rattle.px_core_cell.specs.declared.step.CoreStep.TheVariants as asked
 use Rattle.px_core_cell.specs.declared.step.StepFault.{StepFault}
 use Rattle.px_core_cell.specs.declared.step.StepFault.TheVariants.{NoMemory, Worn, Recorder, Owed}
 use Rattle.px_core_cell.specs.declared.log.StepLog.{StepLog}
-use Rattle.px_core_cell.specs.Cell.{Desk, Cell, Calls, SinkEnds, desk_of}
+use Rattle.px_core_cell.specs.Cell.{Logged, Cell, Calls, SinkEnds, logged_of}
 use Rattle.px_core_cell.specs.History.{sink_at, noticed_in, owes}
 use Rattle.px_core_cell.specs.Parcel.{spec_of}
 use Rattle.px_core_cell.specs.Plain.{plain_notice, plain_body, steps_of}
@@ -103,7 +103,7 @@ pub record IsEndAfter (done : Option PlainStep) (state : State PlainStream) (ind
   pub kept : option_to_list e.kept ++ took ≡ noticed_done index done ++ option_to_list f.kept
 
 -- the core goes on by the step, its recorder notes it, and it is counted
-pub record DeskDoes {C : Type 0} (told : C → Option (List CoreEntry)) (done : Option PlainStep) (before after : Desk C) : Type 0 where
+pub record LoggedDoes {C : Type 0} (told : C → Option (List CoreEntry)) (done : Option PlainStep) (before after : Logged C) : Type 0 where
   pub state : after.state ≡ stepped_by spec_of before.state (steps_done done)
   pub told_new : told after.recorder ≡ entered done (told before.recorder)
   pub steps : after.steps ≡ before.steps + length (option_to_list done)
@@ -111,14 +111,14 @@ pub record DeskDoes {C : Type 0} (told : C → Option (List CoreEntry)) (done : 
 
 -- and so do the ends of each sink
 pub record Does {C : Type 0} (told : C → Option (List CoreEntry)) (done : Option PlainStep) (before after : Cell C) : Type 0 where
-  pub desk : DeskDoes told done before.desk after.desk
+  pub logged : LoggedDoes told done before.logged after.logged
   pub count : length after.ends ≡ length before.ends
   pub ends : (index : ℕ) (e f : SinkEnds) → slice_get before.ends index ≡ Some e → slice_get after.ends index ≡ Some f
-      → IsEndAfter done before.desk.state index e f
+      → IsEndAfter done before.logged.state index e f
 
 -- or those of the one sink that the step is of
-pub record DoesAt {C : Type 0} (told : C → Option (List CoreEntry)) (done : Option PlainStep) (index : ℕ) (before after : Desk C) (e f : SinkEnds) : Type 0 where
-  pub desk : DeskDoes told done before after
+pub record DoesAt {C : Type 0} (told : C → Option (List CoreEntry)) (done : Option PlainStep) (index : ℕ) (before after : Logged C) (e f : SinkEnds) : Type 0 where
+  pub logged : LoggedDoes told done before after
   pub end : IsEndAfter done before.state index e f
 
 -- ---- what is answered
@@ -133,7 +133,7 @@ Finishes (asked.Cut conn) after = ⊤
 Finishes asked.Sweep after = ⊤
 Finishes (asked.Notice sink) after = ⊤
 Finishes (asked.Out sink) after =
-    (e : SinkEnds) → slice_get after.ends sink.0 ≡ Some e → (waiting_for after.desk.state sink ≡ []) ⊎ Held 256 (IsHeldOf e.posted)
+    (e : SinkEnds) → slice_get after.ends sink.0 ≡ Some e → (waiting_for after.logged.state sink ≡ []) ⊎ Held 256 (IsHeldOf e.posted)
 
 -- no notice of the sink was kept
 abbrev pub Lacks : {C : Type 0} → CoreStep → Cell C → Type 0
@@ -151,31 +151,31 @@ pub record IsDone {C : Type 0} (told : C → Option (List CoreEntry)) (step : Co
   pub entry : PlainStep
   pub entry_for : IsEntryFor step entry
   pub does : Does told (Some entry) before after
-  pub effects_are : effects ≡ effects_by spec_of before.desk.state (steps_of entry)
+  pub effects_are : effects ≡ effects_by spec_of before.logged.state (steps_of entry)
   pub finishes : Finishes step after
-  pub fault : after.desk.fault ≡ before.desk.fault
+  pub fault : after.logged.fault ≡ before.logged.fault
 
 -- a step for which no sweep was owed, and that can be counted
 pub record IsFree {C : Type 0} (step : CoreStep) (before : Cell C) : Type 0 where
-  pub paid : before.desk.owed && waits step ≡ false
-  pub countable : before.desk.steps < 2 ^ 64 - 1
+  pub paid : before.logged.owed && waits step ≡ false
+  pub countable : before.logged.steps < 2 ^ 64 - 1
 
 -- what such a step answers
 abbrev pub FreeGives : {C : Type 0} → (C → Option (List CoreEntry)) → CoreStep → Cell C → Cell C → Result (Option (List Effect)) StepFault → Type 0
 FreeGives told step before after (Ok (Some effects)) = IsDone told step before after effects
 FreeGives told step before after (Ok None) = Lacks step before × (after ≡ before)
-FreeGives told step before after (Err NoMemory) = Does told None before after × (after.desk.fault ≡ before.desk.fault)
+FreeGives told step before after (Err NoMemory) = Does told None before after × (after.logged.fault ≡ before.logged.fault)
 FreeGives told step before after (Err Worn) = ⊥
-FreeGives told step before after (Err (Recorder why)) = Does told None before after × (after.desk.fault ≡ option_or before.desk.fault (Some why))
+FreeGives told step before after (Err (Recorder why)) = Does told None before after × (after.logged.fault ≡ option_or before.logged.fault (Some why))
 FreeGives told step before after (Err (Owed back)) = ⊥
 
 -- what any step answers
 abbrev pub StepGives : {C : Type 0} → (C → Option (List CoreEntry)) → CoreStep → Cell C → Cell C → Result (Option (List Effect)) StepFault → Type 0
 StepGives told step before after (Ok o) = IsFree step before × FreeGives told step before after (Ok o)
 StepGives told step before after (Err NoMemory) = IsFree step before × FreeGives told step before after (Err NoMemory)
-StepGives told step before after (Err Worn) = (before.desk.owed && waits step ≡ false) × (before.desk.steps ≡ 2 ^ 64 - 1) × (after ≡ before)
+StepGives told step before after (Err Worn) = (before.logged.owed && waits step ≡ false) × (before.logged.steps ≡ 2 ^ 64 - 1) × (after ≡ before)
 StepGives told step before after (Err (Recorder why)) = IsFree step before × FreeGives told step before after (Err (Recorder why))
-StepGives told step before after (Err (Owed back)) = (before.desk.owed && waits step ≡ true) × (back ≡ step) × (after ≡ before)
+StepGives told step before after (Err (Owed back)) = (before.logged.owed && waits step ≡ true) × (back ≡ step) × (after ≡ before)
 
 -- ---- where a step stops
 
@@ -241,16 +241,16 @@ step_for (asked.Notice sink) = Step.out sink
 step_for (asked.Out sink) = Step.out sink
 
 -- a step that no sink has a part in
-abbrev pub OwnGives : {C : Type 0} → (C → Option (List CoreEntry)) → CoreStep → Desk C → Desk C → Result (List Effect) StepFault → Type 0
+abbrev pub OwnGives : {C : Type 0} → (C → Option (List CoreEntry)) → CoreStep → Logged C → Logged C → Result (List Effect) StepFault → Type 0
 OwnGives told step before after (Ok effects) =
-    (d : PlainStep) × IsEntryFor step d × DeskDoes told (Some d) before after × (effects ≡ effects_by spec_of before.state (steps_of d)) × (after.fault ≡ before.fault)
-OwnGives told step before after (Err NoMemory) = DeskDoes told None before after × (after.fault ≡ before.fault)
+    (d : PlainStep) × IsEntryFor step d × LoggedDoes told (Some d) before after × (effects ≡ effects_by spec_of before.state (steps_of d)) × (after.fault ≡ before.fault)
+OwnGives told step before after (Err NoMemory) = LoggedDoes told None before after × (after.fault ≡ before.fault)
 OwnGives told step before after (Err Worn) = ⊥
-OwnGives told step before after (Err (Recorder why)) = DeskDoes told None before after × (after.fault ≡ option_or before.fault (Some why))
+OwnGives told step before after (Err (Recorder why)) = LoggedDoes told None before after × (after.fault ≡ option_or before.fault (Some why))
 OwnGives told step before after (Err (Owed back)) = ⊥
 
 -- a notice of the sink with an index
-abbrev pub NoticeGives : {C : Type 0} → (C → Option (List CoreEntry)) → ℕ → Desk C → Desk C → SinkEnds → SinkEnds → Result (Option (List Effect)) StepFault → Type 0
+abbrev pub NoticeGives : {C : Type 0} → (C → Option (List CoreEntry)) → ℕ → Logged C → Logged C → SinkEnds → SinkEnds → Result (Option (List Effect)) StepFault → Type 0
 NoticeGives told index before after e f (Ok (Some effects)) =
     (n : Notice PlainStream) × DoesAt told (Some (plain.Notice index (plain_notice n))) index before after e f
     × (effects ≡ effects_by spec_of before.state (steps_of (plain.Notice index (plain_notice n)))) × (after.fault ≡ before.fault)
@@ -296,7 +296,7 @@ pub record PostsMany (sink : SinkId) (count : ℕ) (before after : State PlainSt
   pub ends : f ≡ record e { posted = e.posted ++ told_by spec_of sink before (replicate count (Step.out sink)) }
 
 -- the messages of the sink with an index
-abbrev pub OutGives : {C : Type 0} → (C → Option (List CoreEntry)) → SinkId → Desk C → Desk C → SinkEnds → SinkEnds → Result (List Effect) StepFault → Type 0
+abbrev pub OutGives : {C : Type 0} → (C → Option (List CoreEntry)) → SinkId → Logged C → Logged C → SinkEnds → SinkEnds → Result (List Effect) StepFault → Type 0
 OutGives told sink before after e f (Ok effects) =
     (count : ℕ) × DoesAt told (Some (plain.Out sink.0 count)) sink.0 before after e f × HandsAll sink after.state f × (effects ≡ []) × (after.fault ≡ before.fault)
 OutGives told sink before after e f (Err NoMemory) = ⊥
@@ -307,9 +307,9 @@ OutGives told sink before after e f (Err (Owed back)) = ⊥
 -- no messages, to a sink that isn't there
 abbrev pub NowhereGives : {C : Type 0} {R : Ghosts C CoreEntry} → (C → Option (List CoreEntry)) → ℕ → StepLog C R → StepLog C R → Result (List Effect) StepFault → Type 0
 NowhereGives told index before after (Ok effects) =
-    ((state : State PlainStream) → DeskDoes told (Some (plain.Out index 0)) (desk_of state before) (desk_of state after)) × (effects ≡ []) × (after.fault ≡ before.fault)
+    ((state : State PlainStream) → LoggedDoes told (Some (plain.Out index 0)) (logged_of state before) (logged_of state after)) × (effects ≡ []) × (after.fault ≡ before.fault)
 NowhereGives told index before after (Err NoMemory) = ⊥
 NowhereGives told index before after (Err Worn) = ⊥
 NowhereGives told index before after (Err (Recorder why)) =
-    ((state : State PlainStream) → DeskDoes told None (desk_of state before) (desk_of state after)) × (after.fault ≡ option_or before.fault (Some why))
+    ((state : State PlainStream) → LoggedDoes told None (logged_of state before) (logged_of state after)) × (after.fault ≡ option_or before.fault (Some why))
 NowhereGives told index before after (Err (Owed back)) = ⊥

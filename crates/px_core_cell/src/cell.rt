@@ -80,7 +80,7 @@ impl<C: Recorder<CoreEntry>, L: Seats> Live<C, L> {
 
     // No seat counts more steps than were done.
     fn audit(&mut self, seat: &mut CoreSeat<L>)
-        ensures { (self.new ≡ self.old) × (seat.new ≡ seat.old) × (seat.old.steps ≤ self.old.desk.steps) }
+        ensures { (self.new ≡ self.old) × (seat.new ≡ seat.old) × (seat.old.steps ≤ self.old.logged.steps) }
     {
         self.book.audit(&mut seat.share);
     }

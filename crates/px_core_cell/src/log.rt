@@ -21,7 +21,7 @@ pub struct StepLog<C: Recorder<CoreEntry>> {
 }
 
 impl<C: Recorder<CoreEntry>> StepLog<C> {
-    /// The recorder takes room for an entry of so many bytes. Its first fault is kept.
+    /// The recorder takes room for an entry of `bytes` bytes. Its first fault is noted.
     pub(crate) fn ready(&mut self, bytes: usize) -> Result<(), StepFault>
         ensures takes { OnOk result (C.takes self.new.recorder bytes) }
         ensures told { C.told self.new.recorder ≡ C.told self.old.recorder }

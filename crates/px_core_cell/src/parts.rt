@@ -4,7 +4,7 @@ ghost use Rattle.std.specs.Prelude.{◌≡◌, ◌-◌, ◌^◌, ◌<◌, Some, 
 ghost use Rattle.px_header.specs.declared.header.SinkSpec.{SinkSpec};
 ghost use Rattle.px_core.specs.Keeps.{IsKept};
 ghost use Rattle.px_core_cell.specs.declared.step.CoreStep.TheVariants as asked;
-ghost use Rattle.px_core_cell.specs.Cell.{ends_of, desk_of, cell_of, calls_of, calls_in};
+ghost use Rattle.px_core_cell.specs.Cell.{ends_of, logged_of, cell_of, calls_of, calls_in};
 ghost use Rattle.px_core_cell.specs.History.{IsHeard, IsSound, first_cell};
 ghost use Rattle.px_core_cell.specs.Boxes.{boxes_of};
 ghost use Rattle.px_core_cell.specs.Cause.{Says, StepSays};
@@ -41,7 +41,7 @@ fn own_step<C: Recorder<CoreEntry>>(
     requires own { is_own step ≡ true }
     requires asked { IsAsked step }
     requires countable { log.old.steps < 2 ^ 64 - 1 }
-    ensures gives { OwnGives C.told step (desk_of core.old.state log.old) (desk_of core.new.state log.new) result }
+    ensures gives { OwnGives C.told step (logged_of core.old.state log.old) (logged_of core.new.state log.new) result }
     ensures said { Says C.limit C.told C.faults C.fulls result log.old.recorder log.new.recorder }
 {
     let owed = waits(&step);
@@ -68,7 +68,7 @@ fn notice_step<C: Recorder<CoreEntry>, R: Wait>(
     sink: SinkId,
 ) -> Result<Option<Effects>, StepFault>
     requires countable { log.old.steps < 2 ^ 64 - 1 }
-    ensures gives { NoticeGives C.told sink.0 (desk_of core.old.state log.old) (desk_of core.new.state log.new) (ends_of end.old) (ends_of end.new) result }
+    ensures gives { NoticeGives C.told sink.0 (logged_of core.old.state log.old) (logged_of core.new.state log.new) (ends_of end.old) (ends_of end.new) result }
     ensures stops { NoticeStops (calls_of end.old) (calls_of end.new) result }
     ensures said { StepSays C.limit C.told C.faults C.fulls result log.old.recorder log.new.recorder }
     ensures boxes { boxes_of end.new ≡ boxes_of end.old }
@@ -102,7 +102,7 @@ fn out_step<C: Recorder<CoreEntry>, R: Wait>(
     requires countable { log.old.steps < 2 ^ 64 - 1 }
     requires kept { IsKept spec_of core.old.state }
     requires heard { (s : SinkSpec) × (slice_get core.old.state.sinks sink.0 ≡ Some s) × IsHeard core.old.state sink.0 s (ends_of end.old) }
-    ensures gives { OutGives C.told sink (desk_of core.old.state log.old) (desk_of core.new.state log.new) (ends_of end.old) (ends_of end.new) result }
+    ensures gives { OutGives C.told sink (logged_of core.old.state log.old) (logged_of core.new.state log.new) (ends_of end.old) (ends_of end.new) result }
     ensures stops { OutStops sink core.new.state (calls_of end.old) (calls_of end.new) result }
     ensures said { Says C.limit C.told C.faults C.fulls result log.old.recorder log.new.recorder }
     ensures boxes { boxes_of end.new ≡ boxes_of end.old }

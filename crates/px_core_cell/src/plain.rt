@@ -63,7 +63,7 @@ pub(crate) fn plain_body(alloc: Global, body: &Body) -> Mem<PlainBody>
     }
 }
 
-/// What a sink tells, copied.
+/// The plain form of a sink's notice.
 pub(crate) fn plain_notice(alloc: Global, notice: &Notice<Carried>) -> Mem<PlainNotice>
     ensures { IfOk result (λ plain. plain ≡ plain_notice notice.now) }
 {

@@ -39,7 +39,7 @@ impl<C: Recorder<CoreEntry>> Model for CoreState<C> {
 }
 
 impl<C: Recorder<CoreEntry>> CoreState<C> {
-    /// A core before its first step, with a recorder that holds nothing where it tells, and mailboxes that have moved nothing, each inbox for its
+    /// A core before its first step, with a recorder that holds nothing where its content is visible, and mailboxes that have moved nothing, each inbox for its
     /// sink's sample spec. Takes no memory.
     pub fn new(core: CellCore, recorder: C, ends: CoreEnds) -> CoreState<C>
         requires begins { Begins core.state (map ends_of ends.items) }
@@ -63,8 +63,8 @@ impl<C: Recorder<CoreEntry>> CoreState<C> {
     ) -> Result<Option<Effects>, StepFault>
         requires asked { IsAsked step }
         ensures gives { StepGives C.told step self.old.cell self.new.cell result }
-        ensures stops { Stops step self.new.cell.desk.state self.old.calls self.new.calls result }
-        ensures said { StepSays C.limit C.told C.faults C.fulls result self.old.cell.desk.recorder self.new.cell.desk.recorder }
+        ensures stops { Stops step self.new.cell.logged.state self.old.calls self.new.calls result }
+        ensures said { StepSays C.limit C.told C.faults C.fulls result self.old.cell.logged.recorder self.new.cell.logged.recorder }
         ensures began { self.new.began ≡ self.old.began }
         ensures history { IsCell C.told self.new.began self.new.cell }
     {
@@ -73,7 +73,7 @@ impl<C: Recorder<CoreEntry>> CoreState<C> {
 
     /// How many steps were done. Takes no memory.
     pub fn steps(&self) -> u64
-        ensures { result ≡ self.now.cell.desk.steps }
+        ensures { result ≡ self.now.cell.logged.steps }
     {
         self.parts.log.steps
     }

@@ -137,7 +137,7 @@ impl InputTable {
         }
     }
 
-    /// Room for so many more. The inputs stay.
+    /// Room for `more` inputs. The inputs stay.
     pub fn reserve(&mut self, more: usize) -> Mem<()>
         ensures items { self.new.items ≡ self.old.items }
         ensures places { OnOk result (length self.new.items + more ≤ self.new.places) }
@@ -148,7 +148,7 @@ impl InputTable {
         Ok(())
     }
 
-    /// One more input, behind the others.
+    /// Appends an input.
     pub fn push(&mut self, input: Input)
         requires place { length self.old.items + 1 ≤ self.old.places }
         requires stream { 1 ≤ self.old.streams }

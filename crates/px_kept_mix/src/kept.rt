@@ -62,7 +62,7 @@ fn silence(values: &mut [i32], from: usize, to: usize)
     }
 }
 
-// Silences the places of each run behind the first so many. A run that is full isn't cleared.
+// Silences each run from place `given` on.
 fn silence_behind(values: &mut [i32], runs: usize, run: usize, given: usize)
     requires runs { length values.old ≡ run * runs }
     requires few { given ≤ run }
@@ -79,7 +79,7 @@ fn silence_behind(values: &mut [i32], runs: usize, run: usize, given: usize)
     }
 }
 
-// Moves the first so many values of each run together, so that as many runs of these stand at the front.
+// Moves the first `given` values of each run together: `runs` runs of `given` values stand at the front.
 fn close_up(values: &mut [i32], runs: usize, run: usize, given: usize)
     requires runs { length values.old ≡ run * runs }
     requires few { given ≤ run }
@@ -93,7 +93,7 @@ fn close_up(values: &mut [i32], runs: usize, run: usize, given: usize)
     }
 }
 
-// Makes runs of the first so many values of each run, and of nothing behind them, at the front, and answers how many places of a run are left.
+// Shortens each run to its first `given` values, and answers the length of a run then.
 // Runs that are nearly full are left as long as they are, since to silence the rest costs less there than to move what is given.
 fn shorten(values: &mut [i32], runs: usize, run: usize, given: usize) -> usize
     requires runs { length values.old ≡ run * runs }
@@ -113,8 +113,8 @@ fn shorten(values: &mut [i32], runs: usize, run: usize, given: usize) -> usize
     }
 }
 
-// Gives the work values of a stream's frames from one on, at most so many of each run, at the front, and answers how many there are of each. Silence
-// is 0, and so is nothing, which is all that the stream gives behind them.
+// Reads the work values of a stream's frames from `from` on, at most `run` for each sink channel, into runs at the front of `values`. Answers the
+// length of a run. Silence is 0, and past the runs the stream gives nothing but 0.
 fn read<T: Ledger>(
     stream: &Stream,
     from: u32,
@@ -202,7 +202,7 @@ fn put<T: Ledger>(
     cache.change(from, values, factors, add, steps);
 }
 
-// The same over the first places for values, of so many frames.
+// The same over the first places for values, of `frames` frames.
 fn change_over<T: Ledger>(
     cache: &mut MixCache,
     values: &mut [i32],
@@ -242,7 +242,7 @@ fn change_over<T: Ledger>(
 }
 
 impl KeptMix {
-    /// Sums of as many channels as a sink has, that hold no frames and may hold so many. Takes their room.
+    /// Sums for the channels of `sink`, with no frames yet and room for `depth` frames.
     pub fn new(alloc: Global, sink: &Spec, depth: u32) -> Mem<KeptMix>
         requires some { 1 ≤ sink.now.channels }
         requires few { sink.now.channels ≤ 32 }
@@ -259,7 +259,7 @@ impl KeptMix {
         })
     }
 
-    /// Gives up the first so many frames. Takes no memory.
+    /// Drops the first `frames` frames. Takes no memory.
     pub fn advance(&mut self, frames: u32)
         requires { frames ≤ self.old.frames }
         ensures depth { self.new.depth ≡ self.old.depth }
@@ -271,7 +271,7 @@ impl KeptMix {
         self.frames -= frames;
     }
 
-    /// Holds frames of nothing behind those that it holds, so that there are so many. Takes no memory.
+    /// Extends to `to` frames with silence. Takes no memory.
     pub fn extend(&mut self, to: u32)
         requires more { self.old.frames ≤ to }
         requires fits { to ≤ self.old.depth }

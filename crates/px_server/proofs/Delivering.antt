@@ -35,7 +35,7 @@ use Rattle.px_core_cell.specs.Cell.{SinkEnds, ends_of}
 use Rattle.px_core_cell.specs.History.{IsTold}
 use Rattle.px_core_cell.specs.Parcel.{seen_message, seen_notice}
 use Rattle.px_server.specs.Delivered.{IsFrontOf, plain_message, plain_notice, IsDelivered}
-use Rattle.px_workers.specs.declared.lone.Met.{Met}
+use Rattle.px_workers.specs.declared.sink_state.SinkFault.{SinkFault}
 use Rattle.px_workers.specs.Working.{Start, start_at, start_of, Unworked, IsHonest}
 use Rattle.px_server.specs.Parts.{starts_from, worked, HasPlayed, IsPart, AreTold}
 use Rattle.px_server.specs.Mailboxes.{boxes_in}
@@ -146,19 +146,19 @@ plays device sink taken kept posted left (Some entries) is = record { turns = is
 
 -- what is left of a cell, where there is no core
 pub closed_part : {D E : Type 0} (now : D → DeviceState) (told : E → Option (List LaneEntry)) (faults fulls : E → ℕ) (began : State PlainStream)
-    (sink : SinkId) (cell : Cell D E) (lane : Mixer D) (recorder : E) (device : D) (met : Met)
-    → IsCell now told cell → lane ≡ cell.lane → recorder ≡ cell.recorder → device ≡ lane.device → IsHonest now faults fulls cell met
-    → IsPart began None now told faults fulls (worked (start_at sink cell.lane.sink) met) (record { sink = sink; device = device; recorder = recorder })
-closed_part now told faults fulls began sink cell lane recorder device met kept same recorded out honest =
+    (sink : SinkId) (cell : Cell D E) (lane : Mixer D) (recorder : E) (device : D) (sink_fault : SinkFault)
+    → IsCell now told cell → lane ≡ cell.lane → recorder ≡ cell.recorder → device ≡ lane.device → IsHonest now faults fulls cell sink_fault
+    → IsPart began None now told faults fulls (worked (start_at sink cell.lane.sink) sink_fault) (record { sink = sink; device = device; recorder = recorder })
+closed_part now told faults fulls began sink cell lane recorder device sink_fault kept same recorded out honest =
     let from : device ≡ cell.lane.device = out ∙ ap (λ (l : Mixer _). l.device) same in
-    subst (λ (r : _). IsPart began None now told faults fulls (worked (start_at sink cell.lane.sink) met) (record { sink = sink; device = device; recorder = r })) (sym recorded)
-    (subst (λ (d : _). IsPart began None now told faults fulls (worked (start_at sink cell.lane.sink) met) (record { sink = sink; device = d; recorder = cell.recorder })) (sym from)
+    subst (λ (r : _). IsPart began None now told faults fulls (worked (start_at sink cell.lane.sink) sink_fault) (record { sink = sink; device = device; recorder = r })) (sym recorded)
+    (subst (λ (d : _). IsPart began None now told faults fulls (worked (start_at sink cell.lane.sink) sink_fault) (record { sink = sink; device = d; recorder = cell.recorder })) (sym from)
     (record {
       sink = refl;
       played = plays (now cell.lane.device) cell.lane.sink (messages_of (taken_by cell.ends.passes.take.pass)) cell.messages.messages (notices_of (posted_by cell.ends.passes.post.pass)) cell.notices.notices
           (told cell.recorder) kept.history;
       delivered = tt;
-      met = honest.met;
+      sink_fault = honest.sink_fault;
     }))
 
 -- the same for any core's entries
@@ -184,22 +184,22 @@ zero_suc : (n : ℕ) → zero ≡ suc n → ⊥
 zero_suc n same = omega (arith, same)
 
 -- each end is that of the sink with its place
-pub all_told : {D E : Type 0} (began : State PlainStream) (core : Option (List CoreEntry)) (k : ℕ) (lone : List (Unworked D E)) (ends : List CoreEnd) (sinks : List SinkSpec)
-    → map start_of lone ≡ starts_from k sinks → length lone ≡ length ends
+pub all_told : {D E : Type 0} (began : State PlainStream) (core : Option (List CoreEntry)) (k : ℕ) (idle : List (Unworked D E)) (ends : List CoreEnd) (sinks : List SinkSpec)
+    → map start_of idle ≡ starts_from k sinks → length idle ≡ length ends
     → ((i : ℕ) (e : SinkEnds) → slice_get (map ends_of ends) i ≡ Some e → IfSome core (λ entries. IsTold began entries (k + i) e))
-    → AreTold began core lone ends
+    → AreTold began core idle ends
 all_told began core k [] [] sinks starts count told = tt
 all_told began core k [] (end ∷ ends) sinks starts count told = absurd (zero_suc (length ends) count)
-all_told began core k (u ∷ lone) [] sinks starts count told = absurd (zero_suc (length lone) (sym count))
-all_told began core k (u ∷ lone) (end ∷ ends) [] starts count told = absurd (none_more starts) where
-  none_more : start_of u ∷ map start_of lone ≡ [] → ⊥
-  none_more same = zero_suc (length (map start_of lone)) (sym (ap length same))
-all_told began core k (u ∷ lone) (end ∷ ends) (s ∷ sinks) starts count told =
+all_told began core k (u ∷ idle) [] sinks starts count told = absurd (zero_suc (length idle) (sym count))
+all_told began core k (u ∷ idle) (end ∷ ends) [] starts count told = absurd (none_more starts) where
+  none_more : start_of u ∷ map start_of idle ≡ [] → ⊥
+  none_more same = zero_suc (length (map start_of idle)) (sym (ap length same))
+all_told began core k (u ∷ idle) (end ∷ ends) (s ∷ sinks) starts count told =
     let same : u.sink.0 ≡ k = ap first_index starts in
     let here : k + 0 ≡ u.sink.0 = omega (arith, same) in
     let next : (i : ℕ) → k + suc i ≡ (k + 1) + i = λ i. omega arith in (
       subst (λ (n : ℕ). IfSome core (λ entries. IsTold began entries n (ends_of end))) here (told 0 (ends_of end) refl),
-      all_told began core (k + 1) lone ends sinks (ap others starts) (ap less count)
+      all_told began core (k + 1) idle ends sinks (ap others starts) (ap less count)
           (λ i e is. subst (λ (n : ℕ). IfSome core (λ entries. IsTold began entries n e)) (next i) (told (suc i) e is)),
     )
 

@@ -40,14 +40,14 @@ replay_told began cell (Some entries) replay i e is =
 
 module _ {D R C : Type 0} (now : D → DeviceState) (told : R → Option (List LaneEntry)) (faults fulls : R → ℕ) (core_told : C → Option (List CoreEntry)) (core_faults core_fulls : C → ℕ) where
   -- a call whose workers were joined
-  pub run_ends : (began : State PlainStream) (lone : List (Unworked D R)) (before after : HostState D R C)
-      (stop : Stop) (fault : Option RecordFault) (met : Option Status) (answered : Status) (parts : List (LanePart D R)) (recorder : C)
-      → AreParts began (core_told recorder) now told faults fulls (map unworked lone) parts → met ≡ first_met (map unworked lone)
-      → IsCauseOf stop before after → IsCaused fault (core_faults recorder) (core_fulls recorder) → answered ≡ decided stop fault met
-      → Ends core_told core_faults core_fulls began now told faults fulls (map start_of lone) before after answered parts (Some recorder)
-  run_ends began lone before after stop fault met answered parts recorder all first cause caused is = record {
-    works = map unworked lone;
-    all = starts_unworked lone;
+  pub run_ends : (began : State PlainStream) (idle : List (Unworked D R)) (before after : HostState D R C)
+      (stop : Stop) (fault : Option RecordFault) (sink_fault : Option Status) (answered : Status) (parts : List (LanePart D R)) (recorder : C)
+      → AreParts began (core_told recorder) now told faults fulls (map unworked idle) parts → sink_fault ≡ first_met (map unworked idle)
+      → IsCauseOf stop before after → IsCaused fault (core_faults recorder) (core_fulls recorder) → answered ≡ decided stop fault sink_fault
+      → Ends core_told core_faults core_fulls began now told faults fulls (map start_of idle) before after answered parts (Some recorder)
+  run_ends began idle before after stop fault sink_fault answered parts recorder all first cause caused is = record {
+    works = map unworked idle;
+    all = starts_unworked idle;
     lanes = all;
     decided = record {
       stop = stop;
@@ -72,25 +72,25 @@ module _ {D R C : Type 0} (now : D → DeviceState) (told : R → Option (List L
   undecided_is before after stops.Host works cause = record { stop = stops.Host; cause = cause; fault = None; kept = refl; status = refl }
   undecided_is before after (stops.Unrecorded why) works cause = record { stop = stops.Memory; cause = tt; fault = None; kept = refl; status = refl }
 
-  pub unserved_is : (header : Header) (lone : List (Unworked D R)) (before after : HostState D R C) (stop : Stop) (answered : Status) (parts : List (LanePart D R)) (core : Option C)
-      → IsFrontOf (map start_of lone) (starts_of header.sinks) → IsLater before after → HasLent (length lone) 0 after → IsCauseOf stop before after
-      → answered ≡ undecided stop → ((began : State PlainStream) → AreParts began None now told faults fulls (map unworked lone) parts) → core ≡ None
+  pub unserved_is : (header : Header) (idle : List (Unworked D R)) (before after : HostState D R C) (stop : Stop) (answered : Status) (parts : List (LanePart D R)) (core : Option C)
+      → IsFrontOf (map start_of idle) (starts_of header.sinks) → IsLater before after → HasLent (length idle) 0 after → IsCauseOf stop before after
+      → answered ≡ undecided stop → ((began : State PlainStream) → AreParts began None now told faults fulls (map unworked idle) parts) → core ≡ None
       → IsServed core_told core_faults core_fulls now told faults fulls header before after answered parts core
-  unserved_is header lone before after stop answered parts core front later lent cause is all none =
-      let count : length parts ≡ length lone = parts_count (new_state header) None now told faults fulls (map unworked lone) parts (all (new_state header)) ∙ length-map lone unworked in
+  unserved_is header idle before after stop answered parts core front later lent cause is all none =
+      let count : length parts ≡ length idle = parts_count (new_state header) None now told faults fulls (map unworked idle) parts (all (new_state header)) ∙ length-map idle unworked in
       subst (λ (s : Status). IsServed core_told core_faults core_fulls now told faults fulls header before after s parts core) (sym is)
       (subst (λ (o : Option C). IsServed core_told core_faults core_fulls now told faults fulls header before after (undecided stop) parts o) (sym none)
       (record {
         later = later;
         lent = subst (λ (n : ℕ). HasLent n 0 after) (sym count) lent;
-        starts = map start_of lone;
+        starts = map start_of idle;
         front = front;
         all = λ some. absurd (none_there C some);
         ends = record {
-          works = map unworked lone;
-          all = starts_unworked lone;
+          works = map unworked idle;
+          all = starts_unworked idle;
           lanes = all (new_state header);
-          decided = undecided_is before after stop (map unworked lone) cause;
+          decided = undecided_is before after stop (map unworked idle) cause;
         };
         whole = λ fine. absurd (not_fine stop fine);
       })) where
@@ -100,21 +100,21 @@ module _ {D R C : Type 0} (now : D → DeviceState) (told : R → Option (List L
         not_fine stops.Host fine = search rules
         not_fine (stops.Unrecorded why) fine = search rules
 
-  pub served_is : (header : Header) (began : State PlainStream) (lone : List (Unworked D R)) (before after : HostState D R C) (answered : Status) (parts : List (LanePart D R)) (core : Option C)
-      → began ≡ new_state header → map start_of lone ≡ starts_of header.sinks → IsLater before after → HasLent (length lone) 1 after → IsSome core
-      → Ends core_told core_faults core_fulls began now told faults fulls (map start_of lone) before after answered parts core
+  pub served_is : (header : Header) (began : State PlainStream) (idle : List (Unworked D R)) (before after : HostState D R C) (answered : Status) (parts : List (LanePart D R)) (core : Option C)
+      → began ≡ new_state header → map start_of idle ≡ starts_of header.sinks → IsLater before after → HasLent (length idle) 1 after → IsSome core
+      → Ends core_told core_faults core_fulls began now told faults fulls (map start_of idle) before after answered parts core
       → IsServed core_told core_faults core_fulls now told faults fulls header before after answered parts core
-  served_is header began lone before after answered parts None is starts later lent some ends = absurd (none_there C some)
-  served_is header began lone before after answered parts (Some recorder) is starts later lent some ends =
-      let count : length parts ≡ length lone =
-      parts_count began (core_told recorder) now told faults fulls ends.works parts ends.lanes ∙ sym (length-map ends.works (λ w. Worked.start w)) ∙ ap length ends.all ∙ length-map lone start_of in
+  served_is header began idle before after answered parts None is starts later lent some ends = absurd (none_there C some)
+  served_is header began idle before after answered parts (Some recorder) is starts later lent some ends =
+      let count : length parts ≡ length idle =
+      parts_count began (core_told recorder) now told faults fulls ends.works parts ends.lanes ∙ sym (length-map ends.works (λ w. Worked.start w)) ∙ ap length ends.all ∙ length-map idle start_of in
       record {
         later = later;
         lent = subst (λ (n : ℕ). HasLent n 1 after) (sym count) lent;
-        starts = map start_of lone;
+        starts = map start_of idle;
         front = ([], starts_all starts);
         all = λ there. starts;
-        ends = subst (λ (b : State PlainStream). Ends core_told core_faults core_fulls b now told faults fulls (map start_of lone) before after answered parts (Some recorder)) is ends;
+        ends = subst (λ (b : State PlainStream). Ends core_told core_faults core_fulls b now told faults fulls (map start_of idle) before after answered parts (Some recorder)) is ends;
         whole = λ fine. some;
       } where
         starts_all : {xs ys : List Start} → xs ≡ ys → ys ≡ xs ++ []
@@ -145,14 +145,14 @@ starts_count index [] = refl
 starts_count index (s ∷ sinks) = ap suc (starts_count (index + 1) sinks)
 
 -- as many sinks as the header has, or fewer
-pub few_begin : {D R : Type 0} (sinks : List SinkSpec) (lone : List (Unworked D R)) → IsFrontOf (map start_of lone) (starts_of sinks) → length lone ≤ length sinks
-few_begin sinks lone (rest, all) =
-    let whole : length (starts_of sinks) ≡ length (map start_of lone ++ rest) = ap length all in
-    omega (arith, whole, length-append (map start_of lone) rest, length-map lone start_of, starts_count 0 sinks)
+pub few_begin : {D R : Type 0} (sinks : List SinkSpec) (idle : List (Unworked D R)) → IsFrontOf (map start_of idle) (starts_of sinks) → length idle ≤ length sinks
+few_begin sinks idle (rest, all) =
+    let whole : length (starts_of sinks) ≡ length (map start_of idle ++ rest) = ap length all in
+    omega (arith, whole, length-append (map start_of idle) rest, length-map idle start_of, starts_count 0 sinks)
 
 -- all of them
-pub front_all : {D R : Type 0} (sinks : List SinkSpec) (lone : List (Unworked D R)) → map start_of lone ≡ starts_of sinks → IsFrontOf (map start_of lone) (starts_of sinks)
-front_all sinks lone same = ([], sym same ∙ sym (append-nil (map start_of lone)))
+pub front_all : {D R : Type 0} (sinks : List SinkSpec) (idle : List (Unworked D R)) → map start_of idle ≡ starts_of sinks → IsFrontOf (map start_of idle) (starts_of sinks)
+front_all sinks idle same = ([], sym same ∙ sym (append-nil (map start_of idle)))
 
-pub front_none : {D R : Type 0} (sinks : List SinkSpec) (lone : List (Unworked D R)) → lone ≡ [] → IsFrontOf (map start_of lone) (starts_of sinks)
-front_none sinks lone none = subst (λ (l : List _). IsFrontOf (map start_of l) (starts_of sinks)) (sym none) (starts_of sinks, refl)
+pub front_none : {D R : Type 0} (sinks : List SinkSpec) (idle : List (Unworked D R)) → idle ≡ [] → IsFrontOf (map start_of idle) (starts_of sinks)
+front_none sinks idle none = subst (λ (l : List _). IsFrontOf (map start_of l) (starts_of sinks)) (sym none) (starts_of sinks, refl)

@@ -11,8 +11,8 @@ some_lent : (o : Option Lent) → IfSome o (λ l. (0 ≤ l.devices) × (0 ≤ l.
 some_lent None = tt
 some_lent (Some l) = (omega arith, omega arith, omega arith)
 
-pub lent_none : {D R C X : Type 0} (h : HostState D R C) (lone : List X) → lone ≡ [] → HasLent (length lone) 0 h
-lent_none h lone none = subst (λ (n : ℕ). HasLent n 0 h) (sym (ap length none)) (some_lent h.lent)
+pub lent_none : {D R C X : Type 0} (h : HostState D R C) (idle : List X) → idle ≡ [] → HasLent (length idle) 0 h
+lent_none h idle none = subst (λ (n : ℕ). HasLent n 0 h) (sym (ap length none)) (some_lent h.lent)
 
 -- what was lent with a recorder of the core was lent
 pub lent_less : {D R C : Type 0} (n : ℕ) (h : HostState D R C) → HasLent n 1 h → HasLent n 0 h

@@ -5,9 +5,9 @@ use Rattle.px_workers.specs.Working.{Unworked, mailboxes_of}
 use Rattle.px_server.specs.Mailboxes.{names_of, boxes_in}
 
 module _ {D E : Type 0} where
-  named : (lone : List (Unworked D E)) → map boxes_in lone ≡ map names_of (map mailboxes_of lone)
+  named : (idle : List (Unworked D E)) → map boxes_in idle ≡ map names_of (map mailboxes_of idle)
   named [] = refl
-  named (u ∷ lone) = ap (λ (l : List Boxes). boxes_in u ∷ l) (named lone)
+  named (u ∷ idle) = ap (λ (l : List Boxes). boxes_in u ∷ l) (named idle)
 
-  pub same_boxes : (lone before : List (Unworked D E)) → map mailboxes_of lone ≡ map mailboxes_of before → map boxes_in lone ≡ map boxes_in before
-  same_boxes lone before same = named lone ∙ ap (map names_of) same ∙ sym (named before)
+  pub same_boxes : (idle before : List (Unworked D E)) → map mailboxes_of idle ≡ map mailboxes_of before → map boxes_in idle ≡ map boxes_in before
+  same_boxes idle before same = named idle ∙ ap (map names_of) same ∙ sym (named before)

@@ -11,7 +11,7 @@ use Rattle.px_ends.specs.Device.{DeviceState}
 use Rattle.px_model.specs.Sink.{Sink}
 use Rattle.px_state.specs.State.{State}
 use Rattle.px_server.specs.declared.served.LanePart.{LanePart}
-use Rattle.px_server.specs.Causes.{status_of_met}
+use Rattle.px_server.specs.Causes.{status_of_fault}
 use Rattle.px_server.specs.Delivered.{IsDelivered}
 use Rattle.px_workers.specs.Working.{Start, start_of, Unworked}
 use Rattle.px_server.specs.Parts.{Worked, IsPart, AreParts, Adds, unworked}
@@ -21,7 +21,7 @@ module _ {D R : Type 0} (began : State PlainStream) (core : Option (List CoreEnt
   -- what is left of a sink without a core, and what the core's entries say of it
   pub part_told : (work : Worked) (part : LanePart D R) → IsPart began None now told faults fulls work part
       → IfSome core (λ entries. IfSome (told part.recorder) (IsDelivered began entries work.start.index work.start.sink)) → IsPart began core now told faults fulls work part
-  part_told work part p delivered = record { sink = p.sink; played = p.played; delivered = delivered; met = p.met }
+  part_told work part p delivered = record { sink = p.sink; played = p.played; delivered = delivered; sink_fault = p.sink_fault }
 
   -- one more
   pub parts_more : (works : List Worked) (parts : List (LanePart D R)) (work : Worked) (part : LanePart D R)
@@ -73,11 +73,11 @@ or_or (Some a) b c = refl
 
 -- what was met so far, and then what the others met
 pub met_one : {D E : Type 0} (first then : Option Status) (left rest all : List (Unworked D E)) (one : Unworked D E)
-    → left ≡ one ∷ rest → then ≡ option_or first (status_of_met one.met) → option_or first (first_met (map unworked left)) ≡ first_met (map unworked all)
+    → left ≡ one ∷ rest → then ≡ option_or first (status_of_fault one.sink_fault) → option_or first (first_met (map unworked left)) ≡ first_met (map unworked all)
     → option_or then (first_met (map unworked rest)) ≡ first_met (map unworked all)
 met_one first then left rest all one front or so =
     ap (λ (o : Option Status). option_or o (first_met (map unworked rest))) or
-    ∙ or_or first (status_of_met one.met) (first_met (map unworked rest))
+    ∙ or_or first (status_of_fault one.sink_fault) (first_met (map unworked rest))
     ∙ ap (λ (l : List _). option_or first (first_met (map unworked l))) (sym front)
     ∙ so
 
@@ -92,6 +92,6 @@ adds_none f before after more same = ([], (more, refl), ap (map f) same ∙ sym 
 abbrev pub begun : SinkId → Sink → Start
 begun index sink = record { index = index; sink = sink }
 
-pub starts_unworked : {D E : Type 0} (lone : List (Unworked D E)) → map (λ w. Worked.start w) (map unworked lone) ≡ map start_of lone
+pub starts_unworked : {D E : Type 0} (idle : List (Unworked D E)) → map (λ w. Worked.start w) (map unworked idle) ≡ map start_of idle
 starts_unworked [] = refl
-starts_unworked (l ∷ lone) = ap (λ (all : List Start). start_of l ∷ all) (starts_unworked lone)
+starts_unworked (l ∷ idle) = ap (λ (all : List Start). start_of l ∷ all) (starts_unworked idle)

@@ -45,8 +45,8 @@ abbrev AreOn : List Bool → Type 0
 AreOn ons = AllByRecursion (λ on. on ≡ true) ons
 
 -- sinks keep theirs where they did before
-pub taping_since : {D E : Type 0} (lone last : List (Unworked D E)) → map tapes_in last ≡ map tapes_in lone → AreTaping lone → AreTaping last
-taping_since lone last same all = subst AreOn (sym same) all
+pub taping_since : {D E : Type 0} (idle last : List (Unworked D E)) → map tapes_in last ≡ map tapes_in idle → AreTaping idle → AreTaping last
+taping_since idle last same all = subst AreOn (sym same) all
 
 pub taping_first : {D E : Type 0} (left rest : List (Unworked D E)) (one : Unworked D E) → left ≡ one ∷ rest → AreTaping left → (is_some one.turns ≡ true) × AreTaping rest
 taping_first left rest one front all = subst AreTaping front all
@@ -74,15 +74,15 @@ total_more [] t = omega arith
 total_more (u ∷ turns) t = let rest = total_more turns t in omega (arith, rest)
 
 -- only what no link comes to any more is fine
-fine_over : (stop : Stop) (fault : Option RecordFault) (met : Option Status) → decided stop fault met ≡ status.Ok → stop ≡ stops.Over
-fine_over stops.Over fault met fine = refl
-fine_over stops.Memory fault met fine = absurd (never fine) where
+fine_over : (stop : Stop) (fault : Option RecordFault) (sink_fault : Option Status) → decided stop fault sink_fault ≡ status.Ok → stop ≡ stops.Over
+fine_over stops.Over fault sink_fault fine = refl
+fine_over stops.Memory fault sink_fault fine = absurd (never fine) where
   never : status.Memory ≡ status.Ok → ⊥
   never is = search rules
-fine_over stops.Host fault met fine = absurd (never fine) where
+fine_over stops.Host fault sink_fault fine = absurd (never fine) where
   never : status.Host ≡ status.Ok → ⊥
   never is = search rules
-fine_over (stops.Unrecorded why) fault met fine = absurd (never fault fine) where
+fine_over (stops.Unrecorded why) fault sink_fault fine = absurd (never fault fine) where
   never : (fault : Option RecordFault) → recorded fault ≡ status.Ok → ⊥
   never None is = search rules
   never (Some record_fault.NoMemory) is = search rules
@@ -134,22 +134,22 @@ module _ {D R : Type 0} (told : R → Option (List LaneEntry)) where
   counts parts count None are woven = tt
   counts parts count (Some events) are woven = subst (AreCounted told parts) (sym woven) are
 
-  pub tape_is : (taped : Bool) (lone : List (Unworked D R)) (turns : List Turns) (parts : List (LanePart D R)) (tape : Option (List Event))
-      (stop : Stop) (fault : Option RecordFault) (met : Option Status) (answered : Status)
-      → (taped ≡ true → AreTaping lone) → (AreTaping lone → AreCounted told parts (total turns))
-      → (taped ≡ false → tape ≡ None) → IfSome tape (λ events. turns_in events ≡ total turns) → (taped ≡ true → stop ≡ stops.Over → IsSome tape) → answered ≡ decided stop fault met
+  pub tape_is : (taped : Bool) (idle : List (Unworked D R)) (turns : List Turns) (parts : List (LanePart D R)) (tape : Option (List Event))
+      (stop : Stop) (fault : Option RecordFault) (sink_fault : Option Status) (answered : Status)
+      → (taped ≡ true → AreTaping idle) → (AreTaping idle → AreCounted told parts (total turns))
+      → (taped ≡ false → tape ≡ None) → IfSome tape (λ events. turns_in events ≡ total turns) → (taped ≡ true → stop ≡ stops.Over → IsSome tape) → answered ≡ decided stop fault sink_fault
       → HasTape told taped answered parts tape
-  tape_is false lone turns parts tape stop fault met answered taping counted none woven whole is = record {
+  tape_is false idle turns parts tape stop fault sink_fault answered taping counted none woven whole is = record {
     none = none;
     turns = subst (λ (o : Option (List Event)). IfSome o (λ events. AreCounted told parts (turns_in events))) (sym (none refl)) tt;
     whole = λ on. absurd (off on);
   } where
     off : false ≡ true → ⊥
     off is = search rules
-  tape_is true lone turns parts tape stop fault met answered taping counted none woven whole is = record {
+  tape_is true idle turns parts tape stop fault sink_fault answered taping counted none woven whole is = record {
     none = none;
     turns = counts parts (total turns) tape (counted (taping refl)) woven;
-    whole = λ on fine. whole on (fine_over stop fault met (sym is ∙ fine));
+    whole = λ on fine. whole on (fine_over stop fault sink_fault (sym is ∙ fine));
   }
 
 -- a call that stops for want of memory where nothing else has stopped it

@@ -6,18 +6,18 @@ use Rattle.px_annals.specs.declared.recorder.RecordFault.{RecordFault}
 use Rattle.px_annals.specs.declared.recorder.RecordFault.TheVariants as record_fault
 use Rattle.px_workers.specs.declared.stop.Stop.{Stop}
 use Rattle.px_workers.specs.declared.stop.Stop.TheVariants as stop
-use Rattle.px_workers.specs.declared.lone.Met.{Met}
-use Rattle.px_workers.specs.declared.lone.Met.TheVariants as met
+use Rattle.px_workers.specs.declared.sink_state.SinkFault.{SinkFault}
+use Rattle.px_workers.specs.declared.sink_state.SinkFault.TheVariants as sink_fault
 
 abbrev pub status_of_record : RecordFault → Status
 status_of_record record_fault.NoMemory = status.Memory
 status_of_record (record_fault.Full entries bytes) = status.HistoryFull
 status_of_record record_fault.Failed = status.Host
 
-abbrev pub status_of_met : Met → Option Status
-status_of_met met.Nothing = None
-status_of_met met.Stopped = Some status.Device
-status_of_met (met.Unrecorded fault) = Some (status_of_record fault)
+abbrev pub status_of_fault : SinkFault → Option Status
+status_of_fault sink_fault.Nothing = None
+status_of_fault sink_fault.Stopped = Some status.Device
+status_of_fault (sink_fault.Unrecorded fault) = Some (status_of_record fault)
 
 -- what the workers met decides where nothing else did
 abbrev pub met_or_fine : Option Status → Status
@@ -26,8 +26,8 @@ met_or_fine (Some answered) = answered
 
 -- the fault that the core's recorder had first, and then what the sinks' workers met
 abbrev pub recorded_or_met : Option RecordFault → Option Status → Status
-recorded_or_met (Some fault) met = status_of_record fault
-recorded_or_met None met = met_or_fine met
+recorded_or_met (Some fault) sink_fault = status_of_record fault
+recorded_or_met None sink_fault = met_or_fine sink_fault
 
 -- a core whose recorder isn't ready keeps that fault
 abbrev pub recorded : Option RecordFault → Status
@@ -36,10 +36,10 @@ recorded None = status.Memory
 
 -- what made the call itself stop comes first
 abbrev pub decided : Stop → Option RecordFault → Option Status → Status
-decided stop.Over fault met = recorded_or_met fault met
-decided stop.Memory fault met = status.Memory
-decided stop.Host fault met = status.Host
-decided (stop.Unrecorded why) fault met = recorded fault
+decided stop.Over fault sink_fault = recorded_or_met fault sink_fault
+decided stop.Memory fault sink_fault = status.Memory
+decided stop.Host fault sink_fault = status.Host
+decided (stop.Unrecorded why) fault sink_fault = recorded fault
 
 -- the status of a call that has made no core
 abbrev pub undecided : Stop → Status

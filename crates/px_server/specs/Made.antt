@@ -21,17 +21,17 @@ module _ {D E : Type 0} (taped : Bool) where
 
   -- those for all entries, in order, where the first has this index
   abbrev pub AreMade : ℕ → List SinkSpec → List (Unworked D E) → List CoreEnd → Type 0
-  AreMade index [] lone ends = (lone ≡ []) × (ends ≡ [])
+  AreMade index [] idle ends = (idle ≡ []) × (ends ≡ [])
   AreMade index (s ∷ sinks) [] ends = ⊥
-  AreMade index (s ∷ sinks) (one ∷ lone) [] = ⊥
-  AreMade index (s ∷ sinks) (one ∷ lone) (end ∷ ends) = IsMade (record { 0 = index }) s one end × AreMade (index + 1) sinks lone ends
+  AreMade index (s ∷ sinks) (one ∷ idle) [] = ⊥
+  AreMade index (s ∷ sinks) (one ∷ idle) (end ∷ ends) = IsMade (record { 0 = index }) s one end × AreMade (index + 1) sinks idle ends
 
   -- one came behind those that were there
   abbrev pub AddsOne : SinkId → SinkSpec → List (Unworked D E) → List CoreEnd → List (Unworked D E) → List CoreEnd → Type 0
-  AddsOne index sink lone ends more more_ends =
-      (one : Unworked D E) × (end : CoreEnd) × IsMade index sink one end × (more ≡ lone ++ one ∷ []) × (more_ends ≡ ends ++ end ∷ [])
+  AddsOne index sink idle ends more more_ends =
+      (one : Unworked D E) × (end : CoreEnd) × IsMade index sink one end × (more ≡ idle ++ one ∷ []) × (more_ends ≡ ends ++ end ∷ [])
 
   -- those for all entries did
   abbrev pub AddsAll : ℕ → List SinkSpec → List (Unworked D E) → List CoreEnd → List (Unworked D E) → List CoreEnd → Type 0
-  AddsAll index sinks lone ends more more_ends =
-      (ones : List (Unworked D E)) × (theirs : List CoreEnd) × AreMade index sinks ones theirs × (more ≡ lone ++ ones) × (more_ends ≡ ends ++ theirs)
+  AddsAll index sinks idle ends more more_ends =
+      (ones : List (Unworked D E)) × (theirs : List CoreEnd) × AreMade index sinks ones theirs × (more ≡ idle ++ ones) × (more_ends ≡ ends ++ theirs)

@@ -19,8 +19,8 @@ use Rattle.px_core_cell.specs.History.{IsTold}
 use Rattle.px_lane_cell.specs.Meaning.{history_meant}
 use Rattle.px_lane_cell.specs.History.{left_at_stop, ArePlayed}
 use Rattle.px_server.specs.declared.served.LanePart.{LanePart}
-use Rattle.px_workers.specs.declared.lone.Met.{Met}
-use Rattle.px_workers.specs.Working.{Start, start_of, IsMet, Unworked}
+use Rattle.px_workers.specs.declared.sink_state.SinkFault.{SinkFault}
+use Rattle.px_workers.specs.Working.{Start, start_of, IsFaultOf, Unworked}
 pub use Rattle.px_server.specs.Delivered.{IsFrontOf}
 use Rattle.px_server.specs.Delivered.{IsDelivered}
 
@@ -48,14 +48,14 @@ pub record HasPlayed (start : Sink) (device : DeviceState) (entries : List LaneE
 -- a sink's work: how it began, and what its worker met
 pub record Worked : Type 0 where
   pub start : Start
-  pub met : Met
+  pub sink_fault : SinkFault
 
-abbrev pub worked : Start → Met → Worked
-worked start met = record { start = start; met = met }
+abbrev pub worked : Start → SinkFault → Worked
+worked start sink_fault = record { start = start; sink_fault = sink_fault }
 
 -- that of a sink that no worker has any more
 abbrev pub unworked : {D E : Type 0} → Unworked D E → Worked
-unworked u = worked (start_of u) u.met
+unworked u = worked (start_of u) u.sink_fault
 
 -- what the core's recorder tells, where there is one
 abbrev pub told_there : {C : Type 0} → (C → Option (List CoreEntry)) → Option C → Option (List CoreEntry)
@@ -69,7 +69,7 @@ module _ {D R : Type 0} (began : State PlainStream) (core : Option (List CoreEnt
     pub sink : part.sink ≡ work.start.index
     pub played : IfSome (told part.recorder) (HasPlayed work.start.sink (now part.device))
     pub delivered : IfSome core (λ entries. IfSome (told part.recorder) (IsDelivered began entries work.start.index work.start.sink))
-    pub met : IsMet (now part.device).faults (faults part.recorder) (fulls part.recorder) work.met
+    pub sink_fault : IsFaultOf (now part.device).faults (faults part.recorder) (fulls part.recorder) work.sink_fault
 
   -- what is left of sinks, in their order
   abbrev pub AreParts : List Worked → List (LanePart D R) → Type 0
@@ -86,5 +86,5 @@ Adds before more after = (added : List _) × IsFrontOf added more × (after ≡ 
 abbrev pub AreTold : {D E : Type 0} → State PlainStream → Option (List CoreEntry) → List (Unworked D E) → List CoreEnd → Type 0
 AreTold began core [] [] = ⊤
 AreTold began core [] (end ∷ ends) = ⊥
-AreTold began core (u ∷ lone) [] = ⊥
-AreTold began core (u ∷ lone) (end ∷ ends) = IfSome core (λ entries. IsTold began entries u.sink.0 (ends_of end)) × AreTold began core lone ends
+AreTold began core (u ∷ idle) [] = ⊥
+AreTold began core (u ∷ idle) (end ∷ ends) = IfSome core (λ entries. IsTold began entries u.sink.0 (ends_of end)) × AreTold began core idle ends

@@ -16,14 +16,14 @@ use Rattle.px_server.specs.declared.served.LanePart.{LanePart}
 use Rattle.px_workers.specs.declared.stop.Stop.{Stop}
 use Rattle.px_workers.specs.Hosted.{IsLater, IsCauseOf}
 use Rattle.px_server.specs.Hosted.{HasLent}
-use Rattle.px_server.specs.Causes.{status_of_met, decided}
+use Rattle.px_server.specs.Causes.{status_of_fault, decided}
 use Rattle.px_workers.specs.Working.{Start}
 use Rattle.px_server.specs.Parts.{Worked, starts_of, told_there, AreParts, IsFrontOf}
 
 -- the status of the first sink whose worker met something, in the order of the sinks
 abbrev pub first_met : List Worked → Option Status
 first_met [] = None
-first_met (work ∷ works) = option_or (status_of_met work.met) (first_met works)
+first_met (work ∷ works) = option_or (status_of_fault work.sink_fault) (first_met works)
 
 -- how many recorders of the core there are
 abbrev pub cores_in : {C : Type 0} → Option C → ℕ

@@ -11,7 +11,7 @@ use Rattle.px_tape.specs.Tape.{turns_in}
 
 -- all sinks keep their turns for a tape
 abbrev pub AreTaping : {D E : Type 0} → List (Unworked D E) → Type 0
-AreTaping lone = AllByRecursion (λ on. on ≡ true) (map tapes_in lone)
+AreTaping idle = AllByRecursion (λ on. on ≡ true) (map tapes_in idle)
 
 -- one more list, and how many entries all have
 abbrev pub added : Option (List LaneEntry) → Option ℕ → Option ℕ

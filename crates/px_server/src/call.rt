@@ -25,10 +25,10 @@ use px_core::Core;
 use px_ends::{Host, Outlet};
 use px_header::Header;
 use px_pool::Pool;
-use px_shared::{Desk, DeskHandle};
+use px_shared::{CoreHandle, Shared};
 use px_tape::SinkTurns;
 use px_types::{Mem, NoMemory};
-use px_workers::{Gate, Lone, Stop};
+use px_workers::{Gate, SinkState, Stop};
 use std::alloc::Global;
 use std::collections::VecDeque;
 use std::marker::Brand;
@@ -45,7 +45,7 @@ const SPARE_BLOCKS: usize = 1_024;
 // What the host makes before the core is there, with the core's ends of the sinks' mailboxes, and room for the sinks' turns.
 #[derive(Drop)]
 struct Made<H: Host> {
-    lone: VecDeque<Lone<H::D, H::R>>,
+    idle: VecDeque<SinkState<H::D, H::R>>,
     ends: CoreEnds,
     recorder: H::C,
     turns: Vec<SinkTurns>,
@@ -54,17 +54,17 @@ struct Made<H: Host> {
 // A serving call that has made no core.
 fn unserved<H: Host>(
     mut lanes: Vec<LanePart<H::D, H::R>>,
-    mut lone: VecDeque<Lone<H::D, H::R>>,
+    mut idle: VecDeque<SinkState<H::D, H::R>>,
     stop: Stop,
 ) -> Served<H>
     requires none { lanes.items ≡ [] }
-    requires room { length lone.items ≤ vec_capacity lanes }
+    requires room { length idle.items ≤ vec_capacity lanes }
     ensures status { result.status ≡ undecided stop }
-    ensures lanes { (began : State PlainStream) → AreParts began None H.D.now H.R.told H.R.faults H.R.fulls (map unworked lone.items) result.lanes.items }
+    ensures lanes { (began : State PlainStream) → AreParts began None H.D.now H.R.told H.R.faults H.R.fulls (map unworked idle.items) result.lanes.items }
     ensures core { result.core ≡ None }
     ensures tape { result.tape ≡ None }
 {
-    hand_back(&mut lone, &mut lanes);
+    hand_back(&mut idle, &mut lanes);
     Served {
         status: undecided(stop),
         lanes,
@@ -73,7 +73,7 @@ fn unserved<H: Host>(
     }
 }
 
-// Room for what is left of so many sinks, and for their turns.
+// Room for what is left of `count` sinks, and for their turns.
 fn make_room<D: Drop, E: Drop>(
     count: usize,
     lanes: &mut Vec<LanePart<D, E>>,
@@ -94,20 +94,20 @@ fn make_outside<H: Host>(
     taped: bool,
     header: &Header,
     host: &mut H,
-    lone: &mut VecDeque<Lone<H::D, H::R>>,
+    idle: &mut VecDeque<SinkState<H::D, H::R>>,
     ends: &mut CoreEnds,
 ) -> Result<H::C, Stop>
     requires header { IsHeader header.now }
-    requires none { (lone.old.items ≡ []) × (ends.old.items ≡ []) }
+    requires none { (idle.old.items ≡ []) × (ends.old.items ≡ []) }
     ensures later { IsLater (H.now host.old) (H.now host.new) }
-    ensures lent { HasLent (length lone.new.items) 0 (H.now host.new) }
-    ensures core_lent { OnOk result (HasLent (length lone.new.items) 1 (H.now host.new)) }
+    ensures lent { HasLent (length idle.new.items) 0 (H.now host.new) }
+    ensures core_lent { OnOk result (HasLent (length idle.new.items) 1 (H.now host.new)) }
     ensures cause { IfErr result (λ stop. IsCauseOf stop (H.now host.old) (H.now host.new)) }
-    ensures made { OnOk result (AreMade taped 0 header.now.sinks lone.new.items ends.new.items) }
-    ensures front { IsFrontOf (map start_of lone.new.items) (starts_of header.now.sinks) }
+    ensures made { OnOk result (AreMade taped 0 header.now.sinks idle.new.items ends.new.items) }
+    ensures front { IsFrontOf (map start_of idle.new.items) (starts_of header.now.sinks) }
     ensures none { IfOk result (λ recorder. IfSome (H.C.told recorder) (λ entries. entries ≡ [])) }
 {
-    make_all(alloc, taped, header, host, lone, ends)?;
+    make_all(alloc, taped, header, host, idle, ends)?;
     match host.core_recorder(alloc) {
         Ok(recorder) => Ok(recorder),
         Err(fault) => Err(stop_by(fault)),
@@ -155,7 +155,7 @@ fn handle_of<R, C, L, O>(
     ends: CoreEnds,
     taped: bool,
     blank: Blank,
-) -> Mem<DeskHandle<R, C, L, O>>
+) -> Mem<CoreHandle<R, C, L, O>>
 where
     R: Wait + Copy,
     C: Recorder<CoreEntry> + Drop,
@@ -173,11 +173,11 @@ where
     let pool = pool_of(alloc)?;
     let (core, seat) = core_of::<C, L>(alloc, header, recorder, ends, blank)?;
     let sinks = header.sinks.len() as u8;
-    let desk = Arc::new(alloc, Desk::new(alloc, core, pool, sinks, taped))?;
-    Ok(DeskHandle {
+    let shared = Arc::new(alloc, Shared::new(alloc, core, pool, sinks, taped))?;
+    Ok(CoreHandle {
         rt: *rt,
         alloc,
-        desk,
+        shared,
         seat,
     })
 }
@@ -209,25 +209,25 @@ where
     requires parts { (blank.parts ≡ L.parts) × (L.parts ≡ 65552) × (L.all ≡ 65552) }
     requires began { L.began ≡ new_state header.now }
     requires boxes { map boxes_of made.ends.items ≡ L.boxes }
-    requires made { AreMade taped 0 header.now.sinks made.lone.items made.ends.items }
+    requires made { AreMade taped 0 header.now.sinks made.idle.items made.ends.items }
     requires untold { IfSome (H.C.told made.recorder) (λ entries. entries ≡ []) }
     requires none { lanes.items ≡ [] }
-    requires room { length made.lone.items ≤ vec_capacity lanes }
+    requires room { length made.idle.items ≤ vec_capacity lanes }
     requires no_turns { made.turns.items ≡ [] }
-    requires turns_room { length made.lone.items ≤ vec_capacity made.turns }
-    requires lent { HasLent (length made.lone.items) 1 (H.now host.old) }
+    requires turns_room { length made.idle.items ≤ vec_capacity made.turns }
+    requires lent { HasLent (length made.idle.items) 1 (H.now host.old) }
     ensures served { IsServed H.C.told H.C.faults H.C.fulls H.D.now H.R.told H.R.faults H.R.fulls header.now (H.now host.old) (H.now host.new) result.status result.lanes.items result.core }
     ensures tape { HasTape H.R.told taped result.status result.lanes.items result.tape }
 {
     let Made {
-        lone,
+        idle,
         ends,
         recorder,
         turns,
     } = made;
     match handle_of::<R, H::C, L, H::O>(rt, alloc, header, recorder, ends, taped, blank) {
-        Ok(handle) => run(handle, host, gate, lone, lanes, turns, taped),
-        Err(_) => unserved(lanes, lone, Stop::Memory),
+        Ok(handle) => run(handle, host, gate, idle, lanes, turns, taped),
+        Err(_) => unserved(lanes, idle, Stop::Memory),
     }
 }
 
@@ -259,12 +259,12 @@ where
     ensures served { IsServed H.C.told H.C.faults H.C.fulls H.D.now H.R.told H.R.faults H.R.fulls header.now (H.now host.old) (H.now host.new) result.status result.lanes.items result.core }
     ensures tape { HasTape H.R.told taped result.status result.lanes.items result.tape }
 {
-    let mut lone = VecDeque::new(alloc);
+    let mut idle = VecDeque::new(alloc);
     let mut ends = Vec::new(alloc);
-    match make_outside(alloc, taped, header, host, &mut lone, &mut ends) {
+    match make_outside(alloc, taped, header, host, &mut idle, &mut ends) {
         Ok(recorder) => {
             let made = Made {
-                lone,
+                idle,
                 ends,
                 recorder,
                 turns,
@@ -272,7 +272,7 @@ where
             let blank = Blank::new(PARTS);
             serve_made::<R, H, G, Brand>(rt, alloc, header, host, gate, made, lanes, taped, blank)
         }
-        Err(stop) => unserved(lanes, lone, stop),
+        Err(stop) => unserved(lanes, idle, stop),
     }
 }
 

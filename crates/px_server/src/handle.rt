@@ -1,4 +1,5 @@
-//! The crew's handle on the desk.
+//! The workers' handle on the shared state: each call is the core handle's own. It stands here, so that where a handle is passed on the check
+//! loads none of the crates below that handle.
 ghost use Rattle.std.specs.Prelude.{◌≡◌};
 
 use px_annals::{CoreEntry, Recorder};
@@ -6,20 +7,20 @@ use px_cell::Seats;
 use px_ends::Outlet;
 use px_frame::{Frame, FrameFault};
 use px_pool::PoolSeat;
-use px_shared::DeskHandle;
+use px_shared::CoreHandle;
 use px_tape::Tape;
 use px_types::{ConnId, Mem, SinkId};
 use px_worker_api::{CoreStop, Handle, Next};
 use std::alloc::Global;
 use std::sync::{Mutex, Wait};
 
-/// The desk's handle, as the crew has it.
+/// The core handle, as the workers have it.
 #[derive(Drop)]
-pub(crate) struct CrewHandle<R, C: Recorder<CoreEntry>, L: Seats, O> {
-    pub desk: DeskHandle<R, C, L, O>,
+pub(crate) struct WorkerHandle<R, C: Recorder<CoreEntry>, L: Seats, O> {
+    pub core: CoreHandle<R, C, L, O>,
 }
 
-impl<R, C, L, O> Handle for CrewHandle<R, C, L, O>
+impl<R, C, L, O> Handle for WorkerHandle<R, C, L, O>
 where
     R: Wait + Copy + Drop + 'static,
     C: Recorder<CoreEntry> + Drop + 'static,
@@ -32,88 +33,88 @@ where
 
     type Blocks = PoolSeat<R>;
 
-    ghost parts = { λ h. h.desk.seat.parts };
+    ghost parts = { λ h. h.core.seat.parts };
 
     fn rt(&self) -> R {
-        self.desk.rt
+        self.core.rt
     }
 
     fn alloc(&self) -> Global {
-        self.desk.alloc
+        self.core.alloc
     }
 
-    fn another(&mut self) -> Mem<CrewHandle<R, C, L, O>> {
-        let desk = self.desk.another()?;
-        Ok(CrewHandle { desk })
+    fn another(&mut self) -> Mem<WorkerHandle<R, C, L, O>> {
+        let core = self.core.another()?;
+        Ok(WorkerHandle { core })
     }
 
-    fn take_back(&mut self, other: CrewHandle<R, C, L, O>) {
-        self.desk.seat.merge(other.desk.seat);
+    fn take_back(&mut self, other: WorkerHandle<R, C, L, O>) {
+        self.core.seat.merge(other.core.seat);
     }
 
     fn blocks(&self) -> Mem<PoolSeat<R>> {
-        self.desk.blocks()
+        self.core.blocks()
     }
 
     fn tape(&self) -> &Mutex<Tape> {
-        self.desk.tape()
+        self.core.tape()
     }
 
-    fn finish(&self) {
-        self.desk.finish();
+    fn stop_sinks(&self) {
+        self.core.stop_sinks();
     }
 
-    fn is_over(&self) -> bool {
-        self.desk.is_over()
+    fn is_stopping(&self) -> bool {
+        self.core.is_stopping()
     }
 
-    fn open_line(&mut self, conn: ConnId, outlet: Option<O>) -> Mem<()>
-        ensures { self.new.desk.seat.parts ≡ self.old.desk.seat.parts }
+    fn open_queue(&mut self, conn: ConnId, outlet: Option<O>) -> Mem<()>
+        ensures { self.new.core.seat.parts ≡ self.old.core.seat.parts }
     {
-        self.desk.open_line(conn, outlet)
+        self.core.open_queue(conn, outlet)
     }
 
-    fn shut_line(&mut self, conn: ConnId) {
-        self.desk.shut_line(conn);
+    fn close_queue(&mut self, conn: ConnId) {
+        self.core.close_queue(conn);
     }
 
-    fn has_line(&self, conn: ConnId) -> bool {
-        self.desk.has_line(conn)
+    fn has_queue(&self, conn: ConnId) -> bool {
+        self.core.has_queue(conn)
     }
 
-    fn is_sender(&self) -> bool {
-        self.desk.is_sender()
+    fn worker_sends(&self) -> bool {
+        self.core.worker_sends()
     }
 
     fn next_packet(&mut self, conn: ConnId) -> Next {
-        self.desk.next_packet(conn)
+        self.core.next_packet(conn)
     }
 
     fn connect(&mut self, conn: ConnId) -> Result<(), CoreStop> {
-        self.desk.connect(conn)
+        self.core.connect(conn)
     }
 
     fn cut(&mut self, conn: ConnId) -> Result<(), CoreStop> {
-        self.desk.cut(conn)
+        self.core.cut(conn)
     }
 
     fn close(&mut self, conn: ConnId) -> Result<(), CoreStop> {
-        self.desk.close(conn)
+        self.core.close(conn)
     }
 
     fn frame(&mut self, conn: ConnId, frame: Frame) -> Result<(), CoreStop> {
-        self.desk.frame(conn, frame)
+        self.core.frame(conn, frame)
     }
 
     fn broken(&mut self, conn: ConnId, fault: FrameFault, at: u64) -> Result<(), CoreStop> {
-        self.desk.broken(conn, fault, at)
+        self.core.broken(conn, fault, at)
     }
 
     fn post(&mut self, sink: SinkId) -> Result<(), CoreStop> {
-        self.desk.post(sink)
+        self.core.post(sink)
     }
 
     fn notices(&mut self, sink: SinkId) -> Result<(), CoreStop> {
-        self.desk.notices(sink)
+        self.core.notices(sink)
     }
 }

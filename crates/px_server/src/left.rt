@@ -9,7 +9,7 @@ ghost use Rattle.px_core_cell.specs.Cause.{IsCaused};
 ghost use Rattle.px_core_cell.specs.Cell.{ends_of};
 ghost use Rattle.px_core_cell.specs.History.{IsTold};
 ghost use Rattle.px_lane_cell.specs.History.{unturned};
-ghost use Rattle.px_workers.specs.declared.lone.Met.{Met as Seen};
+ghost use Rattle.px_workers.specs.declared.sink_state.SinkFault.{SinkFault as Seen};
 ghost use Rattle.px_server.specs.Delivered.{IsDelivered};
 ghost use Rattle.px_workers.specs.Working.{start_at, start_of, IsHonest};
 ghost use Rattle.px_server.specs.Parts.{worked, unworked, starts_of, IsPart, AreParts, AreTold};
@@ -18,26 +18,26 @@ ghost use Rattle.px_server.specs.Taped.{AreTaping, AreCounted};
 ghost use Rattle.px_server.specs.Mailboxes.{boxes_at, boxes_in};
 ghost use Rattle.px_tape.specs.Tape.{Turns, total};
 
-use crate::served::{LanePart, status_of_met};
+use crate::served::{LanePart, status_of_fault};
 use px_annals::{CoreEntry, LaneEntry, RecordFault, Recorder};
 use px_cell::{
     CoreEnd, CoreEnds, CoreParts, LaneCell, LaneCellParts, LaneEnds, LanePasses, Seats, StepLog,
 };
 use px_ends::{Device, Outlet};
-use px_shared::DeskHandle;
+use px_shared::CoreHandle;
 use px_tape::SinkTurns;
 use px_types::{SinkId, Status};
-use px_workers::Lone;
+use px_workers::SinkState;
 use std::collections::VecDeque;
 use std::sync::Wait;
 
 // What is left of a sink, where there is no core.
-fn part_of<D: Device + Drop, E: Recorder<LaneEntry> + Drop>(lone: Lone<D, E>) -> LanePart<D, E>
-    ensures { (began : State PlainStream) → IsPart began None D.now E.told E.faults E.fulls (unworked lone) result }
+fn part_of<D: Device + Drop, E: Recorder<LaneEntry> + Drop>(idle: SinkState<D, E>) -> LanePart<D, E>
+    ensures { (began : State PlainStream) → IsPart began None D.now E.told E.faults E.fulls (unworked idle) result }
 {
-    let parts = lone.cell.into_parts();
+    let parts = idle.cell.into_parts();
     LanePart {
-        sink: lone.sink,
+        sink: idle.sink,
         device: parts.lane.into_device(),
         recorder: parts.recorder,
     }
@@ -45,14 +45,14 @@ fn part_of<D: Device + Drop, E: Recorder<LaneEntry> + Drop>(lone: Lone<D, E>) ->
 
 /// What is left of the sinks without workers, where there is no core. Takes no memory.
 pub(crate) fn hand_back<D: Device + Drop, E: Recorder<LaneEntry> + Drop>(
-    lone: &mut VecDeque<Lone<D, E>>,
+    idle: &mut VecDeque<SinkState<D, E>>,
     lanes: &mut Vec<LanePart<D, E>>,
 )
     requires none { lanes.old.items ≡ [] }
-    requires room { length lone.old.items ≤ vec_capacity lanes.old }
-    ensures { (began : State PlainStream) → AreParts began None D.now E.told E.faults E.fulls (map unworked lone.old.items) lanes.new.items }
+    requires room { length idle.old.items ≤ vec_capacity lanes.old }
+    ensures { (began : State PlainStream) → AreParts began None D.now E.told E.faults E.fulls (map unworked idle.old.items) lanes.new.items }
 {
-    while let Some(sink) = lone.pop_front() {
+    while let Some(sink) = idle.pop_front() {
         lanes.push(part_of(sink)).unwrap();
     }
 }
@@ -64,8 +64,8 @@ fn closed<D: Device + Drop, E: Recorder<LaneEntry> + Drop>(
     end: CoreEnd,
 ) -> LanePart<D, E>
     requires { boxes_at cell.ends ≡ boxes_of end }
-    ensures part { (began : State PlainStream) (met : Seen) → IsHonest D.now E.faults E.fulls cell met
-        → IsPart began None D.now E.told E.faults E.fulls (worked (start_at sink cell.lane.sink) met) result }
+    ensures part { (began : State PlainStream) (sink_fault : Seen) → IsHonest D.now E.faults E.fulls cell sink_fault
+        → IsPart began None D.now E.told E.faults E.fulls (worked (start_at sink cell.lane.sink) sink_fault) result }
     ensures delivered { (began : State PlainStream) (entries : List Entry) → IsTold began entries sink.0 (ends_of end)
         → IfSome (E.told result.recorder) (IsDelivered began entries sink (unturned cell.lane.sink)) }
     ensures recorder { result.recorder ≡ cell.recorder }
@@ -103,36 +103,36 @@ fn keep_turns(turns: &mut Vec<SinkTurns>, made: Option<SinkTurns>)
 // What is left of the sinks without workers, whose mailboxes are closed with the core's ends of them, and the first status that one of their
 // workers met. The turns that they made for a tape are kept. Takes no memory.
 fn close_all<D: Device + Drop, E: Recorder<LaneEntry> + Drop>(
-    lone: &mut VecDeque<Lone<D, E>>,
+    idle: &mut VecDeque<SinkState<D, E>>,
     ends: CoreEnds,
     lanes: &mut Vec<LanePart<D, E>>,
     turns: &mut Vec<SinkTurns>,
 ) -> Option<Status>
-    requires boxes { map boxes_in lone.old.items ≡ map boxes_of ends.items }
+    requires boxes { map boxes_in idle.old.items ≡ map boxes_of ends.items }
     requires none { lanes.old.items ≡ [] }
-    requires room { length lone.old.items ≤ vec_capacity lanes.old }
+    requires room { length idle.old.items ≤ vec_capacity lanes.old }
     requires no_turns { turns.old.items ≡ [] }
-    requires turns_room { length lone.old.items ≤ vec_capacity turns.old }
-    ensures turns { AreTaping lone.old.items → AreCounted E.told lanes.new.items (total turns.new.items) }
-    ensures met { result ≡ first_met (map unworked lone.old.items) }
-    ensures parts { (began : State PlainStream) (core : Option (List Entry)) → AreTold began core lone.old.items ends.items
-        → AreParts began core D.now E.told E.faults E.fulls (map unworked lone.old.items) lanes.new.items }
+    requires turns_room { length idle.old.items ≤ vec_capacity turns.old }
+    ensures turns { AreTaping idle.old.items → AreCounted E.told lanes.new.items (total turns.new.items) }
+    ensures sink_fault { result ≡ first_met (map unworked idle.old.items) }
+    ensures parts { (began : State PlainStream) (core : Option (List Entry)) → AreTold began core idle.old.items ends.items
+        → AreParts began core D.now E.told E.faults E.fulls (map unworked idle.old.items) lanes.new.items }
 {
     let mut ends = VecDeque::from_vec(ends);
     let mut first = None;
     while let Some(
-        Lone {
+        SinkState {
             sink,
             cell,
-            met,
+            sink_fault,
             turns: made,
         },
-    ) = lone.pop_front()
+    ) = idle.pop_front()
     {
         let Some(end) = ends.pop_front() else {
             unreachable!()
         };
-        first = first.or(status_of_met(met));
+        first = first.or(status_of_fault(sink_fault));
         keep_turns(turns, made);
         lanes.push(closed(sink, cell, end)).unwrap();
     }
@@ -144,7 +144,7 @@ fn close_all<D: Device + Drop, E: Recorder<LaneEntry> + Drop>(
 pub(crate) struct CoreLeft<C> {
     pub recorder: C,
     pub fault: Option<RecordFault>,
-    pub met: Option<Status>,
+    pub sink_fault: Option<Status>,
 }
 
 // What lay under the core's lock besides the core itself.
@@ -159,8 +159,8 @@ fn without_core<C: Recorder<CoreEntry> + Drop>(parts: CoreParts<C>) -> (StepLog<
 
 /// What is left of the core, and of the sinks without workers (`close_all`), by a handle with all shares. Takes no memory.
 pub(crate) fn close_with<R, D, E, C, L, O>(
-    handle: DeskHandle<R, C, L, O>,
-    lone: &mut VecDeque<Lone<D, E>>,
+    handle: CoreHandle<R, C, L, O>,
+    idle: &mut VecDeque<SinkState<D, E>>,
     lanes: &mut Vec<LanePart<D, E>>,
     turns: &mut Vec<SinkTurns>,
 ) -> CoreLeft<C>
@@ -172,22 +172,22 @@ where
     L: Seats,
     O: Outlet + Drop,
     requires seats { handle.seat.parts ≡ L.all }
-    requires sinks { (sinks : List SinkSpec) × (map start_of lone.old.items ≡ starts_of sinks) }
-    requires boxes { map boxes_in lone.old.items ≡ L.boxes }
+    requires sinks { (sinks : List SinkSpec) × (map start_of idle.old.items ≡ starts_of sinks) }
+    requires boxes { map boxes_in idle.old.items ≡ L.boxes }
     requires none { lanes.old.items ≡ [] }
-    requires room { length lone.old.items ≤ vec_capacity lanes.old }
+    requires room { length idle.old.items ≤ vec_capacity lanes.old }
     requires no_turns { turns.old.items ≡ [] }
-    requires turns_room { length lone.old.items ≤ vec_capacity turns.old }
-    ensures turns { AreTaping lone.old.items → AreCounted E.told lanes.new.items (total turns.new.items) }
-    ensures met { result.met ≡ first_met (map unworked lone.old.items) }
-    ensures parts { AreParts L.began (C.told result.recorder) D.now E.told E.faults E.fulls (map unworked lone.old.items) lanes.new.items }
+    requires turns_room { length idle.old.items ≤ vec_capacity turns.old }
+    ensures turns { AreTaping idle.old.items → AreCounted E.told lanes.new.items (total turns.new.items) }
+    ensures sink_fault { result.sink_fault ≡ first_met (map unworked idle.old.items) }
+    ensures parts { AreParts L.began (C.told result.recorder) D.now E.told E.faults E.fulls (map unworked idle.old.items) lanes.new.items }
     ensures caused { IsCaused result.fault (C.faults result.recorder) (C.fulls result.recorder) }
 {
     let (log, ends) = without_core(handle.into_core());
-    let met = close_all(lone, ends, lanes, turns);
+    let sink_fault = close_all(idle, ends, lanes, turns);
     CoreLeft {
         recorder: log.recorder,
         fault: log.fault,
-        met,
+        sink_fault,
     }
 }

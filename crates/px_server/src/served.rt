@@ -2,7 +2,7 @@
 
 ghost use Rattle.std.specs.Prelude.{◌≡◌, ◌⊎◌, false, true, IfSome, IsSome, None};
 ghost use Rattle.px_workers.specs.declared.stop.Stop.TheVariants.{Memory, Over};
-ghost use Rattle.px_server.specs.Causes.{status_of_record, status_of_met, decided, undecided};
+ghost use Rattle.px_server.specs.Causes.{status_of_record, status_of_fault, decided, undecided};
 ghost use Rattle.px_server.specs.Hosted.{stop_by};
 ghost use Rattle.px_tape.specs.Tape.{turns_in, total};
 
@@ -10,7 +10,7 @@ use px_annals::RecordFault;
 use px_ends::{Host, HostFault};
 use px_tape::{Events, SinkTurns, Tape};
 use px_types::{SinkId, Status};
-use px_workers::{Met, Stop};
+use px_workers::{SinkFault, Stop};
 use std::alloc::Global;
 
 /// What the host made for a sink, once its worker has ended.
@@ -53,24 +53,24 @@ pub(crate) fn status_of_record(fault: RecordFault) -> Status
 }
 
 /// The status of what a sink's worker met, where it has one.
-pub(crate) fn status_of_met(met: Met) -> Option<Status>
-    ensures { result ≡ status_of_met met }
+pub(crate) fn status_of_fault(sink_fault: SinkFault) -> Option<Status>
+    ensures { result ≡ status_of_fault sink_fault }
 {
-    match met {
-        Met::Nothing => None,
-        Met::Stopped => Some(Status::Device),
-        Met::Unrecorded(fault) => Some(status_of_record(fault)),
+    match sink_fault {
+        SinkFault::Nothing => None,
+        SinkFault::Stopped => Some(Status::Device),
+        SinkFault::Unrecorded(fault) => Some(status_of_record(fault)),
     }
 }
 
 /// The status of a call by what made it stop, the first fault of the core's recorder, and what the sinks' workers met first.
-pub(crate) fn decided(stop: Stop, fault: Option<RecordFault>, met: Option<Status>) -> Status
-    ensures { result ≡ decided stop fault met }
+pub(crate) fn decided(stop: Stop, fault: Option<RecordFault>, sink_fault: Option<Status>) -> Status
+    ensures { result ≡ decided stop fault sink_fault }
 {
     match stop {
         Stop::Over => match fault {
             Some(fault) => status_of_record(fault),
-            None => met.unwrap_or(Status::Ok),
+            None => sink_fault.unwrap_or(Status::Ok),
         },
         Stop::Memory => Status::Memory,
         Stop::Host => Status::Host,

@@ -12,7 +12,7 @@ ghost use Rattle.px_core_cell.specs.Cell.{ends_of};
 ghost use Rattle.px_core_cell.specs.History.{fresh_ends};
 ghost use Rattle.px_workers.specs.Hosted.{IsLater, IsCauseOf};
 ghost use Rattle.px_server.specs.Hosted.{stop_by, HasLent};
-ghost use Rattle.px_workers.specs.declared.lone.Met.TheVariants.{Nothing};
+ghost use Rattle.px_workers.specs.declared.sink_state.SinkFault.TheVariants.{Nothing};
 ghost use Rattle.px_workers.specs.Working.{start_of, IsHonest};
 ghost use Rattle.px_server.specs.Parts.{sink_for, starts_of, starts_from, IsFrontOf, Adds};
 ghost use Rattle.px_server.specs.Fresh.{IsFresh};
@@ -30,7 +30,7 @@ use px_msg::{Msg, Notice};
 use px_stream::Stream;
 use px_tape::SinkTurns;
 use px_types::{Mem, NoMemory, SinkId};
-use px_workers::{Lone, Stop};
+use px_workers::{SinkState, Stop};
 use std::alloc::Global;
 use std::collections::VecDeque;
 
@@ -141,13 +141,13 @@ fn turns_of(alloc: Global, sink: SinkId, taped: bool) -> Option<SinkTurns>
 }
 
 // A sink that no worker has had yet, with the core's ends of its mailboxes.
-fn new_lone<H: Host>(
+fn new_sink_state<H: Host>(
     alloc: Global,
     taped: bool,
     index: SinkId,
     sink: &SinkSpec,
     host: &mut H,
-) -> Result<(Lone<H::D, H::R>, CoreEnd), Stop>
+) -> Result<(SinkState<H::D, H::R>, CoreEnd), Stop>
     requires { (earlier : List Spec) × IsSink earlier sink.now }
     ensures later { IsLater (H.now host.old) (H.now host.new) }
     ensures lent { OnOk result ((n : ℕ) → HasLent n 0 (H.now host.old) → HasLent (n + 1) 0 (H.now host.new)) }
@@ -162,38 +162,38 @@ fn new_lone<H: Host>(
     let Ok((cell, core)) = cell_of(alloc, sink, device, recorder) else {
         return Err(Stop::Memory);
     };
-    let lone = Lone::new(index, cell, turns_of(alloc, index, taped));
-    Ok((lone, core))
+    let idle = SinkState::new(index, cell, turns_of(alloc, index, taped));
+    Ok((idle, core))
 }
 
 // Room for one sink more.
 fn reserve_one<D: Device + Drop, E: Recorder<LaneEntry> + Drop>(
-    lone: &mut VecDeque<Lone<D, E>>,
+    idle: &mut VecDeque<SinkState<D, E>>,
     ends: &mut CoreEnds,
 ) -> Mem<()>
-    ensures lone { lone.new.items ≡ lone.old.items }
+    ensures idle { idle.new.items ≡ idle.old.items }
     ensures ends { ends.new.items ≡ ends.old.items }
-    ensures room { OnOk result (deque_len lone.new < deque_capacity lone.new) }
+    ensures room { OnOk result (deque_len idle.new < deque_capacity idle.new) }
     ensures ends_room { OnOk result (vec_len ends.new < vec_capacity ends.new) }
 {
-    lone.reserve(1)?;
+    idle.reserve(1)?;
     ends.reserve(1)?;
     Ok(())
 }
 
 // One sink more, for which there is room.
 fn add_one<D: Device + Drop, E: Recorder<LaneEntry> + Drop>(
-    lone: &mut VecDeque<Lone<D, E>>,
+    idle: &mut VecDeque<SinkState<D, E>>,
     ends: &mut CoreEnds,
-    one: Lone<D, E>,
+    one: SinkState<D, E>,
     core: CoreEnd,
 )
-    requires room { deque_len lone.old < deque_capacity lone.old }
+    requires room { deque_len idle.old < deque_capacity idle.old }
     requires ends_room { vec_len ends.old < vec_capacity ends.old }
-    ensures lone { lone.new.items ≡ lone.old.items ++ one ∷ [] }
+    ensures idle { idle.new.items ≡ idle.old.items ++ one ∷ [] }
     ensures ends { ends.new.items ≡ ends.old.items ++ core ∷ [] }
 {
-    lone.push_back_reserved(one);
+    idle.push_back_reserved(one);
     ends.push_reserved(core);
 }
 
@@ -204,21 +204,21 @@ fn make_one<H: Host>(
     index: u8,
     sink: &SinkSpec,
     host: &mut H,
-    lone: &mut VecDeque<Lone<H::D, H::R>>,
+    idle: &mut VecDeque<SinkState<H::D, H::R>>,
     ends: &mut CoreEnds,
 ) -> Result<(), Stop>
     requires { (earlier : List Spec) × IsSink earlier sink.now }
     ensures later { IsLater (H.now host.old) (H.now host.new) }
-    ensures lent { HasLent (length lone.old.items) 0 (H.now host.old) → HasLent (length lone.new.items) 0 (H.now host.new) }
+    ensures lent { HasLent (length idle.old.items) 0 (H.now host.old) → HasLent (length idle.new.items) 0 (H.now host.new) }
     ensures cause { IfErr result (λ stop. IsCauseOf stop (H.now host.old) (H.now host.new)) }
-    ensures made { OnOk result (AddsOne taped (record { 0 = index }) sink.now lone.old.items ends.old.items lone.new.items ends.new.items) }
-    ensures stays { OnErr result (lone.new.items ≡ lone.old.items) }
+    ensures made { OnOk result (AddsOne taped (record { 0 = index }) sink.now idle.old.items ends.old.items idle.new.items ends.new.items) }
+    ensures stays { OnErr result (idle.new.items ≡ idle.old.items) }
 {
-    let Ok(()) = reserve_one(lone, ends) else {
+    let Ok(()) = reserve_one(idle, ends) else {
         return Err(Stop::Memory);
     };
-    let (one, core) = new_lone(alloc, taped, SinkId(index), sink, host)?;
-    add_one(lone, ends, one, core);
+    let (one, core) = new_sink_state(alloc, taped, SinkId(index), sink, host)?;
+    add_one(idle, ends, one, core);
     Ok(())
 }
 
@@ -229,22 +229,22 @@ fn make_from<H: Host>(
     index: u8,
     sinks: &[SinkSpec],
     host: &mut H,
-    lone: &mut VecDeque<Lone<H::D, H::R>>,
+    idle: &mut VecDeque<SinkState<H::D, H::R>>,
     ends: &mut CoreEnds,
 ) -> Result<(), Stop>
     requires sinks { (earlier : List Spec) × AreSinks earlier sinks.now }
     requires few { index + length sinks.now ≤ 16 }
     ensures later { IsLater (H.now host.old) (H.now host.new) }
-    ensures lent { HasLent (length lone.old.items) 0 (H.now host.old) → HasLent (length lone.new.items) 0 (H.now host.new) }
+    ensures lent { HasLent (length idle.old.items) 0 (H.now host.old) → HasLent (length idle.new.items) 0 (H.now host.new) }
     ensures cause { IfErr result (λ stop. IsCauseOf stop (H.now host.old) (H.now host.new)) }
-    ensures made { OnOk result (AddsAll taped index sinks.now lone.old.items ends.old.items lone.new.items ends.new.items) }
-    ensures front { Adds (map start_of lone.old.items) (starts_from index sinks.now) (map start_of lone.new.items) }
+    ensures made { OnOk result (AddsAll taped index sinks.now idle.old.items ends.old.items idle.new.items ends.new.items) }
+    ensures front { Adds (map start_of idle.old.items) (starts_from index sinks.now) (map start_of idle.new.items) }
 {
     match sinks.split_first() {
         None => Ok(()),
         Some((first, rest)) => {
-            make_one(alloc, taped, index, first, host, lone, ends)?;
-            make_from(alloc, taped, index + 1, rest, host, lone, ends)
+            make_one(alloc, taped, index, first, host, idle, ends)?;
+            make_from(alloc, taped, index + 1, rest, host, idle, ends)
         }
     }
 }
@@ -255,16 +255,16 @@ pub(crate) fn make_all<H: Host>(
     taped: bool,
     header: &Header,
     host: &mut H,
-    lone: &mut VecDeque<Lone<H::D, H::R>>,
+    idle: &mut VecDeque<SinkState<H::D, H::R>>,
     ends: &mut CoreEnds,
 ) -> Result<(), Stop>
     requires header { IsHeader header.now }
-    requires none { (lone.old.items ≡ []) × (ends.old.items ≡ []) }
+    requires none { (idle.old.items ≡ []) × (ends.old.items ≡ []) }
     ensures later { IsLater (H.now host.old) (H.now host.new) }
-    ensures lent { HasLent 0 0 (H.now host.old) → HasLent (length lone.new.items) 0 (H.now host.new) }
+    ensures lent { HasLent 0 0 (H.now host.old) → HasLent (length idle.new.items) 0 (H.now host.new) }
     ensures cause { IfErr result (λ stop. IsCauseOf stop (H.now host.old) (H.now host.new)) }
-    ensures made { OnOk result (AreMade taped 0 header.now.sinks lone.new.items ends.new.items) }
-    ensures front { IsFrontOf (map start_of lone.new.items) (starts_of header.now.sinks) }
+    ensures made { OnOk result (AreMade taped 0 header.now.sinks idle.new.items ends.new.items) }
+    ensures front { IsFrontOf (map start_of idle.new.items) (starts_of header.now.sinks) }
 {
-    make_from(alloc, taped, 0, header.sinks.as_slice(), host, lone, ends)
+    make_from(alloc, taped, 0, header.sinks.as_slice(), host, idle, ends)
 }

@@ -1,4 +1,4 @@
-//! What every worker does with the core.
+//! A worker's handle on the shared state.
 
 ghost use Rattle.std.specs.Prelude.{◌≡◌, ◌+◌, ◌<◌, map, IfOk, OnErr};
 ghost use Rattle.px_frame.specs.Frame.{IsBody};
@@ -7,9 +7,9 @@ ghost use Rattle.px_core_cell.specs.Cause.{IsCaused};
 ghost use Rattle.px_core_cell.specs.Cell.{cell_of};
 ghost use Rattle.px_core_cell.specs.History.{IsCell};
 
-use crate::asked::Plain;
-use crate::desk::Desk;
-use crate::making::Made;
+use crate::retryable::RetryableStep;
+use crate::shared::Shared;
+use crate::step::Stepped;
 use px_annals::{CoreEntry, Recorder};
 use px_core_cell::{CoreParts, CoreSeat, CoreStep, Seats};
 use px_ends::Outlet;
@@ -23,56 +23,61 @@ use std::mem;
 use std::sync::atomic::Ordering;
 use std::sync::{Arc, Mutex, Wait};
 
-/// A worker's handle on the desk, with its shares in the core's steps.
+/// A worker's handle on the shared state, with its shares in the core's steps.
 #[derive(Drop)]
-pub struct DeskHandle<R, C: Recorder<CoreEntry>, L: Seats, O> {
+pub struct CoreHandle<R, C: Recorder<CoreEntry>, L: Seats, O> {
     pub rt: R,
     pub alloc: Global,
-    pub desk: Arc<Desk<C, L, O>>,
+    pub shared: Arc<Shared<C, L, O>>,
     pub seat: CoreSeat<L>,
 }
 
-impl<R: Wait + Copy, C: Recorder<CoreEntry> + Drop, L: Seats, O: Outlet + Drop> DeskHandle<
+impl<R: Wait + Copy, C: Recorder<CoreEntry> + Drop, L: Seats, O: Outlet + Drop> CoreHandle<
     R,
     C,
     L,
     O,
 > {
-    /// What lies under the core's lock, by a handle with all shares.
+    /// Takes out what lies under the core's lock, by a handle with all shares.
     pub fn into_core(self) -> CoreParts<C>
         requires { self.seat.parts ≡ L.all }
         ensures history { IsCell C.told L.began (cell_of result) }
         ensures boxes { map boxes_of result.ends.items ≡ L.boxes }
         ensures caused { IsCaused result.log.fault (C.faults result.log.recorder) (C.fulls result.log.recorder) }
     {
-        let DeskHandle { rt, desk, seat, .. } = self;
-        desk.core.take_parts(&rt, seat)
+        let CoreHandle {
+            rt,
+            shared,
+            seat,
+            ..
+        } = self;
+        shared.core.take_parts(&rt, seat)
     }
 
-    /// The tape, by the one that has it from then on.
+    /// Takes out the tape: an empty one is left in its place.
     pub fn take_tape(&self) -> Tape {
-        let mut tape = self.desk.tape.lock(&self.rt);
+        let mut tape = self.shared.tape.lock(&self.rt);
         mem::replace(&mut *tape, Tape::new(self.alloc))
     }
 
     /// Another handle with one share of this one's. Where there is no memory there is none.
-    pub fn another(&mut self) -> Mem<DeskHandle<R, C, L, O>>
+    pub fn another(&mut self) -> Mem<CoreHandle<R, C, L, O>>
         requires { 1 < self.old.seat.parts }
         ensures ok { IfOk result (λ other. (other.seat.parts ≡ 1) × (self.new.seat.parts + 1 ≡ self.old.seat.parts)) }
         ensures err { OnErr result (self.new.seat.parts ≡ self.old.seat.parts) }
     {
-        let desk = Arc::try_clone(&self.desk)?;
-        Ok(DeskHandle {
+        let shared = Arc::try_clone(&self.shared)?;
+        Ok(CoreHandle {
             rt: self.rt,
             alloc: self.alloc,
-            desk,
+            shared,
             seat: self.seat.split(),
         })
     }
 
     /// A source of blocks for one worker.
     pub fn blocks(&self) -> Mem<PoolSeat<R>> {
-        match Pool::seat(&self.rt, &self.desk.pool) {
+        match Pool::seat(&self.rt, &self.shared.pool) {
             Ok(seat) => Ok(seat),
             Err(_) => Err(NoMemory),
         }
@@ -80,107 +85,99 @@ impl<R: Wait + Copy, C: Recorder<CoreEntry> + Drop, L: Seats, O: Outlet + Drop> 
 
     /// The tape. Where there is one, it is locked during each step of the core and during each turn of a sink.
     pub fn tape(&self) -> &Mutex<Tape> {
-        &self.desk.tape
+        &self.shared.tape
     }
 
-    /// The sinks' workers may end.
-    pub fn finish(&self) {
-        self.desk.over.store(true, Ordering::SeqCst);
+    /// Lets the sinks' workers end.
+    pub fn stop_sinks(&self) {
+        self.shared.stopping.store(true, Ordering::SeqCst);
     }
 
     /// Whether the sinks' workers may end.
-    pub fn is_over(&self) -> bool {
-        self.desk.over.load(Ordering::SeqCst)
+    pub fn is_stopping(&self) -> bool {
+        self.shared.stopping.load(Ordering::SeqCst)
     }
 
-    /// A line for a client's packets, with the half of its link that sends, where it has one.
-    pub fn open_line(&mut self, conn: ConnId, outlet: Option<O>) -> Mem<()>
+    /// Opens an output queue for the client `conn`, with the half of its link that sends, where it has one.
+    pub fn open_queue(&mut self, conn: ConnId, outlet: Option<O>) -> Mem<()>
         ensures seat { self.new.seat.parts ≡ self.old.seat.parts }
     {
         if outlet.is_none() {
-            self.desk.own.store(true, Ordering::SeqCst);
+            self.shared.worker_sends.store(true, Ordering::SeqCst);
         }
-        self.desk.lines.lock(&self.rt).open(conn, outlet)
+        self.shared.queues.lock(&self.rt).open(conn, outlet)
     }
 
-    /// A client's line goes, and the client is told the end.
-    pub fn shut_line(&mut self, conn: ConnId)
+    /// Drops the output queue of the client `conn`, and shuts the half of its link that sends.
+    pub fn close_queue(&mut self, conn: ConnId)
         ensures seat { self.new.seat.parts ≡ self.old.seat.parts }
     {
-        self.desk.lines.lock(&self.rt).shut(conn);
+        self.shared.queues.lock(&self.rt).close(conn);
     }
 
-    /// Whether a client has a line.
-    pub fn has_line(&self, conn: ConnId) -> bool {
-        self.desk.lines.lock(&self.rt).has(conn)
+    /// Whether the client `conn` has an output queue.
+    pub fn has_queue(&self, conn: ConnId) -> bool {
+        self.shared.queues.lock(&self.rt).has(conn)
     }
 
-    /// Whether a client's own worker may have to send what waits for it. Else whoever makes a step sends what that has for clients.
-    pub fn is_sender(&self) -> bool {
-        self.desk.own.load(Ordering::SeqCst)
+    /// Whether a client's own worker may have to send what waits for it. Else each worker that makes a step sends the packets of that step.
+    pub fn worker_sends(&self) -> bool {
+        self.shared.worker_sends.load(Ordering::SeqCst)
     }
 
-    /// What stands first in a client's line.
+    /// Takes out the first packet of a client's output queue, for the client's own worker.
     pub fn next_packet(&mut self, conn: ConnId) -> Next
         ensures seat { self.new.seat.parts ≡ self.old.seat.parts }
     {
-        self.desk.lines.lock(&self.rt).next(conn)
+        self.shared.queues.lock(&self.rt).next(conn)
     }
 
-    /// A client connects.
+    /// Connects the client `conn`.
     pub fn connect(&mut self, conn: ConnId) -> Result<(), CoreStop>
         ensures seat { self.new.seat.parts ≡ self.old.seat.parts }
     {
-        let stepped = self.insist(Plain::Connect(conn))?;
-        self.follow(stepped)
+        let stepped = self.step_until_memory(RetryableStep::Connect(conn))?;
+        self.after_step(stepped)
     }
 
-    /// The server ends a connection.
+    /// Ends the connection of the client `conn`, by the server.
     pub fn cut(&mut self, conn: ConnId) -> Result<(), CoreStop>
         ensures seat { self.new.seat.parts ≡ self.old.seat.parts }
     {
-        let stepped = self.insist(Plain::Cut(conn))?;
-        self.follow(stepped)
+        let stepped = self.step_until_memory(RetryableStep::Cut(conn))?;
+        self.after_step(stepped)
     }
 
-    /// A client has closed its connection.
+    /// Notes that the client `conn` has closed its connection.
     pub fn close(&mut self, conn: ConnId) -> Result<(), CoreStop>
         ensures seat { self.new.seat.parts ≡ self.old.seat.parts }
     {
-        let stepped = self.insist(Plain::Close(conn))?;
-        self.follow(stepped)
+        let stepped = self.step_until_memory(RetryableStep::Close(conn))?;
+        self.after_step(stepped)
     }
 
-    /// A frame of a client. One that finds no memory ends its connection.
+    /// Gives the core a frame of the client `conn`. A frame that finds no memory ends its connection.
     pub fn frame(&mut self, conn: ConnId, frame: Frame) -> Result<(), CoreStop>
         requires { IsBody frame.body }
         ensures seat { self.new.seat.parts ≡ self.old.seat.parts }
     {
-        match self.make(CoreStep::Frame(conn, frame))? {
-            Made::Stepped(stepped) => self.follow(stepped),
-            Made::NoMemory => self.cut(conn),
+        match self.step(CoreStep::Frame(conn, frame))? {
+            Ok(stepped) => self.after_step(stepped),
+            Err(NoMemory) => self.cut(conn),
         }
     }
 
-    /// A fault in a client's bytes. One that finds no memory ends its connection.
+    /// Gives the core a fault in the bytes of the client `conn`, at the offset `at`. A fault that finds no memory ends the connection too.
     pub fn broken(&mut self, conn: ConnId, fault: FrameFault, at: u64) -> Result<(), CoreStop>
         ensures seat { self.new.seat.parts ≡ self.old.seat.parts }
     {
-        match self.make(CoreStep::Broken(conn, fault, at))? {
-            Made::Stepped(stepped) => self.follow(stepped),
-            Made::NoMemory => self.cut(conn),
+        match self.step(CoreStep::Broken(conn, fault, at))? {
+            Ok(stepped) => self.after_step(stepped),
+            Err(NoMemory) => self.cut(conn),
         }
     }
 
-    /// Posts to a sink what waits for it. Where there is no memory it waits for the next time.
-    pub fn post(&mut self, sink: SinkId) -> Result<(), CoreStop>
-        ensures seat { self.new.seat.parts ≡ self.old.seat.parts }
-    {
-        self.make(CoreStep::Out(sink))?;
-        Ok(())
-    }
-
-    /// All notices that a sink's mixer has posted. Where there was one, connections that found no memory end behind the last, what waits for the
+    /// Gives the core all notices that wait in a sink's outbox. After the last one, connections that found no memory end, what waits for the
     /// sinks is posted, and what waits for the clients is sent.
     pub fn notices(&mut self, sink: SinkId) -> Result<(), CoreStop>
         ensures seat { self.new.seat.parts ≡ self.old.seat.parts }
@@ -191,9 +188,18 @@ impl<R: Wait + Copy, C: Recorder<CoreEntry> + Drop, L: Seats, O: Outlet + Drop> 
         let rt = self.rt;
         for _ in rt.forever() {
             if !self.notice(sink)? {
-                return self.tell();
+                return self.deliver();
             }
         }
         unreachable!()
+    }
+
+    // Gives the core the next notice of a sink's outbox, and makes the sweep that this owes. False where there was none.
+    fn notice(&mut self, sink: SinkId) -> Result<bool, CoreStop>
+        ensures seat { self.new.seat.parts ≡ self.old.seat.parts }
+    {
+        let stepped = self.step_until_memory(RetryableStep::Notice(sink))?;
+        self.sweep_owed(stepped)?;
+        Ok(stepped != Stepped::Nothing)
     }
 }

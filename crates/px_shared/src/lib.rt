@@ -1,15 +1,15 @@
-//! What all workers of a live server share, and each worker's handle on it: `lines` has the packets that wait for clients, `desk` what is
-//! shared, `step` the steps of the core with what they do to the lines and to the tape, `asked` those that are asked for again, `making` the
-//! steps that a handle makes with the sweeps that they owe, `telling` what follows them, and `handle` the handle. It exports `Desk` and `DeskHandle`.
+//! The state that all workers of a live server share, and each worker's handle on it. `out_queues` has the packets that wait for clients, `shared` the
+//! shared state, `step` one step of the core with what it adds to the queues and to the tape, `retryable` the steps that can be made again, `retry` the
+//! steps that a handle makes until they are done, `after_step` what follows them, and `handle` the handle. It exports `Shared` and `CoreHandle`.
 #![tactic(auto)]
 
-mod asked;
-mod desk;
+mod after_step;
 mod handle;
-mod lines;
-mod making;
+mod out_queues;
+mod retry;
+mod retryable;
+mod shared;
 mod step;
-mod telling;
 
-pub use desk::Desk;
-pub use handle::DeskHandle;
+pub use handle::CoreHandle;
+pub use shared::Shared;

@@ -1,12 +1,12 @@
-//! Steps of the core, with what they do to the clients' lines and to the tape.
+//! One step of the core, with what it appends to the output queues and to the tape.
 
 ghost use Rattle.std.specs.Prelude.{◌≡◌, ◌+◌, ◌≤◌, length, IfOk};
 ghost use Rattle.px_core_cell.specs.Step.{IsAsked, HandsBack};
 ghost use Rattle.px_shared.specs.Taped.{AreEventsOf};
 ghost use Rattle.px_tape.specs.Tape.{turns_in};
 
-use crate::desk::Desk;
-use crate::lines::Lines;
+use crate::out_queues::OutQueues;
+use crate::shared::Shared;
 use px_annals::{CoreEntry, Recorder};
 use px_core_cell::{CoreSeat, CoreStep, Seats, StepFault};
 use px_ends::Outlet;
@@ -16,8 +16,8 @@ use std::alloc::Global;
 use std::sync::Wait;
 use std::sync::atomic::Ordering;
 
-// The events that a step is on a tape. Sweeps have none there, since a session's events are each swept after, and neither have the messages
-// that are posted.
+// The events of a step on a tape. A sweep has none, since in a session each event is followed by one, and neither have messages that are
+// posted.
 fn events_of(alloc: Global, step: &CoreStep) -> Mem<Events>
     requires { IsAsked step.now }
     ensures events { IfOk result (AreEventsOf step.now) }
@@ -34,23 +34,23 @@ fn events_of(alloc: Global, step: &CoreStep) -> Mem<Events>
     }
 }
 
-/// What became of a step.
+/// The outcome of a step.
 #[derive(Clone, Copy, Debug, PartialEq, Eq)]
 pub(crate) enum Stepped {
     /// It was done.
     Done,
-    /// It was done, and the sweep that it owed behind it.
+    /// It was done, and the sweep that it owed after it.
     Swept,
     /// There was nothing to do.
     Nothing,
 }
 
-// Makes a step, and puts what it does to the outside behind what waits in the clients' lines. Whether there was something to do.
+// Makes a step, and appends its effects to the output queues. Whether there was something to do.
 fn step_in<W: Wait, C: Recorder<CoreEntry> + Drop, L: Seats, O: Outlet + Drop>(
     rt: &W,
     alloc: Global,
-    desk: &Desk<C, L, O>,
-    lines: &mut Lines<O>,
+    shared: &Shared<C, L, O>,
+    queues: &mut OutQueues<O>,
     step: CoreStep,
     seat: &mut CoreSeat<L>,
 ) -> Result<bool, StepFault>
@@ -58,13 +58,13 @@ fn step_in<W: Wait, C: Recorder<CoreEntry> + Drop, L: Seats, O: Outlet + Drop>(
     ensures seat { seat.new.parts ≡ seat.old.parts }
     ensures back { HandsBack step result }
 {
-    match desk.core.step(rt, alloc, step, seat)? {
+    match shared.core.step(rt, alloc, step, seat)? {
         Some(effects) => {
             if !effects.as_slice().is_empty() {
-                desk.waiting.store(true, Ordering::SeqCst);
+                shared.waiting.store(true, Ordering::SeqCst);
             }
-            if !lines.put(effects) {
-                desk.short.store(true, Ordering::SeqCst);
+            if !queues.put(effects) {
+                shared.out_of_memory.store(true, Ordering::SeqCst);
             }
             Ok(true)
         }
@@ -76,24 +76,24 @@ fn step_in<W: Wait, C: Recorder<CoreEntry> + Drop, L: Seats, O: Outlet + Drop>(
 fn sweep_in<W: Wait, C: Recorder<CoreEntry> + Drop, L: Seats, O: Outlet + Drop>(
     rt: &W,
     alloc: Global,
-    desk: &Desk<C, L, O>,
-    lines: &mut Lines<O>,
+    shared: &Shared<C, L, O>,
+    queues: &mut OutQueues<O>,
     seat: &mut CoreSeat<L>,
 ) -> Stepped
     ensures seat { seat.new.parts ≡ seat.old.parts }
 {
-    match step_in(rt, alloc, desk, lines, CoreStep::Sweep, seat) {
+    match step_in(rt, alloc, shared, queues, CoreStep::Sweep, seat) {
         Ok(_) => Stepped::Swept,
         Err(_) => Stepped::Done,
     }
 }
 
-// Makes a step, and the sweep that it owes, with the lines locked.
+// Makes a step, and the sweep that it owes, with the output queues locked.
 fn step_swept<W: Wait, C: Recorder<CoreEntry> + Drop, L: Seats, O: Outlet + Drop>(
     rt: &W,
     alloc: Global,
-    desk: &Desk<C, L, O>,
-    lines: &mut Lines<O>,
+    shared: &Shared<C, L, O>,
+    queues: &mut OutQueues<O>,
     step: CoreStep,
     seat: &mut CoreSeat<L>,
 ) -> Result<Stepped, StepFault>
@@ -102,22 +102,22 @@ fn step_swept<W: Wait, C: Recorder<CoreEntry> + Drop, L: Seats, O: Outlet + Drop
     ensures back { HandsBack step result }
 {
     let owes = owes_sweep(&step);
-    if !step_in(rt, alloc, desk, lines, step, seat)? {
+    if !step_in(rt, alloc, shared, queues, step, seat)? {
         return Ok(Stepped::Nothing);
     }
     if owes {
-        Ok(sweep_in(rt, alloc, desk, lines, seat))
+        Ok(sweep_in(rt, alloc, shared, queues, seat))
     } else {
         Ok(Stepped::Done)
     }
 }
 
-/// Makes a step, and what it does to the outside comes into the clients' lines; so does what the sweep does that it owes. The lines are locked
-/// meanwhile, so that they have the packets in the order of the steps.
-pub(crate) fn step_lined<W: Wait, C: Recorder<CoreEntry> + Drop, L: Seats, O: Outlet + Drop>(
+/// Makes a step and the sweep that it owes, whose effects go into the output queues. These are locked meanwhile, so that they have the packets
+/// in the order of the steps.
+pub(crate) fn step_queued<W: Wait, C: Recorder<CoreEntry> + Drop, L: Seats, O: Outlet + Drop>(
     rt: &W,
     alloc: Global,
-    desk: &Desk<C, L, O>,
+    shared: &Shared<C, L, O>,
     step: CoreStep,
     seat: &mut CoreSeat<L>,
 ) -> Result<Stepped, StepFault>
@@ -125,11 +125,11 @@ pub(crate) fn step_lined<W: Wait, C: Recorder<CoreEntry> + Drop, L: Seats, O: Ou
     ensures seat { seat.new.parts ≡ seat.old.parts }
     ensures back { HandsBack step result }
 {
-    let mut lines = desk.lines.lock(rt);
-    step_swept(rt, alloc, desk, &mut lines, step, seat)
+    let mut queues = shared.queues.lock(rt);
+    step_swept(rt, alloc, shared, &mut queues, step, seat)
 }
 
-// Whether a sweep is owed behind a step.
+// Whether a sweep is owed after a step.
 fn owes_sweep(step: &CoreStep) -> bool {
     !matches!(step, CoreStep::Sweep | CoreStep::Out(_))
 }
@@ -145,11 +145,11 @@ fn ready_events(alloc: Global, tape: &mut Tape, step: &CoreStep) -> Mem<Events>
     Ok(events)
 }
 
-// Makes a step, whose events go onto this tape where it was done.
+// Makes a step, whose events go onto `tape` where it was done.
 fn step_onto<W: Wait, C: Recorder<CoreEntry> + Drop, L: Seats, O: Outlet + Drop>(
     rt: &W,
     alloc: Global,
-    desk: &Desk<C, L, O>,
+    shared: &Shared<C, L, O>,
     tape: &mut Tape,
     step: CoreStep,
     seat: &mut CoreSeat<L>,
@@ -162,7 +162,7 @@ fn step_onto<W: Wait, C: Recorder<CoreEntry> + Drop, L: Seats, O: Outlet + Drop>
         drop(step);
         return Err(StepFault::NoMemory);
     };
-    let stepped = step_lined(rt, alloc, desk, step, seat)?;
+    let stepped = step_queued(rt, alloc, shared, step, seat)?;
     if stepped != Stepped::Nothing {
         tape.add(events);
     }
@@ -173,7 +173,7 @@ fn step_onto<W: Wait, C: Recorder<CoreEntry> + Drop, L: Seats, O: Outlet + Drop>
 pub(crate) fn step_taped<W: Wait, C: Recorder<CoreEntry> + Drop, L: Seats, O: Outlet + Drop>(
     rt: &W,
     alloc: Global,
-    desk: &Desk<C, L, O>,
+    shared: &Shared<C, L, O>,
     step: CoreStep,
     seat: &mut CoreSeat<L>,
 ) -> Result<Stepped, StepFault>
@@ -181,6 +181,6 @@ pub(crate) fn step_taped<W: Wait, C: Recorder<CoreEntry> + Drop, L: Seats, O: Ou
     ensures seat { seat.new.parts ≡ seat.old.parts }
     ensures back { HandsBack step result }
 {
-    let mut tape = desk.tape.lock(rt);
-    step_onto(rt, alloc, desk, &mut tape, step, seat)
+    let mut tape = shared.tape.lock(rt);
+    step_onto(rt, alloc, shared, &mut tape, step, seat)
 }

@@ -1,4 +1,4 @@
-//! Who is told of events (PulseAudio: `subscription_cb` of `pulsecore/protocol-native.c`).
+//! Who is notified of events (PulseAudio: `subscription_cb` of `pulsecore/protocol-native.c`).
 
 ghost use Rattle.std.specs.Prelude.{◌≡◌, ◌++◌, ◌∷◌, List, IfOk, OnOk};
 ghost use Rattle.px_subscribe.specs.declared.announce.Subscriber.{Subscriber};
@@ -17,7 +17,7 @@ pub struct Subscriber {
     pub mask: u32,
 }
 
-// One more subscriber is told, where it hears of the event.
+// Notifies one subscriber, where its mask has the facility of `event`.
 fn tell_one(alloc: Global, sendings: &mut Vec<Sending>, one: &Subscriber, event: Event) -> Mem<()>
     ensures { OnOk result ((more : List Subscriber) → sendings.new.items ++ announced more event ≡ sendings.old.items ++ announced (one.now ∷ more) event) }
 {
@@ -31,7 +31,7 @@ fn tell_one(alloc: Global, sendings: &mut Vec<Sending>, one: &Subscriber, event:
     Ok(())
 }
 
-// All who hear of an event are told of it.
+// Notifies each subscriber whose mask has the facility of `event`.
 fn announce(
     alloc: Global,
     sendings: &mut Vec<Sending>,
@@ -46,7 +46,7 @@ fn announce(
     Ok(())
 }
 
-// One more event is told.
+// Notifies the subscribers of one event more.
 fn announce_one(
     alloc: Global,
     sendings: &mut Vec<Sending>,

@@ -17,7 +17,7 @@ use px_types::{Mem, NoMemory};
 use std::alloc::Global;
 use std::marker::Model;
 
-/// All that is told at one moment, each object once.
+/// The infos of all objects at one moment, each object once.
 #[derive(Drop)]
 pub struct Moment {
     pub sinks: Vec<SinkInfo>,
@@ -42,7 +42,7 @@ pub struct Counts {
     pub clients: u32,
 }
 
-// What became of an object that is told so.
+// What became of an object, by the bytes of its info before and after.
 fn became(before: Option<&[u8]>, after: Option<&[u8]>) -> Option<Kind>
     ensures { result ≡ became (λ bytes. bytes) (option_map (λ b. b.now) before.entry) (option_map (λ b. b.now) after.entry) }
 {
@@ -84,7 +84,7 @@ fn add_at(
     Ok(())
 }
 
-// Those of all objects of a facility, in rising index: one that is told at neither moment has none.
+// The events of all objects of a facility, in rising index: an object that is there at neither moment has none.
 fn add_all(
     events: &mut Vec<Event>,
     facility: Facility,
@@ -106,7 +106,7 @@ fn add_all(
     Ok(())
 }
 
-// What is told of the server, in a reply.
+// The bytes of the server's info, in a reply.
 fn server_told(alloc: Global, info: &Option<ServerInfo>) -> Mem<Option<Packet>>
     requires { IfSome info.now IsServerTold }
     ensures { IfOk result (λ told. told ≡ option_map (server_reply 0) info.now) }
@@ -210,9 +210,9 @@ fn add_clients(
     Ok(())
 }
 
-/// The events between two moments: of each sink, input and client that is new, is gone, or of which something else is told, in
-/// rising index, and then of the server. What is told has names without a zero byte and up to 32 channels; each index lies
-/// below the count of those that were given.
+/// The events between two moments: of each sink, input and client that is new, is gone, or has an info of other bytes, in
+/// rising index, and then of the server. Infos have names without a zero byte and up to 32 channels; each index lies
+/// below the count of `given`.
 pub fn events_between(
     alloc: Global,
     given: Counts,

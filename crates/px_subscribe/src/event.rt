@@ -11,7 +11,7 @@ use std::alloc::Global;
 /// The index in an event of the server itself.
 pub const NO_INDEX: u32 = 0xFFFF_FFFF;
 
-/// A kind of object that events are told of.
+/// A kind of object that events are about.
 #[derive(Clone, Copy, Debug, PartialEq, Eq)]
 pub enum Facility {
     Sink,
@@ -25,7 +25,7 @@ pub enum Facility {
 pub enum Kind {
     /// It is there, and wasn't before.
     New,
-    /// What is told of it has changed.
+    /// Its info has changed.
     Change,
     /// It is there no more.
     Remove,

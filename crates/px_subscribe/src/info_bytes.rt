@@ -1,4 +1,4 @@
-//! Objects with the bytes in which they are told.
+//! Objects with the bytes of their infos.
 
 ghost use Rattle.std.specs.Prelude.{◌≡◌, ◌++◌, ◌∷◌, ◌≤◌, List, All, IsTrue, IfOk, OnOk, map};
 ghost use Rattle.std.specs.Option.{option_map};
@@ -15,7 +15,7 @@ use std::alloc::Global;
 /// The version whose layouts are compared.
 pub(crate) const VERSION: u16 = 13;
 
-/// An object with an index, and the bytes in which it is told.
+/// An object's index, and the bytes of its info.
 #[derive(Drop)]
 pub(crate) struct Told {
     pub(crate) index: u32,

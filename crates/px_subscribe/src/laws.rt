@@ -4,7 +4,7 @@ ghost use Rattle.std.specs.Prelude.{◌≡◌, []};
 ghost use Rattle.px_subscribe.specs.Infos.{Infos, Given};
 ghost use Rattle.px_subscribe.specs.Became.{events_between, TellWhatBecame};
 
-/// Between two moments each sink, input and client that is new, is gone, or of which something else is told has exactly the event
+/// Between two moments each sink, input and client that is new, is gone, or has an info of other bytes has exactly the event
 /// that says so, and each other has none; nor has the server any but that of its own change. Between a moment and itself there is
 /// none. It does nothing: its contract is the law. Source: own.
 pub fn events_tell_what_became()

@@ -1,4 +1,4 @@
-//! What is told of a scene, and of one scene after another.
+//! The infos of a scene, and the subscription events between one scene and a later one.
 
 ghost use Rattle.std.specs.Prelude.{◌≡◌, ◌≤◌, ◌++◌, ◌∷◌, [], List, All, true, IfOk, IfSome, OnOk, option_map, length};
 ghost use Rattle.px_names.specs.declared.client.Client.{Client};
@@ -26,7 +26,7 @@ use px_sinks::{target_at, targets_of};
 use px_types::{ConnId, InputId, Mem, NoMemory, SinkId};
 use std::alloc::Global;
 
-/// The most channels of what a packet can tell.
+/// The most channels that a packet can carry.
 const MOST_CHANNELS: u8 = 32;
 
 // How many sinks there are, where that is a number of 32 bits.
@@ -46,7 +46,7 @@ fn are_few(inputs: &[Input]) -> bool
     inputs.iter().all(|x| x.spec.channels <= MOST_CHANNELS)
 }
 
-// What is told of the server.
+// The info of the server.
 fn server_told(alloc: Global, sinks: &[SinkSpec], fallback: SinkId) -> Mem<Option<ServerInfo>>
     requires { AreSinks [] sinks.now }
     ensures value { IfOk result (λ info. info ≡ option_map server_of (target_at sinks.now fallback)) }
@@ -104,8 +104,8 @@ fn subscribers_in(
 }
 
 impl Scene {
-    /// What the commands for lists of infos tell, and the one for the server, of these sinks. An input of more than 32 channels,
-    /// which no sink plays, is none that can be told: then there is no answer, as for want of memory.
+    /// The infos that the commands for lists and for the server reply with, with these sinks. An input of more than 32 channels, which
+    /// no sink plays, has no info: then there is no answer, as for want of memory.
     pub fn moment(&self, alloc: Global, sinks: &[SinkSpec]) -> Mem<Moment>
         requires { AreSinks [] sinks.now }
         ensures value { IfOk result (λ told. told ≡ telling_of sinks.now self.now) }
@@ -130,7 +130,7 @@ impl Scene {
         subscribers_in(alloc, &self.clients, &self.connections)
     }
 
-    // What those who subscribe in this scene are told, once this was told before it.
+    // The subscription events between the moment `before` and this scene, to those who subscribe in it.
     fn told_since(
         &self,
         alloc: Global,
@@ -153,7 +153,7 @@ impl Scene {
         announce_all(alloc, &subscribers, &events)
     }
 
-    // Makes the changes, and tells those who subscribe then what came of them, once this was told before.
+    // Makes the changes, and answers the subscription events since the moment `before`.
     fn make_and_tell<P>(
         &mut self,
         alloc: Global,
@@ -170,7 +170,7 @@ impl Scene {
         self.told_since(alloc, sinks, clients_made, before)
     }
 
-    // Makes the changes, and tells those who subscribe then what came of them.
+    // Makes the changes, and answers the subscription events that they cause.
     fn change_and_tell<P>(
         &mut self,
         alloc: Global,
@@ -185,7 +185,7 @@ impl Scene {
         self.make_and_tell(alloc, sinks, clients_made, changes, &before)
     }
 
-    // Lets an input that moves arrive, makes the changes after that, and tells those who subscribe then what came of both.
+    // Lets an input that moves arrive, makes the changes `later`, and answers the subscription events of both.
     fn arrive_and_tell<P>(
         &mut self,
         alloc: Global,
@@ -202,7 +202,7 @@ impl Scene {
         self.make_and_tell(alloc, sinks, clients_made, later, &before)
     }
 
-    // Takes in a client, and tells those who subscribe then what came of it, once this was told before.
+    // Admits a client, and answers the subscription events since the moment `before`.
     fn join_and_tell(
         &mut self,
         alloc: Global,
@@ -220,7 +220,7 @@ impl Scene {
         self.told_since(alloc, sinks, clients_made, before)
     }
 
-    /// What those who subscribe once the changes are made are told of them, of these sinks, where so many clients were ever made.
+    /// Subscription events caused by `changes`, to those who subscribe once they are made. `clients_made` is the number of clients ever made.
     pub fn told_of<P>(
         mut self,
         alloc: Global,
@@ -234,7 +234,7 @@ impl Scene {
         self.change_and_tell(alloc, sinks, clients_made, changes)
     }
 
-    /// What they are told of an input that is on the sink that it moves to, and of the changes after that.
+    /// Subscription events caused by the arrival of a moving `input` at its new sink, and by the changes `later`.
     pub fn told_arrived<P>(
         mut self,
         alloc: Global,
@@ -249,7 +249,7 @@ impl Scene {
         self.arrive_and_tell(alloc, sinks, clients_made, input, later)
     }
 
-    /// What they are told of a client that connects, the last of so many that were ever made.
+    /// Subscription events caused by a client that connects, the last of the `clients_made` ever made.
     pub fn told_joined(
         mut self,
         alloc: Global,

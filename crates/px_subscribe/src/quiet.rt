@@ -1,4 +1,4 @@
-//! Changes of nothing that is told.
+//! Changes of nothing that an info shows.
 
 ghost use Rattle.std.specs.Prelude.{◌≡◌, ℕ, List, [], true};
 ghost use Rattle.std.specs.List.{list_all};
@@ -15,7 +15,7 @@ use px_msg::Msg;
 use px_names::Client;
 use px_plan::Change;
 
-// Whether a change is one of nothing that is told.
+// Whether a change is one of nothing that an info shows.
 fn is_quiet<P>(change: &Change<Msg<P>, Group>) -> bool
     ensures { result ≡ is_quiet change.now }
 {
@@ -40,7 +40,7 @@ fn is_quiet<P>(change: &Change<Msg<P>, Group>) -> bool
     }
 }
 
-/// Whether all of these changes are of nothing that is told: what a step of data, of a request that is answered later or of an
+/// Whether none of these changes is one that an info shows: what a step of data, of a request that is answered later or of an
 /// answer to one comes to. Takes no memory.
 pub fn are_quiet<P>(changes: &[Change<Msg<P>, Group>]) -> bool
     ensures { result ≡ are_quiet changes.now }
@@ -76,7 +76,7 @@ pub fn nobody_hears<P>(clients: &[Client], changes: &[Change<Msg<P>, Group>]) ->
     are_deaf(clients) && are_maskless(changes)
 }
 
-/// Where no client hears of anything, nobody is told anything. It does nothing: its contract is the law. Source: own.
+/// Where no client subscribes to anything, nobody is notified. It does nothing: its contract is the law. Source: own.
 pub fn the_deaf_are_told_nothing<P>()
     ensures changes { (sinks : List SinkSpec) (clients_made : ℕ) (s : Scene) (changes : List (Change (Msg P) FlatGroup)) → nobody_hears s.clients changes ≡ true
         → told_between sinks clients_made s (scene_after s changes) ≡ [] }
@@ -84,7 +84,7 @@ pub fn the_deaf_are_told_nothing<P>()
         → told_between sinks clients_made s (scene_joined conn client s) ≡ [] }
 {}
 
-/// Of changes of nothing that is told nobody is told anything. It does nothing: its contract is the law. Source: own.
+/// Of changes that no info shows nobody is notified. It does nothing: its contract is the law. Source: own.
 pub fn quiet_changes_tell_nothing<P>()
     ensures quiet { (sinks : List SinkSpec) (clients_made : ℕ) (s : Scene) (changes : List (Change (Msg P) FlatGroup)) → are_quiet changes ≡ true
         → told_between sinks clients_made s (scene_after s changes) ≡ [] }

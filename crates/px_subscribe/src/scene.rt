@@ -197,7 +197,7 @@ impl Scene {
         }
     }
 
-    // An input was made, the last of so many, and its connection has so many streams.
+    // Adds an input, the last of the `inputs` ever made, whose connection then has `streams` streams.
     fn take_in(&mut self, input: Input, streams: u32, inputs: u32) -> Mem<()>
         ensures { OnOk result (self.new ≡ record self.old { connections = change_first (has_number input.conn) (with_streams streams) self.old.connections; inputs = self.old.inputs ++ input ∷ []; inputs_made = inputs }) }
     {

@@ -1,8 +1,8 @@
-//! A worker's handle.
+//! A worker's handle on the shared state.
 ghost use Rattle.std.specs.Prelude.{◌≡◌, ℕ, ◌+◌, ◌<◌, IfOk, OnErr};
 ghost use Rattle.px_frame.specs.Frame.{IsBody};
 
-use crate::line::Next;
+use crate::out_queue::Next;
 use px_annals::RecordFault;
 use px_block::BlockSource;
 use px_frame::{Frame, FrameFault};
@@ -20,8 +20,8 @@ pub enum CoreStop {
     Unrecorded(RecordFault),
 }
 
-/// A worker's handle on what all workers of a server share: the core, with the worker's shares in its steps, the line of each client, used
-/// blocks, and the tape. What a call may wait for are the locks of these, and memory. Own.
+/// The operations that a worker may perform on the shared server state: the core, with the worker's shares in its steps, the output queue of
+/// each client, used blocks, and the tape. A call may wait for the locks of these, and for memory. Own.
 pub trait Handle: Drop + 'static {
     /// The runtime that it waits with.
     type Rt: Wait + Copy + 'static;
@@ -38,7 +38,7 @@ pub trait Handle: Drop + 'static {
     /// The runtime.
     fn rt(&self) -> Self::Rt;
 
-    /// What it takes memory from.
+    /// The allocator.
     fn alloc(&self) -> Global;
 
     /// Another handle with one share of this one's. Where there is no memory there is none.
@@ -57,48 +57,48 @@ pub trait Handle: Drop + 'static {
     /// The tape. Where there is one, it is locked during each step of the core and during each turn of a sink.
     fn tape(&self) -> &Mutex<Tape>;
 
-    /// The sinks' workers may end.
-    fn finish(&self);
+    /// Lets the sinks' workers end.
+    fn stop_sinks(&self);
 
     /// Whether the sinks' workers may end.
-    fn is_over(&self) -> bool;
+    fn is_stopping(&self) -> bool;
 
-    /// A line for a client's packets, with the half of its link that sends, where it has one.
-    fn open_line(&mut self, conn: ConnId, outlet: Option<Self::Outlet>) -> Mem<()>
+    /// Opens an output queue for the client `conn`, with the half of its link that sends, where it has one.
+    fn open_queue(&mut self, conn: ConnId, outlet: Option<Self::Outlet>) -> Mem<()>
         ensures { parts self.new ≡ parts self.old };
 
-    /// A client's line goes, and the client is told the end.
-    fn shut_line(&mut self, conn: ConnId)
+    /// Drops the output queue of the client `conn`, and shuts the half of its link that sends.
+    fn close_queue(&mut self, conn: ConnId)
         ensures { parts self.new ≡ parts self.old };
 
-    /// Whether a client has a line.
-    fn has_line(&self, conn: ConnId) -> bool;
+    /// Whether the client `conn` has an output queue.
+    fn has_queue(&self, conn: ConnId) -> bool;
 
-    /// Whether a client's own worker may have to send what waits for it. Else whoever makes a step sends what that has for clients.
-    fn is_sender(&self) -> bool;
+    /// Whether a client's own worker may have to send what waits for it. Else each worker that makes a step sends the packets of that step.
+    fn worker_sends(&self) -> bool;
 
-    /// What stands first in a client's line.
+    /// Takes out the first packet of a client's output queue, for the client's own worker.
     fn next_packet(&mut self, conn: ConnId) -> Next
         ensures { parts self.new ≡ parts self.old };
 
-    /// A client connects.
+    /// Connects the client `conn`.
     fn connect(&mut self, conn: ConnId) -> Result<(), CoreStop>
         ensures { parts self.new ≡ parts self.old };
 
-    /// The server ends a connection.
+    /// Ends the connection of the client `conn`, by the server.
     fn cut(&mut self, conn: ConnId) -> Result<(), CoreStop>
         ensures { parts self.new ≡ parts self.old };
 
-    /// A client has closed its connection.
+    /// Notes that the client `conn` has closed its connection.
     fn close(&mut self, conn: ConnId) -> Result<(), CoreStop>
         ensures { parts self.new ≡ parts self.old };
 
-    /// A frame of a client. One that finds no memory ends its connection.
+    /// Gives the core a frame of the client `conn`. A frame that finds no memory ends its connection.
     fn frame(&mut self, conn: ConnId, frame: Frame) -> Result<(), CoreStop>
         requires { IsBody frame.body }
         ensures { parts self.new ≡ parts self.old };
 
-    /// A fault in a client's bytes. One that finds no memory ends its connection.
+    /// Gives the core a fault in the bytes of the client `conn`, at the offset `at`. A fault that finds no memory ends the connection too.
     fn broken(&mut self, conn: ConnId, fault: FrameFault, at: u64) -> Result<(), CoreStop>
         ensures { parts self.new ≡ parts self.old };
 
@@ -106,8 +106,8 @@ pub trait Handle: Drop + 'static {
     fn post(&mut self, sink: SinkId) -> Result<(), CoreStop>
         ensures { parts self.new ≡ parts self.old };
 
-    /// All notices that a sink's mixer has posted. Where there was one, connections that found no memory end behind the last, what waits for
-    /// the sinks is posted, and what waits for the clients is sent.
+    /// Gives the core all notices that wait in a sink's outbox. After the last one, connections that found no memory end, what waits for the
+    /// sinks is posted, and what waits for the clients is sent.
     fn notices(&mut self, sink: SinkId) -> Result<(), CoreStop>
         ensures { parts self.new ≡ parts self.old };
 }

@@ -1,9 +1,9 @@
-//! What each worker of a live server does with what all workers share. `handle` says what that is, `line` what comes of a client's line. It
-//! exports `Handle` with `CoreStop`, and `Next` with `Rest`.
+//! The operations that a worker of a live server may perform on the shared state: `handle` has them as a trait, `out_queue` what a client's
+//! output queue holds next. It exports `Handle` with `CoreStop`, and `Next` with `PartlySent`.
 #![tactic(auto)]
 
 mod handle;
-mod line;
+mod out_queue;
 
 pub use handle::{CoreStop, Handle};
-pub use line::{Next, Rest};
+pub use out_queue::{Next, PartlySent};

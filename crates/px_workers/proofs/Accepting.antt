@@ -33,13 +33,13 @@ pub room_then : {X D R C : Type 0} (a b : Accepting X D R C) → HasRoom a → T
 room_then a b room taken = record { seats = let s = room.seats in let p = taken.parts in omega arith; few = taken.few }
 
 -- where no sink had a worker, those with one and those without are all
-pub all_started : {X : Type 0} (sinks lone were had : List X) → sinks ++ lone ≡ were ++ had → were ≡ [] → sinks ++ lone ≡ had
-all_started {X = X} sinks lone were had all none = all ∙ ap (λ (l : List X). l ++ had) none
+pub all_started : {X : Type 0} (sinks idle were had : List X) → sinks ++ idle ≡ were ++ had → were ≡ [] → sinks ++ idle ≡ had
+all_started {X = X} sinks idle were had all none = all ∙ ap (λ (l : List X). l ++ had) none
 
 -- and the shares that are left and those of the sinks are all
-pub parts_started : {X : Type 0} (parts before : ℕ) (sinks lone had : List X) → parts + length had ≡ before + length lone → sinks ++ lone ≡ had → parts + length sinks ≡ before
-parts_started {X = X} parts before sinks lone had given all = omega (arith, given, ap (length {A = X}) all, length-append sinks lone)
+pub parts_started : {X : Type 0} (parts before : ℕ) (sinks idle had : List X) → parts + length had ≡ before + length idle → sinks ++ idle ≡ had → parts + length sinks ≡ before
+parts_started {X = X} parts before sinks idle had given all = omega (arith, given, ap (length {A = X}) all, length-append sinks idle)
 
 -- there is room for all of them still
-pub room_left : {X : Type 0} (sinks lone had : List X) (capacity before : ℕ) → sinks ++ lone ≡ had → capacity ≡ before → length had ≤ before → length sinks + length lone ≤ capacity
-room_left {X = X} sinks lone had capacity before all same fits = omega (arith, same, fits, ap (length {A = X}) all, length-append sinks lone)
+pub room_left : {X : Type 0} (sinks idle had : List X) (capacity before : ℕ) → sinks ++ idle ≡ had → capacity ≡ before → length had ≤ before → length sinks + length idle ≤ capacity
+room_left {X = X} sinks idle had capacity before all same fits = omega (arith, same, fits, ap (length {A = X}) all, length-append sinks idle)

@@ -17,25 +17,25 @@ module _ {D E : Type 0} where
       ∙ ap (keeping (start_of before) (mailboxes_of before)) goes.tapes
 
   -- each part of what was kept
-  kept_part : {X : Type 0} (part : Kept → X) (lone before : List (Unworked D E)) → map kept_of lone ≡ map kept_of before → map (λ u. part (kept_of u)) lone ≡ map (λ u. part (kept_of u)) before
-  kept_part part lone before kept = sym (map-map part kept_of lone) ∙ ap (map part) kept ∙ map-map part kept_of before
+  kept_part : {X : Type 0} (part : Kept → X) (idle before : List (Unworked D E)) → map kept_of idle ≡ map kept_of before → map (λ u. part (kept_of u)) idle ≡ map (λ u. part (kept_of u)) before
+  kept_part part idle before kept = sym (map-map part kept_of idle) ∙ ap (map part) kept ∙ map-map part kept_of before
 
-  pub starts_kept : (lone before : List (Unworked D E)) → map kept_of lone ≡ map kept_of before → map start_of lone ≡ map start_of before
+  pub starts_kept : (idle before : List (Unworked D E)) → map kept_of idle ≡ map kept_of before → map start_of idle ≡ map start_of before
   starts_kept = kept_part (λ k. k.start)
 
-  pub boxes_kept : (lone before : List (Unworked D E)) → map kept_of lone ≡ map kept_of before → map mailboxes_of lone ≡ map mailboxes_of before
+  pub boxes_kept : (idle before : List (Unworked D E)) → map kept_of idle ≡ map kept_of before → map mailboxes_of idle ≡ map mailboxes_of before
   boxes_kept = kept_part (λ k. k.boxes)
 
-  pub tapes_kept : (lone before : List (Unworked D E)) → map kept_of lone ≡ map kept_of before → map tapes_in lone ≡ map tapes_in before
+  pub tapes_kept : (idle before : List (Unworked D E)) → map kept_of idle ≡ map kept_of before → map tapes_in idle ≡ map tapes_in before
   tapes_kept = kept_part (λ k. k.tapes)
 
 -- one was joined, and stands before those that no worker had
-pub joined_one : {X Y : Type 0} (f : X → Y) (sinks rest lone next : List X) (given back : X)
-    → sinks ≡ rest ++ given ∷ [] → next ≡ back ∷ lone → f back ≡ f given → map f (rest ++ next) ≡ map f (sinks ++ lone)
-joined_one f sinks rest lone next given back behind front same =
+pub joined_one : {X Y : Type 0} (f : X → Y) (sinks rest idle next : List X) (given back : X)
+    → sinks ≡ rest ++ given ∷ [] → next ≡ back ∷ idle → f back ≡ f given → map f (rest ++ next) ≡ map f (sinks ++ idle)
+joined_one f sinks rest idle next given back behind front same =
     ap (λ (l : List _). map f (rest ++ l)) front
-    ∙ map-append f rest (back ∷ lone)
-    ∙ ap (λ (y : _). map f rest ++ (y ∷ map f lone)) same
-    ∙ sym (map-append f rest (given ∷ lone))
-    ∙ ap (map f) (sym (append_assoc rest (given ∷ []) lone))
-    ∙ ap (λ (l : List _). map f (l ++ lone)) (sym behind)
+    ∙ map-append f rest (back ∷ idle)
+    ∙ ap (λ (y : _). map f rest ++ (y ∷ map f idle)) same
+    ∙ sym (map-append f rest (given ∷ idle))
+    ∙ ap (map f) (sym (append_assoc rest (given ∷ []) idle))
+    ∙ ap (λ (l : List _). map f (l ++ idle)) (sym behind)

@@ -9,7 +9,7 @@ pub record Starting (X Y D R C : Type 0) : Type 0 where
   pub parts : ℕ
   pub clients : Y
   pub sinks : List X
-  pub lone : List X
+  pub idle : List X
   pub capacity : ℕ
   pub host : HostState D R C
 
@@ -22,9 +22,9 @@ pub record Accepting (X D R C : Type 0) : Type 0 where
 
 -- workers have started, in the order of the sinks, each with a share; clients stay, no count of the host has fallen, and what it has lent stays so
 pub record Starts {X Y D R C : Type 0} (before after : Starting X Y D R C) : Type 0 where
-  pub parts : after.parts + length before.lone ≡ before.parts + length after.lone
+  pub parts : after.parts + length before.idle ≡ before.parts + length after.idle
   pub clients : after.clients ≡ before.clients
-  pub all : after.sinks ++ after.lone ≡ before.sinks ++ before.lone
+  pub all : after.sinks ++ after.idle ≡ before.sinks ++ before.idle
   pub capacity : after.capacity ≡ before.capacity
   pub later : IsLater before.host after.host
   pub lent : after.host.lent ≡ before.host.lent

@@ -10,23 +10,23 @@ use Rattle.px_model.specs.Sink.{Sink}
 use Rattle.px_lane_cell.specs.declared.ends.Boxes.{Boxes}
 use Rattle.px_lane_cell.specs.Cell.{Cell}
 use Rattle.px_lane_cell.specs.History.{unturned}
-use Rattle.px_workers.specs.declared.lone.Met.{Met}
-use Rattle.px_workers.specs.declared.lone.Met.TheVariants.{Nothing, Stopped, Unrecorded}
-use Rattle.px_workers.specs.declared.lone.Went.{Went}
-use Rattle.px_workers.specs.declared.lone.Went.TheVariants.{Made, NotYet, Ended}
+use Rattle.px_workers.specs.declared.sink_state.SinkFault.{SinkFault}
+use Rattle.px_workers.specs.declared.sink_state.SinkFault.TheVariants.{Nothing, Stopped, Unrecorded}
+use Rattle.px_workers.specs.declared.sink_state.TurnOutcome.{TurnOutcome}
+use Rattle.px_workers.specs.declared.sink_state.TurnOutcome.TheVariants.{Made, NotYet, Ended}
 use Rattle.px_tape.specs.Tape.{Turns}
 
 -- what a worker met has its cause in its sink's device or recorder, by their counts of faults and of Fulls; it met nothing only where nothing failed
-abbrev pub IsMet : ℕ → ℕ → ℕ → Met → Type 0
-IsMet device_faults faults fulls Nothing = (device_faults ≡ 0) × (faults ≡ 0) × (fulls ≡ 0)
-IsMet device_faults faults fulls Stopped = 1 ≤ device_faults
-IsMet device_faults faults fulls (Unrecorded record_fault.NoMemory) = ⊤
-IsMet device_faults faults fulls (Unrecorded (record_fault.Full entries bytes)) = 1 ≤ fulls
-IsMet device_faults faults fulls (Unrecorded record_fault.Failed) = 1 ≤ faults
+abbrev pub IsFaultOf : ℕ → ℕ → ℕ → SinkFault → Type 0
+IsFaultOf device_faults faults fulls Nothing = (device_faults ≡ 0) × (faults ≡ 0) × (fulls ≡ 0)
+IsFaultOf device_faults faults fulls Stopped = 1 ≤ device_faults
+IsFaultOf device_faults faults fulls (Unrecorded record_fault.NoMemory) = ⊤
+IsFaultOf device_faults faults fulls (Unrecorded (record_fault.Full entries bytes)) = 1 ≤ fulls
+IsFaultOf device_faults faults fulls (Unrecorded record_fault.Failed) = 1 ≤ faults
 
 -- a cell whose worker met this so far
-pub record IsHonest {D E : Type 0} (now : D → DeviceState) (faults fulls : E → ℕ) (cell : Cell D E) (seen : Met) : Type 0 where
-  pub met : IsMet (now cell.lane.device).faults (faults cell.recorder) (fulls cell.recorder) seen
+pub record IsHonest {D E : Type 0} (now : D → DeviceState) (faults fulls : E → ℕ) (cell : Cell D E) (seen : SinkFault) : Type 0 where
+  pub sink_fault : IsFaultOf (now cell.lane.device).faults (faults cell.recorder) (fulls cell.recorder) seen
   pub stopped : IsTrue cell.lane.sink.stopped → 1 ≤ (now cell.lane.device).faults
 
 -- where there is a tape and the recorder tells, as many turns are kept for it as the recorder has entries
@@ -35,7 +35,7 @@ AreTaped told recorder None = ⊤
 AreTaped told recorder (Some t) = IfSome (told recorder) (λ entries. length t.turns ≡ length entries)
 
 -- what the recorder holds after a turn: one entry more where it was made
-abbrev pub Notes : {E : Type 0} → (E → Option (List LaneEntry)) → Went → E → E → Type 0
+abbrev pub Notes : {E : Type 0} → (E → Option (List LaneEntry)) → TurnOutcome → E → E → Type 0
 Notes told (Made frames) before after = (entry : LaneEntry) × (told after ≡ noted entry (told before))
 Notes told NotYet before after = told after ≡ told before
 Notes told Ended before after = told after ≡ told before
@@ -44,7 +44,7 @@ Notes told Ended before after = told after ≡ told before
 pub record Unworked (D E : Type 0) : Type 0 where
   pub sink : SinkId
   pub cell : Cell D E
-  pub met : Met
+  pub sink_fault : SinkFault
   pub turns : Option Turns
 
 -- a sink before its first turn, with its index

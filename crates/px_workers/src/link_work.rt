@@ -10,11 +10,11 @@ use crate::worker::Worker;
 use px_ends::{Link, Recv, Sent};
 use px_frame::{Decoder, Frame, FrameError};
 use px_types::ConnId;
-use px_worker_api::{CoreStop, Handle, Next, Rest};
+use px_worker_api::{CoreStop, Handle, Next, PartlySent};
 use std::collections::VecDeque;
 use std::sync::Wait;
 
-// How many bytes are received at once.
+// The most bytes that are received at once.
 const PIECE: usize = 16_384;
 
 // Whether a client is still there.
@@ -24,8 +24,8 @@ enum Flow {
     Ended,
 }
 
-/// The work at one client's link: what it sends goes to the core frame by frame, and what the core has for it is sent, where whoever made the
-/// step hasn't.
+/// The work at one client's link: its bytes go to the core frame by frame, and packets that wait for it are sent, where the worker that made
+/// the step hasn't sent them.
 #[derive(Drop)]
 pub(crate) struct LinkWork<W: Handle, A, G> {
     pub worker: Worker<W, G>,
@@ -33,8 +33,8 @@ pub(crate) struct LinkWork<W: Handle, A, G> {
     pub link: A,
 }
 
-// Sends what is left of a packet, as far as the link is ready.
-fn send_rest<A: Link>(link: &mut A, sending: &mut Option<Rest>) -> Sent {
+// Sends the rest of the packet in `sending`, as far as the link is ready.
+fn send_rest<A: Link>(link: &mut A, sending: &mut Option<PartlySent>) -> Sent {
     let Some(rest) = sending else {
         return Sent::Bytes(0);
     };
@@ -58,15 +58,15 @@ where
     A: Link + Drop,
     G: Gate + Drop,
 {
-    /// The handle of work that no thread does.
+    /// The handle, where no thread does the work.
     pub(crate) fn into_handle(self) -> W
         ensures { result ≡ self.worker.handle }
     {
         self.worker.handle
     }
 
-    // What stands first in the client's line is to be sent next. Where nothing does, how it goes on.
-    fn fetch(&mut self, sending: &mut Option<Rest>) -> Option<Flow>
+    // Takes the first packet of the client's output queue into `sending`. Where there is none, how the work goes on.
+    fn next_to_send(&mut self, sending: &mut Option<PartlySent>) -> Option<Flow>
         ensures parts { W.parts self.new.worker.handle ≡ W.parts self.old.worker.handle }
     {
         match self.worker.handle.next_packet(self.conn) {
@@ -82,15 +82,15 @@ where
         }
     }
 
-    // Sends what waits for the client and nobody else has sent, as far as its link is ready.
-    fn send(&mut self, sending: &mut Option<Rest>) -> Flow
+    // Sends what waits for the client and no other worker has sent, as far as its link is ready.
+    fn send(&mut self, sending: &mut Option<PartlySent>) -> Flow
         ensures parts { W.parts self.new.worker.handle ≡ W.parts self.old.worker.handle }
     {
         let rt = self.worker.handle.rt();
         for _ in rt.forever() {
             match send_rest(&mut self.link, sending) {
                 Sent::Bytes(0) => {
-                    if let Some(flow) = self.fetch(sending) {
+                    if let Some(flow) = self.next_to_send(sending) {
                         return flow;
                     }
                 }
@@ -102,8 +102,8 @@ where
         unreachable!()
     }
 
-    // The frames of some bytes, each a step.
-    fn take(&mut self, frames: Vec<Frame>) -> Result<(), CoreStop>
+    // Gives the core each of `frames`.
+    fn step_frames(&mut self, frames: Vec<Frame>) -> Result<(), CoreStop>
         requires { All (λ f. IsBody f.body) frames.items }
         ensures parts { W.parts self.new.worker.handle ≡ W.parts self.old.worker.handle }
     {
@@ -115,14 +115,14 @@ where
         Ok(())
     }
 
-    // Some bytes of the client.
-    fn hear(&mut self, decoder: &mut Decoder, bytes: &[u8]) -> Result<(), CoreStop>
+    // Decodes `bytes` of the client, and gives the core its frames.
+    fn receive(&mut self, decoder: &mut Decoder, bytes: &[u8]) -> Result<(), CoreStop>
         ensures parts { W.parts self.new.worker.handle ≡ W.parts self.old.worker.handle }
     {
         match decoder.feed(bytes, &mut self.worker.blocks) {
-            Ok(frames) => self.take(frames.into_vec()),
+            Ok(frames) => self.step_frames(frames.into_vec()),
             Err(FrameError::Fault { frames, fault, at }) => {
-                self.take(frames.into_vec())?;
+                self.step_frames(frames.into_vec())?;
                 self.worker.handle.broken(self.conn, fault, at)
             }
             Err(FrameError::Failed { .. }) => Ok(()),
@@ -130,15 +130,21 @@ where
         }
     }
 
-    // One round: what came is heard, and what nobody else has sent is sent. Where nothing came for a while it is looked for.
-    fn round(&mut self, sending: &mut Option<Rest>, decoder: &mut Decoder, piece: &mut [u8]) -> Flow
+    // One round: bytes that came are decoded, and packets that no other worker has sent are sent. Where no bytes came for a while, the queue is
+    // looked into as well.
+    fn round(
+        &mut self,
+        sending: &mut Option<PartlySent>,
+        decoder: &mut Decoder,
+        piece: &mut [u8],
+    ) -> Flow
         requires { 0 < length piece.old }
         ensures piece { length piece.new ≡ length piece.old }
         ensures parts { W.parts self.new.worker.handle ≡ W.parts self.old.worker.handle }
     {
         match self.link.recv(piece) {
-            Recv::Bytes(count) => match self.hear(decoder, &piece[..count]) {
-                Ok(()) if self.worker.handle.is_sender() => self.send(sending),
+            Recv::Bytes(count) => match self.receive(decoder, &piece[..count]) {
+                Ok(()) if self.worker.handle.worker_sends() => self.send(sending),
                 Ok(()) => Flow::On,
                 Err(_) => Flow::Ended,
             },
@@ -147,8 +153,8 @@ where
         }
     }
 
-    // All rounds until the client or the server ends.
-    fn rounds(&mut self, sending: &mut Option<Rest>, decoder: &mut Decoder, piece: &mut [u8])
+    // Makes rounds until the client or the server ends.
+    fn rounds(&mut self, sending: &mut Option<PartlySent>, decoder: &mut Decoder, piece: &mut [u8])
         requires { 0 < length piece.old }
         ensures parts { W.parts self.new.worker.handle ≡ W.parts self.old.worker.handle }
     {

@@ -5,8 +5,8 @@ ghost use Rattle.px_workers.specs.Working.{GoesOn};
 
 use crate::gate::Gate;
 use crate::link_work::LinkWork;
-use crate::lone::Lone;
 use crate::running::Running;
+use crate::sink_state::SinkState;
 use crate::sink_work::SinkWork;
 use px_annals::{LaneEntry, Recorder};
 use px_ends::{Device, Link};
@@ -90,7 +90,7 @@ where
 
     ghost Value = { Unworked D E };
 
-    ghost view = { λ r. (given_to r.running).lone };
+    ghost view = { λ r. (given_to r.running).state };
 
     ghost invariant = { λ r. W.parts ((given_to r.running).worker.handle) ≡ 1 };
 }
@@ -105,13 +105,13 @@ where
     G: Gate + Drop + Send + Sync,
 {
     /// Waits for the end of its work, and hands the sink back. Its share goes to this handle.
-    pub(crate) fn join(self, handle: &mut W) -> Lone<D, E>
+    pub(crate) fn join(self, handle: &mut W) -> SinkState<D, E>
         ensures parts { W.parts handle.new ≡ W.parts handle.old + 1 }
         ensures goes { GoesOn self result }
     {
         let job = self.running.join(&handle.rt());
-        let (other, lone) = job.into_parts();
+        let (other, state) = job.into_parts();
         handle.take_back(other);
-        lone
+        state
     }
 }

@@ -7,8 +7,8 @@ ghost use Rattle.px_workers.specs.Working.{start_of, mailboxes_of, tapes_in, kep
 
 use crate::gate::Gate;
 use crate::hosting::{ask, next_link};
-use crate::lone::Lone;
 use crate::runs::{Client, SinkRun};
+use crate::sink_state::SinkState;
 use crate::starting::{add_client, connect, depart, start_next};
 use crate::stop::Stop;
 use px_ends::Host;
@@ -69,7 +69,7 @@ where
         ensures fewer { length self.new.clients.items ≤ length self.old.clients.items + 1 }
         ensures sinks { self.new.sinks ≡ self.old.sinks }
     {
-        if self.handle.has_line(client.conn) {
+        if self.handle.has_queue(client.conn) {
             self.clients.push_back_reserved(client);
         } else {
             client.join(&mut self.handle);
@@ -142,7 +142,7 @@ where
         self.admit(link, outlet)
     }
 
-    // Takes in clients until no more come. A host hands out so many links at most.
+    // Takes in clients until no more come: a host hands out at most 65,535 links.
     fn accept_all(&mut self, host: &mut H) -> Stop
         requires room { HasRoom (record { parts = W.parts self.old.handle; clients = length self.old.clients.items; sinks = self.old.sinks; host = H.now host.old }) }
         ensures takes { Takes (record { parts = W.parts self.old.handle; clients = length self.old.clients.items; sinks = self.old.sinks; host = H.now host.old }) (record { parts = W.parts self.new.handle; clients = length self.new.clients.items; sinks = self.new.sinks; host = H.now host.new }) }
@@ -156,15 +156,19 @@ where
     }
 
     // Starts the worker of the next sink, of those that there are, where the host lets it. Where that can't be, the sink stays.
-    fn start_one(&mut self, lone: &mut VecDeque<Lone<H::D, H::R>>, host: &mut H) -> Result<(), Stop>
+    fn start_one(
+        &mut self,
+        idle: &mut VecDeque<SinkState<H::D, H::R>>,
+        host: &mut H,
+    ) -> Result<(), Stop>
         requires seats { 1 < W.parts self.old.handle }
-        requires some { 0 < length lone.old.items }
-        ensures starts { Starts (record { parts = W.parts self.old.handle; clients = self.old.clients; sinks = self.old.sinks.items; lone = lone.old.items; capacity = deque_capacity lone.old; host = H.now host.old }) (record { parts = W.parts self.new.handle; clients = self.new.clients; sinks = self.new.sinks.items; lone = lone.new.items; capacity = deque_capacity lone.new; host = H.now host.new }) }
-        ensures fewer { OnOk result (length lone.new.items < length lone.old.items) }
+        requires some { 0 < length idle.old.items }
+        ensures starts { Starts (record { parts = W.parts self.old.handle; clients = self.old.clients; sinks = self.old.sinks.items; idle = idle.old.items; capacity = deque_capacity idle.old; host = H.now host.old }) (record { parts = W.parts self.new.handle; clients = self.new.clients; sinks = self.new.sinks.items; idle = idle.new.items; capacity = deque_capacity idle.new; host = H.now host.new }) }
+        ensures fewer { OnOk result (length idle.new.items < length idle.old.items) }
         ensures cause { IfErr result (λ stop. IsCauseOf stop (H.now host.old) (H.now host.new)) }
     {
         ask(host)?;
-        match start_next(&mut self.handle, &self.gate, &mut self.sinks, lone) {
+        match start_next(&mut self.handle, &self.gate, &mut self.sinks, idle) {
             Ok(()) => Ok(()),
             Err(_) => Err(Stop::Memory),
         }
@@ -173,83 +177,83 @@ where
     // Starts the workers of the sinks, in order, as far as that can be.
     fn start_sinks(
         &mut self,
-        lone: &mut VecDeque<Lone<H::D, H::R>>,
+        idle: &mut VecDeque<SinkState<H::D, H::R>>,
         host: &mut H,
     ) -> Result<(), Stop>
-        requires { length lone.old.items < W.parts self.old.handle }
-        ensures starts { Starts (record { parts = W.parts self.old.handle; clients = self.old.clients; sinks = self.old.sinks.items; lone = lone.old.items; capacity = deque_capacity lone.old; host = H.now host.old }) (record { parts = W.parts self.new.handle; clients = self.new.clients; sinks = self.new.sinks.items; lone = lone.new.items; capacity = deque_capacity lone.new; host = H.now host.new }) }
+        requires { length idle.old.items < W.parts self.old.handle }
+        ensures starts { Starts (record { parts = W.parts self.old.handle; clients = self.old.clients; sinks = self.old.sinks.items; idle = idle.old.items; capacity = deque_capacity idle.old; host = H.now host.old }) (record { parts = W.parts self.new.handle; clients = self.new.clients; sinks = self.new.sinks.items; idle = idle.new.items; capacity = deque_capacity idle.new; host = H.now host.new }) }
         ensures cause { IfErr result (λ stop. IsCauseOf stop (H.now host.old) (H.now host.new)) }
     {
-        while !lone.is_empty() {
-            self.start_one(lone, host)?;
+        while !idle.is_empty() {
+            self.start_one(idle, host)?;
         }
         Ok(())
     }
 
     // Starts the workers of the sinks, and takes in clients until no more come.
-    fn work(&mut self, host: &mut H, lone: &mut VecDeque<Lone<H::D, H::R>>) -> Stop
+    fn work(&mut self, host: &mut H, idle: &mut VecDeque<SinkState<H::D, H::R>>) -> Stop
         requires idle { (self.old.sinks.items ≡ []) × (self.old.clients.items ≡ []) }
         requires seats { W.parts self.old.handle ≡ 65552 }
-        requires few { length lone.old.items ≤ 16 }
+        requires few { length idle.old.items ≤ 16 }
         ensures parts { W.parts self.new.handle + length self.new.sinks.items + length self.new.clients.items ≡ 65552 }
-        ensures all { self.new.sinks.items ++ lone.new.items ≡ lone.old.items }
-        ensures capacity { deque_capacity lone.new ≡ deque_capacity lone.old }
+        ensures all { self.new.sinks.items ++ idle.new.items ≡ idle.old.items }
+        ensures capacity { deque_capacity idle.new ≡ deque_capacity idle.old }
         ensures later { IsLater (H.now host.old) (H.now host.new) }
         ensures lent { (H.now host.new).lent ≡ (H.now host.old).lent }
         ensures cause { IsCauseOf result (H.now host.old) (H.now host.new) }
     {
-        match self.start_sinks(lone, host) {
+        match self.start_sinks(idle, host) {
             Ok(()) => self.accept_all(host),
             Err(stop) => stop,
         }
     }
 
     // Joins the workers of the sinks, which go before those that no worker had.
-    fn join_sinks(&mut self, lone: &mut VecDeque<Lone<H::D, H::R>>)
-        requires room { length self.old.sinks.items + length lone.old.items ≤ deque_capacity lone.old }
+    fn join_sinks(&mut self, idle: &mut VecDeque<SinkState<H::D, H::R>>)
+        requires room { length self.old.sinks.items + length idle.old.items ≤ deque_capacity idle.old }
         ensures parts { W.parts self.new.handle ≡ W.parts self.old.handle + length self.old.sinks.items }
-        ensures kept { map kept_of lone.new.items ≡ map kept_of (self.old.sinks.items ++ lone.old.items) }
+        ensures kept { map kept_of idle.new.items ≡ map kept_of (self.old.sinks.items ++ idle.old.items) }
     {
         while let Some(run) = self.sinks.pop_back() {
-            lone.push_front_reserved(run.join(&mut self.handle));
+            idle.push_front_reserved(run.join(&mut self.handle));
         }
     }
 
     // Joins all workers, those of the clients first.
-    fn join_all(&mut self, lone: &mut VecDeque<Lone<H::D, H::R>>)
-        requires room { length self.old.sinks.items + length lone.old.items ≤ deque_capacity lone.old }
+    fn join_all(&mut self, idle: &mut VecDeque<SinkState<H::D, H::R>>)
+        requires room { length self.old.sinks.items + length idle.old.items ≤ deque_capacity idle.old }
         ensures parts { W.parts self.new.handle ≡ W.parts self.old.handle + length self.old.sinks.items + length self.old.clients.items }
-        ensures kept { map kept_of lone.new.items ≡ map kept_of (self.old.sinks.items ++ lone.old.items) }
+        ensures kept { map kept_of idle.new.items ≡ map kept_of (self.old.sinks.items ++ idle.old.items) }
     {
         self.join_clients();
-        self.handle.finish();
-        self.join_sinks(lone);
+        self.handle.stop_sinks();
+        self.join_sinks(idle);
     }
 
     // Joins all workers. What is left is the call's own hold of the core, with all shares.
-    fn joined(mut self, lone: &mut VecDeque<Lone<H::D, H::R>>) -> W
+    fn joined(mut self, idle: &mut VecDeque<SinkState<H::D, H::R>>) -> W
         requires parts { W.parts self.handle + length self.sinks.items + length self.clients.items ≡ 65552 }
-        requires room { length self.sinks.items + length lone.old.items ≤ deque_capacity lone.old }
+        requires room { length self.sinks.items + length idle.old.items ≤ deque_capacity idle.old }
         ensures seats { W.parts result ≡ 65552 }
-        ensures kept { map kept_of lone.new.items ≡ map kept_of (self.sinks.items ++ lone.old.items) }
+        ensures kept { map kept_of idle.new.items ≡ map kept_of (self.sinks.items ++ idle.old.items) }
     {
-        self.join_all(lone);
+        self.join_all(idle);
         self.handle
     }
 
     // All that workers do, from their start to their end. What is left is the call's own hold of the core, with all shares, and why it stopped.
-    fn worked(mut self, host: &mut H, lone: &mut VecDeque<Lone<H::D, H::R>>) -> (W, Stop)
+    fn worked(mut self, host: &mut H, idle: &mut VecDeque<SinkState<H::D, H::R>>) -> (W, Stop)
         requires idle { (self.sinks.items ≡ []) × (self.clients.items ≡ []) }
         requires seats { W.parts self.handle ≡ 65552 }
-        requires few { length lone.old.items ≤ 16 }
+        requires few { length idle.old.items ≤ 16 }
         ensures seats { W.parts result.0 ≡ 65552 }
-        ensures kept { map kept_of lone.new.items ≡ map kept_of lone.old.items }
+        ensures kept { map kept_of idle.new.items ≡ map kept_of idle.old.items }
         ensures later { IsLater (H.now host.old) (H.now host.new) }
         ensures lent { (H.now host.new).lent ≡ (H.now host.old).lent }
         ensures cause { IsCauseOf result.1 (H.now host.old) (H.now host.new) }
     {
-        let stop = self.work(host, lone);
-        (self.joined(lone), stop)
+        let stop = self.work(host, idle);
+        (self.joined(idle), stop)
     }
 }
 
@@ -260,7 +264,7 @@ pub fn serve_all<W, H, G>(
     handle: W,
     host: &mut H,
     gate: Arc<G>,
-    lone: &mut VecDeque<Lone<H::D, H::R>>,
+    idle: &mut VecDeque<SinkState<H::D, H::R>>,
 ) -> (W, Stop)
 where
     H: Host,
@@ -273,14 +277,14 @@ where
     W::Blocks: Send,
     G: Gate + Drop + Send + Sync + 'static,
     requires seats { W.parts handle ≡ 65552 }
-    requires few { length lone.old.items ≤ 16 }
+    requires few { length idle.old.items ≤ 16 }
     ensures seats { W.parts result.0 ≡ 65552 }
-    ensures starts { map start_of lone.new.items ≡ map start_of lone.old.items }
-    ensures boxes { map mailboxes_of lone.new.items ≡ map mailboxes_of lone.old.items }
-    ensures tapes { map tapes_in lone.new.items ≡ map tapes_in lone.old.items }
+    ensures starts { map start_of idle.new.items ≡ map start_of idle.old.items }
+    ensures boxes { map mailboxes_of idle.new.items ≡ map mailboxes_of idle.old.items }
+    ensures tapes { map tapes_in idle.new.items ≡ map tapes_in idle.old.items }
     ensures later { IsLater (H.now host.old) (H.now host.new) }
     ensures lent { (H.now host.new).lent ≡ (H.now host.old).lent }
     ensures cause { IsCauseOf result.1 (H.now host.old) (H.now host.new) }
 {
-    Serving::<W, H, G>::new(handle, gate).worked(host, lone)
+    Serving::<W, H, G>::new(handle, gate).worked(host, idle)
 }

@@ -1,27 +1,27 @@
-//! The work of one sink.
+//! The work of one sink: its turns.
 ghost use Rattle.std.specs.Prelude.{◌≡◌};
 ghost use Rattle.px_workers.specs.Working.{GoesOn};
 
 use crate::gate::Gate;
 use crate::job::Job;
-use crate::lone::{Lone, Went};
+use crate::sink_state::{SinkState, TurnOutcome};
 use crate::worker::Worker;
 use px_annals::{LaneEntry, Recorder};
 use px_ends::Device;
 use px_worker_api::{CoreStop, Handle};
 
-// How many messages a mailbox holds.
+// The places of a mailbox: a turn that took as many messages found its inbox full.
 const FULL: u32 = 256;
 
 // How many turns a sink makes once the clients have gone: by the program's gate a tenth of a second, in which the frames that couldn't
 // change any more are played.
 const LAST_TURNS: u32 = 20;
 
-/// The work of one sink: its turns, and what they tell the core.
+/// The work of one sink: its turns, and the notices of each turn, which go to the core.
 #[derive(Drop)]
 pub(crate) struct SinkWork<W: Handle, D: Device, E: Recorder<LaneEntry>, G> {
     pub worker: Worker<W, G>,
-    pub lone: Lone<D, E>,
+    pub state: SinkState<D, E>,
 }
 
 impl<W, D, E, G> SinkWork<W, D, E, G>
@@ -31,51 +31,51 @@ where
     E: Recorder<LaneEntry> + Drop,
     G: Gate + Drop,
 {
-    /// The handle and the sink of work that no thread does.
-    pub(crate) fn into_parts(self) -> (W, Lone<D, E>)
+    /// The handle and the sink, where no thread does the work.
+    pub(crate) fn into_parts(self) -> (W, SinkState<D, E>)
         ensures handle { result.0 ≡ self.worker.handle }
-        ensures lone { result.1 ≡ self.lone }
+        ensures state { result.1 ≡ self.state }
     {
-        let SinkWork { worker, lone } = self;
-        (worker.handle, lone)
+        let SinkWork { worker, state } = self;
+        (worker.handle, state)
     }
 
-    // What a turn tells the core. A full inbox may have left messages there.
-    fn tell(&mut self) -> Result<(), CoreStop>
+    // Gives the core the notices of a turn. Where the turn took a full inbox, the messages that were left in the core are posted first.
+    fn give_notices(&mut self) -> Result<(), CoreStop>
         ensures parts { W.parts self.new.worker.handle ≡ W.parts self.old.worker.handle }
-        ensures lone { self.new.lone ≡ self.old.lone }
+        ensures state { self.new.state ≡ self.old.state }
     {
-        if self.lone.cell.taken() == FULL {
-            self.worker.handle.post(self.lone.sink)?;
+        if self.state.cell.taken() == FULL {
+            self.worker.handle.post(self.state.sink)?;
         }
-        if self.lone.cell.given() == 0 {
+        if self.state.cell.given() == 0 {
             return Ok(());
         }
-        self.worker.handle.notices(self.lone.sink)
+        self.worker.handle.notices(self.state.sink)
     }
 
-    // One turn, and what it tells the core. `false` where there are no more.
+    // Runs one turn and gives the core its notices; false where no more turns can be made.
     fn turn(&mut self) -> bool
         ensures parts { W.parts self.new.worker.handle ≡ W.parts self.old.worker.handle }
-        ensures goes { GoesOn self.old.lone self.new.lone }
+        ensures goes { GoesOn self.old.state self.new.state }
     {
         let rt = self.worker.handle.rt();
         let alloc = self.worker.handle.alloc();
         let tape = self.worker.handle.tape();
-        let went = self.lone.turn(&rt, alloc, tape, &mut self.worker.blocks);
-        went != Went::Ended && self.tell().is_ok()
+        let outcome = self.state.turn(&rt, alloc, tape, &mut self.worker.blocks);
+        outcome != TurnOutcome::Ended && self.give_notices().is_ok()
     }
 
-    // The next turn of those until the clients have gone, and of so many behind them. `false` where there are no more.
+    // Runs one turn; false once the clients are gone and `left` further turns are done.
     fn next_turn(&mut self, left: &mut u32) -> bool
         ensures parts { W.parts self.new.worker.handle ≡ W.parts self.old.worker.handle }
-        ensures goes { GoesOn self.old.lone self.new.lone }
+        ensures goes { GoesOn self.old.state self.new.state }
     {
-        self.worker.gate.before_turn(self.lone.sink);
+        self.worker.gate.before_turn(self.state.sink);
         if !self.turn() {
             return false;
         }
-        if self.worker.handle.is_over() {
+        if self.worker.handle.is_stopping() {
             if *left == 0 {
                 return false;
             }
@@ -84,10 +84,10 @@ where
         true
     }
 
-    // All turns, until the clients have gone and what they left was played.
+    // Runs all turns, until the clients have gone and what they left was played.
     fn run(&mut self)
         ensures parts { W.parts self.new.worker.handle ≡ W.parts self.old.worker.handle }
-        ensures goes { GoesOn self.old.lone self.new.lone }
+        ensures goes { GoesOn self.old.state self.new.state }
     {
         let rt = self.worker.handle.rt();
         let mut left = LAST_TURNS;
@@ -111,7 +111,7 @@ where
     ghost use Rattle.std.specs.Prelude.{◌≡◌, refl};
     ghost use Rattle.px_workers.specs.Working.{GoesOn};
 
-    ghost keeps = { λ before after. (W.parts after.worker.handle ≡ W.parts before.worker.handle) × GoesOn before.lone after.lone };
+    ghost keeps = { λ before after. (W.parts after.worker.handle ≡ W.parts before.worker.handle) × GoesOn before.state after.state };
 
     fn work(&mut self) {
         self.run();

@@ -5,9 +5,9 @@ ghost use Rattle.px_workers.specs.Hosted.{IsOwn};
 
 use crate::gate::Gate;
 use crate::link_work::LinkWork;
-use crate::lone::Lone;
 use crate::running::start;
 use crate::runs::{Client, SinkRun};
+use crate::sink_state::SinkState;
 use crate::sink_work::SinkWork;
 use crate::stop::Stop;
 use crate::worker::Worker;
@@ -22,8 +22,8 @@ use std::thread::Threads;
 // Starts a worker with a sink. Where that can't be, its handle and the sink come back.
 fn start_with<W, D, E, G>(
     worker: Worker<W, G>,
-    lone: Lone<D, E>,
-) -> Result<SinkRun<W, D, E, G>, (W, Lone<D, E>)>
+    idle: SinkState<D, E>,
+) -> Result<SinkRun<W, D, E, G>, (W, SinkState<D, E>)>
 where
     W: Handle + Send,
     W::Rt: Threads + Send + Sync,
@@ -32,12 +32,19 @@ where
     E: Recorder<LaneEntry> + Drop + Send + 'static,
     G: Gate + Drop + Send + Sync + 'static,
     requires { W.parts worker.handle ≡ 1 }
-    ensures ok { IfOk result (λ run. run ≡ lone) }
-    ensures err { IfErr result (λ back. (W.parts back.0 ≡ 1) × (back.1 ≡ lone)) }
+    ensures ok { IfOk result (λ run. run ≡ idle) }
+    ensures err { IfErr result (λ back. (W.parts back.0 ≡ 1) × (back.1 ≡ idle)) }
 {
     let rt = worker.handle.rt();
     let alloc = worker.handle.alloc();
-    match start(&rt, alloc, SinkWork { worker, lone }) {
+    match start(
+        &rt,
+        alloc,
+        SinkWork {
+            worker,
+            state: idle,
+        },
+    ) {
         Ok(running) => Ok(SinkRun { running }),
         Err(job) => Err(job.into_parts()),
     }
@@ -47,8 +54,8 @@ where
 fn start_sink<W, D, E, G>(
     handle: &mut W,
     gate: &Arc<G>,
-    lone: Lone<D, E>,
-) -> Result<SinkRun<W, D, E, G>, Lone<D, E>>
+    idle: SinkState<D, E>,
+) -> Result<SinkRun<W, D, E, G>, SinkState<D, E>>
 where
     W: Handle + Send,
     W::Rt: Threads + Send + Sync,
@@ -57,22 +64,22 @@ where
     E: Recorder<LaneEntry> + Drop + Send + 'static,
     G: Gate + Drop + Send + Sync + 'static,
     requires { 1 < W.parts handle.old }
-    ensures ok { IfOk result (λ run. (run ≡ lone) × (W.parts handle.new + 1 ≡ W.parts handle.old)) }
-    ensures err { IfErr result (λ back. (back ≡ lone) × (W.parts handle.new ≡ W.parts handle.old)) }
+    ensures ok { IfOk result (λ run. (run ≡ idle) × (W.parts handle.new + 1 ≡ W.parts handle.old)) }
+    ensures err { IfErr result (λ back. (back ≡ idle) × (W.parts handle.new ≡ W.parts handle.old)) }
 {
     let Ok(worker) = Worker::new(handle, gate) else {
-        return Err(lone);
+        return Err(idle);
     };
-    match start_with(worker, lone) {
+    match start_with(worker, idle) {
         Ok(run) => Ok(run),
-        Err((other, lone)) => {
+        Err((other, idle)) => {
             handle.take_back(other);
-            Err(lone)
+            Err(idle)
         }
     }
 }
 
-/// Opens a client's line, and has it connect.
+/// Opens a client's output queue, and connects the client.
 pub(crate) fn connect<W: Handle>(
     handle: &mut W,
     conn: ConnId,
@@ -81,7 +88,7 @@ pub(crate) fn connect<W: Handle>(
     ensures parts { W.parts handle.new ≡ W.parts handle.old }
     ensures cause { IfErr result IsOwn }
 {
-    if handle.open_line(conn, outlet).is_err() {
+    if handle.open_queue(conn, outlet).is_err() {
         return Err(Stop::Memory);
     }
     // a core that has made as many steps as are counted serves no more clients, and nothing has failed
@@ -148,8 +155,8 @@ fn add_sink<W, D, E, G>(
     handle: &mut W,
     gate: &Arc<G>,
     sinks: &mut VecDeque<SinkRun<W, D, E, G>>,
-    one: Lone<D, E>,
-) -> Result<(), Lone<D, E>>
+    one: SinkState<D, E>,
+) -> Result<(), SinkState<D, E>>
 where
     W: Handle + Send,
     W::Rt: Threads + Send + Sync,
@@ -169,13 +176,13 @@ where
     Ok(())
 }
 
-/// A client goes, and its line with it.
+/// Closes a client's connection, and drops its output queue.
 pub(crate) fn depart<W: Handle>(handle: &mut W, conn: ConnId)
     ensures { W.parts handle.new ≡ W.parts handle.old }
 {
     // where the core makes no more steps, no client is served any more
     let _closed = handle.close(conn);
-    handle.shut_line(conn);
+    handle.close_queue(conn);
 }
 
 /// Starts the worker of the next sink, of those that there are. Where that can't be, the sink stays.
@@ -183,7 +190,7 @@ pub(crate) fn start_next<W, D, E, G>(
     handle: &mut W,
     gate: &Arc<G>,
     sinks: &mut VecDeque<SinkRun<W, D, E, G>>,
-    lone: &mut VecDeque<Lone<D, E>>,
+    idle: &mut VecDeque<SinkState<D, E>>,
 ) -> Mem<()>
 where
     W: Handle + Send,
@@ -193,19 +200,19 @@ where
     E: Recorder<LaneEntry> + Drop + Send + 'static,
     G: Gate + Drop + Send + Sync + 'static,
     requires seats { 1 < W.parts handle.old }
-    requires some { 0 < length lone.old.items }
-    ensures parts { W.parts handle.new + length lone.old.items ≡ W.parts handle.old + length lone.new.items }
-    ensures all { sinks.new.items ++ lone.new.items ≡ sinks.old.items ++ lone.old.items }
-    ensures capacity { deque_capacity lone.new ≡ deque_capacity lone.old }
-    ensures fewer { OnOk result (length lone.new.items < length lone.old.items) }
+    requires some { 0 < length idle.old.items }
+    ensures parts { W.parts handle.new + length idle.old.items ≡ W.parts handle.old + length idle.new.items }
+    ensures all { sinks.new.items ++ idle.new.items ≡ sinks.old.items ++ idle.old.items }
+    ensures capacity { deque_capacity idle.new ≡ deque_capacity idle.old }
+    ensures fewer { OnOk result (length idle.new.items < length idle.old.items) }
 {
-    let Some(one) = lone.pop_front() else {
+    let Some(one) = idle.pop_front() else {
         unreachable!()
     };
     match add_sink(handle, gate, sinks, one) {
         Ok(()) => Ok(()),
         Err(one) => {
-            lone.push_front_reserved(one);
+            idle.push_front_reserved(one);
             Err(NoMemory)
         }
     }

@@ -23,7 +23,7 @@ fn first_header(reader: &mut Reader, bytes: Text) -> Result<Header, ReadError>
     }
 }
 
-// A header that ends here in a file of so many bytes, where nothing is behind it.
+// A header that ends at `end` in a file of `size` bytes, where nothing follows it.
 fn whole(header: Header, end: u64, size: u64) -> Result<Header, ReadError>
     requires { IsHeader header }
     ensures gives { (bytes : List ℕ) → length bytes ≡ size → FirstGives (Ok header) bytes end → HeaderGives result bytes }
@@ -39,7 +39,7 @@ fn whole(header: Header, end: u64, size: u64) -> Result<Header, ReadError>
     }
 }
 
-/// The header that these bytes of a file are, or the first rule that they break. Bytes behind a header are refused at the first of them.
+/// The header that these bytes of a file are, or the first rule that they break. Bytes after a header are refused at the first of them.
 pub fn header_in(alloc: Global, bytes: Text) -> Result<Header, ReadError>
     ensures gives { HeaderGives result bytes }
     ensures lawful { IfOk result IsHeader }

@@ -1,6 +1,6 @@
 use Rattle.std.proofs.Common.{◌≡◌, ◌+◌, ◌∙◌, ℕ, Some, None, ap, refl}
 use Rattle.px_annals.specs.History.{noted}
-use Rattle.px_core_cell.specs.Cell.{desk_of, ends_of}
+use Rattle.px_core_cell.specs.Cell.{logged_of, ends_of}
 use Rattle.px_core_cell.proofs.Doing.{Collects, notice_done}
 use Rattle.px_core_cell.proofs.parts.notice_step.Goals as goal
 
@@ -9,7 +9,7 @@ returns-in-Ok-clause-gives g c =
     let kept : c.fetch.new.self.kept ≡ Some c.in-Some.notice = c.in-Some.is in
     let used : ends_of c.collect.new.self ≡ record (ends_of c.fetch.new.self) { kept = None } = c.in-Ok.ensures.used in
     let collects : Collects g.C.Recorder.told c.args.sink.0 c.fetch.new.self.kept c.args.core.now.state c.collect.new.core.state c.in-Ok.effects = c.in-Ok.ensures.done in
-    notice_done g.C.Recorder.told c.args.sink.0 (desk_of c.args.core.now.state c.args.log.now) (desk_of c.collect.new.core.state c.note.new.self) (ends_of c.args.end.now) (ends_of c.fetch.new.self) (ends_of c.collect.new.self)
+    notice_done g.C.Recorder.told c.args.sink.0 (logged_of c.args.core.now.state c.args.log.now) (logged_of c.collect.new.core.state c.note.new.self) (ends_of c.args.end.now) (ends_of c.fetch.new.self) (ends_of c.collect.new.self)
     c.in-Some.notice c.in-Ok.effects c.fetch.ensures.fetches kept used collects
     (c.note.ensures.told ∙ (λ i. noted (record { step = c.in_ok-entry.ensures.step i }) (c.in_ok-entry.ensures.told i)))
     (c.note.ensures.steps ∙ ap (λ (n : ℕ). n + 1) c.in_ok-entry.ensures.steps)

@@ -5,15 +5,15 @@ use Rattle.px_server.proofs.call.serve_within.Goals as goal
 
 pub serve_made-requires-clause-room : goal.serve_made-requires-clause-room
 serve_made-requires-clause-room g c κs within =
-    let few = few_begin c.args.header.now.sinks c.make_outside.new.lone.items c.make_outside.ensures.front in omega (arith, few, c.requires.room)
+    let few = few_begin c.args.header.now.sinks c.make_outside.new.idle.items c.make_outside.ensures.front in omega (arith, few, c.requires.room)
 
 pub serve_made-requires-clause-turns_room : goal.serve_made-requires-clause-turns_room
 serve_made-requires-clause-turns_room g c κs within =
-    let few = few_begin c.args.header.now.sinks c.make_outside.new.lone.items c.make_outside.ensures.front in omega (arith, few, c.requires.turns_room)
+    let few = few_begin c.args.header.now.sinks c.make_outside.new.idle.items c.make_outside.ensures.front in omega (arith, few, c.requires.turns_room)
 
 pub unserved-requires-clause-room : goal.unserved-requires-clause-room
 unserved-requires-clause-room g c κs within =
-    let few = few_begin c.args.header.now.sinks c.make_outside.new.lone.items c.make_outside.ensures.front in omega (arith, few, c.requires.room)
+    let few = few_begin c.args.header.now.sinks c.make_outside.new.idle.items c.make_outside.ensures.front in omega (arith, few, c.requires.room)
 
 pub returns-in-Ok-clause-served : goal.returns-in-Ok-clause-served
 returns-in-Ok-clause-served g c =
@@ -27,7 +27,7 @@ returns-in-Ok-clause-tape g c = c.serve_made.ensures.tape
 pub returns-in-Err-clause-served : goal.returns-in-Err-clause-served
 returns-in-Err-clause-served g c =
     unserved_is g.H.D.Device.now g.H.R.Recorder.told g.H.R.Recorder.faults g.H.R.Recorder.fulls g.H.C.Recorder.told g.H.C.Recorder.faults g.H.C.Recorder.fulls
-    c.args.header.now c.make_outside.new.lone.items (g.H.Host.now c.args.host.now) (g.H.Host.now c.make_outside.new.host) c.in-Err.stop
+    c.args.header.now c.make_outside.new.idle.items (g.H.Host.now c.args.host.now) (g.H.Host.now c.make_outside.new.host) c.in-Err.stop
     c.unserved.result.status c.unserved.result.lanes.items c.unserved.result.core
     c.make_outside.ensures.front c.make_outside.ensures.later c.make_outside.ensures.lent c.in-Err.ensures.cause
     c.unserved.ensures.status c.unserved.ensures.lanes c.unserved.ensures.core

@@ -11,22 +11,22 @@ pub ended-requires-clause-sinks : goal.ended-requires-clause-sinks
 ended-requires-clause-sinks g c κs within = (c.requires.sinks.0, c.serve_all-handle.ensures.starts ∙ c.requires.sinks.1)
 
 pub ended-requires-clause-boxes : goal.ended-requires-clause-boxes
-ended-requires-clause-boxes g c κs within = same_boxes c.serve_all-handle.new.lone.items c.args.lone.items c.serve_all-handle.ensures.boxes ∙ c.requires.boxes
+ended-requires-clause-boxes g c κs within = same_boxes c.serve_all-handle.new.idle.items c.args.idle.items c.serve_all-handle.ensures.boxes ∙ c.requires.boxes
 
 pub ended-requires-clause-room : goal.ended-requires-clause-room
 ended-requires-clause-room g c κs within =
-    subst (λ (n : _). n ≤ vec_capacity c.args.lanes) (sym (same_count mailboxes_of mailboxes_of c.serve_all-handle.new.lone.items c.args.lone.items c.serve_all-handle.ensures.boxes)) c.requires.room
+    subst (λ (n : _). n ≤ vec_capacity c.args.lanes) (sym (same_count mailboxes_of mailboxes_of c.serve_all-handle.new.idle.items c.args.idle.items c.serve_all-handle.ensures.boxes)) c.requires.room
 
 pub ended-requires-clause-turns_room : goal.ended-requires-clause-turns_room
 ended-requires-clause-turns_room g c κs within =
-    subst (λ (n : _). n ≤ vec_capacity c.args.turns) (sym (same_count mailboxes_of mailboxes_of c.serve_all-handle.new.lone.items c.args.lone.items c.serve_all-handle.ensures.boxes)) c.requires.turns_room
+    subst (λ (n : _). n ≤ vec_capacity c.args.turns) (sym (same_count mailboxes_of mailboxes_of c.serve_all-handle.new.idle.items c.args.idle.items c.serve_all-handle.ensures.boxes)) c.requires.turns_room
 
 pub ended-requires-clause-taping : goal.ended-requires-clause-taping
-ended-requires-clause-taping g c κs within = λ on. taping_since c.args.lone.items c.serve_all-handle.new.lone.items c.serve_all-handle.ensures.tapes (c.requires.taping on)
+ended-requires-clause-taping g c κs within = λ on. taping_since c.args.idle.items c.serve_all-handle.new.idle.items c.serve_all-handle.ensures.tapes (c.requires.taping on)
 
 pub returns-clause-ends : goal.returns-clause-ends
 returns-clause-ends g c =
     ends_since g.H.D.Device.now g.H.R.Recorder.told g.H.R.Recorder.faults g.H.R.Recorder.fulls g.H.C.Recorder.told g.H.C.Recorder.faults g.H.C.Recorder.fulls
-    g.L.Seats.began (map start_of c.serve_all-handle.new.lone.items) (map start_of c.args.lone.items) (g.H.Host.now c.args.host.now) (g.H.Host.now c.serve_all-handle.new.host)
+    g.L.Seats.began (map start_of c.serve_all-handle.new.idle.items) (map start_of c.args.idle.items) (g.H.Host.now c.args.host.now) (g.H.Host.now c.serve_all-handle.new.host)
     c.ended.result.status c.ended.result.lanes.items c.ended.result.core
     c.serve_all-handle.ensures.starts (c.ended.ensures.ends (g.H.Host.now c.args.host.now) (g.H.Host.now c.serve_all-handle.new.host) c.serve_all-handle.ensures.cause)

@@ -15,16 +15,16 @@ pub loop-sink-init : goal.loop-sink-init
 loop-sink-init g c = record {
   room = search rules;
   boxes = search rules;
-  met = search rules;
+  sink_fault = search rules;
   turns_room = search rules;
   turns = λ on. (on, counted_none g.E.Recorder.told c.args.lanes.now.items c.args.turns.now.items c.requires.none c.requires.no_turns);
-  parts = λ began core told. (search rules, handed_none began core g.D.Device.now g.E.Recorder.told g.E.Recorder.faults g.E.Recorder.fulls c.args.lone.now.items c.args.lanes.now.items c.requires.none);
+  parts = λ began core told. (search rules, handed_none began core g.D.Device.now g.E.Recorder.told g.E.Recorder.faults g.E.Recorder.fulls c.args.idle.now.items c.args.lanes.now.items c.requires.none);
 }
 
 pub loop-sink-preserved : goal.loop-sink-preserved
 loop-sink-preserved g c =
-    let one : Unworked g.row.D.Denot g.row.E.Denot = record { sink = c.in-Some.field-0.sink; cell = c.in-Some.field-0.cell; met = c.in-Some.field-0.met; turns = c.in-Some.field-0.turns } in
-    let left = c.loop-sink.lone.items in
+    let one : Unworked g.row.D.Denot g.row.E.Denot = record { sink = c.in-Some.field-0.sink; cell = c.in-Some.field-0.cell; sink_fault = c.in-Some.field-0.sink_fault; turns = c.in-Some.field-0.turns } in
+    let left = c.loop-sink.idle.items in
     let rest = c.pop_front.new.self.items in
     let end = c.in-Some-pop_front.end in
     let front : left ≡ one ∷ rest = search rules in
@@ -33,7 +33,7 @@ loop-sink-preserved g c =
     record {
       room = search rules;
       boxes = boxes_rest left rest one c.loop-sink.ends.items c.pop_front-in-Some.new.self.items end front next c.loop-sink.invariant.boxes;
-      met = met_one c.loop-sink.first c.or-first.result left rest c.args.lone.now.items one front (search rules) c.loop-sink.invariant.met;
+      sink_fault = met_one c.loop-sink.first c.or-first.result left rest c.args.idle.now.items one front (search rules) c.loop-sink.invariant.sink_fault;
       turns_room = search rules;
       turns = λ on.
           let so = c.loop-sink.invariant.turns on in
@@ -47,23 +47,23 @@ loop-sink-preserved g c =
           let so = c.loop-sink.invariant.parts began core told in
           let all = told_one began core left rest one c.loop-sink.ends.items c.pop_front-in-Some.new.self.items end front next so.0 in (
             all.1,
-            handed_one began core g.D.Device.now g.E.Recorder.told g.E.Recorder.faults g.E.Recorder.fulls c.args.lone.now.items left rest one c.loop-sink.lanes.items c.push.new.self.items c.closed.result
-                front more (part_told began core g.D.Device.now g.E.Recorder.told g.E.Recorder.faults g.E.Recorder.fulls (unworked one) c.closed.result (c.closed.ensures.part began one.met (search rules))
+            handed_one began core g.D.Device.now g.E.Recorder.told g.E.Recorder.faults g.E.Recorder.fulls c.args.idle.now.items left rest one c.loop-sink.lanes.items c.push.new.self.items c.closed.result
+                front more (part_told began core g.D.Device.now g.E.Recorder.told g.E.Recorder.faults g.E.Recorder.fulls (unworked one) c.closed.result (c.closed.ensures.part began one.sink_fault (search rules))
                 (told_is core (λ (entries : List CoreEntry). IsTold began entries one.sink.0 (ends_of end))
                 (λ (entries : List CoreEntry). IfSome (g.E.Recorder.told c.closed.result.recorder) (IsDelivered began entries one.sink (unturned one.cell.lane.sink)))
                 (c.closed.ensures.delivered began) all.0)) so.1,
           );
     }
 
-pub returns-clause-met : goal.returns-clause-met
-returns-clause-met g c =
-    let none : c.loop-sink.lone.items ≡ [] = search rules in
-    met_all c.loop-sink.first c.loop-sink.lone.items c.args.lone.now.items none c.loop-sink.invariant.met
+pub returns-clause-sink_fault : goal.returns-clause-sink_fault
+returns-clause-sink_fault g c =
+    let none : c.loop-sink.idle.items ≡ [] = search rules in
+    met_all c.loop-sink.first c.loop-sink.idle.items c.args.idle.now.items none c.loop-sink.invariant.sink_fault
 
 pub returns-clause-parts : goal.returns-clause-parts
 returns-clause-parts g c = λ began core told.
-    let none : c.loop-sink.lone.items ≡ [] = search rules in
-    handed_all began core g.D.Device.now g.E.Recorder.told g.E.Recorder.faults g.E.Recorder.fulls c.args.lone.now.items c.loop-sink.lone.items c.loop-sink.lanes.items none
+    let none : c.loop-sink.idle.items ≡ [] = search rules in
+    handed_all began core g.D.Device.now g.E.Recorder.told g.E.Recorder.faults g.E.Recorder.fulls c.args.idle.now.items c.loop-sink.idle.items c.loop-sink.lanes.items none
     (c.loop-sink.invariant.parts began core told).1
 
 pub returns-clause-turns : goal.returns-clause-turns

@@ -15,16 +15,16 @@ use Rattle.px_server.proofs.left.close_all.Given as goal
 
 abbrev pub invariant-loop-sink : goal.invariant-loop-sink
 invariant-loop-sink g l = record {
-  room : vec_len l.lanes + length l.lone.items ≤ vec_capacity l.lanes;
-  turns_room : vec_len l.turns + length l.lone.items ≤ vec_capacity l.turns;
-  turns : AreTaping l.fn.lone.items → AreTaping l.lone.items × AreCounted g.E.Recorder.told l.lanes.items (total l.turns.items);
-  boxes : map boxes_in l.lone.items ≡ map boxes_of l.ends.items;
-  met : option_or l.first (first_met (map unworked l.lone.items)) ≡ first_met (map unworked l.fn.lone.items);
-  parts : (began : State PlainStream) (core : Option (List CoreEntry)) → AreTold began core l.fn.lone.items l.fn.ends.items
-      → AreTold began core l.lone.items l.ends.items
-      × Handed began core g.D.Device.now g.E.Recorder.told g.E.Recorder.faults g.E.Recorder.fulls l.fn.lone.items l.lone.items l.lanes.items;
+  room : vec_len l.lanes + length l.idle.items ≤ vec_capacity l.lanes;
+  turns_room : vec_len l.turns + length l.idle.items ≤ vec_capacity l.turns;
+  turns : AreTaping l.fn.idle.items → AreTaping l.idle.items × AreCounted g.E.Recorder.told l.lanes.items (total l.turns.items);
+  boxes : map boxes_in l.idle.items ≡ map boxes_of l.ends.items;
+  sink_fault : option_or l.first (first_met (map unworked l.idle.items)) ≡ first_met (map unworked l.fn.idle.items);
+  parts : (began : State PlainStream) (core : Option (List CoreEntry)) → AreTold began core l.fn.idle.items l.fn.ends.items
+      → AreTold began core l.idle.items l.ends.items
+      × Handed began core g.D.Device.now g.E.Recorder.told g.E.Recorder.faults g.E.Recorder.fulls l.fn.idle.items l.idle.items l.lanes.items;
 }
 
 -- how many are left
 abbrev pub decreases-loop-sink : goal.decreases-loop-sink
-decreases-loop-sink g l = length l.lone.items
+decreases-loop-sink g l = length l.idle.items

@@ -8,41 +8,41 @@ use Rattle.px_server.proofs.Delivering.{all_told, same_count}
 use Rattle.px_server.proofs.Ending.{replay_told}
 use Rattle.px_server.proofs.left.close_with.Goals as goal
 
-pub close_all-met-requires-clause-boxes : goal.close_all-met-requires-clause-boxes
-close_all-met-requires-clause-boxes g c = c.requires.boxes ∙ sym (ap (λ (e : _). map boxes_of e.items) c.without_core-log.ensures.ends ∙ c.into_core.ensures.boxes)
+pub close_all-sink_fault-requires-clause-boxes : goal.close_all-sink_fault-requires-clause-boxes
+close_all-sink_fault-requires-clause-boxes g c = c.requires.boxes ∙ sym (ap (λ (e : _). map boxes_of e.items) c.without_core-log.ensures.ends ∙ c.into_core.ensures.boxes)
 
-pub close_all-met-requires-clause-none : goal.close_all-met-requires-clause-none
-close_all-met-requires-clause-none g c = c.requires.none
+pub close_all-sink_fault-requires-clause-none : goal.close_all-sink_fault-requires-clause-none
+close_all-sink_fault-requires-clause-none g c = c.requires.none
 
-pub close_all-met-requires-clause-room : goal.close_all-met-requires-clause-room
-close_all-met-requires-clause-room g c = c.requires.room
+pub close_all-sink_fault-requires-clause-room : goal.close_all-sink_fault-requires-clause-room
+close_all-sink_fault-requires-clause-room g c = c.requires.room
 
-pub close_all-met-requires-clause-no_turns : goal.close_all-met-requires-clause-no_turns
-close_all-met-requires-clause-no_turns g c = c.requires.no_turns
+pub close_all-sink_fault-requires-clause-no_turns : goal.close_all-sink_fault-requires-clause-no_turns
+close_all-sink_fault-requires-clause-no_turns g c = c.requires.no_turns
 
-pub close_all-met-requires-clause-turns_room : goal.close_all-met-requires-clause-turns_room
-close_all-met-requires-clause-turns_room g c = c.requires.turns_room
+pub close_all-sink_fault-requires-clause-turns_room : goal.close_all-sink_fault-requires-clause-turns_room
+close_all-sink_fault-requires-clause-turns_room g c = c.requires.turns_room
 
 pub returns-clause-turns : goal.returns-clause-turns
-returns-clause-turns g c = c.close_all-met.ensures.turns
+returns-clause-turns g c = c.close_all-sink_fault.ensures.turns
 
-pub returns-clause-met : goal.returns-clause-met
-returns-clause-met g c = c.close_all-met.ensures.met
+pub returns-clause-sink_fault : goal.returns-clause-sink_fault
+returns-clause-sink_fault g c = c.close_all-sink_fault.ensures.sink_fault
 
 pub returns-clause-parts : goal.returns-clause-parts
 returns-clause-parts g c =
-    let lone = c.args.lone.now.items in
+    let idle = c.args.idle.now.items in
     let core = c.into_core.result in
     let log = c.without_core-log.result.0 in
     let ends = c.without_core-log.result.1 in
     let recorded = g.C.Recorder.told core.log.recorder in
     let boxes = c.requires.boxes ∙ sym c.into_core.ensures.boxes in
-    let told : AreTold g.L.Seats.began recorded lone core.ends.items =
-    all_told g.L.Seats.began recorded 0 lone core.ends.items c.requires.sinks.0 c.requires.sinks.1 (same_count boxes_in boxes_of lone core.ends.items boxes)
+    let told : AreTold g.L.Seats.began recorded idle core.ends.items =
+    all_told g.L.Seats.began recorded 0 idle core.ends.items c.requires.sinks.0 c.requires.sinks.1 (same_count boxes_in boxes_of idle core.ends.items boxes)
     (replay_told g.L.Seats.began (cell_of core) recorded c.into_core.ensures.history.replay) in
-    c.close_all-met.ensures.parts g.L.Seats.began (g.C.Recorder.told log.recorder)
-    (subst (λ (e : _). AreTold g.L.Seats.began (g.C.Recorder.told log.recorder) lone e.items) (sym c.without_core-log.ensures.ends)
-    (subst (λ (l : _). AreTold g.L.Seats.began (g.C.Recorder.told l.recorder) lone core.ends.items) (sym c.without_core-log.ensures.log) told))
+    c.close_all-sink_fault.ensures.parts g.L.Seats.began (g.C.Recorder.told log.recorder)
+    (subst (λ (e : _). AreTold g.L.Seats.began (g.C.Recorder.told log.recorder) idle e.items) (sym c.without_core-log.ensures.ends)
+    (subst (λ (l : _). AreTold g.L.Seats.began (g.C.Recorder.told l.recorder) idle core.ends.items) (sym c.without_core-log.ensures.log) told))
 
 pub returns-clause-caused : goal.returns-clause-caused
 returns-clause-caused g c = subst (λ (l : _). IsCaused l.fault (g.C.Recorder.faults l.recorder) (g.C.Recorder.fulls l.recorder)) (sym c.without_core-log.ensures.log) c.into_core.ensures.caused

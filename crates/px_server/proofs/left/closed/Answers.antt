@@ -2,9 +2,9 @@ use Rattle.px_server.proofs.Delivering.{closed_part, closed_by}
 use Rattle.px_server.proofs.left.closed.Goals as goal
 
 pub returns-clause-part : goal.returns-clause-part
-returns-clause-part g c = λ began met honest.
+returns-clause-part g c = λ began sink_fault honest.
     let parts = c.into_parts-lane in
-    closed_part g.D.Device.now g.E.Recorder.told g.E.Recorder.faults g.E.Recorder.fulls began c.args.sink c.args.cell parts.result.lane parts.result.recorder c.into_device.result met
+    closed_part g.D.Device.now g.E.Recorder.told g.E.Recorder.faults g.E.Recorder.fulls began c.args.sink c.args.cell parts.result.lane parts.result.recorder c.into_device.result sink_fault
     parts.ensures.kept parts.ensures.lane parts.ensures.recorder c.into_device.ensures honest
 
 pub returns-clause-delivered : goal.returns-clause-delivered

@@ -13,7 +13,7 @@ pub returns-in_default-clause-later : goal.returns-in_default-clause-later
 returns-in_default-clause-later g c = later_refl (g.H.Host.now c.args.host.now)
 
 pub returns-in_default-clause-lent : goal.returns-in_default-clause-lent
-returns-in_default-clause-lent g c = lent_as c.args.lone.now.items c.reserve_one.new.lone.items (g.H.Host.now c.args.host.now) c.reserve_one.ensures.lone
+returns-in_default-clause-lent g c = lent_as c.args.idle.now.items c.reserve_one.new.idle.items (g.H.Host.now c.args.host.now) c.reserve_one.ensures.idle
 
 pub returns-in_default-clause-cause : goal.returns-in_default-clause-cause
 returns-in_default-clause-cause g c = tt
@@ -22,27 +22,27 @@ pub returns-in_default-clause-made : goal.returns-in_default-clause-made
 returns-in_default-clause-made g c = tt
 
 pub returns-in_default-clause-stays : goal.returns-in_default-clause-stays
-returns-in_default-clause-stays g c = c.reserve_one.ensures.lone
+returns-in_default-clause-stays g c = c.reserve_one.ensures.idle
 
 pub returns-in_err-one-clause-later : goal.returns-in_err-one-clause-later
-returns-in_err-one-clause-later g c = c.new_lone.ensures.later
+returns-in_err-one-clause-later g c = c.new_sink_state.ensures.later
 
 pub returns-in_err-one-clause-lent : goal.returns-in_err-one-clause-lent
 returns-in_err-one-clause-lent g c = λ lent.
-    lent_as c.args.lone.now.items c.reserve_one.new.lone.items (g.H.Host.now c.new_lone.new.host) c.reserve_one.ensures.lone (c.in_err-one.ensures.kept _ lent)
+    lent_as c.args.idle.now.items c.reserve_one.new.idle.items (g.H.Host.now c.new_sink_state.new.host) c.reserve_one.ensures.idle (c.in_err-one.ensures.kept _ lent)
 
 pub returns-in_err-one-clause-made : goal.returns-in_err-one-clause-made
 returns-in_err-one-clause-made g c = let p = err_from_is_err_and c.from_residual.result c.from_residual.ensures.1 in rw (p.1) tt
 
 pub returns-in_err-one-clause-stays : goal.returns-in_err-one-clause-stays
-returns-in_err-one-clause-stays g c = let p = err_from_is_err_and c.from_residual.result c.from_residual.ensures.1 in rw (p.1) c.reserve_one.ensures.lone
+returns-in_err-one-clause-stays g c = let p = err_from_is_err_and c.from_residual.result c.from_residual.ensures.1 in rw (p.1) c.reserve_one.ensures.idle
 
 pub returns-clause-later : goal.returns-clause-later
-returns-clause-later g c = c.new_lone.ensures.later
+returns-clause-later g c = c.new_sink_state.ensures.later
 
 pub returns-clause-lent : goal.returns-clause-lent
 returns-clause-lent g c = λ lent.
-    lent_more c.args.lone.now.items c.reserve_one.new.lone.items c.add_one.new.lone.items _ (g.H.Host.now c.new_lone.new.host) c.reserve_one.ensures.lone c.add_one.ensures.lone
+    lent_more c.args.idle.now.items c.reserve_one.new.idle.items c.add_one.new.idle.items _ (g.H.Host.now c.new_sink_state.new.host) c.reserve_one.ensures.idle c.add_one.ensures.idle
     (c.in_ok-one.ensures.lent _ lent)
 
 pub returns-clause-cause : goal.returns-clause-cause
@@ -51,8 +51,8 @@ returns-clause-cause g c = tt
 pub returns-clause-made : goal.returns-clause-made
 returns-clause-made g c =
     adds_same c.args.taped (record { 0 = c.args.index }) c.args.sink.now
-    c.args.lone.now.items c.reserve_one.new.lone.items c.add_one.new.lone.items c.args.ends.now.items c.reserve_one.new.ends.items c.add_one.new.ends.items _ _
-    c.reserve_one.ensures.lone c.reserve_one.ensures.ends c.add_one.ensures.lone c.add_one.ensures.ends c.in_ok-one.ensures.made
+    c.args.idle.now.items c.reserve_one.new.idle.items c.add_one.new.idle.items c.args.ends.now.items c.reserve_one.new.ends.items c.add_one.new.ends.items _ _
+    c.reserve_one.ensures.idle c.reserve_one.ensures.ends c.add_one.ensures.idle c.add_one.ensures.ends c.in_ok-one.ensures.made
 
 pub returns-clause-stays : goal.returns-clause-stays
 returns-clause-stays g c = tt

@@ -12,7 +12,7 @@ invariant_of-new g c = (
   subst (λ (cell : Cell _). IsCell g.C.Recorder.told g.L.Seats.began cell) (sym c.new-parts.ensures.cell)
       (subst (λ (s : State PlainStream). IsCell g.C.Recorder.told s (first_cell c.args.core.state c.args.recorder (map ends_of c.args.ends.items))) c.requires.began
       (begins g.C.Recorder.told c.args.core.state c.args.recorder (map ends_of c.args.ends.items) c.requires.begins c.requires.none)),
-  c.open-book.ensures.total ∙ sym (ap (λ (cell : Cell _). cell.desk.steps) c.new-parts.ensures.cell),
+  c.open-book.ensures.total ∙ sym (ap (λ (cell : Cell _). cell.logged.steps) c.new-parts.ensures.cell),
   c.requires.parts.1,
   ap (λ (ends : _). map boxes_of ends.items) c.new-parts.ensures.ends ∙ c.requires.boxes,
 )

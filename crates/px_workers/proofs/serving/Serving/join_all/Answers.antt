@@ -5,4 +5,4 @@ use Rattle.px_workers.proofs.serving.Serving.join_all.Goals as goal
 pub returns-clause-kept : goal.returns-clause-kept
 returns-clause-kept g c =
     let same = ap (λ (s : _). s.items) c.join_clients.ensures.sinks in
-    c.join_sinks.ensures.kept ∙ ap (λ (l : List (Unworked g.row.H-D.Denot g.row.H-R.Denot)). map kept_of (l ++ c.args.lone.now.items)) same
+    c.join_sinks.ensures.kept ∙ ap (λ (l : List (Unworked g.row.H-D.Denot g.row.H-R.Denot)). map kept_of (l ++ c.args.idle.now.items)) same

@@ -8,10 +8,10 @@ loop-run-preserved g c =
     let given = c.in-Some.run' in
     let back = c.join.result in
     let behind : c.loop-run.self.sinks.items ≡ c.pop_back.new.self.items ++ given ∷ [] = search rules in
-    let front : c.push_front_reserved.new.self.items ≡ back ∷ c.loop-run.lone.items = search rules in
+    let front : c.push_front_reserved.new.self.items ≡ back ∷ c.loop-run.idle.items = search rules in
     record {
       parts = search rules;
       room = search rules;
-      kept = joined_one kept_of c.loop-run.self.sinks.items c.pop_back.new.self.items c.loop-run.lone.items c.push_front_reserved.new.self.items given back behind front
+      kept = joined_one kept_of c.loop-run.self.sinks.items c.pop_back.new.self.items c.loop-run.idle.items c.push_front_reserved.new.self.items given back behind front
           (kept_on given back c.join.ensures.goes) ∙ c.loop-run.invariant.kept;
     }

@@ -6,8 +6,8 @@ use Rattle.px_workers.proofs.serving.Serving.join_sinks.Given as goal
 abbrev pub invariant-loop-run : goal.invariant-loop-run
 invariant-loop-run g l = record {
   parts : g.W.Handle.parts l.self.handle + length l.self.sinks.items ≡ g.W.Handle.parts l.fn.self.handle + length l.fn.self.sinks.items;
-  room : length l.self.sinks.items + length l.lone.items ≤ deque_capacity l.lone;
-  kept : map kept_of (l.self.sinks.items ++ l.lone.items) ≡ map kept_of (l.fn.self.sinks.items ++ l.fn.lone.items);
+  room : length l.self.sinks.items + length l.idle.items ≤ deque_capacity l.idle;
+  kept : map kept_of (l.self.sinks.items ++ l.idle.items) ≡ map kept_of (l.fn.self.sinks.items ++ l.fn.idle.items);
 }
 
 -- how many are left

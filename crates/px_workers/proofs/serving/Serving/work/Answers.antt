@@ -12,14 +12,14 @@ pub returns-in-Ok-clause-parts : goal.returns-in-Ok-clause-parts
 returns-in-Ok-clause-parts g c =
     let starts = c.start_sinks.ensures.starts in
     let none : length c.start_sinks.new.self.clients.items ≡ 0 = ap (λ (d : _). length d.items) starts.clients ∙ ap length c.requires.idle.1 in
-    let started = parts_started (g.W.Handle.parts c.start_sinks.new.self.handle) (g.W.Handle.parts c.args.self.now.handle) c.start_sinks.new.self.sinks.items c.start_sinks.new.lone.items c.args.lone.now.items starts.parts
-    (all_started c.start_sinks.new.self.sinks.items c.start_sinks.new.lone.items c.args.self.now.sinks.items c.args.lone.now.items starts.all c.requires.idle.0) in
+    let started = parts_started (g.W.Handle.parts c.start_sinks.new.self.handle) (g.W.Handle.parts c.args.self.now.handle) c.start_sinks.new.self.sinks.items c.start_sinks.new.idle.items c.args.idle.now.items starts.parts
+    (all_started c.start_sinks.new.self.sinks.items c.start_sinks.new.idle.items c.args.self.now.sinks.items c.args.idle.now.items starts.all c.requires.idle.0) in
     omega (arith, none, started, c.requires.seats, c.accept_all.ensures.takes.parts, ap (λ (d : _). length d.items) c.accept_all.ensures.takes.sinks)
 
 pub returns-in-Ok-clause-all : goal.returns-in-Ok-clause-all
 returns-in-Ok-clause-all g c =
-    ap (λ (d : _). d.items ++ c.start_sinks.new.lone.items) c.accept_all.ensures.takes.sinks
-    ∙ all_started c.start_sinks.new.self.sinks.items c.start_sinks.new.lone.items c.args.self.now.sinks.items c.args.lone.now.items c.start_sinks.ensures.starts.all c.requires.idle.0
+    ap (λ (d : _). d.items ++ c.start_sinks.new.idle.items) c.accept_all.ensures.takes.sinks
+    ∙ all_started c.start_sinks.new.self.sinks.items c.start_sinks.new.idle.items c.args.self.now.sinks.items c.args.idle.now.items c.start_sinks.ensures.starts.all c.requires.idle.0
 
 pub returns-in-Ok-clause-capacity : goal.returns-in-Ok-clause-capacity
 returns-in-Ok-clause-capacity g c = c.start_sinks.ensures.starts.capacity
@@ -37,13 +37,13 @@ pub returns-in-Err-clause-parts : goal.returns-in-Err-clause-parts
 returns-in-Err-clause-parts g c =
     let starts = c.start_sinks.ensures.starts in
     let none : length c.start_sinks.new.self.clients.items ≡ 0 = ap (λ (d : _). length d.items) starts.clients ∙ ap length c.requires.idle.1 in
-    let started = parts_started (g.W.Handle.parts c.start_sinks.new.self.handle) (g.W.Handle.parts c.args.self.now.handle) c.start_sinks.new.self.sinks.items c.start_sinks.new.lone.items c.args.lone.now.items starts.parts
-    (all_started c.start_sinks.new.self.sinks.items c.start_sinks.new.lone.items c.args.self.now.sinks.items c.args.lone.now.items starts.all c.requires.idle.0) in
+    let started = parts_started (g.W.Handle.parts c.start_sinks.new.self.handle) (g.W.Handle.parts c.args.self.now.handle) c.start_sinks.new.self.sinks.items c.start_sinks.new.idle.items c.args.idle.now.items starts.parts
+    (all_started c.start_sinks.new.self.sinks.items c.start_sinks.new.idle.items c.args.self.now.sinks.items c.args.idle.now.items starts.all c.requires.idle.0) in
     omega (arith, none, started, c.requires.seats)
 
 pub returns-in-Err-clause-all : goal.returns-in-Err-clause-all
 returns-in-Err-clause-all g c =
-    all_started c.start_sinks.new.self.sinks.items c.start_sinks.new.lone.items c.args.self.now.sinks.items c.args.lone.now.items c.start_sinks.ensures.starts.all c.requires.idle.0
+    all_started c.start_sinks.new.self.sinks.items c.start_sinks.new.idle.items c.args.self.now.sinks.items c.args.idle.now.items c.start_sinks.ensures.starts.all c.requires.idle.0
 
 pub returns-in-Err-clause-capacity : goal.returns-in-Err-clause-capacity
 returns-in-Err-clause-capacity g c = c.start_sinks.ensures.starts.capacity

@@ -18,8 +18,8 @@ joined-requires-clause-parts g c κs within = c.work-stop.ensures.parts
 
 pub joined-requires-clause-room : goal.joined-requires-clause-room
 joined-requires-clause-room g c κs within =
-    let fits : length c.args.lone.now.items ≤ deque_capacity c.args.lone.now = search rules in
-    room_left c.work-stop.new.self.sinks.items c.work-stop.new.lone.items c.args.lone.now.items (deque_capacity c.work-stop.new.lone) (deque_capacity c.args.lone.now)
+    let fits : length c.args.idle.now.items ≤ deque_capacity c.args.idle.now = search rules in
+    room_left c.work-stop.new.self.sinks.items c.work-stop.new.idle.items c.args.idle.now.items (deque_capacity c.work-stop.new.idle) (deque_capacity c.args.idle.now)
     c.work-stop.ensures.all c.work-stop.ensures.capacity fits
 
 pub returns-clause-seats : goal.returns-clause-seats

@@ -5,5 +5,5 @@ use Rattle.px_workers.proofs.sink_work.SinkWork.run.Given as goal
 abbrev pub invariant-loop : goal.invariant-loop
 invariant-loop g l = record {
   parts : g.W.Handle.parts l.self.worker.handle ≡ g.W.Handle.parts l.fn.self.worker.handle;
-  goes : GoesOn l.fn.self.lone l.self.lone;
+  goes : GoesOn l.fn.self.state l.self.state;
 }

@@ -1,7 +1,7 @@
-//! A sink that no worker has, and its turns.
+//! A sink of the server, and its turns.
 ghost use Rattle.std.specs.Prelude.{◌≡◌, ◌<◌, true, Some, length};
 ghost use Rattle.px_lane_cell.specs.History.{unturned};
-ghost use Rattle.px_workers.specs.declared.lone.Met.TheVariants.{Nothing};
+ghost use Rattle.px_workers.specs.declared.sink_state.SinkFault.TheVariants.{Nothing};
 ghost use Rattle.px_workers.specs.Working.{IsHonest, AreTaped, Notes, GoesOn};
 
 use px_annals::{LaneEntry, RecordFault, Recorder};
@@ -15,9 +15,9 @@ use std::alloc::Global;
 use std::marker::Model;
 use std::sync::{Mutex, Wait};
 
-/// What a sink's worker met.
+/// The first fault that a sink's worker came upon.
 #[derive(Clone, Copy, Debug, PartialEq, Eq)]
-pub enum Met {
+pub enum SinkFault {
     /// Nothing.
     Nothing,
     /// The sink's device has failed, and the sink has stopped.
@@ -26,59 +26,59 @@ pub enum Met {
     Unrecorded(RecordFault),
 }
 
-/// What became of a turn.
+/// The outcome of a turn.
 #[derive(Clone, Copy, PartialEq, Eq)]
-pub(crate) enum Went {
-    /// It was made, and the sink's device consumed so many frames in it, none where the sink has stopped.
+pub(crate) enum TurnOutcome {
+    /// It was made, and the sink's device consumed this number of frames in it, 0 where the sink has stopped.
     Made(u32),
-    /// There was none, and there may be one the next time.
+    /// It wasn't made for want of memory; the next one may be.
     NotYet,
-    /// There are no more.
+    /// It wasn't made, and no more can be.
     Ended,
 }
 
-// One turn of a cell, after which its worker has met this.
+// Runs one turn of a cell. Its first fault is noted in `sink_fault`.
 fn turn_once<W, D, E, B>(
     rt: &W,
     alloc: Global,
     cell: &mut LaneCell<D, E>,
-    met: &mut Met,
+    sink_fault: &mut SinkFault,
     blocks: &mut B,
-) -> Went
+) -> TurnOutcome
 where
     W: Wait,
     D: Device + Drop,
     E: Recorder<LaneEntry> + Drop,
     B: BlockSource,
     ensures noted { Notes E.told result cell.old.recorder cell.new.recorder }
-    ensures honest { IsHonest D.now E.faults E.fulls cell.old met.old → IsHonest D.now E.faults E.fulls cell.new met.new }
+    ensures honest { IsHonest D.now E.faults E.fulls cell.old sink_fault.old → IsHonest D.now E.faults E.fulls cell.new sink_fault.new }
     ensures start { unturned cell.new.lane.sink ≡ unturned cell.old.lane.sink }
     ensures boxes { cell.new.ends.boxes ≡ cell.old.ends.boxes }
 {
     match cell.turn(rt, alloc, blocks) {
-        Ok(Turned::Played { frames, .. }) => Went::Made(frames),
+        Ok(Turned::Played { frames, .. }) => TurnOutcome::Made(frames),
         Ok(Turned::Stopped { .. }) => {
-            if *met == Met::Nothing {
-                *met = Met::Stopped;
+            if *sink_fault == SinkFault::Nothing {
+                *sink_fault = SinkFault::Stopped;
             }
-            Went::Made(0)
+            TurnOutcome::Made(0)
         }
-        Err(CellFault::NoMemory) => Went::NotYet,
-        Err(CellFault::Worn { .. }) => Went::Ended,
+        Err(CellFault::NoMemory) => TurnOutcome::NotYet,
+        Err(CellFault::Worn { .. }) => TurnOutcome::Ended,
         Err(CellFault::Recorder(fault)) => {
-            if *met == Met::Nothing {
-                *met = Met::Unrecorded(fault);
+            if *sink_fault == SinkFault::Nothing {
+                *sink_fault = SinkFault::Unrecorded(fault);
             }
             if fault == RecordFault::NoMemory {
-                Went::NotYet
+                TurnOutcome::NotYet
             } else {
-                Went::Ended
+                TurnOutcome::Ended
             }
         }
     }
 }
 
-// Room for one more turn on the tape.
+// Takes room for one more turn on the tape. False where there is no memory.
 fn is_ready(tape: &mut Tape, turns: &mut SinkTurns) -> bool
     ensures tape { result ≡ true → length tape.new.marks < tape.new.capacity }
     ensures own { result ≡ true → length turns.new.turns < turns.new.capacity }
@@ -93,83 +93,83 @@ fn is_ready(tape: &mut Tape, turns: &mut SinkTurns) -> bool
     }
 }
 
-// One turn of a cell, which goes onto the tape where it was made. The tape is locked meanwhile, and has room for it before.
+// Runs one turn of a cell, which goes onto the tape where it was made. The tape is locked meanwhile, and has room for it before.
 fn turn_taped<W, D, E, B>(
     rt: &W,
     alloc: Global,
     tape: &Mutex<Tape>,
     turns: &mut SinkTurns,
     cell: &mut LaneCell<D, E>,
-    met: &mut Met,
+    sink_fault: &mut SinkFault,
     blocks: &mut B,
-) -> Went
+) -> TurnOutcome
 where
     W: Wait,
     D: Device + Drop,
     E: Recorder<LaneEntry> + Drop,
     B: BlockSource,
     ensures taped { AreTaped E.told cell.old.recorder (Some turns.old) → AreTaped E.told cell.new.recorder (Some turns.new) }
-    ensures honest { IsHonest D.now E.faults E.fulls cell.old met.old → IsHonest D.now E.faults E.fulls cell.new met.new }
+    ensures honest { IsHonest D.now E.faults E.fulls cell.old sink_fault.old → IsHonest D.now E.faults E.fulls cell.new sink_fault.new }
     ensures start { unturned cell.new.lane.sink ≡ unturned cell.old.lane.sink }
     ensures boxes { cell.new.ends.boxes ≡ cell.old.ends.boxes }
 {
     let mut tape = tape.lock(rt);
     if !is_ready(&mut tape, turns) {
-        return Went::NotYet;
+        return TurnOutcome::NotYet;
     }
-    match turn_once(rt, alloc, cell, met, blocks) {
-        Went::Made(frames) => {
+    match turn_once(rt, alloc, cell, sink_fault, blocks) {
+        TurnOutcome::Made(frames) => {
             tape.add_turn(turns, frames, cell.taken());
-            Went::Made(frames)
+            TurnOutcome::Made(frames)
         }
-        Went::NotYet => Went::NotYet,
-        Went::Ended => Went::Ended,
+        TurnOutcome::NotYet => TurnOutcome::NotYet,
+        TurnOutcome::Ended => TurnOutcome::Ended,
     }
 }
 
-/// A sink that no worker has: one that none has had yet, or one whose worker has ended. With what that worker met, and the turns that it made,
-/// where there is a tape.
+/// A sink with its mixer, the first fault that its worker came upon, and, where there is a tape, the turns that it has made. Outside of its
+/// worker it is a sink not owned by a running worker.
 #[derive(Drop)]
-pub struct Lone<D: Device, E: Recorder<LaneEntry>> {
+pub struct SinkState<D: Device, E: Recorder<LaneEntry>> {
     pub sink: SinkId,
     pub cell: LaneCell<D, E>,
-    pub met: Met,
+    pub sink_fault: SinkFault,
     pub turns: Option<SinkTurns>,
 }
 
-impl<D: Device, E: Recorder<LaneEntry>> Model for Lone<D, E> {
+impl<D: Device, E: Recorder<LaneEntry>> Model for SinkState<D, E> {
     ghost use Rattle.px_workers.specs.Working.{Unworked, IsHonest, AreTaped};
 
     ghost Value = { Unworked D E };
 
-    ghost view = { λ l. record { sink = l.sink; cell = l.cell; met = l.met; turns = l.turns } };
+    ghost view = { λ l. record { sink = l.sink; cell = l.cell; sink_fault = l.sink_fault; turns = l.turns } };
 
-    ghost invariant = { λ l. IsHonest D.now E.faults E.fulls l.cell l.met × AreTaped E.told l.cell.recorder l.turns };
+    ghost invariant = { λ l. IsHonest D.now E.faults E.fulls l.cell l.sink_fault × AreTaped E.told l.cell.recorder l.turns };
 }
 
-impl<D: Device + Drop, E: Recorder<LaneEntry> + Drop> Lone<D, E> {
-    /// A sink that no worker has had yet.
-    pub fn new(sink: SinkId, cell: LaneCell<D, E>, turns: Option<SinkTurns>) -> Lone<D, E>
+impl<D: Device + Drop, E: Recorder<LaneEntry> + Drop> SinkState<D, E> {
+    /// A sink before its worker has started.
+    pub fn new(sink: SinkId, cell: LaneCell<D, E>, turns: Option<SinkTurns>) -> SinkState<D, E>
         requires honest { IsHonest D.now E.faults E.fulls cell Nothing }
         requires taped { AreTaped E.told cell.recorder turns }
-        ensures { result ≡ record { sink = sink; cell = cell; met = Nothing; turns = turns } }
+        ensures { result ≡ record { sink = sink; cell = cell; sink_fault = Nothing; turns = turns } }
     {
-        Lone {
+        SinkState {
             sink,
             cell,
-            met: Met::Nothing,
+            sink_fault: SinkFault::Nothing,
             turns,
         }
     }
 
-    /// One turn, which goes onto the tape where there is one.
+    /// Runs one turn, which goes onto the tape where there is one.
     pub(crate) fn turn<W: Wait, B: BlockSource>(
         &mut self,
         rt: &W,
         alloc: Global,
         tape: &Mutex<Tape>,
         blocks: &mut B,
-    ) -> Went
+    ) -> TurnOutcome
         ensures { GoesOn self.old self.new }
     {
         match &mut self.turns {
@@ -179,10 +179,10 @@ impl<D: Device + Drop, E: Recorder<LaneEntry> + Drop> Lone<D, E> {
                 tape,
                 turns,
                 &mut self.cell,
-                &mut self.met,
+                &mut self.sink_fault,
                 blocks,
             ),
-            None => turn_once(rt, alloc, &mut self.cell, &mut self.met, blocks),
+            None => turn_once(rt, alloc, &mut self.cell, &mut self.sink_fault, blocks),
         }
     }
 }

@@ -5,7 +5,7 @@ use Rattle.px_workers.specs.Working.{start_of, tapes_in}
 use Rattle.px_server.specs.Mailboxes.{boxes_in}
 use Rattle.px_server.proofs.Making.{lent_fewer}
 use Rattle.px_server.proofs.Parts.{begun}
-use Rattle.px_server.proofs.sinks.new_lone.Goals as goal
+use Rattle.px_server.proofs.sinks.new_sink_state.Goals as goal
 
 pub cell_of-requires-clause-sink : goal.cell_of-requires-clause-sink
 cell_of-requires-clause-sink g c = c.requires
@@ -39,8 +39,8 @@ returns-clause-lent g c = c.in-Ok.ensures.lent
 
 pub returns-clause-made : goal.returns-clause-made
 returns-clause-made g c = record {
-  start = ap start_of c.new-lone.ensures ∙ ap (λ (s : _). begun c.args.index (unturned s)) c.in-Ok-cell_of.ensures.sink;
+  start = ap start_of c.new-idle.ensures ∙ ap (λ (s : _). begun c.args.index (unturned s)) c.in-Ok-cell_of.ensures.sink;
   fresh = c.in-Ok-cell_of.ensures.core;
-  boxes = ap boxes_in c.new-lone.ensures ∙ c.in-Ok-cell_of.ensures.boxes;
-  tapes = ap tapes_in c.new-lone.ensures ∙ c.turns_of.ensures.tapes;
+  boxes = ap boxes_in c.new-idle.ensures ∙ c.in-Ok-cell_of.ensures.boxes;
+  tapes = ap tapes_in c.new-idle.ensures ∙ c.turns_of.ensures.tapes;
 }

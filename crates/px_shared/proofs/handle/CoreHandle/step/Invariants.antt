@@ -1,6 +1,6 @@
 use Rattle.std.proofs.Common.{◌≡◌}
 use Rattle.px_core_cell.specs.Step.{IsAsked}
-use Rattle.px_shared.proofs.handle.DeskHandle.make.Given as goal
+use Rattle.px_shared.proofs.handle.CoreHandle.step.Given as goal
 
 abbrev pub invariant-loop : goal.invariant-loop
 invariant-loop g l = l.self.seat.parts ≡ l.fn.self.seat.parts × IsAsked l.step
