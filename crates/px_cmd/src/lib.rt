@@ -8,6 +8,7 @@ mod fault;
 mod fields;
 mod head;
 mod law;
+pub mod number;
 mod packet;
 mod text;
 
