@@ -5,6 +5,7 @@ ghost use Rattle.px_gen.specs.Client.{shape, buffering, nine_flags, sink_of, map
 
 use px_frame::{write_data, write_packet};
 use px_tag::{Mem, Packet, PropList, RawMap, RawSpec, RawVolume, TagWriter};
+use px_types::limits::PROTOCOL_VERSION;
 use px_types::{NoMemory, Text};
 use std::alloc::Global;
 
@@ -34,7 +35,7 @@ fn auth_packet(alloc: Global) -> Mem<Packet>
     let mut writer = TagWriter::new(alloc);
     writer.number(8)?;
     writer.number(0)?;
-    writer.number(13)?;
+    writer.number(u32::from(PROTOCOL_VERSION))?;
     writer.arbitrary(&COOKIE)?;
     Ok(writer.finish())
 }
