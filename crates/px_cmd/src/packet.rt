@@ -1,6 +1,7 @@
-//! Commands, read from packets.
+//! Commands, read from packets. The readers of their fields are a ladder by the commands' numbers: each reads a few commands and hands the
+//! others on. A `match` is proved case by case, and each clause of its function in each case anew, so one of all 38 would take too long.
 
-ghost use Rattle.std.specs.Prelude.{◌≡◌, ◌≤◌, is_some, IfOk};
+ghost use Rattle.std.specs.Prelude.{◌≡◌, ◌≤◌, IfOk};
 ghost use Rattle.px_cmd.specs.Command.{fields_of, number_of, IsNumbered};
 ghost use Rattle.px_cmd.specs.Meant.{meant, IsOfVersion13};
 ghost use Rattle.px_cmd.specs.Packet.{taken, meaning, Reaches, Answers};
@@ -38,8 +39,8 @@ fn attributes(reader: &mut TagReader) -> Result<Command, CmdFault>
     })
 }
 
-// The fields of a command whose number is 84 at least: those that remove properties, and the last of the lists that are empty.
-fn remove_keys_fields(alloc: Global, number: u32, reader: &mut TagReader) -> Result<Command, CmdFault>
+// The fields of the commands from 84 on: those that remove properties, and the last of the lists that are empty.
+fn removal_fields(alloc: Global, number: u32, reader: &mut TagReader) -> Result<Command, CmdFault>
     requires { 84 ≤ number }
     ensures value { Reaches result number reader.new (taken (kinds_of number) number reader.old) }
     ensures numbered { IfOk result IsNumbered }
@@ -60,8 +61,8 @@ fn remove_keys_fields(alloc: Global, number: u32, reader: &mut TagReader) -> Res
     }
 }
 
-// The fields of a command whose number is 81 at least: those with property lists come first.
-fn update_list_fields(alloc: Global, number: u32, reader: &mut TagReader) -> Result<Command, CmdFault>
+// The fields of the commands from 81 on: first those that update property lists.
+fn list_fields(alloc: Global, number: u32, reader: &mut TagReader) -> Result<Command, CmdFault>
     requires { 81 ≤ number }
     ensures value { Reaches result number reader.new (taken (kinds_of number) number reader.old) }
     ensures numbered { IfOk result IsNumbered }
@@ -80,12 +81,12 @@ fn update_list_fields(alloc: Global, number: u32, reader: &mut TagReader) -> Res
             Ok(Command::UpdateClient { mode, list })
         }
         _ if number < number::REMOVE_PLAYBACK_STREAM_PROPLIST => Err(CmdFault::Unsupported(number)),
-        _ => remove_keys_fields(alloc, number, reader),
+        _ => removal_fields(alloc, number, reader),
     }
 }
 
-// The fields of a command whose number is 67 at least: those that change an input come first.
-fn move_and_input_mute_fields(alloc: Global, number: u32, reader: &mut TagReader) -> Result<Command, CmdFault>
+// The fields of the commands from 67 on: first those that move and mute an input, and its stream's buffer attributes.
+fn input_fields(alloc: Global, number: u32, reader: &mut TagReader) -> Result<Command, CmdFault>
     requires { 67 ≤ number }
     ensures value { Reaches result number reader.new (taken (kinds_of number) number reader.old) }
     ensures numbered { IfOk result IsNumbered }
@@ -104,12 +105,16 @@ fn move_and_input_mute_fields(alloc: Global, number: u32, reader: &mut TagReader
         }
         number::SET_PLAYBACK_STREAM_BUFFER_ATTR => attributes(reader),
         _ if number < number::UPDATE_PLAYBACK_STREAM_PROPLIST => Err(CmdFault::Unsupported(number)),
-        _ => update_list_fields(alloc, number, reader),
+        _ => list_fields(alloc, number, reader),
     }
 }
 
-// The fields of a command whose number is 48 at least.
-fn kill_and_prebuf_fields(alloc: Global, number: u32, reader: &mut TagReader) -> Result<Command, CmdFault>
+// The fields of the commands from 48 on: first those that end a client or an input, and PREBUF.
+fn kill_and_prebuf_fields(
+    alloc: Global,
+    number: u32,
+    reader: &mut TagReader,
+) -> Result<Command, CmdFault>
     requires { 48 ≤ number }
     ensures value { Reaches result number reader.new (taken (kinds_of number) number reader.old) }
     ensures numbered { IfOk result IsNumbered }
@@ -129,11 +134,11 @@ fn kill_and_prebuf_fields(alloc: Global, number: u32, reader: &mut TagReader) ->
             Ok(Command::Prebuf { stream })
         }
         _ if number < number::MOVE_SINK_INPUT => Err(CmdFault::Unsupported(number)),
-        _ => move_and_input_mute_fields(alloc, number, reader),
+        _ => input_fields(alloc, number, reader),
     }
 }
 
-// The fields of a command whose number is 44 at least: those with a name come first.
+// The fields of the commands from 44 on: first those that name the default sink or a stream.
 fn name_fields(alloc: Global, number: u32, reader: &mut TagReader) -> Result<Command, CmdFault>
     requires { 44 ≤ number }
     ensures value { Reaches result number reader.new (taken (kinds_of number) number reader.old) }
@@ -155,8 +160,12 @@ fn name_fields(alloc: Global, number: u32, reader: &mut TagReader) -> Result<Com
     }
 }
 
-// The fields of a command whose number is 42 at least.
-fn stream_control_fields(alloc: Global, number: u32, reader: &mut TagReader) -> Result<Command, CmdFault>
+// The fields of the commands from 42 on: first FLUSH and TRIGGER.
+fn stream_control_fields(
+    alloc: Global,
+    number: u32,
+    reader: &mut TagReader,
+) -> Result<Command, CmdFault>
     requires { 42 ≤ number }
     ensures value { Reaches result number reader.new (taken (kinds_of number) number reader.old) }
     ensures numbered { IfOk result IsNumbered }
@@ -176,8 +185,12 @@ fn stream_control_fields(alloc: Global, number: u32, reader: &mut TagReader) -> 
     }
 }
 
-// The fields of a command whose number is 39 at least: those with a flag come first.
-fn mute_and_cork_fields(alloc: Global, number: u32, reader: &mut TagReader) -> Result<Command, CmdFault>
+// The fields of the commands from 39 on: first those with a flag, a sink's mute and CORK.
+fn mute_and_cork_fields(
+    alloc: Global,
+    number: u32,
+    reader: &mut TagReader,
+) -> Result<Command, CmdFault>
     requires { 39 ≤ number }
     ensures value { Reaches result number reader.new (taken (kinds_of number) number reader.old) }
     ensures numbered { IfOk result IsNumbered }
@@ -199,7 +212,7 @@ fn mute_and_cork_fields(alloc: Global, number: u32, reader: &mut TagReader) -> R
     }
 }
 
-// The fields of a command whose number is 36 at least: those with volumes come first.
+// The fields of the commands from 36 on: first those that set volumes.
 fn volume_fields(alloc: Global, number: u32, reader: &mut TagReader) -> Result<Command, CmdFault>
     requires { 36 ≤ number }
     ensures value { Reaches result number reader.new (taken (kinds_of number) number reader.old) }
@@ -222,8 +235,12 @@ fn volume_fields(alloc: Global, number: u32, reader: &mut TagReader) -> Result<C
     }
 }
 
-// The fields of a command whose number is 27 at least.
-fn client_info_fields(alloc: Global, number: u32, reader: &mut TagReader) -> Result<Command, CmdFault>
+// The fields of the commands from 27 on: first those that ask for clients and inputs, and SUBSCRIBE.
+fn client_info_fields(
+    alloc: Global,
+    number: u32,
+    reader: &mut TagReader,
+) -> Result<Command, CmdFault>
     requires { 27 ≤ number }
     ensures value { Reaches result number reader.new (taken (kinds_of number) number reader.old) }
     ensures numbered { IfOk result IsNumbered }
@@ -240,7 +257,9 @@ fn client_info_fields(alloc: Global, number: u32, reader: &mut TagReader) -> Res
             Ok(Command::InputInfo { input })
         }
         number::GET_SINK_INPUT_INFO_LIST => Ok(Command::InputInfoList),
-        number::GET_SOURCE_OUTPUT_INFO_LIST | number::GET_SAMPLE_INFO_LIST => Ok(Command::EmptyList { number }),
+        number::GET_SOURCE_OUTPUT_INFO_LIST | number::GET_SAMPLE_INFO_LIST => Ok(
+            Command::EmptyList { number },
+        ),
         number::SUBSCRIBE => {
             let mask = reader.number()?;
             Ok(Command::Subscribe { mask })
@@ -250,8 +269,12 @@ fn client_info_fields(alloc: Global, number: u32, reader: &mut TagReader) -> Res
     }
 }
 
-// The fields of a command whose number is 12 at least.
-fn server_info_fields(alloc: Global, number: u32, reader: &mut TagReader) -> Result<Command, CmdFault>
+// The fields of the commands from 12 on: first DRAIN and latency, and those that ask for the server and its sinks.
+fn server_info_fields(
+    alloc: Global,
+    number: u32,
+    reader: &mut TagReader,
+) -> Result<Command, CmdFault>
     requires { 12 ≤ number }
     ensures value { Reaches result number reader.new (taken (kinds_of number) number reader.old) }
     ensures numbered { IfOk result IsNumbered }
@@ -273,13 +296,15 @@ fn server_info_fields(alloc: Global, number: u32, reader: &mut TagReader) -> Res
             Ok(Command::SinkInfo { sink })
         }
         number::GET_SINK_INFO_LIST => Ok(Command::SinkInfoList),
-        number::GET_SOURCE_INFO_LIST | number::GET_MODULE_INFO_LIST => Ok(Command::EmptyList { number }),
+        number::GET_SOURCE_INFO_LIST | number::GET_MODULE_INFO_LIST => Ok(Command::EmptyList {
+            number,
+        }),
         _ if number < number::GET_CLIENT_INFO => Err(CmdFault::Unsupported(number)),
         _ => client_info_fields(alloc, number, reader),
     }
 }
 
-// The fields of a command whose number is 9 at least.
+// The fields of the commands from 9 on: first a client's name and LOOKUP_SINK.
 fn lookup_fields(alloc: Global, number: u32, reader: &mut TagReader) -> Result<Command, CmdFault>
     requires { 9 ≤ number }
     ensures value { Reaches result number reader.new (taken (kinds_of number) number reader.old) }
@@ -323,53 +348,6 @@ fn fields(alloc: Global, number: u32, reader: &mut TagReader) -> Result<Command,
         _ if number < number::SET_CLIENT_NAME => Err(CmdFault::Unsupported(number)),
         _ => lookup_fields(alloc, number, reader),
     }
-}
-
-/// Whether the table has a command of this number. Takes no memory.
-pub fn is_command(number: u32) -> bool
-    ensures { result ≡ is_some (kinds_of number) }
-{
-    matches!(
-        number,
-        number::CREATE_PLAYBACK_STREAM
-            | number::DELETE_PLAYBACK_STREAM
-            | number::AUTH
-            | number::SET_CLIENT_NAME
-            | number::LOOKUP_SINK
-            | number::DRAIN_PLAYBACK_STREAM
-            | number::GET_PLAYBACK_LATENCY
-            | number::GET_SERVER_INFO
-            | number::GET_SINK_INFO
-            | number::GET_SINK_INFO_LIST
-            | number::GET_SOURCE_INFO_LIST
-            | number::GET_MODULE_INFO_LIST
-            | number::GET_CLIENT_INFO
-            | number::GET_CLIENT_INFO_LIST
-            | number::GET_SINK_INPUT_INFO
-            | number::GET_SINK_INPUT_INFO_LIST
-            | number::GET_SOURCE_OUTPUT_INFO_LIST
-            | number::GET_SAMPLE_INFO_LIST
-            | number::SUBSCRIBE
-            | number::SET_SINK_VOLUME
-            | number::SET_SINK_INPUT_VOLUME
-            | number::SET_SINK_MUTE
-            | number::CORK_PLAYBACK_STREAM
-            | number::FLUSH_PLAYBACK_STREAM
-            | number::TRIGGER_PLAYBACK_STREAM
-            | number::SET_DEFAULT_SINK
-            | number::SET_PLAYBACK_STREAM_NAME
-            | number::KILL_CLIENT
-            | number::KILL_SINK_INPUT
-            | number::PREBUF_PLAYBACK_STREAM
-            | number::MOVE_SINK_INPUT
-            | number::SET_SINK_INPUT_MUTE
-            | number::SET_PLAYBACK_STREAM_BUFFER_ATTR
-            | number::UPDATE_PLAYBACK_STREAM_PROPLIST
-            | number::UPDATE_CLIENT_PROPLIST
-            | number::REMOVE_PLAYBACK_STREAM_PROPLIST
-            | number::REMOVE_CLIENT_PROPLIST
-            | number::GET_CARD_INFO_LIST
-    )
 }
 
 // The command that a packet means, by its number and its fields.

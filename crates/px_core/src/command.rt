@@ -11,6 +11,7 @@ ghost use Rattle.px_core.specs.Grouped.{AreGrouped};
 ghost use Rattle.px_core.specs.Keeps.{IsInput};
 
 use crate::rows::row;
+use px_cmd::number::AUTH;
 use px_cmd::{CmdFault, read_command, read_head};
 use px_flat::Group;
 use px_msg::Msg;
@@ -19,9 +20,6 @@ use px_state::{Tables, broken_off, refused, requested};
 use px_types::limits::PROTOCOL_VERSION;
 use px_types::{ErrorCode, Mem, NoMemory};
 use std::alloc::Global;
-
-/// The number of AUTH.
-const AUTH: u32 = 8;
 
 // Whether the connection hasn't been let in yet, and the command isn't AUTH.
 fn is_barred(c: &Connection, command: u32) -> bool
