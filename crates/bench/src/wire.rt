@@ -2,15 +2,13 @@
 use px_cmd::{Command, read_command};
 use px_reply::{Created, created};
 use px_tag::{RawMap, RawSpec};
+use px_types::limits::PROTOCOL_VERSION;
 use px_types::{Mem, Text};
 use std::alloc::Global;
 
-// The protocol's version of the packet.
-const VERSION: u16 = 13;
-
 // Whether the packet is the command that is wanted.
 fn is_create(alloc: Global, packet: &[u8]) -> bool {
-    let read = read_command(alloc, packet, VERSION);
+    let read = read_command(alloc, packet, PROTOCOL_VERSION);
     let is_create = matches!(&read, Ok(Command::Create(_)));
     drop(read);
     is_create

@@ -8,6 +8,7 @@ mod fault;
 mod fields;
 mod head;
 mod law;
+pub mod number;
 mod packet;
 mod text;
 
@@ -15,5 +16,6 @@ pub use command::{Command, CreateFields, SinkRef};
 pub use fault::CmdFault;
 pub use head::{Head, read_head};
 pub use law::spelled_commands;
-pub use packet::{is_command, read_command};
+pub use number::is_command;
+pub use packet::read_command;
 pub use text::{Keys, Text};

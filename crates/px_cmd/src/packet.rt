@@ -1,6 +1,7 @@
-//! Commands, read from packets.
+//! Commands, read from packets. The readers of their fields are a ladder by the commands' numbers: each reads a few commands and hands the
+//! others on. A `match` is proved case by case, and each clause of its function in each case anew, so one of all 38 would take too long.
 
-ghost use Rattle.std.specs.Prelude.{◌≡◌, ◌≤◌, is_some, IfOk};
+ghost use Rattle.std.specs.Prelude.{◌≡◌, ◌≤◌, IfOk};
 ghost use Rattle.px_cmd.specs.Command.{fields_of, number_of, IsNumbered};
 ghost use Rattle.px_cmd.specs.Meant.{meant, IsOfVersion13};
 ghost use Rattle.px_cmd.specs.Packet.{taken, meaning, Reaches, Answers};
@@ -11,6 +12,7 @@ use crate::create::create;
 use crate::fault::CmdFault;
 use crate::fields::{cookie, keys, properties, sink, text};
 use crate::head::front;
+use crate::number;
 use px_tag::TagReader;
 use std::alloc::Global;
 
@@ -37,7 +39,7 @@ fn attributes(reader: &mut TagReader) -> Result<Command, CmdFault>
     })
 }
 
-// The fields of a command whose number is 84 at least: those that remove properties, and the last of the lists that are empty.
+// The fields of the commands from 84 on: those that remove properties, and the last of the lists that are empty.
 fn removal_fields(alloc: Global, number: u32, reader: &mut TagReader) -> Result<Command, CmdFault>
     requires { 84 ≤ number }
     ensures value { Reaches result number reader.new (taken (kinds_of number) number reader.old) }
@@ -45,21 +47,21 @@ fn removal_fields(alloc: Global, number: u32, reader: &mut TagReader) -> Result<
     ensures plain { IfOk result IsOfVersion13 }
 {
     match number {
-        84 => {
+        number::REMOVE_PLAYBACK_STREAM_PROPLIST => {
             let stream = reader.number()?;
             let keys = keys(alloc, reader)?;
             Ok(Command::RemoveStream { stream, keys })
         }
-        85 => {
+        number::REMOVE_CLIENT_PROPLIST => {
             let keys = keys(alloc, reader)?;
             Ok(Command::RemoveClient { keys })
         }
-        89 => Ok(Command::EmptyList { number }),
+        number::GET_CARD_INFO_LIST => Ok(Command::EmptyList { number }),
         _ => Err(CmdFault::Unsupported(number)),
     }
 }
 
-// The fields of a command whose number is 81 at least: those with property lists come first.
+// The fields of the commands from 81 on: first those that update property lists.
 fn list_fields(alloc: Global, number: u32, reader: &mut TagReader) -> Result<Command, CmdFault>
     requires { 81 ≤ number }
     ensures value { Reaches result number reader.new (taken (kinds_of number) number reader.old) }
@@ -67,23 +69,23 @@ fn list_fields(alloc: Global, number: u32, reader: &mut TagReader) -> Result<Com
     ensures plain { IfOk result IsOfVersion13 }
 {
     match number {
-        81 => {
+        number::UPDATE_PLAYBACK_STREAM_PROPLIST => {
             let stream = reader.number()?;
             let mode = reader.number()?;
             let list = properties(alloc, reader)?;
             Ok(Command::UpdateStream { stream, mode, list })
         }
-        82 => {
+        number::UPDATE_CLIENT_PROPLIST => {
             let mode = reader.number()?;
             let list = properties(alloc, reader)?;
             Ok(Command::UpdateClient { mode, list })
         }
-        0..=83 => Err(CmdFault::Unsupported(number)),
+        _ if number < number::REMOVE_PLAYBACK_STREAM_PROPLIST => Err(CmdFault::Unsupported(number)),
         _ => removal_fields(alloc, number, reader),
     }
 }
 
-// The fields of a command whose number is 67 at least: those that change an input come first.
+// The fields of the commands from 67 on: first those that move and mute an input, and its stream's buffer attributes.
 fn input_fields(alloc: Global, number: u32, reader: &mut TagReader) -> Result<Command, CmdFault>
     requires { 67 ≤ number }
     ensures value { Reaches result number reader.new (taken (kinds_of number) number reader.old) }
@@ -91,211 +93,235 @@ fn input_fields(alloc: Global, number: u32, reader: &mut TagReader) -> Result<Co
     ensures plain { IfOk result IsOfVersion13 }
 {
     match number {
-        67 => {
+        number::MOVE_SINK_INPUT => {
             let input = reader.number()?;
             let sink = sink(alloc, reader)?;
             Ok(Command::Move { input, sink })
         }
-        69 => {
+        number::SET_SINK_INPUT_MUTE => {
             let input = reader.number()?;
             let on = reader.flag()?;
             Ok(Command::InputMute { input, on })
         }
-        72 => attributes(reader),
-        0..=80 => Err(CmdFault::Unsupported(number)),
+        number::SET_PLAYBACK_STREAM_BUFFER_ATTR => attributes(reader),
+        _ if number < number::UPDATE_PLAYBACK_STREAM_PROPLIST => Err(CmdFault::Unsupported(number)),
         _ => list_fields(alloc, number, reader),
     }
 }
 
-// The fields of a command whose number is 48 at least.
-fn last_fields(alloc: Global, number: u32, reader: &mut TagReader) -> Result<Command, CmdFault>
+// The fields of the commands from 48 on: first those that end a client or an input, and PREBUF.
+fn kill_and_prebuf_fields(
+    alloc: Global,
+    number: u32,
+    reader: &mut TagReader,
+) -> Result<Command, CmdFault>
     requires { 48 ≤ number }
     ensures value { Reaches result number reader.new (taken (kinds_of number) number reader.old) }
     ensures numbered { IfOk result IsNumbered }
     ensures plain { IfOk result IsOfVersion13 }
 {
     match number {
-        48 => {
+        number::KILL_CLIENT => {
             let client = reader.number()?;
             Ok(Command::KillClient { client })
         }
-        49 => {
+        number::KILL_SINK_INPUT => {
             let input = reader.number()?;
             Ok(Command::KillInput { input })
         }
-        60 => {
+        number::PREBUF_PLAYBACK_STREAM => {
             let stream = reader.number()?;
             Ok(Command::Prebuf { stream })
         }
-        0..=66 => Err(CmdFault::Unsupported(number)),
+        _ if number < number::MOVE_SINK_INPUT => Err(CmdFault::Unsupported(number)),
         _ => input_fields(alloc, number, reader),
     }
 }
 
-// The fields of a command whose number is 44 at least: those with a name come first.
-fn naming_fields(alloc: Global, number: u32, reader: &mut TagReader) -> Result<Command, CmdFault>
+// The fields of the commands from 44 on: first those that name the default sink or a stream.
+fn name_fields(alloc: Global, number: u32, reader: &mut TagReader) -> Result<Command, CmdFault>
     requires { 44 ≤ number }
     ensures value { Reaches result number reader.new (taken (kinds_of number) number reader.old) }
     ensures numbered { IfOk result IsNumbered }
     ensures plain { IfOk result IsOfVersion13 }
 {
     match number {
-        44 => {
+        number::SET_DEFAULT_SINK => {
             let name = text(alloc, reader)?;
             Ok(Command::DefaultSink { name })
         }
-        46 => {
+        number::SET_PLAYBACK_STREAM_NAME => {
             let stream = reader.number()?;
             let name = text(alloc, reader)?;
             Ok(Command::StreamName { stream, name })
         }
-        0..=47 => Err(CmdFault::Unsupported(number)),
-        _ => last_fields(alloc, number, reader),
+        _ if number < number::KILL_CLIENT => Err(CmdFault::Unsupported(number)),
+        _ => kill_and_prebuf_fields(alloc, number, reader),
     }
 }
 
-// The fields of a command whose number is 42 at least.
-fn stream_fields(alloc: Global, number: u32, reader: &mut TagReader) -> Result<Command, CmdFault>
+// The fields of the commands from 42 on: first FLUSH and TRIGGER.
+fn stream_control_fields(
+    alloc: Global,
+    number: u32,
+    reader: &mut TagReader,
+) -> Result<Command, CmdFault>
     requires { 42 ≤ number }
     ensures value { Reaches result number reader.new (taken (kinds_of number) number reader.old) }
     ensures numbered { IfOk result IsNumbered }
     ensures plain { IfOk result IsOfVersion13 }
 {
     match number {
-        42 => {
+        number::FLUSH_PLAYBACK_STREAM => {
             let stream = reader.number()?;
             Ok(Command::Flush { stream })
         }
-        43 => {
+        number::TRIGGER_PLAYBACK_STREAM => {
             let stream = reader.number()?;
             Ok(Command::Trigger { stream })
         }
-        0..=43 => Err(CmdFault::Unsupported(number)),
-        _ => naming_fields(alloc, number, reader),
+        _ if number < number::SET_DEFAULT_SINK => Err(CmdFault::Unsupported(number)),
+        _ => name_fields(alloc, number, reader),
     }
 }
 
-// The fields of a command whose number is 39 at least: those with a flag come first.
-fn switch_fields(alloc: Global, number: u32, reader: &mut TagReader) -> Result<Command, CmdFault>
+// The fields of the commands from 39 on: first those with a flag, a sink's mute and CORK.
+fn mute_and_cork_fields(
+    alloc: Global,
+    number: u32,
+    reader: &mut TagReader,
+) -> Result<Command, CmdFault>
     requires { 39 ≤ number }
     ensures value { Reaches result number reader.new (taken (kinds_of number) number reader.old) }
     ensures numbered { IfOk result IsNumbered }
     ensures plain { IfOk result IsOfVersion13 }
 {
     match number {
-        39 => {
+        number::SET_SINK_MUTE => {
             let sink = sink(alloc, reader)?;
             let on = reader.flag()?;
             Ok(Command::SinkMute { sink, on })
         }
-        41 => {
+        number::CORK_PLAYBACK_STREAM => {
             let stream = reader.number()?;
             let on = reader.flag()?;
             Ok(Command::Cork { stream, on })
         }
-        0..=41 => Err(CmdFault::Unsupported(number)),
-        _ => stream_fields(alloc, number, reader),
+        _ if number < number::FLUSH_PLAYBACK_STREAM => Err(CmdFault::Unsupported(number)),
+        _ => stream_control_fields(alloc, number, reader),
     }
 }
 
-// The fields of a command whose number is 36 at least: those with volumes come first.
-fn later_fields(alloc: Global, number: u32, reader: &mut TagReader) -> Result<Command, CmdFault>
+// The fields of the commands from 36 on: first those that set volumes.
+fn volume_fields(alloc: Global, number: u32, reader: &mut TagReader) -> Result<Command, CmdFault>
     requires { 36 ≤ number }
     ensures value { Reaches result number reader.new (taken (kinds_of number) number reader.old) }
     ensures numbered { IfOk result IsNumbered }
     ensures plain { IfOk result IsOfVersion13 }
 {
     match number {
-        36 => {
+        number::SET_SINK_VOLUME => {
             let sink = sink(alloc, reader)?;
             let volume = reader.cvolume()?;
             Ok(Command::SinkVolume { sink, volume })
         }
-        37 => {
+        number::SET_SINK_INPUT_VOLUME => {
             let input = reader.number()?;
             let volume = reader.cvolume()?;
             Ok(Command::InputVolume { input, volume })
         }
-        0..=38 => Err(CmdFault::Unsupported(number)),
-        _ => switch_fields(alloc, number, reader),
+        _ if number < number::SET_SINK_MUTE => Err(CmdFault::Unsupported(number)),
+        _ => mute_and_cork_fields(alloc, number, reader),
     }
 }
 
-// The fields of a command whose number is 27 at least.
-fn asked_fields(alloc: Global, number: u32, reader: &mut TagReader) -> Result<Command, CmdFault>
+// The fields of the commands from 27 on: first those that ask for clients and inputs, and SUBSCRIBE.
+fn client_info_fields(
+    alloc: Global,
+    number: u32,
+    reader: &mut TagReader,
+) -> Result<Command, CmdFault>
     requires { 27 ≤ number }
     ensures value { Reaches result number reader.new (taken (kinds_of number) number reader.old) }
     ensures numbered { IfOk result IsNumbered }
     ensures plain { IfOk result IsOfVersion13 }
 {
     match number {
-        27 => {
+        number::GET_CLIENT_INFO => {
             let client = reader.number()?;
             Ok(Command::ClientInfo { client })
         }
-        28 => Ok(Command::ClientInfoList),
-        29 => {
+        number::GET_CLIENT_INFO_LIST => Ok(Command::ClientInfoList),
+        number::GET_SINK_INPUT_INFO => {
             let input = reader.number()?;
             Ok(Command::InputInfo { input })
         }
-        30 => Ok(Command::InputInfoList),
-        32 | 34 => Ok(Command::EmptyList { number }),
-        35 => {
+        number::GET_SINK_INPUT_INFO_LIST => Ok(Command::InputInfoList),
+        number::GET_SOURCE_OUTPUT_INFO_LIST | number::GET_SAMPLE_INFO_LIST => Ok(
+            Command::EmptyList { number },
+        ),
+        number::SUBSCRIBE => {
             let mask = reader.number()?;
             Ok(Command::Subscribe { mask })
         }
-        0..=35 => Err(CmdFault::Unsupported(number)),
-        _ => later_fields(alloc, number, reader),
+        _ if number < number::SET_SINK_VOLUME => Err(CmdFault::Unsupported(number)),
+        _ => volume_fields(alloc, number, reader),
     }
 }
 
-// The fields of a command whose number is 12 at least.
-fn further_fields(alloc: Global, number: u32, reader: &mut TagReader) -> Result<Command, CmdFault>
+// The fields of the commands from 12 on: first DRAIN and latency, and those that ask for the server and its sinks.
+fn server_info_fields(
+    alloc: Global,
+    number: u32,
+    reader: &mut TagReader,
+) -> Result<Command, CmdFault>
     requires { 12 ≤ number }
     ensures value { Reaches result number reader.new (taken (kinds_of number) number reader.old) }
     ensures numbered { IfOk result IsNumbered }
     ensures plain { IfOk result IsOfVersion13 }
 {
     match number {
-        12 => {
+        number::DRAIN_PLAYBACK_STREAM => {
             let stream = reader.number()?;
             Ok(Command::Drain { stream })
         }
-        14 => {
+        number::GET_PLAYBACK_LATENCY => {
             let stream = reader.number()?;
             let time = reader.time()?;
             Ok(Command::Latency { stream, time })
         }
-        20 => Ok(Command::ServerInfo),
-        21 => {
+        number::GET_SERVER_INFO => Ok(Command::ServerInfo),
+        number::GET_SINK_INFO => {
             let sink = sink(alloc, reader)?;
             Ok(Command::SinkInfo { sink })
         }
-        22 => Ok(Command::SinkInfoList),
-        24 | 26 => Ok(Command::EmptyList { number }),
-        0..=26 => Err(CmdFault::Unsupported(number)),
-        _ => asked_fields(alloc, number, reader),
+        number::GET_SINK_INFO_LIST => Ok(Command::SinkInfoList),
+        number::GET_SOURCE_INFO_LIST | number::GET_MODULE_INFO_LIST => Ok(Command::EmptyList {
+            number,
+        }),
+        _ if number < number::GET_CLIENT_INFO => Err(CmdFault::Unsupported(number)),
+        _ => client_info_fields(alloc, number, reader),
     }
 }
 
-// The fields of a command whose number is 9 at least.
-fn early_fields(alloc: Global, number: u32, reader: &mut TagReader) -> Result<Command, CmdFault>
+// The fields of the commands from 9 on: first a client's name and LOOKUP_SINK.
+fn lookup_fields(alloc: Global, number: u32, reader: &mut TagReader) -> Result<Command, CmdFault>
     requires { 9 ≤ number }
     ensures value { Reaches result number reader.new (taken (kinds_of number) number reader.old) }
     ensures numbered { IfOk result IsNumbered }
     ensures plain { IfOk result IsOfVersion13 }
 {
     match number {
-        9 => {
+        number::SET_CLIENT_NAME => {
             let list = properties(alloc, reader)?;
             Ok(Command::SetClientName { list })
         }
-        10 => {
+        number::LOOKUP_SINK => {
             let name = text(alloc, reader)?;
             Ok(Command::LookupSink { name })
         }
-        0..=11 => Err(CmdFault::Unsupported(number)),
-        _ => further_fields(alloc, number, reader),
+        _ if number < number::DRAIN_PLAYBACK_STREAM => Err(CmdFault::Unsupported(number)),
+        _ => server_info_fields(alloc, number, reader),
     }
 }
 
@@ -306,54 +332,22 @@ fn fields(alloc: Global, number: u32, reader: &mut TagReader) -> Result<Command,
     ensures plain { IfOk result IsOfVersion13 }
 {
     match number {
-        3 => {
+        number::CREATE_PLAYBACK_STREAM => {
             let fields = create(alloc, reader)?;
             Ok(Command::Create(fields))
         }
-        4 => {
+        number::DELETE_PLAYBACK_STREAM => {
             let stream = reader.number()?;
             Ok(Command::Delete { stream })
         }
-        8 => {
+        number::AUTH => {
             let version = reader.number()?;
             let cookie = cookie(alloc, reader)?;
             Ok(Command::Auth { version, cookie })
         }
-        0..=8 => Err(CmdFault::Unsupported(number)),
-        _ => early_fields(alloc, number, reader),
+        _ if number < number::SET_CLIENT_NAME => Err(CmdFault::Unsupported(number)),
+        _ => lookup_fields(alloc, number, reader),
     }
-}
-
-/// Whether the table has a command of this number. Takes no memory.
-pub fn is_command(number: u32) -> bool
-    ensures { result ≡ is_some (kinds_of number) }
-{
-    matches!(
-        number,
-        3 | 4
-            | 8..=10
-            | 12
-            | 14
-            | 20..=22
-            | 24
-            | 26..=30
-            | 32
-            | 34..=37
-            | 39
-            | 41..=44
-            | 46
-            | 48
-            | 49
-            | 60
-            | 67
-            | 69
-            | 72
-            | 81
-            | 82
-            | 84
-            | 85
-            | 89
-    )
 }
 
 // The command that a packet means, by its number and its fields.

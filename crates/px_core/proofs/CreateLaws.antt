@@ -39,7 +39,7 @@ use Rattle.px_flat.specs.Member.{channels_of}
 use Rattle.px_flat.specs.FlatVolume.{FlatGroup, member_of, factors_of}
 use Rattle.px_flat.proofs.Inputs.{attached_in, attached_channels, attached_there, length_factors, feeds_count}
 use Rattle.px_ctl_play.proofs.Passed.{IsCreated, create_passed}
-use Rattle.px_core.specs.Command.{create_on}
+use Rattle.px_core.specs.Command.{create_named}
 use Rattle.px_core.specs.Grouped.{channels_there, IsGroupOf}
 use Rattle.px_state.specs.Plan.{Plan}
 use Rattle.px_sinks.specs.Sinks.{group_of, group_named}
@@ -267,9 +267,9 @@ module _ {P : Type 0} (spec_of : P → SampleSpec) (state : State P) (h : IsKept
       ((new, refl), (regroups (changed state (Made x (new_of a after made.feed x) (me.streams + 1) (state.inputs_made + 1))) made.sink.index after there follows (settled_on state.inputs made.sink.index ++ x ∷ []) rising, (tt, is_paid made.sink.index)))
 
 pub create_lawful : {P : Type 0} (spec_of : P → SampleSpec) (state : State P) → IsKept spec_of state → (me : Connection) (tag : ℕ) (named : Named) (a : CreateFields) → ((target : Target) → target_in named ≡ Some target → IsThere state.sinks target)
-    → Each (IsLawful state) (create_on state me tag a named)
+    → Each (IsLawful state) (create_named state me tag a named)
 create_lawful {P} spec_of state h me tag named a there =
-    each_by (IsLawful state) (create_on state me tag a named)
+    each_by (IsLawful state) (create_named state me tag a named)
     (λ plan e.
     let made = create_passed state.inputs state.inputs_made me tag named (group_named state.groups named) a plan e in
     created_lawful spec_of state h me tag named a plan made (there made.sink made.there))

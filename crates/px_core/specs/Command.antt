@@ -55,8 +55,8 @@ abbrev pub killed_input : {P : Type 0} → State P → Option Input → ℕ → 
 killed_input state input tag = kill_input input (owner_of state.connections input) state.waiting tag
 
 -- a new stream on the sink that is named
-abbrev pub create_on : {P : Type 0} → State P → Connection → ℕ → CreateFields → Named → Row (Plan P)
-create_on state me tag fields named = create state.inputs state.inputs_made me tag named (group_named state.groups named) fields
+abbrev pub create_named : {P : Type 0} → State P → Connection → ℕ → CreateFields → Named → Row (Plan P)
+create_named state me tag fields named = create state.inputs state.inputs_made me tag named (group_named state.groups named) fields
 
 -- the volume of the sink that is named, and its mute
 abbrev pub sink_volume : {P : Type 0} → State P → Named → List ℕ → ℕ → Row (Plan P)
@@ -76,7 +76,7 @@ input_mute state input on tag = set_input_mute input (group_under state.groups i
 abbrev pub row : {P : Type 0} → State P → Connection → ℕ → Command → Row (Plan P)
 row state me tag (commands.Auth version cookie) = auth state.names me tag version cookie
 row state me tag (commands.SetClientName list) = set_client_name (client_on state.names.clients me.conn) me tag list
-row state me tag (commands.Create fields) = create_on state me tag fields (named_by state.names state.sinks fields.sink true)
+row state me tag (commands.Create fields) = create_named state me tag fields (named_by state.names state.sinks fields.sink true)
 row state me tag (commands.Delete stream) = delete (stream_of state.inputs me.conn stream) state.waiting tag
 row state me tag (commands.Drain stream) = drain (stream_of state.inputs me.conn stream) tag
 row state me tag (commands.Latency stream time) = latency (stream_of state.inputs me.conn stream) time tag

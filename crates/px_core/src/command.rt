@@ -11,17 +11,15 @@ ghost use Rattle.px_core.specs.Grouped.{AreGrouped};
 ghost use Rattle.px_core.specs.Keeps.{IsInput};
 
 use crate::rows::row;
+use px_cmd::number::AUTH;
 use px_cmd::{CmdFault, read_command, read_head};
-use px_ctl_info::SERVER_VERSION;
 use px_flat::Group;
 use px_msg::Msg;
 use px_plan::{Connection, Plan};
 use px_state::{Tables, broken_off, refused, requested};
+use px_types::limits::PROTOCOL_VERSION;
 use px_types::{ErrorCode, Mem, NoMemory};
 use std::alloc::Global;
-
-/// The number of AUTH.
-const AUTH: u32 = 8;
 
 // Whether the connection hasn't been let in yet, and the command isn't AUTH.
 fn is_barred(c: &Connection, command: u32) -> bool
@@ -44,7 +42,7 @@ fn read_answer<P: Drop>(
     requires groups { AreGrouped [] tables.now.sinks tables.now.inputs.items tables.now.groups.items }
     ensures { IfOk result (λ plan. plan ≡ read_answer (state_of tables.now) c.now at tag (meant packet.now)) }
 {
-    match read_command(alloc, packet, SERVER_VERSION) {
+    match read_command(alloc, packet, PROTOCOL_VERSION) {
         Ok(command) => requested(alloc, tag, row(alloc, tables, c, tag, command)),
         Err(CmdFault::Protocol(fault)) => broken_off(alloc, c.conn, at, fault),
         Err(CmdFault::Unknown(_)) => refused(alloc, tag, ErrorCode::Command),

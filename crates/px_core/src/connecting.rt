@@ -28,17 +28,15 @@ use px_plan::{Change, Connection, Input, Plan, Reason};
 use px_state::{
     CoreChange, Effect, Effects, Tables, closed_for, finish, join, joined_events, mark,
 };
+use px_types::limits::{MAX_CONNECTIONS, NO_INDEX};
 use px_types::{ConnId, Mem};
 use std::alloc::Global;
-
-/// The most connections that are there at once.
-const MOST_CONNECTIONS: usize = 64;
 
 // Whether no more connections are taken: the most are there, or no index is left that no client had.
 fn is_full<P>(tables: &Tables<P>) -> bool
     ensures { result ≡ is_full (state_of tables.now) }
 {
-    tables.connections.len() >= MOST_CONNECTIONS || tables.clients_made == u32::MAX
+    tables.connections.len() >= MAX_CONNECTIONS || tables.clients_made == NO_INDEX
 }
 
 /// A connection ends where it goes on: it is marked, and its number is given. Takes no memory.

@@ -14,12 +14,13 @@ ghost use Rattle.px_state.specs.State.{input_named};
 ghost use Rattle.px_state.specs.Tables.{state_of};
 
 use px_cmd::SinkRef;
-use px_ctl_info::{SERVER_VERSION, input_info, input_infos, server_info, sink_info, sink_infos};
+use px_ctl_info::{input_info, input_infos, server_info, sink_info, sink_infos};
 use px_flat::Group;
 use px_msg::Msg;
 use px_plan::{Input, Plan, Refusal};
 use px_sinks::{default_sink, named_by, targets_of};
 use px_state::Tables;
+use px_types::limits::PROTOCOL_VERSION;
 use std::alloc::Global;
 
 /// The sink that is named.
@@ -111,5 +112,5 @@ pub(crate) fn server<P: Drop>(
     ensures { Plans result (server_info (default_sink (state_of tables.now)) tag) }
 {
     let named = default_sink(alloc, &tables.names, tables.sinks.as_slice())?;
-    server_info(alloc, named, tag, SERVER_VERSION)
+    server_info(alloc, named, tag, PROTOCOL_VERSION)
 }

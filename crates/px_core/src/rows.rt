@@ -12,7 +12,7 @@ ghost use Rattle.px_header.specs.HeaderRules.{AreSinks};
 ghost use Rattle.px_sinks.specs.Sinks.{named_by};
 ghost use Rattle.px_state.specs.State.{stream_of};
 ghost use Rattle.px_state.specs.Tables.{state_of};
-ghost use Rattle.px_core.specs.Command.{IsOnPlaying, IsOnStream, IsOnProperties, IsOnClients, IsOnServer, IsRead, new_attributes, create_on, row};
+ghost use Rattle.px_core.specs.Command.{IsOnPlaying, IsOnStream, IsOnProperties, IsOnClients, IsOnServer, IsRead, new_attributes, create_named, row};
 ghost use Rattle.px_core.specs.Grouped.{AreGrouped};
 ghost use Rattle.px_core.specs.Keeps.{IsInput};
 
@@ -67,7 +67,7 @@ fn create_by<P: Drop>(
     requires groups { AreGrouped [] tables.now.sinks tables.now.inputs.items tables.now.groups.items }
     requires value { named ≡ named_by tables.now.names tables.now.sinks fields.now.sink true }
     requires lawful { IsNamed named }
-    ensures { Plans result (create_on (state_of tables.now) me.now tag fields.now named) }
+    ensures { Plans result (create_named (state_of tables.now) me.now tag fields.now named) }
 {
     let group = group_named(&tables.groups, &named);
     let inputs = tables.inputs.as_slice();
@@ -86,7 +86,7 @@ fn create_named<P: Drop>(
     requires sinks { AreSinks [] tables.now.sinks }
     requires inputs { AllByRecursion (IsInput tables.now.sinks tables.now.inputs_made) tables.now.inputs.items }
     requires groups { AreGrouped [] tables.now.sinks tables.now.inputs.items tables.now.groups.items }
-    ensures { Plans result (create_on (state_of tables.now) me.now tag fields.now (named_by tables.now.names tables.now.sinks fields.now.sink true)) }
+    ensures { Plans result (create_named (state_of tables.now) me.now tag fields.now (named_by tables.now.names tables.now.sinks fields.now.sink true)) }
 {
     let sinks = tables.sinks.as_slice();
     let named = named_by(alloc, &tables.names, sinks, &fields.sink, true)?;

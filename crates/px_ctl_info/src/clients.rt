@@ -13,25 +13,23 @@ use px_names::{Client, Names};
 use px_plan::{Change, Connection, Plan, Refusal, check};
 use px_tag::{Mode, PropList};
 use px_types::ErrorCode;
+use px_types::limits::PROTOCOL_VERSION;
 use std::alloc::Global;
-
-/// The version that the server speaks.
-pub const SERVER_VERSION: u16 = 13;
 
 // Whether the server speaks a version that a client names.
 fn is_spoken(version: u32) -> bool
     ensures { result ≡ nat_le SERVER_VERSION (version_in version) }
 {
-    version % 0x1_0000 >= u32::from(SERVER_VERSION)
+    version % 0x1_0000 >= u32::from(PROTOCOL_VERSION)
 }
 
 // A connection is let in.
 fn let_in<M: Drop, G: Drop>(alloc: Global, me: &Connection, tag: u32) -> Result<Plan<M, G>, Refusal>
     ensures { Plans result (Ok (let_in me.now tag)) }
 {
-    let reply = px_reply::auth(alloc, tag, u32::from(SERVER_VERSION))?;
+    let reply = px_reply::auth(alloc, tag, u32::from(PROTOCOL_VERSION))?;
     let mut changes = Vec::new(alloc);
-    changes.push(Change::Authed(me.conn, SERVER_VERSION))?;
+    changes.push(Change::Authed(me.conn, PROTOCOL_VERSION))?;
     Ok(Plan::replied(alloc, reply, changes))
 }
 

@@ -17,13 +17,13 @@ ghost use Rattle.px_plan.specs.Target.{IsTarget, IsNamed};
 ghost use Rattle.px_ctl_info.specs.Properties.{STREAM_NAME, text_under};
 ghost use Rattle.px_ctl_info.specs.Infos.{IsSinkInfo, IsInputInfo, sink_of, group_on, sink_info, sinks_told, sink_infos, member_on, input_of, input_info, inputs_told, input_infos};
 
-use crate::clients::SERVER_VERSION;
 use crate::properties::text_under;
 use px_flat::{Group, Member};
 use px_names::InputLists;
 use px_plan::{Input, Named, Plan, Refusal, Standing, Target, check, present, raw_of};
 use px_reply::{InputInfo, SinkInfo};
 use px_tag::{PropList, RawMap, RawVolume};
+use px_types::limits::PROTOCOL_VERSION;
 use px_types::{ErrorCode, InputId, Mem, NoMemory, Text};
 use std::alloc::Global;
 
@@ -63,7 +63,7 @@ fn sink_reply<M: Drop, G: Drop>(
     ensures { Plans result (Ok (replied (with_sink (reply_to tag) (sink_of sink.now group.now)) [])) }
 {
     let info = sink_of(alloc, sink, group)?;
-    let reply = px_reply::sink_info(alloc, tag, SERVER_VERSION, &info)?;
+    let reply = px_reply::sink_info(alloc, tag, PROTOCOL_VERSION, &info)?;
     Ok(Plan::replied(alloc, reply, Vec::new(alloc)))
 }
 
@@ -123,7 +123,7 @@ pub fn sink_infos<M: Drop, G: Drop>(
     ensures { Plans result (sink_infos sinks.now groups.now tag) }
 {
     let infos = sinks_told(alloc, sinks, groups)?;
-    let reply = px_reply::sink_infos(alloc, tag, SERVER_VERSION, infos.as_slice())?;
+    let reply = px_reply::sink_infos(alloc, tag, PROTOCOL_VERSION, infos.as_slice())?;
     Ok(Plan::replied(alloc, reply, Vec::new(alloc)))
 }
 

@@ -11,7 +11,7 @@ mod sinks;
 mod streams;
 mod told;
 
-pub use clients::{SERVER_VERSION, auth, set_client_name, subscribe};
+pub use clients::{auth, set_client_name, subscribe};
 pub use infos::{input_info, input_infos, inputs_told, sink_info, sink_infos, sinks_told};
 pub use kills::{connection_with, kill_client};
 pub use lists::empty_list;

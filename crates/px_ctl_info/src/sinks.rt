@@ -8,10 +8,11 @@ ghost use Rattle.px_plan.specs.Row.{Plans};
 ghost use Rattle.px_plan.specs.Target.{IsTarget, IsNamed};
 ghost use Rattle.px_ctl_info.specs.Sinks.{found, sink_called, lookup_sink, set_default_sink, server_of, server_info};
 
-use px_names::{NO_INDEX, Names};
+use px_names::Names;
 use px_plan::{Change, Named, Plan, Refusal, Target, present, raw_of};
 use px_reply::ServerInfo;
 use px_tag::RawMap;
+use px_types::limits::NO_INDEX;
 use px_types::{ErrorCode, Mem, SinkId, Text};
 use std::alloc::Global;
 

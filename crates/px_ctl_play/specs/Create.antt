@@ -1,10 +1,7 @@
 -- CREATE_PLAYBACK_STREAM (PulseAudio: `command_create_playback_stream` of pulsecore/protocol-native.c; the order of refusals is own).
 use Rattle.std.specs.Prelude.{ℕ, ◌+◌, List, [], ◌∷◌, ◌++◌, Option, Ok}
 use Rattle.px_types.specs.declared.error_code.ErrorCode.TheVariants.{Invalid, NoEntity, TooLarge, NotSupported}
-use Rattle.px_tag.specs.declared.raw.RawSpec.{RawSpec}
 use Rattle.px_cmd.specs.declared.command.CreateFields.{CreateFields}
-use Rattle.px_sample.specs.declared.spec.Spec.{Spec}
-use Rattle.px_sample.specs.Format.{code_of}
 use Rattle.px_flat.specs.FlatVolume.{FlatGroup}
 use Rattle.px_msg.specs.Repair.{bytes_of}
 use Rattle.px_msg.specs.declared.message.Msg.{Msg}
@@ -22,7 +19,7 @@ use Rattle.px_plan.specs.declared.target.Target.{Target}
 use Rattle.px_plan.specs.Input.{settled_on}
 use Rattle.px_plan.specs.Plan.{Planned, replied}
 use Rattle.px_plan.specs.Row.{Row, ◌>>=◌, check, present}
-use Rattle.px_plan.specs.Target.{is_clear, target_of}
+use Rattle.px_plan.specs.Target.{is_clear, target_of, raw_of}
 use Rattle.px_ctl_play.specs.Asked.{spec_on, attr_on, positions_on, is_lawful, is_supported, feed_on, has_room}
 use Rattle.px_ctl_play.specs.Factors.{own_factors, regrouped}
 use Rattle.px_ctl_play.specs.Joining.{joined}
@@ -63,9 +60,6 @@ new_of a group feed x = New (record {
 -- how long a frame waits at the most before the sink plays it, in microseconds
 abbrev pub latency_of : Target → ℕ
 latency_of sink = microseconds sink.spec.rate sink.depth
-
-abbrev pub raw_of : Spec → RawSpec
-raw_of spec = record { format = code_of spec.format; channels = spec.channels; rate = spec.rate }
 
 abbrev pub created_of : Target → CreateFields → Input → Created
 created_of sink a x = record {
@@ -110,7 +104,4 @@ create inputs made me tag named group a = do
   clear ← check (is_clear named) Invalid
   sink ← present (target_of named) NoEntity
   group ← present group NoEntity
-  supported ← check (is_supported sink a) NotSupported
-  feed ← present (feed_on sink a) NotSupported
-  room ← check (has_room inputs made me sink.index) TooLarge
-  Ok (created inputs made me tag sink group a feed (input_made made me sink a))
+  create_on inputs made me tag sink group a

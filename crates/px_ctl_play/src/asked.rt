@@ -17,6 +17,7 @@ use px_msg::{Attr, repair};
 use px_plan::Target;
 use px_sample::{Format, Spec};
 use px_tag::RawSpec;
+use px_types::limits::{MAX_CHANNELS, MAX_RATE};
 use px_vol::MAX;
 
 // A known format, 1 to 32 channels, and a rate up to 192,000.
@@ -27,9 +28,9 @@ fn is_spec(spec: RawSpec) -> bool
 {
     spec.format <= 12
         && spec.channels > 0
-        && spec.channels <= 32
+        && spec.channels <= MAX_CHANNELS
         && spec.rate > 0
-        && spec.rate <= 192_000
+        && spec.rate <= MAX_RATE
 }
 
 // Positions, of the 51 that there are.

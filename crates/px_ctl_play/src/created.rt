@@ -6,7 +6,7 @@ ghost use Rattle.px_model.specs.Orderly.{IsRepaired};
 ghost use Rattle.px_msg.specs.Repair.{IsWithinBytes};
 ghost use Rattle.px_reply.specs.Message.{created_reply};
 ghost use Rattle.px_plan.specs.Target.{IsTarget};
-ghost use Rattle.px_ctl_play.specs.Create.{new_of, latency_of, raw_of, created_of};
+ghost use Rattle.px_ctl_play.specs.Create.{new_of, latency_of, created_of};
 
 use crate::asked::positions_on;
 use crate::factors::own_factors;
@@ -15,10 +15,9 @@ use px_chmap::Feed;
 use px_cmd::CreateFields;
 use px_flat::Group;
 use px_msg::{Msg, NewStream, in_bytes};
-use px_plan::{Input, Target};
+use px_plan::{Input, Target, raw_of};
 use px_reply::Created;
-use px_sample::Spec;
-use px_tag::{Packet, RawMap, RawSpec};
+use px_tag::{Packet, RawMap};
 use std::alloc::Global;
 
 /// The message that brings a stream to its sink, where these of its channels feed the sink's and this is the sink's group, in
@@ -43,16 +42,6 @@ pub(crate) fn latency_of(sink: &Target) -> u64
     ensures { result ≡ latency_of sink.now }
 {
     microseconds(sink.spec.rate, sink.depth)
-}
-
-fn raw_of(spec: &Spec) -> RawSpec
-    ensures { result ≡ raw_of spec.now }
-{
-    RawSpec {
-        format: spec.format.code(),
-        channels: spec.channels,
-        rate: spec.rate,
-    }
 }
 
 // What the client is told of the stream that it asked for. The stream has a channel and repaired attributes.

@@ -142,9 +142,9 @@ fn factors_with(
     Ok(list)
 }
 
-/// A sink has this group, and is told the factors of all inputs that are settled on it. Own: PulseAudio sets each stream's
-/// soft volume for itself.
-pub(crate) fn regrouped<P: Drop>(
+/// A sink has this group, and is told the factors of all inputs that are settled on it, in rising index. Own: PulseAudio sets each
+/// stream's soft volume for itself.
+pub fn regrouped<P: Drop>(
     alloc: Global,
     sink: SinkId,
     group: Group,

@@ -1,5 +1,6 @@
 //! The commands of playback streams and what their sinks tell of them: each reads the parts of the state that its rule names,
-//! and gives a plan or the reason why it is refused. It exports a call a command, and one a kind of notice.
+//! and gives a plan or the reason why it is refused. It exports a call a command, and one a kind of notice, and
+//! `regrouped`, by which a sink is told the factors that its group of volumes gives.
 #![tactic(auto)]
 
 mod answer;
@@ -31,6 +32,7 @@ pub use data::{Frames, frames_of, write};
 pub use deletion::delete;
 pub use departure::left;
 pub use draining::{drain, drained};
+pub use factors::regrouped;
 pub use killing::kill_input;
 pub use moving::move_input;
 pub use timing::{Progress, latency, measured};

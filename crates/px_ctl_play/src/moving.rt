@@ -9,11 +9,9 @@ ghost use Rattle.px_ctl_play.specs.Move.{feed_to, has_place, sent, sent_off, mov
 use crate::refusals::count_bound;
 use px_chmap::{Feed, Map, plan};
 use px_plan::{Change, Input, Named, Plan, Refusal, Standing, Target, check, present};
+use px_types::limits::MAX_INPUTS_ON_SINK;
 use px_types::{ErrorCode, SinkId};
 use std::alloc::Global;
-
-/// The most inputs that are bound for one sink.
-const MOST_ON_SINK: usize = 256;
 
 // Whether an input is on its way to another sink.
 fn is_moving(standing: Standing) -> bool
@@ -34,7 +32,7 @@ pub(crate) fn feed_to(x: &Input, map: &Map) -> Option<Feed>
 fn has_place(inputs: &[Input], sink: SinkId) -> bool
     ensures { result ≡ has_place inputs.now sink }
 {
-    count_bound(inputs, sink) < MOST_ON_SINK
+    count_bound(inputs, sink) < MAX_INPUTS_ON_SINK
 }
 
 // What is planned for an input that goes to a sink.

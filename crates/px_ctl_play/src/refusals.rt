@@ -8,15 +8,7 @@ use crate::asked::{format_on, rate_on};
 use px_cmd::CreateFields;
 use px_plan::{Connection, Input, Standing, Target};
 use px_types::SinkId;
-
-/// The most inputs that are bound for one sink.
-const MOST_ON_SINK: usize = 256;
-
-/// The most inputs that go on, on all sinks.
-const MOST_IN_ALL: usize = 1024;
-
-/// The number that no input and no stream has.
-const LAST_INDEX: u32 = 0xFFFF_FFFF;
+use px_types::limits::{MAX_INPUTS, MAX_INPUTS_ON_SINK, NO_INDEX};
 
 /// Whether the sink plays such a stream: no floating point, no variable rate, and the sink's own rate. Takes no memory.
 pub(crate) fn is_supported(sink: &Target, a: &CreateFields) -> bool
@@ -72,8 +64,8 @@ pub(crate) fn has_room(inputs: &[Input], made: u32, me: &Connection, sink: SinkI
     ensures inputs { result ≡ true → made < 4294967295 }
     ensures streams { result ≡ true → me.now.streams < 4294967295 }
 {
-    count_bound(inputs, sink) < MOST_ON_SINK
-        && count_in_all(inputs) < MOST_IN_ALL
-        && made < LAST_INDEX
-        && me.streams < LAST_INDEX
+    count_bound(inputs, sink) < MAX_INPUTS_ON_SINK
+        && count_in_all(inputs) < MAX_INPUTS
+        && made < NO_INDEX
+        && me.streams < NO_INDEX
 }

@@ -9,7 +9,8 @@ use Rattle.px_flat.specs.FlatVolume.{FlatGroup, member_of, factors_of}
 use Rattle.px_flat.proofs.Volumes.{factors}
 use Rattle.px_msg.specs.declared.factors.InputFactors.{InputFactors}
 use Rattle.px_plan.specs.declared.input.Input.{Input}
-use Rattle.px_ctl_vol.specs.Factors.{gains_of, factor_list, is_member}
+use Rattle.px_ctl_play.specs.Factors.{gains_of, factor_list}
+use Rattle.px_ctl_vol.specs.Factors.{is_member}
 
 -- one more input, which is a member or isn't
 named : (group : FlatGroup) (x : Input) (o : Option Member) (more : List InputFactors) (rest : List Input) → map InputFactors.input more ≡ map Input.index rest

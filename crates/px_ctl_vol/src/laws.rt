@@ -5,7 +5,8 @@ ghost use Rattle.std.specs.List.{AllByRecursion};
 ghost use Rattle.px_flat.specs.FlatVolume.{FlatGroup};
 ghost use Rattle.px_msg.specs.declared.factors.InputFactors.{InputFactors};
 ghost use Rattle.px_plan.specs.declared.input.Input.{Input};
-ghost use Rattle.px_ctl_vol.specs.Factors.{factor_list, is_member};
+ghost use Rattle.px_ctl_play.specs.Factors.{factor_list};
+ghost use Rattle.px_ctl_vol.specs.Factors.{is_member};
 
 /// The factors that a group gives inputs are those of its members among them, in their order, and each has one number a channel of the
 /// sink. It does nothing: its contract is the law. Source: own.

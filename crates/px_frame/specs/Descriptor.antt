@@ -2,7 +2,7 @@
 use Rattle.std.specs.Prelude.{ℕ, ◌+◌, ◌*◌, ◌/◌, ◌%◌, ◌^◌, ◌<◌, List, ◌++◌, if◌then◌else◌, ◌==◌, nat_lt, nat_le, take, drop, Option, Some, None, ℤ, slice_index}
 use Rattle.std.specs.Int.{to_be_bytes, from_be_bytes, cast_signed, cast_unsigned, w32, w64}
 use Rattle.px_frame.specs.declared.descriptor.Descriptor.{Descriptor}
-use Rattle.px_frame.specs.declared.descriptor.TheConstants.{MAX_PAYLOAD, CONTROL_CHANNEL}
+use Rattle.px_types.specs.declared.limits.TheConstants.{MAX_PAYLOAD, CONTROL_CHANNEL}
 use Rattle.px_frame.specs.declared.fault.FrameFault.{FrameFault}
 use Rattle.px_frame.specs.declared.fault.FrameFault.TheVariants.{ZeroLength, TooLong, PacketFlags, SharedMemory, SeekMode}
 

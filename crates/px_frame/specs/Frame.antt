@@ -1,7 +1,7 @@
 -- A frame on the wire, and what it says.
 use Rattle.std.specs.Prelude.{◌≡◌, ℕ, ◌+◌, ◌-◌, ◌^◌, ◌<◌, ◌≤◌, ◌≢◌, min, List, ◌++◌, length, if◌then◌else◌, ◌==◌, None}
 use Rattle.px_frame.specs.declared.descriptor.Descriptor.{Descriptor}
-use Rattle.px_frame.specs.declared.descriptor.TheConstants.{CONTROL_CHANNEL, MAX_PAYLOAD}
+use Rattle.px_types.specs.declared.limits.TheConstants.{CONTROL_CHANNEL, MAX_PAYLOAD}
 use Rattle.px_frame.specs.declared.frame.Frame.{Frame}
 use Rattle.px_frame.specs.declared.frame.Body.{Body}
 use Rattle.px_frame.specs.declared.frame.Body.TheVariants.{Control, Write}

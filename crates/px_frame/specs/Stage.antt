@@ -2,7 +2,7 @@
 use Rattle.std.specs.Prelude.{◌≡◌, ◌≢◌, ℕ, ◌+◌, ◌<◌, ◌≤◌, List, [], ◌++◌, length, take, drop, Some, None, vec_capacity}
 use Rattle.std.specs.Option.{option_to_list}
 use Rattle.px_frame.specs.declared.descriptor.Descriptor.{Descriptor}
-use Rattle.px_frame.specs.declared.descriptor.TheConstants.{CONTROL_CHANNEL}
+use Rattle.px_types.specs.declared.limits.TheConstants.{CONTROL_CHANNEL}
 use Rattle.px_frame.specs.declared.frame.Body.{Body}
 use Rattle.px_frame.specs.declared.stage.Part.{Part}
 use Rattle.px_frame.specs.declared.stage.Part.TheVariants.{Head, Control, Write}

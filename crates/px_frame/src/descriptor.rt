@@ -5,15 +5,10 @@ ghost use Rattle.std.specs.Int.{to_be_bytes, w32};
 ghost use Rattle.px_frame.specs.Descriptor.{descriptor_bytes, HasWords, broken_rule, byte_offset, seek_of};
 
 use crate::fault::FrameFault;
+use px_types::limits::{CONTROL_CHANNEL, MAX_PAYLOAD};
 
 /// The length of a descriptor in bytes (`PA_PSTREAM_DESCRIPTOR_SIZE`).
 pub const DESCRIPTOR_SIZE: usize = 20;
-
-/// The most bytes that a payload has (`FRAME_SIZE_MAX_ALLOW`).
-pub const MAX_PAYLOAD: u32 = 16_777_216;
-
-/// The channel of control packets; any other is a stream's number.
-pub const CONTROL_CHANNEL: u32 = 0xFFFF_FFFF;
 
 /// The five words of a descriptor, in the order in which they stand on the wire.
 #[derive(Clone, Copy, Debug, PartialEq, Eq)]

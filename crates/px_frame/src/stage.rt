@@ -1,16 +1,17 @@
 // How far a decoder is in the frame that has begun.
 
 ghost use Rattle.std.specs.Prelude.{◌≡◌, ◌≢◌, ℕ, ◌+◌, ◌<◌, ◌≤◌, List, [], ◌++◌, length, take, IfOk, None};
-ghost use Rattle.px_frame.specs.declared.descriptor.TheConstants.{CONTROL_CHANNEL};
+ghost use Rattle.px_types.specs.declared.limits.TheConstants.{CONTROL_CHANNEL};
 ghost use Rattle.px_frame.specs.Descriptor.{broken_rule, descriptor_bytes};
 ghost use Rattle.px_frame.specs.Frame.{body_of};
 ghost use Rattle.px_frame.specs.Stage.{IsPart, IsStep, IsWhole, held_of};
 
-use crate::descriptor::{CONTROL_CHANNEL, DESCRIPTOR_SIZE, Descriptor, fill};
+use crate::descriptor::{DESCRIPTOR_SIZE, Descriptor, fill};
 use crate::fault::FrameFault;
 use crate::frame::{Body, Frame};
 use crate::packet::{Packet, append};
 use px_block::{BlockSource, Blocks, Mem};
+use px_types::limits::CONTROL_CHANNEL;
 use std::alloc::Global;
 
 /// What has come of a frame.

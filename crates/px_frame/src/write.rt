@@ -1,14 +1,15 @@
 // Frames to be sent.
 
 ghost use Rattle.std.specs.Prelude.{◌≡◌, ◌≢◌, ◌+◌, ◌<◌, ◌≤◌, [], ◌∷◌, ◌++◌, length, IfOk, None};
-ghost use Rattle.px_frame.specs.declared.descriptor.TheConstants.{MAX_PAYLOAD, CONTROL_CHANNEL};
+ghost use Rattle.px_types.specs.declared.limits.TheConstants.{MAX_PAYLOAD, CONTROL_CHANNEL};
 ghost use Rattle.px_frame.specs.declared.frame.Body.TheVariants.{Control, Write};
 ghost use Rattle.px_frame.specs.Descriptor.{descriptor_bytes, control_descriptor, data_descriptor};
 ghost use Rattle.px_frame.specs.Reading.{IsRead, Unfinished};
 
-use crate::descriptor::{CONTROL_CHANNEL, DESCRIPTOR_SIZE, Descriptor};
+use crate::descriptor::{DESCRIPTOR_SIZE, Descriptor};
 use crate::packet::{Packet, append};
 use px_block::Mem;
+use px_types::limits::CONTROL_CHANNEL;
 use std::alloc::Global;
 
 /// The frame of a control packet (`pa_pstream_send_packet`): a descriptor on channel 0xFFFFFFFF with offset and

@@ -3,8 +3,10 @@
 ghost use Rattle.std.specs.Prelude.{◌≡◌, ◌<◌, ◌≤◌, ◌++◌, [], length, IfOk, OnOk};
 ghost use Rattle.px_gen.specs.Client.{shape, buffering, nine_flags, sink_of, map_of, auth_packet, create_packet, volume_packet, cork_packet, control_frame, data_frame};
 
+use px_cmd::number;
 use px_frame::{write_data, write_packet};
 use px_tag::{Mem, Packet, PropList, RawMap, RawSpec, RawVolume, TagWriter};
+use px_types::limits::{PROTOCOL_VERSION, UNSET};
 use px_types::{NoMemory, Text};
 use std::alloc::Global;
 
@@ -32,9 +34,9 @@ fn auth_packet(alloc: Global) -> Mem<Packet>
     ensures { IfOk result (λ packet. packet ≡ auth_packet) }
 {
     let mut writer = TagWriter::new(alloc);
-    writer.number(8)?;
+    writer.number(number::AUTH)?;
     writer.number(0)?;
-    writer.number(13)?;
+    writer.number(u32::from(PROTOCOL_VERSION))?;
     writer.arbitrary(&COOKIE)?;
     Ok(writer.finish())
 }
@@ -73,11 +75,11 @@ fn put_shape(writer: &mut TagWriter, conn: u32) -> Mem<()>
 fn put_buffering(writer: &mut TagWriter) -> Mem<()>
     ensures { OnOk result (writer.new ≡ writer.old ++ buffering) }
 {
-    writer.number(u32::MAX)?;
+    writer.number(UNSET)?;
     writer.flag(false)?;
-    writer.number(u32::MAX)?;
+    writer.number(UNSET)?;
     writer.number(1)?;
-    writer.number(u32::MAX)?;
+    writer.number(UNSET)?;
     writer.number(u32::MAX)?;
     writer.cvolume(&RawVolume::new(&[65_536]))
 }
@@ -88,7 +90,7 @@ fn put_creation(alloc: Global, writer: &mut TagWriter, conn: u32) -> Mem<()>
     requires { writer.old ≡ [] }
     ensures { OnOk result (writer.new ≡ create_packet conn) }
 {
-    writer.number(3)?;
+    writer.number(number::CREATE_PLAYBACK_STREAM)?;
     writer.number(1)?;
     put_shape(writer, conn)?;
     put_buffering(writer)?;
@@ -112,7 +114,7 @@ fn volume_packet(alloc: Global, conn: u32, volume: u32) -> Mem<Packet>
     ensures { IfOk result (λ packet. packet ≡ volume_packet conn volume) }
 {
     let mut writer = TagWriter::new(alloc);
-    writer.number(37)?;
+    writer.number(number::SET_SINK_INPUT_VOLUME)?;
     writer.number(2)?;
     writer.number(conn - 1)?;
     writer.cvolume(&RawVolume::new(&[volume]))?;
@@ -125,7 +127,7 @@ fn cork_packet(alloc: Global, on: bool) -> Mem<Packet>
     ensures { IfOk result (λ packet. packet ≡ cork_packet on) }
 {
     let mut writer = TagWriter::new(alloc);
-    writer.number(41)?;
+    writer.number(number::CORK_PLAYBACK_STREAM)?;
     writer.number(3)?;
     writer.number(0)?;
     writer.flag(on)?;

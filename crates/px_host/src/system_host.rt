@@ -8,6 +8,7 @@ use crate::{Connected, History, Outgoing, SystemClock, Writing};
 use px_annals::{CoreEntry, Entry, LaneEntry, MemRecorder};
 use px_ends::{Accepted, DeviceShape, HeaderRead, Host, HostFault, ServeOptions};
 use px_paced::PacedSink;
+use px_types::limits::{MAX_HISTORY_BYTES, MAX_HISTORY_ENTRIES};
 use px_types::{Mem, SinkId, Text};
 use std::alloc::Global;
 use std::fs::File;
@@ -17,11 +18,6 @@ use std::os::unix::net::{UnixListener, UnixStream};
 use std::rt::{Clock, Files, Net};
 use std::time::Duration;
 use std::{fs, io};
-
-// The most that a history in memory holds.
-const ENTRIES: usize = 65_536;
-
-const BYTES: usize = 268_435_456;
 
 // How long a receive of a link waits, in milliseconds. What a client wasn't ready for is tried again that often; all else is sent by whoever
 // has it for the client, so nothing waits for a receive to end.
@@ -105,7 +101,7 @@ fn history<E: Entry + Drop>(alloc: Global, memory: bool) -> Mem<History<E>>
     ensures { IfOk result (λ history. IsNewRecorder (told_by history) 0 (fulls_of history)) }
 {
     if memory {
-        Ok(History::Kept(MemRecorder::new(alloc, ENTRIES, BYTES)?))
+        Ok(History::Kept(MemRecorder::new(alloc, MAX_HISTORY_ENTRIES, MAX_HISTORY_BYTES)?))
     } else {
         Ok(History::Unkept)
     }

@@ -22,13 +22,11 @@ use px_block::BlockSource;
 use px_ends::{Device, DeviceFault};
 use px_header::SinkSpec;
 use px_kernel::Steps;
+use px_types::limits::MAX_INDEX;
 use px_types::{Mem, NoMemory};
 use std::alloc::Global;
 use std::marker::Model;
 use std::sync::ledger::Ledger;
-
-/// The most frames that may be filled before a turn: the last index of a stream, 2^60.
-const MOST_FILLED: u64 = 1 << 60;
 
 /// What a turn did.
 #[derive(Clone, Copy, Debug, PartialEq, Eq)]
@@ -135,7 +133,7 @@ impl<D: Device + Drop> Lane<D> {
         ensures ticks { MatchResult result (λ turned. steps.new ≤ steps.old + cost_by self.old.sink messages.old.messages turned) (λ fault. steps.new ≡ steps.old) }
     {
         let filled = self.mixer.filled();
-        if filled > MOST_FILLED {
+        if filled > MAX_INDEX {
             return Err(LaneFault::Worn { filled });
         }
         match self.mixer.prepare(alloc, messages, out) {

@@ -12,13 +12,14 @@ ghost use Rattle.px_lane_cell.specs.Turning.{Makes, Keeps, recorder_said, SaysWh
 
 use crate::ends::LaneEnds;
 use crate::fault::CellFault;
-use crate::moving::{MOST_MESSAGES, post_notices, take_messages};
+use crate::moving::{post_notices, take_messages};
 use crate::turning::turn_noted;
 use px_annals::{LaneEntry, Recorder};
 use px_block::BlockSource;
 use px_ends::Device;
 use px_lane::{Lane, MsgList, NoticeList, Turned};
 use px_types::Mem;
+use px_types::limits::MAILBOX_PLACES;
 use std::alloc::Global;
 use std::marker::Model;
 use std::sync::Wait;
@@ -61,7 +62,7 @@ fn room_for_turn(alloc: Global) -> Mem<MsgList>
     ensures { IfOk result (λ list. (list.messages ≡ []) × (256 ≤ list.capacity)) }
 {
     let mut messages = MsgList::new(alloc);
-    messages.reserve(MOST_MESSAGES)?;
+    messages.reserve(MAILBOX_PLACES)?;
     Ok(messages)
 }
 

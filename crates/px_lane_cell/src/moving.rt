@@ -8,10 +8,8 @@ use px_lane::{MsgList, NoticeList};
 use px_mail::{Full, Mailbox, PostPass, TakePass};
 use px_msg::{Msg, Notice};
 use px_stream::Stream;
+use px_types::limits::MAILBOX_PLACES;
 use std::sync::Wait;
-
-/// How many messages a turn takes at most.
-pub(crate) const MOST_MESSAGES: usize = 256;
 
 /// Takes messages until there are 256, those kept before among them, or the inbox is found empty.
 pub(crate) fn take_messages<W: Wait>(
@@ -32,7 +30,7 @@ pub(crate) fn take_messages<W: Wait>(
     ensures room { messages.new.capacity ≡ messages.old.capacity }
     ensures all { AreAll (found_by pass.old.pass) (found_by pass.new.pass) (key_of pass.new.pass) (taken_by pass.new.pass) messages.new.messages }
 {
-    while messages.len() < MOST_MESSAGES {
+    while messages.len() < MAILBOX_PLACES {
         match inbox.take(rt, pass) {
             Some(message) => messages.push(message),
             None => return,

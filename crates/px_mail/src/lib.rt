@@ -10,7 +10,7 @@ mod shared;
 mod step;
 
 pub use letter::Letter;
-pub use mailbox::{CAPACITY, Full, Mailbox};
+pub use mailbox::{Full, Mailbox};
 pub use pass::{PostPass, TakePass};
 pub use shared::Shared;
 pub use step::{Account, Delivery};

@@ -11,12 +11,10 @@ use crate::step::{
 };
 use crossbeam_queue::RuledArrayQueue;
 use px_types::Mem;
+use px_types::limits::MAILBOX_PLACES;
 use std::alloc::Global;
 use std::marker::Brand;
 use std::sync::Wait;
-
-/// How many items a mailbox holds at most.
-pub const CAPACITY: usize = 256;
 
 /// The item that a full mailbox didn't take.
 #[derive(Debug, Drop)]
@@ -99,7 +97,7 @@ fn made<T: Letter + Drop, B: Keyed<T::Key>>(
     ensures unused { IfOk result (λ made. (stored_by made.1.pass ≡ []) × (found_by made.2.pass ≡ [])) }
 {
     let (queue, mut maker) = RuledArrayQueue::<T, Account<T, T::Key>, Delivery>::ruled(
-        alloc, CAPACITY,
+        alloc, MAILBOX_PLACES,
     )?;
     let post = queue.another::<MakesPost<B>>(&mut maker);
     let take = queue.another::<MakesTake>(&mut maker);

@@ -7,12 +7,7 @@ ghost use Rattle.px_msg.specs.Repair.{repaired, frames_asked, between_one_and, m
 
 use px_model::Attr;
 use px_sample::{Format, Spec};
-
-/// What stands for an attribute that the client leaves to the server.
-const UNSET: u32 = 0xFFFF_FFFF;
-
-/// The most bytes that may wait ahead.
-const MAXLENGTH: u32 = 4_194_304;
+use px_types::limits::{MAX_LENGTH, UNSET};
 
 // The bytes of a sample.
 #[tactic(auto, using(crate::proofs::Sizes::size_some, crate::proofs::Sizes::size_few))]
@@ -61,7 +56,7 @@ fn maxlength_of(size: u32, asked: u32) -> u32
     ensures few { result ≤ 4194304 }
     ensures bytes { result * size ≤ 4194304 }
 {
-    (asked.min(MAXLENGTH) / size).max(1)
+    (asked.min(MAX_LENGTH) / size).max(1)
 }
 
 fn prebuf_of(size: u32, tlength: u32, minreq: u32, asked: u32) -> u32

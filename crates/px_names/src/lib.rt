@@ -10,5 +10,5 @@ mod sinks;
 
 pub use client::{Client, forget, set_list, set_mask};
 pub use input_lists::{InputList, InputLists};
-pub use names::{NO_INDEX, Names};
+pub use names::Names;
 pub use sinks::SinkNames;

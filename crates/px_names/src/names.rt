@@ -8,12 +8,10 @@ ghost use Rattle.px_names.specs.Names.{Naming, same_text, sink_at, sink_called, 
 use crate::client::{Client, forget, set_list, set_mask, update};
 use crate::sinks::SinkNames;
 use px_tag::{Mode, PropList};
+use px_types::limits::NO_INDEX;
 use px_types::{ConnId, ErrorCode, Mem, SinkId, Text};
 use std::alloc::Global;
 use std::marker::Model;
-
-/// The index that names no sink (`PA_INVALID_INDEX`).
-pub const NO_INDEX: u32 = 0xFFFF_FFFF;
 
 /// The name that always names the default sink (`pulse/def.h`).
 pub const DEFAULT_NAME: &[u8] = b"@DEFAULT_SINK@";

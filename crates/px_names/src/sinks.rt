@@ -5,6 +5,7 @@ ghost use Rattle.std.specs.List.{position};
 ghost use Rattle.px_names.specs.Sinks.{AreSinks};
 ghost use Rattle.px_names.specs.Names.{same_text};
 
+use px_types::limits::MAX_SINKS;
 use px_types::{Mem, Text};
 use std::alloc::Global;
 use std::marker::Model;
@@ -33,7 +34,7 @@ impl SinkNames {
         ensures valid { IsSome result ↔ AreSinks names.items }
         ensures value { IfSome result (λ made. made ≡ names.items) }
     {
-        if names.is_empty() || names.len() > 16 {
+        if names.is_empty() || names.len() > MAX_SINKS {
             return None;
         }
         Some(SinkNames { names })

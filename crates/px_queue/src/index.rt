@@ -4,9 +4,8 @@ ghost use Rattle.px_model.specs.Index.{FIRST, LAST, above, onward, is_index, IsI
 ghost use Rattle.px_queue.specs.Framed.{byte_index};
 ghost use Rattle.px_queue.specs.Laid.{TOP};
 
+use px_types::limits::MAX_INDEX;
 use std::marker::Model;
-
-const GREATEST: i64 = 1 << 60;
 
 /// An index of a stream: the number of a frame, from -2^60 to 2^60.
 #[derive(Clone, Copy, Debug)]
@@ -39,14 +38,14 @@ impl Index {
     pub(crate) fn first() -> Index
         ensures { result ≡ FIRST }
     {
-        Index { frame: -GREATEST }
+        Index { frame: -(MAX_INDEX as i64) }
     }
 
     /// The greatest index, 2^60.
     pub(crate) fn last() -> Index
         ensures { result ≡ LAST }
     {
-        Index { frame: GREATEST }
+        Index { frame: MAX_INDEX as i64 }
     }
 
     /// It as a number.
@@ -96,7 +95,7 @@ impl Index {
         ensures err { IfErr result (λ number. number ≡ self +ℤ offset) }
     {
         let frame = self.frame as i128 + offset as i128;
-        if frame < -(GREATEST as i128) || frame > GREATEST as i128 {
+        if frame < -(MAX_INDEX as i128) || frame > MAX_INDEX as i128 {
             return Err(frame);
         }
         Ok(Index {
@@ -111,7 +110,7 @@ impl Index {
         ensures err { IfErr result (λ number. number ≡ onward self frames) }
     {
         let frame = self.frame as i128 + frames as i128;
-        if frame > GREATEST as i128 {
+        if frame > MAX_INDEX as i128 {
             return Err(frame);
         }
         Ok(Index {

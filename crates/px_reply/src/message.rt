@@ -7,6 +7,7 @@ ghost use Rattle.px_reply.specs.Message.{moved_message};
 
 use crate::stream::put_attributes;
 use px_tag::{Mem, Packet, TagWriter};
+use px_types::limits::NO_TAG;
 use std::alloc::Global;
 
 // A message of no fields.
@@ -15,7 +16,7 @@ fn front(alloc: Global, command: u32) -> Mem<TagWriter>
 {
     let mut writer = TagWriter::new(alloc);
     writer.number(command)?;
-    writer.number(0xFFFF_FFFF)?;
+    writer.number(NO_TAG)?;
     Ok(writer)
 }
 

@@ -9,10 +9,8 @@ use crate::info::{ClientInfo, InputInfo, ServerInfo, SinkInfo};
 use crate::reply::reply;
 use px_tag::{Mem, Packet, PropList, TagWriter};
 use px_types::Text;
+use px_types::limits::NO_INDEX;
 use std::alloc::Global;
-
-/// An index that names nothing.
-const NOTHING: u32 = 0xFFFF_FFFF;
 
 /// What a sink can do: its latency is known, and its volume is in decibels (`PA_SINK_LATENCY`,
 /// `PA_SINK_DECIBEL_VOLUME` of `pulse/def.h`).
@@ -65,7 +63,7 @@ pub fn server_info(alloc: Global, tag: u32, _version: u16, info: &ServerInfo) ->
 fn put_unvaried(alloc: Global, writer: &mut TagWriter) -> Mem<()>
     ensures { OnOk result (writer.new ≡ writer.old ++ number nothing ++ text None ++ usec 0 ++ driver ++ number 0x60 ++ proplist [] ++ usec 0) }
 {
-    writer.number(NOTHING)?;
+    writer.number(NO_INDEX)?;
     writer.text(None)?;
     writer.usec(0)?;
     put_driver(writer)?;
@@ -84,7 +82,7 @@ fn put_sink(alloc: Global, writer: &mut TagWriter, info: &SinkInfo) -> Mem<()>
     writer.text(Some(info.name.as_slice()))?;
     writer.spec(&info.spec)?;
     writer.map(&info.map)?;
-    writer.number(NOTHING)?;
+    writer.number(NO_INDEX)?;
     writer.cvolume(&info.volume)?;
     writer.flag(info.mute)?;
     put_unvaried(alloc, writer)
@@ -97,7 +95,7 @@ fn put_input(writer: &mut TagWriter, info: &InputInfo) -> Mem<()>
 {
     writer.number(info.index)?;
     put_name(writer, &info.name)?;
-    writer.number(NOTHING)?;
+    writer.number(NO_INDEX)?;
     writer.number(info.client)?;
     writer.number(info.sink)?;
     writer.spec(&info.spec)?;
@@ -117,7 +115,7 @@ fn put_client(writer: &mut TagWriter, info: &ClientInfo) -> Mem<()>
 {
     writer.number(info.index)?;
     put_name(writer, &info.name)?;
-    writer.number(NOTHING)?;
+    writer.number(NO_INDEX)?;
     put_driver(writer)?;
     writer.proplist(&info.list)
 }

@@ -11,9 +11,7 @@ use crate::fault::{Cause, ReadError};
 use crate::place::Place;
 use crate::supply::Supply;
 use px_types::ConnId;
-
-/// The most bytes of a Bytes event.
-const MOST_BYTES: u32 = 65_536;
+use px_types::limits::MAX_EVENT_BYTES;
 
 // Nothing follows the end byte.
 #[tactic(auto, unfolding(crate::specs::EventReading::end_at))]
@@ -33,7 +31,7 @@ fn end(place: &Place<'_>) -> Result<Step, ReadError>
 fn sized(kind_at: u64, size: u32, place: Place<'_>) -> Result<(&[u8], Place<'_>), ReadError>
     ensures { Gives (λ read. (read.0.now, place_of read.1)) result (sized_at kind_at size (place_of place.entry)) }
 {
-    if MOST_BYTES < size {
+    if MAX_EVENT_BYTES < size as usize {
         return Err(ReadError::Refused {
             at: kind_at,
             cause: Cause::TooLong(u64::from(size)),

@@ -15,6 +15,7 @@ use crate::place::Place;
 use px_chmap::Map;
 use px_header::{Header, SinkSpec, SinkSpecs};
 use px_sample::{Format, Spec};
+use px_types::limits::{MAX_CHANNELS, MAX_DEPTH, MAX_RATE, MAX_SINKS};
 use px_types::{Mem, Text};
 use std::alloc::Global;
 
@@ -130,7 +131,7 @@ fn rate(place: Place<'_>) -> Result<(u32, Place<'_>), ReadError>
     ensures { Gives (λ read. (read.0, place_of read.1)) result (ruled (is_from_to 1 192000) word_at (place_of place.entry)) }
 {
     let (rate, after) = place.word()?;
-    if rate < 1 || 192_000 < rate {
+    if rate < 1 || MAX_RATE < rate {
         return Err(place.broken());
     }
     Ok((rate, after))
@@ -141,7 +142,7 @@ fn spec(place: Place<'_>) -> Result<(Spec, Place<'_>), ReadError>
     ensures { Gives (λ read. (read.0, place_of read.1)) result (spec_at (place_of place.entry)) }
 {
     let (format, rest) = format(place)?;
-    let (channels, rest) = byte_within(rest, 1, 32)?;
+    let (channels, rest) = byte_within(rest, 1, MAX_CHANNELS)?;
     let (rate, rest) = rate(rest)?;
     let spec = Spec {
         format,
@@ -156,7 +157,7 @@ fn depth(guard: u32, place: Place<'_>) -> Result<(u32, Place<'_>), ReadError>
     ensures { Gives (λ read. (read.0, place_of read.1)) result (ruled (is_depth guard) word_at (place_of place.entry)) }
 {
     let (depth, after) = place.word()?;
-    if depth < 1 || 65_536 < depth || depth < guard {
+    if depth < 1 || MAX_DEPTH < depth || depth < guard {
         return Err(place.broken());
     }
     Ok((depth, after))
@@ -288,7 +289,7 @@ fn header_of(alloc: Global, cookie: &[u8], sinks: Vec<SinkSpec>) -> Mem<Header>
 fn rest_of_header(alloc: Global, cookie: &[u8], place: &mut Place<'_>) -> Result<Header, ReadError>
     ensures { Reads (λ h. h) result (place_of place.new) (rest_of_header_at cookie.now (place_of place.old)) }
 {
-    let (count, rest) = byte_within(*place, 1, 16)?;
+    let (count, rest) = byte_within(*place, 1, MAX_SINKS as u8)?;
     *place = rest;
     let sinks = sinks(alloc, count, place)?;
     Ok(header_of(alloc, cookie, sinks)?)

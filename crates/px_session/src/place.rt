@@ -3,9 +3,7 @@
 ghost use Rattle.std.specs.Prelude.{◌≡◌, ◌≤◌, ◌^◌, length, IfOk};
 
 use crate::fault::{Cause, ReadError};
-
-/// The most bytes of a session.
-pub(crate) const LIMIT: u64 = 1 << 40;
+use px_types::limits::MAX_SESSION;
 
 /// The bytes of a session that are there, from an offset on.
 #[derive(Clone, Copy)]
@@ -24,7 +22,7 @@ impl<'a> Place<'a> {
     fn available(self) -> usize
         ensures { result ≡ available (place_of self.entry) }
     {
-        self.rest.len().min((LIMIT - self.at) as usize)
+        self.rest.len().min((MAX_SESSION - self.at) as usize)
     }
 
     /// The refusal where more is wanted than is available.
@@ -32,9 +30,9 @@ impl<'a> Place<'a> {
         ensures { Fails result (no_field (short_at (place_of self.entry))) }
     {
         let end = self.at + self.rest.len() as u64;
-        if LIMIT <= end {
+        if MAX_SESSION <= end {
             ReadError::Refused {
-                at: LIMIT,
+                at: MAX_SESSION,
                 cause: Cause::Endless,
             }
         } else {

@@ -11,13 +11,11 @@ ghost use Rattle.px_sinks.specs.Sinks.{MOST_SINKS, IsOfHeader, rate_on, rate_of,
 
 use px_cmd::SinkRef;
 use px_header::SinkSpec;
-use px_names::{NO_INDEX, Names};
+use px_names::Names;
 use px_plan::{Input, Named, Target};
+use px_types::limits::{MAX_SINKS, NO_INDEX};
 use px_types::{ErrorCode, Mem, SinkId, Text};
 use std::alloc::Global;
-
-/// The most sinks of a header.
-const MOST_SINKS: usize = 16;
 
 // The sink with an index.
 #[tactic(auto, using(crate::proofs::Sinks::is_of_header))]
@@ -197,10 +195,10 @@ fn first_of(sinks: &[SinkSpec]) -> &[SinkSpec]
     ensures few { length result.now ≤ MOST_SINKS }
     ensures header { AllByRecursion IsOfHeader result.now }
 {
-    if sinks.len() <= MOST_SINKS {
+    if sinks.len() <= MAX_SINKS {
         sinks
     } else {
-        &sinks[..MOST_SINKS]
+        &sinks[..MAX_SINKS]
     }
 }
 

@@ -13,6 +13,7 @@ use px_flat::Group;
 use px_msg::Msg;
 use px_plan::{Plan, Sending};
 use px_tag::Packet;
+use px_types::limits::MAX_PAYLOAD;
 use px_types::{ConnId, Mem};
 use std::alloc::Global;
 use std::marker::Model;
@@ -123,9 +124,6 @@ impl EffectRoom {
     }
 }
 
-/// The most bytes of a packet that a frame can carry.
-const MOST_BYTES: usize = 16_777_216;
-
 /// Whether a frame can carry a packet. Takes no memory.
 pub(crate) fn fits(packet: &Packet) -> bool
     ensures value { result ≡ fits packet.now }
@@ -133,7 +131,7 @@ pub(crate) fn fits(packet: &Packet) -> bool
     ensures few { result ≡ true → length packet.now ≤ 16777216 }
 {
     let bytes = packet.as_slice();
-    !bytes.is_empty() && bytes.len() <= MOST_BYTES
+    !bytes.is_empty() && bytes.len() <= MAX_PAYLOAD as usize
 }
 
 // A packet goes to a connection, where a frame can carry it.

@@ -9,10 +9,11 @@ ghost use Rattle.px_subscribe.specs.Infos.{Given};
 ghost use Rattle.px_subscribe.specs.Became.{NO_INDEX, became, event, events_at, events_of, events_between};
 ghost use Rattle.px_subscribe.specs.InfoBytes.{IsSinkTold, IsInputTold, IsClientTold, IsServerTold, IsTelling, infos_in, given_by, sinks_events, inputs_events, clients_events, bytes_at, told_events};
 
-use crate::event::{Event, Facility, Kind, NO_INDEX};
-use crate::info_bytes::{Told, VERSION, bytes_at, clients_told, inputs_told, next_in, sinks_told};
+use crate::event::{Event, Facility, Kind};
+use crate::info_bytes::{Told, bytes_at, clients_told, inputs_told, next_in, sinks_told};
 use px_reply::{ClientInfo, InputInfo, ServerInfo, SinkInfo};
 use px_tag::Packet;
+use px_types::limits::{NO_INDEX, PROTOCOL_VERSION};
 use px_types::{Mem, NoMemory};
 use std::alloc::Global;
 use std::marker::Model;
@@ -113,7 +114,7 @@ fn server_told(alloc: Global, info: &Option<ServerInfo>) -> Mem<Option<Packet>>
 {
     match info {
         None => Ok(None),
-        Some(info) => match px_reply::server_info(alloc, 0, VERSION, info) {
+        Some(info) => match px_reply::server_info(alloc, 0, PROTOCOL_VERSION, info) {
             Ok(bytes) => Ok(Some(bytes)),
             Err(_) => Err(NoMemory),
         },

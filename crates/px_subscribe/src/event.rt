@@ -8,9 +8,6 @@ use px_tag::Packet;
 use px_types::{Mem, NoMemory};
 use std::alloc::Global;
 
-/// The index in an event of the server itself.
-pub const NO_INDEX: u32 = 0xFFFF_FFFF;
-
 /// A kind of object that events are about.
 #[derive(Clone, Copy, Debug, PartialEq, Eq)]
 pub enum Facility {

@@ -9,11 +9,9 @@ ghost use Rattle.px_subscribe.specs.InfoBytes.{IsSinkTold, IsInputTold, IsClient
 
 use px_reply::{ClientInfo, InputInfo, SinkInfo};
 use px_tag::Packet;
+use px_types::limits::PROTOCOL_VERSION;
 use px_types::{Mem, NoMemory};
 use std::alloc::Global;
-
-/// The version whose layouts are compared.
-pub(crate) const VERSION: u16 = 13;
 
 /// An object's index, and the bytes of its info.
 #[derive(Drop)]
@@ -27,7 +25,7 @@ fn sink_told(alloc: Global, info: &SinkInfo) -> Mem<Told>
     requires { IsSinkTold info.now }
     ensures { IfOk result (λ told. told ≡ sink_told info.now) }
 {
-    match px_reply::sink_info(alloc, 0, VERSION, info) {
+    match px_reply::sink_info(alloc, 0, PROTOCOL_VERSION, info) {
         Ok(bytes) => Ok(Told {
             index: info.index,
             bytes,

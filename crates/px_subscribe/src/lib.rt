@@ -15,7 +15,7 @@ mod scene;
 
 pub use announce::{Subscriber, announce_all};
 pub use between::{Counts, Moment, events_between};
-pub use event::{Event, Facility, Kind, NO_INDEX, hears};
+pub use event::{Event, Facility, Kind, hears};
 pub use laws::events_tell_what_became;
 pub use quiet::{
     are_deaf, are_quiet, nobody_hears, quiet_changes_tell_nothing, the_deaf_are_told_nothing,

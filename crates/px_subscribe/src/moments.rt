@@ -23,11 +23,9 @@ use px_names::Client;
 use px_plan::{Change, Connection, Input, Sending};
 use px_reply::ServerInfo;
 use px_sinks::{target_at, targets_of};
+use px_types::limits::MAX_CHANNELS;
 use px_types::{ConnId, InputId, Mem, NoMemory, SinkId};
 use std::alloc::Global;
-
-/// The most channels that a packet can carry.
-const MOST_CHANNELS: u8 = 32;
 
 // How many sinks there are, where that is a number of 32 bits.
 fn count_of(sinks: &[SinkSpec]) -> Mem<u32>
@@ -43,7 +41,7 @@ fn count_of(sinks: &[SinkSpec]) -> Mem<u32>
 fn are_few(inputs: &[Input]) -> bool
     ensures { result ≡ true → All (λ x. (Input.spec x).channels ≤ 32) inputs.now }
 {
-    inputs.iter().all(|x| x.spec.channels <= MOST_CHANNELS)
+    inputs.iter().all(|x| x.spec.channels <= MAX_CHANNELS)
 }
 
 // The info of the server.

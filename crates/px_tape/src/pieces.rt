@@ -10,11 +10,9 @@ use crate::events::Events;
 use px_block::Block;
 use px_frame::{Body, FrameFault, write_data, write_packet};
 use px_session::Event;
+use px_types::limits::MAX_EVENT_BYTES;
 use px_types::{ConnId, Mem, NoMemory, Text};
 use std::alloc::Global;
-
-// The longest Bytes event of a session.
-const MOST_BYTES: usize = 65_536;
 
 // Bytes of a client, cut where an event has no room for more.
 fn cut(alloc: Global, conn: ConnId, bytes: &[u8]) -> Mem<Events>
@@ -24,7 +22,7 @@ fn cut(alloc: Global, conn: ConnId, bytes: &[u8]) -> Mem<Events>
     let mut events = Events::new(alloc);
     let mut rest = bytes;
     while !rest.is_empty() {
-        let (piece, left) = rest.split_at(rest.len().min(MOST_BYTES));
+        let (piece, left) = rest.split_at(rest.len().min(MAX_EVENT_BYTES));
         events.push(Event::Bytes(conn, Text::copied(alloc, piece)?))?;
         rest = left;
     }

@@ -1,4 +1,5 @@
 //! The limits of the server and of its protocol, each under one name. Where PulseAudio has the limit, its file is named.
+//! px_tag, which stands on no crate, has its own `CHANNELS_MAX` and `VALUE_MAX`.
 
 /// The greatest version of the native protocol that the server speaks: `PA_PROTOCOL_VERSION` of PulseAudio's `configure`.
 pub const PROTOCOL_VERSION: u16 = 13;
@@ -16,7 +17,7 @@ pub const MAX_INPUTS_ON_SINK: usize = 256;
 pub const MAX_INPUTS: usize = 1_024;
 
 /// The most channels of a stream or a sink: `PA_CHANNELS_MAX` of `pulse/sample.h`.
-pub const MAX_CHANNELS: usize = 32;
+pub const MAX_CHANNELS: u8 = 32;
 
 /// The most frames a second of a stream or a sink. Own.
 pub const MAX_RATE: u32 = 192_000;
@@ -50,6 +51,9 @@ pub const MAX_HISTORY_BYTES: usize = 268_435_456;
 
 /// The index that names nothing: `PA_INVALID_INDEX` of `pulse/def.h`.
 pub const NO_INDEX: u32 = 0xFFFF_FFFF;
+
+/// The tag of a message that answers no command: `(uint32_t) -1` in `pulsecore/protocol-native.c`.
+pub const NO_TAG: u32 = 0xFFFF_FFFF;
 
 /// A buffer attribute that the client leaves to the server: `(uint32_t) -1` of `pa_buffer_attr` in `pulse/def.h`.
 pub const UNSET: u32 = 0xFFFF_FFFF;

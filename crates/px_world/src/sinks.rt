@@ -23,11 +23,9 @@ use crate::{Outcome, WorldFault};
 use px_core::Effects;
 use px_ends::Played;
 use px_lane::{MsgList, NoticeList};
+use px_types::limits::MAX_INDEX;
 use px_types::{Mem, SinkId};
 use std::alloc::Global;
-
-/// The filled count past which a sink takes no more turns: the last index of a stream.
-const LAST_FILLED: u64 = 1 << 60;
 
 // A number below one of 32 bits.
 fn in_32_bits(n: u64, bound: u32) -> u32
@@ -105,7 +103,7 @@ fn turn_fault(playing: &Playing, frames: u32, count: u32, waiting: usize) -> Opt
     ensures { result ≡ turn_refusal (Some (mixer_of playing.now)) frames count waiting }
 {
     let filled = playing.lane.filled();
-    if filled > LAST_FILLED {
+    if filled > MAX_INDEX {
         return Some(WorldFault::Worn);
     }
     let there = filled.saturating_sub(playing.lane.consumed());

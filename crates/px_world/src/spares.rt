@@ -3,13 +3,11 @@
 ghost use Rattle.std.specs.Prelude.{◌≡◌, Some, None};
 
 use px_block::{Block, BlockSource};
+use px_types::limits::MAX_INPUTS_ON_SINK;
 use px_types::{Mem, Text};
 use std::alloc::Global;
 
-// How many wait at the most: a block for each stream that a sink can have.
-const MOST: usize = 256;
-
-/// Used blocks that wait to be used again (PulseAudio: the free list of a `pa_mempool`), at most 256 of them. A block that is taken is one of
+/// Used blocks that wait to be used again (PulseAudio: the free list of a `pa_mempool`), at most 256 of them, one for each stream that a sink can have. A block that is taken is one of
 /// these, emptied, or a new one where none waits; one that comes back is kept, or dropped where so many wait. It doesn't tell how many came
 /// back. Beside them waits the text of the last bytes of a client, for who reads the session.
 #[derive(Drop)]
@@ -24,7 +22,7 @@ impl Spares {
     pub(crate) fn new(alloc: Global) -> Mem<Spares> {
         Ok(Spares {
             alloc,
-            blocks: Vec::with_capacity(alloc, MOST)?,
+            blocks: Vec::with_capacity(alloc, MAX_INPUTS_ON_SINK)?,
             text: None,
         })
     }

@@ -32,14 +32,14 @@ returns-in-Err-clause-ok g c = tt
 pub returns-in-Err-clause-ticks : goal.returns-in-Err-clause-ticks
 returns-in-Err-clause-ticks g c = refl
 
-pub returns-then-filled-gt-MOST_FILLED-clause-empty : goal.returns-then-filled-gt-MOST_FILLED-clause-empty
-returns-then-filled-gt-MOST_FILLED-clause-empty g c = tt
+pub returns-then-filled-gt-MAX_INDEX-clause-empty : goal.returns-then-filled-gt-MAX_INDEX-clause-empty
+returns-then-filled-gt-MAX_INDEX-clause-empty g c = tt
 
-pub returns-then-filled-gt-MOST_FILLED-clause-ok : goal.returns-then-filled-gt-MOST_FILLED-clause-ok
-returns-then-filled-gt-MOST_FILLED-clause-ok g c = tt
+pub returns-then-filled-gt-MAX_INDEX-clause-ok : goal.returns-then-filled-gt-MAX_INDEX-clause-ok
+returns-then-filled-gt-MAX_INDEX-clause-ok g c = tt
 
-pub returns-then-filled-gt-MOST_FILLED-clause-ticks : goal.returns-then-filled-gt-MOST_FILLED-clause-ticks
-returns-then-filled-gt-MOST_FILLED-clause-ticks g c = refl
+pub returns-then-filled-gt-MAX_INDEX-clause-ticks : goal.returns-then-filled-gt-MAX_INDEX-clause-ticks
+returns-then-filled-gt-MAX_INDEX-clause-ticks g c = refl
 
 pub returns-in-Ok-clause-err : goal.returns-in-Ok-clause-err
 returns-in-Ok-clause-err g c = tt
@@ -56,11 +56,11 @@ returns-in-Ok-clause-message_room g c = c.give_back.ensures.capacity ∙ c.run-t
 pub returns-in-Ok-clause-notice_room : goal.returns-in-Ok-clause-notice_room
 returns-in-Ok-clause-notice_room g c = subst (λ (n : ℕ). c.args.out.now.capacity ≤ n) (sym c.run-turned.ensures.capacity) c.prepare.ensures.more
 
-pub returns-then-filled-gt-MOST_FILLED-clause-err : goal.returns-then-filled-gt-MOST_FILLED-clause-err
-returns-then-filled-gt-MOST_FILLED-clause-err g c = (refl, refl, refl)
+pub returns-then-filled-gt-MAX_INDEX-clause-err : goal.returns-then-filled-gt-MAX_INDEX-clause-err
+returns-then-filled-gt-MAX_INDEX-clause-err g c = (refl, refl, refl)
 
-pub returns-then-filled-gt-MOST_FILLED-clause-message_room : goal.returns-then-filled-gt-MOST_FILLED-clause-message_room
-returns-then-filled-gt-MOST_FILLED-clause-message_room g c = refl
+pub returns-then-filled-gt-MAX_INDEX-clause-message_room : goal.returns-then-filled-gt-MAX_INDEX-clause-message_room
+returns-then-filled-gt-MAX_INDEX-clause-message_room g c = refl
 
 pub run-turned-requires-clause-lane : goal.run-turned-requires-clause-lane
 run-turned-requires-clause-lane g c = subst IsLane (sym c.prepare.ensures.value) c.self.invariant.0
@@ -77,7 +77,7 @@ run-turned-requires-clause-attached g c =
     (subst (λ (l : Mixer g.row.D.Denot). IsFalse l.sink.stopped → IsAttached (g.D.Device.now l.device) l.sink) (sym c.self.view_is) c.requires.attached)
 
 pub run-turned-requires-clause-countable : goal.run-turned-requires-clause-countable
-run-turned-requires-clause-countable g c = subst (λ (s : Sink). s.filled ≤ 2 ^ 60) (sym c.prepare.ensures.value) (subst (λ (n : ℕ). n ≤ 2 ^ 60) c.filled-filled.ensures c.if-filled-gt-MOST_FILLED.false)
+run-turned-requires-clause-countable g c = subst (λ (s : Sink). s.filled ≤ 2 ^ 60) (sym c.prepare.ensures.value) (subst (λ (n : ℕ). n ≤ 2 ^ 60) c.filled-filled.ensures c.if-filled-gt-MAX_INDEX.false)
 
 pub run-turned-requires-clause-room : goal.run-turned-requires-clause-room
 run-turned-requires-clause-room g c = omega (arith, ap length c.in-Ok.ensures.messages, c.in-Ok.ensures.room.0)
@@ -99,11 +99,11 @@ run-turned-requires-clause-capacity g c =
 
 pub returns-in-Ok-clause-worn : goal.returns-in-Ok-clause-worn
 returns-in-Ok-clause-worn g c =
-    subst (λ (l : Mixer g.row.D.Denot). l.sink.filled ≤ 2 ^ 60) c.self.view_is (subst (λ (n : ℕ). n ≤ 2 ^ 60) c.filled-filled.ensures c.if-filled-gt-MOST_FILLED.false)
+    subst (λ (l : Mixer g.row.D.Denot). l.sink.filled ≤ 2 ^ 60) c.self.view_is (subst (λ (n : ℕ). n ≤ 2 ^ 60) c.filled-filled.ensures c.if-filled-gt-MAX_INDEX.false)
 
 pub returns-in-Err-clause-worn : goal.returns-in-Err-clause-worn
 returns-in-Err-clause-worn g c =
-    subst (λ (l : Mixer g.row.D.Denot). l.sink.filled ≤ 2 ^ 60) c.self.view_is (subst (λ (n : ℕ). n ≤ 2 ^ 60) c.filled-filled.ensures c.if-filled-gt-MOST_FILLED.false)
+    subst (λ (l : Mixer g.row.D.Denot). l.sink.filled ≤ 2 ^ 60) c.self.view_is (subst (λ (n : ℕ). n ≤ 2 ^ 60) c.filled-filled.ensures c.if-filled-gt-MAX_INDEX.false)
 
 pub returns-in-Ok-clause-ok : goal.returns-in-Ok-clause-ok
 returns-in-Ok-clause-ok g c =
