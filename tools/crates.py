@@ -139,7 +139,8 @@ def check(text, said, path):
     for i in range(max(len(wanted), len(found))):
         one, other = (part[i] if i < len(part) else "no more lines" for part in (wanted, found))
         if wanted[i : i + 1] != found[i : i + 1]:
-            raise Wrong(f"{path}:{start + i + 1}: not the map of crates.txt, which has: {one.strip()}; and here: {other.strip()} (tools/crates.py --write {path})")
+            at = f"{path}:{start + i + 1}"
+            raise Wrong(f"{at}: not the map of crates.txt, which has: {one.strip()}; and here: {other.strip()} (tools/crates.py --write {path})")
 
 
 def written(text, said, path):
