@@ -1,7 +1,7 @@
 use Rattle.std.proofs.Common.{◌≡◌, ◌<◌, ◌∙◌, List, Some, map, length, sym, subst, arith}
 use Rattle.std.specs.Prelude.{slice_get}
 use Rattle.std.proofs.lemmas.List.{map-set, length-map}
-use Rattle.px_core_cell.specs.Cell.{SinkEnds, ends_of, desk_of, cell_of, calls_of, calls_in}
+use Rattle.px_core_cell.specs.Cell.{SinkEnds, ends_of, logged_of, cell_of, calls_of, calls_in}
 use Rattle.px_core_cell.proofs.Giving.{placed_at, none_at, boxes_stay, is_there, EffectsGive, out_gives, nowhere_gives}
 use Rattle.px_core_cell.proofs.Calls.{out_stops, nowhere_stops}
 use Rattle.px_core_cell.proofs.parts.CoreParts.out.Goals as goal
@@ -17,9 +17,9 @@ pub returns-then-place-len-clause-gives : goal.returns-then-place-len-clause-giv
 returns-then-place-len-clause-gives g c =
     let here : slice_get (map ends_of c.args.self.now.ends.items) c.args.sink.0 ≡ Some (ends_of c.index_mut.result.now) =
     placed_at ends_of c.args.self.now.ends.items c.args.sink.0 c.len.result c.index_mut.result.now (c.len.ensures ∙ c.args.self.now.ends.ok.0) c.if-place-len.true c.index_mut.ensures.value in
-    subst (λ (l : List SinkEnds). EffectsGive g.C.Recorder.told c.args.sink (cell_of c.args.self.now) (record { desk = desk_of c.out_step.new.core.state c.out_step.new.log; ends = l }) c.out_step.result)
+    subst (λ (l : List SinkEnds). EffectsGive g.C.Recorder.told c.args.sink (cell_of c.args.self.now) (record { logged = logged_of c.out_step.new.core.state c.out_step.new.log; ends = l }) c.out_step.result)
     (sym (map-set ends_of c.args.self.now.ends.items c.args.sink.0 c.out_step.new.end))
-    (out_gives g.C.Recorder.told c.args.sink (desk_of c.args.self.now.core.state c.args.self.now.log) (desk_of c.out_step.new.core.state c.out_step.new.log) (map ends_of c.args.self.now.ends.items)
+    (out_gives g.C.Recorder.told c.args.sink (logged_of c.args.self.now.core.state c.args.self.now.log) (logged_of c.out_step.new.core.state c.out_step.new.log) (map ends_of c.args.self.now.ends.items)
     (ends_of c.index_mut.result.now) (ends_of c.out_step.new.end) c.out_step.result here c.out_step.ensures.gives)
 
 pub returns-else-place-len-clause-gives : goal.returns-else-place-len-clause-gives
