@@ -1,6 +1,7 @@
 -- An input found by halves, in inputs of rising index.
-use Rattle.std.proofs.Common.{◌≡◌, ℕ, zero, suc, ◌+◌, ◌<◌, ◌≤◌, List, [], ◌∷◌, length, Bool, true, false, Option, Some, None, refl, ap, sym, ◌∙◌, subst, arith, nat_eq}
+use Rattle.std.proofs.Common.{◌≡◌, ℕ, zero, suc, ◌<◌, ◌≤◌, List, [], ◌∷◌, length, Bool, true, false, Option, Some, None, refl, ap, sym, ◌∙◌, arith, nat_eq}
 use Rattle.std.specs.Prelude.{slice_index_or, ◌&&◌, if◌then◌else◌}
+use Rattle.std.specs.List.Sorted.{IsNonDecreasingBy}
 use Rattle.std.proofs.lemmas.Bool.{ne_eqb}
 use Rattle.px_types.specs.declared.ids.InputId.{InputId}
 use Rattle.px_types.specs.declared.ids.SinkId.{SinkId}
@@ -9,21 +10,24 @@ use Rattle.px_core.specs.Keeps.{AllAbove, IsRising}
 use Rattle.px_core.specs.Places.{AreBelow}
 use Rattle.px_core.specs.Notice.{is_on, input_on}
 
-module _ (i : ℕ) where
-  above_at : (j k : ℕ) (inputs : List Input) (d : Input) → AllAbove j inputs → k < length inputs → j < (Input.index (slice_index_or inputs k d)).0
-  above_at j k [] d h few = absurd (omega (arith, few))
-  above_at j zero (x ∷ inputs) d h few = h.0
-  above_at j (suc k) (x ∷ inputs) d h few = above_at j k inputs d h.1 (omega (arith, few))
+above_at : (j k : ℕ) (inputs : List Input) (d : Input) → AllAbove j inputs → k < length inputs → j < (Input.index (slice_index_or inputs k d)).0
+above_at j k [] d h few = absurd (omega (arith, few))
+above_at j zero (x ∷ inputs) d h few = h.0
+above_at j (suc k) (x ∷ inputs) d h few = above_at j k inputs d h.1 (omega (arith, few))
 
-  all_below : (k : ℕ) (inputs : List Input) (d : Input) → IsRising inputs → k < length inputs → (Input.index (slice_index_or inputs k d)).0 < i → AreBelow i (suc k) inputs
-  all_below k [] d rising few l = absurd (omega (arith, few))
-  all_below zero (x ∷ inputs) d rising few l = (l, tt)
-  all_below (suc k) (x ∷ inputs) d rising few l =
-      (omega (arith, above_at x.index.0 k inputs d rising.0 (omega (arith, few)), l), all_below k inputs d rising.1 (omega (arith, few)) l)
+-- indices that rise don't fall
+pub rising_by : (inputs : List Input) → IsRising inputs → IsNonDecreasingBy (λ x. (Input.index x).0) inputs
+rising_by [] rising i j d l few = absurd (omega (arith, few))
+rising_by (x ∷ inputs) rising zero zero d l few = omega arith
+rising_by (x ∷ inputs) rising zero (suc j) d l few = omega (arith, above_at x.index.0 j inputs d rising.0 (omega (arith, few)))
+rising_by (x ∷ inputs) rising (suc i) zero d l few = absurd (omega (arith, l))
+rising_by (x ∷ inputs) rising (suc i) (suc j) d l few = rising_by inputs rising.1 i j d (omega (arith, l)) (omega (arith, few))
 
-  -- those up to one that lies below do
-  pub below_up_to : (k : ℕ) (inputs : List Input) (d : Input) → IsRising inputs → k < length inputs → (Input.index (slice_index_or inputs k d)).0 < i → AreBelow i (k + 1) inputs
-  below_up_to k inputs d rising few l = let n : suc k ≡ k + 1 = omega arith in subst (λ (m : ℕ). AreBelow i m inputs) n (all_below k inputs d rising few l)
+-- the first k lie below i, where each does
+pub each_below : (i k : ℕ) (inputs : List Input) → k ≤ length inputs → ((j : ℕ) (d : Input) → j < k → (Input.index (slice_index_or inputs j d)).0 < i) → AreBelow i k inputs
+each_below i zero inputs few each = tt
+each_below i (suc k) [] few each = absurd (omega (arith, few))
+each_below i (suc k) (x ∷ inputs) few each = (each 0 x (omega arith), each_below i k inputs (omega (arith, few)) (λ j d l. each (suc j) d (omega (arith, l))))
 
 -- ---- what is found
 

@@ -37,17 +37,7 @@ fn place(inputs: &[Input], index: InputId) -> usize
     ensures few { result ≤ length inputs.now }
     ensures end { (d : DeclaredInput) → result < length inputs.now → index.0 ≤ (DeclaredInput.index (slice_index_or inputs.now result d)).0 }
 {
-    let mut low = 0;
-    let mut high = inputs.len();
-    while low < high {
-        let middle = low + (high - low) / 2;
-        if inputs[middle].index.0 < index.0 {
-            low = middle + 1;
-        } else {
-            high = middle;
-        }
-    }
-    low
+    inputs.partition_point(|x| x.index.0 < index.0)
 }
 
 // Whether it has the index, and is on the sink.

@@ -97,7 +97,8 @@ fn made<T: Letter + Drop, B: Keyed<T::Key>>(
     ensures unused { IfOk result (λ made. (stored_by made.1.pass ≡ []) × (found_by made.2.pass ≡ [])) }
 {
     let (queue, mut maker) = RuledArrayQueue::<T, Account<T, T::Key>, Delivery>::ruled(
-        alloc, MAILBOX_PLACES,
+        alloc,
+        MAILBOX_PLACES,
     )?;
     let post = queue.another::<MakesPost<B>>(&mut maker);
     let take = queue.another::<MakesTake>(&mut maker);

@@ -38,14 +38,18 @@ impl Index {
     pub(crate) fn first() -> Index
         ensures { result ≡ FIRST }
     {
-        Index { frame: -(MAX_INDEX as i64) }
+        Index {
+            frame: -(MAX_INDEX as i64),
+        }
     }
 
     /// The greatest index, 2^60.
     pub(crate) fn last() -> Index
         ensures { result ≡ LAST }
     {
-        Index { frame: MAX_INDEX as i64 }
+        Index {
+            frame: MAX_INDEX as i64,
+        }
     }
 
     /// It as a number.

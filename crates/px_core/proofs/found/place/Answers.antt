@@ -1,15 +1,17 @@
-use Rattle.std.proofs.Common.{ℕ, ◌+◌, ◌-◌, ◌/◌, ◌≤◌, arith}
-use Rattle.px_core.proofs.Finding.{below_up_to}
+use Rattle.std.proofs.Common.{ltb, ltb-true, ltb-false, arith, rules}
+use Rattle.std.proofs.lemmas.List.Sorted.{IsPartitionPoint-from_clause, IsPartitionedBy-ltb}
+use Rattle.px_plan.specs.declared.input.Input.{Input}
+use Rattle.px_core.proofs.Finding.{rising_by, each_below}
 use Rattle.px_core.proofs.found.place.Goals as goal
 
-pub loop-low-preserved-then-inputs-middle : goal.loop-low-preserved-then-inputs-middle
-loop-low-preserved-then-inputs-middle c =
-    let low = c.loop-low.low in
-    let high = c.loop-low.high in
-    let middle : ℕ = low + (high - low) / 2 in
-    let order : middle + 1 ≤ high = grind (arith, c.loop-low-test.true) in (
-      order,
-      c.loop-low.invariant.1,
-      below_up_to c.args.index.0 middle c.args.inputs.now c.index-inputs-middle.result c.requires (omega (arith, order, c.loop-low.invariant.1)) c.if-inputs-middle.true,
-      c.loop-low.invariant.3,
-    )
+pub returns-clause-below : goal.returns-clause-below
+returns-clause-below c =
+    let parted = IsPartitionedBy-ltb (λ x. (Input.index x).0) _ c.args.index.0 (rising_by c.args.inputs.now c.requires) in
+    let point = IsPartitionPoint-from_clause (λ x. ltb (Input.index x).0 c.args.index.0) _ _ c.partition_point.ensures.partitioned parted (λ a r q k. search rules) in
+    each_below c.args.index.0 c.partition_point.result c.args.inputs.now c.partition_point.ensures.bound (λ j d l. ltb-true _ _ (point.0 j d (omega arith) l))
+
+pub returns-clause-end : goal.returns-clause-end
+returns-clause-end c d few =
+    let parted = IsPartitionedBy-ltb (λ x. (Input.index x).0) _ c.args.index.0 (rising_by c.args.inputs.now c.requires) in
+    let point = IsPartitionPoint-from_clause (λ x. ltb (Input.index x).0 c.args.index.0) _ _ c.partition_point.ensures.partitioned parted (λ a r q k. search rules) in
+    ltb-false _ _ (point.1 c.partition_point.result d (omega arith) few)
