@@ -7,6 +7,7 @@ ghost use Rattle.px_kernel.specs.Kernel.{at};
 use crate::sound::{fill, whole_format};
 use px_kernel::{Steps, add_scaled, clip_pack, sub_scaled};
 use px_sample::{Format, Width, unpack};
+use px_tick_key::Key;
 use px_types::Mem;
 use std::alloc::Global;
 use std::marker::Brand;
@@ -56,7 +57,7 @@ fn mix<T: Ledger>(
 {
     unpack(format, bytes, values);
     sums.fill(0);
-    let mut steps = Steps::<T>::new(blank);
+    let mut steps = Steps::<T>::new(Key::new(), blank);
     for number in 0..rounds {
         let factor = 60_000 + number % 10_000;
         round(format.width(), factor, values, sums, out, &mut steps);

@@ -1,6 +1,7 @@
 // A count of steps.
 ghost use Rattle.std.specs.Prelude.{◌≡◌, ◌+◌, ◌<◌};
 
+use px_tick_key::Key;
 use std::marker::Model;
 use std::sync::ledger::{Blank, Book, Ledger, Share};
 
@@ -22,8 +23,8 @@ impl<T: Ledger> Model for Steps<T> {
 }
 
 impl<T: Ledger> Steps<T> {
-    /// No step was taken.
-    pub fn new(blank: Blank) -> Steps<T>
+    /// No step was taken. Who may make a counter is said at `Key`.
+    pub fn new(_: Key, blank: Blank) -> Steps<T>
         requires name { blank.name ≡ T.name }
         requires parts { blank.parts ≡ T.parts }
         requires some { 0 < T.parts }

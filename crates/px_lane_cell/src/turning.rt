@@ -18,6 +18,7 @@ use px_block::BlockSource;
 use px_ends::Device;
 use px_kernel::Steps;
 use px_lane::{Lane, LaneFault, MsgList, NoticeList, Turned};
+use px_tick_key::Key;
 use std::alloc::Global;
 use std::marker::Brand;
 use std::sync::ledger::{Blank, Ledger};
@@ -67,7 +68,7 @@ fn counted<D: Device + Drop, B: BlockSource, T: Ledger>(
     ensures err { OnErr result ((lane.new ≡ lane.old) × (messages.new ≡ messages.old) × (notices.new.notices ≡ notices.old.notices)) }
     ensures message_room { messages.new.capacity ≡ messages.old.capacity }
 {
-    let mut steps = Steps::<T>::new(blank);
+    let mut steps = Steps::<T>::new(Key::new(), blank);
     lane.turn(alloc, messages, notices, blocks, &mut steps)
 }
 

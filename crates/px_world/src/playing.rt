@@ -21,6 +21,7 @@ use px_ends::{DeviceShape, MemDevice, Played};
 use px_header::SinkSpec;
 use px_kernel::Steps;
 use px_lane::{Lane, LaneFault, MsgList, NoticeList, Turned};
+use px_tick_key::Key;
 use px_types::{Mem, NoMemory};
 use std::alloc::Global;
 use std::marker::Brand;
@@ -70,7 +71,7 @@ fn counted<T: Ledger>(
     ensures ok { IfOk result (Turns state_of lane.old lane.new messages.old.messages notices.old.notices notices.new.notices) }
     ensures worn { MatchResult result (λ turned. lane.old.sink.filled ≤ 2 ^ 60) (Refuses lane.old.sink.filled) }
 {
-    let mut steps = Steps::<T>::new(blank);
+    let mut steps = Steps::<T>::new(Key::new(), blank);
     lane.turn(alloc, messages, notices, blocks, &mut steps)
 }
 
