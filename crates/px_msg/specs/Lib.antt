@@ -1,3 +1,4 @@
 pub mod Repair
 pub mod View
 pub mod Letters
+pub mod Parcels

@@ -1,5 +1,7 @@
 //! Messages from the core to a sink.
 
+ghost use Rattle.px_msg.specs.Parcels.{IsMessageWith};
+
 use crate::factors::FactorList;
 use px_block::Blocks;
 use px_chmap::Feed;
@@ -85,4 +87,49 @@ pub enum Msg<P> {
         input: InputId,
         tag: u32,
     },
+}
+
+impl<P> Msg<P> {
+    /// The message with its parcel, if it has one, as `give` gives it. Takes no memory of its own.
+    pub fn with_parcel<Q, F: FnOnce(P) -> Q>(self, give: F) -> Msg<Q>
+        requires { F.IsAlwaysCallable give }
+        ensures { IsMessageWith (F.post give) self result }
+    {
+        match self {
+            Msg::New(stream) => Msg::New(stream),
+            Msg::Attach {
+                input,
+                parcel,
+                feed,
+                factors,
+            } => Msg::Attach {
+                input,
+                parcel: give(parcel),
+                feed,
+                factors,
+            },
+            Msg::Detach { input } => Msg::Detach { input },
+            Msg::Write {
+                input,
+                seek,
+                offset,
+                frames,
+                bytes,
+            } => Msg::Write {
+                input,
+                seek,
+                offset,
+                frames,
+                bytes,
+            },
+            Msg::Cork { input, on } => Msg::Cork { input, on },
+            Msg::Flush { input } => Msg::Flush { input },
+            Msg::Trigger { input } => Msg::Trigger { input },
+            Msg::Prebuf { input } => Msg::Prebuf { input },
+            Msg::Drain { input, tag } => Msg::Drain { input, tag },
+            Msg::Attr { input, attr } => Msg::Attr { input, attr },
+            Msg::Factors(factors) => Msg::Factors(factors),
+            Msg::Query { input, tag } => Msg::Query { input, tag },
+        }
+    }
 }

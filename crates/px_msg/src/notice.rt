@@ -1,5 +1,7 @@
 //! Notices from a sink to the core.
 
+ghost use Rattle.px_msg.specs.Parcels.{IsNoticeWith};
+
 use px_model::Run;
 use px_types::InputId;
 
@@ -45,4 +47,41 @@ pub enum Notice<P> {
         playing: bool,
         run: Run,
     },
+}
+
+impl<P> Notice<P> {
+    /// The notice with its parcel, if it has one, as `give` gives it. Takes no memory of its own.
+    pub fn with_parcel<Q, F: FnOnce(P) -> Q>(self, give: F) -> Notice<Q>
+        requires { F.IsAlwaysCallable give }
+        ensures { IsNoticeWith (F.post give) self result }
+    {
+        match self {
+            Notice::Request { input, frames } => Notice::Request { input, frames },
+            Notice::Overflow { input } => Notice::Overflow { input },
+            Notice::Underflow { input } => Notice::Underflow { input },
+            Notice::Started { input } => Notice::Started { input },
+            Notice::Drained { input, tag } => Notice::Drained { input, tag },
+            Notice::Detached { input, parcel } => Notice::Detached {
+                input,
+                parcel: give(parcel),
+            },
+            Notice::Latency {
+                input,
+                tag,
+                write,
+                read,
+                buffered,
+                playing,
+                run,
+            } => Notice::Latency {
+                input,
+                tag,
+                write,
+                read,
+                buffered,
+                playing,
+                run,
+            },
+        }
+    }
 }

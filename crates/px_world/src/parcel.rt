@@ -37,74 +37,12 @@ impl Parcel for Carried {
 pub(crate) fn taken_over(message: Msg<Carried>) -> Msg<Stream>
     ensures { plain_message result ≡ message_of (λ s. s) message }
 {
-    match message {
-        Msg::New(stream) => Msg::New(stream),
-        Msg::Attach {
-            input,
-            parcel,
-            feed,
-            factors,
-        } => Msg::Attach {
-            input,
-            parcel: parcel.stream,
-            feed,
-            factors,
-        },
-        Msg::Detach { input } => Msg::Detach { input },
-        Msg::Write {
-            input,
-            seek,
-            offset,
-            frames,
-            bytes,
-        } => Msg::Write {
-            input,
-            seek,
-            offset,
-            frames,
-            bytes,
-        },
-        Msg::Cork { input, on } => Msg::Cork { input, on },
-        Msg::Flush { input } => Msg::Flush { input },
-        Msg::Trigger { input } => Msg::Trigger { input },
-        Msg::Prebuf { input } => Msg::Prebuf { input },
-        Msg::Drain { input, tag } => Msg::Drain { input, tag },
-        Msg::Attr { input, attr } => Msg::Attr { input, attr },
-        Msg::Factors(factors) => Msg::Factors(factors),
-        Msg::Query { input, tag } => Msg::Query { input, tag },
-    }
+    message.with_parcel(|carried| carried.stream)
 }
 
 /// A notice of a sink's mixer as the core takes it: a stream that leaves is carried. Takes no memory.
 pub(crate) fn handed_over(notice: Notice<Stream>) -> Notice<Carried>
     ensures { result ≡ notice_for (plain_notice notice) }
 {
-    match notice {
-        Notice::Request { input, frames } => Notice::Request { input, frames },
-        Notice::Overflow { input } => Notice::Overflow { input },
-        Notice::Underflow { input } => Notice::Underflow { input },
-        Notice::Started { input } => Notice::Started { input },
-        Notice::Drained { input, tag } => Notice::Drained { input, tag },
-        Notice::Detached { input, parcel } => Notice::Detached {
-            input,
-            parcel: Carried { stream: parcel },
-        },
-        Notice::Latency {
-            input,
-            tag,
-            write,
-            read,
-            buffered,
-            playing,
-            run,
-        } => Notice::Latency {
-            input,
-            tag,
-            write,
-            read,
-            buffered,
-            playing,
-            run,
-        },
-    }
+    notice.with_parcel(|stream| Carried { stream })
 }
