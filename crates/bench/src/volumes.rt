@@ -36,7 +36,7 @@ fn set_volumes(
 }
 
 // The same, of a new core.
-fn told(alloc: Global, inputs: u32, listeners: u32, commands: u32) -> Mem<u64> {
+fn notified(alloc: Global, inputs: u32, listeners: u32, commands: u32) -> Mem<u64> {
     let mut core = new_core(alloc)?;
     let messages = set_volumes(alloc, &mut core, inputs, listeners, commands);
     drop(core);
@@ -46,7 +46,7 @@ fn told(alloc: Global, inputs: u32, listeners: u32, commands: u32) -> Mem<u64> {
 /// Sets a volume of a core's inputs so often, each time of the next input, while so many clients listen to all that is told, and says
 /// how many messages waited for the sinks. Takes memory.
 pub fn volumes_line(alloc: Global, inputs: u32, commands: u32, listeners: u32) -> Mem<String> {
-    let messages = told(alloc, inputs, listeners, commands)?;
+    let messages = notified(alloc, inputs, listeners, commands)?;
     Ok(format!(in alloc;
         "{inputs} inputs, {listeners} listeners, {commands} volumes, {messages} messages"
     )?)

@@ -78,7 +78,7 @@ impl<E: Entry + Drop> MemRecorder<E> {
 impl<E: Entry + Drop> Recorder<E> for MemRecorder<E> {
     ghost use Rattle.std.specs.Prelude.{◌≤◌, Some};
 
-    ghost told = { λ r. Some r.held };
+    ghost visible = { λ r. Some r.held };
 
     ghost limit = { λ r. Some r.limit };
 
@@ -117,7 +117,7 @@ pub struct NoRecorder;
 impl Recorder<LaneEntry> for NoRecorder {
     ghost use Rattle.std.specs.Prelude.{None, ⊤};
 
-    ghost told = { λ r. None };
+    ghost visible = { λ r. None };
 
     ghost limit = { λ r. None };
 
@@ -141,7 +141,7 @@ impl Recorder<LaneEntry> for NoRecorder {
 impl Recorder<CoreEntry> for NoRecorder {
     ghost use Rattle.std.specs.Prelude.{None, ⊤};
 
-    ghost told = { λ r. None };
+    ghost visible = { λ r. None };
 
     ghost limit = { λ r. None };
 

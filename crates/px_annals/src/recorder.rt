@@ -29,7 +29,7 @@ pub enum RecordFault {
 /// ever falls. Source: own.
 pub trait Recorder<E: Entry> {
     /// The entries that it holds, in order, where it tells.
-    ghost told: { Self → Option (List E) };
+    ghost visible: { Self → Option (List E) };
 
     /// How much it may hold, where that is limited.
     ghost limit: { Self → Option Limit };
@@ -47,15 +47,15 @@ pub trait Recorder<E: Entry> {
     /// whatever is asked for; an entry that is let in may pass the limit.
     fn ready(&mut self, bytes: usize) -> Result<(), RecordFault>
         ensures ok { OnOk result (takes self.new bytes) }
-        ensures told { told self.new ≡ told self.old }
+        ensures visible { visible self.new ≡ visible self.old }
         ensures limit { limit self.new ≡ limit self.old }
-        ensures full { SaysFull result (limit self.old) (option_map (sizes_by E.bytes) (told self.old)) }
+        ensures full { SaysFull result (limit self.old) (option_map (sizes_by E.bytes) (visible self.old)) }
         ensures counts { ReadyCounts result (faults self.old) (faults self.new) (fulls self.old) (fulls self.new) };
 
     /// Holds one more entry, behind the others. Takes no memory.
     fn note(&mut self, entry: E)
         requires { takes self.old (E.bytes entry) }
-        ensures told { told self.new ≡ noted entry (told self.old) }
+        ensures visible { visible self.new ≡ noted entry (visible self.old) }
         ensures limit { limit self.new ≡ limit self.old }
         ensures faults { faults self.new ≡ faults self.old }
         ensures fulls { fulls self.new ≡ fulls self.old };

@@ -3,7 +3,7 @@ use Rattle.std.proofs.Common.{◌≡◌, ◌≢◌, inl, inr, ℕ, List, [], ◌
 use Rattle.std.proofs.lemmas.List.{append-nil}
 use Rattle.px_types.specs.declared.status.Status.{Status}
 use Rattle.px_types.specs.declared.status.Status.TheVariants as status
-use Rattle.px_ends.specs.Told.{before_taking, IsAtEnd, WhereTold}
+use Rattle.px_ends.specs.Visible.{before_taking, IsAtEnd, WhereVisible}
 use Rattle.px_header.specs.declared.header.Header.{Header}
 use Rattle.px_session.specs.declared.event.Event.{Event}
 use Rattle.px_session.specs.declared.event.Step.{Step}
@@ -113,9 +113,9 @@ at_end_is : (bytes left : List ℕ) → left ≡ [] → bytes ≡ bytes ++ left
 at_end_is bytes left end = sym (append-nil bytes) ∙ ap (λ (l : List ℕ). bytes ++ l) (sym end)
 
 -- all that the source had is played
-played_told : (bytes : List ℕ) (header : Header) (events : List Event) (before after : Option (List ℕ)) → before ≡ before_taking bytes after → IsAtEnd after → IsPlayed bytes header events → WhereTold before (λ all. IsPlayed all header events)
-played_told bytes header events before None same end p = subst (λ (b : Option (List ℕ)). WhereTold b (λ all. IsPlayed all header events)) (sym same) tt
-played_told bytes header events before (Some left) same end p = subst (λ (b : Option (List ℕ)). WhereTold b (λ all. IsPlayed all header events)) (sym same) (subst (λ (all : List ℕ). IsPlayed all header events) (at_end_is bytes left end) p)
+played_visible : (bytes : List ℕ) (header : Header) (events : List Event) (before after : Option (List ℕ)) → before ≡ before_taking bytes after → IsAtEnd after → IsPlayed bytes header events → WhereVisible before (λ all. IsPlayed all header events)
+played_visible bytes header events before None same end p = subst (λ (b : Option (List ℕ)). WhereVisible b (λ all. IsPlayed all header events)) (sym same) tt
+played_visible bytes header events before (Some left) same end p = subst (λ (b : Option (List ℕ)). WhereVisible b (λ all. IsPlayed all header events)) (sym same) (subst (λ (all : List ℕ). IsPlayed all header events) (at_end_is bytes left end) p)
 
 abbrev OkFor : Shown → Status → List ℕ → Type 0
 OkFor shown answered bytes = answered ≡ status.Ok → (header : Header) × (events : List Event) × (l : Lens) × IsPlayed bytes header events × (lens_of shown header.sinks ≡ Some l)
@@ -148,33 +148,33 @@ completes shown ending.ReadFault bytes ok refused unnamed read write other = abs
 completes shown ending.WriteFault bytes ok refused unnamed read write other = absurd (write refl)
 completes shown ending.Usage bytes ok refused unnamed read write other = absurd (other refl)
 
-ok_told : (shown : Shown) (answered : Status) (bytes : List ℕ) (before after : Ends) → before.left ≡ Some bytes → (answered ≡ status.Ok → PlayedWhole shown before after) → OkFor shown answered bytes
-ok_told shown answered bytes before after told ok is =
+ok_visible : (shown : Shown) (answered : Status) (bytes : List ℕ) (before after : Ends) → before.left ≡ Some bytes → (answered ≡ status.Ok → PlayedWhole shown before after) → OkFor shown answered bytes
+ok_visible shown answered bytes before after visible ok is =
     let w = ok is in
-    (w.header, w.events, w.lens, subst (λ (b : Option (List ℕ)). WhereTold b (λ all. IsPlayed all w.header w.events)) told (played_told w.bytes w.header w.events before.left after.left w.departed w.at_end w.played), w.looks)
+    (w.header, w.events, w.lens, subst (λ (b : Option (List ℕ)). WhereVisible b (λ all. IsPlayed all w.header w.events)) visible (played_visible w.bytes w.header w.events before.left after.left w.departed w.at_end w.played), w.looks)
 
-refused_told : (shown : Shown) (answered : Status) (bytes : List ℕ) (before after : Ends) → before.left ≡ Some bytes → (answered ≡ status.Refused → (refusal : Refusal) × WasRefused shown refusal before after) → RefusedFor shown answered bytes
-refused_told shown answered bytes before after told refused is =
+refused_visible : (shown : Shown) (answered : Status) (bytes : List ℕ) (before after : Ends) → before.left ≡ Some bytes → (answered ≡ status.Refused → (refusal : Refusal) × WasRefused shown refusal before after) → RefusedFor shown answered bytes
+refused_visible shown answered bytes before after visible refused is =
     let s = refused is in
-    (s.0, s.1.behind, s.1.given, subst (λ (b : Option (List ℕ)). WhereTold b (λ all. IsRefused all s.0 s.1.behind)) told s.1.whole, s.1.gives)
+    (s.0, s.1.behind, s.1.given, subst (λ (b : Option (List ℕ)). WhereVisible b (λ all. IsRefused all s.0 s.1.behind)) visible s.1.whole, s.1.gives)
 
-unnamed_told : (shown : Shown) (answered : Status) (bytes : List ℕ) (before after : Ends) → before.left ≡ Some bytes → (answered ≡ status.NoSuchSink → WasUnnamed shown before after) → UnnamedFor shown answered bytes
-unnamed_told shown answered bytes before after told unnamed is =
+unnamed_visible : (shown : Shown) (answered : Status) (bytes : List ℕ) (before after : Ends) → before.left ≡ Some bytes → (answered ≡ status.NoSuchSink → WasUnnamed shown before after) → UnnamedFor shown answered bytes
+unnamed_visible shown answered bytes before after visible unnamed is =
     let u = unnamed is in
-    (u.header, subst (λ (b : Option (List ℕ)). WhereTold b (λ all. HasHeader all u.header)) told u.whole, u.unnamed)
+    (u.header, subst (λ (b : Option (List ℕ)). WhereVisible b (λ all. HasHeader all u.header)) visible u.whole, u.unnamed)
 
-told_by : (left : Option (List ℕ)) (fact : List ℕ → Type 0) → ((bytes : List ℕ) → left ≡ Some bytes → fact bytes) → WhereTold left fact
-told_by None fact by = tt
-told_by (Some bytes) fact by = by bytes refl
+visible_by : (left : Option (List ℕ)) (fact : List ℕ → Type 0) → ((bytes : List ℕ) → left ≡ Some bytes → fact bytes) → WhereVisible left fact
+visible_by None fact by = tt
+visible_by (Some bytes) fact by = by bytes refl
 
 pub complete : (shown : Shown) (answered : Status) (before after : Ends) → (answered ≡ status.Ok → PlayedWhole shown before after) → (answered ≡ status.Refused → (refusal : Refusal) × WasRefused shown refusal before after)
     → (answered ≡ status.NoSuchSink → WasUnnamed shown before after)
-    → (answered ≡ status.ReadFault → ⊥) → (answered ≡ status.WriteFault → ⊥) → IsReplayStatus answered → WhereTold before.left (Completes shown answered)
+    → (answered ≡ status.ReadFault → ⊥) → (answered ≡ status.WriteFault → ⊥) → IsReplayStatus answered → WhereVisible before.left (Completes shown answered)
 complete shown answered before after ok refused unnamed read write among =
-    told_by before.left (Completes shown answered) (λ bytes told.
+    visible_by before.left (Completes shown answered) (λ bytes visible.
     (let e = among.0 in
     let is = among.2 in
-    let ok_there = subst (λ (s : Status). OkFor shown s bytes) is (ok_told shown answered bytes before after told ok) in
-    let refused_there = subst (λ (s : Status). RefusedFor shown s bytes) is (refused_told shown answered bytes before after told refused) in
-    let unnamed_there = subst (λ (s : Status). UnnamedFor shown s bytes) is (unnamed_told shown answered bytes before after told unnamed) in
+    let ok_there = subst (λ (s : Status). OkFor shown s bytes) is (ok_visible shown answered bytes before after visible ok) in
+    let refused_there = subst (λ (s : Status). RefusedFor shown s bytes) is (refused_visible shown answered bytes before after visible refused) in
+    let unnamed_there = subst (λ (s : Status). UnnamedFor shown s bytes) is (unnamed_visible shown answered bytes before after visible unnamed) in
     subst (λ (s : Status). Completes shown s bytes) (sym is) (completes shown e bytes ok_there refused_there unnamed_there (λ f. read (is ∙ f)) (λ f. write (is ∙ f)) among.1)))

@@ -1,6 +1,6 @@
 -- What an event that the world has done leaves, once its records are written.
 use Rattle.std.proofs.Common.{◌≡◌, ◌≢◌, inl, ℕ, List, Option, None, Some, refl, ap, subst, ◌∙◌}
-use Rattle.px_ends.specs.Told.{after_adding}
+use Rattle.px_ends.specs.Visible.{after_adding}
 use Rattle.px_ends.specs.Whole.{AddsFront}
 use Rattle.px_session.specs.declared.event.Event.{Event}
 use Rattle.px_world.specs.declared.fault.WorldFault.{WorldFault}

@@ -3,10 +3,10 @@ use Rattle.std.proofs.lemmas.Bool.{false≢true}
 use Rattle.std.proofs.Common.{◌≡◌, inl, inr, ℕ, List, [], ◌++◌, true, false, Option, None, Some, Result, Ok, Err, OnOk, OnErr, is_ok, is_err, refl, sym, ap, subst, ◌∙◌, append_assoc}
 use Rattle.std.proofs.lemmas.List.{append_cancel_left}
 use Rattle.std.proofs.lemmas.Option.{same_Some}
-use Rattle.px_ends.specs.Told.{after_adding}
+use Rattle.px_ends.specs.Visible.{after_adding}
 use Rattle.px_ends.specs.Whole.{AddsFront}
 use Rattle.px_ends.specs.declared.whole.WriteFailed.{WriteFailed}
-use Rattle.px_ends.proofs.ToldBytes.{adding_nothing, adding_both}
+use Rattle.px_ends.proofs.VisibleBytes.{adding_nothing, adding_both}
 use Rattle.px_app.specs.declared.ending.Ending.{Ending}
 use Rattle.px_app.specs.declared.ending.Ending.TheVariants as ending
 use Rattle.px_app.specs.declared.refusal.Refusal.{Refusal}
@@ -51,8 +51,8 @@ grew_first first = ([], sym (adding_nothing first))
 
 -- what was held before, what was written of it since, what waits: a front of that was written, and all of it together is a front of what is given
 module _ (given waiting front rest : List ℕ) where
-  cut_told : (b : List ℕ) (grown : List ℕ) (all more : List ℕ) → given ≡ all ++ more → (b ++ grown) ++ waiting ≡ b ++ all → waiting ≡ front ++ rest → given ≡ (grown ++ front) ++ (rest ++ more)
-  cut_told b grown all more joined same split =
+  cut_visible : (b : List ℕ) (grown : List ℕ) (all more : List ℕ) → given ≡ all ++ more → (b ++ grown) ++ waiting ≡ b ++ all → waiting ≡ front ++ rest → given ≡ (grown ++ front) ++ (rest ++ more)
+  cut_visible b grown all more joined same split =
       let whole : grown ++ waiting ≡ all = append_cancel_left b (grown ++ waiting) all (sym (append_assoc b grown waiting) ∙ same) in
       joined
       ∙ ap (λ (t : List ℕ). t ++ more) (sym whole)
@@ -68,11 +68,11 @@ front_cut given waiting None held now grew all cut = record {
   held = cut.held ∙ ap (λ (h : Option (List ℕ)). after_adding h cut.front) grew.1;
 }
 front_cut given waiting (Some b) held now grew all cut =
-    let told : Some ((b ++ grew.0) ++ waiting) ≡ Some (b ++ all.front) = sym (ap (λ (h : Option (List ℕ)). after_adding h waiting) grew.1) ∙ all.held in
+    let visible : Some ((b ++ grew.0) ++ waiting) ≡ Some (b ++ all.front) = sym (ap (λ (h : Option (List ℕ)). after_adding h waiting) grew.1) ∙ all.held in
     record {
       front = grew.0 ++ cut.front;
       rest = cut.rest ++ all.rest;
-      joined = cut_told given waiting cut.front cut.rest b grew.0 all.front all.rest all.joined (same_Some ((b ++ grew.0) ++ waiting) (b ++ all.front) told) cut.joined;
+      joined = cut_visible given waiting cut.front cut.rest b grew.0 all.front all.rest all.joined (same_Some ((b ++ grew.0) ++ waiting) (b ++ all.front) visible) cut.joined;
       held = cut.held ∙ ap (λ (h : Option (List ℕ)). after_adding h cut.front) grew.1 ∙ adding_both grew.0 cut.front (Some b);
     }
 

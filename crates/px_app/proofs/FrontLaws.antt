@@ -1,9 +1,9 @@
 -- Fronts of what is written in two parts.
 use Rattle.std.proofs.Common.{◌≡◌, ℕ, List, [], ◌++◌, Option, refl, sym, ap, ◌∙◌, append_assoc}
 use Rattle.std.proofs.lemmas.List.{append-nil}
-use Rattle.px_ends.specs.Told.{after_adding}
+use Rattle.px_ends.specs.Visible.{after_adding}
 use Rattle.px_ends.specs.Whole.{AddsFront}
-use Rattle.px_ends.proofs.ToldBytes.{adding_nothing, adding_both}
+use Rattle.px_ends.proofs.VisibleBytes.{adding_nothing, adding_both}
 
 -- a front of the first part was added
 pub first_cut : (a b : List ℕ) (old now : Option (List ℕ)) → AddsFront a old now → AddsFront (a ++ b) old now

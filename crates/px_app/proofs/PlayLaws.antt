@@ -1,9 +1,9 @@
 -- What each step of a replay leaves.
 use Rattle.std.proofs.Common.{◌≡◌, inl, inr, ℕ, Bool, false, List, [], ◌∷◌, ◌++◌, Option, None, Some, Result, Ok, Err, OnOk, refl, sym, ap, subst, ◌∙◌}
-use Rattle.px_ends.specs.Told.{before_taking, after_adding, IsAtEnd}
+use Rattle.px_ends.specs.Visible.{before_taking, after_adding, IsAtEnd}
 use Rattle.px_types.specs.Faults.{Rose}
 use Rattle.px_ends.specs.Whole.{AddsFront}
-use Rattle.px_ends.proofs.ToldBytes.{taking_both, adding_nothing, adding_both}
+use Rattle.px_ends.proofs.VisibleBytes.{taking_both, adding_nothing, adding_both}
 use Rattle.px_header.specs.declared.header.Header.{Header}
 use Rattle.px_session.specs.declared.event.Event.{Event}
 use Rattle.px_session.specs.declared.event.Step.{Step}
@@ -37,7 +37,7 @@ use Rattle.px_app.specs.Refusal.{of_bytes, of_event}
 use Rattle.px_app.specs.Session.{IsPlayed, Begins}
 use Rattle.px_app.specs.Summary.{tally_by, tallied}
 use Rattle.px_app.specs.View.{Shown, lens_of, part_of, parts_by, ending_of, last_part, output_by}
-use Rattle.px_app.specs.Ends.{Ends, AreQuiet, KeptOrRose}
+use Rattle.px_app.specs.Ends.{Ends, AreQuiet, SameOrRose}
 use Rattle.px_app.specs.Replay.{WasUnnamed, PlayedFront, InputPlayed, InputCounted}
 use Rattle.px_app.specs.Step.{unread, Closes, EventDone, EventCut, EventPlayed, Reached, Stepped}
 use Rattle.px_app.proofs.FrontLaws.{second_cut, whole_front, no_front}
@@ -78,21 +78,21 @@ first_err place f e =
 
 -- nothing was gained
 pub nothing_played : (shown : Shown) (bytes : List ℕ) (before after : Ends) → before.left ≡ before_taking bytes after.left → after.held ≡ before.held → PlayedFront shown before after
-nothing_played shown bytes before after departed kept = record { bytes = bytes; given = []; departed = departed; gives = inl refl; gained = no_front [] before.held after.held kept }
+nothing_played shown bytes before after departed same_held = record { bytes = bytes; given = []; departed = departed; gives = inl refl; gained = no_front [] before.held after.held same_held }
 
 abbrev new_reader : Reader
 new_reader = record { at = 0; ahead = []; begun = false }
 
 unread_first : (shown : Shown) (new : Reader) (e : ReadError) (before after : Ends) → Takes (Err e) new_reader new before.left after.left → after.held ≡ before.held → InputPlayed shown (unread e) before after
-unread_first shown new (error.Refused at c) before after t kept =
+unread_first shown new (error.Refused at c) before after t same_held =
     was_refused shown t.taken (of_bytes (record { at = at; cause = c })) None [] before after t.departed
     (inl ((record { at = at; cause = c }, first_err (start_of t.taken) (record { at = at; cause = c }) t.stepped, refl), refl)) refl
-    (ended_early at c after.left t.ended) (kept ∙ sym (adding_nothing before.held))
-unread_first shown new error.Failed before after t kept = nothing_played shown t.taken before after t.departed kept
-unread_first shown new error.NoMemory before after t kept = nothing_played shown t.taken before after t.departed kept
+    (ended_early at c after.left t.ended) (same_held ∙ sym (adding_nothing before.held))
+unread_first shown new error.Failed before after t same_held = nothing_played shown t.taken before after t.departed same_held
+unread_first shown new error.NoMemory before after t same_held = nothing_played shown t.taken before after t.departed same_held
 
 pub new_unread : (shown : Shown) (old new : Reader) (e : ReadError) (before after : Ends) → IsNew old → Takes (Err e) old new before.left after.left → after.held ≡ before.held → InputPlayed shown (unread e) before after
-new_unread shown old new e before after is t kept = unread_first shown new e before after (subst (λ (r : Reader). Takes (Err e) r new before.left after.left) is t) kept
+new_unread shown old new e before after is t same_held = unread_first shown new e before after (subst (λ (r : Reader). Takes (Err e) r new before.left after.left) is t) same_held
 
 abbrev TookHeader : Reader → Reader → Header → Option (List ℕ) → Option (List ℕ) → Type 0
 TookHeader old new h before after = Takes (Ok (step.Header h)) old new before after
@@ -101,13 +101,13 @@ as_first : (old new : Reader) (h : Header) (before after : Option (List ℕ)) �
 as_first old new h before after is t = subst (λ (r : Reader). TookHeader r new h before after) is t
 
 pub new_unnamed : (shown : Shown) (old new : Reader) (h : Header) (before after : Ends) → IsNew old → TookHeader old new h before.left after.left → lens_of shown h.sinks ≡ None → after.held ≡ before.held → WasUnnamed shown before after
-new_unnamed shown old new h before after is took unnamed kept =
+new_unnamed shown old new h before after is took unnamed same_held =
     let t = as_first old new h before.left after.left is took in
-    was_unnamed shown t.taken h before after t.departed (place_with new new.ahead, header_first (start_of t.taken) h (place_with new new.ahead) t.stepped.0) unnamed kept
+    was_unnamed shown t.taken h before after t.departed (place_with new new.ahead, header_first (start_of t.taken) h (place_with new new.ahead) t.stepped.0) unnamed same_held
 
 pub new_reached : (shown : Shown) (playing : Playing) (old : Reader) (before after : Ends) → IsNew old → TookHeader old playing.reader playing.header before.left after.left → lens_of shown playing.header.sinks ≡ Some playing.lens
     → StandsFor playing.world (new_world playing.header) → playing.tally ≡ tally_by (new_world playing.header) [] → after.held ≡ before.held → Reached shown playing before after
-new_reached shown playing old before after is took looks stands counted kept =
+new_reached shown playing old before after is took looks stands counted same_held =
     let t = as_first old playing.reader playing.header before.left after.left is took in
     let here = place_with playing.reader playing.reader.ahead in
     record {
@@ -124,7 +124,7 @@ new_reached shown playing old before after is took looks stands counted kept =
       looks = looks;
       stands = stands;
       counted = counted;
-      gained = kept ∙ sym (adding_nothing before.held) ∙ ap (after_adding before.held) (sym (parts-none playing.lens (new_world playing.header)));
+      gained = same_held ∙ sym (adding_nothing before.held) ∙ ap (after_adding before.held) (sym (parts-none playing.lens (new_world playing.header)));
     }
 
 -- ---- what was taken behind the bytes that were read before
@@ -150,26 +150,26 @@ module _ (shown : Shown) (playing : Playing) (new : Reader) (first now after : E
   parts = parts_by playing.lens (new_world playing.header) r.events
 
   -- no event was played
-  kept_front : (taken : List ℕ) → now.left ≡ before_taking taken after.left → after.held ≡ now.held → PlayedFront shown first after
-  kept_front taken departed kept = record {
+  unplayed_front : (taken : List ℕ) → now.left ≡ before_taking taken after.left → after.held ≡ now.held → PlayedFront shown first after
+  unplayed_front taken departed same_held = record {
     bytes = all_of taken;
     given = parts;
     departed = both_departed taken departed;
     gives = inr (inl (playing.header, r.events, here_of taken, playing.lens, begins_so taken, r.looks, refl));
-    gained = whole_front parts first.held after.held (kept ∙ r.gained);
+    gained = whole_front parts first.held after.held (same_held ∙ r.gained);
   }
 
   as_event : (taken : List ℕ) (x : Result (Step × Place) Broken) → step_at playing.reader.begun (here_of taken) ≡ x → event_at (here_of taken) ≡ x
   as_event taken x e = subst (λ (b : Bool). step_at b (here_of taken) ≡ x) r.begun e
 
   pub stop_read : (e : ReadError) → Takes (Err e) playing.reader new now.left after.left → after.held ≡ now.held → InputPlayed shown (unread e) first after
-  stop_read (error.Refused at c) t kept =
+  stop_read (error.Refused at c) t same_held =
       was_refused shown (all_of t.taken) (of_bytes (record { at = at; cause = c })) (Some (playing.header, r.events)) parts first after (both_departed t.taken t.departed)
       (inr (playing.header, r.events, here_of t.taken, begins_so t.taken, inl (record { at = at; cause = c }, as_event t.taken (Err (record { at = at; cause = c })) t.stepped, refl), refl))
       (playing.lens, r.looks, refl)
-      (ended_early at c after.left t.ended) (kept ∙ r.gained)
-  stop_read error.Failed t kept = kept_front t.taken t.departed kept
-  stop_read error.NoMemory t kept = kept_front t.taken t.departed kept
+      (ended_early at c after.left t.ended) (same_held ∙ r.gained)
+  stop_read error.Failed t same_held = unplayed_front t.taken t.departed same_held
+  stop_read error.NoMemory t same_held = unplayed_front t.taken t.departed same_held
 
   -- what stands behind the last event, by what was counted and the world that stands
   last_is : ending_of playing.lens playing.tally playing.header.sinks playing.world.mixers ≡ last_part playing.lens playing.header r.events
@@ -253,7 +253,7 @@ module _ (shown : Shown) (playing : Playing) (new : Reader) (first now after : E
           (inr (playing.header, r.events, here_of t.taken, begins_so t.taken, inr (e, place_with new new.ahead, played.0, read, played.1, played.2), refl))
           (playing.lens, r.looks, refl)
           (λ early. absurd (event_not_early playing.reader.at e played.0 refusal played.2 early)) (played.3 ∙ r.gained)
-      go_on (Err ending.Memory) tally (inl kept) = kept_front t.taken t.departed kept
+      go_on (Err ending.Memory) tally (inl same_held) = unplayed_front t.taken t.departed same_held
       go_on (Err ending.Memory) tally (inr cut) = cut_front cut
       go_on (Err ending.WriteFault) tally played = absurd played
       go_on (Err ending.Done) tally played = absurd played
@@ -265,7 +265,7 @@ module _ (shown : Shown) (playing : Playing) (new : Reader) (first now after : E
 
 -- where no call had failed before, those counted are the same from the first on
 pub counted_from : (ended : Ending) (first now after : Ends) → AreQuiet first now → InputCounted ended now after → InputCounted ended first after
-counted_from ending.ReadFault first now after quiet counted = (subst (λ (n : ℕ). Rose n after.read_faults) quiet.0 counted.0, subst (λ (n : ℕ). KeptOrRose n after.write_faults) quiet.1 counted.1)
+counted_from ending.ReadFault first now after quiet counted = (subst (λ (n : ℕ). Rose n after.read_faults) quiet.0 counted.0, subst (λ (n : ℕ). SameOrRose n after.write_faults) quiet.1 counted.1)
 counted_from ending.WriteFault first now after quiet counted = (counted.0 ∙ quiet.0, subst (λ (n : ℕ). Rose n after.write_faults) quiet.1 counted.1)
 counted_from ending.Done first now after quiet counted = (counted.0 ∙ quiet.0, counted.1 ∙ quiet.1)
 counted_from (ending.Refused refusal) first now after quiet counted = (counted.0 ∙ quiet.0, counted.1 ∙ quiet.1)

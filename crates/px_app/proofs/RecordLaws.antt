@@ -7,7 +7,7 @@ use Rattle.px_session.specs.declared.event.Event.{Event}
 use Rattle.px_session.specs.declared.event.Event.TheVariants.{Connect, Bytes, Close, Cut, Turn, Collect}
 use Rattle.px_session.specs.declared.output.OutRecord.TheVariants as written
 use Rattle.px_session.specs.Output.{record_of}
-use Rattle.px_plan.specs.declared.sending.Reason.{Reason}
+use Rattle.px_outcome.specs.declared.sending.Reason.{Reason}
 use Rattle.px_state.specs.declared.effect.Effect.{Effect}
 use Rattle.px_state.specs.declared.effect.Effect.TheVariants as effect
 use Rattle.px_frame.specs.Descriptor.{descriptor_bytes, control_descriptor}

@@ -1,6 +1,6 @@
 -- What is refused stays so, whatever follows, and is no session that is played.
 use Rattle.std.proofs.Common.{◌≡◌, inl, inr, ℕ, List, [], ◌++◌, Option, None, Some, sym, ap, subst, ◌∙◌}
-use Rattle.px_ends.specs.Told.{before_taking, after_adding, IsAtEnd, WhereTold}
+use Rattle.px_ends.specs.Visible.{before_taking, after_adding, IsAtEnd, WhereVisible}
 use Rattle.px_header.specs.declared.header.Header.{Header}
 use Rattle.px_session.specs.declared.event.Event.{Event}
 use Rattle.px_session.specs.declared.fault.Cause.TheVariants as cause
@@ -36,9 +36,9 @@ refused_more bytes refusal before behind (inl none) ends = inl (none_more bytes 
 refused_more bytes refusal before behind (inr s) ends = inr (s.0, s.1, more s.2 behind, begins_more bytes s.0 s.1 s.2 behind s.3, stops_more s.0 s.1 s.2 refusal behind s.4 ends, s.5)
 
 -- all that the source had is refused, where it tells
-refused_told : (bytes : List ℕ) (refusal : Refusal) (events : Before) (before after : Option (List ℕ)) → before ≡ before_taking bytes after → IsRefused bytes refusal events → (IsEarly refusal → IsAtEnd after) → WhereTold before (λ all. IsRefused all refusal events)
-refused_told bytes refusal events before None same is ends = subst (λ (b : Option (List ℕ)). WhereTold b (λ all. IsRefused all refusal events)) (sym same) tt
-refused_told bytes refusal events before (Some left) same is ends = subst (λ (b : Option (List ℕ)). WhereTold b (λ all. IsRefused all refusal events)) (sym same) (refused_more bytes refusal events left is ends)
+refused_visible : (bytes : List ℕ) (refusal : Refusal) (events : Before) (before after : Option (List ℕ)) → before ≡ before_taking bytes after → IsRefused bytes refusal events → (IsEarly refusal → IsAtEnd after) → WhereVisible before (λ all. IsRefused all refusal events)
+refused_visible bytes refusal events before None same is ends = subst (λ (b : Option (List ℕ)). WhereVisible b (λ all. IsRefused all refusal events)) (sym same) tt
+refused_visible bytes refusal events before (Some left) same is ends = subst (λ (b : Option (List ℕ)). WhereVisible b (λ all. IsRefused all refusal events)) (sym same) (refused_more bytes refusal events left is ends)
 
 pub was_refused : (shown : Shown) (bytes : List ℕ) (refusal : Refusal) (events : Before) (given : List ℕ) (before after : Ends) → before.left ≡ before_taking bytes after.left → IsRefused bytes refusal events → GivenBefore shown events given → (IsEarly refusal → IsAtEnd after.left) → after.held ≡ after_adding before.held given
     → WasRefused shown refusal before after
@@ -50,7 +50,7 @@ was_refused shown bytes refusal events given before after departed is gives ends
   gives = gives;
   departed = departed;
   at_end = ends;
-  whole = refused_told bytes refusal events before.left after.left departed is ends;
+  whole = refused_visible bytes refusal events before.left after.left departed is ends;
   gained = gained;
 }
 
@@ -59,17 +59,17 @@ was_refused shown bytes refusal events given before after departed is gives ends
 has_more : (bytes : List ℕ) (header : Header) (behind : List ℕ) → HasHeader bytes header → HasHeader (bytes ++ behind) header
 has_more bytes header behind has = (more has.0 behind, header_more (start_of bytes) header has.0 behind has.1)
 
-has_told : (bytes : List ℕ) (header : Header) (before after : Option (List ℕ)) → before ≡ before_taking bytes after → HasHeader bytes header → WhereTold before (λ all. HasHeader all header)
-has_told bytes header before None same has = subst (λ (b : Option (List ℕ)). WhereTold b (λ all. HasHeader all header)) (sym same) tt
-has_told bytes header before (Some left) same has = subst (λ (b : Option (List ℕ)). WhereTold b (λ all. HasHeader all header)) (sym same) (has_more bytes header left has)
+has_visible : (bytes : List ℕ) (header : Header) (before after : Option (List ℕ)) → before ≡ before_taking bytes after → HasHeader bytes header → WhereVisible before (λ all. HasHeader all header)
+has_visible bytes header before None same has = subst (λ (b : Option (List ℕ)). WhereVisible b (λ all. HasHeader all header)) (sym same) tt
+has_visible bytes header before (Some left) same has = subst (λ (b : Option (List ℕ)). WhereVisible b (λ all. HasHeader all header)) (sym same) (has_more bytes header left has)
 
 pub was_unnamed : (shown : Shown) (bytes : List ℕ) (header : Header) (before after : Ends) → before.left ≡ before_taking bytes after.left → HasHeader bytes header → lens_of shown header.sinks ≡ None → after.held ≡ before.held → WasUnnamed shown before after
-was_unnamed shown bytes header before after departed has unnamed kept = record {
+was_unnamed shown bytes header before after departed has unnamed same_held = record {
   bytes = bytes;
   header = header;
   head = has;
   unnamed = unnamed;
   departed = departed;
-  whole = has_told bytes header before.left after.left departed has;
-  gained = kept;
+  whole = has_visible bytes header before.left after.left departed has;
+  gained = same_held;
 }

@@ -2,14 +2,14 @@
 use Rattle.std.proofs.Common.{◌≡◌, ◌≢◌, ◌⊎◌, inl, inr, refl, subst, ◌∙◌}
 use Rattle.px_types.specs.declared.status.Status.{Status}
 use Rattle.px_types.specs.declared.status.Status.TheVariants as status
-use Rattle.px_ends.specs.Told.{after_adding, WhereTold}
+use Rattle.px_ends.specs.Visible.{after_adding, WhereVisible}
 use Rattle.px_types.specs.Faults.{Rose}
 use Rattle.px_ends.specs.Whole.{AddsFront}
 use Rattle.px_app.specs.declared.refusal.Refusal.{Refusal}
 use Rattle.px_app.specs.declared.ending.Ending.{Ending}
 use Rattle.px_app.specs.declared.ending.Ending.TheVariants as ending
 use Rattle.px_app.specs.Refusal.{refusal_line}
-use Rattle.px_app.specs.Ends.{Ends, Log, AreQuiet, KeptOrRose}
+use Rattle.px_app.specs.Ends.{Ends, Log, AreQuiet, SameOrRose}
 use Rattle.px_app.specs.View.{Shown}
 use Rattle.px_app.specs.Ending.{status_of, line_of, IsRefusal, IsRunStatus, IsReplayStatus}
 use Rattle.px_app.specs.Report.{Says, Reported}
@@ -55,7 +55,7 @@ module _ (ended : Ending) (answered : Status) (before after : Ends) (log_before 
       ] in
       (q.0, q.1, s.quiet)
 
-  pub read_fault_so : answered ≡ status.ReadFault → Rose before.read_faults after.read_faults × KeptOrRose before.write_faults after.write_faults × (log_after.faults ≡ log_before.faults)
+  pub read_fault_so : answered ≡ status.ReadFault → Rose before.read_faults after.read_faults × SameOrRose before.write_faults after.write_faults × (log_after.faults ≡ log_before.faults)
   read_fault_so is =
       let s = report.ended_read_fault ended answered log_before log_after reported is in
       let c = subst (λ (e : Ending). InputCounted e before after) s.0 counted in
@@ -107,7 +107,7 @@ module _ (shown : Shown) (answered : Status) (before after : Ends) (log_before l
   pub quiet_by : answered ≢ status.ReadFault → answered ≢ status.WriteFault → (after.read_faults ≡ before.read_faults) × (after.write_faults ≡ before.write_faults) × (log_after.faults ≡ log_before.faults)
   quiet_by = quiet_so x.ended answered before after log_before log_after x.counted x.reported
 
-  pub read_fault_by : answered ≡ status.ReadFault → Rose before.read_faults after.read_faults × KeptOrRose before.write_faults after.write_faults × (log_after.faults ≡ log_before.faults)
+  pub read_fault_by : answered ≡ status.ReadFault → Rose before.read_faults after.read_faults × SameOrRose before.write_faults after.write_faults × (log_after.faults ≡ log_before.faults)
   read_fault_by = read_fault_so x.ended answered before after log_before log_after x.counted x.reported
 
   pub line_by : answered ≢ status.WriteFault → (e : Ending) × (answered ≡ status_of e) × (log_after.held ≡ after_adding log_before.held (line_of e))
@@ -127,7 +127,7 @@ module _ (shown : Shown) (answered : Status) (before after : Ends) (log_before l
     ])
   ]
 
-  pub complete_by : (Rose before.read_faults after.read_faults → ⊥) → (Rose before.write_faults after.write_faults → ⊥) → (Rose log_before.faults log_after.faults → ⊥) → WhereTold before.left (Completes shown answered)
+  pub complete_by : (Rose before.read_faults after.read_faults → ⊥) → (Rose before.write_faults after.write_faults → ⊥) → (Rose log_before.faults log_after.faults → ⊥) → WhereVisible before.left (Completes shown answered)
   complete_by read written reported =
       complete shown answered before after ok_by (λ is. (let s = refused_by is in (s.0, s.1))) no_such_sink_by (λ is. read (read_fault_by is).0)
       (λ is. elim (write_fault_by is) [

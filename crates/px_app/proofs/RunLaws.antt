@@ -4,14 +4,14 @@ use Rattle.std.proofs.lemmas.Option.{same_Some}
 use Rattle.px_types.specs.declared.status.Status.{Status}
 use Rattle.px_types.specs.declared.status.Status.TheVariants as status
 use Rattle.px_types.specs.Faults.{Rose}
-use Rattle.px_ends.specs.Told.{after_adding}
+use Rattle.px_ends.specs.Visible.{after_adding}
 use Rattle.px_ends.specs.Whole.{AddsFront}
 use Rattle.px_gen.specs.Generator.{generated}
 use Rattle.px_app.specs.declared.refusal.Refusal.{Refusal}
 use Rattle.px_app.specs.declared.ending.Ending.{Ending}
 use Rattle.px_app.specs.declared.ending.Ending.TheVariants as ending
 use Rattle.px_app.specs.Refusal.{refusal_line}
-use Rattle.px_app.specs.Ends.{Ends, Log, KeptOrRose}
+use Rattle.px_app.specs.Ends.{Ends, Log, SameOrRose}
 use Rattle.px_app.specs.Ending.{status_of, line_of, IsRunStatus}
 use Rattle.px_app.specs.Report.{Says, Reported}
 use Rattle.px_app.specs.View.{Shown}
@@ -148,7 +148,7 @@ module _ (texts : List (List ℕ)) (answered : Status) (before after : Ends) (lo
     read_fault_done (Replay shown) d is = (shown, refl)
     read_fault_done (Gen number count) d is = absurd (ends_with number count answered before after log_before log_after d ending.ReadFault (report.ended_read_fault d.ended answered log_before log_after d.reported is).0)
 
-    pub read_fault_run : answered ≡ status.ReadFault → (shown : Shown) × Means texts (Replay shown) × Rose before.read_faults after.read_faults × KeptOrRose before.write_faults after.write_faults × (log_after.faults ≡ log_before.faults)
+    pub read_fault_run : answered ≡ status.ReadFault → (shown : Shown) × Means texts (Replay shown) × Rose before.read_faults after.read_faults × SameOrRose before.write_faults after.write_faults × (log_after.faults ≡ log_before.faults)
     read_fault_run is = elim x [
       | inl done ↦ (let s = read_fault_done done.0 done.2 is in
           let h = does_end done.0 done.2 in

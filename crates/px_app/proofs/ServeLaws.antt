@@ -15,11 +15,11 @@ use Rattle.px_app.specs.Tape.{Output}
 pub not_both : (e : WordsFault) → e ≡ fault.Usage → e ≡ fault.NoMemory → ⊥
 not_both e usage memory = cc
 
-module _ {D R C : Type 0} (core_told : C → Option (List CoreEntry)) (core_faults core_fulls : C → ℕ) (now : D → DeviceState) (told : R → Option (List LaneEntry)) (faults fulls : R → ℕ) where
+module _ {D R C : Type 0} (core_visible : C → Option (List CoreEntry)) (core_faults core_fulls : C → ℕ) (now : D → DeviceState) (visible : R → Option (List LaneEntry)) (faults fulls : R → ℕ) where
   -- what is served with the options of the words is served by the words
   pub served_by : (texts : List (List ℕ)) (said : ServeWords) (end : ServeEnd) (before after : HostState D R C) (out_before out_after : Output) → IsSaid texts said
-      → ServesWith core_told core_faults core_fulls now told faults fulls said end before after out_before out_after
-      → ServesBy core_told core_faults core_fulls now told faults fulls texts end before after out_before out_after
+      → ServesWith core_visible core_faults core_fulls now visible faults fulls said end before after out_before out_after
+      → ServesBy core_visible core_faults core_fulls now visible faults fulls texts end before after out_before out_after
   served_by texts said Usage before after out_before out_after is serves = absurd serves
   served_by texts said (Refused at cause) before after out_before out_after is serves = (said, is, serves)
   served_by texts said (Ended answered) before after out_before out_after is serves = inr (said, is, serves)

@@ -1,7 +1,7 @@
 -- The ends of the outside that a run has, as their traits tell of them: bytes, where they are told, and how many calls have failed.
 use Rattle.std.specs.Prelude.{◌≡◌, ◌⊎◌, ℕ, List, Option}
 use Rattle.px_types.specs.Faults.{Rose}
-use Rattle.px_ends.specs.Told.{after_adding}
+use Rattle.px_ends.specs.Visible.{after_adding}
 
 -- the input and the output
 pub record Ends : Type 0 where
@@ -29,8 +29,8 @@ abbrev pub AreQuiet : Ends → Ends → Type 0
 AreQuiet before after = (after.read_faults ≡ before.read_faults) × (after.write_faults ≡ before.write_faults)
 
 -- a count that rose, or didn't
-abbrev pub KeptOrRose : ℕ → ℕ → Type 0
-KeptOrRose before now = (now ≡ before) ⊎ Rose before now
+abbrev pub SameOrRose : ℕ → ℕ → Type 0
+SameOrRose before now = (now ≡ before) ⊎ Rose before now
 
 -- what is held has only grown
 abbrev pub Grew : Option (List ℕ) → Option (List ℕ) → Type 0

@@ -2,7 +2,7 @@
 use Rattle.std.specs.Prelude.{◌≡◌, ◌⊎◌, ℕ, List, [], Option, None, Some}
 use Rattle.px_types.specs.declared.status.Status.{Status}
 use Rattle.px_types.specs.declared.status.Status.TheVariants as status
-use Rattle.px_ends.specs.Told.{before_taking, after_adding, IsAtEnd, WhereTold}
+use Rattle.px_ends.specs.Visible.{before_taking, after_adding, IsAtEnd, WhereVisible}
 use Rattle.px_types.specs.Faults.{Rose}
 use Rattle.px_ends.specs.Whole.{AddsFront}
 use Rattle.px_header.specs.declared.header.Header.{Header}
@@ -17,7 +17,7 @@ use Rattle.px_app.specs.declared.ending.Ending.{Ending}
 use Rattle.px_app.specs.declared.ending.Ending.TheVariants as ending
 use Rattle.px_app.specs.declared.view.Lens.{Lens}
 use Rattle.px_app.specs.View.{Shown, lens_of, parts_by, output_by}
-use Rattle.px_app.specs.Ends.{Ends, Log, AreQuiet, KeptOrRose}
+use Rattle.px_app.specs.Ends.{Ends, Log, AreQuiet, SameOrRose}
 use Rattle.px_app.specs.Report.{Reported}
 use Rattle.px_app.specs.Session.{IsPlayed, Begins, Before, IsRefused, HasHeader}
 
@@ -49,7 +49,7 @@ pub record WasRefused (shown : Shown) (refusal : Refusal) (before after : Ends) 
   pub departed : before.left ≡ before_taking bytes after.left
   -- an early end is told only where the source has ended
   pub at_end : refusal.why ≡ why.Session Truncated → IsAtEnd after.left
-  pub whole : WhereTold before.left (λ all. IsRefused all refusal behind)
+  pub whole : WhereVisible before.left (λ all. IsRefused all refusal behind)
   pub gained : after.held ≡ after_adding before.held given
 
 -- A header was read, none of whose sinks has the name that was asked for, and no event. The output gained nothing.
@@ -59,7 +59,7 @@ pub record WasUnnamed (shown : Shown) (before after : Ends) : Type 0 where
   pub head : HasHeader bytes header
   pub unnamed : lens_of shown header.sinks ≡ None
   pub departed : before.left ≡ before_taking bytes after.left
-  pub whole : WhereTold before.left (λ all. HasHeader all header)
+  pub whole : WhereVisible before.left (λ all. HasHeader all header)
   pub gained : after.held ≡ before.held
 
 -- what bytes give: nothing before a header, then what is shown of the events that were read, and all of it where the source has ended
@@ -89,7 +89,7 @@ InputPlayed shown ending.Usage before after = ⊥
 
 -- Of the input and the output the end whose call failed has counted it. Behind a read that failed the write of what still waited may have failed too.
 abbrev pub InputCounted : Ending → Ends → Ends → Type 0
-InputCounted ending.ReadFault before after = Rose before.read_faults after.read_faults × KeptOrRose before.write_faults after.write_faults
+InputCounted ending.ReadFault before after = Rose before.read_faults after.read_faults × SameOrRose before.write_faults after.write_faults
 InputCounted ending.WriteFault before after = (after.read_faults ≡ before.read_faults) × Rose before.write_faults after.write_faults
 InputCounted other before after = AreQuiet before after
 

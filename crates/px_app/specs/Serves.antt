@@ -8,7 +8,7 @@ use Rattle.px_annals.specs.declared.entry.LaneEntry.{LaneEntry}
 use Rattle.px_ends.specs.declared.host.ServeOptions.{ServeOptions}
 use Rattle.px_ends.specs.Device.{DeviceState}
 use Rattle.px_ends.specs.Host.{HostState, FailsOnce, started_by}
-use Rattle.px_ends.specs.Told.{WhereTold}
+use Rattle.px_ends.specs.Visible.{WhereVisible}
 use Rattle.px_session.specs.declared.event.Event.{Event}
 use Rattle.px_header.specs.declared.header.Header.{Header}
 use Rattle.px_header.specs.HeaderRules.{IsHeader}
@@ -34,7 +34,7 @@ pub record IsSaid (texts : List (List ℕ)) (said : ServeWords) : Type 0 where
 abbrev pub AreNone : List (List ℕ) → Type 0
 AreNone texts = Denied texts × ((said : ServeWords) → Plain texts said → ⊥)
 
-module _ {D R C : Type 0} (core_told : C → Option (List CoreEntry)) (core_faults core_fulls : C → ℕ) (now : D → DeviceState) (told : R → Option (List LaneEntry)) (faults fulls : R → ℕ) where
+module _ {D R C : Type 0} (core_visible : C → Option (List CoreEntry)) (core_faults core_fulls : C → ℕ) (now : D → DeviceState) (visible : R → Option (List LaneEntry)) (faults fulls : R → ℕ) where
   -- a serving call on the sinks of a header, after which the host took back all that was handed out, and the tape was written, where there is one
   pub record IsServing (header : Header) (taped : Bool) (before after : HostState D R C) (out_before out_after : Output) (answered : Status) : Type 0 where
     pub parts : List (LanePart D R)
@@ -43,8 +43,8 @@ module _ {D R C : Type 0} (core_told : C → Option (List CoreEntry)) (core_faul
     pub parts_state : HostState D R C
     pub ended : Status
     pub tape : Option (List Event)
-    pub served : IsServed core_told core_faults core_fulls now told faults fulls header before served_state ended parts core
-    pub recorded : HasTape told taped ended parts tape
+    pub served : IsServed core_visible core_faults core_fulls now visible faults fulls header before served_state ended parts core
+    pub recorded : HasTape visible taped ended parts tape
     pub written : WritesTape header tape out_before out_after ended answered
     pub parts_back : TakesParts now faults fulls parts served_state parts_state
     pub core_back : TakesCores core_faults core_fulls core parts_state after
@@ -59,11 +59,11 @@ module _ {D R C : Type 0} (core_told : C → Option (List CoreEntry)) (core_faul
   abbrev pub ServesWith : ServeWords → ServeEnd → HostState D R C → HostState D R C → Output → Output → Type 0
   ServesWith said Usage before after out_before out_after = ⊥
   ServesWith said (Refused at cause) before after out_before out_after =
-      (bytes : List ℕ) × WhereTold before.header (λ all. bytes ≡ all) × (header_of bytes ≡ Err (record { at = at; cause = cause })) × (after ≡ started_by said.options before)
+      (bytes : List ℕ) × WhereVisible before.header (λ all. bytes ≡ all) × (header_of bytes ≡ Err (record { at = at; cause = cause })) × (after ≡ started_by said.options before)
       × (out_after ≡ out_before)
   ServesWith said (Ended answered) before after out_before out_after =
       (IsEarly said.options answered before after × (out_after ≡ out_before))
-      ⊎ ((bytes : List ℕ) × (header : Header) × WhereTold before.header (λ all. bytes ≡ all) × (header_of bytes ≡ Ok header)
+      ⊎ ((bytes : List ℕ) × (header : Header) × WhereVisible before.header (λ all. bytes ≡ all) × (header_of bytes ≡ Ok header)
       × IsHeader header × IsServing header said.tape (started_by said.options before) after out_before out_after answered)
 
   -- by these words

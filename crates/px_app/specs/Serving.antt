@@ -7,7 +7,7 @@ use Rattle.px_annals.specs.declared.entry.CoreEntry.{CoreEntry}
 use Rattle.px_annals.specs.declared.entry.LaneEntry.{LaneEntry}
 use Rattle.px_ends.specs.Device.{DeviceState}
 use Rattle.px_ends.specs.Host.{HostState}
-use Rattle.px_ends.specs.Told.{after_adding}
+use Rattle.px_ends.specs.Visible.{after_adding}
 use Rattle.px_ends.specs.Whole.{AddsFront}
 use Rattle.px_app.specs.declared.serve.call.ServeEnd.{ServeEnd}
 use Rattle.px_app.specs.declared.serve.call.ServeEnd.TheVariants as serve
@@ -45,8 +45,8 @@ EndReported (serve.Refused at cause) answered before after = Reported (ending.Re
 EndReported (serve.Ended ended) answered before after = StatusReported ended answered before after
 
 -- it was served by these words, with a tape where they ask for one, and that was reported
-pub record Served {D R C : Type 0} (core_told : C → Option (List CoreEntry)) (core_faults core_fulls : C → ℕ) (now : D → DeviceState) (told : R → Option (List LaneEntry)) (faults fulls : R → ℕ)
+pub record Served {D R C : Type 0} (core_visible : C → Option (List CoreEntry)) (core_faults core_fulls : C → ℕ) (now : D → DeviceState) (visible : R → Option (List LaneEntry)) (faults fulls : R → ℕ)
     (texts : List (List ℕ)) (answered : Status) (before after : HostState D R C) (out_before out_after : Output) (log_before log_after : Log) : Type 0 where
   pub end : ServeEnd
-  pub serves : ServesBy core_told core_faults core_fulls now told faults fulls texts end before after out_before out_after
+  pub serves : ServesBy core_visible core_faults core_fulls now visible faults fulls texts end before after out_before out_after
   pub reported : EndReported end answered log_before log_after

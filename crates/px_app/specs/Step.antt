@@ -1,7 +1,7 @@
 -- How far a replay has come, and what reading and playing an event leaves.
 use Rattle.std.specs.Prelude.{◌≡◌, ◌⊎◌, ℕ, ◌≤◌, ◌*◌, ◌^◌, cond, nat_eq, Bool, true, false, List, [], ◌++◌, Option, None, Some, Result, Ok, Err, ⊤}
 use Rattle.std.specs.List.{flat_map}
-use Rattle.px_ends.specs.Told.{before_taking, after_adding}
+use Rattle.px_ends.specs.Visible.{before_taking, after_adding}
 use Rattle.px_types.specs.Faults.{Rose}
 use Rattle.px_ends.specs.Whole.{AddsFront}
 use Rattle.px_header.specs.declared.header.Header.{Header}

@@ -4,7 +4,7 @@ use Rattle.std.specs.List.{AllByRecursion}
 use Rattle.px_types.specs.declared.status.Status.{Status}
 use Rattle.px_types.specs.declared.status.Status.TheVariants as status
 use Rattle.px_types.specs.Faults.{Rose}
-use Rattle.px_ends.specs.Told.{after_adding}
+use Rattle.px_ends.specs.Visible.{after_adding}
 use Rattle.px_ends.specs.Whole.{AddsFront}
 use Rattle.px_session.specs.declared.event.Event.{Event}
 use Rattle.px_header.specs.declared.header.Header.{Header}

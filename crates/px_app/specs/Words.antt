@@ -2,7 +2,7 @@
 use Rattle.std.specs.Prelude.{◌≡◌, ◌⊎◌, ℕ, Bool, ◌+◌, ◌*◌, ◌-◌, ◌^◌, cond, ◌&&◌, nat_le, nat_lt, bytes_eq, List, [], ◌∷◌, Option, None, Some, codes}
 use Rattle.px_types.specs.declared.status.Status.{Status}
 use Rattle.px_types.specs.declared.status.Status.TheVariants as status
-use Rattle.px_ends.specs.Told.{after_adding, WhereTold}
+use Rattle.px_ends.specs.Visible.{after_adding, WhereVisible}
 use Rattle.px_ends.specs.Whole.{AddsFront}
 use Rattle.px_gen.specs.Generator.{generated}
 use Rattle.px_app.specs.declared.ending.Ending.{Ending}
@@ -136,5 +136,5 @@ DoneFront (Gen number count) before after = MadeFront number count before after
 
 -- the status where no read and no write fails
 abbrev pub DoneCompletes : Meaning → Status → Ends → Type 0
-DoneCompletes (Replay shown) answered before = WhereTold before.left (Completes shown answered)
+DoneCompletes (Replay shown) answered before = WhereVisible before.left (Completes shown answered)
 DoneCompletes (Gen number count) answered before = (answered ≡ status.Ok) ⊎ (answered ≡ status.Memory)

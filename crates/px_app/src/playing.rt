@@ -1,7 +1,7 @@
 //! A replay under way: the reader of the session, and the world that its events are played in.
 
 ghost use Rattle.std.specs.Prelude.{◌≡◌, ◌<◌, ◌≤◌, ◌^◌, ℕ, List, [], Option, true, ◌+◌, ◌-◌, IfOk, OnOk, IfErr};
-ghost use Rattle.px_ends.specs.Told.{after_adding};
+ghost use Rattle.px_ends.specs.Visible.{after_adding};
 ghost use Rattle.px_world.specs.World.{World as SpecWorld};
 ghost use Rattle.px_world.specs.Running.{StandsFor};
 ghost use Rattle.px_world.specs.Event.{effects_after};

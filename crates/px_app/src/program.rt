@@ -2,14 +2,14 @@
 
 ghost use Rattle.std.specs.Prelude.{◌≡◌, ◌⊎◌, ◌≢◌, true, false, map, string_bytes};
 ghost use Rattle.px_types.specs.declared.status.Status.{Status as Answered};
-ghost use Rattle.px_ends.specs.Told.{after_adding};
+ghost use Rattle.px_ends.specs.Visible.{after_adding};
 ghost use Rattle.px_types.specs.Faults.{Rose};
 ghost use Rattle.px_ends.specs.Whole.{AddsFront};
 ghost use Rattle.px_app.specs.declared.ending.Ending.{Ending as Ended};
 ghost use Rattle.px_app.specs.declared.ending.Ending.TheVariants as ending;
 ghost use Rattle.px_app.specs.declared.refusal.Refusal.{Refusal as Refused};
 ghost use Rattle.px_app.specs.Refusal.{refusal_line};
-ghost use Rattle.px_app.specs.Ends.{ends_of, log_end, KeptOrRose};
+ghost use Rattle.px_app.specs.Ends.{ends_of, log_end, SameOrRose};
 ghost use Rattle.px_app.specs.Ending.{status_of, line_of, IsRunStatus};
 ghost use Rattle.px_app.specs.Report.{Says};
 ghost use Rattle.px_app.specs.View.{Shown};
@@ -83,7 +83,7 @@ fn run_alone<S: Source, K: Sink, L: Sink>(
     ensures quiet { result ≢ Answered.ReadFault → result ≢ Answered.WriteFault
         → (S.faults input.new ≡ S.faults input.old) × (K.faults output.new ≡ K.faults output.old) × (L.faults log.new ≡ L.faults log.old) }
     ensures read_fault { result ≡ Answered.ReadFault → (shown : Shown) × Means (map string_bytes words.now) (Replay shown)
-        × Rose (S.faults input.old) (S.faults input.new) × KeptOrRose (K.faults output.old) (K.faults output.new) × (L.faults log.new ≡ L.faults log.old) }
+        × Rose (S.faults input.old) (S.faults input.new) × SameOrRose (K.faults output.old) (K.faults output.new) × (L.faults log.new ≡ L.faults log.old) }
     ensures line { result ≢ Answered.WriteFault → (ended : Ended) × (result ≡ status_of ended)
         × (L.held log.new ≡ after_adding (L.held log.old) (line_of ended)) }
     // A write of the output failed and the log has the line of it, or one of the log did, behind a front of the line of how it ended.
@@ -136,7 +136,7 @@ where
     H::C: 'static,
     // By the words of `serve` the host was started, served, and given back what it made, and the tape was written to the output, where the words ask
     // for one; nothing was read from the input.
-    ensures serve { is_serve (map string_bytes words.now) ≡ true → Served H.C.told H.C.faults H.C.fulls H.D.now H.R.told H.R.faults H.R.fulls
+    ensures serve { is_serve (map string_bytes words.now) ≡ true → Served H.C.visible H.C.faults H.C.fulls H.D.now H.R.visible H.R.faults H.R.fulls
         (map string_bytes words.now) result (H.now host.old) (H.now host.new)
         (out_end (K.held output.old) (K.faults output.old)) (out_end (K.held output.new) (K.faults output.new))
         (log_end (L.held log.old) (L.faults log.old)) (log_end (L.held log.new) (L.faults log.new)) }
@@ -168,7 +168,7 @@ where
     ensures quiet { is_serve (map string_bytes words.now) ≡ false → result ≢ Answered.ReadFault → result ≢ Answered.WriteFault
         → (S.faults input.new ≡ S.faults input.old) × (K.faults output.new ≡ K.faults output.old) × (L.faults log.new ≡ L.faults log.old) }
     ensures read_fault { is_serve (map string_bytes words.now) ≡ false → result ≡ Answered.ReadFault → (shown : Shown) × Means (map string_bytes words.now) (Replay shown)
-        × Rose (S.faults input.old) (S.faults input.new) × KeptOrRose (K.faults output.old) (K.faults output.new) × (L.faults log.new ≡ L.faults log.old) }
+        × Rose (S.faults input.old) (S.faults input.new) × SameOrRose (K.faults output.old) (K.faults output.new) × (L.faults log.new ≡ L.faults log.old) }
     ensures line { is_serve (map string_bytes words.now) ≡ false → result ≢ Answered.WriteFault → (ended : Ended) × (result ≡ status_of ended)
         × (L.held log.new ≡ after_adding (L.held log.old) (line_of ended)) }
     // A write of the output failed and the log has the line of it, or one of the log did, behind a front of the line of how it ended.

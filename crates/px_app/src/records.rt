@@ -2,7 +2,7 @@
 
 ghost use Rattle.std.specs.Prelude.{◌≡◌, ◌++◌, OnOk, OnErr};
 ghost use Rattle.std.specs.List.{flat_map};
-ghost use Rattle.px_ends.specs.Told.{after_adding};
+ghost use Rattle.px_ends.specs.Visible.{after_adding};
 ghost use Rattle.px_ends.specs.Whole.{AddsFront};
 ghost use Rattle.px_state.specs.Effect.{IsSendable, AreSendable};
 ghost use Rattle.px_world.specs.Output.{effect_record};

@@ -2,14 +2,14 @@
 
 ghost use Rattle.std.specs.Prelude.{◌≡◌, ◌⊎◌, ◌≢◌};
 ghost use Rattle.px_types.specs.declared.status.Status.{Status as Answered};
-ghost use Rattle.px_ends.specs.Told.{after_adding, WhereTold};
+ghost use Rattle.px_ends.specs.Visible.{after_adding, WhereVisible};
 ghost use Rattle.px_types.specs.Faults.{Rose};
 ghost use Rattle.px_ends.specs.Whole.{AddsFront};
 ghost use Rattle.px_app.specs.declared.ending.Ending.{Ending as Ended};
 ghost use Rattle.px_app.specs.declared.ending.Ending.TheVariants as ending;
 ghost use Rattle.px_app.specs.declared.refusal.Refusal.{Refusal as Refused};
 ghost use Rattle.px_app.specs.Refusal.{refusal_line};
-ghost use Rattle.px_app.specs.Ends.{ends_of, log_end, KeptOrRose};
+ghost use Rattle.px_app.specs.Ends.{ends_of, log_end, SameOrRose};
 ghost use Rattle.px_app.specs.Ending.{status_of, line_of, IsReplayStatus};
 ghost use Rattle.px_app.specs.Report.{Says};
 ghost use Rattle.px_app.specs.View.{shown_of};
@@ -76,7 +76,7 @@ pub fn replay<S: Source, K: Sink, L: Sink>(
     ensures quiet { result ≢ Answered.ReadFault → result ≢ Answered.WriteFault
         → (S.faults input.new ≡ S.faults input.old) × (K.faults output.new ≡ K.faults output.old) × (L.faults log.new ≡ L.faults log.old) }
     ensures read_fault { result ≡ Answered.ReadFault
-        → Rose (S.faults input.old) (S.faults input.new) × KeptOrRose (K.faults output.old) (K.faults output.new) × (L.faults log.new ≡ L.faults log.old) }
+        → Rose (S.faults input.old) (S.faults input.new) × SameOrRose (K.faults output.old) (K.faults output.new) × (L.faults log.new ≡ L.faults log.old) }
     ensures line { result ≢ Answered.WriteFault → (ended : Ended) × (result ≡ status_of ended)
         × (L.held log.new ≡ after_adding (L.held log.old) (line_of ended)) }
     // A write of the output failed and the log has the line of it, or one of the log did, behind a front of the line of how it ended.
@@ -91,7 +91,7 @@ pub fn replay<S: Source, K: Sink, L: Sink>(
     ensures others { IsReplayStatus result }
     // Where no read and no write fails, a session that is played ends so, unless memory ran out, and each other input is refused.
     ensures complete { ¬ Rose (S.faults input.old) (S.faults input.new) → ¬ Rose (K.faults output.old) (K.faults output.new)
-        → ¬ Rose (L.faults log.old) (L.faults log.new) → WhereTold (S.left input.old) (Completes (shown_of view.entry) result) }
+        → ¬ Rose (L.faults log.old) (L.faults log.new) → WhereVisible (S.left input.old) (Completes (shown_of view.entry) result) }
 {
     replay_by(alloc, view, input, output, log)
 }

@@ -4,31 +4,31 @@ use Rattle.std.specs.Prelude.{slice_index_or, slice_set}
 use Rattle.std.specs.List.{concat}
 use Rattle.std.proofs.lemmas.List.Folds.{concat-append}
 use Rattle.std.proofs.lemmas.List.{map-append, drop_more, get_or-map}
-use Rattle.px_block.specs.Kept.{KeptBlock, contents}
+use Rattle.px_block.specs.HeldBlock.{HeldBlock, contents}
 use Rattle.px_block.specs.Packed.{IsPacked, AreFull}
 
 -- the bytes of blocks and of one more
-pub contents_last : (blocks : List KeptBlock) (last : KeptBlock) → contents (blocks ++ last ∷ []) ≡ contents blocks ++ last.bytes ∷ []
-contents_last blocks last = map-append KeptBlock.bytes blocks (last ∷ [])
+pub contents_last : (blocks : List HeldBlock) (last : HeldBlock) → contents (blocks ++ last ∷ []) ≡ contents blocks ++ last.bytes ∷ []
+contents_last blocks last = map-append HeldBlock.bytes blocks (last ∷ [])
 
 -- there are as many
-pub length_contents : (blocks : List KeptBlock) → length (contents blocks) ≡ length blocks
+pub length_contents : (blocks : List HeldBlock) → length (contents blocks) ≡ length blocks
 length_contents [] = refl
 length_contents (b ∷ blocks) = omega (arith, length_contents blocks)
 
 -- another memory under the same bytes
-pub same_contents : (blocks : List KeptBlock) (i : ℕ) (b d : KeptBlock) → b.bytes ≡ (slice_index_or blocks i d).bytes → contents (slice_set blocks i b) ≡ contents blocks
+pub same_contents : (blocks : List HeldBlock) (i : ℕ) (b d : HeldBlock) → b.bytes ≡ (slice_index_or blocks i d).bytes → contents (slice_set blocks i b) ≡ contents blocks
 same_contents [] i b d e = refl
 same_contents (c ∷ blocks) zero b d e = ap (λ (bytes : List ℕ). bytes ∷ contents blocks) e
 same_contents (c ∷ blocks) (suc i) b d e = ap (λ (more : List (List ℕ)). c.bytes ∷ more) (same_contents blocks i b d e)
 
 -- the bytes of one, and of those behind it
-pub contents_from : (blocks : List KeptBlock) (i : ℕ) (b : KeptBlock) → i < length blocks → b ≡ slice_index_or blocks i b → contents (drop i blocks) ≡ b.bytes ∷ contents (drop (i + 1) blocks)
-contents_from blocks i b few is = ap contents (drop_more blocks i b few ∙ ap (λ (c : KeptBlock). c ∷ drop (i + 1) blocks) (sym is))
+pub contents_from : (blocks : List HeldBlock) (i : ℕ) (b : HeldBlock) → i < length blocks → b ≡ slice_index_or blocks i b → contents (drop i blocks) ≡ b.bytes ∷ contents (drop (i + 1) blocks)
+contents_from blocks i b few is = ap contents (drop_more blocks i b few ∙ ap (λ (c : HeldBlock). c ∷ drop (i + 1) blocks) (sym is))
 
 -- the bytes of one by its place
-pub content_at : (blocks : List KeptBlock) (i : ℕ) (b : KeptBlock) → i < length blocks → b ≡ slice_index_or blocks i b → b.bytes ≡ slice_index_or (contents blocks) i b.bytes
-content_at blocks i b few is = ap KeptBlock.bytes is ∙ sym (get_or-map KeptBlock.bytes blocks i b b.bytes few)
+pub content_at : (blocks : List HeldBlock) (i : ℕ) (b : HeldBlock) → i < length blocks → b ≡ slice_index_or blocks i b → b.bytes ≡ slice_index_or (contents blocks) i b.bytes
+content_at blocks i b few is = ap HeldBlock.bytes is ∙ sym (get_or-map HeldBlock.bytes blocks i b b.bytes few)
 
 -- the count of blocks follows from the count of bytes
 pub packed-count : (blocks : List (List ℕ)) → IsPacked blocks → length blocks ≡ (length (concat blocks) + 65535) / 65536

@@ -1,4 +1,4 @@
 pub mod Packed
-pub mod Kept
+pub mod HeldBlock
 pub mod Given
 pub mod Shelved

@@ -37,9 +37,9 @@ pub struct Block {
 impl Model for Block {
     ghost use Rattle.std.specs.Prelude.{◌≤◌, ◌-◌, min, vec_len, vec_capacity};
     ghost use Rattle.px_block.specs.declared.block.TheConstants.{BLOCK_SIZE};
-    ghost use Rattle.px_block.specs.Kept.{KeptBlock};
+    ghost use Rattle.px_block.specs.HeldBlock.{HeldBlock};
 
-    ghost Value = { KeptBlock };
+    ghost Value = { HeldBlock };
 
     ghost view = { λ b. record { bytes = b.bytes.items; room = min (vec_capacity b.bytes) BLOCK_SIZE - vec_len b.bytes } };
 

@@ -2,7 +2,7 @@
 
 ghost use Rattle.std.specs.Prelude.{◌≡◌, ℕ, ◌+◌, ◌*◌, ◌-◌, ◌%◌, ◌^◌, ◌<◌, ◌≤◌, ◌++◌, [], ◌∷◌, length, take, drop, min, vec_len, vec_capacity, IfOk, IfSome, OnOk, OnErr, OnSome, MatchOption};
 ghost use Rattle.std.specs.List.{concat};
-ghost use Rattle.px_block.specs.Kept.{contents};
+ghost use Rattle.px_block.specs.HeldBlock.{contents};
 ghost use Rattle.px_block.specs.Packed.{IsPacked, AreFull};
 ghost use Rattle.px_block.specs.Given.{after_giving, blocks_for};
 
@@ -24,7 +24,7 @@ pub struct Blocks {
 impl Model for Blocks {
     ghost use Rattle.std.specs.Prelude.{ℕ, List};
     ghost use Rattle.std.specs.List.{concat};
-    ghost use Rattle.px_block.specs.Kept.{contents};
+    ghost use Rattle.px_block.specs.HeldBlock.{contents};
     ghost use Rattle.px_block.specs.Packed.{IsPacked};
 
     ghost Value = { List ℕ };

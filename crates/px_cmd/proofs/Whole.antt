@@ -77,10 +77,10 @@ module _ (packet : List ℕ) (command tag : ℕ) (place : Place) (front : head_a
 
 module _ (view : Command → ℕ × List Field) (read : Result (ℕ × List Field) CmdFault) (command : Command) (after : Place)
     (means_it : end_at after ≡ Ok tt → read ≡ Ok (view command)) (fails_it : (fault : TagFault) → end_at after ≡ Err fault → read ≡ Err (Protocol fault)) where
-  pub closes : {Kept : Unit {0} → Command → Type 0} (keeps : (nothing : Unit {0}) (same : Command) → Kept nothing same → same ≡ command) (end : Result (Unit {0}) TagFault) (kept : Result Command TagFault) (result : Result Command CmdFault)
+  pub closes : {Held : Unit {0} → Command → Type 0} (keeps : (nothing : Unit {0}) (same : Command) → Held nothing same → same ≡ command) (end : Result (Unit {0}) TagFault) (held : Result Command TagFault) (result : Result Command CmdFault)
       → Gives {X = Unit {0}} {Y = Unit {0}} (λ nothing. nothing) end (end_at after)
-      → MatchResult end (λ nothing. IsOkAnd kept (λ same. Kept nothing same)) (λ fault. kept ≡ Err fault)
-      → MatchResult kept (λ same. result ≡ Ok same) (λ fault. IsErrAnd result (λ named. named ≡ Protocol fault))
+      → MatchResult end (λ nothing. IsOkAnd held (λ same. Held nothing same)) (λ fault. held ≡ Err fault)
+      → MatchResult held (λ same. result ≡ Ok same) (λ fault. IsErrAnd result (λ named. named ≡ Protocol fault))
       → Answers view result read
   closes keeps (Ok nothing) (Ok same) result e is given = rw (given, keeps nothing same is) (means_it e)
   closes keeps (Ok nothing) (Err fault) result e is given = absurd is

@@ -19,31 +19,31 @@ use Rattle.px_flat.proofs.Inputs.{rest_of, detached_in, length_factors}
 use Rattle.px_msg.specs.declared.factors.InputFactors.{InputFactors}
 use Rattle.px_msg.specs.View.{sample_spec, gains}
 use Rattle.px_msg.proofs.Sizes.{same_frame_size}
-use Rattle.px_plan.specs.declared.input.Input.{Input}
-use Rattle.px_plan.specs.declared.input.Standing.{Standing}
-use Rattle.px_plan.specs.declared.input.Standing.TheVariants.{Settled, Moving, Leaving}
-use Rattle.px_plan.specs.declared.input.Way.{Way}
-use Rattle.px_plan.specs.declared.input.Way.TheVariants.{Coming, There, Left}
-use Rattle.px_plan.specs.declared.change.Change.TheVariants.{Gone}
-use Rattle.px_plan.specs.Plan.{idle}
+use Rattle.px_outcome.specs.declared.input.Input.{Input}
+use Rattle.px_outcome.specs.declared.input.Standing.{Standing}
+use Rattle.px_outcome.specs.declared.input.Standing.TheVariants.{Settled, Moving, Leaving}
+use Rattle.px_outcome.specs.declared.input.Way.{Way}
+use Rattle.px_outcome.specs.declared.input.Way.TheVariants.{Coming, There, Left}
+use Rattle.px_outcome.specs.declared.change.Change.TheVariants.{Gone}
+use Rattle.px_outcome.specs.Outcome.{idle}
 use Rattle.px_ctl_play.specs.declared.data.Frames.{Frames}
 use Rattle.px_ctl_play.specs.Data.{are_frames, write, written, data_for}
 use Rattle.px_ctl_play.specs.Factors.{gains_of, factor_list, regrouped}
-use Rattle.px_ctl_play.specs.Told.{has_left, same_spec, gives_up, gone, left}
+use Rattle.px_ctl_play.specs.Notified.{has_left, same_spec, gives_up, gone, left}
 use Rattle.px_state.specs.State.{State, has_index, input_of, is_leaving, is_stream, stream_of, is_settled, settled_on}
 use Rattle.px_state.specs.Change.{changed, drop_first}
 use Rattle.px_core.specs.Grouped.{channels_there, IsGroupOf, paid}
-use Rattle.px_core.specs.Keeps.{IsInput, IsKept, IsRising, IsIncreasing, AllAbove}
+use Rattle.px_core.specs.Consistency.{IsInput, IsConsistent, IsRising, IsIncreasing, AllAbove}
 use Rattle.px_core.specs.Lawful.{Suits, HasLeft, Lawful, AreLawful, owed_for, IsPaid}
 use Rattle.px_core.specs.Notice.{is_on, input_on}
-use Rattle.px_state.specs.Plan.{Plan}
+use Rattle.px_state.specs.Outcome.{CoreOutcome}
 use Rattle.px_core.proofs.EntryLaws.{found_by_index}
 use Rattle.px_core.proofs.GroupLaws.{gone_there}
 use Rattle.px_core.proofs.ListLaws.{found_test, found_all}
 
--- the changes of a plan are lawful
-abbrev pub IsLawful : {P : Type 0} → State P → Plan P → Type 0
-IsLawful state plan = AreLawful state plan.changes
+-- the changes of an outcome are lawful
+abbrev pub IsLawful : {P : Type 0} → State P → CoreOutcome P → Type 0
+IsLawful state outcome = AreLawful state outcome.changes
 
 -- ---- data
 
@@ -146,7 +146,7 @@ without_it sink s inputs x group on here is = record {
       ∙ sym (subst (λ (n : SinkId). channels_there (drop_first (has_index x.index) inputs) n i ≡ cond (nat_eq x.index.0 i.0) (rest_of (channels_there inputs n i)) (channels_there inputs n i)) on (gone_there inputs x here i));
 }
 
-pub left_lawful : {P : Type 0} (spec_of : P → SampleSpec) (state : State P) → IsKept spec_of state → (sink : SinkId) (input : InputId) (spec : SampleSpec) (o : Option Input) → input_on state.inputs sink input ≡ o
+pub left_lawful : {P : Type 0} (spec_of : P → SampleSpec) (state : State P) → IsConsistent spec_of state → (sink : SinkId) (input : InputId) (spec : SampleSpec) (o : Option Input) → input_on state.inputs sink input ≡ o
     → IsLawful state (left o (slice_get state.groups sink.0) spec state.inputs)
 left_lawful spec_of state h sink input spec None e = tt
 left_lawful {P} spec_of state h sink input spec (Some x) e =

@@ -1,4 +1,4 @@
--- An input is on the sink that it moves to: the plan keeps what the state keeps.
+-- An input is on the sink that it moves to: the outcome keeps what the state keeps.
 use Rattle.std.proofs.Common.{◌≡◌, ◌⊎◌, inl, inr, ℕ, zero, suc, ◌<◌, ◌≤◌, List, [], ◌∷◌, ◌++◌, map, length, Option, Some, None, Bool, true, false, refl, ap, sym, subst, ◌∙◌, arith, cond}
 use Rattle.std.specs.Prelude.{◌&&◌, filter, nat_eq, not, replicate, slice_get, All, MatchOption, IfSome}
 use Rattle.std.specs.List.{AllByRecursion, find}
@@ -22,27 +22,27 @@ use Rattle.px_flat.proofs.Inputs.{rest_of, attached_in, attached_channels, attac
 use Rattle.px_msg.specs.declared.message.Msg.{Msg}
 use Rattle.px_msg.specs.declared.message.Msg.TheVariants.{Attach}
 use Rattle.px_msg.specs.View.{sample_spec}
-use Rattle.px_plan.specs.declared.change.Change.TheVariants.{Arrives, Released}
-use Rattle.px_plan.specs.declared.input.Connection.{Connection}
-use Rattle.px_plan.specs.declared.input.Input.{Input}
-use Rattle.px_plan.specs.declared.input.Standing.{Standing}
-use Rattle.px_plan.specs.declared.input.Standing.TheVariants.{Settled, Moving}
-use Rattle.px_plan.specs.declared.input.Way.TheVariants.{Left}
+use Rattle.px_outcome.specs.declared.change.Change.TheVariants.{Arrives, Released}
+use Rattle.px_outcome.specs.declared.input.Connection.{Connection}
+use Rattle.px_outcome.specs.declared.input.Input.{Input}
+use Rattle.px_outcome.specs.declared.input.Standing.{Standing}
+use Rattle.px_outcome.specs.declared.input.Standing.TheVariants.{Settled, Moving}
+use Rattle.px_outcome.specs.declared.input.Way.TheVariants.{Left}
 use Rattle.px_ctl_play.specs.Arrival.{joined_by, is_settled_with, settled_with, later, arrival_by}
 use Rattle.px_ctl_play.specs.Factors.{own_factors, regrouped}
 use Rattle.px_ctl_play.specs.Move.{feed_to}
-use Rattle.px_ctl_play.specs.Told.{same_spec}
+use Rattle.px_ctl_play.specs.Notified.{same_spec}
 use Rattle.px_sinks.specs.Sinks.{target_of}
 use Rattle.px_state.specs.declared.delayed.Delayed.{Delayed}
 use Rattle.px_state.specs.Delayed.{is_of, delayed_of, Suits, Waits, IsDelayed}
 use Rattle.px_state.specs.State.{State, has_index, input_of, is_settled, settled_on}
 use Rattle.px_state.specs.Change.{Change, change_first, drop_first, arrived_at, posted_to, arrives, arrives_of, arriving, releasing, releasing_of, changed, committed}
 use Rattle.px_core.specs.Grouped.{channels_there, IsGroupOf, paid}
-use Rattle.px_core.specs.Keeps.{IsFedAt, GoesTo, GoesThere, IsInput, IsKept, IsRising, AllAbove}
+use Rattle.px_core.specs.Consistency.{IsFedAt, GoesTo, GoesThere, IsInput, IsConsistent, IsRising, AllAbove}
 use Rattle.px_core.specs.Lawful.{IsReleased, AreReleased, AreLawfulOwing}
 use Rattle.px_core.specs.Notice.{is_on, owner_of, arrival_between, arrival_at, arrived_with}
 use Rattle.px_core.specs.Parcels.{carried_by}
-use Rattle.px_state.specs.Plan.{Plan}
+use Rattle.px_state.specs.Outcome.{CoreOutcome}
 use Rattle.px_core.proofs.ListLaws.{all_weaken, all_drop, found_all, found_test, same_passed}
 use Rattle.px_core.proofs.EntryLaws.{rising_change}
 use Rattle.px_core.proofs.MoveLaws.{arriving_keeps, brought_held}
@@ -52,13 +52,13 @@ use Rattle.px_core.proofs.StillLaws.{Still, suits_as, others_still}
 use Rattle.px_core.proofs.AnswerLaws.{IsLawful, rising_filter, regroups}
 use Rattle.px_core.proofs.CreateLaws.{sink_rules, own_fits}
 
--- ---- a plan whose first change is an arrival
+-- ---- an outcome whose first change is an arrival
 
-pub record IsArrival {P : Type 0} (spec_of : P → SampleSpec) (state : State P) (plan : Plan P) (given : List P) : Type 0 where
+pub record IsArrival {P : Type 0} (spec_of : P → SampleSpec) (state : State P) (outcome : CoreOutcome P) (given : List P) : Type 0 where
   pub index : InputId
   pub message : Msg P
   pub behind : List (Change P)
-  pub changes : plan.changes ≡ Arrives index message ∷ behind
+  pub changes : outcome.changes ≡ Arrives index message ∷ behind
   -- the parcel is the one that was given up
   pub carried : given ≡ carried_by message
   pub to : SinkId
@@ -72,12 +72,12 @@ pub record IsArrival {P : Type 0} (spec_of : P → SampleSpec) (state : State P)
   pub lawful : AreLawfulOwing owed after behind
   pub still : Still (committed after behind)
 
-pub arrival_committed : {P : Type 0} (spec_of : P → SampleSpec) (state : State P) (plan : Plan P) (given : List P) (a : IsArrival spec_of state plan given) → committed state plan.changes ≡ committed a.after a.behind
-arrival_committed {P} spec_of state plan given a = ap (committed state) a.changes ∙ ap (λ (s : State P). committed s a.behind) a.arrives
+pub arrival_committed : {P : Type 0} (spec_of : P → SampleSpec) (state : State P) (outcome : CoreOutcome P) (given : List P) (a : IsArrival spec_of state outcome given) → committed state outcome.changes ≡ committed a.after a.behind
+arrival_committed {P} spec_of state outcome given a = ap (committed state) a.changes ∙ ap (λ (s : State P). committed s a.behind) a.arrives
 
--- a plan is sound where it is lawful, or an arrival
-abbrev pub IsSound : {P : Type 0} → (P → SampleSpec) → State P → Plan P → List P → Type 0
-IsSound spec_of state plan given = IsLawful state plan ⊎ IsArrival spec_of state plan given
+-- an outcome is sound where it is lawful, or an arrival
+abbrev pub IsSound : {P : Type 0} → (P → SampleSpec) → State P → CoreOutcome P → List P → Type 0
+IsSound spec_of state outcome given = IsLawful state outcome ⊎ IsArrival spec_of state outcome given
 
 -- ---- inputs by their index, where one comes to another sink
 
@@ -250,7 +250,7 @@ module _ {P : Type 0} (x : Input) where
       let more = all_released n (changed state (Released x.index)) (still_here state here) in
       (more.0 ∙ one.0, more.1 ∙ ap (λ (ds : List (Delayed P)). drops n x.index ds) one.1)
 
--- ---- the plan
+-- ---- the outcome
 
 none_owed : (a b : SinkId) → paid b (paid a (a ∷ b ∷ [])) ≡ []
 none_owed a b = ap (λ c. paid b (cond (not c) (a ∷ paid a (b ∷ [])) (paid a (b ∷ [])))) (eq-eqb a.0 a.0 refl) ∙ by (nat_eq b.0 a.0)
@@ -265,7 +265,7 @@ spec_is a b e =
     let second = and_parts (nat_eq a.format b.format) (nat_eq a.channels b.channels) first.0 in
     λ i. record { format = eqb-true a.format b.format second.0 i; channels = eqb-true a.channels b.channels second.1 i; rate = eqb-true a.rate b.rate first.1 i }
 
-module _ {P : Type 0} (spec_of : P → SampleSpec) (state : State P) (h : IsKept spec_of state) (x : Input) (to : SinkId) (parcel : P)
+module _ {P : Type 0} (spec_of : P → SampleSpec) (state : State P) (h : IsConsistent spec_of state) (x : Input) (to : SinkId) (parcel : P)
     (here : input_of state.inputs x.index ≡ Some x) (moves : x.standing ≡ Moving to) (left : x.way ≡ Left) (same : spec_of parcel ≡ sample_spec x.spec) where
   is : IsInput state.sinks state.inputs_made x
   is = found_all (IsInput state.sinks state.inputs_made) (has_index x.index) state.inputs x h.steady.inputs here
@@ -375,8 +375,8 @@ module _ {P : Type 0} (spec_of : P → SampleSpec) (state : State P) (h : IsKept
         (drops_all (IsDelayed state.inputs) waited x.index state.delayed h.still)
         (none_left waited x.index state.delayed refl)))
 
-    arrival_is : (plan : Plan P) → plan.changes ≡ Arrives x.index message ∷ later x (detached x.index from) to joined state.inputs waited → IsArrival spec_of state plan (parcel ∷ [])
-    arrival_is plan e = record {
+    arrival_is : (outcome : CoreOutcome P) → outcome.changes ≡ Arrives x.index message ∷ later x (detached x.index from) to joined state.inputs waited → IsArrival spec_of state outcome (parcel ∷ [])
+    arrival_is outcome e = record {
       index = x.index;
       message = message;
       behind = later x (detached x.index from) to joined state.inputs waited;

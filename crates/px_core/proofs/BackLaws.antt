@@ -14,14 +14,14 @@ use Rattle.px_model.specs.Frame.{SampleSpec}
 use Rattle.px_msg.specs.declared.message.Msg.{Msg}
 use Rattle.px_msg.specs.declared.message.Msg.TheVariants.{New, Attach, Detach, Write, Cork, Flush, Trigger, Prebuf, Drain, Attr, Factors, Query}
 use Rattle.px_msg.specs.View.{sample_spec}
-use Rattle.px_plan.specs.declared.input.Input.{Input}
-use Rattle.px_plan.specs.declared.input.Way.{Way}
-use Rattle.px_plan.specs.declared.input.Way.TheVariants.{Coming, There, Left}
+use Rattle.px_outcome.specs.declared.input.Input.{Input}
+use Rattle.px_outcome.specs.declared.input.Way.{Way}
+use Rattle.px_outcome.specs.declared.input.Way.TheVariants.{Coming, There, Left}
 use Rattle.px_state.specs.State.{State, has_index}
 use Rattle.px_state.specs.Change.{change_first}
 use Rattle.px_core.specs.Orderly.{spec_in, specs_of, is_held_by, is_there}
 use Rattle.px_state.specs.Out.{first_of, rest_of, next_for, on_way, with_way, inputs_past, inputs_before, past, handed_out, put_back, Roomy, room_for, room_past, with_more_room, with_less_room, sent, unsent, sent_by, unsent_by}
-use Rattle.px_core.specs.Keeps.{AreInStep, IsSteady, IsKept, IsRising, is_coming_to, is_coming, brought_of, messages_out}
+use Rattle.px_core.specs.Consistency.{AreInStep, IsSteady, IsConsistent, IsRising, is_coming_to, is_coming, brought_of, messages_out}
 use Rattle.px_core.proofs.EntryLaws.{first_brought, Found, found_in, get_in}
 use Rattle.px_core.proofs.ChangeLaws.{sink_at}
 use Rattle.px_core.proofs.HandingLaws.{sink_there, list_there, some_of, out_keeps}
@@ -142,11 +142,11 @@ all_back {P} spec_of sink (suc n) core h = step (all_back spec_of sink n (sent s
 
 -- ---- the message that a core has handed out
 
-pub whole_back : {P : Type 0} (spec_of : P → SampleSpec) (core now : Roomy P) (sink : SinkId) (r : Option (Msg P)) → IsKept spec_of core.state → r ≡ next_for core.state sink → now ≡ sent sink core → IfSome r (λ m. unsent sink m now ≡ core)
+pub whole_back : {P : Type 0} (spec_of : P → SampleSpec) (core now : Roomy P) (sink : SinkId) (r : Option (Msg P)) → IsConsistent spec_of core.state → r ≡ next_for core.state sink → now ≡ sent sink core → IfSome r (λ m. unsent sink m now ≡ core)
 whole_back spec_of core now sink None h e after = tt
 whole_back spec_of core now sink (Some m) h e after = ap (unsent sink m) after ∙ one_back spec_of core sink m h.steady (sym e)
 
-pub kept_back : {P : Type 0} (spec_of : P → SampleSpec) (core now : Roomy P) (sink : SinkId) (r : Option (Msg P)) → IsKept spec_of core.state → r ≡ next_for core.state sink → now ≡ sent sink core → IfSome r (λ m. IsKept spec_of (put_back sink m now.state))
-kept_back spec_of core now sink None h e after = tt
-kept_back {P} spec_of core now sink (Some m) h e after =
-    subst (IsKept spec_of) (sym (ap (λ (c : Roomy P). c.state) (whole_back spec_of core now sink (Some m) h e after))) h
+pub back_consistent : {P : Type 0} (spec_of : P → SampleSpec) (core now : Roomy P) (sink : SinkId) (r : Option (Msg P)) → IsConsistent spec_of core.state → r ≡ next_for core.state sink → now ≡ sent sink core → IfSome r (λ m. IsConsistent spec_of (put_back sink m now.state))
+back_consistent spec_of core now sink None h e after = tt
+back_consistent {P} spec_of core now sink (Some m) h e after =
+    subst (IsConsistent spec_of) (sym (ap (λ (c : Roomy P). c.state) (whole_back spec_of core now sink (Some m) h e after))) h

@@ -18,15 +18,15 @@ use Rattle.px_msg.specs.declared.message.Msg.{Msg}
 use Rattle.px_msg.specs.declared.message.Msg.TheVariants.{New, Detach}
 use Rattle.px_msg.specs.declared.message.NewStream.{NewStream}
 use Rattle.px_msg.specs.View.{sample_spec}
-use Rattle.px_plan.specs.declared.input.Input.{Input}
-use Rattle.px_plan.specs.declared.input.Standing.{Standing}
-use Rattle.px_plan.specs.declared.input.Standing.TheVariants.{Settled, Moving, Leaving}
-use Rattle.px_plan.specs.declared.input.Way.TheVariants.{Coming, Left}
+use Rattle.px_outcome.specs.declared.input.Input.{Input}
+use Rattle.px_outcome.specs.declared.input.Standing.{Standing}
+use Rattle.px_outcome.specs.declared.input.Standing.TheVariants.{Settled, Moving, Leaving}
+use Rattle.px_outcome.specs.declared.input.Way.TheVariants.{Coming, Left}
 use Rattle.px_state.specs.State.{State, has_index, input_of, belongs_to, stays_on, is_bound_for, is_settled, bound_for, settled_on}
 use Rattle.px_state.specs.Change.{change_first, drop_first, leaving, with_attr, posting, without_standing, ending}
 use Rattle.px_ctl_play.specs.Asked.{MOST_ON_SINK}
 use Rattle.px_core.specs.Orderly.{entry_of, spec_in, specs_of, is_held_by, is_there}
-use Rattle.px_core.specs.Keeps.{AreInStep, AreAllInStep, IsInput, IsSteady, IsRising, IsPosted, is_coming_to, is_coming, brought_of}
+use Rattle.px_core.specs.Consistency.{AreInStep, AreAllInStep, IsInput, IsSteady, IsRising, IsPosted, is_coming_to, is_coming, brought_of}
 use Rattle.px_core.proofs.ListLaws.{same_passed, same_left, no_more_pass, fewer_pass, all_change, all_drop, all_push, all_weaken, found_all}
 use Rattle.px_core.proofs.EntryLaws.{get_in, here_in, in_same, removed, pushed, pushed_in, none_below, few_specs, rising_change, rising_drop, rising_push}
 use Rattle.px_core.proofs.InStepLaws.{view, unmoved, posted}
@@ -90,17 +90,17 @@ fewer_settled k inputs = fewer_pass (is_settled (sink_at k)) (is_bound_for (sink
 -- ---- a message that leaves the inputs as they are
 
 -- what it asks of the inputs of a sink
-pub record Tells {P : Type 0} (spec_of : P → SampleSpec) (spec : SampleSpec) (there : Inputs) (m : Msg P) : Type 0 where
+pub record IsPostable {P : Type 0} (spec_of : P → SampleSpec) (spec : SampleSpec) (there : Inputs) (m : Msg P) : Type 0 where
   pub brings : (i : ℕ) → brought_of spec_of i m ≡ []
   pub names : NamesInput there (view m)
   pub fits : Fits spec_of spec there (view m)
   pub left : inputs_left spec_of there (view m) ≡ there
   pub is_posted : IsPosted m
 
-pub telling_keeps : {P : Type 0} (spec_of : P → SampleSpec) (state : State P) (sink : SinkId) (m : Msg P) → IsSteady spec_of state → sink.0 < length state.sinks
-    → ((s : SinkSpec) → slice_get state.sinks sink.0 ≡ Some s → Tells spec_of (sample_spec s.spec) (specs_of (settled_on state.inputs sink)) m)
+pub posting_keeps : {P : Type 0} (spec_of : P → SampleSpec) (state : State P) (sink : SinkId) (m : Msg P) → IsSteady spec_of state → sink.0 < length state.sinks
+    → ((s : SinkSpec) → slice_get state.sinks sink.0 ≡ Some s → IsPostable spec_of (sample_spec s.spec) (specs_of (settled_on state.inputs sink)) m)
     → IsSteady spec_of (posting sink.0 m state)
-telling_keeps spec_of state sink m h there tells = record {
+posting_keeps spec_of state sink m h there postable = record {
   sinks = h.sinks;
   distinct = h.distinct;
   rising = h.rising;
@@ -109,7 +109,7 @@ telling_keeps spec_of state sink m h there tells = record {
   lists = length-set state.posted sink.0 (get_or state.posted sink.0 [] ++ m ∷ []) ∙ h.lists;
   in_step = set_in_step spec_of state.sinks state.inputs state.posted sink.0 (get_or state.posted sink.0 [] ++ m ∷ []) (subst (λ n. sink.0 < n) (sym h.lists) there)
       (λ s e.
-      let it = tells s e in
+      let it = postable s e in
       posted spec_of (sink_at sink.0) s state.inputs state.inputs (get_or state.posted sink.0 []) m refl
       (λ i. sym (append-nil (option_to_list (spec_in (is_coming_to (sink_at sink.0)) i state.inputs))) ∙ ap (λ more. option_to_list (spec_in (is_coming_to (sink_at sink.0)) i state.inputs) ++ more) (sym (it.brings i)))
       it.names it.fits it.left it.is_posted (h.in_step sink.0 s e).few (h.in_step sink.0 s e))

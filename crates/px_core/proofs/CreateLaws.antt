@@ -21,14 +21,14 @@ use Rattle.px_model.specs.Frame.{SampleSpec}
 use Rattle.px_model.specs.Orderly.{IsPlayable, IsRepaired, IsNewStream}
 use Rattle.px_msg.specs.Repair.{UNSET, MAXLENGTH, repaired, frames_asked, between_one_and, maxlength_of, tlength_of, minreq_of, prebuf_of}
 use Rattle.px_msg.specs.View.{sample_spec}
-use Rattle.px_plan.specs.declared.input.Connection.{Connection}
-use Rattle.px_plan.specs.declared.input.Input.{Input}
+use Rattle.px_outcome.specs.declared.input.Connection.{Connection}
+use Rattle.px_outcome.specs.declared.input.Input.{Input}
 use Rattle.px_state.specs.State.{State, is_settled, settled_on, bound_for}
 use Rattle.px_state.specs.Change.{changed}
-use Rattle.px_plan.specs.declared.change.Change.TheVariants.{Made}
-use Rattle.px_plan.specs.declared.target.Target.{Target}
-use Rattle.px_plan.specs.declared.target.Named.{Named}
-use Rattle.px_plan.specs.Target.{target_of as target_in}
+use Rattle.px_outcome.specs.declared.change.Change.TheVariants.{Made}
+use Rattle.px_outcome.specs.declared.target.Target.{Target}
+use Rattle.px_outcome.specs.declared.target.Named.{Named}
+use Rattle.px_outcome.specs.Target.{target_of as target_in}
 use Rattle.px_ctl_play.specs.Asked.{format_on, channels_on, positions_on, spec_on, attr_on, is_lawful, is_supported, feed_on, has_room, MOST_ON_SINK}
 use Rattle.px_ctl_play.specs.Create.{input_made, new_of}
 use Rattle.px_ctl_play.specs.Factors.{own_factors}
@@ -41,11 +41,11 @@ use Rattle.px_flat.proofs.Inputs.{attached_in, attached_channels, attached_there
 use Rattle.px_ctl_play.proofs.Passed.{IsCreated, create_passed}
 use Rattle.px_core.specs.Command.{create_named}
 use Rattle.px_core.specs.Grouped.{channels_there, IsGroupOf}
-use Rattle.px_state.specs.Plan.{Plan}
+use Rattle.px_state.specs.Outcome.{CoreOutcome}
 use Rattle.px_sinks.specs.Sinks.{group_of, group_named}
-use Rattle.px_core.proofs.RowLaws.{Each, each_by}
+use Rattle.px_core.proofs.HandledLaws.{Each, each_by}
 use Rattle.px_sinks.proofs.Sinks.{IsThere}
-use Rattle.px_core.specs.Keeps.{IsInput, IsKept, IsRising}
+use Rattle.px_core.specs.Consistency.{IsInput, IsConsistent, IsRising}
 use Rattle.px_core.specs.Lawful.{IsNew}
 use Rattle.px_core.proofs.ListLaws.{all_weaken}
 use Rattle.px_core.proofs.EntryLaws.{rising_push}
@@ -198,10 +198,10 @@ joined_is sink s inputs a feed x group on count is = record {
       ∙ sym (subst (λ (n : SinkId). channels_there (inputs ++ x ∷ []) n i ≡ channels_there inputs n i ++ cond (nat_eq x.index.0 i.0) (x.spec.channels ∷ []) []) on (made_there inputs x i));
 }
 
--- ---- the row
+-- ---- the handler
 
-module _ {P : Type 0} (spec_of : P → SampleSpec) (state : State P) (h : IsKept spec_of state) (me : Connection) (tag : ℕ) (named : Named) (a : CreateFields) (plan : Plan P)
-    (made : IsCreated state.inputs state.inputs_made me tag named (group_named state.groups named) a plan) (it : IsThere state.sinks made.sink) where
+module _ {P : Type 0} (spec_of : P → SampleSpec) (state : State P) (h : IsConsistent spec_of state) (me : Connection) (tag : ℕ) (named : Named) (a : CreateFields) (outcome : CoreOutcome P)
+    (made : IsCreated state.inputs state.inputs_made me tag named (group_named state.groups named) a outcome) (it : IsThere state.sinks made.sink) where
   abbrev x : Input
   x = input_made state.inputs_made me made.sink a
 
@@ -261,15 +261,15 @@ module _ {P : Type 0} (spec_of : P → SampleSpec) (state : State P) (h : IsKept
   rising = rising_push (settled_on state.inputs made.sink.index) x (rising_filter (is_settled made.sink.index) state.inputs h.steady.rising) (all_filter (λ y. (Input.index y).0 < state.inputs_made) (is_settled made.sink.index) state.inputs
       (all_weaken (IsInput state.sinks state.inputs_made) (λ y. (Input.index y).0 < state.inputs_made) (λ y i. i.given) state.inputs h.steady.inputs))
 
-  created_lawful : IsLawful state plan
+  created_lawful : IsLawful state outcome
   created_lawful =
-      subst (IsLawful state) (sym made.planned)
+      subst (IsLawful state) (sym made.handled)
       ((new, refl), (regroups (changed state (Made x (new_of a after made.feed x) (me.streams + 1) (state.inputs_made + 1))) made.sink.index after there follows (settled_on state.inputs made.sink.index ++ x ∷ []) rising, (tt, is_paid made.sink.index)))
 
-pub create_lawful : {P : Type 0} (spec_of : P → SampleSpec) (state : State P) → IsKept spec_of state → (me : Connection) (tag : ℕ) (named : Named) (a : CreateFields) → ((target : Target) → target_in named ≡ Some target → IsThere state.sinks target)
+pub create_lawful : {P : Type 0} (spec_of : P → SampleSpec) (state : State P) → IsConsistent spec_of state → (me : Connection) (tag : ℕ) (named : Named) (a : CreateFields) → ((target : Target) → target_in named ≡ Some target → IsThere state.sinks target)
     → Each (IsLawful state) (create_named state me tag a named)
 create_lawful {P} spec_of state h me tag named a there =
     each_by (IsLawful state) (create_named state me tag a named)
-    (λ plan e.
-    let made = create_passed state.inputs state.inputs_made me tag named (group_named state.groups named) a plan e in
-    created_lawful spec_of state h me tag named a plan made (there made.sink made.there))
+    (λ outcome e.
+    let made = create_passed state.inputs state.inputs_made me tag named (group_named state.groups named) a outcome e in
+    created_lawful spec_of state h me tag named a outcome made (there made.sink made.there))

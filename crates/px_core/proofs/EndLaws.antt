@@ -14,14 +14,14 @@ use Rattle.px_frame.specs.declared.frame.Body.{Body}
 use Rattle.px_frame.specs.declared.frame.Body.TheVariants.{Control, Write}
 use Rattle.px_model.specs.Frame.{SampleSpec}
 use Rattle.px_msg.specs.declared.message.Msg.{Msg}
-use Rattle.px_plan.specs.declared.change.Change.TheVariants.{Authed, Named, Masked, Defaulted, Made, Described, Leaves, Moves, Arrives, Released, Said, Regrouped, Asked, Answered, Gone, Ended, Forgotten}
-use Rattle.px_plan.specs.declared.sending.Reason.{Reason}
-use Rattle.px_plan.specs.declared.sending.Reason.TheVariants.{Limit}
-use Rattle.px_plan.specs.declared.sending.Sending.{Sending}
-use Rattle.px_plan.specs.declared.input.Connection.{Connection}
-use Rattle.px_plan.specs.declared.input.Input.{Input}
-use Rattle.px_plan.specs.declared.input.Standing.{Standing}
-use Rattle.px_plan.specs.declared.input.Standing.TheVariants.{Settled, Moving, Leaving}
+use Rattle.px_outcome.specs.declared.change.Change.TheVariants.{Authed, Named, Masked, Defaulted, Made, Described, Leaves, Moves, Arrives, Released, Posted, Regrouped, Asked, Answered, Gone, Ended, Forgotten}
+use Rattle.px_outcome.specs.declared.sending.Reason.{Reason}
+use Rattle.px_outcome.specs.declared.sending.Reason.TheVariants.{Limit}
+use Rattle.px_outcome.specs.declared.sending.Sending.{Sending}
+use Rattle.px_outcome.specs.declared.input.Connection.{Connection}
+use Rattle.px_outcome.specs.declared.input.Input.{Input}
+use Rattle.px_outcome.specs.declared.input.Standing.{Standing}
+use Rattle.px_outcome.specs.declared.input.Standing.TheVariants.{Settled, Moving, Leaving}
 use Rattle.px_ctl_play.specs.declared.data.Frames.{Frames}
 use Rattle.px_ctl_play.specs.Data.{frames_of, write, written, data_for}
 use Rattle.px_state.specs.declared.effect.Effect.{Effect}
@@ -30,16 +30,16 @@ use Rattle.px_state.specs.Effect.{fits, sent, sending, closed_for}
 use Rattle.px_state.specs.declared.delayed.Delayed.{Delayed}
 use Rattle.px_state.specs.Delayed.{is_of}
 use Rattle.px_state.specs.State.{State, has_number, connection_of, input_of, stream_of}
-use Rattle.px_state.specs.Change.{Change, change_first, drop_first, authed, marked, with_streams, ending, ending_of, saying, saying_of, departs, departs_of, releasing, releasing_of, changed, committed}
-use Rattle.px_state.specs.Plan.{Plan, reply_to_asker, sent_all, closed_by, closed_in, closed_all, plan_effects}
+use Rattle.px_state.specs.Change.{Change, change_first, drop_first, authed, marked, with_streams, ending, ending_of, posting_to_input, posting_if_there, departs, departs_of, releasing, releasing_of, changed, committed}
+use Rattle.px_state.specs.Outcome.{CoreOutcome, reply_to_asker, sent_all, closed_by, closed_in, closed_all, outcome_effects}
 use Rattle.px_core.specs.Command.{head_answer}
 use Rattle.px_core.specs.Connecting.{is_full, joined, new_connection, connected, connect_effects, unmarked, going_on}
 use Rattle.px_state.specs.Out.{next_for, past}
 use Rattle.px_core.specs.Parcels.{given_in}
-use Rattle.px_core.specs.Keeps.{AreDistinct, IsSteady, IsKept, IsStep}
+use Rattle.px_core.specs.Consistency.{AreDistinct, IsSteady, IsConsistent, IsStep}
 use Rattle.px_core.specs.Lawful.{Lawful, AreLawfulOwing, owed_after}
 use Rattle.px_core.specs.Ending.{is_end_of, ends_of, goes_on, begins_with, begins_of, begins_by}
-use Rattle.px_subscribe.specs.Moments.{told_between}
+use Rattle.px_subscribe.specs.Moments.{notified_between}
 use Rattle.px_state.specs.Events.{scene_of, step_events}
 use Rattle.px_core.specs.Step.{Step, connect, frame, broken, close, cut, sweep, notice, out, body_answer, frame_of, answer_of, answered, stepped, effects_of, stepped_by, effects_by}
 use Rattle.px_core.proofs.AnswerLaws.{IsLawful}
@@ -168,11 +168,11 @@ pushed_goes new conn (x ∷ cs) = behind (pushed_goes new conn cs) (nat_eq x.con
 
 -- ---- changes
 
-said_stays : {P : Type 0} (o : Option Input) (m : Msg P) (state : State P) → (saying_of o m state).connections ≡ state.connections
-said_stays None m state = refl
-said_stays (Some x) m state = by x.standing
+posted_stays : {P : Type 0} (o : Option Input) (m : Msg P) (state : State P) → (posting_if_there o m state).connections ≡ state.connections
+posted_stays None m state = refl
+posted_stays (Some x) m state = by x.standing
   where
-    by : (standing : Standing) → (saying standing x m state).connections ≡ state.connections
+    by : (standing : Standing) → (posting_to_input standing x m state).connections ≡ state.connections
     by Settled = refl
     by (Moving to) = refl
     by Leaving = refl
@@ -226,7 +226,7 @@ change_once conn state (Leaves index) d lawful = omega (arith, ap (λ connection
 change_once conn state (Moves index to) d lawful = omega (arith, ap (λ connections. goes_on connections conn) (moved_stays to (input_of state.inputs index) state))
 change_once conn state (Arrives index m) d lawful = absurd lawful
 change_once conn state (Released index) d lawful = omega (arith, ap (λ connections. goes_on connections conn) (released_stays (input_of state.inputs index) state))
-change_once conn state (Said index m) d lawful = omega (arith, ap (λ connections. goes_on connections conn) (said_stays (input_of state.inputs index) m state))
+change_once conn state (Posted index m) d lawful = omega (arith, ap (λ connections. goes_on connections conn) (posted_stays (input_of state.inputs index) m state))
 change_once conn state (Regrouped sink group m) d lawful = no_end (goes_on state.connections conn)
 change_once conn state (Asked w) d lawful = no_end (goes_on state.connections conn)
 change_once conn state (Answered w) d lawful = no_end (goes_on state.connections conn)
@@ -247,7 +247,7 @@ changes_once spec_of conn owed state (c ∷ changes) h lawful =
     (ends_joined conn (closed_in c) (closed_all changes)) (change_once conn state c h.distinct lawful.0)
     (changes_once spec_of conn (owed_after state c owed) (changed state c) changes (change_follows spec_of state c h lawful.0).keeps lawful.1)
 
--- ---- plans
+-- ---- outcomes
 
 sending_ends : (conn to : ConnId) (packet : List ℕ) → ends_of conn (sending to packet) ≡ 0
 sending_ends conn to packet = cond_both (fits packet) (sent to packet ∷ []) [] (λ effects. ends_of conn effects ≡ 0) (λ e. refl) (λ e. refl)
@@ -264,52 +264,52 @@ sent_ends conn (x ∷ sendings) = ends_joined conn (sending x.conn x.packet) (se
 none_before : (all rest more a b c d : ℕ) → all ≡ rest + d → rest ≡ more + c → more ≡ a + b → a ≡ 0 → b ≡ 0 → c ≡ 0 → all ≡ d
 none_before all rest more a b c d e f g x y z = omega (arith, e, f, g, x, y, z)
 
-plan_ends : {P : Type 0} (conn : ConnId) (asker : Option ConnId) (plan : Plan P) → ends_of conn (plan_effects asker plan) ≡ ends_of conn (closed_all plan.changes)
-plan_ends conn asker plan =
-    none_before (ends_of conn (plan_effects asker plan)) (ends_of conn (reply_to_asker plan.reply asker ++ sent_all plan.errors ++ sent_all plan.told)) (ends_of conn (reply_to_asker plan.reply asker ++ sent_all plan.errors))
-    (ends_of conn (reply_to_asker plan.reply asker)) (ends_of conn (sent_all plan.errors)) (ends_of conn (sent_all plan.told)) (ends_of conn (closed_all plan.changes))
-    (ends_joined conn (reply_to_asker plan.reply asker ++ sent_all plan.errors ++ sent_all plan.told) (closed_all plan.changes))
-    (ends_joined conn (reply_to_asker plan.reply asker ++ sent_all plan.errors) (sent_all plan.told))
-    (ends_joined conn (reply_to_asker plan.reply asker) (sent_all plan.errors))
-    (reply_ends conn plan.reply asker) (sent_ends conn plan.errors) (sent_ends conn plan.told)
+outcome_ends : {P : Type 0} (conn : ConnId) (asker : Option ConnId) (outcome : CoreOutcome P) → ends_of conn (outcome_effects asker outcome) ≡ ends_of conn (closed_all outcome.changes)
+outcome_ends conn asker outcome =
+    none_before (ends_of conn (outcome_effects asker outcome)) (ends_of conn (reply_to_asker outcome.reply asker ++ sent_all outcome.errors ++ sent_all outcome.notified)) (ends_of conn (reply_to_asker outcome.reply asker ++ sent_all outcome.errors))
+    (ends_of conn (reply_to_asker outcome.reply asker)) (ends_of conn (sent_all outcome.errors)) (ends_of conn (sent_all outcome.notified)) (ends_of conn (closed_all outcome.changes))
+    (ends_joined conn (reply_to_asker outcome.reply asker ++ sent_all outcome.errors ++ sent_all outcome.notified) (closed_all outcome.changes))
+    (ends_joined conn (reply_to_asker outcome.reply asker ++ sent_all outcome.errors) (sent_all outcome.notified))
+    (ends_joined conn (reply_to_asker outcome.reply asker) (sent_all outcome.errors))
+    (reply_ends conn outcome.reply asker) (sent_ends conn outcome.errors) (sent_ends conn outcome.notified)
 
 -- the connection is ended at the most as often as it no longer goes on
-abbrev Once : {P : Type 0} → ConnId → Option ConnId → State P → Plan P → Type 0
-Once conn asker state plan = ends_of conn (plan_effects asker plan) + goes_on (committed state plan.changes).connections conn ≤ goes_on state.connections conn
+abbrev Once : {P : Type 0} → ConnId → Option ConnId → State P → CoreOutcome P → Type 0
+Once conn asker state outcome = ends_of conn (outcome_effects asker outcome) + goes_on (committed state outcome.changes).connections conn ≤ goes_on state.connections conn
 
-lawful_once : {P : Type 0} (spec_of : P → SampleSpec) (conn : ConnId) (asker : Option ConnId) (state : State P) (plan : Plan P) → IsKept spec_of state → IsLawful state plan → Once conn asker state plan
-lawful_once spec_of conn asker state plan h lawful = omega (arith, plan_ends conn asker plan, changes_once spec_of conn [] state plan.changes h.steady lawful)
+lawful_once : {P : Type 0} (spec_of : P → SampleSpec) (conn : ConnId) (asker : Option ConnId) (state : State P) (outcome : CoreOutcome P) → IsConsistent spec_of state → IsLawful state outcome → Once conn asker state outcome
+lawful_once spec_of conn asker state outcome h lawful = omega (arith, outcome_ends conn asker outcome, changes_once spec_of conn [] state outcome.changes h.steady lawful)
 
 -- nor does an arrival end one
-arrival_once : {P : Type 0} (spec_of : P → SampleSpec) (conn : ConnId) (asker : Option ConnId) (state : State P) (plan : Plan P) (given : List P) → IsArrival spec_of state plan given → Once conn asker state plan
-arrival_once {P} spec_of conn asker state plan given a =
-    let closed : closed_all plan.changes ≡ closed_all a.behind = ap (λ (changes : List (Change P)). closed_all changes) a.changes in
+arrival_once : {P : Type 0} (spec_of : P → SampleSpec) (conn : ConnId) (asker : Option ConnId) (state : State P) (outcome : CoreOutcome P) (given : List P) → IsArrival spec_of state outcome given → Once conn asker state outcome
+arrival_once {P} spec_of conn asker state outcome given a =
+    let closed : closed_all outcome.changes ≡ closed_all a.behind = ap (λ (changes : List (Change P)). closed_all changes) a.changes in
     let later = changes_once spec_of conn a.owed a.after a.behind a.follows.keeps a.lawful in
     omega (
       arith,
-      plan_ends conn asker plan,
+      outcome_ends conn asker outcome,
       ap (ends_of conn) closed,
       later,
-      ap (λ (s : State P). goes_on s.connections conn) (arrival_committed spec_of state plan given a),
+      ap (λ (s : State P). goes_on s.connections conn) (arrival_committed spec_of state outcome given a),
       ap (λ connections. goes_on connections conn) a.connections,
     )
 
 -- data tells nobody anything, be it lawful or not
-said_once : {P : Type 0} (conn : ConnId) (asker : Option ConnId) (state : State P) (frames : Option Frames) (x : Input) (seek : ℕ) (bytes : List ℕ) → Once {P = P} conn asker state (written frames x seek bytes)
-said_once conn asker state None x seek bytes = no_end (goes_on state.connections conn)
-said_once conn asker state (Some frames) x seek bytes =
-    omega (arith, ap (λ connections. goes_on connections conn) (said_stays (input_of state.inputs x.index) (write x frames seek bytes) state))
+posted_once : {P : Type 0} (conn : ConnId) (asker : Option ConnId) (state : State P) (frames : Option Frames) (x : Input) (seek : ℕ) (bytes : List ℕ) → Once {P = P} conn asker state (written frames x seek bytes)
+posted_once conn asker state None x seek bytes = no_end (goes_on state.connections conn)
+posted_once conn asker state (Some frames) x seek bytes =
+    omega (arith, ap (λ connections. goes_on connections conn) (posted_stays (input_of state.inputs x.index) (write x frames seek bytes) state))
 
 data_once : {P : Type 0} (conn : ConnId) (asker : Option ConnId) (state : State P) (o : Option Input) (offset : ℤ) (seek : ℕ) (bytes : List ℕ) → Once {P = P} conn asker state (data_for o offset seek bytes)
 data_once conn asker state None offset seek bytes = no_end (goes_on state.connections conn)
-data_once conn asker state (Some x) offset seek bytes = said_once conn asker state (frames_of x offset (length bytes)) x seek bytes
+data_once conn asker state (Some x) offset seek bytes = posted_once conn asker state (frames_of x offset (length bytes)) x seek bytes
 
-body_once : {P : Type 0} (spec_of : P → SampleSpec) (conn : ConnId) (asker : Option ConnId) (state : State P) → IsKept spec_of state → (c : Connection) → going_on state.connections c.conn ≡ Some c → (at : ℕ) (body : Body) → Once conn asker state (body_answer state c at body)
+body_once : {P : Type 0} (spec_of : P → SampleSpec) (conn : ConnId) (asker : Option ConnId) (state : State P) → IsConsistent spec_of state → (c : Connection) → going_on state.connections c.conn ≡ Some c → (at : ℕ) (body : Body) → Once conn asker state (body_answer state c at body)
 body_once spec_of conn asker state h c e at (Control packet) =
     lawful_once spec_of conn asker state (head_answer state c at packet (head_at (start_of packet))) h (head_lawful spec_of state h c e at packet (head_at (start_of packet)))
 body_once spec_of conn asker state h c e at (Write stream offset seek bytes) = data_once conn asker state (stream_of state.inputs c.conn stream) offset seek bytes
 
-frame_once : {P : Type 0} (spec_of : P → SampleSpec) (conn n : ConnId) (asker : Option ConnId) (state : State P) → IsKept spec_of state → (o : Option Connection) → going_on state.connections n ≡ o → (f : Frame) → Once conn asker state (frame_of state o f)
+frame_once : {P : Type 0} (spec_of : P → SampleSpec) (conn n : ConnId) (asker : Option ConnId) (state : State P) → IsConsistent spec_of state → (o : Option Connection) → going_on state.connections n ≡ o → (f : Frame) → Once conn asker state (frame_of state o f)
 frame_once spec_of conn n asker state h None here f = no_end (goes_on state.connections conn)
 frame_once spec_of conn n asker state h (Some c) here f = body_once spec_of conn asker state h c (going_by_own state.connections n c here) f.at f.body
 
@@ -330,42 +330,42 @@ connect_once {P} conn n state None = either (is_full state)
     either true = omega (arith, one_end (nat_eq n.0 conn.0) (closed_for n Limit))
     either false = omega (arith, pushed_goes (new_connection n state.clients_made) conn state.connections)
 
-other_once : {P : Type 0} (spec_of : P → SampleSpec) (conn : ConnId) (asker : Option ConnId) (state : State P) (s : Step P) → IsStep s → IsKept spec_of state → Once conn asker state (answer_of spec_of state s)
+other_once : {P : Type 0} (spec_of : P → SampleSpec) (conn : ConnId) (asker : Option ConnId) (state : State P) (s : Step P) → IsStep s → IsConsistent spec_of state → Once conn asker state (answer_of spec_of state s)
 other_once {P} spec_of conn asker state s is h = by (answer_sound spec_of state s is h)
   where
-    plan : Plan P
-    plan = answer_of spec_of state s
+    outcome : CoreOutcome P
+    outcome = answer_of spec_of state s
 
-    by : IsLawful state plan ⊎ IsArrival spec_of state plan (given_in s) → Once conn asker state plan
-    by (inl lawful) = lawful_once spec_of conn asker state plan h lawful
-    by (inr a) = arrival_once spec_of conn asker state plan (given_in s) a
+    by : IsLawful state outcome ⊎ IsArrival spec_of state outcome (given_in s) → Once conn asker state outcome
+    by (inl lawful) = lawful_once spec_of conn asker state outcome h lawful
+    by (inr a) = arrival_once spec_of conn asker state outcome (given_in s) a
 
 -- events end none
 with_events : {P : Type 0} (conn : ConnId) (effects : List Effect) (before after : State P) → ends_of conn (effects ++ step_events before after) ≡ ends_of conn effects
 with_events conn effects before after =
     ends_joined conn effects (step_events before after)
-    ∙ (omega (arith, ap (ends_of conn) (events_are before after), sent_ends conn (told_between before.sinks after.clients_made (scene_of before) (scene_of after))))
+    ∙ (omega (arith, ap (ends_of conn) (events_are before after), sent_ends conn (notified_between before.sinks after.clients_made (scene_of before) (scene_of after))))
 
 -- a step ends a connection only where it went on, and goes on no more, or where it isn't taken
-pub step_once : {P : Type 0} (conn : ConnId) (spec_of : P → SampleSpec) (state : State P) (s : Step P) → IsKept spec_of state → ends_of conn (effects_of spec_of state s) + goes_on (stepped spec_of state s).connections conn ≤ goes_on state.connections conn + begins_of conn state s
+pub step_once : {P : Type 0} (conn : ConnId) (spec_of : P → SampleSpec) (state : State P) (s : Step P) → IsConsistent spec_of state → ends_of conn (effects_of spec_of state s) + goes_on (stepped spec_of state s).connections conn ≤ goes_on state.connections conn + begins_of conn state s
 step_once conn spec_of state (connect n) h =
     let c = connection_of state.connections n in
     omega (arith, connect_once conn n state c, with_events conn (connect_effects c n state) state (connected c n state))
 step_once conn spec_of state (frame n f) h =
-    let plan = answer_of spec_of state (frame n f) in
-    omega (arith, frame_once spec_of conn n (Some n) state h (going_on state.connections n) refl f, with_events conn (plan_effects (Some n) plan) state (answered state plan))
+    let outcome = answer_of spec_of state (frame n f) in
+    omega (arith, frame_once spec_of conn n (Some n) state h (going_on state.connections n) refl f, with_events conn (outcome_effects (Some n) outcome) state (answered state outcome))
 step_once conn spec_of state (broken n fault at) h = omega (arith, other_once spec_of conn (Some n) state (broken n fault at) tt h)
 step_once conn spec_of state (close n) h = omega (arith, other_once spec_of conn (Some n) state (close n) tt h)
 step_once conn spec_of state (cut n) h = omega (arith, other_once spec_of conn (Some n) state (cut n) tt h)
 step_once conn spec_of state sweep h =
-    let plan = answer_of spec_of state sweep in
-    omega (arith, other_once spec_of conn None state sweep tt h, with_events conn (plan_effects None plan) state (answered state plan))
+    let outcome = answer_of spec_of state sweep in
+    omega (arith, other_once spec_of conn None state sweep tt h, with_events conn (outcome_effects None outcome) state (answered state outcome))
 step_once conn spec_of state (notice sink n) h =
-    let plan = answer_of spec_of state (notice sink n) in
-    omega (arith, other_once spec_of conn None state (notice sink n) tt h, with_events conn (plan_effects None plan) state (answered state plan))
+    let outcome = answer_of spec_of state (notice sink n) in
+    omega (arith, other_once spec_of conn None state (notice sink n) tt h, with_events conn (outcome_effects None outcome) state (answered state outcome))
 step_once conn spec_of state (out sink) h = omega (arith, out_same (next_for state sink) sink state conn)
 
-pub steps_once : {P : Type 0} (conn : ConnId) (spec_of : P → SampleSpec) (state : State P) (steps : List (Step P)) → AllByRecursion IsStep steps → IsKept spec_of state → ends_of conn (effects_by spec_of state steps) + goes_on (stepped_by spec_of state steps).connections conn ≤ goes_on state.connections conn + begins_by spec_of conn state steps
+pub steps_once : {P : Type 0} (conn : ConnId) (spec_of : P → SampleSpec) (state : State P) (steps : List (Step P)) → AllByRecursion IsStep steps → IsConsistent spec_of state → ends_of conn (effects_by spec_of state steps) + goes_on (stepped_by spec_of state steps).connections conn ≤ goes_on state.connections conn + begins_by spec_of conn state steps
 steps_once conn spec_of state [] is h = omega arith
 steps_once conn spec_of state (s ∷ steps) is h =
     joined_once (ends_of conn (effects_of spec_of state s ++ effects_by spec_of (stepped spec_of state s) steps)) (ends_of conn (effects_of spec_of state s)) (ends_of conn (effects_by spec_of (stepped spec_of state s) steps))

@@ -15,11 +15,11 @@ use Rattle.px_model.specs.Frame.{SampleSpec}
 use Rattle.px_model.specs.Orderly.{Inputs}
 use Rattle.px_msg.specs.declared.message.Msg.{Msg}
 use Rattle.px_msg.specs.View.{sample_spec}
-use Rattle.px_plan.specs.declared.input.Input.{Input}
+use Rattle.px_outcome.specs.declared.input.Input.{Input}
 use Rattle.px_state.specs.State.{has_index}
 use Rattle.px_state.specs.Change.{change_first, drop_first}
 use Rattle.px_core.specs.Orderly.{entry_of, spec_in, specs_of}
-use Rattle.px_core.specs.Keeps.{AllAbove, IsRising, brought_of}
+use Rattle.px_core.specs.Consistency.{AllAbove, IsRising, brought_of}
 use Rattle.px_core.proofs.ListLaws.{heads, tails, no_cons, found_all, all_change, all_drop, all_push}
 
 -- ---- tests
@@ -79,8 +79,8 @@ in_same p xs ys r s e i = sym (get_in p xs r i) ∙ ap (λ es. finite.get (finit
 
 -- ---- the input that is found
 
-abbrev Keeps : (Input → Input) → Type 0
-Keeps f = (x : Input) → (f x).index.0 ≡ x.index.0
+abbrev Preserves : (Input → Input) → Type 0
+Preserves f = (x : Input) → (f x).index.0 ≡ x.index.0
 
 pub here_in : (p : Input → Bool) (j : InputId) (xs : List Input) (y : Input) → find (has_index j) xs ≡ Some y → spec_in p j.0 xs ≡ cond (p y) (Some (sample_spec y.spec)) None
 here_in p j [] y e = absurd (none-some y e)
@@ -134,7 +134,7 @@ found_in p j (x ∷ xs) s e = step (found_in p j xs s) (nat_eq x.index.0 j.0) re
 
 -- ---- one changes
 
-change_in : (p : Input → Bool) (j : InputId) (f : Input → Input) → Keeps f → (xs : List Input) (y : Input) → find (has_index j) xs ≡ Some y → (i : ℕ) → spec_in p i (change_first (has_index j) f xs) ≡ cond (nat_eq j.0 i) (cond (p (f y)) (Some (sample_spec (f y).spec)) None) (spec_in p i xs)
+change_in : (p : Input → Bool) (j : InputId) (f : Input → Input) → Preserves f → (xs : List Input) (y : Input) → find (has_index j) xs ≡ Some y → (i : ℕ) → spec_in p i (change_first (has_index j) f xs) ≡ cond (nat_eq j.0 i) (cond (p (f y)) (Some (sample_spec (f y).spec)) None) (spec_in p i xs)
 change_in p j f keeps [] y e i = absurd (none-some y e)
 change_in p j f keeps (x ∷ xs) y e i = step (λ g. change_in p j f keeps xs y g i) (nat_eq x.index.0 j.0) refl e
   where
@@ -149,10 +149,10 @@ change_in p j f keeps (x ∷ xs) y e i = step (λ g. change_in p j f keeps xs y 
 
 -- ---- the order
 
-rising_all : (i : ℕ) (f : Input → Input) → Keeps f → (x : Input) → i < x.index.0 → i < (f x).index.0
+rising_all : (i : ℕ) (f : Input → Input) → Preserves f → (x : Input) → i < x.index.0 → i < (f x).index.0
 rising_all i f keeps x l = subst (λ n. i < n) (sym (keeps x)) l
 
-pub rising_change : (q : Input → Bool) (f : Input → Input) → Keeps f → (xs : List Input) → IsRising xs → IsRising (change_first q f xs)
+pub rising_change : (q : Input → Bool) (f : Input → Input) → Preserves f → (xs : List Input) → IsRising xs → IsRising (change_first q f xs)
 rising_change q f keeps [] r = tt
 rising_change q f keeps (x ∷ xs) r =
     cond_both (q x) (f x ∷ xs) (x ∷ change_first q f xs) IsRising
@@ -173,7 +173,7 @@ rising_push (x ∷ xs) y r a = (all_push (λ z. x.index.0 < (Input.index z).0) x
 -- ---- the map after a change
 
 -- one that passes after it is put in
-pub inserted : (p : Input → Bool) (j : InputId) (f : Input → Input) → Keeps f → (xs : List Input) → IsRising xs → (y : Input) → find (has_index j) xs ≡ Some y → p (f y) ≡ true → finite.insert (specs_of (filter p xs)) j.0 (sample_spec (f y).spec) ≡ specs_of (filter p (change_first (has_index j) f xs))
+pub inserted : (p : Input → Bool) (j : InputId) (f : Input → Input) → Preserves f → (xs : List Input) → IsRising xs → (y : Input) → find (has_index j) xs ≡ Some y → p (f y) ≡ true → finite.insert (specs_of (filter p xs)) j.0 (sample_spec (f y).spec) ≡ specs_of (filter p (change_first (has_index j) f xs))
 inserted p j f keeps xs r y e t =
     same_specs (finite.insert (specs_of (filter p xs)) j.0 (sample_spec (f y).spec)) p (change_first (has_index j) f xs) (rising_change (has_index j) f keeps xs r) (λ i.
     finite.get-insert nat_cmp_total (specs_of (filter p xs)) j.0 (sample_spec (f y).spec) i
@@ -182,7 +182,7 @@ inserted p j f keeps xs r y e t =
     ∙ sym (change_in p j f keeps xs y e i))
 
 -- one that doesn't is left out
-pub removed : (p : Input → Bool) (j : InputId) (f : Input → Input) → Keeps f → (xs : List Input) → IsRising xs → (y : Input) → find (has_index j) xs ≡ Some y → p (f y) ≡ false → finite.remove (specs_of (filter p xs)) j.0 ≡ specs_of (filter p (change_first (has_index j) f xs))
+pub removed : (p : Input → Bool) (j : InputId) (f : Input → Input) → Preserves f → (xs : List Input) → IsRising xs → (y : Input) → find (has_index j) xs ≡ Some y → p (f y) ≡ false → finite.remove (specs_of (filter p xs)) j.0 ≡ specs_of (filter p (change_first (has_index j) f xs))
 removed p j f keeps xs r y e t =
     same_specs (finite.remove (specs_of (filter p xs)) j.0) p (change_first (has_index j) f xs) (rising_change (has_index j) f keeps xs r) (λ i.
     finite.get-remove nat_cmp_total (specs_of (filter p xs)) j.0 i
@@ -217,7 +217,7 @@ pushed_in p xs y a t i = ap option_to_list (push_in p xs y a i) ∙ step (nat_eq
     step false e = sym (append-nil (option_to_list (spec_in p i xs)))
 
 -- and one that newly passes
-pub arrived_in : (p : Input → Bool) (j : InputId) (f : Input → Input) → Keeps f → ((x : Input) → sample_spec (f x).spec ≡ sample_spec x.spec) → (xs : List Input) (y : Input) → find (has_index j) xs ≡ Some y → p y ≡ false → p (f y) ≡ true
+pub arrived_in : (p : Input → Bool) (j : InputId) (f : Input → Input) → Preserves f → ((x : Input) → sample_spec (f x).spec ≡ sample_spec x.spec) → (xs : List Input) (y : Input) → find (has_index j) xs ≡ Some y → p y ≡ false → p (f y) ≡ true
     → (i : ℕ) → option_to_list (spec_in p i (change_first (has_index j) f xs)) ≡ option_to_list (spec_in p i xs) ++ cond (nat_eq j.0 i) (sample_spec y.spec ∷ []) []
 arrived_in p j f keeps spec xs y here off on i = ap option_to_list (change_in p j f keeps xs y here i) ∙ step (nat_eq j.0 i) refl
   where
@@ -242,7 +242,7 @@ pub record FirstBrought {P : Type 0} (spec_of : P → SampleSpec) (p : Input →
   pub it : Found p j xs s
   pub others : (i : ℕ) → flat_map (brought_of spec_of i) rest ≡ option_to_list (spec_in p i (change_first (has_index j) f xs))
 
-pub first_brought : {P : Type 0} (spec_of : P → SampleSpec) (p : Input → Bool) (f : Input → Input) → Keeps f → ((x : Input) → p (f x) ≡ false) → (j : InputId) (s : SampleSpec) (m : Msg P) (rest : List (Msg P)) (xs : List Input)
+pub first_brought : {P : Type 0} (spec_of : P → SampleSpec) (p : Input → Bool) (f : Input → Input) → Preserves f → ((x : Input) → p (f x) ≡ false) → (j : InputId) (s : SampleSpec) (m : Msg P) (rest : List (Msg P)) (xs : List Input)
     → ((i : ℕ) → brought_of spec_of i m ≡ cond (nat_eq j.0 i) (s ∷ []) [])
     → ((i : ℕ) → brought_of spec_of i m ++ flat_map (brought_of spec_of i) rest ≡ option_to_list (spec_in p i xs))
     → FirstBrought spec_of p f j s rest xs

@@ -5,21 +5,21 @@ use Rattle.std.specs.List.{AllByRecursion}
 use Rattle.std.specs.Option.{is_some, option_map}
 use Rattle.std.proofs.lemmas.Bool.{cond_both, false≢true}
 use Rattle.px_types.specs.declared.ids.ConnId.{ConnId}
-use Rattle.px_plan.specs.declared.input.Connection.{Connection}
-use Rattle.px_plan.specs.declared.sending.Reason.TheVariants.{Limit}
-use Rattle.px_plan.specs.Plan.{idle}
+use Rattle.px_outcome.specs.declared.input.Connection.{Connection}
+use Rattle.px_outcome.specs.declared.sending.Reason.TheVariants.{Limit}
+use Rattle.px_outcome.specs.Outcome.{idle}
 use Rattle.px_subscribe.specs.declared.announce.Subscriber.{Subscriber}
 use Rattle.px_subscribe.specs.declared.event.Event.{Event}
 use Rattle.px_subscribe.specs.Event.{message_of, hears}
-use Rattle.px_subscribe.specs.Announce.{told_to, announced, announced_all}
-use Rattle.px_plan.specs.declared.sending.Sending.{Sending}
+use Rattle.px_subscribe.specs.Announce.{notified_to, announced, announced_all}
+use Rattle.px_outcome.specs.declared.sending.Sending.{Sending}
 use Rattle.px_tag.specs.Item.{number}
 use Rattle.px_state.specs.declared.effect.Effect.{Effect}
 use Rattle.px_state.specs.Effect.{closed_for}
 use Rattle.px_state.specs.State.{State}
 use Rattle.px_core.specs.Connecting.{is_full, joined}
 use Rattle.px_state.specs.Events.{step_events}
-use Rattle.px_state.specs.Plan.{Plan}
+use Rattle.px_state.specs.Outcome.{CoreOutcome}
 use Rattle.px_core.specs.Step.{answer_effects, admitted_effects}
 use Rattle.px_core.proofs.ListLaws.{all_joined}
 use Rattle.px_state.proofs.SceneLaws.{none_events}
@@ -27,8 +27,8 @@ use Rattle.px_state.proofs.SceneLaws.{none_events}
 pub idle_effects : (P : Type 0) (asker : Option ConnId) (state : State P) → answer_effects asker state idle ≡ []
 idle_effects P asker state = none_events state
 
-pub ignored : (P : Type 0) (asker : Option ConnId) (state : State P) (plan : Plan P) (effects : List Effect) → effects ≡ [] → plan ≡ idle → effects ≡ answer_effects asker state plan
-ignored P asker state plan effects e p = e ∙ sym (idle_effects P asker state) ∙ ap (λ (x : Plan P). answer_effects asker state x) (sym p)
+pub ignored : (P : Type 0) (asker : Option ConnId) (state : State P) (outcome : CoreOutcome P) (effects : List Effect) → effects ≡ [] → outcome ≡ idle → effects ≡ answer_effects asker state outcome
+ignored P asker state outcome effects e p = e ∙ sym (idle_effects P asker state) ∙ ap (λ (x : CoreOutcome P). answer_effects asker state x) (sym p)
 
 pub admitted_there : (P : Type 0) (c : Connection) (conn : ConnId) (state : State P) → admitted_effects (Some c) conn state ≡ []
 admitted_there P c conn state = none_events state
@@ -68,12 +68,12 @@ event_byte : (e : Event) → 1 ≤ get_or (message_of e) 4 0
 unfolding number
 event_byte e = omega arith
 
-told_no_error : (e : Event) (s : Subscriber) → AllByRecursion (λ (x : Sending). 1 ≤ get_or x.packet 4 0) (told_to e s)
-told_no_error e s = cond_both (hears s.mask e.facility) (record { conn = s.conn; packet = message_of e } ∷ []) [] (AllByRecursion (λ (x : Sending). 1 ≤ get_or x.packet 4 0)) (λ t. (event_byte e, tt)) (λ t. tt)
+notified_no_error : (e : Event) (s : Subscriber) → AllByRecursion (λ (x : Sending). 1 ≤ get_or x.packet 4 0) (notified_to e s)
+notified_no_error e s = cond_both (hears s.mask e.facility) (record { conn = s.conn; packet = message_of e } ∷ []) [] (AllByRecursion (λ (x : Sending). 1 ≤ get_or x.packet 4 0)) (λ t. (event_byte e, tt)) (λ t. tt)
 
 event_no_error : (subscribers : List Subscriber) (e : Event) → AllByRecursion (λ (x : Sending). 1 ≤ get_or x.packet 4 0) (announced subscribers e)
 event_no_error [] e = tt
-event_no_error (s ∷ subscribers) e = all_joined (λ (x : Sending). 1 ≤ get_or x.packet 4 0) (told_to e s) (announced subscribers e) (told_no_error e s) (event_no_error subscribers e)
+event_no_error (s ∷ subscribers) e = all_joined (λ (x : Sending). 1 ≤ get_or x.packet 4 0) (notified_to e s) (announced subscribers e) (notified_no_error e s) (event_no_error subscribers e)
 
 pub events_no_error : (subscribers : List Subscriber) (events : List Event) → AllByRecursion (λ (x : Sending). 1 ≤ get_or x.packet 4 0) (announced_all subscribers events)
 events_no_error subscribers [] = tt

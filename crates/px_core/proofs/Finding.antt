@@ -5,8 +5,8 @@ use Rattle.std.specs.List.Sorted.{IsNonDecreasingBy}
 use Rattle.std.proofs.lemmas.Bool.{ne_eqb}
 use Rattle.px_types.specs.declared.ids.InputId.{InputId}
 use Rattle.px_types.specs.declared.ids.SinkId.{SinkId}
-use Rattle.px_plan.specs.declared.input.Input.{Input}
-use Rattle.px_core.specs.Keeps.{AllAbove, IsRising}
+use Rattle.px_outcome.specs.declared.input.Input.{Input}
+use Rattle.px_core.specs.Consistency.{AllAbove, IsRising}
 use Rattle.px_core.specs.Places.{AreBelow}
 use Rattle.px_core.specs.Notice.{is_on, input_on}
 

@@ -4,7 +4,7 @@ use Rattle.std.specs.Prelude.{nat_eq}
 use Rattle.std.proofs.lemmas.Bool.{eqb-true}
 use Rattle.std.proofs.lemmas.Option.{none-some, same_Some}
 use Rattle.px_types.specs.declared.ids.ConnId.{ConnId}
-use Rattle.px_plan.specs.declared.input.Connection.{Connection}
+use Rattle.px_outcome.specs.declared.input.Connection.{Connection}
 use Rattle.px_state.specs.State.{has_number, connection_of}
 use Rattle.px_core.specs.Connecting.{unmarked, going_on}
 use Rattle.px_core.proofs.ListLaws.{found_test}

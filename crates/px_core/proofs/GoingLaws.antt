@@ -4,12 +4,12 @@ use Rattle.std.specs.Prelude.{not, nat_eq, MatchOption}
 use Rattle.std.specs.List.{AllByRecursion}
 use Rattle.std.proofs.lemmas.Bool.{eqb-true, eqb-false, ne_eqb, false≢true}
 use Rattle.px_types.specs.declared.ids.InputId.{InputId}
-use Rattle.px_plan.specs.declared.input.Input.{Input}
-use Rattle.px_plan.specs.declared.input.Standing.TheVariants.{Leaving}
-use Rattle.px_plan.specs.declared.waiting.Waiting.{Waiting}
+use Rattle.px_outcome.specs.declared.input.Input.{Input}
+use Rattle.px_outcome.specs.declared.input.Standing.TheVariants.{Leaving}
+use Rattle.px_outcome.specs.declared.waiting.Waiting.{Waiting}
 use Rattle.px_state.specs.State.{is_leaving, goes_on, has_index, input_of, waiting_of_others}
 use Rattle.px_state.specs.Change.{change_first, drop_first, leaving}
-use Rattle.px_core.specs.Keeps.{IsGoing, IsAwaiting}
+use Rattle.px_core.specs.Consistency.{IsGoing, IsAwaiting}
 use Rattle.px_core.proofs.ListLaws.{all_weaken}
 use Rattle.px_input_table.proofs.ByStream.{found-changed, found-dropped}
 

@@ -14,25 +14,25 @@ use Rattle.px_flat.specs.FlatVolume.{FlatGroup, member_of, new_group}
 use Rattle.px_flat.proofs.Inputs.{rest_of, found_in, unfound_in}
 use Rattle.px_msg.specs.declared.message.Msg.{Msg}
 use Rattle.px_msg.specs.declared.message.Msg.TheVariants.{New, Attach, Detach, Write, Cork, Flush, Trigger, Prebuf, Drain, Attr, Factors, Query}
-use Rattle.px_plan.specs.declared.input.Input.{Input}
-use Rattle.px_plan.specs.declared.input.Standing.{Standing}
-use Rattle.px_plan.specs.declared.input.Standing.TheVariants.{Settled, Moving, Leaving}
-use Rattle.px_plan.specs.declared.input.Way.{Way}
-use Rattle.px_plan.specs.declared.input.Way.TheVariants.{There, Left}
-use Rattle.px_plan.specs.declared.target.Named.{Named}
-use Rattle.px_plan.specs.declared.target.Named.TheVariants.{Unclear, Unknown, Sink}
-use Rattle.px_plan.specs.declared.target.Target.{Target}
-use Rattle.px_plan.specs.Target.{target_of as target_in}
+use Rattle.px_outcome.specs.declared.input.Input.{Input}
+use Rattle.px_outcome.specs.declared.input.Standing.{Standing}
+use Rattle.px_outcome.specs.declared.input.Standing.TheVariants.{Settled, Moving, Leaving}
+use Rattle.px_outcome.specs.declared.input.Way.{Way}
+use Rattle.px_outcome.specs.declared.input.Way.TheVariants.{There, Left}
+use Rattle.px_outcome.specs.declared.target.Named.{Named}
+use Rattle.px_outcome.specs.declared.target.Named.TheVariants.{Unclear, Unknown, Sink}
+use Rattle.px_outcome.specs.declared.target.Target.{Target}
+use Rattle.px_outcome.specs.Target.{target_of as target_in}
 use Rattle.px_ctl_play.specs.Joining.{IsReadyAt}
-use Rattle.px_ctl_play.specs.Told.{IsMemberIn}
-use Rattle.px_plan.specs.declared.change.Change.TheVariants.{Authed, Named as Renamed, Masked, Defaulted, Made, Described, Leaves, Moves, Arrives, Released, Said, Regrouped, Asked, Answered, Gone, Ended, Forgotten}
+use Rattle.px_ctl_play.specs.Notified.{IsMemberIn}
+use Rattle.px_outcome.specs.declared.change.Change.TheVariants.{Authed, Named as Renamed, Masked, Defaulted, Made, Described, Leaves, Moves, Arrives, Released, Posted, Regrouped, Asked, Answered, Gone, Ended, Forgotten}
 use Rattle.px_state.specs.declared.delayed.Delayed.{Delayed}
 use Rattle.px_state.specs.Delayed.{is_of}
 use Rattle.px_state.specs.State.{State, has_index, input_of}
-use Rattle.px_state.specs.Change.{Change, change_first, drop_first, leaving, with_attr, moving_to, arrived_at, inputs_told, ending, ending_of, saying, saying_of, departs, departs_of, releasing, releasing_of, changed, committed}
+use Rattle.px_state.specs.Change.{Change, change_first, drop_first, leaving, with_attr, moving_to, arrived_at, inputs_noted, ending, ending_of, posting_to_input, posting_if_there, departs, departs_of, releasing, releasing_of, changed, committed}
 use Rattle.px_core.specs.Grouped.{channels_there, IsGroupOf, AreGrouped, is_owed, paid}
 use Rattle.px_core.specs.Lawful.{Lawful, AreLawfulOwing, owed_for, owed_after}
-use Rattle.px_core.specs.Keeps.{IsInput}
+use Rattle.px_core.specs.Consistency.{IsInput}
 use Rattle.px_core.specs.Notice.{is_on, input_on}
 use Rattle.px_state.specs.Out.{on_way, inputs_past, past}
 use Rattle.px_sinks.specs.Sinks.{group_named}
@@ -183,30 +183,30 @@ regrouped_grouped owed sinks inputs groups sink group there given h = record {
 
 -- ---- the changes
 
-told_there : {P : Type 0} (index : InputId) (m : Msg P) (inputs : List Input) (sink : SinkId) (other : InputId) → channels_there (inputs_told index m inputs) sink other ≡ channels_there inputs sink other
-told_there index (New n) inputs sink other = refl
-told_there index (Attach input parcel feed factors) inputs sink other = refl
-told_there index (Detach input) inputs sink other = refl
-told_there index (Write input seek offset frames bytes) inputs sink other = refl
-told_there index (Cork input on) inputs sink other = refl
-told_there index (Flush input) inputs sink other = refl
-told_there index (Trigger input) inputs sink other = refl
-told_there index (Prebuf input) inputs sink other = refl
-told_there index (Drain input tag) inputs sink other = refl
-told_there index (Attr input attr) inputs sink other = changed_there (has_index index) (with_attr attr) (λ sink index x. refl) (λ x. refl) inputs sink other
-told_there index (Factors each) inputs sink other = refl
-told_there index (Query input tag) inputs sink other = refl
+noted_there : {P : Type 0} (index : InputId) (m : Msg P) (inputs : List Input) (sink : SinkId) (other : InputId) → channels_there (inputs_noted index m inputs) sink other ≡ channels_there inputs sink other
+noted_there index (New n) inputs sink other = refl
+noted_there index (Attach input parcel feed factors) inputs sink other = refl
+noted_there index (Detach input) inputs sink other = refl
+noted_there index (Write input seek offset frames bytes) inputs sink other = refl
+noted_there index (Cork input on) inputs sink other = refl
+noted_there index (Flush input) inputs sink other = refl
+noted_there index (Trigger input) inputs sink other = refl
+noted_there index (Prebuf input) inputs sink other = refl
+noted_there index (Drain input tag) inputs sink other = refl
+noted_there index (Attr input attr) inputs sink other = changed_there (has_index index) (with_attr attr) (λ sink index x. refl) (λ x. refl) inputs sink other
+noted_there index (Factors each) inputs sink other = refl
+noted_there index (Query input tag) inputs sink other = refl
 
-said_grouped : {P : Type 0} (owed : List SinkId) (state : State P) (o : Option Input) (m : Msg P) → Grouped owed state → Grouped owed (saying_of o m state)
-said_grouped owed state None m h = h
-said_grouped {P} owed state (Some x) m h = by x.standing
+posted_grouped : {P : Type 0} (owed : List SinkId) (state : State P) (o : Option Input) (m : Msg P) → Grouped owed state → Grouped owed (posting_if_there o m state)
+posted_grouped owed state None m h = h
+posted_grouped {P} owed state (Some x) m h = by x.standing
   where
-    told : AreGrouped owed state.sinks (inputs_told x.index m state.inputs) state.groups
-    told = still_grouped owed state.sinks state.inputs (inputs_told x.index m state.inputs) state.groups (told_there x.index m state.inputs) h
+    noted : AreGrouped owed state.sinks (inputs_noted x.index m state.inputs) state.groups
+    noted = still_grouped owed state.sinks state.inputs (inputs_noted x.index m state.inputs) state.groups (noted_there x.index m state.inputs) h
 
-    by : (standing : Standing) → Grouped owed (saying standing x m state)
-    by Settled = told
-    by (Moving to) = told
+    by : (standing : Standing) → Grouped owed (posting_to_input standing x m state)
+    by Settled = noted
+    by (Moving to) = noted
     by Leaving = h
 
 left_grouped : {P : Type 0} (owed : List SinkId) (state : State P) (o : Option Input) → Grouped owed state → Grouped owed (ending_of o state)
@@ -255,7 +255,7 @@ change_grouped owed state (Leaves index) lawful h = left_grouped owed state (inp
 change_grouped owed state (Moves index to) lawful h = moved_grouped owed state to (input_of state.inputs index) h
 change_grouped owed state (Arrives index m) lawful h = absurd lawful
 change_grouped owed state (Released index) lawful h = released_grouped owed state (input_of state.inputs index) h
-change_grouped owed state (Said index m) lawful h = said_grouped owed state (input_of state.inputs index) m h
+change_grouped owed state (Posted index m) lawful h = posted_grouped owed state (input_of state.inputs index) m h
 change_grouped owed state (Regrouped sink group m) lawful h = regrouped_grouped owed state.sinks state.inputs state.groups sink group lawful.there lawful.follows h
 change_grouped owed state (Asked w) lawful h = h
 change_grouped owed state (Answered w) lawful h = h

@@ -15,14 +15,14 @@ use Rattle.px_model.specs.Orderly.{inputs_left, inputs_left_by}
 use Rattle.px_msg.specs.declared.message.Msg.{Msg}
 use Rattle.px_msg.specs.declared.message.Msg.TheVariants.{New, Attach, Detach, Write, Cork, Flush, Trigger, Prebuf, Drain, Attr, Factors, Query}
 use Rattle.px_msg.specs.View.{sample_spec}
-use Rattle.px_plan.specs.declared.input.Input.{Input}
-use Rattle.px_plan.specs.declared.input.Way.{Way}
-use Rattle.px_plan.specs.declared.input.Way.TheVariants.{Coming, There, Left}
-use Rattle.px_plan.specs.declared.waiting.Waiting.{Waiting}
+use Rattle.px_outcome.specs.declared.input.Input.{Input}
+use Rattle.px_outcome.specs.declared.input.Way.{Way}
+use Rattle.px_outcome.specs.declared.input.Way.TheVariants.{Coming, There, Left}
+use Rattle.px_outcome.specs.declared.waiting.Waiting.{Waiting}
 use Rattle.px_state.specs.State.{State, has_index, is_bound_for, is_settled, bound_for, settled_on}
 use Rattle.px_core.specs.Orderly.{entry_of, spec_in, specs_of, is_held_by, is_there, inputs_there}
 use Rattle.px_state.specs.Out.{waiting_for, first_of, rest_of, on_way, with_way, inputs_past, past, handed_out}
-use Rattle.px_core.specs.Keeps.{AreInStep, IsAwaiting, IsInput, IsSteady, IsRising, is_coming_to, is_coming, brought_of, handed_out_by, messages_out}
+use Rattle.px_core.specs.Consistency.{AreInStep, IsAwaiting, IsInput, IsSteady, IsRising, is_coming_to, is_coming, brought_of, handed_out_by, messages_out}
 use Rattle.px_core.proofs.ListLaws.{no_cons, same_passed, no_more_pass, all_change}
 use Rattle.px_core.proofs.EntryLaws.{FirstBrought, first_brought, Found, found_in, get_in, in_same, removed, inserted, rising_change}
 use Rattle.px_core.proofs.InStepLaws.{view, unmoved, handed}

@@ -10,14 +10,14 @@ use Rattle.px_header.specs.declared.header.SinkSpec.{SinkSpec}
 use Rattle.px_model.specs.Frame.{SampleSpec}
 use Rattle.px_model.specs.Message.{Message}
 use Rattle.px_model.specs.Orderly.{Inputs, IsOrderly, NamesInput, Fits, inputs_left, inputs_left_by}
-use Rattle.px_model.proofs.Shown.{orderly_joins}
+use Rattle.px_model.proofs.Matching.{orderly_joins}
 use Rattle.px_msg.specs.declared.message.Msg.{Msg}
 use Rattle.px_msg.specs.View.{sample_spec, message_of}
-use Rattle.px_plan.specs.declared.input.Input.{Input}
+use Rattle.px_outcome.specs.declared.input.Input.{Input}
 use Rattle.px_state.specs.State.{settled_on, bound_for}
 use Rattle.px_ctl_play.specs.Asked.{MOST_ON_SINK}
 use Rattle.px_core.specs.Orderly.{entry_of, spec_in, specs_of, is_held_by}
-use Rattle.px_core.specs.Keeps.{AreInStep, IsPosted, is_coming_to, brought_of}
+use Rattle.px_core.specs.Consistency.{AreInStep, IsPosted, is_coming_to, brought_of}
 use Rattle.px_core.proofs.ListLaws.{all_push}
 
 -- a message, as the definitions of sinks have it

@@ -14,13 +14,13 @@ use Rattle.px_flat.specs.Member.{is_input, channels_of}
 use Rattle.px_flat.specs.FlatVolume.{FlatGroup, member_of}
 use Rattle.px_flat.specs.Inputs.{channels_in}
 use Rattle.px_flat.proofs.Inputs.{unfound_in}
-use Rattle.px_plan.specs.declared.input.Input.{Input}
-use Rattle.px_plan.specs.declared.input.Standing.TheVariants.{Moving}
-use Rattle.px_plan.specs.declared.target.Target.{Target}
+use Rattle.px_outcome.specs.declared.input.Input.{Input}
+use Rattle.px_outcome.specs.declared.input.Standing.TheVariants.{Moving}
+use Rattle.px_outcome.specs.declared.target.Target.{Target}
 use Rattle.px_ctl_play.specs.Arrival.{HasChannels, CanJoin}
 use Rattle.px_sinks.specs.Sinks.{target_of, target_at}
 use Rattle.px_state.specs.State.{State, has_index, input_of}
-use Rattle.px_core.specs.Keeps.{IsFedAt, GoesTo, GoesThere, IsInput, IsKept}
+use Rattle.px_core.specs.Consistency.{IsFedAt, GoesTo, GoesThere, IsInput, IsConsistent}
 use Rattle.px_core.proofs.ListLaws.{found_all}
 use Rattle.px_core.proofs.HandingLaws.{sink_there}
 use Rattle.px_core.proofs.CreateLaws.{sink_rules}
@@ -48,7 +48,7 @@ sink_seen : (sinks : List SinkSpec) (to : SinkId) (sink : Target) (o : Option Si
 sink_seen sinks to sink None e f = absurd (none-some sink f)
 sink_seen sinks to sink (Some s) e f = (s, e, sym (same_Some (target_of to s) sink f))
 
-module _ {P : Type 0} (spec_of : P → SampleSpec) (state : State P) (h : IsKept spec_of state) (x : Input) (here : input_of state.inputs x.index ≡ Some x) where
+module _ {P : Type 0} (spec_of : P → SampleSpec) (state : State P) (h : IsConsistent spec_of state) (x : Input) (here : input_of state.inputs x.index ≡ Some x) where
   is : IsInput state.sinks state.inputs_made x
   is = found_all (IsInput state.sinks state.inputs_made) (has_index x.index) state.inputs x h.steady.inputs here
 

@@ -4,19 +4,19 @@ use Rattle.std.specs.Prelude.{nat_eq, IsSome}
 use Rattle.std.specs.List.{find}
 use Rattle.std.proofs.lemmas.Bool.{cond-true, cond-false, eq-eqb, ne_eqb}
 use Rattle.std.proofs.lemmas.Option.{none-some, same_Some}
-use Rattle.px_plan.specs.declared.input.Connection.{Connection}
-use Rattle.px_plan.specs.declared.input.Input.{Input}
-use Rattle.px_plan.specs.declared.waiting.Waiting.{Waiting}
-use Rattle.px_plan.specs.declared.change.Change.TheVariants.{Ended}
-use Rattle.px_plan.specs.declared.sending.Reason.TheVariants.{Killed}
+use Rattle.px_outcome.specs.declared.input.Connection.{Connection}
+use Rattle.px_outcome.specs.declared.input.Input.{Input}
+use Rattle.px_outcome.specs.declared.waiting.Waiting.{Waiting}
+use Rattle.px_outcome.specs.declared.change.Change.TheVariants.{Ended}
+use Rattle.px_outcome.specs.declared.sending.Reason.TheVariants.{Killed}
 use Rattle.px_ctl_info.specs.Clients.{is_of, connection_with, kill_client}
 use Rattle.px_ctl_play.specs.Kill.{kill_input}
 use Rattle.px_state.specs.State.{State, connection_of}
 use Rattle.px_core.specs.Connecting.{unmarked}
-use Rattle.px_core.specs.Keeps.{AreDistinct}
+use Rattle.px_core.specs.Consistency.{AreDistinct}
 use Rattle.px_core.specs.Lawful.{AreLawful}
 use Rattle.px_core.proofs.ListLaws.{found_all}
-use Rattle.px_core.proofs.RowLaws.{Each}
+use Rattle.px_core.proofs.HandledLaws.{Each}
 use Rattle.px_core.proofs.AnswerLaws.{IsLawful}
 
 -- where no two have the same number, one that is found in any way is the one with its number

@@ -8,7 +8,7 @@ pub mod MoveLaws
 pub mod GroupLaws
 pub mod HandingLaws
 pub mod VerbLaws
-pub mod RowLaws
+pub mod HandledLaws
 pub mod Going
 pub mod StillLaws
 pub mod AnswerLaws
@@ -25,7 +25,7 @@ pub mod ParcelLaws
 pub mod CoreLaws
 pub mod BackLaws
 pub mod EndLaws
-pub mod TellsLaws
+pub mod RepliesLaws
 pub mod RefusalLaws
 pub mod HearingLaws
 pub mod EventLaws

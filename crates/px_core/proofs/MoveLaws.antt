@@ -12,14 +12,14 @@ use Rattle.px_model.specs.Frame.{SampleSpec}
 use Rattle.px_model.specs.Orderly.{IsParcel}
 use Rattle.px_msg.specs.declared.message.Msg.TheVariants.{Attach, Detach}
 use Rattle.px_msg.specs.View.{sample_spec}
-use Rattle.px_plan.specs.declared.input.Input.{Input}
-use Rattle.px_plan.specs.declared.input.Standing.TheVariants.{Settled, Moving}
-use Rattle.px_plan.specs.declared.input.Way.TheVariants.{Left}
+use Rattle.px_outcome.specs.declared.input.Input.{Input}
+use Rattle.px_outcome.specs.declared.input.Standing.TheVariants.{Settled, Moving}
+use Rattle.px_outcome.specs.declared.input.Way.TheVariants.{Left}
 use Rattle.px_state.specs.State.{State, has_index, input_of, belongs_to, is_bound_for, is_settled, bound_for, settled_on}
 use Rattle.px_state.specs.Change.{change_first, moving_to, arrived_at, departing, arriving}
 use Rattle.px_ctl_play.specs.Asked.{MOST_ON_SINK}
 use Rattle.px_core.specs.Orderly.{entry_of, spec_in, specs_of, is_held_by, is_there}
-use Rattle.px_core.specs.Keeps.{IsFedAt, GoesTo, IsInput, IsSteady, IsRising, is_coming_to, is_coming}
+use Rattle.px_core.specs.Consistency.{IsFedAt, GoesTo, IsInput, IsSteady, IsRising, is_coming_to, is_coming}
 use Rattle.px_core.proofs.ListLaws.{same_passed, no_more_pass, one_more_passes, fewer_by_one, all_change, all_change_found, found_all}
 use Rattle.px_core.proofs.EntryLaws.{get_in, here_in, in_same, removed, inserted, arrived_in, few_specs, rising_change}
 use Rattle.px_core.proofs.InStepLaws.{unmoved, still_few, posted}

@@ -12,22 +12,22 @@ use Rattle.px_header.specs.HeaderRules.{IsHeader}
 use Rattle.px_model.specs.Frame.{SampleSpec}
 use Rattle.px_msg.specs.declared.message.Msg.{Msg}
 use Rattle.px_msg.specs.declared.message.Msg.TheVariants.{New, Attach, Detach, Write, Cork, Flush, Trigger, Prebuf, Drain, Attr, Factors, Query}
-use Rattle.px_plan.specs.declared.change.Change.TheVariants.{Authed, Named, Masked, Defaulted, Made, Described, Leaves, Moves, Arrives, Released, Said, Regrouped, Asked, Answered, Gone, Ended, Forgotten}
-use Rattle.px_plan.specs.declared.input.Connection.{Connection}
-use Rattle.px_plan.specs.declared.input.Input.{Input}
-use Rattle.px_plan.specs.declared.input.Standing.{Standing}
-use Rattle.px_plan.specs.declared.input.Standing.TheVariants.{Settled, Moving, Leaving}
+use Rattle.px_outcome.specs.declared.change.Change.TheVariants.{Authed, Named, Masked, Defaulted, Made, Described, Leaves, Moves, Arrives, Released, Posted, Regrouped, Asked, Answered, Gone, Ended, Forgotten}
+use Rattle.px_outcome.specs.declared.input.Connection.{Connection}
+use Rattle.px_outcome.specs.declared.input.Input.{Input}
+use Rattle.px_outcome.specs.declared.input.Standing.{Standing}
+use Rattle.px_outcome.specs.declared.input.Standing.TheVariants.{Settled, Moving, Leaving}
 use Rattle.px_state.specs.declared.delayed.Delayed.{Delayed}
 use Rattle.px_state.specs.State.{State, new_state, connection_of, input_of}
-use Rattle.px_state.specs.Change.{Change, posting, regrouping, ending, ending_of, saying, saying_of, departs, departs_of, releasing, releasing_of, changed, committed}
+use Rattle.px_state.specs.Change.{Change, posting, regrouping, ending, ending_of, posting_to_input, posting_if_there, departs, departs_of, releasing, releasing_of, changed, committed}
 use Rattle.px_core.specs.Lawful.{is_of, Brings, Suits, AreFor, IsReleased, AreReleased, Lawful, AreLawfulOwing, owed_after}
-use Rattle.px_plan.specs.Plan.{Planned}
-use Rattle.px_state.specs.Plan.{Plan}
+use Rattle.px_outcome.specs.Outcome.{OutcomeParts}
+use Rattle.px_state.specs.Outcome.{CoreOutcome}
 use Rattle.px_core.specs.Connecting.{is_full, joined, connected}
 use Rattle.px_state.specs.Out.{first_of, rest_of, waiting_for, next_for, past, handed_out}
-use Rattle.px_core.specs.Keeps.{IsKept, IsStep}
+use Rattle.px_core.specs.Consistency.{IsConsistent, IsStep}
 use Rattle.px_core.specs.Parcels.{given_in, Carries, Takes, AllCarry, IsAmong}
-use Rattle.px_core.specs.Hearing.{told_in, told_by}
+use Rattle.px_core.specs.Hearing.{posted_by_step, posted_by_steps}
 use Rattle.px_core.specs.Step.{Step, connect, frame, broken, close, cut, sweep, notice, out, answer_of, stepped, stepped_by}
 use Rattle.px_core.proofs.ListLaws.{all_push}
 use Rattle.px_core.proofs.HandingLaws.{sink_there}
@@ -120,11 +120,11 @@ module _ {P : Type 0} (whole : P → Type 0) where
       by (Moving to) = h
       by Leaving = h
 
-  saying_carries : (o : Option Input) (m : Msg P) (state : State P) → IfSome o (λ x. Suits x m) → AllCarry whole state → AllCarry whole (saying_of o m state)
-  saying_carries None m state suits h = h
-  saying_carries (Some x) m state suits h = by x.standing
+  posting_to_input_carries : (o : Option Input) (m : Msg P) (state : State P) → IfSome o (λ x. Suits x m) → AllCarry whole state → AllCarry whole (posting_if_there o m state)
+  posting_to_input_carries None m state suits h = h
+  posting_to_input_carries (Some x) m state suits h = by x.standing
     where
-      by : (standing : Standing) → AllCarry whole (saying standing x m state)
+      by : (standing : Standing) → AllCarry whole (posting_to_input standing x m state)
       by Settled = posting_carries x.sink.0 m state (suits_none x m suits) h
       by (Moving to) = h
       by Leaving = h
@@ -159,7 +159,7 @@ module _ {P : Type 0} (whole : P → Type 0) where
   change_carries state (Moves index to) lawful h = moved_carries to (input_of state.inputs index) state h
   change_carries state (Arrives index m) lawful h = absurd lawful
   change_carries state (Released index) lawful h = released_carries (input_of state.inputs index) state lawful h
-  change_carries state (Said index m) lawful h = saying_carries (input_of state.inputs index) m state lawful h
+  change_carries state (Posted index m) lawful h = posting_to_input_carries (input_of state.inputs index) m state lawful h
   change_carries state (Regrouped sink group m) lawful h =
       let own = sink_there state.sinks sink.0 lawful.there in
       posting_carries sink.0 m (regrouping sink.0 group state) (factors_none own.0 m (lawful.factors own.0 own.1)) h
@@ -189,55 +189,55 @@ module _ {P : Type 0} (whole : P → Type 0) where
           (all_rest (Carries whole) (waiting_for state sink) (all_get (AllByRecursion (Carries whole)) state.posted sink.0 [] h tt))
 
   -- what arrives was given up
-  arrival_carries : (spec_of : P → SampleSpec) (state : State P) (plan : Plan P) (given : List P) → IsArrival spec_of state plan given → AllByRecursion whole given → AllCarry whole state → AllCarry whole (committed state plan.changes)
-  arrival_carries spec_of state plan given a takes h =
-      subst (AllCarry whole) (sym (arrival_committed spec_of state plan given a))
+  arrival_carries : (spec_of : P → SampleSpec) (state : State P) (outcome : CoreOutcome P) (given : List P) → IsArrival spec_of state outcome given → AllByRecursion whole given → AllCarry whole state → AllCarry whole (committed state outcome.changes)
+  arrival_carries spec_of state outcome given a takes h =
+      subst (AllCarry whole) (sym (arrival_committed spec_of state outcome given a))
       (changes_carry a.owed a.behind a.after a.lawful
       (subst (λ (posted : List (List (Msg P))). AllByRecursion (AllByRecursion (Carries whole)) posted) (sym a.posted)
       (posting_carries a.to.0 a.message state (subst (AllByRecursion whole) a.carried takes) h)))
 
-  answer_carries : (spec_of : P → SampleSpec) (state : State P) (s : Step P) → IsStep s → Takes whole s → IsKept spec_of state → AllCarry whole state → AllCarry whole (committed state (Planned.changes (answer_of spec_of state s)))
-  answer_carries spec_of state s is takes kept h = by (answer_sound spec_of state s is kept)
+  answer_carries : (spec_of : P → SampleSpec) (state : State P) (s : Step P) → IsStep s → Takes whole s → IsConsistent spec_of state → AllCarry whole state → AllCarry whole (committed state (OutcomeParts.changes (answer_of spec_of state s)))
+  answer_carries spec_of state s is takes consistent h = by (answer_sound spec_of state s is consistent)
     where
-      by : IsLawful state (answer_of spec_of state s) ⊎ IsArrival spec_of state (answer_of spec_of state s) (given_in s) → AllCarry whole (committed state (Planned.changes (answer_of spec_of state s)))
-      by (inl lawful) = changes_carry [] (Planned.changes (answer_of spec_of state s)) state lawful h
+      by : IsLawful state (answer_of spec_of state s) ⊎ IsArrival spec_of state (answer_of spec_of state s) (given_in s) → AllCarry whole (committed state (OutcomeParts.changes (answer_of spec_of state s)))
+      by (inl lawful) = changes_carry [] (OutcomeParts.changes (answer_of spec_of state s)) state lawful h
       by (inr a) = arrival_carries spec_of state (answer_of spec_of state s) (given_in s) a takes h
 
-  pub step_carries : (spec_of : P → SampleSpec) (state : State P) (s : Step P) → IsStep s → Takes whole s → IsKept spec_of state → AllCarry whole state → AllCarry whole (stepped spec_of state s)
-  step_carries spec_of state (connect conn) is takes kept h = connected_carries (connection_of state.connections conn) conn state h
-  step_carries spec_of state (frame conn f) is takes kept h = answer_carries spec_of state (frame conn f) is takes kept h
-  step_carries spec_of state (broken conn fault at) is takes kept h = answer_carries spec_of state (broken conn fault at) is takes kept h
-  step_carries spec_of state (close conn) is takes kept h = answer_carries spec_of state (close conn) is takes kept h
-  step_carries spec_of state (cut conn) is takes kept h = answer_carries spec_of state (cut conn) is takes kept h
-  step_carries spec_of state sweep is takes kept h = answer_carries spec_of state sweep is takes kept h
-  step_carries spec_of state (notice sink n) is takes kept h = answer_carries spec_of state (notice sink n) is takes kept h
-  step_carries spec_of state (out sink) is takes kept h = out_carries sink state h
+  pub step_carries : (spec_of : P → SampleSpec) (state : State P) (s : Step P) → IsStep s → Takes whole s → IsConsistent spec_of state → AllCarry whole state → AllCarry whole (stepped spec_of state s)
+  step_carries spec_of state (connect conn) is takes consistent h = connected_carries (connection_of state.connections conn) conn state h
+  step_carries spec_of state (frame conn f) is takes consistent h = answer_carries spec_of state (frame conn f) is takes consistent h
+  step_carries spec_of state (broken conn fault at) is takes consistent h = answer_carries spec_of state (broken conn fault at) is takes consistent h
+  step_carries spec_of state (close conn) is takes consistent h = answer_carries spec_of state (close conn) is takes consistent h
+  step_carries spec_of state (cut conn) is takes consistent h = answer_carries spec_of state (cut conn) is takes consistent h
+  step_carries spec_of state sweep is takes consistent h = answer_carries spec_of state sweep is takes consistent h
+  step_carries spec_of state (notice sink n) is takes consistent h = answer_carries spec_of state (notice sink n) is takes consistent h
+  step_carries spec_of state (out sink) is takes consistent h = out_carries sink state h
 
-  pub steps_carry : (spec_of : P → SampleSpec) (steps : List (Step P)) (state : State P) → AllByRecursion IsStep steps → AllByRecursion (Takes whole) steps → IsKept spec_of state → AllCarry whole state → AllCarry whole (stepped_by spec_of state steps)
-  steps_carry spec_of [] state is takes kept h = h
-  steps_carry spec_of (s ∷ steps) state is takes kept h =
-      steps_carry spec_of steps (stepped spec_of state s) is.1 takes.1 (step_keeps spec_of state s is.0 kept) (step_carries spec_of state s is.0 takes.0 kept h)
+  pub steps_carry : (spec_of : P → SampleSpec) (steps : List (Step P)) (state : State P) → AllByRecursion IsStep steps → AllByRecursion (Takes whole) steps → IsConsistent spec_of state → AllCarry whole state → AllCarry whole (stepped_by spec_of state steps)
+  steps_carry spec_of [] state is takes consistent h = h
+  steps_carry spec_of (s ∷ steps) state is takes consistent h =
+      steps_carry spec_of steps (stepped spec_of state s) is.1 takes.1 (step_keeps spec_of state s is.0 consistent) (step_carries spec_of state s is.0 takes.0 consistent h)
 
   -- ---- what is handed out
 
-  told_one : (sink : SinkId) (state : State P) (s : Step P) → AllCarry whole state → AllByRecursion (Carries whole) (told_in sink state s)
-  told_one sink state (connect conn) h = tt
-  told_one sink state (frame conn f) h = tt
-  told_one sink state (broken conn fault at) h = tt
-  told_one sink state (close conn) h = tt
-  told_one sink state (cut conn) h = tt
-  told_one sink state sweep h = tt
-  told_one sink state (notice from n) h = tt
-  told_one sink state (out to) h =
+  posted_one : (sink : SinkId) (state : State P) (s : Step P) → AllCarry whole state → AllByRecursion (Carries whole) (posted_by_step sink state s)
+  posted_one sink state (connect conn) h = tt
+  posted_one sink state (frame conn f) h = tt
+  posted_one sink state (broken conn fault at) h = tt
+  posted_one sink state (close conn) h = tt
+  posted_one sink state (cut conn) h = tt
+  posted_one sink state sweep h = tt
+  posted_one sink state (notice from n) h = tt
+  posted_one sink state (out to) h =
       cond_both (nat_eq to.0 sink.0) (option_to_list (next_for state to)) [] (AllByRecursion (Carries whole))
       (λ e. all_first (Carries whole) (waiting_for state to) (all_get (AllByRecursion (Carries whole)) state.posted to.0 [] h tt))
       (λ e. tt)
 
-  pub told_carry : (spec_of : P → SampleSpec) (sink : SinkId) (steps : List (Step P)) (state : State P) → AllByRecursion IsStep steps → AllByRecursion (Takes whole) steps → IsKept spec_of state → AllCarry whole state → AllByRecursion (Carries whole) (told_by spec_of sink state steps)
-  told_carry spec_of sink [] state is takes kept h = tt
-  told_carry spec_of sink (s ∷ steps) state is takes kept h =
-      all_join (Carries whole) (told_in sink state s) (told_by spec_of sink (stepped spec_of state s) steps) (told_one sink state s h)
-      (told_carry spec_of sink steps (stepped spec_of state s) is.1 takes.1 (step_keeps spec_of state s is.0 kept) (step_carries spec_of state s is.0 takes.0 kept h))
+  pub posted_carry : (spec_of : P → SampleSpec) (sink : SinkId) (steps : List (Step P)) (state : State P) → AllByRecursion IsStep steps → AllByRecursion (Takes whole) steps → IsConsistent spec_of state → AllCarry whole state → AllByRecursion (Carries whole) (posted_by_steps spec_of sink state steps)
+  posted_carry spec_of sink [] state is takes consistent h = tt
+  posted_carry spec_of sink (s ∷ steps) state is takes consistent h =
+      all_join (Carries whole) (posted_by_step sink state s) (posted_by_steps spec_of sink (stepped spec_of state s) steps) (posted_one sink state s h)
+      (posted_carry spec_of sink steps (stepped spec_of state s) is.1 takes.1 (step_keeps spec_of state s is.0 consistent) (step_carries spec_of state s is.0 takes.0 consistent h))
 
   -- ---- a new state
 
@@ -272,6 +272,6 @@ pub all_carried : {P : Type 0} (spec_of : P → SampleSpec) (header : Header) (s
 all_carried spec_of header steps h is =
     steps_carry (IsAmong (flat_map given_in steps)) spec_of steps (new_state header) is (steps_among steps (flat_map given_in steps) (λ p i. i)) (new_keeps spec_of header h) (new_carry (IsAmong (flat_map given_in steps)) header)
 
-pub all_told : {P : Type 0} (spec_of : P → SampleSpec) (header : Header) (steps : List (Step P)) (sink : SinkId) → IsHeader header → AllByRecursion IsStep steps → AllByRecursion (Carries (IsAmong (flat_map given_in steps))) (told_by spec_of sink (new_state header) steps)
-all_told spec_of header steps sink h is =
-    told_carry (IsAmong (flat_map given_in steps)) spec_of sink steps (new_state header) is (steps_among steps (flat_map given_in steps) (λ p i. i)) (new_keeps spec_of header h) (new_carry (IsAmong (flat_map given_in steps)) header)
+pub all_posted : {P : Type 0} (spec_of : P → SampleSpec) (header : Header) (steps : List (Step P)) (sink : SinkId) → IsHeader header → AllByRecursion IsStep steps → AllByRecursion (Carries (IsAmong (flat_map given_in steps))) (posted_by_steps spec_of sink (new_state header) steps)
+all_posted spec_of header steps sink h is =
+    posted_carry (IsAmong (flat_map given_in steps)) spec_of sink steps (new_state header) is (steps_among steps (flat_map given_in steps) (λ p i. i)) (new_keeps spec_of header h) (new_carry (IsAmong (flat_map given_in steps)) header)

@@ -26,56 +26,56 @@ use Rattle.px_reply.specs.Message.{latency_reply, moved_message}
 use Rattle.px_model.specs.Frame.{SampleSpec}
 use Rattle.px_msg.specs.declared.notice.Notice.{Notice}
 use Rattle.px_msg.specs.declared.notice.Notice.TheVariants.{Request, Overflow, Underflow, Started, Drained, Detached, Latency}
-use Rattle.px_plan.specs.declared.refusal.Refusal.TheVariants.{Code, NoMemory}
-use Rattle.px_plan.specs.declared.change.Change.TheVariants.{Released, Ended, Forgotten}
-use Rattle.px_plan.specs.declared.sending.Reason.{Reason}
-use Rattle.px_plan.specs.declared.sending.Reason.TheVariants.{Protocol as Breach, Limit, Cut as ForMemory}
-use Rattle.px_plan.specs.declared.sending.Sending.{Sending}
-use Rattle.px_plan.specs.declared.input.Connection.{Connection}
-use Rattle.px_plan.specs.declared.input.Input.{Input}
-use Rattle.px_plan.specs.declared.waiting.Waiting.{Waiting}
-use Rattle.px_plan.specs.Waiting.{drain_under, question_under}
-use Rattle.px_plan.specs.Plan.{Planned, idle, telling}
-use Rattle.px_plan.specs.Row.{Row}
-use Rattle.px_ctl_play.specs.declared.told.News.{News}
-use Rattle.px_ctl_play.specs.declared.told.News.TheVariants as news
+use Rattle.px_outcome.specs.declared.refusal.Refusal.TheVariants.{Code, NoMemory}
+use Rattle.px_outcome.specs.declared.change.Change.TheVariants.{Released, Ended, Forgotten}
+use Rattle.px_outcome.specs.declared.sending.Reason.{Reason}
+use Rattle.px_outcome.specs.declared.sending.Reason.TheVariants.{Protocol as Breach, Limit, Cut as ForMemory}
+use Rattle.px_outcome.specs.declared.sending.Sending.{Sending}
+use Rattle.px_outcome.specs.declared.input.Connection.{Connection}
+use Rattle.px_outcome.specs.declared.input.Input.{Input}
+use Rattle.px_outcome.specs.declared.waiting.Waiting.{Waiting}
+use Rattle.px_outcome.specs.Waiting.{drain_under, question_under}
+use Rattle.px_outcome.specs.Outcome.{OutcomeParts, idle, notifying}
+use Rattle.px_outcome.specs.Handled.{Handled}
+use Rattle.px_ctl_play.specs.declared.notified.News.{News}
+use Rattle.px_ctl_play.specs.declared.notified.News.TheVariants as news
 use Rattle.px_ctl_play.specs.declared.timing.Progress.{Progress}
 use Rattle.px_ctl_play.specs.Answer.{answered}
 use Rattle.px_ctl_play.specs.Drain.{drain_answered, drained}
 use Rattle.px_ctl_play.specs.Latency.{fields_of, time_given, latency_answered, measured}
 use Rattle.px_flat.specs.FlatVolume.{FlatGroup}
-use Rattle.px_ctl_play.specs.Told.{message_of, told, gives_up, gone, left}
+use Rattle.px_ctl_play.specs.Notified.{message_of, notified, gives_up, gone, left}
 use Rattle.px_state.specs.declared.effect.Effect.{Effect}
 use Rattle.px_state.specs.declared.effect.Effect.TheVariants.{Sent, Closed}
 use Rattle.px_state.specs.State.{State, goes_on, connection_of, stream_of, marked_of, is_from}
 use Rattle.px_state.specs.Change.{Change, marked, with_connection, committed}
 use Rattle.px_state.specs.Effect.{reason_code, framed, fits, sent, sending, closed_at, closed_for, fault_code, fault_place, offset_behind}
-use Rattle.px_state.specs.Plan.{Plan, reply_to_asker, sent_all, closed_by, closed_all, plan_effects, refused, reply_fits, requested, ended_by, broken_off}
-use Rattle.px_core.specs.Command.{row, read_answer, is_barred, command_answer, head_answer}
+use Rattle.px_state.specs.Outcome.{CoreOutcome, reply_to_asker, sent_all, closed_by, closed_all, outcome_effects, refused, reply_fits, requested, ended_by, broken_off}
+use Rattle.px_core.specs.Command.{handle, read_answer, is_barred, command_answer, head_answer}
 use Rattle.px_core.specs.Connecting.{is_full, connected, connect_effects, going_on, ended, ends, swept, sweep_of}
 use Rattle.px_types.specs.declared.ids.InputId.{InputId}
 use Rattle.px_flat.specs.declared.member.Member.{Member}
 use Rattle.px_flat.specs.FlatVolume.{member_of}
-use Rattle.px_plan.specs.declared.input.Standing.{Standing}
-use Rattle.px_plan.specs.declared.input.Standing.TheVariants.{Settled, Moving, Leaving}
-use Rattle.px_plan.specs.declared.target.Target.{Target}
-use Rattle.px_ctl_play.specs.Arrival.{hands_over, attributes_told, arrived_message, arrival_of, arrival_by, arriving_with}
+use Rattle.px_outcome.specs.declared.input.Standing.{Standing}
+use Rattle.px_outcome.specs.declared.input.Standing.TheVariants.{Settled, Moving, Leaving}
+use Rattle.px_outcome.specs.declared.target.Target.{Target}
+use Rattle.px_ctl_play.specs.Arrival.{hands_over, attributes_in_bytes, arrived_message, arrival_of, arrival_by, arriving_with}
 use Rattle.px_ctl_play.specs.Create.{latency_of}
 use Rattle.px_ctl_play.specs.Move.{feed_to}
 use Rattle.px_state.specs.Delayed.{delayed_of}
 use Rattle.px_core.specs.Notice.{input_on, owner_of, left_of, arrival_between, arrival_at, arrived_with, given_up_by, given_up, notice_answer}
 use Rattle.px_sinks.specs.Sinks.{rate_on, target_at}
-use Rattle.px_core.specs.Step.{Step, connect, frame, broken, close, cut, sweep, notice, out, body_answer, frame_of, sender_of, answer_of, answered as after_plan, answer_effects, stepped, effects_of}
+use Rattle.px_core.specs.Step.{Step, connect, frame, broken, close, cut, sweep, notice, out, body_answer, frame_of, sender_of, answer_of, answered as after_outcome, answer_effects, stepped, effects_of}
 use Rattle.px_subscribe.specs.Became.{events_between}
 use Rattle.px_subscribe.specs.InfoBytes.{infos_in}
-use Rattle.px_subscribe.specs.Moments.{telling_of, subscribers_of, given_in, told_between}
+use Rattle.px_subscribe.specs.Moments.{info_lists_of, subscribers_of, given_in, notified_between}
 use Rattle.px_state.specs.Events.{scene_of, step_events}
 use Rattle.px_state.proofs.SceneLaws.{events_are, none_events}
 use Rattle.px_core.proofs.EventLaws.{events_no_error}
 use Rattle.px_core.proofs.ListLaws.{all_joined, heads, no_cons}
-use Rattle.px_core.proofs.RowLaws.{Each}
+use Rattle.px_core.proofs.HandledLaws.{Each}
 use Rattle.px_core.proofs.Silent.{data_silent}
-use Rattle.px_core.proofs.TellsLaws.{Tells, a_reply, nothing, plain_byte, latency_byte, row_tells}
+use Rattle.px_core.proofs.RepliesLaws.{Replies, a_reply, nothing, plain_byte, latency_byte, handle_replies}
 
 -- ---- an error is no reply
 
@@ -104,29 +104,29 @@ is_sent (Closed conn reason fault at) = false
 closed_apart : (a b : ConnId) (reason : Reason) (fault at : ℕ) (packet : List ℕ) → Closed a reason fault at ≡ sent b packet → ⊥
 closed_apart a b reason fault at packet e = false≢true (ap is_sent e)
 
--- ---- what kind of plan each is
+-- ---- what kind of outcome each is
 
-pub data Kind {P : Type 0} (asker : Option ConnId) (plan : Plan P) : Type 0 where
+pub data Kind {P : Type 0} (asker : Option ConnId) (outcome : CoreOutcome P) : Type 0 where
   -- nothing changes
-  still : plan.changes ≡ [] → Kind asker plan
+  still : outcome.changes ≡ [] → Kind asker outcome
   -- a connection is sent what is no error, before all else
-  replies : (to : ConnId) (packet : List ℕ) (more : List Effect) → plan_effects asker plan ≡ sent to packet ∷ more → 1 ≤ get_or packet 4 0 → Kind asker plan
+  replies : (to : ConnId) (packet : List ℕ) (more : List Effect) → outcome_effects asker outcome ≡ sent to packet ∷ more → 1 ≤ get_or packet 4 0 → Kind asker outcome
   -- nobody is told
-  silent : plan_effects asker plan ≡ [] → Kind asker plan
+  silent : outcome_effects asker outcome ≡ [] → Kind asker outcome
   -- a connection ends
-  ending : (to : ConnId) (reason : Option Reason) (fault at : ℕ) → plan ≡ ended_by to reason fault at → Kind asker plan
+  ending : (to : ConnId) (reason : Option Reason) (fault at : ℕ) → outcome ≡ ended_by to reason fault at → Kind asker outcome
 
-reply_first : {P : Type 0} (to : ConnId) (plan : Plan P) (packet : List ℕ) → plan.reply ≡ Some packet → fits packet ≡ true → plan_effects (Some to) plan ≡ sent to packet ∷ (sent_all plan.errors ++ sent_all plan.told ++ closed_all plan.changes)
-reply_first to plan packet e f =
-    ap (λ r. reply_to_asker r (Some to) ++ sent_all plan.errors ++ sent_all plan.told ++ closed_all plan.changes) e
-    ∙ ap (λ effects. effects ++ sent_all plan.errors ++ sent_all plan.told ++ closed_all plan.changes) (cond-true (fits packet) (sent to packet ∷ []) [] f)
+reply_first : {P : Type 0} (to : ConnId) (outcome : CoreOutcome P) (packet : List ℕ) → outcome.reply ≡ Some packet → fits packet ≡ true → outcome_effects (Some to) outcome ≡ sent to packet ∷ (sent_all outcome.errors ++ sent_all outcome.notified ++ closed_all outcome.changes)
+reply_first to outcome packet e f =
+    ap (λ r. reply_to_asker r (Some to) ++ sent_all outcome.errors ++ sent_all outcome.notified ++ closed_all outcome.changes) e
+    ∙ ap (λ effects. effects ++ sent_all outcome.errors ++ sent_all outcome.notified ++ closed_all outcome.changes) (cond-true (fits packet) (sent to packet ∷ []) [] f)
 
-fitting_kind : {P : Type 0} (to : ConnId) (plan : Plan P) → Tells plan → reply_fits plan.reply ≡ true → Kind (Some to) plan
-fitting_kind to plan (a_reply packet is two) e = replies to packet (sent_all plan.errors ++ sent_all plan.told ++ closed_all plan.changes) (reply_first to plan packet is (sym (ap reply_fits is) ∙ e)) (omega (arith, two))
-fitting_kind to plan (nothing none) e = silent (none (Some to))
+fitting_kind : {P : Type 0} (to : ConnId) (outcome : CoreOutcome P) → Replies outcome → reply_fits outcome.reply ≡ true → Kind (Some to) outcome
+fitting_kind to outcome (a_reply packet is two) e = replies to packet (sent_all outcome.errors ++ sent_all outcome.notified ++ closed_all outcome.changes) (reply_first to outcome packet is (sym (ap reply_fits is) ∙ e)) (omega (arith, two))
+fitting_kind to outcome (nothing none) e = silent (none (Some to))
 
-requested_kind : {P : Type 0} (to : ConnId) (t : ℕ) (given : Row (Plan P)) → Each Tells given → Kind (Some to) (requested t given)
-requested_kind {P} to t (Ok plan) r = cond_both (reply_fits plan.reply) plan (refused t TooLarge) (Kind {P = P} (Some to)) (λ e. fitting_kind to plan r e) (λ e. still refl)
+requested_kind : {P : Type 0} (to : ConnId) (t : ℕ) (given : Handled (CoreOutcome P)) → Each Replies given → Kind (Some to) (requested t given)
+requested_kind {P} to t (Ok outcome) r = cond_both (reply_fits outcome.reply) outcome (refused t TooLarge) (Kind {P = P} (Some to)) (λ e. fitting_kind to outcome r e) (λ e. still refl)
 requested_kind to t (Err (Code code)) r = still refl
 requested_kind to t (Err NoMemory) r = still refl
 
@@ -136,7 +136,7 @@ broken_off_kind : {P : Type 0} (asker : Option ConnId) (to : ConnId) (at : ℕ) 
 broken_off_kind asker to at fault = ending to (Some Breach) (fault_code fault) (offset_behind at (fault_place fault)) refl
 
 read_kind : {P : Type 0} (state : State P) (n : ConnId) (c : Connection) (at t : ℕ) (r : Result Command CmdFault) → Kind (Some n) (read_answer state c at t r)
-read_kind state n c at t (Ok command) = requested_kind n t (row state c t command) (row_tells state c t command)
+read_kind state n c at t (Ok command) = requested_kind n t (handle state c t command) (handle_replies state c t command)
 read_kind state n c at t (Err (Protocol fault)) = broken_off_kind (Some n) c.conn at fault
 read_kind state n c at t (Err (Unknown command)) = still refl
 read_kind state n c at t (Err (Unsupported command)) = still refl
@@ -178,10 +178,10 @@ swept_silent P inputs (c ∷ cs) =
 sweep_kind : {P : Type 0} (state : State P) → Kind None (sweep_of state)
 sweep_kind {P} state = silent (swept_silent P state.inputs (marked_of state.connections))
 
-told_kind : {P : Type 0} (input : Option Input) (owner : Option Connection) (about : News) → Kind {P = P} None (told input owner about)
-told_kind None owner about = still refl
-told_kind (Some x) None about = still refl
-told_kind {P} (Some x) (Some c) about = cond_both (goes_on x) (telling c.conn (message_of about x)) idle (Kind {P = P} None) (λ e. still refl) (λ e. still refl)
+notified_kind : {P : Type 0} (input : Option Input) (owner : Option Connection) (about : News) → Kind {P = P} None (notified input owner about)
+notified_kind None owner about = still refl
+notified_kind (Some x) None about = still refl
+notified_kind {P} (Some x) (Some c) about = cond_both (goes_on x) (notifying c.conn (message_of about x)) idle (Kind {P = P} None) (λ e. still refl) (λ e. still refl)
 
 left_kind : {P : Type 0} (input : Option Input) (group : Option FlatGroup) (spec : SampleSpec) (inputs : List Input) → Kind {P = P} None (left input group spec inputs)
 left_kind None group spec inputs = still refl
@@ -214,7 +214,7 @@ arrival_kind {P} state x parcel sink from group waited m feed (Some c) = by (fit
     by : (b : Bool) → fits packet ≡ b → Kind {P = P} None (arriving_with x.index parcel (arrival_of x m feed from group sink (Some c) state.inputs waited))
     by true e =
         replies c.conn packet [] (closing (sending c.conn packet) ∙ ap (λ effects. (effects ++ []) ++ []) (cond-true (fits packet) (sent c.conn packet ∷ []) [] e))
-        (omega (arith, moved_byte x.stream sink.index.0 sink.name (attributes_told x) (latency_of sink)))
+        (omega (arith, moved_byte x.stream sink.index.0 sink.name (attributes_in_bytes x) (latency_of sink)))
     by false e = silent (closing (sending c.conn packet) ∙ ap (λ effects. (effects ++ []) ++ []) (cond-false (fits packet) (sent c.conn packet ∷ []) [] e))
 
 arrived_kind : {P : Type 0} (state : State P) (x : Input) (parcel : P) (t : Option Target) (f g : Option FlatGroup) → Kind {P = P} None (arrived_with x.index parcel (arrival_between state x t f g))
@@ -275,10 +275,10 @@ measured_kind {P} (Some x) owner waiting rate t progress =
     cond_both (goes_on x) (latency_answered rate x owner (question_under waiting x.index t) progress) idle (Kind {P = P} None) (λ e. latency_answered_kind rate x owner (question_under waiting x.index t) progress) (λ e. still refl)
 
 notice_kind : {P : Type 0} (spec_of : P → SampleSpec) (state : State P) (sink : SinkId) (n : Notice P) → Kind None (notice_answer spec_of state sink n)
-notice_kind spec_of state sink (Request input frames) = told_kind (input_on state.inputs sink input) (owner_of state.connections (input_on state.inputs sink input)) (news.Request frames)
-notice_kind spec_of state sink (Overflow input) = told_kind (input_on state.inputs sink input) (owner_of state.connections (input_on state.inputs sink input)) news.Overflow
-notice_kind spec_of state sink (Underflow input) = told_kind (input_on state.inputs sink input) (owner_of state.connections (input_on state.inputs sink input)) news.Underflow
-notice_kind spec_of state sink (Started input) = told_kind (input_on state.inputs sink input) (owner_of state.connections (input_on state.inputs sink input)) news.Started
+notice_kind spec_of state sink (Request input frames) = notified_kind (input_on state.inputs sink input) (owner_of state.connections (input_on state.inputs sink input)) (news.Request frames)
+notice_kind spec_of state sink (Overflow input) = notified_kind (input_on state.inputs sink input) (owner_of state.connections (input_on state.inputs sink input)) news.Overflow
+notice_kind spec_of state sink (Underflow input) = notified_kind (input_on state.inputs sink input) (owner_of state.connections (input_on state.inputs sink input)) news.Underflow
+notice_kind spec_of state sink (Started input) = notified_kind (input_on state.inputs sink input) (owner_of state.connections (input_on state.inputs sink input)) news.Started
 notice_kind spec_of state sink (Drained input t) = drained_kind (input_on state.inputs sink input) (owner_of state.connections (input_on state.inputs sink input)) state.waiting t
 notice_kind spec_of state sink (Detached input parcel) = given_up_kind spec_of state sink (input_on state.inputs sink input) parcel
 notice_kind spec_of state sink (Latency input t write read buffered playing run) =
@@ -302,16 +302,16 @@ all_send : (sendings : List Sending) → AllByRecursion IsSent (sent_all sending
 all_send [] = tt
 all_send (x ∷ sendings) = all_joined IsSent (sending x.conn x.packet) (sent_all sendings) (sending_sends x.conn x.packet) (all_send sendings)
 
-still_sends : {P : Type 0} (asker : Option ConnId) (plan : Plan P) → plan.changes ≡ [] → AllByRecursion IsSent (plan_effects asker plan)
-still_sends {P} asker plan e =
-    all_joined IsSent (reply_to_asker plan.reply asker ++ sent_all plan.errors ++ sent_all plan.told) (closed_all plan.changes)
-    (all_joined IsSent (reply_to_asker plan.reply asker ++ sent_all plan.errors) (sent_all plan.told)
-    (all_joined IsSent (reply_to_asker plan.reply asker) (sent_all plan.errors) (reply_sends plan.reply asker) (all_send plan.errors))
-    (all_send plan.told))
+still_sends : {P : Type 0} (asker : Option ConnId) (outcome : CoreOutcome P) → outcome.changes ≡ [] → AllByRecursion IsSent (outcome_effects asker outcome)
+still_sends {P} asker outcome e =
+    all_joined IsSent (reply_to_asker outcome.reply asker ++ sent_all outcome.errors ++ sent_all outcome.notified) (closed_all outcome.changes)
+    (all_joined IsSent (reply_to_asker outcome.reply asker ++ sent_all outcome.errors) (sent_all outcome.notified)
+    (all_joined IsSent (reply_to_asker outcome.reply asker) (sent_all outcome.errors) (reply_sends outcome.reply asker) (all_send outcome.errors))
+    (all_send outcome.notified))
     (subst (λ (changes : List (Change P)). AllByRecursion IsSent (closed_all changes)) (sym e) tt)
 
--- a plan that ends a connection does that alone
-ended_effects : (P : Type 0) (asker : Option ConnId) (to : ConnId) (reason : Option Reason) (fault at : ℕ) → plan_effects {P = P} asker (ended_by to reason fault at) ≡ closed_by to reason fault at
+-- an outcome that ends a connection does that alone
+ended_effects : (P : Type 0) (asker : Option ConnId) (to : ConnId) (reason : Option Reason) (fault at : ℕ) → outcome_effects {P = P} asker (ended_by to reason fault at) ≡ closed_by to reason fault at
 ended_effects P asker to None fault at = refl
 ended_effects P asker to (Some reason) fault at = refl
 
@@ -347,13 +347,13 @@ module _ (conn : ConnId) (tag code : ℕ) where
   ended_apart to None fault at e = not_silent e
   ended_apart to (Some reason) fault at e = closed_apart to conn reason fault at (refusal tag code) (heads (Closed to reason fault at) (sent conn (refusal tag code)) [] [] e)
 
-  kind_changeless : {P : Type 0} (state : State P) (asker : Option ConnId) (plan : Plan P) → Kind asker plan → Refuses (plan_effects asker plan) → committed state plan.changes ≡ state
-  kind_changeless state asker plan (still none) e = ap (committed state) none
-  kind_changeless state asker plan (replies to packet more effects two) e =
+  kind_changeless : {P : Type 0} (state : State P) (asker : Option ConnId) (outcome : CoreOutcome P) → Kind asker outcome → Refuses (outcome_effects asker outcome) → committed state outcome.changes ≡ state
+  kind_changeless state asker outcome (still none) e = ap (committed state) none
+  kind_changeless state asker outcome (replies to packet more effects two) e =
       absurd (sent_apart to conn packet (refusal tag code) two (refusal_byte tag code) (heads (sent to packet) (sent conn (refusal tag code)) more [] (sym effects ∙ e)))
-  kind_changeless state asker plan (silent effects) e = absurd (not_silent (sym effects ∙ e))
-  kind_changeless {P} state asker plan (ending to reason fault at is) e =
-      absurd (ended_apart to reason fault at (sym (ap (plan_effects asker) is ∙ ended_effects P asker to reason fault at) ∙ e))
+  kind_changeless state asker outcome (silent effects) e = absurd (not_silent (sym effects ∙ e))
+  kind_changeless {P} state asker outcome (ending to reason fault at is) e =
+      absurd (ended_apart to reason fault at (sym (ap (outcome_effects asker) is ∙ ended_effects P asker to reason fault at) ∙ e))
 
   -- events are no errors
   sendings_apart : (sendings : List Sending) → AllByRecursion (λ (x : Sending). 1 ≤ get_or x.packet 4 0) sendings → Refuses (sent_all sendings) → ⊥
@@ -370,8 +370,8 @@ module _ (conn : ConnId) (tag code : ℕ) where
       by : Alone (sent conn (refusal tag code)) effects (step_events before after) → Refuses effects
       by (first f) = f
       by (second f) =
-          absurd (sendings_apart (told_between before.sinks after.clients_made (scene_of before) (scene_of after))
-          (events_no_error (subscribers_of (scene_of after)) (events_between (given_in before.sinks after.clients_made (scene_of after)) (infos_in (telling_of before.sinks (scene_of before))) (infos_in (telling_of before.sinks (scene_of after))))) (sym (events_are before after) ∙ f))
+          absurd (sendings_apart (notified_between before.sinks after.clients_made (scene_of before) (scene_of after))
+          (events_no_error (subscribers_of (scene_of after)) (events_between (given_in before.sinks after.clients_made (scene_of after)) (infos_in (info_lists_of before.sinks (scene_of before))) (infos_in (info_lists_of before.sinks (scene_of after))))) (sym (events_are before after) ∙ f))
 
   -- a client that connects is sent nothing
   connect_refuses : {P : Type 0} (o : Option Connection) (n : ConnId) (state : State P) → Refuses (connect_effects o n state) → ⊥
@@ -387,13 +387,13 @@ module _ (conn : ConnId) (tag code : ℕ) where
       let c = connection_of state.connections n in
       absurd (connect_refuses c n state (front_refuses (connect_effects c n state) state (connected c n state) e))
   refusal_changes_nothing spec_of state (frame n f) e = kind_changeless state (Some n) (answer_of spec_of state (frame n f)) (frame_kind state n (going_on state.connections n) f)
-      (front_refuses (plan_effects (Some n) (answer_of spec_of state (frame n f))) state (after_plan state (answer_of spec_of state (frame n f))) e)
+      (front_refuses (outcome_effects (Some n) (answer_of spec_of state (frame n f))) state (after_outcome state (answer_of spec_of state (frame n f))) e)
   refusal_changes_nothing spec_of state (broken n fault at) e = kind_changeless state (Some n) (answer_of spec_of state (broken n fault at)) (ended_kind (Some n) (going_on state.connections n) (Some Breach) (rule_of fault) at) e
   refusal_changes_nothing spec_of state (close n) e = kind_changeless state (Some n) (answer_of spec_of state (close n)) (ended_kind (Some n) (going_on state.connections n) None 0 0) e
   refusal_changes_nothing spec_of state (cut n) e = kind_changeless state (Some n) (answer_of spec_of state (cut n)) (ended_kind (Some n) (going_on state.connections n) (Some ForMemory) 0 0) e
-  refusal_changes_nothing spec_of state sweep e = kind_changeless state None (sweep_of state) (sweep_kind state) (front_refuses (plan_effects None (sweep_of state)) state (after_plan state (sweep_of state)) e)
+  refusal_changes_nothing spec_of state sweep e = kind_changeless state None (sweep_of state) (sweep_kind state) (front_refuses (outcome_effects None (sweep_of state)) state (after_outcome state (sweep_of state)) e)
   refusal_changes_nothing spec_of state (notice sink n) e = kind_changeless state None (answer_of spec_of state (notice sink n)) (notice_kind spec_of state sink n)
-      (front_refuses (plan_effects None (answer_of spec_of state (notice sink n))) state (after_plan state (answer_of spec_of state (notice sink n))) e)
+      (front_refuses (outcome_effects None (answer_of spec_of state (notice sink n))) state (after_outcome state (answer_of spec_of state (notice sink n))) e)
   refusal_changes_nothing spec_of state (out sink) e = absurd (not_silent e)
 
 -- ---- a fault of a connection marks it, and changes nothing else
@@ -422,13 +422,13 @@ module _ (conn : ConnId) (fault at : ℕ) where
       let same : Closed to reason f a ≡ closed_at conn fault at = heads (Closed to reason f a) (closed_at conn fault at) [] [] e in
       ap (λ n. with_connection {P = P} (record { 0 = n }) marked state) (ap number_of same)
 
-  kind_marks : {P : Type 0} (state : State P) (asker : Option ConnId) (plan : Plan P) → Kind asker plan → Breaks (plan_effects asker plan) → committed state plan.changes ≡ with_connection conn marked state
-  kind_marks state asker plan (still none) e = absurd (no_break (plan_effects asker plan) (still_sends asker plan none) e)
-  kind_marks state asker plan (replies to packet more effects two) e = absurd (closed_apart conn to Breach fault at packet (sym (heads (sent to packet) (closed_at conn fault at) more [] (sym effects ∙ e))))
-  kind_marks state asker plan (silent effects) e = absurd (not_none (sym effects ∙ e))
-  kind_marks {P} state asker plan (ending to reason f a is) e =
-      ap (λ (p : Plan P). committed state p.changes) is
-      ∙ ended_marks state to reason f a (sym (ap (plan_effects asker) is ∙ ended_effects P asker to reason f a) ∙ e)
+  kind_marks : {P : Type 0} (state : State P) (asker : Option ConnId) (outcome : CoreOutcome P) → Kind asker outcome → Breaks (outcome_effects asker outcome) → committed state outcome.changes ≡ with_connection conn marked state
+  kind_marks state asker outcome (still none) e = absurd (no_break (outcome_effects asker outcome) (still_sends asker outcome none) e)
+  kind_marks state asker outcome (replies to packet more effects two) e = absurd (closed_apart conn to Breach fault at packet (sym (heads (sent to packet) (closed_at conn fault at) more [] (sym effects ∙ e))))
+  kind_marks state asker outcome (silent effects) e = absurd (not_none (sym effects ∙ e))
+  kind_marks {P} state asker outcome (ending to reason f a is) e =
+      ap (λ (p : CoreOutcome P). committed state p.changes) is
+      ∙ ended_marks state to reason f a (sym (ap (outcome_effects asker) is ∙ ended_effects P asker to reason f a) ∙ e)
 
   -- nor do events end anybody
   front_breaks : {P : Type 0} (effects : List Effect) (before after : State P) → Breaks (effects ++ step_events before after) → Breaks effects
@@ -437,8 +437,8 @@ module _ (conn : ConnId) (fault at : ℕ) where
       by : Alone (closed_at conn fault at) effects (step_events before after) → Breaks effects
       by (first f) = f
       by (second f) =
-          let told = told_between before.sinks after.clients_made (scene_of before) (scene_of after) in
-          absurd (no_break (sent_all told) (all_send told) (sym (events_are before after) ∙ f))
+          let notified = notified_between before.sinks after.clients_made (scene_of before) (scene_of after) in
+          absurd (no_break (sent_all notified) (all_send notified) (sym (events_are before after) ∙ f))
 
   -- a client that isn't taken has broken no rule
   connect_breaks : {P : Type 0} (o : Option Connection) (n : ConnId) (state : State P) → Breaks (connect_effects o n state) → ⊥
@@ -456,13 +456,13 @@ module _ (conn : ConnId) (fault at : ℕ) where
       let c = connection_of state.connections n in
       absurd (connect_breaks c n state (front_breaks (connect_effects c n state) state (connected c n state) e))
   fault_marks_its_own spec_of state (frame n f) e = kind_marks state (Some n) (answer_of spec_of state (frame n f)) (frame_kind state n (going_on state.connections n) f)
-      (front_breaks (plan_effects (Some n) (answer_of spec_of state (frame n f))) state (after_plan state (answer_of spec_of state (frame n f))) e)
+      (front_breaks (outcome_effects (Some n) (answer_of spec_of state (frame n f))) state (after_outcome state (answer_of spec_of state (frame n f))) e)
   fault_marks_its_own spec_of state (broken n f a) e = kind_marks state (Some n) (answer_of spec_of state (broken n f a)) (ended_kind (Some n) (going_on state.connections n) (Some Breach) (rule_of f) a) e
   fault_marks_its_own spec_of state (close n) e = kind_marks state (Some n) (answer_of spec_of state (close n)) (ended_kind (Some n) (going_on state.connections n) None 0 0) e
   fault_marks_its_own spec_of state (cut n) e = kind_marks state (Some n) (answer_of spec_of state (cut n)) (ended_kind (Some n) (going_on state.connections n) (Some ForMemory) 0 0) e
-  fault_marks_its_own spec_of state sweep e = kind_marks state None (sweep_of state) (sweep_kind state) (front_breaks (plan_effects None (sweep_of state)) state (after_plan state (sweep_of state)) e)
+  fault_marks_its_own spec_of state sweep e = kind_marks state None (sweep_of state) (sweep_kind state) (front_breaks (outcome_effects None (sweep_of state)) state (after_outcome state (sweep_of state)) e)
   fault_marks_its_own spec_of state (notice sink n) e = kind_marks state None (answer_of spec_of state (notice sink n)) (notice_kind spec_of state sink n)
-      (front_breaks (plan_effects None (answer_of spec_of state (notice sink n))) state (after_plan state (answer_of spec_of state (notice sink n))) e)
+      (front_breaks (outcome_effects None (answer_of spec_of state (notice sink n))) state (after_outcome state (answer_of spec_of state (notice sink n))) e)
   fault_marks_its_own spec_of state (out sink) e = absurd (not_none e)
 
 -- ---- a connection that isn't there, or has ended
@@ -471,16 +471,16 @@ pub ended_is_ignored : {P : Type 0} (spec_of : P → SampleSpec) (state : State 
 ended_is_ignored spec_of state (connect n) conn e gone = absurd (none-some conn e)
 ended_is_ignored {P} spec_of state (frame n f) conn e gone =
     let none : going_on state.connections n ≡ None = ap (going_on state.connections) (same_Some n conn e) ∙ gone in
-    (ap (λ o. committed state (Planned.changes (frame_of state o f))) none, ap (λ o. answer_effects (Some n) state (frame_of state o f)) none ∙ none_events state)
+    (ap (λ o. committed state (OutcomeParts.changes (frame_of state o f))) none, ap (λ o. answer_effects (Some n) state (frame_of state o f)) none ∙ none_events state)
 ended_is_ignored {P} spec_of state (broken n fault at) conn e gone =
     let none : going_on state.connections n ≡ None = ap (going_on state.connections) (same_Some n conn e) ∙ gone in
-    (ap (λ o. committed state (Planned.changes (ended {P = P} o (Some Breach) (rule_of fault) at))) none, ap (λ o. plan_effects (Some n) (ended {P = P} o (Some Breach) (rule_of fault) at)) none)
+    (ap (λ o. committed state (OutcomeParts.changes (ended {P = P} o (Some Breach) (rule_of fault) at))) none, ap (λ o. outcome_effects (Some n) (ended {P = P} o (Some Breach) (rule_of fault) at)) none)
 ended_is_ignored {P} spec_of state (close n) conn e gone =
     let none : going_on state.connections n ≡ None = ap (going_on state.connections) (same_Some n conn e) ∙ gone in
-    (ap (λ o. committed state (Planned.changes (ended {P = P} o None 0 0))) none, ap (λ o. plan_effects (Some n) (ended {P = P} o None 0 0)) none)
+    (ap (λ o. committed state (OutcomeParts.changes (ended {P = P} o None 0 0))) none, ap (λ o. outcome_effects (Some n) (ended {P = P} o None 0 0)) none)
 ended_is_ignored {P} spec_of state (cut n) conn e gone =
     let none : going_on state.connections n ≡ None = ap (going_on state.connections) (same_Some n conn e) ∙ gone in
-    (ap (λ o. committed state (Planned.changes (ended {P = P} o (Some ForMemory) 0 0))) none, ap (λ o. plan_effects (Some n) (ended {P = P} o (Some ForMemory) 0 0)) none)
+    (ap (λ o. committed state (OutcomeParts.changes (ended {P = P} o (Some ForMemory) 0 0))) none, ap (λ o. outcome_effects (Some n) (ended {P = P} o (Some ForMemory) 0 0)) none)
 ended_is_ignored spec_of state sweep conn e gone = absurd (none-some conn e)
 ended_is_ignored spec_of state (notice sink n) conn e gone = absurd (none-some conn e)
 ended_is_ignored spec_of state (out sink) conn e gone = absurd (none-some conn e)

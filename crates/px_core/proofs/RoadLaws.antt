@@ -6,28 +6,28 @@ use Rattle.std.proofs.lemmas.Option.{same_Some, slice_get_within}
 use Rattle.px_types.specs.declared.error_code.ErrorCode.TheVariants.{Busy, Invalid, NoEntity, NotSupported, TooLarge}
 use Rattle.px_header.specs.declared.header.SinkSpec.{SinkSpec}
 use Rattle.px_reply.specs.Front.{reply_to}
-use Rattle.px_plan.specs.declared.change.Change.TheVariants.{Moves}
-use Rattle.px_plan.specs.declared.input.Input.{Input}
-use Rattle.px_plan.specs.declared.target.Named.{Named}
-use Rattle.px_plan.specs.declared.target.Target.{Target}
-use Rattle.px_plan.specs.Input.{is_moving}
-use Rattle.px_plan.specs.Plan.{replied}
-use Rattle.px_plan.specs.Row.{◌>>=◌, check, present}
-use Rattle.px_plan.specs.Target.{is_clear, target_of as target_in}
+use Rattle.px_outcome.specs.declared.change.Change.TheVariants.{Moves}
+use Rattle.px_outcome.specs.declared.input.Input.{Input}
+use Rattle.px_outcome.specs.declared.target.Named.{Named}
+use Rattle.px_outcome.specs.declared.target.Target.{Target}
+use Rattle.px_outcome.specs.Input.{is_moving}
+use Rattle.px_outcome.specs.Outcome.{replied}
+use Rattle.px_outcome.specs.Handled.{◌>>=◌, check, present}
+use Rattle.px_outcome.specs.Target.{is_clear, target_of as target_in}
 use Rattle.px_ctl_play.specs.Asked.{MOST_ON_SINK}
 use Rattle.px_ctl_play.specs.Move.{feed_to, has_place, sent_off, moved_to, move_input}
 use Rattle.px_state.specs.State.{State, input_of, input_named, bound_for}
-use Rattle.px_core.specs.Keeps.{IsFedAt, GoesTo}
+use Rattle.px_core.specs.Consistency.{IsFedAt, GoesTo}
 use Rattle.px_core.specs.Lawful.{MayMove}
-use Rattle.px_state.specs.Plan.{Plan}
+use Rattle.px_state.specs.Outcome.{CoreOutcome}
 use Rattle.px_core.proofs.AnswerLaws.{IsLawful}
-use Rattle.px_core.proofs.RowLaws.{Each, each_check}
+use Rattle.px_core.proofs.HandledLaws.{Each, each_check}
 use Rattle.px_core.proofs.VerbLaws.{by_own}
 use Rattle.px_core.proofs.VolumeLaws.{going_is}
 use Rattle.px_sinks.proofs.Sinks.{IsThere}
 
 module _ {P : Type 0} (state : State P) (index tag : ℕ) (named : Named) (found : (target : Target) → target_in named ≡ Some target → IsThere state.sinks target) where
-  abbrev answer : Plan P
+  abbrev answer : CoreOutcome P
   answer = replied (reply_to tag) []
 
   module _ (x : Input) (here : input_of state.inputs x.index ≡ Some x) (sink : Target) (it : IsThere state.sinks sink) (apart : nat_eq x.sink.0 sink.index.0 ≡ false) where

@@ -11,17 +11,17 @@ use Rattle.px_msg.specs.View.{sample_spec}
 use Rattle.px_model.specs.declared.data.Attr.{Attr as Attributes}
 use Rattle.px_msg.specs.declared.message.Msg.{Msg}
 use Rattle.px_msg.specs.declared.message.Msg.TheVariants.{New, Attach, Detach, Write, Cork, Flush, Trigger, Prebuf, Drain, Attr, Factors, Query}
-use Rattle.px_plan.specs.declared.input.Input.{Input}
-use Rattle.px_plan.specs.declared.input.Way.{Way}
-use Rattle.px_plan.specs.declared.input.Way.TheVariants.{There, Left}
-use Rattle.px_plan.specs.declared.input.Standing.{Standing}
-use Rattle.px_plan.specs.declared.input.Standing.TheVariants.{Settled, Moving, Leaving}
-use Rattle.px_plan.specs.declared.change.Change.TheVariants.{Authed, Named, Masked, Defaulted, Made, Described, Leaves, Moves, Arrives, Released, Said, Regrouped, Asked, Answered, Gone, Ended, Forgotten}
-use Rattle.px_plan.specs.Input.{is_moving}
+use Rattle.px_outcome.specs.declared.input.Input.{Input}
+use Rattle.px_outcome.specs.declared.input.Way.{Way}
+use Rattle.px_outcome.specs.declared.input.Way.TheVariants.{There, Left}
+use Rattle.px_outcome.specs.declared.input.Standing.{Standing}
+use Rattle.px_outcome.specs.declared.input.Standing.TheVariants.{Settled, Moving, Leaving}
+use Rattle.px_outcome.specs.declared.change.Change.TheVariants.{Authed, Named, Masked, Defaulted, Made, Described, Leaves, Moves, Arrives, Released, Posted, Regrouped, Asked, Answered, Gone, Ended, Forgotten}
+use Rattle.px_outcome.specs.Input.{is_moving}
 use Rattle.px_state.specs.declared.delayed.Delayed.{Delayed}
 use Rattle.px_state.specs.Delayed.{is_of, delayed_of_others, Suits, Waits, IsDelayed}
 use Rattle.px_state.specs.State.{State, has_index, input_of}
-use Rattle.px_state.specs.Change.{Change, change_first, drop_first, leaving, with_attr, moving_to, inputs_told, ending, ending_of, saying, saying_of, departs, departs_of, releasing, releasing_of, changed, committed}
+use Rattle.px_state.specs.Change.{Change, change_first, drop_first, leaving, with_attr, moving_to, inputs_noted, ending, ending_of, posting_to_input, posting_if_there, departs, departs_of, releasing, releasing_of, changed, committed}
 use Rattle.px_core.specs.Lawful.{HasLeft, Lawful, AreLawfulOwing, owed_after}
 use Rattle.px_state.specs.Out.{on_way, inputs_past, past}
 use Rattle.px_core.proofs.ListLaws.{all_weaken, all_drop, all_push, found_test}
@@ -91,19 +91,19 @@ suits_as x y index spec (Query input tag) s = s ∙ sym (ap (λ (i : InputId). i
 attr_still : {P : Type 0} (index : InputId) (attr : Attributes) (xs : List Input) (ds : List (Delayed P)) → AllByRecursion (IsDelayed xs) ds → AllByRecursion (IsDelayed (change_first (has_index index) (with_attr attr) xs)) ds
 attr_still index attr xs ds h = still_change (has_index index) (with_attr attr) (λ x. refl) (λ x m w. (w.0, suits_as x (with_attr attr x) refl refl m w.1)) xs ds h
 
-told_still : {P : Type 0} (index : InputId) (m : Msg P) (xs : List Input) (ds : List (Delayed P)) → AllByRecursion (IsDelayed xs) ds → AllByRecursion (IsDelayed (inputs_told index m xs)) ds
-told_still index (New n) xs ds h = h
-told_still index (Attach input parcel feed factors) xs ds h = h
-told_still index (Detach input) xs ds h = h
-told_still index (Write input seek offset frames bytes) xs ds h = h
-told_still index (Cork input on) xs ds h = h
-told_still index (Flush input) xs ds h = h
-told_still index (Trigger input) xs ds h = h
-told_still index (Prebuf input) xs ds h = h
-told_still index (Drain input tag) xs ds h = h
-told_still index (Attr input attr) xs ds h = attr_still index attr xs ds h
-told_still index (Factors each) xs ds h = h
-told_still index (Query input tag) xs ds h = h
+noted_still : {P : Type 0} (index : InputId) (m : Msg P) (xs : List Input) (ds : List (Delayed P)) → AllByRecursion (IsDelayed xs) ds → AllByRecursion (IsDelayed (inputs_noted index m xs)) ds
+noted_still index (New n) xs ds h = h
+noted_still index (Attach input parcel feed factors) xs ds h = h
+noted_still index (Detach input) xs ds h = h
+noted_still index (Write input seek offset frames bytes) xs ds h = h
+noted_still index (Cork input on) xs ds h = h
+noted_still index (Flush input) xs ds h = h
+noted_still index (Trigger input) xs ds h = h
+noted_still index (Prebuf input) xs ds h = h
+noted_still index (Drain input tag) xs ds h = h
+noted_still index (Attr input attr) xs ds h = attr_still index attr xs ds h
+noted_still index (Factors each) xs ds h = h
+noted_still index (Query input tag) xs ds h = h
 
 departed_still : {P : Type 0} (index : InputId) (to : SinkId) (xs : List Input) (ds : List (Delayed P)) → AllByRecursion (IsDelayed xs) ds → AllByRecursion (IsDelayed (change_first (has_index index) (moving_to to) xs)) ds
 departed_still index to xs ds h = still_change (has_index index) (moving_to to) (λ x. refl) (λ x m w. (refl, suits_as x (moving_to to x) refl refl m w.1)) xs ds h
@@ -177,14 +177,14 @@ released_still {P} state (Some x) h = by (find (is_of x.index) state.delayed)
     by None = h
     by (Some d) = all_drop (IsDelayed state.inputs) (is_of x.index) state.delayed h
 
-said_still : {P : Type 0} (state : State P) (index : InputId) (m : Msg P) (o : Option Input) → input_of state.inputs index ≡ o → IfSome o (λ x. Suits x m) → Still state → Still (saying_of o m state)
-said_still state index m None e suits h = h
-said_still {P} state index m (Some x) e suits h = by x.standing refl
+posted_still : {P : Type 0} (state : State P) (index : InputId) (m : Msg P) (o : Option Input) → input_of state.inputs index ≡ o → IfSome o (λ x. Suits x m) → Still state → Still (posting_if_there o m state)
+posted_still state index m None e suits h = h
+posted_still {P} state index m (Some x) e suits h = by x.standing refl
   where
-    by : (standing : Standing) → x.standing ≡ standing → Still (saying standing x m state)
-    by Settled is = told_still x.index m state.inputs state.delayed h
+    by : (standing : Standing) → x.standing ≡ standing → Still (posting_to_input standing x m state)
+    by Settled is = noted_still x.index m state.inputs state.delayed h
     by (Moving to) is =
-        told_still x.index m state.inputs (state.delayed ++ record { input = x.index; message = m } ∷ [])
+        noted_still x.index m state.inputs (state.delayed ++ record { input = x.index; message = m } ∷ [])
         (all_push (IsDelayed state.inputs) state.delayed (record { input = x.index; message = m }) h
         (subst (λ o. MatchOption o ⊥ (λ y. Waits y m)) (sym (by_own state.inputs index x e)) (ap is_moving is, suits)))
     by Leaving is = h
@@ -206,7 +206,7 @@ change_still state (Leaves index) lawful h = left_still state index (input_of st
 change_still state (Moves index to) lawful h = moved_still state to (input_of state.inputs index) h
 change_still state (Arrives index m) lawful h = absurd lawful
 change_still state (Released index) lawful h = released_still state (input_of state.inputs index) h
-change_still state (Said index m) lawful h = said_still state index m (input_of state.inputs index) refl lawful h
+change_still state (Posted index m) lawful h = posted_still state index m (input_of state.inputs index) refl lawful h
 change_still state (Regrouped sink group m) lawful h = h
 change_still state (Asked w) lawful h = h
 change_still state (Answered w) lawful h = h

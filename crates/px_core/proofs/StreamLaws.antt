@@ -10,16 +10,16 @@ use Rattle.px_header.specs.declared.header.SinkSpec.{SinkSpec}
 use Rattle.px_msg.specs.Repair.{repaired}
 use Rattle.px_msg.specs.declared.message.Msg.{Msg}
 use Rattle.px_msg.specs.declared.message.Msg.TheVariants.{Cork, Flush, Trigger, Prebuf, Drain, Attr, Query}
-use Rattle.px_plan.specs.declared.change.Change.TheVariants.{Said}
-use Rattle.px_plan.specs.declared.input.Connection.{Connection}
-use Rattle.px_plan.specs.declared.input.Input.{Input}
-use Rattle.px_plan.specs.declared.input.Standing.{Standing}
-use Rattle.px_plan.specs.declared.input.Standing.TheVariants.{Settled, Moving, Leaving}
-use Rattle.px_plan.specs.declared.waiting.Awaited.{Awaited}
-use Rattle.px_plan.specs.declared.waiting.Awaited.TheVariants.{Drained, Latency as Measured}
-use Rattle.px_plan.specs.declared.waiting.Waiting.{Waiting}
-use Rattle.px_plan.specs.Plan.{idle}
-use Rattle.px_plan.specs.Waiting.{drain_under, question_under}
+use Rattle.px_outcome.specs.declared.change.Change.TheVariants.{Posted}
+use Rattle.px_outcome.specs.declared.input.Connection.{Connection}
+use Rattle.px_outcome.specs.declared.input.Input.{Input}
+use Rattle.px_outcome.specs.declared.input.Standing.{Standing}
+use Rattle.px_outcome.specs.declared.input.Standing.TheVariants.{Settled, Moving, Leaving}
+use Rattle.px_outcome.specs.declared.waiting.Awaited.{Awaited}
+use Rattle.px_outcome.specs.declared.waiting.Awaited.TheVariants.{Drained, Latency as Measured}
+use Rattle.px_outcome.specs.declared.waiting.Waiting.{Waiting}
+use Rattle.px_outcome.specs.Outcome.{idle}
+use Rattle.px_outcome.specs.Waiting.{drain_under, question_under}
 use Rattle.px_ctl_play.specs.declared.timing.Progress.{Progress}
 use Rattle.px_ctl_play.specs.Answer.{asked}
 use Rattle.px_ctl_play.specs.Attributes.{attributes}
@@ -28,12 +28,12 @@ use Rattle.px_ctl_play.specs.Delete.{delete}
 use Rattle.px_ctl_play.specs.Drain.{drain, drain_answered, drained}
 use Rattle.px_ctl_play.specs.Latency.{latency, latency_answered, measured}
 use Rattle.px_state.specs.State.{State, goes_on, going as still_going, has_index, input_of, input_named, is_stream, stream_of}
-use Rattle.px_state.specs.Change.{inputs_told, saying, saying_of}
-use Rattle.px_core.specs.Keeps.{IsInput, IsRising, IsGoing, IsAwaiting}
+use Rattle.px_state.specs.Change.{inputs_noted, posting_to_input, posting_if_there}
+use Rattle.px_core.specs.Consistency.{IsInput, IsRising, IsGoing, IsAwaiting}
 use Rattle.px_core.specs.Lawful.{Suits, Lawful}
 use Rattle.px_core.proofs.ListLaws.{found_test, found_all}
 use Rattle.px_core.proofs.EntryLaws.{found_by_index}
-use Rattle.px_core.proofs.RowLaws.{Each}
+use Rattle.px_core.proofs.HandledLaws.{Each}
 use Rattle.px_core.proofs.AnswerLaws.{IsLawful}
 use Rattle.px_core.proofs.CreateLaws.{repaired_fits}
 
@@ -61,35 +61,35 @@ each_few_channels sinks made (x ∷ inputs) h (suc k) d l = each_few_channels si
 
 module _ {P : Type 0} (state : State P) (r : IsRising state.inputs) (conn : ConnId) (stream : ℕ) where
   -- it is told something
-  said : (x : Input) → stream_of state.inputs conn stream ≡ Some x → (m : Msg P) → Suits x m → Lawful state (Said x.index m)
-  said x e m suits = subst (λ o. IfSome o (λ y. Suits y m)) (sym (found_by_index (is_stream conn stream) state.inputs r x e)) suits
+  posted : (x : Input) → stream_of state.inputs conn stream ≡ Some x → (m : Msg P) → Suits x m → Lawful state (Posted x.index m)
+  posted x e m suits = subst (λ o. IfSome o (λ y. Suits y m)) (sym (found_by_index (is_stream conn stream) state.inputs r x e)) suits
 
   pub cork_lawful : (on : Bool) (tag : ℕ) (o : Option Input) → stream_of state.inputs conn stream ≡ o → Each (IsLawful state) (cork o on tag)
   cork_lawful on tag None e = tt
-  cork_lawful on tag (Some x) e = (said x e (Cork x.index on) refl, tt)
+  cork_lawful on tag (Some x) e = (posted x e (Cork x.index on) refl, tt)
 
   pub flush_lawful : (tag : ℕ) (o : Option Input) → stream_of state.inputs conn stream ≡ o → Each (IsLawful state) (flush o tag)
   flush_lawful tag None e = tt
-  flush_lawful tag (Some x) e = (said x e (Flush x.index) refl, tt)
+  flush_lawful tag (Some x) e = (posted x e (Flush x.index) refl, tt)
 
   pub trigger_lawful : (tag : ℕ) (o : Option Input) → stream_of state.inputs conn stream ≡ o → Each (IsLawful state) (trigger o tag)
   trigger_lawful tag None e = tt
-  trigger_lawful tag (Some x) e = (said x e (Trigger x.index) refl, tt)
+  trigger_lawful tag (Some x) e = (posted x e (Trigger x.index) refl, tt)
 
   pub prebuf_lawful : (tag : ℕ) (o : Option Input) → stream_of state.inputs conn stream ≡ o → Each (IsLawful state) (prebuf o tag)
   prebuf_lawful tag None e = tt
-  prebuf_lawful tag (Some x) e = (said x e (Prebuf x.index) refl, tt)
+  prebuf_lawful tag (Some x) e = (posted x e (Prebuf x.index) refl, tt)
 
   pub attributes_lawful : (depth rate : ℕ) (wanted : List ℕ) (tag : ℕ) (o : Option Input) → stream_of state.inputs conn stream ≡ o → Each (IsLawful state) (attributes o depth rate wanted tag)
   attributes_lawful depth rate wanted tag None e = tt
-  attributes_lawful depth rate wanted tag (Some x) e = (said x e (Attr x.index (repaired x.spec wanted)) (refl, repaired_fits x.spec wanted), tt)
+  attributes_lawful depth rate wanted tag (Some x) e = (posted x e (Attr x.index (repaired x.spec wanted)) (refl, repaired_fits x.spec wanted), tt)
 
   -- what changes no attributes leaves the inputs as they are
-  inputs_stay : (o : Option Input) (m : Msg P) → ((index : InputId) (inputs : List Input) → inputs_told index m inputs ≡ inputs) → (saying_of o m state).inputs ≡ state.inputs
+  inputs_stay : (o : Option Input) (m : Msg P) → ((index : InputId) (inputs : List Input) → inputs_noted index m inputs ≡ inputs) → (posting_if_there o m state).inputs ≡ state.inputs
   inputs_stay None m same = refl
   inputs_stay (Some x) m same = by x.standing
     where
-      by : (standing : Standing) → (saying standing x m state).inputs ≡ state.inputs
+      by : (standing : Standing) → (posting_to_input standing x m state).inputs ≡ state.inputs
       by Settled = same x.index state.inputs
       by (Moving to) = same x.index state.inputs
       by Leaving = refl
@@ -100,9 +100,9 @@ module _ {P : Type 0} (state : State P) (r : IsRising state.inputs) (conn : Conn
       (and_parts (nat_eq x.conn.0 conn.0 && nat_eq x.stream stream) (goes_on x) (found_test (is_stream conn stream) state.inputs x e)).1
 
   -- it is asked something, and the request waits
-  asked_lawful : (x : Input) → stream_of state.inputs conn stream ≡ Some x → (m : Msg P) → Suits x m → ((index : InputId) (inputs : List Input) → inputs_told index m inputs ≡ inputs) → (awaited : Awaited) (tag : ℕ) → IsLawful state (asked x m awaited tag)
+  asked_lawful : (x : Input) → stream_of state.inputs conn stream ≡ Some x → (m : Msg P) → Suits x m → ((index : InputId) (inputs : List Input) → inputs_noted index m inputs ≡ inputs) → (awaited : Awaited) (tag : ℕ) → IsLawful state (asked x m awaited tag)
   asked_lawful x e m suits same awaited tag =
-      (said x e m suits, (subst (λ inputs. IsAwaiting inputs (record { input = x.index; tag = tag; awaited = awaited })) (sym (inputs_stay (input_of state.inputs x.index) m same)) (going x e), tt))
+      (posted x e m suits, (subst (λ inputs. IsAwaiting inputs (record { input = x.index; tag = tag; awaited = awaited })) (sym (inputs_stay (input_of state.inputs x.index) m same)) (going x e), tt))
 
   pub drain_lawful : (tag : ℕ) (o : Option Input) → stream_of state.inputs conn stream ≡ o → Each (IsLawful state) (drain o tag)
   drain_lawful tag None e = tt

@@ -2,9 +2,9 @@
 use Rattle.std.proofs.Common.{List, [], ◌∷◌, ◌++◌, subst, sym}
 use Rattle.std.specs.Prelude.{filter, flat_map}
 use Rattle.std.proofs.lemmas.List.{append_assoc}
-use Rattle.px_plan.specs.declared.change.Change.TheVariants.{Leaves, Forgotten}
-use Rattle.px_plan.specs.declared.input.Connection.{Connection}
-use Rattle.px_plan.specs.declared.input.Input.{Input}
+use Rattle.px_outcome.specs.declared.change.Change.TheVariants.{Leaves, Forgotten}
+use Rattle.px_outcome.specs.declared.input.Connection.{Connection}
+use Rattle.px_outcome.specs.declared.input.Input.{Input}
 use Rattle.px_state.specs.State.{State, is_from, marked_of}
 use Rattle.px_state.specs.Change.{Change, changed}
 use Rattle.px_core.specs.Connecting.{ends, swept, sweep_of}

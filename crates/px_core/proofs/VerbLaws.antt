@@ -18,23 +18,23 @@ use Rattle.px_msg.specs.declared.message.Msg.{Msg}
 use Rattle.px_msg.specs.declared.message.Msg.TheVariants.{New, Attach, Detach, Write, Cork, Flush, Trigger, Prebuf, Drain, Attr, Factors, Query}
 use Rattle.px_msg.specs.declared.message.NewStream.{NewStream}
 use Rattle.px_msg.specs.View.{sample_spec}
-use Rattle.px_plan.specs.declared.input.Connection.{Connection}
-use Rattle.px_plan.specs.declared.input.Input.{Input}
-use Rattle.px_plan.specs.declared.input.Standing.{Standing}
-use Rattle.px_plan.specs.declared.input.Standing.TheVariants.{Settled, Moving, Leaving}
-use Rattle.px_plan.specs.declared.change.Change.TheVariants.{Authed, Named, Masked, Defaulted, Made, Described, Leaves, Moves, Arrives, Released, Said, Regrouped, Asked, Answered, Gone, Ended, Forgotten}
-use Rattle.px_plan.specs.declared.waiting.Waiting.{Waiting}
+use Rattle.px_outcome.specs.declared.input.Connection.{Connection}
+use Rattle.px_outcome.specs.declared.input.Input.{Input}
+use Rattle.px_outcome.specs.declared.input.Standing.{Standing}
+use Rattle.px_outcome.specs.declared.input.Standing.TheVariants.{Settled, Moving, Leaving}
+use Rattle.px_outcome.specs.declared.change.Change.TheVariants.{Authed, Named, Masked, Defaulted, Made, Described, Leaves, Moves, Arrives, Released, Posted, Regrouped, Asked, Answered, Gone, Ended, Forgotten}
+use Rattle.px_outcome.specs.declared.waiting.Waiting.{Waiting}
 use Rattle.px_ctl_play.specs.Asked.{MOST_ON_SINK}
 use Rattle.px_state.specs.declared.delayed.Delayed.{Delayed}
 use Rattle.px_state.specs.State.{State, has_index, has_number, input_of, settled_on, bound_for, is_as}
-use Rattle.px_state.specs.Change.{Change, change_first, drop_first, authed, marked, with_streams, with_connection, renamed, masked, defaulted, forgotten, posting, regrouping, ending_of, telling, saying, saying_of, departs, departs_of, releasing, releasing_of, changed, committed}
+use Rattle.px_state.specs.Change.{Change, change_first, drop_first, authed, marked, with_streams, with_connection, renamed, masked, defaulted, forgotten, posting, regrouping, ending_of, noting, posting_to_input, posting_if_there, departs, departs_of, releasing, releasing_of, changed, committed}
 use Rattle.px_core.specs.Orderly.{specs_of}
-use Rattle.px_core.specs.Keeps.{AreDistinct, IsAwaiting, IsInput, IsFedAt, GoesTo, IsSteady}
+use Rattle.px_core.specs.Consistency.{AreDistinct, IsAwaiting, IsInput, IsFedAt, GoesTo, IsSteady}
 use Rattle.px_core.specs.Lawful.{is_of, Brings, IsNew, Suits, AreFor, HasLeft, IsReleased, AreReleased, Lawful, AreLawfulOwing, owed_after}
 use Rattle.px_core.proofs.ListLaws.{all_change, all_drop, all_push, found_all, found_test}
 pub use Rattle.px_state.proofs.Found.{by_own, none_goes}
 use Rattle.px_core.proofs.HandingLaws.{sink_there}
-use Rattle.px_core.proofs.ChangeLaws.{sink_at, held_on, settled_spec, on_own, Tells, telling_keeps, attr_held, attr_keeps, ending_keeps, ending_held, gone_keeps, gone_held, with_input, new_keeps, new_held}
+use Rattle.px_core.proofs.ChangeLaws.{sink_at, held_on, settled_spec, on_own, IsPostable, posting_keeps, attr_held, attr_keeps, ending_keeps, ending_held, gone_keeps, gone_held, with_input, new_keeps, new_held}
 use Rattle.px_core.proofs.MoveLaws.{departing_keeps, departed_held}
 
 -- ---- connections
@@ -146,68 +146,68 @@ made_keeps {P} spec_of state x m h new =
 named : (x : Input) (there : Inputs) → finite.get there x.index.0 ≡ Some (sample_spec x.spec) → (input : ℕ) → input ≡ x.index.0 → IsSome (finite.get there input)
 named x there get input e = subst (λ n. IsSome (finite.get there n)) (sym e) (subst IsSome (sym get) refl)
 
-tells_input : {P : Type 0} (spec_of : P → SampleSpec) (spec : SampleSpec) (x : Input) (there : Inputs) → finite.get there x.index.0 ≡ Some (sample_spec x.spec) → (m : Msg P) → Suits x m → Tells spec_of spec there m
-tells_input spec_of spec x there get (New n) suits = absurd suits
-tells_input spec_of spec x there get (Attach input parcel feed factors) suits = absurd suits
-tells_input spec_of spec x there get (Detach input) suits = absurd suits
-tells_input {P} spec_of spec x there get (Write input seek offset frames bytes) suits = record {
+postable_input : {P : Type 0} (spec_of : P → SampleSpec) (spec : SampleSpec) (x : Input) (there : Inputs) → finite.get there x.index.0 ≡ Some (sample_spec x.spec) → (m : Msg P) → Suits x m → IsPostable spec_of spec there m
+postable_input spec_of spec x there get (New n) suits = absurd suits
+postable_input spec_of spec x there get (Attach input parcel feed factors) suits = absurd suits
+postable_input spec_of spec x there get (Detach input) suits = absurd suits
+postable_input {P} spec_of spec x there get (Write input seek offset frames bytes) suits = record {
   brings = λ i. refl;
   names = named x there get input.0 suits.0;
   fits = subst (λ o. MatchOption o ⊤ (λ s. IsWhole s (record { input = input.0; seek = seek; offset = offset; frames = frames; bytes = bytes }))) (sym (ap (finite.get there) suits.0 ∙ get)) suits.1;
   left = refl;
   is_posted = tt;
 }
-tells_input {P} spec_of spec x there get (Cork input on) suits = record { brings = λ i. refl; names = named x there get input.0 suits; fits = tt; left = refl; is_posted = tt }
-tells_input {P} spec_of spec x there get (Flush input) suits = record { brings = λ i. refl; names = named x there get input.0 suits; fits = tt; left = refl; is_posted = tt }
-tells_input {P} spec_of spec x there get (Trigger input) suits = record { brings = λ i. refl; names = named x there get input.0 suits; fits = tt; left = refl; is_posted = tt }
-tells_input {P} spec_of spec x there get (Prebuf input) suits = record { brings = λ i. refl; names = named x there get input.0 suits; fits = tt; left = refl; is_posted = tt }
-tells_input {P} spec_of spec x there get (Drain input tag) suits = record { brings = λ i. refl; names = named x there get input.0 suits; fits = tt; left = refl; is_posted = tt }
-tells_input {P} spec_of spec x there get (Attr input attr) suits = record { brings = λ i. refl; names = named x there get input.0 suits.0; fits = suits.1; left = refl; is_posted = tt }
-tells_input spec_of spec x there get (Factors each) suits = absurd suits
-tells_input {P} spec_of spec x there get (Query input tag) suits = record { brings = λ i. refl; names = named x there get input.0 suits; fits = tt; left = refl; is_posted = tt }
+postable_input {P} spec_of spec x there get (Cork input on) suits = record { brings = λ i. refl; names = named x there get input.0 suits; fits = tt; left = refl; is_posted = tt }
+postable_input {P} spec_of spec x there get (Flush input) suits = record { brings = λ i. refl; names = named x there get input.0 suits; fits = tt; left = refl; is_posted = tt }
+postable_input {P} spec_of spec x there get (Trigger input) suits = record { brings = λ i. refl; names = named x there get input.0 suits; fits = tt; left = refl; is_posted = tt }
+postable_input {P} spec_of spec x there get (Prebuf input) suits = record { brings = λ i. refl; names = named x there get input.0 suits; fits = tt; left = refl; is_posted = tt }
+postable_input {P} spec_of spec x there get (Drain input tag) suits = record { brings = λ i. refl; names = named x there get input.0 suits; fits = tt; left = refl; is_posted = tt }
+postable_input {P} spec_of spec x there get (Attr input attr) suits = record { brings = λ i. refl; names = named x there get input.0 suits.0; fits = suits.1; left = refl; is_posted = tt }
+postable_input spec_of spec x there get (Factors each) suits = absurd suits
+postable_input {P} spec_of spec x there get (Query input tag) suits = record { brings = λ i. refl; names = named x there get input.0 suits; fits = tt; left = refl; is_posted = tt }
 
 -- new buffer attributes are its own
-told_keeps : {P : Type 0} (spec_of : P → SampleSpec) (state : State P) (x : Input) (m : Msg P) → IsSteady spec_of state → Suits x m → Follows spec_of state (telling x.index m state)
-told_keeps spec_of state x (New n) h suits = unchanged h
-told_keeps spec_of state x (Attach input parcel feed factors) h suits = unchanged h
-told_keeps spec_of state x (Detach input) h suits = unchanged h
-told_keeps spec_of state x (Write input seek offset frames bytes) h suits = unchanged h
-told_keeps spec_of state x (Cork input on) h suits = unchanged h
-told_keeps spec_of state x (Flush input) h suits = unchanged h
-told_keeps spec_of state x (Trigger input) h suits = unchanged h
-told_keeps spec_of state x (Prebuf input) h suits = unchanged h
-told_keeps spec_of state x (Drain input tag) h suits = unchanged h
-told_keeps spec_of state x (Attr input attr) h suits = record { keeps = attr_keeps spec_of state x.index attr suits.1 h; held = attr_held x.index attr state.inputs }
-told_keeps spec_of state x (Factors each) h suits = unchanged h
-told_keeps spec_of state x (Query input tag) h suits = unchanged h
+noting_keeps : {P : Type 0} (spec_of : P → SampleSpec) (state : State P) (x : Input) (m : Msg P) → IsSteady spec_of state → Suits x m → Follows spec_of state (noting x.index m state)
+noting_keeps spec_of state x (New n) h suits = unchanged h
+noting_keeps spec_of state x (Attach input parcel feed factors) h suits = unchanged h
+noting_keeps spec_of state x (Detach input) h suits = unchanged h
+noting_keeps spec_of state x (Write input seek offset frames bytes) h suits = unchanged h
+noting_keeps spec_of state x (Cork input on) h suits = unchanged h
+noting_keeps spec_of state x (Flush input) h suits = unchanged h
+noting_keeps spec_of state x (Trigger input) h suits = unchanged h
+noting_keeps spec_of state x (Prebuf input) h suits = unchanged h
+noting_keeps spec_of state x (Drain input tag) h suits = unchanged h
+noting_keeps spec_of state x (Attr input attr) h suits = record { keeps = attr_keeps spec_of state x.index attr suits.1 h; held = attr_held x.index attr state.inputs }
+noting_keeps spec_of state x (Factors each) h suits = unchanged h
+noting_keeps spec_of state x (Query input tag) h suits = unchanged h
 
-saying_keeps : {P : Type 0} (spec_of : P → SampleSpec) (state : State P) (x : Input) (m : Msg P) (standing : Standing) → IsSteady spec_of state → input_of state.inputs x.index ≡ Some x → x.standing ≡ standing → Suits x m → Follows spec_of state (saying standing x m state)
-saying_keeps {P} spec_of state x m Settled h here settled suits =
+posting_to_input_keeps : {P : Type 0} (spec_of : P → SampleSpec) (state : State P) (x : Input) (m : Msg P) (standing : Standing) → IsSteady spec_of state → input_of state.inputs x.index ≡ Some x → x.standing ≡ standing → Suits x m → Follows spec_of state (posting_to_input standing x m state)
+posting_to_input_keeps {P} spec_of state x m Settled h here settled suits =
     let posted : IsSteady spec_of (posting x.sink.0 m state) =
-    telling_keeps spec_of state (sink_at x.sink.0) m h (found_all (IsInput state.sinks state.inputs_made) (has_index x.index) state.inputs x h.inputs here).sink_there
-    (λ s e. tells_input spec_of (sample_spec s.spec) x (specs_of (settled_on state.inputs (sink_at x.sink.0))) (settled_spec state.inputs h.rising x.sink.0 x here (on_own x settled)) m suits) in
-    let told = told_keeps spec_of (posting x.sink.0 m state) x m posted suits in
-    record { keeps = told.keeps; held = told.held }
-saying_keeps {P} spec_of state x m (Moving to) h here e suits =
-    let told = told_keeps spec_of state x m h suits in
-    record { keeps = delayed_keeps spec_of (telling x.index m state) told.keeps (state.delayed ++ record { input = x.index; message = m } ∷ []); held = told.held }
-saying_keeps spec_of state x m Leaving h here e suits = unchanged h
+    posting_keeps spec_of state (sink_at x.sink.0) m h (found_all (IsInput state.sinks state.inputs_made) (has_index x.index) state.inputs x h.inputs here).sink_there
+    (λ s e. postable_input spec_of (sample_spec s.spec) x (specs_of (settled_on state.inputs (sink_at x.sink.0))) (settled_spec state.inputs h.rising x.sink.0 x here (on_own x settled)) m suits) in
+    let noted = noting_keeps spec_of (posting x.sink.0 m state) x m posted suits in
+    record { keeps = noted.keeps; held = noted.held }
+posting_to_input_keeps {P} spec_of state x m (Moving to) h here e suits =
+    let noted = noting_keeps spec_of state x m h suits in
+    record { keeps = delayed_keeps spec_of (noting x.index m state) noted.keeps (state.delayed ++ record { input = x.index; message = m } ∷ []); held = noted.held }
+posting_to_input_keeps spec_of state x m Leaving h here e suits = unchanged h
 
 -- ---- a sink has other factors
 
-tells_factors : {P : Type 0} (spec_of : P → SampleSpec) (s : SinkSpec) (there : Inputs) (m : Msg P) → AreFor s m → Tells spec_of (sample_spec s.spec) there m
-tells_factors spec_of s there (New n) f = absurd f
-tells_factors spec_of s there (Attach input parcel feed factors) f = absurd f
-tells_factors spec_of s there (Detach input) f = absurd f
-tells_factors spec_of s there (Write input seek offset frames bytes) f = absurd f
-tells_factors spec_of s there (Cork input on) f = absurd f
-tells_factors spec_of s there (Flush input) f = absurd f
-tells_factors spec_of s there (Trigger input) f = absurd f
-tells_factors spec_of s there (Prebuf input) f = absurd f
-tells_factors spec_of s there (Drain input tag) f = absurd f
-tells_factors spec_of s there (Attr input attr) f = absurd f
-tells_factors spec_of s there (Factors each) f = record { brings = λ i. refl; names = tt; fits = f.0; left = refl; is_posted = f.1 }
-tells_factors spec_of s there (Query input tag) f = absurd f
+postable_factors : {P : Type 0} (spec_of : P → SampleSpec) (s : SinkSpec) (there : Inputs) (m : Msg P) → AreFor s m → IsPostable spec_of (sample_spec s.spec) there m
+postable_factors spec_of s there (New n) f = absurd f
+postable_factors spec_of s there (Attach input parcel feed factors) f = absurd f
+postable_factors spec_of s there (Detach input) f = absurd f
+postable_factors spec_of s there (Write input seek offset frames bytes) f = absurd f
+postable_factors spec_of s there (Cork input on) f = absurd f
+postable_factors spec_of s there (Flush input) f = absurd f
+postable_factors spec_of s there (Trigger input) f = absurd f
+postable_factors spec_of s there (Prebuf input) f = absurd f
+postable_factors spec_of s there (Drain input tag) f = absurd f
+postable_factors spec_of s there (Attr input attr) f = absurd f
+postable_factors spec_of s there (Factors each) f = record { brings = λ i. refl; names = tt; fits = f.0; left = refl; is_posted = f.1 }
+postable_factors spec_of s there (Query input tag) f = absurd f
 
 -- ---- the changes
 
@@ -218,9 +218,9 @@ leaves_follow spec_of state h index (Some x) e = record {
   held = ending_held state x x.standing;
 }
 
-said_follow : {P : Type 0} (spec_of : P → SampleSpec) (state : State P) → IsSteady spec_of state → (index : InputId) (m : Msg P) (o : Option Input) → input_of state.inputs index ≡ o → IfSome o (λ x. Suits x m) → Follows spec_of state (saying_of o m state)
-said_follow spec_of state h index m None e suits = unchanged h
-said_follow spec_of state h index m (Some x) e suits = saying_keeps spec_of state x m x.standing h (by_own state.inputs index x e) refl suits
+posted_follow : {P : Type 0} (spec_of : P → SampleSpec) (state : State P) → IsSteady spec_of state → (index : InputId) (m : Msg P) (o : Option Input) → input_of state.inputs index ≡ o → IfSome o (λ x. Suits x m) → Follows spec_of state (posting_if_there o m state)
+posted_follow spec_of state h index m None e suits = unchanged h
+posted_follow spec_of state h index m (Some x) e suits = posting_to_input_keeps spec_of state x m x.standing h (by_own state.inputs index x e) refl suits
 
 gone_follow : {P : Type 0} (spec_of : P → SampleSpec) (state : State P) → IsSteady spec_of state → (index : InputId) (o : Option Input) → input_of state.inputs index ≡ o → IfSome o HasLeft → Follows spec_of state (changed state (Gone index))
 gone_follow {P} spec_of state h index None e left =
@@ -253,9 +253,9 @@ releases spec_of state h x here None ok = unchanged h
 releases {P} spec_of state h x here (Some d) ok =
     let later : State P = record state { delayed = drop_first (is_of x.index) state.delayed } in
     same_held spec_of state (posting x.sink.0 d.message later) refl
-    (telling_keeps spec_of later (sink_at x.sink.0) d.message (delayed_keeps spec_of state h (drop_first (is_of x.index) state.delayed))
+    (posting_keeps spec_of later (sink_at x.sink.0) d.message (delayed_keeps spec_of state h (drop_first (is_of x.index) state.delayed))
     (found_all (IsInput state.sinks state.inputs_made) (has_index x.index) state.inputs x h.inputs here).sink_there
-    (λ s e. tells_input spec_of (sample_spec s.spec) x (specs_of (settled_on state.inputs (sink_at x.sink.0))) (settled_spec state.inputs h.rising x.sink.0 x here (on_own x ok.standing)) d.message ok.suits))
+    (λ s e. postable_input spec_of (sample_spec s.spec) x (specs_of (settled_on state.inputs (sink_at x.sink.0))) (settled_spec state.inputs h.rising x.sink.0 x here (on_own x ok.standing)) d.message ok.suits))
 
 released_follow : {P : Type 0} (spec_of : P → SampleSpec) (state : State P) → IsSteady spec_of state → (index : InputId) (o : Option Input) → input_of state.inputs index ≡ o → IfSome o (AreReleased state.delayed) → Follows spec_of state (releasing_of o state)
 released_follow spec_of state h index None e ok = unchanged h
@@ -278,10 +278,10 @@ change_follows spec_of state (Leaves index) h lawful = leaves_follow spec_of sta
 change_follows spec_of state (Moves index to) h lawful = moves_follow spec_of state h index to (input_of state.inputs index) refl lawful.goes lawful.room
 change_follows spec_of state (Arrives index m) h lawful = absurd lawful
 change_follows spec_of state (Released index) h lawful = released_follow spec_of state h index (input_of state.inputs index) refl lawful
-change_follows spec_of state (Said index m) h lawful = said_follow spec_of state h index m (input_of state.inputs index) refl lawful
+change_follows spec_of state (Posted index m) h lawful = posted_follow spec_of state h index m (input_of state.inputs index) refl lawful
 change_follows spec_of state (Regrouped sink group m) h lawful =
     same_held spec_of state (posting sink.0 m (regrouping sink.0 group state)) refl
-    (telling_keeps spec_of (regrouping sink.0 group state) sink m (regrouped_keeps spec_of state h sink.0 group) lawful.there (λ s e. tells_factors spec_of s (specs_of (settled_on state.inputs sink)) m (lawful.factors s e)))
+    (posting_keeps spec_of (regrouping sink.0 group state) sink m (regrouped_keeps spec_of state h sink.0 group) lawful.there (λ s e. postable_factors spec_of s (specs_of (settled_on state.inputs sink)) m (lawful.factors s e)))
 change_follows spec_of state (Asked w) h lawful = asked_follow spec_of state h (state.waiting ++ w ∷ []) (all_push (IsAwaiting state.inputs) state.waiting w h.waiting lawful)
 change_follows spec_of state (Answered w) h lawful = asked_follow spec_of state h (drop_first (is_as w) state.waiting) (all_drop (IsAwaiting state.inputs) (is_as w) state.waiting h.waiting)
 change_follows spec_of state (Gone index) h lawful = gone_follow spec_of state h index (input_of state.inputs index) refl lawful

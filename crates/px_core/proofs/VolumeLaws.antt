@@ -9,23 +9,23 @@ use Rattle.px_model.specs.Frame.{SampleSpec}
 use Rattle.px_flat.specs.declared.member.Member.{Member}
 use Rattle.px_flat.specs.FlatVolume.{FlatGroup, member_of, with_sink_volume, with_sink_mute, with_input_volume, with_input_mute}
 use Rattle.px_flat.specs.Keeps.{HasSameInputs}
-use Rattle.px_flat.proofs.Volumes as kept
-use Rattle.px_plan.specs.declared.input.Input.{Input}
-use Rattle.px_plan.specs.declared.target.Named.{Named}
-use Rattle.px_plan.specs.declared.target.Target.{Target}
-use Rattle.px_plan.specs.Row.{◌>>=◌, check, present}
-use Rattle.px_plan.specs.Target.{is_clear, target_of as target_in}
+use Rattle.px_flat.proofs.Volumes as volumes
+use Rattle.px_outcome.specs.declared.input.Input.{Input}
+use Rattle.px_outcome.specs.declared.target.Named.{Named}
+use Rattle.px_outcome.specs.declared.target.Target.{Target}
+use Rattle.px_outcome.specs.Handled.{◌>>=◌, check, present}
+use Rattle.px_outcome.specs.Target.{is_clear, target_of as target_in}
 use Rattle.px_ctl_vol.specs.Asked.{is_volume, fits}
 use Rattle.px_ctl_vol.specs.Factors.{regrouped}
-use Rattle.px_plan.specs.Input.{is_moving}
+use Rattle.px_outcome.specs.Input.{is_moving}
 use Rattle.px_state.specs.State.{State, goes_on, going, has_index, input_named, input_of, is_settled, settled_on}
 use Rattle.px_core.specs.Command.{sink_volume, sink_mute, input_volume, input_mute}
 use Rattle.px_core.specs.Grouped.{IsGroupOf}
-use Rattle.px_core.specs.Keeps.{IsInput, IsKept}
+use Rattle.px_core.specs.Consistency.{IsInput, IsConsistent}
 use Rattle.px_sinks.specs.Sinks.{group_of, group_named, group_under}
 use Rattle.px_core.proofs.AnswerLaws.{IsLawful, regroups, rising_filter}
 use Rattle.px_core.proofs.ListLaws.{found_all}
-use Rattle.px_core.proofs.RowLaws.{Each, each_check, each_then}
+use Rattle.px_core.proofs.HandledLaws.{Each, each_check, each_then}
 use Rattle.px_sinks.proofs.Sinks.{IsThere}
 
 same_group : (sink : SinkId) (s : SinkSpec) (inputs : List Input) (group after : FlatGroup) → HasSameInputs group after → IsGroupOf sink s inputs group → IsGroupOf sink s inputs after
@@ -40,7 +40,7 @@ going_is (Some y) x e = by (goes_on y) e
     by true e = e
     by false e = absurd (none-some x e)
 
-module _ {P : Type 0} (spec_of : P → SampleSpec) (state : State P) (h : IsKept spec_of state) where
+module _ {P : Type 0} (spec_of : P → SampleSpec) (state : State P) (h : IsConsistent spec_of state) where
   -- a sink has another group with the same inputs
   regrouped_lawful : (sink : SinkId) (group after : FlatGroup) → sink.0 < length state.sinks → slice_get state.groups sink.0 ≡ Some group → HasSameInputs group after → (tag : ℕ) → IsLawful state (regrouped sink after state.inputs tag)
   regrouped_lawful sink group after there owned same tag =
@@ -65,7 +65,7 @@ module _ {P : Type 0} (spec_of : P → SampleSpec) (state : State P) (h : IsKept
         by None e g owned = tt
         by (Some target) e None owned = tt
         by (Some target) e (Some group) owned =
-            each_check (IsLawful state) (fits volume (length group.reference)) Invalid _ (of_sink (with_sink_volume volume) (kept.sink_volume volume) target e group owned)
+            each_check (IsLawful state) (fits volume (length group.reference)) Invalid _ (of_sink (with_sink_volume volume) (volumes.sink_volume volume) target e group owned)
 
     pub sink_mute_lawful : (on : Bool) → Each (IsLawful state) (sink_mute state named on tag)
     sink_mute_lawful on = each_check (IsLawful state) (is_clear named) Invalid _ (by (target_in named) refl (group_named state.groups named) refl)
@@ -74,7 +74,7 @@ module _ {P : Type 0} (spec_of : P → SampleSpec) (state : State P) (h : IsKept
             → Each (IsLawful state) (present o NoEntity >>= λ sink. present g NoEntity >>= λ group. Ok (regrouped (Target.index sink) (with_sink_mute on group) state.inputs tag))
         by None e g owned = tt
         by (Some target) e None owned = tt
-        by (Some target) e (Some group) owned = of_sink (with_sink_mute on) (kept.sink_mute on) target e group owned
+        by (Some target) e (Some group) owned = of_sink (with_sink_mute on) (volumes.sink_mute on) target e group owned
 
   -- ---- of an input
 
@@ -95,7 +95,7 @@ module _ {P : Type 0} (spec_of : P → SampleSpec) (state : State P) (h : IsKept
         on_group x e (Some group) owned =
             each_then (IsLawful state) (present (member_of group.members x.index) NoEntity) _
             (λ member. each_check (IsLawful state) (fits volume (length (Member.volume member))) Invalid _
-            (each_check (IsLawful state) (not (is_moving x.standing)) Busy _ (of_input (with_input_volume x.index volume) (kept.input_volume x.index volume) x e group owned)))
+            (each_check (IsLawful state) (not (is_moving x.standing)) Busy _ (of_input (with_input_volume x.index volume) (volumes.input_volume x.index volume) x e group owned)))
 
         by : (o : Option Input) → input_named state.inputs index ≡ o
             → Each (IsLawful state) (present o NoEntity >>= λ x. present (group_under state.groups o) NoEntity >>= λ group. present (member_of (FlatGroup.members group) (Input.index x)) NoEntity >>= λ member. check (fits volume (length (Member.volume member))) Invalid >>= λ suits. check (not (is_moving (Input.standing x))) Busy >>= λ free. Ok (regrouped (Input.sink x) (with_input_volume (Input.index x) volume group) state.inputs tag))
@@ -110,7 +110,7 @@ module _ {P : Type 0} (spec_of : P → SampleSpec) (state : State P) (h : IsKept
         on_group x e None owned = tt
         on_group x e (Some group) owned =
             each_then (IsLawful state) (present (member_of group.members x.index) NoEntity) _
-            (λ member. each_check (IsLawful state) (not (is_moving x.standing)) Busy _ (of_input (with_input_mute x.index on) (kept.input_mute x.index on) x e group owned))
+            (λ member. each_check (IsLawful state) (not (is_moving x.standing)) Busy _ (of_input (with_input_mute x.index on) (volumes.input_mute x.index on) x e group owned))
 
         by : (o : Option Input) → input_named state.inputs index ≡ o
             → Each (IsLawful state) (present o NoEntity >>= λ x. present (group_under state.groups o) NoEntity >>= λ group. present (member_of (FlatGroup.members group) (Input.index x)) NoEntity >>= λ member. check (not (is_moving (Input.standing x))) Busy >>= λ free. Ok (regrouped (Input.sink x) (with_input_mute (Input.index x) on group) state.inputs tag))

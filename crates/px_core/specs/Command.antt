@@ -12,11 +12,11 @@ use Rattle.px_cmd.specs.declared.fault.CmdFault.{CmdFault}
 use Rattle.px_cmd.specs.declared.fault.CmdFault.TheVariants.{Protocol, Unknown, Unsupported, NoMemory}
 use Rattle.px_names.specs.Clients.{client_on, client_numbered}
 use Rattle.px_names.specs.Names.{NO_INDEX, sink_named}
-use Rattle.px_plan.specs.declared.input.Connection.{Connection}
-use Rattle.px_plan.specs.declared.input.Input.{Input}
-use Rattle.px_plan.specs.declared.target.Named.{Named}
-use Rattle.px_plan.specs.Plan.{idle}
-use Rattle.px_plan.specs.Row.{Row}
+use Rattle.px_outcome.specs.declared.input.Connection.{Connection}
+use Rattle.px_outcome.specs.declared.input.Input.{Input}
+use Rattle.px_outcome.specs.declared.target.Named.{Named}
+use Rattle.px_outcome.specs.Outcome.{idle}
+use Rattle.px_outcome.specs.Handled.{Handled}
 use Rattle.px_ctl_info.specs.Clients.{auth, set_client_name, client_info, client_infos, connection_with, kill_client, subscribe}
 use Rattle.px_ctl_info.specs.Infos.{sink_info, sink_infos, input_info, input_infos}
 use Rattle.px_ctl_info.specs.Lists.{empty_list}
@@ -34,7 +34,7 @@ use Rattle.px_ctl_vol.specs.Inputs.{set_input_volume, set_input_mute}
 use Rattle.px_ctl_vol.specs.Sinks.{set_sink_volume, set_sink_mute}
 use Rattle.px_state.specs.State.{State, stream_of, input_named}
 use Rattle.px_core.specs.Notice.{owner_of}
-use Rattle.px_state.specs.Plan.{Plan, refused, requested, broken_off}
+use Rattle.px_state.specs.Outcome.{CoreOutcome, refused, requested, broken_off}
 use Rattle.px_sinks.specs.Sinks.{rate_of, depth_of, sink_of, named_as, named_by, group_named, group_under, targets_of}
 
 -- ---- the commands
@@ -43,7 +43,7 @@ abbrev pub AUTH : ℕ
 AUTH = 8
 
 -- new buffer attributes of a stream, with the latency of its sink
-abbrev pub new_attributes : {P : Type 0} → State P → Option Input → List ℕ → ℕ → Row (Plan P)
+abbrev pub new_attributes : {P : Type 0} → State P → Option Input → List ℕ → ℕ → Handled (CoreOutcome P)
 new_attributes state stream asked tag = attributes stream (depth_of (sink_of state.sinks stream)) (rate_of (sink_of state.sinks stream)) asked tag
 
 -- the default sink, as a command sees it
@@ -51,63 +51,63 @@ abbrev pub default_sink : {P : Type 0} → State P → Named
 default_sink state = named_as state.sinks (sink_named state.names NO_INDEX None true)
 
 -- an input ends, whose connection is told so where that goes on
-abbrev pub killed_input : {P : Type 0} → State P → Option Input → ℕ → Row (Plan P)
+abbrev pub killed_input : {P : Type 0} → State P → Option Input → ℕ → Handled (CoreOutcome P)
 killed_input state input tag = kill_input input (owner_of state.connections input) state.waiting tag
 
 -- a new stream on the sink that is named
-abbrev pub create_named : {P : Type 0} → State P → Connection → ℕ → CreateFields → Named → Row (Plan P)
+abbrev pub create_named : {P : Type 0} → State P → Connection → ℕ → CreateFields → Named → Handled (CoreOutcome P)
 create_named state me tag fields named = create state.inputs state.inputs_made me tag named (group_named state.groups named) fields
 
 -- the volume of the sink that is named, and its mute
-abbrev pub sink_volume : {P : Type 0} → State P → Named → List ℕ → ℕ → Row (Plan P)
+abbrev pub sink_volume : {P : Type 0} → State P → Named → List ℕ → ℕ → Handled (CoreOutcome P)
 sink_volume state named volume tag = set_sink_volume named (group_named state.groups named) state.inputs volume tag
 
-abbrev pub sink_mute : {P : Type 0} → State P → Named → Bool → ℕ → Row (Plan P)
+abbrev pub sink_mute : {P : Type 0} → State P → Named → Bool → ℕ → Handled (CoreOutcome P)
 sink_mute state named on tag = set_sink_mute named (group_named state.groups named) state.inputs on tag
 
 -- and those of an input
-abbrev pub input_volume : {P : Type 0} → State P → Option Input → List ℕ → ℕ → Row (Plan P)
+abbrev pub input_volume : {P : Type 0} → State P → Option Input → List ℕ → ℕ → Handled (CoreOutcome P)
 input_volume state input volume tag = set_input_volume input (group_under state.groups input) state.inputs volume tag
 
-abbrev pub input_mute : {P : Type 0} → State P → Option Input → Bool → ℕ → Row (Plan P)
+abbrev pub input_mute : {P : Type 0} → State P → Option Input → Bool → ℕ → Handled (CoreOutcome P)
 input_mute state input on tag = set_input_mute input (group_under state.groups input) state.inputs on tag
 
--- a command's row: what it gives on the parts of the state that it reads
-abbrev pub row : {P : Type 0} → State P → Connection → ℕ → Command → Row (Plan P)
-row state me tag (commands.Auth version cookie) = auth state.names me tag version cookie
-row state me tag (commands.SetClientName list) = set_client_name (client_on state.names.clients me.conn) me tag list
-row state me tag (commands.Create fields) = create_named state me tag fields (named_by state.names state.sinks fields.sink true)
-row state me tag (commands.Delete stream) = delete (stream_of state.inputs me.conn stream) state.waiting tag
-row state me tag (commands.Drain stream) = drain (stream_of state.inputs me.conn stream) tag
-row state me tag (commands.Latency stream time) = latency (stream_of state.inputs me.conn stream) time tag
-row state me tag (commands.Cork stream on) = cork (stream_of state.inputs me.conn stream) on tag
-row state me tag (commands.Flush stream) = flush (stream_of state.inputs me.conn stream) tag
-row state me tag (commands.Trigger stream) = trigger (stream_of state.inputs me.conn stream) tag
-row state me tag (commands.Prebuf stream) = prebuf (stream_of state.inputs me.conn stream) tag
-row state me tag (commands.Attributes stream asked adjust_latency early_requests) = new_attributes state (stream_of state.inputs me.conn stream) asked tag
-row state me tag (commands.EmptyList number) = empty_list tag
-row state me tag (commands.LookupSink name) = lookup_sink state.names tag name
-row state me tag commands.ServerInfo = server_info (default_sink state) tag
-row state me tag (commands.SinkInfo sink) = sink_info (named_by state.names state.sinks sink false) state.groups tag
-row state me tag commands.SinkInfoList = sink_infos (targets_of state.sinks) state.groups tag
-row state me tag (commands.ClientInfo client) = client_info (client_numbered state.names.clients client) tag
-row state me tag commands.ClientInfoList = client_infos state.names.clients tag
-row state me tag (commands.InputInfo input) = input_info (input_named state.inputs input) state.groups state.lists tag
-row state me tag commands.InputInfoList = input_infos state.inputs state.groups state.lists tag
-row state me tag (commands.Subscribe mask) = subscribe me tag mask
-row state me tag (commands.SinkVolume sink volume) = sink_volume state (named_by state.names state.sinks sink false) volume tag
-row state me tag (commands.InputVolume input volume) = input_volume state (input_named state.inputs input) volume tag
-row state me tag (commands.SinkMute sink on) = sink_mute state (named_by state.names state.sinks sink false) on tag
-row state me tag (commands.InputMute input on) = input_mute state (input_named state.inputs input) on tag
-row state me tag (commands.DefaultSink name) = set_default_sink state.names tag name
-row state me tag (commands.StreamName stream name) = set_stream_name (stream_of state.inputs me.conn stream) state.lists tag name
-row state me tag (commands.KillClient client) = kill_client (connection_with state.connections client) tag
-row state me tag (commands.KillInput input) = killed_input state (input_named state.inputs input) tag
-row state me tag (commands.Move input sink) = move_input (input_named state.inputs input) (named_by state.names state.sinks sink false) state.inputs tag
-row state me tag (commands.UpdateStream stream mode list) = update_stream (stream_of state.inputs me.conn stream) state.lists tag mode list
-row state me tag (commands.UpdateClient mode list) = update_client (client_on state.names.clients me.conn) me tag mode list
-row state me tag (commands.RemoveStream stream keys) = remove_stream (stream_of state.inputs me.conn stream) state.lists tag keys
-row state me tag (commands.RemoveClient keys) = remove_client (client_on state.names.clients me.conn) me tag keys
+-- a command's handler: what it gives on the parts of the state that it reads
+abbrev pub handle : {P : Type 0} → State P → Connection → ℕ → Command → Handled (CoreOutcome P)
+handle state me tag (commands.Auth version cookie) = auth state.names me tag version cookie
+handle state me tag (commands.SetClientName list) = set_client_name (client_on state.names.clients me.conn) me tag list
+handle state me tag (commands.Create fields) = create_named state me tag fields (named_by state.names state.sinks fields.sink true)
+handle state me tag (commands.Delete stream) = delete (stream_of state.inputs me.conn stream) state.waiting tag
+handle state me tag (commands.Drain stream) = drain (stream_of state.inputs me.conn stream) tag
+handle state me tag (commands.Latency stream time) = latency (stream_of state.inputs me.conn stream) time tag
+handle state me tag (commands.Cork stream on) = cork (stream_of state.inputs me.conn stream) on tag
+handle state me tag (commands.Flush stream) = flush (stream_of state.inputs me.conn stream) tag
+handle state me tag (commands.Trigger stream) = trigger (stream_of state.inputs me.conn stream) tag
+handle state me tag (commands.Prebuf stream) = prebuf (stream_of state.inputs me.conn stream) tag
+handle state me tag (commands.Attributes stream asked adjust_latency early_requests) = new_attributes state (stream_of state.inputs me.conn stream) asked tag
+handle state me tag (commands.EmptyList number) = empty_list tag
+handle state me tag (commands.LookupSink name) = lookup_sink state.names tag name
+handle state me tag commands.ServerInfo = server_info (default_sink state) tag
+handle state me tag (commands.SinkInfo sink) = sink_info (named_by state.names state.sinks sink false) state.groups tag
+handle state me tag commands.SinkInfoList = sink_infos (targets_of state.sinks) state.groups tag
+handle state me tag (commands.ClientInfo client) = client_info (client_numbered state.names.clients client) tag
+handle state me tag commands.ClientInfoList = client_infos state.names.clients tag
+handle state me tag (commands.InputInfo input) = input_info (input_named state.inputs input) state.groups state.lists tag
+handle state me tag commands.InputInfoList = input_infos state.inputs state.groups state.lists tag
+handle state me tag (commands.Subscribe mask) = subscribe me tag mask
+handle state me tag (commands.SinkVolume sink volume) = sink_volume state (named_by state.names state.sinks sink false) volume tag
+handle state me tag (commands.InputVolume input volume) = input_volume state (input_named state.inputs input) volume tag
+handle state me tag (commands.SinkMute sink on) = sink_mute state (named_by state.names state.sinks sink false) on tag
+handle state me tag (commands.InputMute input on) = input_mute state (input_named state.inputs input) on tag
+handle state me tag (commands.DefaultSink name) = set_default_sink state.names tag name
+handle state me tag (commands.StreamName stream name) = set_stream_name (stream_of state.inputs me.conn stream) state.lists tag name
+handle state me tag (commands.KillClient client) = kill_client (connection_with state.connections client) tag
+handle state me tag (commands.KillInput input) = killed_input state (input_named state.inputs input) tag
+handle state me tag (commands.Move input sink) = move_input (input_named state.inputs input) (named_by state.names state.sinks sink false) state.inputs tag
+handle state me tag (commands.UpdateStream stream mode list) = update_stream (stream_of state.inputs me.conn stream) state.lists tag mode list
+handle state me tag (commands.UpdateClient mode list) = update_client (client_on state.names.clients me.conn) me tag mode list
+handle state me tag (commands.RemoveStream stream keys) = remove_stream (stream_of state.inputs me.conn stream) state.lists tag keys
+handle state me tag (commands.RemoveClient keys) = remove_client (client_on state.names.clients me.conn) me tag keys
 
 -- ---- the families of commands: on what plays in a stream of the connection's own
 
@@ -179,8 +179,8 @@ IsRead _ = ⊤
 -- ---- the order of refusals
 
 -- a packet as it was read: a number above the last one is unknown, one that the table hasn't isn't supported, and a fault in its fields ends the connection
-abbrev pub read_answer : {P : Type 0} → State P → Connection → ℕ → ℕ → Result Command CmdFault → Plan P
-read_answer state c at tag (Ok command) = requested tag (row state c tag command)
+abbrev pub read_answer : {P : Type 0} → State P → Connection → ℕ → ℕ → Result Command CmdFault → CoreOutcome P
+read_answer state c at tag (Ok command) = requested tag (handle state c tag command)
 read_answer state c at tag (Err (Protocol fault)) = broken_off c.conn at fault
 read_answer state c at tag (Err (Unknown command)) = refused tag UnknownCommand
 read_answer state c at tag (Err (Unsupported command)) = refused tag NotSupported
@@ -190,14 +190,14 @@ read_answer state c at tag (Err NoMemory) = idle
 abbrev pub is_barred : Connection → ℕ → Bool
 is_barred c command = not (is_some c.version) && not (nat_eq command AUTH)
 
-abbrev pub command_answer : {P : Type 0} → State P → Connection → ℕ → List ℕ → ℕ → ℕ → Plan P
+abbrev pub command_answer : {P : Type 0} → State P → Connection → ℕ → List ℕ → ℕ → ℕ → CoreOutcome P
 command_answer state c at packet command tag =
     cond (is_barred c command) (refused tag Access) (read_answer state c at tag (meant packet))
 
-abbrev pub head_answer : {P : Type 0} → State P → Connection → ℕ → List ℕ → Result ((ℕ × ℕ) × Place) TagFault → Plan P
+abbrev pub head_answer : {P : Type 0} → State P → Connection → ℕ → List ℕ → Result ((ℕ × ℕ) × Place) TagFault → CoreOutcome P
 head_answer state c at packet (Err fault) = broken_off c.conn at fault
 head_answer state c at packet (Ok head) = command_answer state c at packet head.0.0 head.0.1
 
 -- a packet whose first byte has this offset
-abbrev pub packet_answer : {P : Type 0} → State P → Connection → ℕ → List ℕ → Plan P
+abbrev pub packet_answer : {P : Type 0} → State P → Connection → ℕ → List ℕ → CoreOutcome P
 packet_answer state c at packet = head_answer state c at packet (head_at (start_of packet))

@@ -1,18 +1,18 @@
 -- Connections begin and end (PulseAudio: `pa_native_protocol_connect` and `native_connection_unlink` of pulsecore/protocol-native.c; that an ended connection is swept away in a step of its own is own).
 use Rattle.std.specs.Prelude.{ℕ, Bool, cond, ◌||◌, nat_le, List, [], ◌∷◌, ◌++◌, filter, length, flat_map, Option, None, Some}
 use Rattle.px_types.specs.declared.ids.ConnId.{ConnId}
-use Rattle.px_plan.specs.declared.change.Change.TheVariants.{Leaves, Forgotten}
+use Rattle.px_outcome.specs.declared.change.Change.TheVariants.{Leaves, Forgotten}
 use Rattle.px_state.specs.declared.effect.Effect.{Effect}
-use Rattle.px_plan.specs.declared.sending.Reason.{Reason}
-use Rattle.px_plan.specs.declared.sending.Reason.TheVariants.{Limit}
-use Rattle.px_plan.specs.declared.input.Connection.{Connection}
-use Rattle.px_plan.specs.declared.input.Input.{Input}
-use Rattle.px_plan.specs.Plan.{idle, changing}
+use Rattle.px_outcome.specs.declared.sending.Reason.{Reason}
+use Rattle.px_outcome.specs.declared.sending.Reason.TheVariants.{Limit}
+use Rattle.px_outcome.specs.declared.input.Connection.{Connection}
+use Rattle.px_outcome.specs.declared.input.Input.{Input}
+use Rattle.px_outcome.specs.Outcome.{idle, changing}
 use Rattle.px_state.specs.Effect.{closed_for}
 use Rattle.px_state.specs.Change.{Change}
 pub use Rattle.px_state.specs.Change.{new_connection, joined}
 use Rattle.px_state.specs.State.{State, connection_of, marked_of, is_from}
-use Rattle.px_state.specs.Plan.{Plan, ended_by}
+use Rattle.px_state.specs.Outcome.{CoreOutcome, ended_by}
 
 -- ---- a connection begins
 
@@ -46,7 +46,7 @@ abbrev pub going_on : List Connection → ConnId → Option Connection
 going_on connections conn = unmarked (connection_of connections conn)
 
 -- where it goes on it ends: by the server for a reason, or by the client
-abbrev pub ended : {P : Type 0} → Option Connection → Option Reason → ℕ → ℕ → Plan P
+abbrev pub ended : {P : Type 0} → Option Connection → Option Reason → ℕ → ℕ → CoreOutcome P
 ended None reason fault at = idle
 ended (Some c) reason fault at = ended_by c.conn reason fault at
 
@@ -59,5 +59,5 @@ ends x = Leaves x.index ∷ []
 abbrev pub swept : {P : Type 0} → List Input → Connection → List (Change P)
 swept inputs c = flat_map ends (filter (is_from c.conn) inputs) ++ Forgotten c.conn ∷ []
 
-abbrev pub sweep_of : {P : Type 0} → State P → Plan P
+abbrev pub sweep_of : {P : Type 0} → State P → CoreOutcome P
 sweep_of state = changing (flat_map (swept state.inputs) (marked_of state.connections))

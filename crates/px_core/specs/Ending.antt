@@ -3,7 +3,7 @@ use Rattle.std.specs.Prelude.{ℕ, Bool, false, cond, nat_eq, ◌+◌, List, [],
 use Rattle.px_types.specs.declared.ids.ConnId.{ConnId}
 use Rattle.px_state.specs.declared.effect.Effect.{Effect}
 use Rattle.px_state.specs.declared.effect.Effect.TheVariants.{Sent, Closed}
-use Rattle.px_plan.specs.declared.input.Connection.{Connection}
+use Rattle.px_outcome.specs.declared.input.Connection.{Connection}
 use Rattle.px_model.specs.Frame.{SampleSpec}
 use Rattle.px_state.specs.State.{State, connection_of}
 use Rattle.px_core.specs.Connecting.{going_on}

@@ -6,7 +6,7 @@ use Rattle.px_types.specs.declared.ids.SinkId.{SinkId}
 use Rattle.px_header.specs.declared.header.SinkSpec.{SinkSpec}
 use Rattle.px_flat.specs.Inputs.{channels_in}
 use Rattle.px_flat.specs.FlatVolume.{FlatGroup}
-use Rattle.px_plan.specs.declared.input.Input.{Input}
+use Rattle.px_outcome.specs.declared.input.Input.{Input}
 use Rattle.px_core.specs.Notice.{is_on}
 
 -- for each input with an index that is on a sink, how many channels it has

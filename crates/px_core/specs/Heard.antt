@@ -4,18 +4,18 @@ use Rattle.px_types.specs.declared.ids.ConnId.{ConnId}
 use Rattle.px_model.specs.Frame.{SampleSpec}
 use Rattle.px_names.specs.declared.client.Client.{Client}
 use Rattle.px_names.specs.Clients.{client_on, mask_of}
-use Rattle.px_plan.specs.declared.input.Connection.{Connection}
+use Rattle.px_outcome.specs.declared.input.Connection.{Connection}
 use Rattle.px_subscribe.specs.declared.event.Event.{Event}
 use Rattle.px_subscribe.specs.Event.{message_of, hears}
 use Rattle.px_subscribe.specs.Infos.{Infos, Given}
 use Rattle.px_subscribe.specs.Became.{events_between}
 use Rattle.px_subscribe.specs.InfoBytes.{infos_in}
-use Rattle.px_subscribe.specs.Moments.{telling_of, given_in}
+use Rattle.px_subscribe.specs.Moments.{info_lists_of, given_in}
 use Rattle.px_state.specs.declared.effect.Effect.{Effect}
 use Rattle.px_state.specs.declared.effect.Effect.TheVariants.{Sent, Closed}
 use Rattle.px_state.specs.Effect.{sent}
 use Rattle.px_state.specs.State.{State, connection_of}
-use Rattle.px_state.specs.Plan.{plan_effects}
+use Rattle.px_state.specs.Outcome.{outcome_effects}
 use Rattle.px_core.specs.Connecting.{connect_effects, going_on}
 use Rattle.px_state.specs.Events.{scene_of}
 use Rattle.px_core.specs.Step.{Step, connect, frame, broken, close, cut, sweep, notice, out, answer_of}
@@ -24,7 +24,7 @@ use Rattle.px_core.specs.Step.{Step, connect, frame, broken, close, cut, sweep, 
 
 -- all that is told of a state
 abbrev pub infos_of : {P : Type 0} → State P → Infos
-infos_of state = infos_in (telling_of state.sinks (scene_of state))
+infos_of state = infos_in (info_lists_of state.sinks (scene_of state))
 
 -- how many indices were given by then
 abbrev pub given_by : {P : Type 0} → State P → Given
@@ -64,10 +64,10 @@ sent_to conn effects = filter (goes_to conn) effects
 -- those of a step but for events
 abbrev pub own_effects : {P : Type 0} → (P → SampleSpec) → State P → Step P → List Effect
 own_effects spec_of state (connect conn) = connect_effects (connection_of state.connections conn) conn state
-own_effects spec_of state (frame conn f) = plan_effects (Some conn) (answer_of spec_of state (frame conn f))
-own_effects spec_of state (broken conn fault at) = plan_effects (Some conn) (answer_of spec_of state (broken conn fault at))
-own_effects spec_of state (close conn) = plan_effects (Some conn) (answer_of spec_of state (close conn))
-own_effects spec_of state (cut conn) = plan_effects (Some conn) (answer_of spec_of state (cut conn))
-own_effects spec_of state sweep = plan_effects None (answer_of spec_of state sweep)
-own_effects spec_of state (notice sink n) = plan_effects None (answer_of spec_of state (notice sink n))
+own_effects spec_of state (frame conn f) = outcome_effects (Some conn) (answer_of spec_of state (frame conn f))
+own_effects spec_of state (broken conn fault at) = outcome_effects (Some conn) (answer_of spec_of state (broken conn fault at))
+own_effects spec_of state (close conn) = outcome_effects (Some conn) (answer_of spec_of state (close conn))
+own_effects spec_of state (cut conn) = outcome_effects (Some conn) (answer_of spec_of state (cut conn))
+own_effects spec_of state sweep = outcome_effects None (answer_of spec_of state sweep)
+own_effects spec_of state (notice sink n) = outcome_effects None (answer_of spec_of state (notice sink n))
 own_effects spec_of state (out sink) = []

@@ -9,17 +9,17 @@ use Rattle.px_state.specs.Out.{next_for}
 use Rattle.px_core.specs.Step.{Step, connect, frame, broken, close, cut, sweep, notice, out, stepped}
 
 -- the message that a step hands out to a sink, if it does
-abbrev pub told_in : {P : Type 0} → SinkId → State P → Step P → List (Msg P)
-told_in sink state (connect conn) = []
-told_in sink state (frame conn f) = []
-told_in sink state (broken conn fault at) = []
-told_in sink state (close conn) = []
-told_in sink state (cut conn) = []
-told_in sink state sweep = []
-told_in sink state (notice from n) = []
-told_in sink state (out to) = cond (nat_eq to.0 sink.0) (option_to_list (next_for state to)) []
+abbrev pub posted_by_step : {P : Type 0} → SinkId → State P → Step P → List (Msg P)
+posted_by_step sink state (connect conn) = []
+posted_by_step sink state (frame conn f) = []
+posted_by_step sink state (broken conn fault at) = []
+posted_by_step sink state (close conn) = []
+posted_by_step sink state (cut conn) = []
+posted_by_step sink state sweep = []
+posted_by_step sink state (notice from n) = []
+posted_by_step sink state (out to) = cond (nat_eq to.0 sink.0) (option_to_list (next_for state to)) []
 
 -- those of all steps, in order
-abbrev pub told_by : {P : Type 0} → (P → SampleSpec) → SinkId → State P → List (Step P) → List (Msg P)
-told_by spec_of sink state [] = []
-told_by spec_of sink state (s ∷ steps) = told_in sink state s ++ told_by spec_of sink (stepped spec_of state s) steps
+abbrev pub posted_by_steps : {P : Type 0} → (P → SampleSpec) → SinkId → State P → List (Step P) → List (Msg P)
+posted_by_steps spec_of sink state [] = []
+posted_by_steps spec_of sink state (s ∷ steps) = posted_by_step sink state s ++ posted_by_steps spec_of sink (stepped spec_of state s) steps

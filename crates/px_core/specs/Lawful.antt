@@ -11,10 +11,10 @@ use Rattle.px_flat.specs.FlatVolume.{FlatGroup}
 use Rattle.px_msg.specs.declared.message.Msg.{Msg}
 use Rattle.px_msg.specs.declared.message.Msg.TheVariants.{New, Attach, Detach, Write, Cork, Flush, Trigger, Prebuf, Drain, Attr, Factors, Query}
 use Rattle.px_msg.specs.View.{sample_spec, opened, gains}
-use Rattle.px_plan.specs.declared.input.Input.{Input}
-use Rattle.px_plan.specs.declared.input.Standing.TheVariants.{Settled, Leaving}
-use Rattle.px_plan.specs.declared.input.Way.TheVariants.{Coming, Left}
-use Rattle.px_plan.specs.declared.change.Change.TheVariants.{Authed, Named, Masked, Defaulted, Made, Described, Leaves, Moves, Arrives, Released, Said, Regrouped, Asked, Answered, Gone, Ended, Forgotten}
+use Rattle.px_outcome.specs.declared.input.Input.{Input}
+use Rattle.px_outcome.specs.declared.input.Standing.TheVariants.{Settled, Leaving}
+use Rattle.px_outcome.specs.declared.input.Way.TheVariants.{Coming, Left}
+use Rattle.px_outcome.specs.declared.change.Change.TheVariants.{Authed, Named, Masked, Defaulted, Made, Described, Leaves, Moves, Arrives, Released, Posted, Regrouped, Asked, Answered, Gone, Ended, Forgotten}
 use Rattle.px_state.specs.declared.delayed.Delayed.{Delayed}
 pub use Rattle.px_state.specs.Delayed.{is_of, Suits}
 use Rattle.px_state.specs.State.{State, input_of, bound_for}
@@ -22,7 +22,7 @@ use Rattle.px_state.specs.Change.{Change, changed}
 use Rattle.px_core.specs.Connecting.{going_on}
 use Rattle.px_ctl_play.specs.Asked.{MOST_ON_SINK}
 use Rattle.px_core.specs.Grouped.{IsGroupOf, paid}
-use Rattle.px_core.specs.Keeps.{IsInput, IsFedAt, GoesTo, IsIncreasing, IsAwaiting}
+use Rattle.px_core.specs.Consistency.{IsInput, IsFedAt, GoesTo, IsIncreasing, IsAwaiting}
 
 -- a message brings a new input's stream to its sink, and fits it
 abbrev pub Brings : {P : Type 0} → Input → SinkSpec → Msg P → Type 0
@@ -99,7 +99,7 @@ Lawful state (Leaves index) = ⊤
 Lawful state (Moves index to) = MayMove state index to
 Lawful state (Arrives index m) = ⊥
 Lawful state (Released index) = IfSome (input_of state.inputs index) (AreReleased state.delayed)
-Lawful state (Said index m) = IfSome (input_of state.inputs index) (λ x. Suits x m)
+Lawful state (Posted index m) = IfSome (input_of state.inputs index) (λ x. Suits x m)
 Lawful state (Regrouped sink group m) = IsRegrouped state sink group m
 Lawful state (Asked w) = IsAwaiting state.inputs w
 Lawful state (Answered w) = ⊤

@@ -4,7 +4,7 @@ pub mod Command
 pub mod Step
 pub mod Orderly
 pub mod Grouped
-pub mod Keeps
+pub mod Consistency
 pub mod Places
 pub mod Parcels
 pub mod Lawful

@@ -6,9 +6,9 @@ use Rattle.px_header.specs.declared.header.SinkSpec.{SinkSpec}
 use Rattle.px_model.specs.Frame.{SampleSpec}
 use Rattle.px_model.specs.Orderly.{Inputs, IsOrderly}
 use Rattle.px_msg.specs.View.{sample_spec, message_of}
-use Rattle.px_plan.specs.declared.input.Input.{Input}
-use Rattle.px_plan.specs.declared.input.Way.{Way}
-use Rattle.px_plan.specs.declared.input.Way.TheVariants.{Coming, There, Left}
+use Rattle.px_outcome.specs.declared.input.Input.{Input}
+use Rattle.px_outcome.specs.declared.input.Way.{Way}
+use Rattle.px_outcome.specs.declared.input.Way.TheVariants.{Coming, There, Left}
 use Rattle.px_state.specs.State.{State}
 use Rattle.px_state.specs.Out.{waiting_for}
 

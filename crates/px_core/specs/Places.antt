@@ -1,6 +1,6 @@
 -- Where an index stands in inputs of rising index.
 use Rattle.std.specs.Prelude.{ℕ, zero, suc, ◌<◌, List, [], ◌∷◌, ⊤}
-use Rattle.px_plan.specs.declared.input.Input.{Input}
+use Rattle.px_outcome.specs.declared.input.Input.{Input}
 
 -- the first k indices lie below i
 abbrev pub AreBelow : ℕ → ℕ → List Input → Type 0

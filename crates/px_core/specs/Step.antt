@@ -6,17 +6,17 @@ use Rattle.px_types.specs.declared.ids.SinkId.{SinkId}
 use Rattle.px_model.specs.Frame.{SampleSpec}
 use Rattle.px_frame.specs.declared.fault.FrameFault.{FrameFault}
 use Rattle.px_frame.specs.Fault.{code_of}
-use Rattle.px_plan.specs.declared.sending.Reason.TheVariants.{Protocol, Cut}
+use Rattle.px_outcome.specs.declared.sending.Reason.TheVariants.{Protocol, Cut}
 use Rattle.px_frame.specs.declared.frame.Frame.{Frame}
 use Rattle.px_frame.specs.declared.frame.Body.{Body}
 use Rattle.px_frame.specs.declared.frame.Body.TheVariants.{Control, Write}
 use Rattle.px_msg.specs.declared.notice.Notice.{Notice}
-use Rattle.px_plan.specs.Plan.{idle}
+use Rattle.px_outcome.specs.Outcome.{idle}
 use Rattle.px_ctl_play.specs.Data.{data_for}
 use Rattle.px_state.specs.declared.effect.Effect.{Effect}
-use Rattle.px_plan.specs.declared.input.Connection.{Connection}
+use Rattle.px_outcome.specs.declared.input.Connection.{Connection}
 use Rattle.px_state.specs.State.{State, connection_of, stream_of}
-use Rattle.px_state.specs.Plan.{Plan, plan_effects}
+use Rattle.px_state.specs.Outcome.{CoreOutcome, outcome_effects}
 use Rattle.px_state.specs.Events.{step_events}
 pub use Rattle.px_state.specs.Answered.{answered, answer_effects}
 use Rattle.px_core.specs.Command.{packet_answer}
@@ -25,16 +25,16 @@ use Rattle.px_core.specs.Notice.{notice_answer}
 use Rattle.px_state.specs.Out.{handed_out}
 
 -- one frame of a connection that goes on
-abbrev pub body_answer : {P : Type 0} → State P → Connection → ℕ → Body → Plan P
+abbrev pub body_answer : {P : Type 0} → State P → Connection → ℕ → Body → CoreOutcome P
 body_answer state c at (Control packet) = packet_answer state c at packet
 body_answer state c at (Write stream offset seek bytes) = data_for (stream_of state.inputs c.conn stream) offset seek bytes
 
-abbrev pub frame_of : {P : Type 0} → State P → Option Connection → Frame → Plan P
+abbrev pub frame_of : {P : Type 0} → State P → Option Connection → Frame → CoreOutcome P
 frame_of state None frame = idle
 frame_of state (Some c) frame = body_answer state c frame.at frame.body
 
 -- a frame; those of a connection that isn't there, or has ended, are ignored
-abbrev pub frame_answer : {P : Type 0} → State P → ConnId → Frame → Plan P
+abbrev pub frame_answer : {P : Type 0} → State P → ConnId → Frame → CoreOutcome P
 frame_answer state conn frame = frame_of state (going_on state.connections conn) frame
 
 pub data Step (P : Type 0) : Type 0 where
@@ -56,7 +56,7 @@ pub data Step (P : Type 0) : Type 0 where
   out : SinkId → Step P
 
 -- what a step is answered, where spec_of reads a parcel's sample spec; a client that connects and a message that is handed out have no answer of this kind
-abbrev pub answer_of : {P : Type 0} → (P → SampleSpec) → State P → Step P → Plan P
+abbrev pub answer_of : {P : Type 0} → (P → SampleSpec) → State P → Step P → CoreOutcome P
 answer_of spec_of state (connect conn) = idle
 answer_of spec_of state (frame conn f) = frame_answer state conn f
 answer_of spec_of state (broken conn fault at) = ended (going_on state.connections conn) (Some Protocol) (code_of fault) at
@@ -88,7 +88,7 @@ sender_of sweep = None
 sender_of (notice sink n) = None
 sender_of (out sink) = None
 
--- the effects of a client that connects; where no more are taken it is ended without a plan
+-- the effects of a client that connects; where no more are taken it is ended without an outcome
 abbrev pub admitted_effects : {P : Type 0} → Option Connection → ConnId → State P → List Effect
 admitted_effects c conn state = connect_effects c conn state ++ step_events state (connected c conn state)
 
@@ -96,9 +96,9 @@ admitted_effects c conn state = connect_effects c conn state ++ step_events stat
 abbrev pub effects_of : {P : Type 0} → (P → SampleSpec) → State P → Step P → List Effect
 effects_of spec_of state (connect conn) = admitted_effects (connection_of state.connections conn) conn state
 effects_of spec_of state (frame conn f) = answer_effects (Some conn) state (answer_of spec_of state (frame conn f))
-effects_of spec_of state (broken conn fault at) = plan_effects (Some conn) (answer_of spec_of state (broken conn fault at))
-effects_of spec_of state (close conn) = plan_effects (Some conn) (answer_of spec_of state (close conn))
-effects_of spec_of state (cut conn) = plan_effects (Some conn) (answer_of spec_of state (cut conn))
+effects_of spec_of state (broken conn fault at) = outcome_effects (Some conn) (answer_of spec_of state (broken conn fault at))
+effects_of spec_of state (close conn) = outcome_effects (Some conn) (answer_of spec_of state (close conn))
+effects_of spec_of state (cut conn) = outcome_effects (Some conn) (answer_of spec_of state (cut conn))
 effects_of spec_of state sweep = answer_effects None state (answer_of spec_of state sweep)
 effects_of spec_of state (notice sink n) = answer_effects None state (answer_of spec_of state (notice sink n))
 effects_of spec_of state (out sink) = []

@@ -1,10 +1,10 @@
 //! A sink has given up the stream of an input that moves: the input is on the sink that it moves to.
 
 ghost use Rattle.std.specs.Prelude.{◌≡◌, IfOk, IfErr, OnOk, OnErr, None, Some, slice_get};
-ghost use Rattle.px_plan.specs.declared.input.Standing.TheVariants.{Moving};
-ghost use Rattle.px_plan.specs.Target.{IsTarget};
+ghost use Rattle.px_outcome.specs.declared.input.Standing.TheVariants.{Moving};
+ghost use Rattle.px_outcome.specs.Target.{IsTarget};
 ghost use Rattle.px_sinks.specs.Sinks.{target_at};
-ghost use Rattle.px_core.specs.Keeps.{IsKept};
+ghost use Rattle.px_core.specs.Consistency.{IsConsistent};
 ghost use Rattle.px_core.specs.Notice.{arrival_at, arrival_between, arrived_with};
 ghost use Rattle.px_state.specs.State.{input_of};
 ghost use Rattle.px_core.specs.Step.{answer_effects, answered};
@@ -14,7 +14,7 @@ use crate::notice::owner_of;
 use px_ctl_play::{Arrival, arrive};
 use px_flat::Group;
 use px_msg::{Msg, Parcel};
-use px_plan::{Input, Target};
+use px_outcome::{Input, Target};
 use px_sinks::{group_on, target_at};
 use px_state::{Effects, Tables, delayed_count, finish_arrival};
 use px_types::{Mem, SinkId};
@@ -28,7 +28,7 @@ fn arrival_on<P: Parcel + Drop>(
     sink: &Target,
     x: &Input,
 ) -> Mem<Option<Arrival<Msg<P>, Group>>>
-    requires kept { IsKept P.spec_of (state_of tables.now) }
+    requires consistent { IsConsistent P.spec_of (state_of tables.now) }
     requires here { input_of tables.now.inputs.items x.now.index ≡ Some x.now }
     requires moves { x.now.standing ≡ Moving to }
     requires there { target_at tables.now.sinks to ≡ Some sink.now }
@@ -62,7 +62,7 @@ fn arrival_at<P: Parcel + Drop>(
     to: SinkId,
     x: &Input,
 ) -> Mem<Option<Arrival<Msg<P>, Group>>>
-    requires kept { IsKept P.spec_of (state_of tables.now) }
+    requires consistent { IsConsistent P.spec_of (state_of tables.now) }
     requires here { input_of tables.now.inputs.items x.now.index ≡ Some x.now }
     requires moves { x.now.standing ≡ Moving to }
     ensures { IfOk result (λ made. made ≡ arrival_at (state_of tables.now) to x.now) }
@@ -77,14 +77,14 @@ fn arrival_at<P: Parcel + Drop>(
 
 /// An input that moves to a sink is there with this parcel. Where there is no memory for it the parcel is handed back, and nothing has
 /// changed.
-pub(crate) fn take_in<P: Parcel + Drop>(
+pub(crate) fn arrive_with<P: Parcel + Drop>(
     alloc: Global,
     tables: &mut Tables<P>,
     to: SinkId,
     x: &Input,
     parcel: P,
 ) -> Result<Effects, P>
-    requires kept { IsKept P.spec_of (state_of tables.old) }
+    requires consistent { IsConsistent P.spec_of (state_of tables.old) }
     requires here { input_of tables.old.inputs.items x.now.index ≡ Some x.now }
     requires moves { x.now.standing ≡ Moving to }
     ensures effects { IfOk result (λ effects. effects ≡ answer_effects None (state_of tables.old) (arrived_with x.now.index parcel (arrival_at (state_of tables.old) to x.now))) }

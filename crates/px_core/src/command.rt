@@ -8,14 +8,14 @@ ghost use Rattle.px_header.specs.HeaderRules.{AreSinks};
 ghost use Rattle.px_state.specs.Tables.{state_of};
 ghost use Rattle.px_core.specs.Command.{is_barred, read_answer, command_answer, packet_answer};
 ghost use Rattle.px_core.specs.Grouped.{AreGrouped};
-ghost use Rattle.px_core.specs.Keeps.{IsInput};
+ghost use Rattle.px_core.specs.Consistency.{IsInput};
 
-use crate::rows::row;
+use crate::handlers::handle;
 use px_cmd::number::AUTH;
 use px_cmd::{CmdFault, read_command, read_head};
 use px_flat::Group;
 use px_msg::Msg;
-use px_plan::{Connection, Plan};
+use px_outcome::{Connection, StepOutcome};
 use px_state::{Tables, broken_off, refused, requested};
 use px_types::limits::PROTOCOL_VERSION;
 use px_types::{ErrorCode, Mem, NoMemory};
@@ -36,14 +36,14 @@ fn read_answer<P: Drop>(
     at: u64,
     tag: u32,
     packet: &[u8],
-) -> Mem<Plan<Msg<P>, Group>>
+) -> Mem<StepOutcome<Msg<P>, Group>>
     requires sinks { AreSinks [] tables.now.sinks }
     requires inputs { AllByRecursion (IsInput tables.now.sinks tables.now.inputs_made) tables.now.inputs.items }
     requires groups { AreGrouped [] tables.now.sinks tables.now.inputs.items tables.now.groups.items }
-    ensures { IfOk result (λ plan. plan ≡ read_answer (state_of tables.now) c.now at tag (meant packet.now)) }
+    ensures { IfOk result (λ outcome. outcome ≡ read_answer (state_of tables.now) c.now at tag (meant packet.now)) }
 {
     match read_command(alloc, packet, PROTOCOL_VERSION) {
-        Ok(command) => requested(alloc, tag, row(alloc, tables, c, tag, command)),
+        Ok(command) => requested(alloc, tag, handle(alloc, tables, c, tag, command)),
         Err(CmdFault::Protocol(fault)) => broken_off(alloc, c.conn, at, fault),
         Err(CmdFault::Unknown(_)) => refused(alloc, tag, ErrorCode::Command),
         Err(CmdFault::Unsupported(_)) => refused(alloc, tag, ErrorCode::NotSupported),
@@ -60,11 +60,11 @@ fn command_answer<P: Drop>(
     packet: &[u8],
     command: u32,
     tag: u32,
-) -> Mem<Plan<Msg<P>, Group>>
+) -> Mem<StepOutcome<Msg<P>, Group>>
     requires sinks { AreSinks [] tables.now.sinks }
     requires inputs { AllByRecursion (IsInput tables.now.sinks tables.now.inputs_made) tables.now.inputs.items }
     requires groups { AreGrouped [] tables.now.sinks tables.now.inputs.items tables.now.groups.items }
-    ensures { IfOk result (λ plan. plan ≡ command_answer (state_of tables.now) c.now at packet.now command tag) }
+    ensures { IfOk result (λ outcome. outcome ≡ command_answer (state_of tables.now) c.now at packet.now command tag) }
 {
     if is_barred(c, command) {
         return refused(alloc, tag, ErrorCode::Access);
@@ -75,18 +75,18 @@ fn command_answer<P: Drop>(
 /// What a connection's control packet is answered whose first byte has the offset `at`. Refused, by the first of these that
 /// holds: a fault in its front ends the connection; `Access` before a successful AUTH for any other command; `Command` for a
 /// number above the last; `NotSupported` for one that the table hasn't; a fault in its fields ends the connection; then as the
-/// command's row says; and `TooLarge` where no frame can carry the reply.
+/// command's handler says; and `TooLarge` where no frame can carry the reply.
 pub(crate) fn packet_answer<P: Drop>(
     alloc: Global,
     tables: &Tables<P>,
     c: &Connection,
     at: u64,
     packet: &[u8],
-) -> Mem<Plan<Msg<P>, Group>>
+) -> Mem<StepOutcome<Msg<P>, Group>>
     requires sinks { AreSinks [] tables.now.sinks }
     requires inputs { AllByRecursion (IsInput tables.now.sinks tables.now.inputs_made) tables.now.inputs.items }
     requires groups { AreGrouped [] tables.now.sinks tables.now.inputs.items tables.now.groups.items }
-    ensures { IfOk result (λ plan. plan ≡ packet_answer (state_of tables.now) c.now at packet.now) }
+    ensures { IfOk result (λ outcome. outcome ≡ packet_answer (state_of tables.now) c.now at packet.now) }
 {
     match read_head(packet) {
         Err(fault) => broken_off(alloc, c.conn, at, fault),

@@ -3,19 +3,19 @@
 
 ghost use Rattle.std.specs.Prelude.{◌≡◌, ◌++◌, ◌∷◌, [], ℕ, List, Option, None, Some, false, filter, flat_map, IsFalse, IfOk, OnOk, OnErr};
 ghost use Rattle.std.specs.Option.{option_map};
-ghost use Rattle.px_plan.specs.declared.sending.Reason.{Reason};
-ghost use Rattle.px_plan.specs.declared.sending.Reason.TheVariants.{Protocol};
+ghost use Rattle.px_outcome.specs.declared.sending.Reason.{Reason};
+ghost use Rattle.px_outcome.specs.declared.sending.Reason.TheVariants.{Protocol};
 ghost use Rattle.px_frame.specs.Fault.{code_of};
-ghost use Rattle.px_plan.specs.declared.input.Connection.{Connection};
-ghost use Rattle.px_plan.specs.declared.input.Input.{Input};
-ghost use Rattle.px_plan.specs.Plan.{changing};
+ghost use Rattle.px_outcome.specs.declared.input.Connection.{Connection};
+ghost use Rattle.px_outcome.specs.declared.input.Input.{Input};
+ghost use Rattle.px_outcome.specs.Outcome.{changing};
 ghost use Rattle.px_header.specs.HeaderRules.{AreSinks};
 ghost use Rattle.px_state.specs.State.{connection_of, marked_of, is_from};
 ghost use Rattle.px_core.specs.Connecting.{is_full, connected, going_on, ended, ends, swept, sweep_of};
 ghost use Rattle.px_state.specs.Change.{joined};
 ghost use Rattle.px_state.specs.Events.{step_events};
 ghost use Rattle.px_state.specs.Effect.{closed_at, IsSendable};
-ghost use Rattle.px_state.specs.Plan.{plan_effects};
+ghost use Rattle.px_state.specs.Outcome.{outcome_effects};
 ghost use Rattle.px_core.specs.Step.{answered, answer_effects, admitted_effects};
 ghost use Rattle.px_state.specs.Tables.{state_of};
 
@@ -24,7 +24,7 @@ use px_flat::Group;
 use px_frame::FrameFault;
 use px_input_table::goes_on;
 use px_msg::Msg;
-use px_plan::{Change, Connection, Input, Plan, Reason};
+use px_outcome::{Change, Connection, Input, Reason, StepOutcome};
 use px_state::{
     CoreChange, Effect, Effects, Tables, closed_for, finish, join, joined_events, mark,
 };
@@ -119,11 +119,11 @@ fn sweep<P: Drop>(
     alloc: Global,
     connections: &[Connection],
     inputs: &[Input],
-) -> Mem<Plan<Msg<P>, Group>>
-    ensures { IfOk result (λ plan. plan ≡ changing (flat_map (swept inputs.now) (marked_of connections.now))) }
+) -> Mem<StepOutcome<Msg<P>, Group>>
+    ensures { IfOk result (λ outcome. outcome ≡ changing (flat_map (swept inputs.now) (marked_of connections.now))) }
 {
     let changes = swept_changes(alloc, connections, inputs)?;
-    Ok(Plan::changing(alloc, changes))
+    Ok(StepOutcome::changing(alloc, changes))
 }
 
 // Whether any connection has ended.
@@ -149,8 +149,8 @@ pub(crate) fn sweep_away<P: Drop>(alloc: Global, tables: &mut Tables<P>) -> Mem<
     if !has_marked(&tables.connections) {
         return Ok(Effects::new(alloc));
     }
-    let plan = sweep(alloc, &tables.connections, tables.inputs.as_slice())?;
-    finish(alloc, tables, None, plan)
+    let outcome = sweep(alloc, &tables.connections, tables.inputs.as_slice())?;
+    finish(alloc, tables, None, outcome)
 }
 
 // A client is taken. Where there is no memory for it nothing has changed.
@@ -210,7 +210,7 @@ pub(crate) fn break_off<P>(
     fault: FrameFault,
     at: u64,
 ) -> Mem<Effects>
-    ensures effects { IfOk result (λ effects. effects ≡ plan_effects {P = P} (Some conn) (ended (going_on tables.old.connections.items conn) (Some Protocol) (code_of fault) at)) }
+    ensures effects { IfOk result (λ effects. effects ≡ outcome_effects {P = P} (Some conn) (ended (going_on tables.old.connections.items conn) (Some Protocol) (code_of fault) at)) }
     ensures after { OnOk result (state_of tables.new ≡ answered (state_of tables.old) (ended (going_on tables.old.connections.items conn) (Some Protocol) (code_of fault) at)) }
     ensures err { OnErr result (state_of tables.new ≡ state_of tables.old) }
 {

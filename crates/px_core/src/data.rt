@@ -3,13 +3,13 @@
 ghost use Rattle.std.specs.Prelude.{◌≡◌, ◌≤◌, Some, length, IfErr, OnOk, OnErr};
 ghost use Rattle.px_ctl_play.specs.Data.{data_for};
 ghost use Rattle.px_state.specs.State.{input_of, stream_of};
-ghost use Rattle.px_core.specs.Keeps.{IsRising};
+ghost use Rattle.px_core.specs.Consistency.{IsRising};
 ghost use Rattle.px_core.specs.Step.{answered};
 ghost use Rattle.px_state.specs.Tables.{state_of};
 
 use px_block::Blocks;
 use px_ctl_play::frames_of;
-use px_plan::Input;
+use px_outcome::Input;
 use px_state::{Tables, post_frames};
 use px_types::ConnId;
 

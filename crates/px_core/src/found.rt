@@ -4,12 +4,12 @@ ghost use Rattle.std.specs.Prelude.{◌≡◌, ◌<◌, ◌≤◌, length, slice
 ghost use Rattle.std.specs.Option.{option_map};
 ghost use Rattle.px_state.specs.State.{connection_of};
 ghost use Rattle.px_core.specs.Connecting.{going_on};
-ghost use Rattle.px_core.specs.Keeps.{IsRising};
+ghost use Rattle.px_core.specs.Consistency.{IsRising};
 ghost use Rattle.px_core.specs.Notice.{input_on, is_on};
 ghost use Rattle.px_core.specs.Places.{AreBelow};
-ghost use Rattle.px_plan.specs.declared.input.Input.{Input as DeclaredInput};
+ghost use Rattle.px_outcome.specs.declared.input.Input.{Input as DeclaredInput};
 
-use px_plan::{Connection, Input};
+use px_outcome::{Connection, Input};
 use px_types::{ConnId, InputId, SinkId};
 
 /// The connection with a number. Takes no memory.

@@ -6,7 +6,7 @@ ghost use Rattle.px_frame.specs.Frame.{IsBody};
 ghost use Rattle.px_header.specs.HeaderRules.{AreSinks};
 ghost use Rattle.px_core.specs.Command.{packet_answer};
 ghost use Rattle.px_core.specs.Grouped.{AreGrouped};
-ghost use Rattle.px_core.specs.Keeps.{IsInput, IsRising};
+ghost use Rattle.px_core.specs.Consistency.{IsInput, IsRising};
 ghost use Rattle.px_core.specs.Step.{answer_effects, answered, body_answer, frame_answer};
 ghost use Rattle.px_state.specs.Tables.{state_of};
 
@@ -14,7 +14,7 @@ use crate::command::packet_answer;
 use crate::data::write;
 use crate::found::going_on;
 use px_frame::{Body, Frame};
-use px_plan::Connection;
+use px_outcome::Connection;
 use px_state::{Effects, Tables, finish};
 use px_types::{ConnId, Mem};
 use std::alloc::Global;
@@ -35,13 +35,13 @@ fn control<P: Drop>(
     ensures after { OnOk result (state_of tables.new ≡ answered (state_of tables.old) (packet_answer (state_of tables.old) c.now at packet.now)) }
     ensures err { OnErr result (state_of tables.new ≡ state_of tables.old) }
 {
-    let plan = packet_answer(alloc, tables, c, at, packet)?;
-    finish(alloc, tables, Some(conn), plan)
+    let outcome = packet_answer(alloc, tables, c, at, packet)?;
+    finish(alloc, tables, Some(conn), outcome)
 }
 
 // The body of a frame of a connection that goes on, which is the one with this number. Where there is no memory for it, it is
 // handed back.
-#[tactic(auto, using(crate::proofs::Silent::data_tells_nothing))]
+#[tactic(auto, using(crate::proofs::Silent::data_notifies_nobody))]
 fn body<P: Drop>(
     alloc: Global,
     tables: &mut Tables<P>,

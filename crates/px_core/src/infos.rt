@@ -2,14 +2,14 @@
 
 ghost use Rattle.std.specs.Prelude.{◌≡◌, ◌≤◌, [], false, All, IfSome};
 ghost use Rattle.std.specs.List.{AllByRecursion};
-ghost use Rattle.px_plan.specs.declared.input.Input.{Input};
-ghost use Rattle.px_plan.specs.Row.{Plans};
+ghost use Rattle.px_outcome.specs.declared.input.Input.{Input};
+ghost use Rattle.px_outcome.specs.Handled.{HandledAs};
 ghost use Rattle.px_header.specs.HeaderRules.{AreSinks};
 ghost use Rattle.px_ctl_info.specs.Infos.{sink_info, sink_infos, input_info, input_infos};
 ghost use Rattle.px_ctl_info.specs.Sinks.{server_info};
 ghost use Rattle.px_sinks.specs.Sinks.{named_by, targets_of};
 ghost use Rattle.px_core.specs.Command.{default_sink};
-ghost use Rattle.px_core.specs.Keeps.{IsInput};
+ghost use Rattle.px_core.specs.Consistency.{IsInput};
 ghost use Rattle.px_state.specs.State.{input_named};
 ghost use Rattle.px_state.specs.Tables.{state_of};
 
@@ -17,34 +17,34 @@ use px_cmd::SinkRef;
 use px_ctl_info::{input_info, input_infos, server_info, sink_info, sink_infos};
 use px_flat::Group;
 use px_msg::Msg;
-use px_plan::{Input, Plan, Refusal};
+use px_outcome::{Input, Refusal, StepOutcome};
 use px_sinks::{default_sink, named_by, targets_of};
 use px_state::Tables;
 use px_types::limits::PROTOCOL_VERSION;
 use std::alloc::Global;
 
 /// The sink that is named.
-pub(crate) fn told_sink<P: Drop>(
+pub(crate) fn handle_sink_info<P: Drop>(
     alloc: Global,
     tables: &Tables<P>,
     sink: &SinkRef,
     tag: u32,
-) -> Result<Plan<Msg<P>, Group>, Refusal>
+) -> Result<StepOutcome<Msg<P>, Group>, Refusal>
     requires { AreSinks [] tables.now.sinks }
-    ensures { Plans result (sink_info (named_by tables.now.names tables.now.sinks sink.now false) tables.now.groups.items tag) }
+    ensures { HandledAs result (sink_info (named_by tables.now.names tables.now.sinks sink.now false) tables.now.groups.items tag) }
 {
     let named = named_by(alloc, &tables.names, tables.sinks.as_slice(), sink, false)?;
     sink_info(alloc, named, &tables.groups, tag)
 }
 
 /// All sinks.
-pub(crate) fn told_sinks<P: Drop>(
+pub(crate) fn handle_sink_infos<P: Drop>(
     alloc: Global,
     tables: &Tables<P>,
     tag: u32,
-) -> Result<Plan<Msg<P>, Group>, Refusal>
+) -> Result<StepOutcome<Msg<P>, Group>, Refusal>
     requires { AreSinks [] tables.now.sinks }
-    ensures { Plans result (sink_infos (targets_of tables.now.sinks) tables.now.groups.items tag) }
+    ensures { HandledAs result (sink_infos (targets_of tables.now.sinks) tables.now.groups.items tag) }
 {
     let sinks = targets_of(alloc, tables.sinks.as_slice())?;
     sink_infos(alloc, &sinks, &tables.groups, tag)
@@ -61,14 +61,14 @@ fn input_there<P>(tables: &Tables<P>, index: u32) -> Option<Input>
 }
 
 /// The input with an index, where it goes on.
-pub(crate) fn told_input<P: Drop>(
+pub(crate) fn handle_input_info<P: Drop>(
     alloc: Global,
     tables: &Tables<P>,
     index: u32,
     tag: u32,
-) -> Result<Plan<Msg<P>, Group>, Refusal>
+) -> Result<StepOutcome<Msg<P>, Group>, Refusal>
     requires { AllByRecursion (IsInput tables.now.sinks tables.now.inputs_made) tables.now.inputs.items }
-    ensures { Plans result (input_info (input_named tables.now.inputs.items index) tables.now.groups.items tables.now.lists.items tag) }
+    ensures { HandledAs result (input_info (input_named tables.now.inputs.items index) tables.now.groups.items tables.now.lists.items tag) }
 {
     let x = input_there(tables, index);
     input_info(alloc, x, &tables.groups, &tables.lists, tag)
@@ -85,13 +85,13 @@ fn all_inputs<P>(tables: &Tables<P>) -> &[Input]
 }
 
 /// All inputs that go on.
-pub(crate) fn told_inputs<P: Drop>(
+pub(crate) fn handle_input_infos<P: Drop>(
     alloc: Global,
     tables: &Tables<P>,
     tag: u32,
-) -> Result<Plan<Msg<P>, Group>, Refusal>
+) -> Result<StepOutcome<Msg<P>, Group>, Refusal>
     requires { AllByRecursion (IsInput tables.now.sinks tables.now.inputs_made) tables.now.inputs.items }
-    ensures { Plans result (input_infos tables.now.inputs.items tables.now.groups.items tables.now.lists.items tag) }
+    ensures { HandledAs result (input_infos tables.now.inputs.items tables.now.groups.items tables.now.lists.items tag) }
 {
     input_infos(
         alloc,
@@ -107,9 +107,9 @@ pub(crate) fn server<P: Drop>(
     alloc: Global,
     tables: &Tables<P>,
     tag: u32,
-) -> Result<Plan<Msg<P>, Group>, Refusal>
+) -> Result<StepOutcome<Msg<P>, Group>, Refusal>
     requires { AreSinks [] tables.now.sinks }
-    ensures { Plans result (server_info (default_sink (state_of tables.now)) tag) }
+    ensures { HandledAs result (server_info (default_sink (state_of tables.now)) tag) }
 {
     let named = default_sink(alloc, &tables.names, tables.sinks.as_slice())?;
     server_info(alloc, named, tag, PROTOCOL_VERSION)

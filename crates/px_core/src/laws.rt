@@ -18,45 +18,45 @@ ghost use Rattle.px_core.specs.Connecting.{going_on};
 ghost use Rattle.px_state.specs.Out.{Roomy, waiting_for, next_for, handed_out, put_back, sent_by, unsent_by};
 ghost use Rattle.px_core.specs.Step.{Step, out, sender_of, stepped, effects_of, stepped_by, effects_by};
 ghost use Rattle.px_core.specs.Orderly.{specs_of, inputs_there, IsOrderlyState};
-ghost use Rattle.px_core.specs.Keeps.{IsKept, IsPosted, IsStep, Spares, handed_out_by, messages_out};
+ghost use Rattle.px_core.specs.Consistency.{IsConsistent, IsPosted, IsStep, Spares, handed_out_by, messages_out};
 ghost use Rattle.px_core.specs.Parcels.{given_in, Carries, AllCarry, IsAmong};
-ghost use Rattle.px_core.specs.Hearing.{told_by};
-ghost use Rattle.px_subscribe.specs.Became.{TellWhatBecame};
+ghost use Rattle.px_core.specs.Hearing.{posted_by_steps};
+ghost use Rattle.px_subscribe.specs.Became.{SayWhatBecame};
 ghost use Rattle.px_state.specs.Events.{step_events};
 ghost use Rattle.px_core.specs.Heard.{infos_of, given_by, events_of, mask_on, heard, sent_events, sent_to, own_effects};
 ghost use Rattle.px_core.specs.Ending.{ends_of, goes_on, begins_of, begins_by};
 
 /// What the state keeps, a new one has, and it keeps under every step; `spec_of` reads a parcel's sample spec. So the messages
 /// that wait for a sink are always orderly from the inputs that it has. It does nothing: its contract is the law. Source: own.
-pub fn states_are_kept<P>()
-    ensures new { (spec_of : P → SampleSpec) (header : Header) → IsHeader header → IsKept spec_of (new_state header) }
-    ensures step { (spec_of : P → SampleSpec) (state : State P) (s : Step P) → IsStep s → IsKept spec_of state
-        → IsKept spec_of (stepped spec_of state s) }
+pub fn states_are_consistent<P>()
+    ensures new { (spec_of : P → SampleSpec) (header : Header) → IsHeader header → IsConsistent spec_of (new_state header) }
+    ensures step { (spec_of : P → SampleSpec) (state : State P) (s : Step P) → IsStep s → IsConsistent spec_of state
+        → IsConsistent spec_of (stepped spec_of state s) }
     ensures steps { (spec_of : P → SampleSpec) (state : State P) (steps : List (Step P)) → AllByRecursion IsStep steps
-        → IsKept spec_of state → IsKept spec_of (stepped_by spec_of state steps) }
-    ensures orderly { (spec_of : P → SampleSpec) (state : State P) → IsKept spec_of state → IsOrderlyState spec_of state }
-    ensures back { (spec_of : P → SampleSpec) (state : State P) (sink : SinkId) (m : Msg P) → IsKept spec_of state
-        → next_for state sink ≡ Some m → IsKept spec_of (put_back sink m (handed_out sink state)) }
+        → IsConsistent spec_of state → IsConsistent spec_of (stepped_by spec_of state steps) }
+    ensures orderly { (spec_of : P → SampleSpec) (state : State P) → IsConsistent spec_of state → IsOrderlyState spec_of state }
+    ensures back { (spec_of : P → SampleSpec) (state : State P) (sink : SinkId) (m : Msg P) → IsConsistent spec_of state
+        → next_for state sink ≡ Some m → IsConsistent spec_of (put_back sink m (handed_out sink state)) }
 {}
 
 /// A sink has the inputs that the messages handed out to it leave there. Of those that wait, in order, the first are handed
 /// out, the others go on waiting, and nothing else changes what the sink has. It does nothing: its contract is the law.
 /// Source: own.
-pub fn sinks_have_what_they_were_told<P>()
-    ensures messages { (spec_of : P → SampleSpec) (state : State P) (sink : SinkId) (n : ℕ) → IsKept spec_of state
+pub fn sinks_have_what_was_posted<P>()
+    ensures messages { (spec_of : P → SampleSpec) (state : State P) (sink : SinkId) (n : ℕ) → IsConsistent spec_of state
         → messages_out n sink state ≡ take n (waiting_for state sink) }
-    ensures others { (spec_of : P → SampleSpec) (state : State P) (sink : SinkId) (n : ℕ) → IsKept spec_of state
+    ensures others { (spec_of : P → SampleSpec) (state : State P) (sink : SinkId) (n : ℕ) → IsConsistent spec_of state
         → waiting_for (handed_out_by n sink state) sink ≡ drop n (waiting_for state sink) }
-    ensures inputs { (spec_of : P → SampleSpec) (state : State P) (sink : SinkId) (n : ℕ) → IsKept spec_of state
+    ensures inputs { (spec_of : P → SampleSpec) (state : State P) (sink : SinkId) (n : ℕ) → IsConsistent spec_of state
         → inputs_there (handed_out_by n sink state) sink
         ≡ inputs_left_by spec_of (inputs_there state sink) (map (message_of (λ p. p)) (take n (waiting_for state sink))) }
-    ensures kept { (spec_of : P → SampleSpec) (state : State P) (sink : SinkId) (n : ℕ) → IsKept spec_of state
-        → IsKept spec_of (handed_out_by n sink state) }
+    ensures consistent { (spec_of : P → SampleSpec) (state : State P) (sink : SinkId) (n : ℕ) → IsConsistent spec_of state
+        → IsConsistent spec_of (handed_out_by n sink state) }
     ensures spared { (spec_of : P → SampleSpec) (state : State P) (s : Step P) (sink : SinkId) → IsStep s → Spares sink s
-        → IsKept spec_of state → inputs_there (stepped spec_of state s) sink ≡ inputs_there state sink }
-    ensures put_back { (spec_of : P → SampleSpec) (state : State P) (sink : SinkId) (m : Msg P) → IsKept spec_of state
+        → IsConsistent spec_of state → inputs_there (stepped spec_of state s) sink ≡ inputs_there state sink }
+    ensures put_back { (spec_of : P → SampleSpec) (state : State P) (sink : SinkId) (m : Msg P) → IsConsistent spec_of state
         → next_for state sink ≡ Some m → put_back sink m (handed_out sink state) ≡ state }
-    ensures all_back { (spec_of : P → SampleSpec) (core : Roomy P) (sink : SinkId) (n : ℕ) → IsKept spec_of core.state
+    ensures all_back { (spec_of : P → SampleSpec) (core : Roomy P) (sink : SinkId) (n : ℕ) → IsConsistent spec_of core.state
         → unsent_by sink (messages_out n sink core.state) (sent_by n sink core) ≡ core }
 {}
 
@@ -65,20 +65,20 @@ pub fn sinks_have_what_they_were_told<P>()
 /// contract is the law. Source: own.
 pub fn sinks_hear_what_is_orderly<P>()
     ensures orderly { (spec_of : P → SampleSpec) (state : State P) (steps : List (Step P)) (sink : SinkId) (s : SinkSpec)
-        → slice_get state.sinks sink.0 ≡ Some s → AllByRecursion IsStep steps → IsKept spec_of state
+        → slice_get state.sinks sink.0 ≡ Some s → AllByRecursion IsStep steps → IsConsistent spec_of state
         → IsOrderly spec_of (sample_spec s.spec) (inputs_there state sink)
-        (map (message_of (λ p. p)) (told_by spec_of sink state steps)) }
+        (map (message_of (λ p. p)) (posted_by_steps spec_of sink state steps)) }
     ensures inputs { (spec_of : P → SampleSpec) (state : State P) (steps : List (Step P)) (sink : SinkId) (s : SinkSpec)
-        → slice_get state.sinks sink.0 ≡ Some s → AllByRecursion IsStep steps → IsKept spec_of state
+        → slice_get state.sinks sink.0 ≡ Some s → AllByRecursion IsStep steps → IsConsistent spec_of state
         → inputs_there (stepped_by spec_of state steps) sink
-        ≡ inputs_left_by spec_of (inputs_there state sink) (map (message_of (λ p. p)) (told_by spec_of sink state steps)) }
+        ≡ inputs_left_by spec_of (inputs_there state sink) (map (message_of (λ p. p)) (posted_by_steps spec_of sink state steps)) }
     ensures new { (spec_of : P → SampleSpec) (header : Header) (steps : List (Step P)) (sink : SinkId) (s : SinkSpec)
         → IsHeader header → slice_get header.sinks sink.0 ≡ Some s → AllByRecursion IsStep steps
         → IsOrderly spec_of (sample_spec s.spec) (specs_of [])
-        (map (message_of (λ p. p)) (told_by spec_of sink (new_state header) steps)) }
+        (map (message_of (λ p. p)) (posted_by_steps spec_of sink (new_state header) steps)) }
     ensures posted { (spec_of : P → SampleSpec) (state : State P) (steps : List (Step P)) (sink : SinkId) (s : SinkSpec)
-        → slice_get state.sinks sink.0 ≡ Some s → AllByRecursion IsStep steps → IsKept spec_of state
-        → AllByRecursion IsPosted (told_by spec_of sink state steps) }
+        → slice_get state.sinks sink.0 ≡ Some s → AllByRecursion IsStep steps → IsConsistent spec_of state
+        → AllByRecursion IsPosted (posted_by_steps spec_of sink state steps) }
     ensures sinks { (spec_of : P → SampleSpec) (state : State P) (steps : List (Step P))
         → (stepped_by spec_of state steps).sinks ≡ state.sinks }
 {}
@@ -89,21 +89,21 @@ pub fn parcels_are_those_given_up<P>()
     ensures waiting { (spec_of : P → SampleSpec) (header : Header) (steps : List (Step P)) → IsHeader header
         → AllByRecursion IsStep steps
         → AllCarry (IsAmong (flat_map given_in steps)) (stepped_by spec_of (new_state header) steps) }
-    ensures told { (spec_of : P → SampleSpec) (header : Header) (steps : List (Step P)) (sink : SinkId) → IsHeader header
+    ensures posted { (spec_of : P → SampleSpec) (header : Header) (steps : List (Step P)) (sink : SinkId) → IsHeader header
         → AllByRecursion IsStep steps
-        → AllByRecursion (Carries (IsAmong (flat_map given_in steps))) (told_by spec_of sink (new_state header) steps) }
+        → AllByRecursion (Carries (IsAmong (flat_map given_in steps))) (posted_by_steps spec_of sink (new_state header) steps) }
 {}
 
 /// What a sink is handed out by some steps and others after them; by steps that hand out nothing to it; and by those that
 /// only do that. It does nothing: its contract is the law. Source: own.
 pub fn sinks_hear_step_by_step<P>()
     ensures joined { (spec_of : P → SampleSpec) (state : State P) (earlier later : List (Step P)) (sink : SinkId)
-        → told_by spec_of sink state (earlier ++ later)
-        ≡ told_by spec_of sink state earlier ++ told_by spec_of sink (stepped_by spec_of state earlier) later }
+        → posted_by_steps spec_of sink state (earlier ++ later)
+        ≡ posted_by_steps spec_of sink state earlier ++ posted_by_steps spec_of sink (stepped_by spec_of state earlier) later }
     ensures spared { (spec_of : P → SampleSpec) (state : State P) (steps : List (Step P)) (sink : SinkId)
-        → AllByRecursion (Spares sink) steps → told_by spec_of sink state steps ≡ [] }
-    ensures told { (spec_of : P → SampleSpec) (state : State P) (sink : SinkId) (n : ℕ) → IsKept spec_of state
-        → told_by spec_of sink state (replicate n (out sink)) ≡ take n (waiting_for state sink) }
+        → AllByRecursion (Spares sink) steps → posted_by_steps spec_of sink state steps ≡ [] }
+    ensures posted { (spec_of : P → SampleSpec) (state : State P) (sink : SinkId) (n : ℕ) → IsConsistent spec_of state
+        → posted_by_steps spec_of sink state (replicate n (out sink)) ≡ take n (waiting_for state sink) }
     ensures after { (spec_of : P → SampleSpec) (state : State P) (sink : SinkId) (n : ℕ)
         → stepped_by spec_of state (replicate n (out sink)) ≡ handed_out_by n sink state }
 {}
@@ -111,11 +111,11 @@ pub fn sinks_hear_step_by_step<P>()
 /// The server ends a connection only where it went on and goes on no more, or where it isn't taken as it connects: so at the
 /// most once each time that a client connects whose number isn't there. It does nothing: its contract is the law. Source: own.
 pub fn connections_end_once<P>()
-    ensures step { (spec_of : P → SampleSpec) (state : State P) (s : Step P) (conn : ConnId) → IsKept spec_of state
+    ensures step { (spec_of : P → SampleSpec) (state : State P) (s : Step P) (conn : ConnId) → IsConsistent spec_of state
         → ends_of conn (effects_of spec_of state s) + goes_on (stepped spec_of state s).connections conn
         ≤ goes_on state.connections conn + begins_of conn state s }
     ensures steps { (spec_of : P → SampleSpec) (state : State P) (steps : List (Step P)) (conn : ConnId)
-        → AllByRecursion IsStep steps → IsKept spec_of state
+        → AllByRecursion IsStep steps → IsConsistent spec_of state
         → ends_of conn (effects_by spec_of state steps) + goes_on (stepped_by spec_of state steps).connections conn
         ≤ goes_on state.connections conn + begins_by spec_of conn state steps }
 {}
@@ -140,8 +140,8 @@ pub fn refusals_change_nothing<P>()
 pub fn subscribers_hear_what_became<P>()
     ensures effects { (spec_of : P → SampleSpec) (state : State P) (s : Step P)
         → effects_of spec_of state s ≡ own_effects spec_of state s ++ step_events state (stepped spec_of state s) }
-    ensures sent { (spec_of : P → SampleSpec) (state : State P) (s : Step P) (conn : ConnId) → IsStep s → IsKept spec_of state
+    ensures sent { (spec_of : P → SampleSpec) (state : State P) (s : Step P) (conn : ConnId) → IsStep s → IsConsistent spec_of state
         → sent_to conn (step_events state (stepped spec_of state s))
         ≡ sent_events conn (heard (mask_on (stepped spec_of state s) conn) (events_of state (stepped spec_of state s))) }
-    ensures each { (before after : State P) → TellWhatBecame (given_by after) (infos_of before) (infos_of after) }
+    ensures each { (before after : State P) → SayWhatBecame (given_by after) (infos_of before) (infos_of after) }
 {}

@@ -9,19 +9,19 @@ mod connecting;
 mod data;
 mod found;
 mod frames;
+mod handlers;
 mod infos;
 mod laws;
 mod machine;
 mod notice;
-mod rows;
-mod sink_rows;
+mod sink_handlers;
 mod volumes;
 
 pub use laws::{
     connections_end_once, parcels_are_those_given_up, refusals_change_nothing,
-    sinks_have_what_they_were_told, sinks_hear_step_by_step, sinks_hear_what_is_orderly,
-    states_are_kept, subscribers_hear_what_became,
+    sinks_have_what_was_posted, sinks_hear_step_by_step, sinks_hear_what_is_orderly,
+    states_are_consistent, subscribers_hear_what_became,
 };
 pub use machine::Core;
-pub use px_plan::Reason;
+pub use px_outcome::Reason;
 pub use px_state::{Effect, EffectRoom, Effects};

@@ -7,7 +7,7 @@ ghost use Rattle.px_header.specs.HeaderRules.{IsHeader};
 ghost use Rattle.px_state.specs.Effect.{IsSendable};
 ghost use Rattle.px_state.specs.State.{new_state};
 ghost use Rattle.px_core.specs.Step.{Step, stepped, effects_of};
-ghost use Rattle.px_core.specs.Keeps.{IsKept};
+ghost use Rattle.px_core.specs.Consistency.{IsConsistent};
 ghost use Rattle.px_state.specs.Out.{waiting_for, next_for, put_back, sent, unsent, room_for};
 
 use crate::connecting::{break_off, connect, end, sweep_away};
@@ -15,7 +15,7 @@ use crate::{frames, notice};
 use px_frame::{Frame, FrameFault};
 use px_header::Header;
 use px_msg::{Msg, Notice, Parcel};
-use px_plan::Reason;
+use px_outcome::Reason;
 use px_state::{Effect, Effects, Tables, closed_for, hand_out, new_tables, outgoing, put_back};
 use px_types::{ConnId, Mem, SinkId};
 use std::alloc::Global;
@@ -32,14 +32,14 @@ pub struct Core<P: Parcel> {
 
 impl<P: Parcel> Model for Core<P> {
     ghost use Rattle.px_state.specs.Out.{Roomy};
-    ghost use Rattle.px_core.specs.Keeps.{IsKept};
+    ghost use Rattle.px_core.specs.Consistency.{IsConsistent};
     ghost use Rattle.px_state.specs.Tables.{core_of, state_of};
 
     ghost Value = { Roomy P };
 
     ghost view = { λ c. core_of c.tables };
 
-    ghost invariant = { λ c. IsKept P.spec_of (state_of c.tables) };
+    ghost invariant = { λ c. IsConsistent P.spec_of (state_of c.tables) };
 }
 
 impl<P: Parcel + Drop> Core<P> {
@@ -137,7 +137,7 @@ impl<P: Parcel + Drop> Core<P> {
         ensures next { result ≡ next_for self.old.state sink }
         ensures after { self.new ≡ sent sink self.old }
         ensures room { IsSome result → room_for sink self.new.room ≡ room_for sink self.old.room + 1 }
-        ensures kept { IfSome result (λ msg. IsKept P.spec_of (put_back sink msg self.new.state)) }
+        ensures consistent { IfSome result (λ msg. IsConsistent P.spec_of (put_back sink msg self.new.state)) }
         ensures back { IfSome result (λ msg. unsent sink msg self.new ≡ self.old) }
     {
         hand_out(&mut self.tables, sink)
@@ -147,7 +147,7 @@ impl<P: Parcel + Drop> Core<P> {
     /// the core is as it was once all are back: each `sent` says of its message that it can be put back then. Takes no memory.
     pub fn unsent(&mut self, sink: SinkId, msg: Msg<P>)
         requires room { 0 < room_for sink self.old.room }
-        requires kept { IsKept P.spec_of (put_back sink msg self.old.state) }
+        requires consistent { IsConsistent P.spec_of (put_back sink msg self.old.state) }
         ensures { self.new ≡ unsent sink msg self.old }
     {
         put_back(&mut self.tables, sink, msg);

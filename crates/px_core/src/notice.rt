@@ -3,19 +3,19 @@
 
 ghost use Rattle.std.specs.Prelude.{◌≡◌, [], None, Some, slice_get, IfOk, IfErr, OnOk, OnErr};
 ghost use Rattle.px_header.specs.HeaderRules.{AreSinks};
-ghost use Rattle.px_ctl_play.specs.Told.{IsMemberIn};
-ghost use Rattle.px_core.specs.Keeps.{IsKept, IsRising};
-ghost use Rattle.px_core.specs.Notice.{IsNews, owner_of, told_of, drained_of, measured_of, input_on, left_of, given_up, notice_answer};
+ghost use Rattle.px_ctl_play.specs.Notified.{IsMemberIn};
+ghost use Rattle.px_core.specs.Consistency.{IsConsistent, IsRising};
+ghost use Rattle.px_core.specs.Notice.{IsNews, owner_of, notified_of, drained_of, measured_of, input_on, left_of, given_up, notice_answer};
 ghost use Rattle.px_state.specs.State.{input_of};
 ghost use Rattle.px_core.specs.Step.{answer_effects, answered};
 ghost use Rattle.px_state.specs.Tables.{state_of};
 
-use crate::arriving::take_in;
+use crate::arriving::arrive_with;
 use crate::found::{going_on, input_on};
-use px_ctl_play::{News, Progress, drained, hands_over, left, measured, tell};
+use px_ctl_play::{News, Progress, drained, hands_over, left, measured, notify};
 use px_flat::Group;
 use px_msg::{Msg, Notice, Parcel};
-use px_plan::{Connection, Input, Plan, Standing};
+use px_outcome::{Connection, Input, Standing, StepOutcome};
 use px_sinks::{group_on, rate_on};
 use px_state::{Effects, Tables, finish};
 use px_types::{InputId, Mem, SinkId};
@@ -32,16 +32,16 @@ pub(crate) fn owner_of(connections: &[Connection], input: &Option<Input>) -> Opt
 }
 
 // News of an input that is on the sink.
-fn told_of<P: Drop>(
+fn notified_of<P: Drop>(
     alloc: Global,
     tables: &Tables<P>,
     input: Option<Input>,
     news: News,
-) -> Mem<Plan<Msg<P>, Group>>
-    ensures { IfOk result (λ plan. plan ≡ told_of (state_of tables.now) input news) }
+) -> Mem<StepOutcome<Msg<P>, Group>>
+    ensures { IfOk result (λ outcome. outcome ≡ notified_of (state_of tables.now) input news) }
 {
     let owner = owner_of(&tables.connections, &input);
-    tell(alloc, input, owner, news)
+    notify(alloc, input, owner, news)
 }
 
 // All of an input that is on the sink was played: the drain under the tag is answered.
@@ -50,8 +50,8 @@ fn drained_of<P: Drop>(
     tables: &Tables<P>,
     input: Option<Input>,
     tag: u32,
-) -> Mem<Plan<Msg<P>, Group>>
-    ensures { IfOk result (λ plan. plan ≡ drained_of (state_of tables.now) input tag) }
+) -> Mem<StepOutcome<Msg<P>, Group>>
+    ensures { IfOk result (λ outcome. outcome ≡ drained_of (state_of tables.now) input tag) }
 {
     let owner = owner_of(&tables.connections, &input);
     drained(alloc, input, owner, &tables.waiting, tag)
@@ -65,9 +65,9 @@ fn measured_of<P: Drop>(
     sink: SinkId,
     tag: u32,
     progress: Progress,
-) -> Mem<Plan<Msg<P>, Group>>
+) -> Mem<StepOutcome<Msg<P>, Group>>
     requires { AreSinks [] tables.now.sinks }
-    ensures { IfOk result (λ plan. plan ≡ measured_of (state_of tables.now) input sink tag progress) }
+    ensures { IfOk result (λ outcome. outcome ≡ measured_of (state_of tables.now) input sink tag progress) }
 {
     let owner = owner_of(&tables.connections, &input);
     let rate = rate_on(tables.sinks.as_slice(), sink);
@@ -81,29 +81,29 @@ fn notice_answer<P: Parcel + Drop>(
     tables: &Tables<P>,
     sink: SinkId,
     notice: &Notice<P>,
-) -> Mem<Plan<Msg<P>, Group>>
+) -> Mem<StepOutcome<Msg<P>, Group>>
     requires sinks { AreSinks [] tables.now.sinks }
     requires rising { IsRising tables.now.inputs.items }
     requires news { IsNews notice.now }
-    ensures { IfOk result (λ plan. plan ≡ notice_answer P.spec_of (state_of tables.now) sink notice.now) }
+    ensures { IfOk result (λ outcome. outcome ≡ notice_answer P.spec_of (state_of tables.now) sink notice.now) }
 {
     let inputs = tables.inputs.as_slice();
     match notice {
         Notice::Request { input, frames } => {
             let input = input_on(inputs, sink, *input);
-            told_of(alloc, tables, input, News::Request(*frames))
+            notified_of(alloc, tables, input, News::Request(*frames))
         }
         Notice::Overflow { input } => {
             let input = input_on(inputs, sink, *input);
-            told_of(alloc, tables, input, News::Overflow)
+            notified_of(alloc, tables, input, News::Overflow)
         }
         Notice::Underflow { input } => {
             let input = input_on(inputs, sink, *input);
-            told_of(alloc, tables, input, News::Underflow)
+            notified_of(alloc, tables, input, News::Underflow)
         }
         Notice::Started { input } => {
             let input = input_on(inputs, sink, *input);
-            told_of(alloc, tables, input, News::Started)
+            notified_of(alloc, tables, input, News::Started)
         }
         Notice::Drained { input, tag } => {
             let input = input_on(inputs, sink, *input);
@@ -147,10 +147,10 @@ fn take_news<P: Parcel + Drop>(
     ensures back { IfErr result (λ back. back ≡ notice) }
     ensures err { OnErr result (state_of tables.new ≡ state_of tables.old) }
 {
-    let Ok(plan) = notice_answer(alloc, tables, sink, &notice) else {
+    let Ok(outcome) = notice_answer(alloc, tables, sink, &notice) else {
         return Err(notice);
     };
-    match finish(alloc, tables, None, plan) {
+    match finish(alloc, tables, None, outcome) {
         Ok(effects) => Ok(effects),
         Err(_) => Err(notice),
     }
@@ -172,17 +172,17 @@ fn take_left<P: Parcel + Drop>(
     ensures err { OnErr result (state_of tables.new ≡ state_of tables.old) }
 {
     let group = group_on(&tables.groups, sink);
-    let planned = left(
+    let handled = left(
         alloc,
         Some(x),
         group,
         parcel.spec(),
         tables.inputs.as_slice(),
     );
-    let Ok(plan) = planned else {
+    let Ok(outcome) = handled else {
         return Err(parcel);
     };
-    match finish(alloc, tables, None, plan) {
+    match finish(alloc, tables, None, outcome) {
         Ok(effects) => Ok(effects),
         Err(_) => Err(parcel),
     }
@@ -190,14 +190,14 @@ fn take_left<P: Parcel + Drop>(
 
 // A sink has given up the stream of an input that is on it: one that moves is on the sink that it moves to, and one that has ended goes.
 // What doesn't fit is ignored: of one that the sink wasn't told to give up, and a stream with another spec.
-fn give_up<P: Parcel + Drop>(
+fn leave_with<P: Parcel + Drop>(
     alloc: Global,
     tables: &mut Tables<P>,
     sink: SinkId,
     x: Input,
     parcel: P,
 ) -> Result<Effects, P>
-    requires kept { IsKept P.spec_of (state_of tables.old) }
+    requires consistent { IsConsistent P.spec_of (state_of tables.old) }
     requires here { input_of tables.old.inputs.items x.index ≡ Some x }
     requires member { IsMemberIn (slice_get tables.old.groups.items sink.0) x }
     ensures effects { IfOk result (λ effects. effects ≡ answer_effects None (state_of tables.old) (given_up P.spec_of (state_of tables.old) sink (Some x) parcel)) }
@@ -208,7 +208,7 @@ fn give_up<P: Parcel + Drop>(
     match x.standing {
         Standing::Moving(to) => {
             if hands_over(parcel.spec(), &x) {
-                take_in(alloc, tables, to, &x, parcel)
+                arrive_with(alloc, tables, to, &x, parcel)
             } else {
                 take_left(alloc, tables, sink, x, parcel)
             }
@@ -226,7 +226,7 @@ fn detach<P: Parcel + Drop>(
     input: InputId,
     parcel: P,
 ) -> Result<Effects, P>
-    requires { IsKept P.spec_of (state_of tables.old) }
+    requires { IsConsistent P.spec_of (state_of tables.old) }
     ensures effects { IfOk result (λ effects. effects ≡ answer_effects None (state_of tables.old) (given_up P.spec_of (state_of tables.old) sink (input_on tables.old.inputs.items sink input) parcel)) }
     ensures after { OnOk result (state_of tables.new ≡ answered (state_of tables.old) (given_up P.spec_of (state_of tables.old) sink (input_on tables.old.inputs.items sink input) parcel)) }
     ensures back { IfErr result (λ back. back ≡ parcel) }
@@ -234,7 +234,7 @@ fn detach<P: Parcel + Drop>(
 {
     match input_on(tables.inputs.as_slice(), sink, input) {
         None => Ok(Effects::new(alloc)),
-        Some(x) => give_up(alloc, tables, sink, x, parcel),
+        Some(x) => leave_with(alloc, tables, sink, x, parcel),
     }
 }
 
@@ -245,7 +245,7 @@ pub(crate) fn take<P: Parcel + Drop>(
     sink: SinkId,
     notice: Notice<P>,
 ) -> Result<Effects, Notice<P>>
-    requires { IsKept P.spec_of (state_of tables.old) }
+    requires { IsConsistent P.spec_of (state_of tables.old) }
     ensures effects { IfOk result (λ effects. effects ≡ answer_effects None (state_of tables.old) (notice_answer P.spec_of (state_of tables.old) sink notice)) }
     ensures after { OnOk result (state_of tables.new ≡ answered (state_of tables.old) (notice_answer P.spec_of (state_of tables.old) sink notice)) }
     ensures back { IfErr result (λ back. back ≡ notice) }

@@ -1,7 +1,7 @@
 //! The commands on volumes and mutes, each on the parts of the state that it reads.
 
 ghost use Rattle.std.specs.Prelude.{[], false};
-ghost use Rattle.px_plan.specs.Row.{Plans};
+ghost use Rattle.px_outcome.specs.Handled.{HandledAs};
 ghost use Rattle.px_header.specs.HeaderRules.{AreSinks};
 ghost use Rattle.px_core.specs.Command.{sink_volume, sink_mute, input_volume, input_mute};
 ghost use Rattle.px_state.specs.State.{input_named};
@@ -12,7 +12,7 @@ use px_cmd::SinkRef;
 use px_ctl_vol::{set_input_mute, set_input_volume, set_sink_mute, set_sink_volume};
 use px_flat::Group;
 use px_msg::Msg;
-use px_plan::{Plan, Refusal};
+use px_outcome::{Refusal, StepOutcome};
 use px_sinks::{group_named, group_under, named_by};
 use px_state::Tables;
 use px_tag::RawVolume;
@@ -25,9 +25,9 @@ pub(crate) fn sink_volume<P: Drop>(
     sink: &SinkRef,
     volume: &RawVolume,
     tag: u32,
-) -> Result<Plan<Msg<P>, Group>, Refusal>
+) -> Result<StepOutcome<Msg<P>, Group>, Refusal>
     requires { AreSinks [] tables.now.sinks }
-    ensures { Plans result (sink_volume (state_of tables.now) (named_by tables.now.names tables.now.sinks sink.now false) volume.now tag) }
+    ensures { HandledAs result (sink_volume (state_of tables.now) (named_by tables.now.names tables.now.sinks sink.now false) volume.now tag) }
 {
     let named = named_by(alloc, &tables.names, tables.sinks.as_slice(), sink, false)?;
     let group = group_named(&tables.groups, &named);
@@ -41,9 +41,9 @@ pub(crate) fn sink_mute<P: Drop>(
     sink: &SinkRef,
     on: bool,
     tag: u32,
-) -> Result<Plan<Msg<P>, Group>, Refusal>
+) -> Result<StepOutcome<Msg<P>, Group>, Refusal>
     requires { AreSinks [] tables.now.sinks }
-    ensures { Plans result (sink_mute (state_of tables.now) (named_by tables.now.names tables.now.sinks sink.now false) on tag) }
+    ensures { HandledAs result (sink_mute (state_of tables.now) (named_by tables.now.names tables.now.sinks sink.now false) on tag) }
 {
     let named = named_by(alloc, &tables.names, tables.sinks.as_slice(), sink, false)?;
     let group = group_named(&tables.groups, &named);
@@ -57,8 +57,8 @@ pub(crate) fn input_volume<P: Drop>(
     input: u32,
     volume: &RawVolume,
     tag: u32,
-) -> Result<Plan<Msg<P>, Group>, Refusal>
-    ensures { Plans result (input_volume (state_of tables.now) (input_named tables.now.inputs.items input) volume.now tag) }
+) -> Result<StepOutcome<Msg<P>, Group>, Refusal>
+    ensures { HandledAs result (input_volume (state_of tables.now) (input_named tables.now.inputs.items input) volume.now tag) }
 {
     let x = tables.inputs.input_named(input);
     let group = group_under(&tables.groups, &x);
@@ -72,8 +72,8 @@ pub(crate) fn input_mute<P: Drop>(
     input: u32,
     on: bool,
     tag: u32,
-) -> Result<Plan<Msg<P>, Group>, Refusal>
-    ensures { Plans result (input_mute (state_of tables.now) (input_named tables.now.inputs.items input) on tag) }
+) -> Result<StepOutcome<Msg<P>, Group>, Refusal>
+    ensures { HandledAs result (input_mute (state_of tables.now) (input_named tables.now.inputs.items input) on tag) }
 {
     let x = tables.inputs.input_named(input);
     let group = group_under(&tables.groups, &x);

@@ -24,10 +24,10 @@ use Rattle.px_msg.specs.declared.notice.Notice.{Notice}
 use Rattle.px_msg.specs.declared.notice.Notice.TheVariants.{Request, Overflow, Underflow, Started, Drained, Detached, Latency}
 use Rattle.px_state.specs.declared.effect.Effect.{Effect}
 use Rattle.px_state.specs.State.{State}
-use Rattle.px_core.specs.Keeps.{Spares}
-use Rattle.px_core.specs.Hearing.{told_by}
+use Rattle.px_core.specs.Consistency.{Spares}
+use Rattle.px_core.specs.Hearing.{posted_by_steps}
 use Rattle.px_core.specs.Step.{Step, out, stepped, effects_of, stepped_by, effects_by}
-use Rattle.px_core.proofs.HearingLaws.{untold}
+use Rattle.px_core.proofs.HearingLaws.{nothing_posted}
 use Rattle.px_core_cell.specs.declared.step.CoreStep.{CoreStep}
 use Rattle.px_core_cell.specs.declared.step.CoreStep.TheVariants as asked
 use Rattle.px_core_cell.specs.Cell.{Logged, SinkEnds}
@@ -84,22 +84,22 @@ out_effects state sink (suc n) = out_effects (stepped spec_of state (out sink)) 
 -- ---- the ends that a step has no part in
 
 pub record Spared (state : State PlainStream) (index : ℕ) (made : Option PlainStep) : Type 0 where
-  pub told : told_by spec_of (sink_at index) state (steps_done made) ≡ []
+  pub none_posted : posted_by_steps spec_of (sink_at index) state (steps_done made) ≡ []
   pub noticed : noticed_done index made ≡ []
 
 pub stays : (state : State PlainStream) (index : ℕ) (made : Option PlainStep) → Spared state index made → (e : SinkEnds) → IsEndAfter made state index e e
 stays state index made spared e = record {
   key = refl;
-  posted = sym (ap (λ (l : List (Msg PlainStream)). e.posted ++ l) spared.told ∙ append-nil e.posted);
+  posted = sym (ap (λ (l : List (Msg PlainStream)). e.posted ++ l) spared.none_posted ∙ append-nil e.posted);
   took = [];
   taken = sym (append-nil e.taken);
-  kept = append-nil (option_to_list e.kept) ∙ ap (λ (l : List (Notice PlainStream)). l ++ option_to_list e.kept) (sym spared.noticed);
+  held = append-nil (option_to_list e.held) ∙ ap (λ (l : List (Notice PlainStream)). l ++ option_to_list e.held) (sym spared.noticed);
 }
 
 pub nothing_spared : (state : State PlainStream) (index : ℕ) → Spared state index None
-nothing_spared state index = record { told = refl; noticed = refl }
+nothing_spared state index = record { none_posted = refl; noticed = refl }
 
-own_as : (state : State PlainStream) (index : ℕ) (step : CoreStep) → is_own step ≡ true → told_by spec_of (sink_at index) state (step_for step ∷ []) ≡ []
+own_as : (state : State PlainStream) (index : ℕ) (step : CoreStep) → is_own step ≡ true → posted_by_steps spec_of (sink_at index) state (step_for step ∷ []) ≡ []
 own_as state index (asked.Connect conn) own = refl
 own_as state index (asked.Frame conn f) own = refl
 own_as state index (asked.Broken conn fault at) own = refl
@@ -132,35 +132,35 @@ own_unnoticed index (asked.Out sink) d own is = absurd (true≢false (sym own))
 
 pub own_spared : (state : State PlainStream) (index : ℕ) (step : CoreStep) (d : PlainStep) → is_own step ≡ true → IsEntryFor step d → Spared state index (Some d)
 own_spared state index step d own is = record {
-  told = ap (λ (l : List (Step PlainStream)). told_by spec_of (sink_at index) state l) (own_steps step d own is) ∙ own_as state index step own;
+  none_posted = ap (λ (l : List (Step PlainStream)). posted_by_steps spec_of (sink_at index) state l) (own_steps step d own is) ∙ own_as state index step own;
   noticed = own_unnoticed index step d own is;
 }
 
 pub notice_spared : (state : State PlainStream) (index place : ℕ) (n : Notice PlainStream) → (place ≡ index → ⊥) → Spared state index (Some (plain.Notice place (plain_notice n)))
-notice_spared state index place n apart = record { told = refl; noticed = cond-false (nat_eq place index) (notice_for (plain_notice n) ∷ []) [] (ne_eqb place index apart) }
+notice_spared state index place n apart = record { none_posted = refl; noticed = cond-false (nat_eq place index) (notice_for (plain_notice n) ∷ []) [] (ne_eqb place index apart) }
 
 all_spare : (place index n : ℕ) → (place ≡ index → ⊥) → AllByRecursion (Spares {P = PlainStream} (sink_at index)) (replicate n (out (sink_at place)))
 all_spare place index zero apart = tt
 all_spare place index (suc n) apart = (apart, all_spare place index n apart)
 
 pub out_spared : (state : State PlainStream) (index place n : ℕ) → (place ≡ index → ⊥) → Spared state index (Some (plain.Out place n))
-out_spared state index place n apart = record { told = untold spec_of (sink_at index) (replicate n (out (sink_at place))) state (all_spare place index n apart); noticed = refl }
+out_spared state index place n apart = record { none_posted = nothing_posted spec_of (sink_at index) (replicate n (out (sink_at place))) state (all_spare place index n apart); noticed = refl }
 
 -- ---- the ends that it has a part in
 
 pub fetched : (state : State PlainStream) (index : ℕ) (e f : SinkEnds) → Fetches e f → IsEndAfter None state index e f
-fetched state index e f h = record { key = h.key; posted = h.posted ∙ sym (append-nil e.posted); took = h.took; taken = h.taken; kept = h.kept }
+fetched state index e f h = record { key = h.key; posted = h.posted ∙ sym (append-nil e.posted); took = h.took; taken = h.taken; held = h.held }
 
-pub collected : (state : State PlainStream) (index : ℕ) (e g f : SinkEnds) (n : Notice PlainStream) → Fetches e g → g.kept ≡ Some n → f ≡ record g { kept = None } → IsEndAfter (Some (plain.Notice index (plain_notice n))) state index e f
+pub collected : (state : State PlainStream) (index : ℕ) (e g f : SinkEnds) (n : Notice PlainStream) → Fetches e g → g.held ≡ Some n → f ≡ record g { held = None } → IsEndAfter (Some (plain.Notice index (plain_notice n))) state index e f
 collected state index e g f n h has is = record {
   key = ap SinkEnds.key is ∙ h.key;
   posted = ap SinkEnds.posted is ∙ h.posted ∙ sym (append-nil e.posted);
   took = h.took;
   taken = ap SinkEnds.taken is ∙ h.taken;
-  kept = h.kept ∙ ap (λ (o : Option (Notice PlainStream)). option_to_list o) has ∙ ap (λ (m : Notice PlainStream). m ∷ []) (sym (notice_back n))
+  held = h.held ∙ ap (λ (o : Option (Notice PlainStream)). option_to_list o) has ∙ ap (λ (m : Notice PlainStream). m ∷ []) (sym (notice_back n))
       ∙ sym (cond-true (nat_eq index index) (notice_for (plain_notice n) ∷ []) [] (eq-eqb index index refl))
       ∙ sym (append-nil (noticed_in index (plain.Notice index (plain_notice n))))
-      ∙ ap (λ (o : Option (Notice PlainStream)). noticed_in index (plain.Notice index (plain_notice n)) ++ option_to_list o) (sym (ap SinkEnds.kept is));
+      ∙ ap (λ (o : Option (Notice PlainStream)). noticed_in index (plain.Notice index (plain_notice n)) ++ option_to_list o) (sym (ap SinkEnds.held is));
 }
 
 pub handed : (sink : SinkId) (n : ℕ) (before after : State PlainStream) (e f : SinkEnds) → PostsMany sink n before after e f → IsEndAfter (Some (plain.Out sink.0 n)) before sink.0 e f
@@ -169,21 +169,21 @@ handed sink n before after e f h = record {
   posted = ap SinkEnds.posted h.ends;
   took = [];
   taken = ap SinkEnds.taken h.ends ∙ sym (append-nil e.taken);
-  kept = append-nil (option_to_list e.kept) ∙ ap (λ (o : Option (Notice PlainStream)). option_to_list o) (sym (ap SinkEnds.kept h.ends));
+  held = append-nil (option_to_list e.held) ∙ ap (λ (o : Option (Notice PlainStream)). option_to_list o) (sym (ap SinkEnds.held h.ends));
 }
 
 -- ---- all of it
 
-module _ {C : Type 0} (told : C → Option (List CoreEntry)) where
-  pub logged_rests : (before after : Logged C) → after.state ≡ before.state → told after.recorder ≡ told before.recorder → after.steps ≡ before.steps → after.owed ≡ before.owed → LoggedDoes told None before after
-  logged_rests before after state same steps owed = record { state = state; told_new = same; steps = omega (arith, steps); owed = owed }
+module _ {C : Type 0} (visible : C → Option (List CoreEntry)) where
+  pub logged_rests : (before after : Logged C) → after.state ≡ before.state → visible after.recorder ≡ visible before.recorder → after.steps ≡ before.steps → after.owed ≡ before.owed → LoggedDoes visible None before after
+  logged_rests before after state same steps owed = record { state = state; visible_new = same; steps = omega (arith, steps); owed = owed }
 
-  pub logged_moves : (d : PlainStep) (before after : Logged C) → after.state ≡ stepped_by spec_of before.state (steps_of d) → told after.recorder ≡ noted (record { step = d }) (told before.recorder) → after.steps ≡ before.steps + 1 → after.owed ≡ owes before.owed d
-      → LoggedDoes told (Some d) before after
-  logged_moves d before after state is steps owed = record { state = state; told_new = is; steps = steps; owed = owed }
+  pub logged_moves : (d : PlainStep) (before after : Logged C) → after.state ≡ stepped_by spec_of before.state (steps_of d) → visible after.recorder ≡ noted (record { step = d }) (visible before.recorder) → after.steps ≡ before.steps + 1 → after.owed ≡ owes before.owed d
+      → LoggedDoes visible (Some d) before after
+  logged_moves d before after state is steps owed = record { state = state; visible_new = is; steps = steps; owed = owed }
 
   -- no sink has a part in it
-  pub apart : (made : Option PlainStep) (before after : Logged C) (ends : List SinkEnds) → LoggedDoes told made before after → ((index : ℕ) → Spared before.state index made) → Does told made (record { logged = before; ends = ends }) (record { logged = after; ends = ends })
+  pub apart : (made : Option PlainStep) (before after : Logged C) (ends : List SinkEnds) → LoggedDoes visible made before after → ((index : ℕ) → Spared before.state index made) → Does visible made (record { logged = before; ends = ends }) (record { logged = after; ends = ends })
   apart made before after ends logged spared = record {
     logged = logged;
     count = refl;
@@ -191,8 +191,8 @@ module _ {C : Type 0} (told : C → Option (List CoreEntry)) where
   }
 
   -- one has
-  pub at : (made : Option PlainStep) (place : ℕ) (before after : Logged C) (ends : List SinkEnds) (e f : SinkEnds) → slice_get ends place ≡ Some e → DoesAt told made place before after e f → ((index : ℕ) → (place ≡ index → ⊥) → Spared before.state index made)
-      → Does told made (record { logged = before; ends = ends }) (record { logged = after; ends = set ends place f })
+  pub at : (made : Option PlainStep) (place : ℕ) (before after : Logged C) (ends : List SinkEnds) (e f : SinkEnds) → slice_get ends place ≡ Some e → DoesAt visible made place before after e f → ((index : ℕ) → (place ≡ index → ⊥) → Spared before.state index made)
+      → Does visible made (record { logged = before; ends = ends }) (record { logged = after; ends = set ends place f })
   at made place before after ends e f here does spared = record {
     logged = does.logged;
     count = length-set ends place f;
@@ -210,13 +210,13 @@ module _ {C : Type 0} (told : C → Option (List CoreEntry)) where
 
   -- a notice that is kept is collected
   abbrev pub Collects : ℕ → Option (Notice PlainStream) → State PlainStream → State PlainStream → List Effect → Type 0
-  Collects index kept before after effects =
-      IfSome kept (λ n. (after ≡ stepped spec_of before (Step.notice (sink_at index) n)) × (effects ≡ effects_of spec_of before (Step.notice (sink_at index) n)))
+  Collects index held before after effects =
+      IfSome held (λ n. (after ≡ stepped spec_of before (Step.notice (sink_at index) n)) × (effects ≡ effects_of spec_of before (Step.notice (sink_at index) n)))
 
   -- one that was fetched and collected
-  pub notice_done : (index : ℕ) (before after : Logged C) (e k f : SinkEnds) (n : Notice PlainStream) (effects : List Effect) → Fetches e k → k.kept ≡ Some n → f ≡ record k { kept = None }
-      → Collects index k.kept before.state after.state effects → told after.recorder ≡ noted (record { step = plain.Notice index (plain_notice n) }) (told before.recorder) → after.steps ≡ before.steps + 1 → after.owed ≡ true
-      → after.fault ≡ before.fault → NoticeGives told index before after e f (Ok (Some effects))
+  pub notice_done : (index : ℕ) (before after : Logged C) (e k f : SinkEnds) (n : Notice PlainStream) (effects : List Effect) → Fetches e k → k.held ≡ Some n → f ≡ record k { held = None }
+      → Collects index k.held before.state after.state effects → visible after.recorder ≡ noted (record { step = plain.Notice index (plain_notice n) }) (visible before.recorder) → after.steps ≡ before.steps + 1 → after.owed ≡ true
+      → after.fault ≡ before.fault → NoticeGives visible index before after e f (Ok (Some effects))
   notice_done index before after e k f n effects fetch has is collects same steps owed fault =
       let did = subst (λ (o : Option (Notice PlainStream)). Collects index o before.state after.state effects) has collects in
       let back : Step.notice (sink_at index) n ≡ Step.notice (sink_at index) (notice_for (plain_notice n)) = ap (λ (m : Notice PlainStream). Step.notice (sink_at index) m) (sym (notice_back n)) in (
@@ -231,8 +231,8 @@ module _ {C : Type 0} (told : C → Option (List CoreEntry)) where
 
   -- a step that no sink has a part in
   pub own_done : (step : CoreStep) (d : PlainStep) (before after : Logged C) (effects : List Effect) → is_own step ≡ true → IsEntryFor step d → after.state ≡ stepped spec_of before.state (step_for step)
-      → told after.recorder ≡ noted (record { step = d }) (told before.recorder) → after.steps ≡ before.steps + 1 → after.owed ≡ owes before.owed d → effects ≡ effects_of spec_of before.state (step_for step) → after.fault ≡ before.fault
-      → OwnGives told step before after (Ok effects)
+      → visible after.recorder ≡ noted (record { step = d }) (visible before.recorder) → after.steps ≡ before.steps + 1 → after.owed ≡ owes before.owed d → effects ≡ effects_of spec_of before.state (step_for step) → after.fault ≡ before.fault
+      → OwnGives visible step before after (Ok effects)
   own_done step d before after effects own is state same steps owed are fault = (
     d,
     is,

@@ -49,67 +49,67 @@ is_there cell sink e h inside is =
     let s = sink_there cell.logged.state.sinks sink.0 (subst (λ (n : ℕ). sink.0 < n) h.count inside) in
     (s.0, s.1, h.heard sink.0 s.0 e s.1 is)
 
-module _ {C : Type 0} (told : C → Option (List CoreEntry)) where
+module _ {C : Type 0} (visible : C → Option (List CoreEntry)) where
   abbrev cell : Logged C → List SinkEnds → Cell C
   cell logged ends = record { logged = logged; ends = ends }
 
   -- ---- its notice
 
-  pub notice_gives : (sink : SinkId) (before after : Logged C) (ends : List SinkEnds) (e f : SinkEnds) (result : Result (Option (List Effect)) StepFault) → slice_get ends sink.0 ≡ Some e → NoticeGives told sink.0 before after e f result
-      → FreeGives told (asked.Notice sink) (cell before ends) (cell after (set ends sink.0 f)) result
+  pub notice_gives : (sink : SinkId) (before after : Logged C) (ends : List SinkEnds) (e f : SinkEnds) (result : Result (Option (List Effect)) StepFault) → slice_get ends sink.0 ≡ Some e → NoticeGives visible sink.0 before after e f result
+      → FreeGives visible (asked.Notice sink) (cell before ends) (cell after (set ends sink.0 f)) result
   notice_gives sink before after ends e f (Ok (Some effects)) here gives = record {
     entry = plain.Notice sink.0 (plain_notice gives.0);
     entry_for = (gives.0, refl);
-    does = at told (Some (plain.Notice sink.0 (plain_notice gives.0))) sink.0 before after ends e f here gives.1 (λ index other. notice_spared before.state index sink.0 gives.0 other);
+    does = at visible (Some (plain.Notice sink.0 (plain_notice gives.0))) sink.0 before after ends e f here gives.1 (λ index other. notice_spared before.state index sink.0 gives.0 other);
     effects_are = gives.2;
     finishes = tt;
     fault = gives.3;
   }
   notice_gives sink before after ends e f (Ok None) here gives = (
-    (λ x is. ap SinkEnds.kept (same_Some x e (sym is ∙ here)) ∙ gives.0),
+    (λ x is. ap SinkEnds.held (same_Some x e (sym is ∙ here)) ∙ gives.0),
     (λ i. cell (gives.2 i) ((ap (λ (y : SinkEnds). set ends sink.0 y) gives.1 ∙ rests ends sink.0 e here) i)),
   )
-  notice_gives sink before after ends e f (Err NoMemory) here gives = (at told None sink.0 before after ends e f here gives.0 (λ index other. nothing_spared before.state index), gives.1)
+  notice_gives sink before after ends e f (Err NoMemory) here gives = (at visible None sink.0 before after ends e f here gives.0 (λ index other. nothing_spared before.state index), gives.1)
   notice_gives sink before after ends e f (Err Worn) here gives = gives
-  notice_gives sink before after ends e f (Err (Recorder why)) here gives = (at told None sink.0 before after ends e f here gives.0 (λ index other. nothing_spared before.state index), gives.1)
+  notice_gives sink before after ends e f (Err (Recorder why)) here gives = (at visible None sink.0 before after ends e f here gives.0 (λ index other. nothing_spared before.state index), gives.1)
   notice_gives sink before after ends e f (Err (Owed back)) here gives = gives
 
   -- ---- the messages that wait for it
 
   abbrev pub EffectsGive : SinkId → Cell C → Cell C → Result (List Effect) StepFault → Type 0
-  EffectsGive sink before after result = MatchResult result (λ effects. FreeGives told (asked.Out sink) before after (Ok (Some effects))) (λ e. FreeGives told (asked.Out sink) before after (Err e))
+  EffectsGive sink before after result = MatchResult result (λ effects. FreeGives visible (asked.Out sink) before after (Ok (Some effects))) (λ e. FreeGives visible (asked.Out sink) before after (Err e))
 
   handed_all : (sink : SinkId) (after : Logged C) (ends : List SinkEnds) (f : SinkEnds) → HandsAll sink after.state f → Finishes (asked.Out sink) (cell after (set ends sink.0 f))
   handed_all sink after ends f all x is = subst (λ (y : SinkEnds). HandsAll sink after.state y) (there ends sink.0 f x is) all
 
-  pub out_gives : (sink : SinkId) (before after : Logged C) (ends : List SinkEnds) (e f : SinkEnds) (result : Result (List Effect) StepFault) → slice_get ends sink.0 ≡ Some e → OutGives told sink before after e f result
+  pub out_gives : (sink : SinkId) (before after : Logged C) (ends : List SinkEnds) (e f : SinkEnds) (result : Result (List Effect) StepFault) → slice_get ends sink.0 ≡ Some e → OutGives visible sink before after e f result
       → EffectsGive sink (cell before ends) (cell after (set ends sink.0 f)) result
   out_gives sink before after ends e f (Ok effects) here gives = record {
     entry = plain.Out sink.0 gives.0;
     entry_for = (gives.0, refl);
-    does = at told (Some (plain.Out sink.0 gives.0)) sink.0 before after ends e f here gives.1 (λ index other. out_spared before.state index sink.0 gives.0 other);
+    does = at visible (Some (plain.Out sink.0 gives.0)) sink.0 before after ends e f here gives.1 (λ index other. out_spared before.state index sink.0 gives.0 other);
     effects_are = gives.3 ∙ sym (out_effects before.state sink gives.0);
     finishes = handed_all sink after ends f gives.2;
     fault = gives.4;
   }
   out_gives sink before after ends e f (Err NoMemory) here gives = absurd gives
   out_gives sink before after ends e f (Err Worn) here gives = gives
-  out_gives sink before after ends e f (Err (Recorder why)) here gives = (at told None sink.0 before after ends e f here gives.0 (λ index other. nothing_spared before.state index), gives.1)
+  out_gives sink before after ends e f (Err (Recorder why)) here gives = (at visible None sink.0 before after ends e f here gives.0 (λ index other. nothing_spared before.state index), gives.1)
   out_gives sink before after ends e f (Err (Owed back)) here gives = gives
 
   -- ---- none, to a sink that isn't there
 
   pub nowhere_gives : {R : Ghosts C CoreEntry} (sink : SinkId) (state : State PlainStream) (before after : StepLog C R) (ends : List SinkEnds) (result : Result (List Effect) StepFault)
-      → ((e : SinkEnds) → slice_get ends sink.0 ≡ Some e → ⊥) → NowhereGives told sink.0 before after result → EffectsGive sink (cell (logged_of state before) ends) (cell (logged_of state after) ends) result
+      → ((e : SinkEnds) → slice_get ends sink.0 ≡ Some e → ⊥) → NowhereGives visible sink.0 before after result → EffectsGive sink (cell (logged_of state before) ends) (cell (logged_of state after) ends) result
   nowhere_gives sink state before after ends (Ok effects) none gives = record {
     entry = plain.Out sink.0 0;
     entry_for = (0, refl);
-    does = apart told (Some (plain.Out sink.0 0)) (logged_of state before) (logged_of state after) ends (gives.0 state) (λ index. record { told = refl; noticed = refl });
+    does = apart visible (Some (plain.Out sink.0 0)) (logged_of state before) (logged_of state after) ends (gives.0 state) (λ index. record { visible = refl; noticed = refl });
     effects_are = gives.1;
     finishes = λ e is. absurd (none e is);
     fault = gives.2;
   }
   nowhere_gives sink state before after ends (Err NoMemory) none gives = absurd gives
   nowhere_gives sink state before after ends (Err Worn) none gives = gives
-  nowhere_gives sink state before after ends (Err (Recorder why)) none gives = (apart told None (logged_of state before) (logged_of state after) ends (gives.0 state) (λ index. nothing_spared state index), gives.1)
+  nowhere_gives sink state before after ends (Err (Recorder why)) none gives = (apart visible None (logged_of state before) (logged_of state after) ends (gives.0 state) (λ index. nothing_spared state index), gives.1)
   nowhere_gives sink state before after ends (Err (Owed back)) none gives = gives

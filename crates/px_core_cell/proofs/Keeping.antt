@@ -18,18 +18,18 @@ use Rattle.px_msg.specs.View.{sample_spec}
 use Rattle.px_msg.specs.Letters.{AreLawful, inputs_after}
 use Rattle.px_state.specs.declared.effect.Effect.{Effect}
 use Rattle.px_state.specs.State.{State}
-use Rattle.px_core.specs.Keeps.{IsKept, IsStep}
+use Rattle.px_core.specs.Consistency.{IsConsistent, IsStep}
 use Rattle.px_core.specs.Orderly.{inputs_there}
-use Rattle.px_core.specs.Hearing.{told_by}
+use Rattle.px_core.specs.Hearing.{posted_by_steps}
 use Rattle.px_core.specs.Step.{Step, stepped, stepped_by}
-use Rattle.px_core.proofs.HearingLaws.{steps_sinks, told_joined}
+use Rattle.px_core.proofs.HearingLaws.{steps_sinks, posted_joined}
 use Rattle.px_core.proofs.StepLaws.{new_keeps, steps_keep}
 use Rattle.px_core_cell.specs.declared.step.CoreStep.{CoreStep}
 use Rattle.px_core_cell.specs.declared.step.CoreStep.TheVariants as asked
 use Rattle.px_core_cell.specs.declared.step.StepFault.{StepFault}
 use Rattle.px_core_cell.specs.declared.step.StepFault.TheVariants.{NoMemory, Worn, Recorder, Owed}
 use Rattle.px_core_cell.specs.Cell.{Cell, SinkEnds}
-use Rattle.px_core_cell.specs.History.{sink_at, steps_in, noticed_in, noticed_by, owes, owed_by, IsHeard, IsSound, IsTold, IsReplay, IsCell, Begins, fresh_ends, first_cell}
+use Rattle.px_core_cell.specs.History.{sink_at, steps_in, noticed_in, noticed_by, owes, owed_by, IsHeard, IsSound, IsAgreed, IsReplay, IsCell, Begins, fresh_ends, first_cell}
 use Rattle.px_core_cell.specs.Parcel.{spec_of}
 use Rattle.px_core_cell.specs.Plain.{steps_of}
 use Rattle.px_core_cell.specs.Step.{IsAsked, IsEntryFor, steps_done, noticed_done, entered, owed_after, IsEndAfter, Does, StepGives}
@@ -78,19 +78,19 @@ steps_fine asked.Sweep d may is = subst (λ (l : List (Step PlainStream)). AllBy
 steps_fine (asked.Notice sink) d may is = subst (λ (x : PlainStep). AllByRecursion IsStep (steps_of x)) (sym is.1) (tt, tt)
 steps_fine (asked.Out sink) d may is = subst (λ (x : PlainStep). AllByRecursion IsStep (steps_of x)) (sym is.1) (all_outs sink is.0)
 
-module _ {C : Type 0} (told : C → Option (List CoreEntry)) (began : State PlainStream) where
+module _ {C : Type 0} (visible : C → Option (List CoreEntry)) (began : State PlainStream) where
   -- the ends that a sink had before
-  ends_before : (made : Option PlainStep) (before after : Cell C) → Does told made before after → (index : ℕ) (f : SinkEnds) → slice_get after.ends index ≡ Some f → slice_get before.ends index ≡ Some (get_or before.ends index f)
+  ends_before : (made : Option PlainStep) (before after : Cell C) → Does visible made before after → (index : ℕ) (f : SinkEnds) → slice_get after.ends index ≡ Some f → slice_get before.ends index ≡ Some (get_or before.ends index f)
   ends_before made before after does index f is = slice_get-get_or before.ends index f (subst (λ (n : ℕ). index < n) does.count (slice_get_within after.ends index f is))
 
-  end_after : (made : Option PlainStep) (before after : Cell C) → Does told made before after → (index : ℕ) (f : SinkEnds) → slice_get after.ends index ≡ Some f → IsEndAfter made before.logged.state index (get_or before.ends index f) f
+  end_after : (made : Option PlainStep) (before after : Cell C) → Does visible made before after → (index : ℕ) (f : SinkEnds) → slice_get after.ends index ≡ Some f → IsEndAfter made before.logged.state index (get_or before.ends index f) f
   end_after made before after does index f is = does.ends index (get_or before.ends index f) f (ends_before made before after does index f is) is
 
-  sound_after : (made : Option PlainStep) (before after : Cell C) → AllByRecursion IsStep (steps_done made) → IsSound before → Does told made before after → IsSound after
+  sound_after : (made : Option PlainStep) (before after : Cell C) → AllByRecursion IsStep (steps_done made) → IsSound before → Does visible made before after → IsSound after
   sound_after made before after fine h does =
       let sinks : after.logged.state.sinks ≡ before.logged.state.sinks = ap (λ (s : State PlainStream). s.sinks) does.logged.state ∙ steps_sinks spec_of before.logged.state (steps_done made) in
       record {
-        core = subst (λ (s : State PlainStream). IsKept spec_of s) (sym does.logged.state) (steps_keep spec_of before.logged.state (steps_done made) fine h.core);
+        core = subst (λ (s : State PlainStream). IsConsistent spec_of s) (sym does.logged.state) (steps_keep spec_of before.logged.state (steps_done made) fine h.core);
         count = does.count ∙ h.count ∙ ap (λ (l : List SinkSpec). length l) (sym sinks);
         heard = λ index s f there is.
             let e : SinkEnds = get_or before.ends index f in
@@ -104,45 +104,45 @@ module _ {C : Type 0} (told : C → Option (List CoreEntry)) (began : State Plai
             };
       }
 
-  replay_after : (made : Option PlainStep) (before after : Cell C) (entries : List CoreEntry) → IsReplay began before entries → Does told made before after → IsReplay began after (entries ++ those made)
+  replay_after : (made : Option PlainStep) (before after : Cell C) (entries : List CoreEntry) → IsReplay began before entries → Does visible made before after → IsReplay began after (entries ++ those made)
   replay_after made before after entries h does = record {
     state = does.logged.state ∙ ap (λ (s : State PlainStream). stepped_by spec_of s (steps_done made)) h.state
         ∙ sym (fold-append (stepped spec_of) began (steps_in entries) (steps_done made)) ∙ ap (λ (l : List (Step PlainStream)). stepped_by spec_of began l) (sym (all_steps entries made));
     steps = omega (arith, does.logged.steps, h.steps, those_count made, length-append entries (those made));
     owed = does.logged.owed ∙ ap (λ (b : Bool). owed_after made b) h.owed ∙ sym (those_owed made entries);
-    told = λ index f is.
+    agreed = λ index f is.
         let e : SinkEnds = get_or before.ends index f in
         let end = end_after made before after does index f is in
-        let was = h.told index e (ends_before made before after does index f is) in
+        let was = h.agreed index e (ends_before made before after does index f is) in
         record {
-          posted = end.posted ∙ ap (λ (l : List (Msg PlainStream)). l ++ told_by spec_of (sink_at index) before.logged.state (steps_done made)) was.posted
-              ∙ ap (λ (s : State PlainStream). told_by spec_of (sink_at index) began (steps_in entries) ++ told_by spec_of (sink_at index) s (steps_done made)) h.state
-              ∙ sym (told_joined spec_of (sink_at index) (steps_in entries) (steps_done made) began)
-              ∙ ap (λ (l : List (Step PlainStream)). told_by spec_of (sink_at index) began l) (sym (all_steps entries made));
+          posted = end.posted ∙ ap (λ (l : List (Msg PlainStream)). l ++ posted_by_steps spec_of (sink_at index) before.logged.state (steps_done made)) was.posted
+              ∙ ap (λ (s : State PlainStream). posted_by_steps spec_of (sink_at index) began (steps_in entries) ++ posted_by_steps spec_of (sink_at index) s (steps_done made)) h.state
+              ∙ sym (posted_joined spec_of (sink_at index) (steps_in entries) (steps_done made) began)
+              ∙ ap (λ (l : List (Step PlainStream)). posted_by_steps spec_of (sink_at index) began l) (sym (all_steps entries made));
           taken = end.taken ∙ ap (λ (l : List (Notice PlainStream)). l ++ end.took) was.taken
-              ∙ append_assoc (noticed_by index entries) (option_to_list e.kept) end.took
-              ∙ ap (λ (l : List (Notice PlainStream)). noticed_by index entries ++ l) end.kept
-              ∙ sym (append_assoc (noticed_by index entries) (noticed_done index made) (option_to_list f.kept))
-              ∙ ap (λ (l : List (Notice PlainStream)). l ++ option_to_list f.kept) (sym (all_noticed index entries made));
+              ∙ append_assoc (noticed_by index entries) (option_to_list e.held) end.took
+              ∙ ap (λ (l : List (Notice PlainStream)). noticed_by index entries ++ l) end.held
+              ∙ sym (append_assoc (noticed_by index entries) (noticed_done index made) (option_to_list f.held))
+              ∙ ap (λ (l : List (Notice PlainStream)). l ++ option_to_list f.held) (sym (all_noticed index entries made));
         };
   }
 
-  replays : (made : Option PlainStep) (before after : Cell C) → Does told made before after → (o : Option (List CoreEntry)) → told before.logged.recorder ≡ o → IfSome o (IsReplay began before) → IfSome (entered made o) (IsReplay began after)
+  replays : (made : Option PlainStep) (before after : Cell C) → Does visible made before after → (o : Option (List CoreEntry)) → visible before.logged.recorder ≡ o → IfSome o (IsReplay began before) → IfSome (entered made o) (IsReplay began after)
   replays None before after does None e h = tt
   replays None before after does (Some entries) e h = subst (λ (l : List CoreEntry). IsReplay began after l) (append-nil entries) (replay_after None before after entries h does)
   replays (Some d) before after does None e h = tt
   replays (Some d) before after does (Some entries) e h = replay_after (Some d) before after entries h does
 
-  pub goes_on : (made : Option PlainStep) (before after : Cell C) → AllByRecursion IsStep (steps_done made) → IsCell told began before → Does told made before after → IsCell told began after
+  pub goes_on : (made : Option PlainStep) (before after : Cell C) → AllByRecursion IsStep (steps_done made) → IsCell visible began before → Does visible made before after → IsCell visible began after
   goes_on made before after fine h does = record {
     sound = sound_after made before after fine h.sound does;
-    replay = subst (λ (o : Option (List CoreEntry)). IfSome o (IsReplay began after)) (sym does.logged.told_new) (replays made before after does (told before.logged.recorder) refl h.replay);
+    replay = subst (λ (o : Option (List CoreEntry)). IfSome o (IsReplay began after)) (sym does.logged.visible_new) (replays made before after does (visible before.logged.recorder) refl h.replay);
   }
 
-  same : (before after : Cell C) → after ≡ before → IsCell told began before → IsCell told began after
-  same before after e h = subst (λ (c : Cell C). IsCell told began c) (sym e) h
+  same : (before after : Cell C) → after ≡ before → IsCell visible began before → IsCell visible began after
+  same before after e h = subst (λ (c : Cell C). IsCell visible began c) (sym e) h
 
-  pub step_keeps : (step : CoreStep) (before after : Cell C) (result : Result (Option (List Effect)) StepFault) → IsAsked step → IsCell told began before → StepGives told step before after result → IsCell told began after
+  pub step_keeps : (step : CoreStep) (before after : Cell C) (result : Result (Option (List Effect)) StepFault) → IsAsked step → IsCell visible began before → StepGives visible step before after result → IsCell visible began after
   step_keeps step before after (Ok None) may h gives = same before after gives.1.1 h
   step_keeps step before after (Ok (Some effects)) may h gives = goes_on (Some gives.1.entry) before after (steps_fine step gives.1.entry may gives.1.entry_for) h gives.1.does
   step_keeps step before after (Err NoMemory) may h gives = goes_on None before after tt h gives.1.0
@@ -157,7 +157,7 @@ module _ {C : Type 0} (told : C → Option (List CoreEntry)) (began : State Plai
   counted (Ok (Some effects)) = 1
   counted (Err fault) = 0
 
-  pub steps_after : (step : CoreStep) (before after : Cell C) (result : Result (Option (List Effect)) StepFault) → StepGives told step before after result → after.logged.steps ≡ before.logged.steps + counted result
+  pub steps_after : (step : CoreStep) (before after : Cell C) (result : Result (Option (List Effect)) StepFault) → StepGives visible step before after result → after.logged.steps ≡ before.logged.steps + counted result
   steps_after step before after (Ok None) gives = omega (arith, ap (λ (c : Cell C). c.logged.steps) gives.1.1)
   steps_after step before after (Ok (Some effects)) gives = gives.1.does.logged.steps
   steps_after step before after (Err NoMemory) gives = gives.1.0.logged.steps
@@ -171,16 +171,16 @@ module _ {C : Type 0} (told : C → Option (List CoreEntry)) (began : State Plai
 
   -- ---- how it begins
 
-  none_told : (o : Option (List CoreEntry)) → IfSome o (λ (entries : List CoreEntry). entries ≡ []) → (cell : Cell C) → IsReplay began cell [] → IfSome o (IsReplay began cell)
-  none_told None h cell r = tt
-  none_told (Some entries) h cell r = subst (λ (l : List CoreEntry). IsReplay began cell l) (sym h) r
+  none_visible : (o : Option (List CoreEntry)) → IfSome o (λ (entries : List CoreEntry). entries ≡ []) → (cell : Cell C) → IsReplay began cell [] → IfSome o (IsReplay began cell)
+  none_visible None h cell r = tt
+  none_visible (Some entries) h cell r = subst (λ (l : List CoreEntry). IsReplay began cell l) (sym h) r
 
-  pub begins : (recorder : C) (ends : List SinkEnds) → Begins began ends → IfSome (told recorder) (λ (entries : List CoreEntry). entries ≡ []) → IsCell told began (first_cell began recorder ends)
+  pub begins : (recorder : C) (ends : List SinkEnds) → Begins began ends → IfSome (visible recorder) (λ (entries : List CoreEntry). entries ≡ []) → IsCell visible began (first_cell began recorder ends)
   begins recorder ends h none =
       let sinks : began.sinks ≡ h.header.sinks = ap (λ (s : State PlainStream). s.sinks) h.state_is in
       record {
         sound = record {
-          core = subst (λ (s : State PlainStream). IsKept spec_of s) (sym h.state_is) (new_keeps spec_of h.header h.lawful);
+          core = subst (λ (s : State PlainStream). IsConsistent spec_of s) (sym h.state_is) (new_keeps spec_of h.header h.lawful);
           count = ap (λ (l : List SinkEnds). length l) h.ends_are ∙ length-map h.header.sinks fresh_ends ∙ ap (λ (l : List SinkSpec). length l) (sym sinks);
           heard = λ index s e there is.
               let fresh : fresh_ends s ≡ e = same_Some (fresh_ends s) e (ap (λ (o : Option SinkSpec). option_map fresh_ends o) (sym (ap (λ (l : List SinkSpec). slice_get l index) (sym sinks) ∙ there)) ∙ at_end index ∙ is) in
@@ -190,17 +190,17 @@ module _ {C : Type 0} (told : C → Option (List CoreEntry)) (began : State Plai
                 inputs = ap (λ (x : State PlainStream). inputs_there x (sink_at index)) h.state_is;
               });
         };
-        replay = none_told (told recorder) none (first_cell began recorder ends) (record {
+        replay = none_visible (visible recorder) none (first_cell began recorder ends) (record {
           state = refl;
           steps = refl;
           owed = refl;
-          told = λ index e is. by index e (slice_get h.header.sinks index) (at_end index ∙ is);
+          agreed = λ index e is. by index e (slice_get h.header.sinks index) (at_end index ∙ is);
         });
       }
     where
       at_end : (index : ℕ) → option_map fresh_ends (slice_get h.header.sinks index) ≡ slice_get ends index
       at_end index = sym (ap (λ (l : List SinkEnds). slice_get l index) h.ends_are ∙ slice_get-map fresh_ends h.header.sinks index)
 
-      by : (index : ℕ) (e : SinkEnds) (o : Option SinkSpec) → option_map fresh_ends o ≡ Some e → IsTold began [] index e
+      by : (index : ℕ) (e : SinkEnds) (o : Option SinkSpec) → option_map fresh_ends o ≡ Some e → IsAgreed began [] index e
       by index e None is = absurd (none-some e is)
-      by index e (Some s) is = subst (λ (x : SinkEnds). IsTold began [] index x) (same_Some (fresh_ends s) e is) (record { posted = refl; taken = refl })
+      by index e (Some s) is = subst (λ (x : SinkEnds). IsAgreed began [] index x) (same_Some (fresh_ends s) e is) (record { posted = refl; taken = refl })

@@ -27,11 +27,11 @@ Unnoted (Owed back) before after = ⊥
 
 -- ---- what it said when it was asked, by what is answered
 
-module _ {C : Type 0} (limit : C → Option Limit) (told : C → Option (List CoreEntry)) (faults fulls : C → ℕ) where
+module _ {C : Type 0} (limit : C → Option Limit) (visible : C → Option (List CoreEntry)) (faults fulls : C → ℕ) where
   -- the answer is what it says of itself, and is counted
   abbrev pub Answered : Result ⊤ RecordFault → C → C → Type 0
   Answered answer before after =
-      SaysFull answer (limit before) (option_map (sizes_by size_of_core_entry) (told before))
+      SaysFull answer (limit before) (option_map (sizes_by size_of_core_entry) (visible before))
       × (limit after ≡ limit before)
       × ReadyCounts answer (faults before) (faults after) (fulls before) (fulls after)
 

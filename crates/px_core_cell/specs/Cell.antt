@@ -20,7 +20,7 @@ pub record SinkEnds : Type 0 where
   pub key : Option Spec
   pub posted : List (Msg PlainStream)
   pub taken : List (Notice PlainStream)
-  pub kept : Option (Notice PlainStream)
+  pub held : Option (Notice PlainStream)
 
 -- what its passes have written down there: of each post to the inbox whether the message was stored, and of each take from the outbox whether it found
 -- a notice
@@ -46,7 +46,7 @@ ends_of e = record {
   key = key_of e.post.pass;
   posted = map seen_message (posted_by e.post.pass);
   taken = map seen_notice (taken_by e.take.pass);
-  kept = e.kept;
+  held = e.held;
 }
 
 abbrev pub logged_of : {C : Type 0} {R : Ghosts C CoreEntry} → State PlainStream → StepLog C R → Logged C

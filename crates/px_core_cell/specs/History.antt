@@ -14,9 +14,9 @@ use Rattle.px_msg.specs.declared.notice.Notice.{Notice}
 use Rattle.px_msg.specs.View.{sample_spec}
 use Rattle.px_msg.specs.Letters.{AreLawful, inputs_after}
 use Rattle.px_state.specs.State.{State, new_state}
-use Rattle.px_core.specs.Keeps.{IsKept}
+use Rattle.px_core.specs.Consistency.{IsConsistent}
 use Rattle.px_core.specs.Orderly.{inputs_there}
-use Rattle.px_core.specs.Hearing.{told_by}
+use Rattle.px_core.specs.Hearing.{posted_by_steps}
 use Rattle.px_core.specs.Step.{Step, stepped_by}
 use Rattle.px_core_cell.specs.Cell.{Cell, Calls, SinkEnds}
 use Rattle.px_core_cell.specs.Parcel.{spec_of}
@@ -75,27 +75,27 @@ pub record IsHeard (state : State PlainStream) (index : ℕ) (s : SinkSpec) (e :
 
 -- whether the recorder tells or not
 pub record IsSound {C : Type 0} (cell : Cell C) : Type 0 where
-  pub core : IsKept spec_of cell.logged.state
+  pub core : IsConsistent spec_of cell.logged.state
   pub count : length cell.ends ≡ length cell.logged.state.sinks
   pub heard : (index : ℕ) (s : SinkSpec) (e : SinkEnds) → slice_get cell.logged.state.sinks index ≡ Some s → slice_get cell.ends index ≡ Some e
       → IsHeard cell.logged.state index s e
 
 -- a sink was posted what the entries hand out to it, in order, and was taken from it what they have of it, and then the notice that is kept
-pub record IsTold (began : State PlainStream) (entries : List CoreEntry) (index : ℕ) (e : SinkEnds) : Type 0 where
-  pub posted : e.posted ≡ told_by spec_of (sink_at index) began (steps_in entries)
-  pub taken : e.taken ≡ noticed_by index entries ++ option_to_list e.kept
+pub record IsAgreed (began : State PlainStream) (entries : List CoreEntry) (index : ℕ) (e : SinkEnds) : Type 0 where
+  pub posted : e.posted ≡ posted_by_steps spec_of (sink_at index) began (steps_in entries)
+  pub taken : e.taken ≡ noticed_by index entries ++ option_to_list e.held
 
 -- the core is the replay of its entries, one a step
 pub record IsReplay {C : Type 0} (began : State PlainStream) (cell : Cell C) (entries : List CoreEntry) : Type 0 where
   pub state : cell.logged.state ≡ replayed began entries
   pub steps : cell.logged.steps ≡ length entries
   pub owed : cell.logged.owed ≡ owed_by entries
-  pub told : (index : ℕ) (e : SinkEnds) → slice_get cell.ends index ≡ Some e → IsTold began entries index e
+  pub agreed : (index : ℕ) (e : SinkEnds) → slice_get cell.ends index ≡ Some e → IsAgreed began entries index e
 
 -- all of it: told gives the entries of a recorder that tells
-pub record IsCell {C : Type 0} (told : C → Option (List CoreEntry)) (began : State PlainStream) (cell : Cell C) : Type 0 where
+pub record IsCell {C : Type 0} (visible : C → Option (List CoreEntry)) (began : State PlainStream) (cell : Cell C) : Type 0 where
   pub sound : IsSound cell
-  pub replay : IfSome (told cell.logged.recorder) (IsReplay began cell)
+  pub replay : IfSome (visible cell.logged.recorder) (IsReplay began cell)
 
 -- ---- how one begins
 
@@ -107,7 +107,7 @@ pub record Course (C : Type 0) : Type 0 where
 
 -- the ends of a sink's mailboxes that have moved nothing, for its sample spec
 abbrev pub fresh_ends : SinkSpec → SinkEnds
-fresh_ends s = record { key = Some s.spec; posted = []; taken = []; kept = None }
+fresh_ends s = record { key = Some s.spec; posted = []; taken = []; held = None }
 
 -- a core before its first step, with such mailboxes for each sink
 pub record Begins (state : State PlainStream) (ends : List SinkEnds) : Type 0 where

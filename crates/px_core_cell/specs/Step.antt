@@ -17,7 +17,7 @@ use Rattle.px_msg.specs.declared.notice.Notice.{Notice}
 use Rattle.px_state.specs.declared.effect.Effect.{Effect}
 use Rattle.px_state.specs.State.{State}
 use Rattle.px_state.specs.Out.{waiting_for, next_for, handed_out}
-use Rattle.px_core.specs.Hearing.{told_by}
+use Rattle.px_core.specs.Hearing.{posted_by_steps}
 use Rattle.px_core.specs.Step.{Step, stepped_by, effects_by}
 use Rattle.px_core_cell.specs.declared.step.CoreStep.{CoreStep}
 use Rattle.px_core_cell.specs.declared.step.CoreStep.TheVariants as asked
@@ -86,8 +86,8 @@ noticed_done index None = []
 noticed_done index (Some d) = noticed_in index d
 
 abbrev pub entered : Option PlainStep → Option (List CoreEntry) → Option (List CoreEntry)
-entered None told = told
-entered (Some d) told = noted (record { step = d }) told
+entered None visible = visible
+entered (Some d) visible = noted (record { step = d }) visible
 
 abbrev pub owed_after : Option PlainStep → Bool → Bool
 owed_after None owed = owed
@@ -97,28 +97,28 @@ owed_after (Some d) owed = owes owed d
 -- what is kept
 pub record IsEndAfter (done : Option PlainStep) (state : State PlainStream) (index : ℕ) (e f : SinkEnds) : Type 0 where
   pub key : f.key ≡ e.key
-  pub posted : f.posted ≡ e.posted ++ told_by spec_of (sink_at index) state (steps_done done)
+  pub posted : f.posted ≡ e.posted ++ posted_by_steps spec_of (sink_at index) state (steps_done done)
   pub took : List (Notice PlainStream)
   pub taken : f.taken ≡ e.taken ++ took
-  pub kept : option_to_list e.kept ++ took ≡ noticed_done index done ++ option_to_list f.kept
+  pub held : option_to_list e.held ++ took ≡ noticed_done index done ++ option_to_list f.held
 
 -- the core goes on by the step, its recorder notes it, and it is counted
-pub record LoggedDoes {C : Type 0} (told : C → Option (List CoreEntry)) (done : Option PlainStep) (before after : Logged C) : Type 0 where
+pub record LoggedDoes {C : Type 0} (visible : C → Option (List CoreEntry)) (done : Option PlainStep) (before after : Logged C) : Type 0 where
   pub state : after.state ≡ stepped_by spec_of before.state (steps_done done)
-  pub told_new : told after.recorder ≡ entered done (told before.recorder)
+  pub visible_new : visible after.recorder ≡ entered done (visible before.recorder)
   pub steps : after.steps ≡ before.steps + length (option_to_list done)
   pub owed : after.owed ≡ owed_after done before.owed
 
 -- and so do the ends of each sink
-pub record Does {C : Type 0} (told : C → Option (List CoreEntry)) (done : Option PlainStep) (before after : Cell C) : Type 0 where
-  pub logged : LoggedDoes told done before.logged after.logged
+pub record Does {C : Type 0} (visible : C → Option (List CoreEntry)) (done : Option PlainStep) (before after : Cell C) : Type 0 where
+  pub logged : LoggedDoes visible done before.logged after.logged
   pub count : length after.ends ≡ length before.ends
   pub ends : (index : ℕ) (e f : SinkEnds) → slice_get before.ends index ≡ Some e → slice_get after.ends index ≡ Some f
       → IsEndAfter done before.logged.state index e f
 
 -- or those of the one sink that the step is of
-pub record DoesAt {C : Type 0} (told : C → Option (List CoreEntry)) (done : Option PlainStep) (index : ℕ) (before after : Logged C) (e f : SinkEnds) : Type 0 where
-  pub logged : LoggedDoes told done before after
+pub record DoesAt {C : Type 0} (visible : C → Option (List CoreEntry)) (done : Option PlainStep) (index : ℕ) (before after : Logged C) (e f : SinkEnds) : Type 0 where
+  pub logged : LoggedDoes visible done before after
   pub end : IsEndAfter done before.state index e f
 
 -- ---- what is answered
@@ -143,14 +143,14 @@ Lacks (asked.Broken conn fault at) before = ⊥
 Lacks (asked.Close conn) before = ⊥
 Lacks (asked.Cut conn) before = ⊥
 Lacks asked.Sweep before = ⊥
-Lacks (asked.Notice sink) before = (e : SinkEnds) → slice_get before.ends sink.0 ≡ Some e → e.kept ≡ None
+Lacks (asked.Notice sink) before = (e : SinkEnds) → slice_get before.ends sink.0 ≡ Some e → e.held ≡ None
 Lacks (asked.Out sink) before = ⊥
 
 -- a step that was done, with its effects
-pub record IsDone {C : Type 0} (told : C → Option (List CoreEntry)) (step : CoreStep) (before after : Cell C) (effects : List Effect) : Type 0 where
+pub record IsDone {C : Type 0} (visible : C → Option (List CoreEntry)) (step : CoreStep) (before after : Cell C) (effects : List Effect) : Type 0 where
   pub entry : PlainStep
   pub entry_for : IsEntryFor step entry
-  pub does : Does told (Some entry) before after
+  pub does : Does visible (Some entry) before after
   pub effects_are : effects ≡ effects_by spec_of before.logged.state (steps_of entry)
   pub finishes : Finishes step after
   pub fault : after.logged.fault ≡ before.logged.fault
@@ -162,20 +162,20 @@ pub record IsFree {C : Type 0} (step : CoreStep) (before : Cell C) : Type 0 wher
 
 -- what such a step answers
 abbrev pub FreeGives : {C : Type 0} → (C → Option (List CoreEntry)) → CoreStep → Cell C → Cell C → Result (Option (List Effect)) StepFault → Type 0
-FreeGives told step before after (Ok (Some effects)) = IsDone told step before after effects
-FreeGives told step before after (Ok None) = Lacks step before × (after ≡ before)
-FreeGives told step before after (Err NoMemory) = Does told None before after × (after.logged.fault ≡ before.logged.fault)
-FreeGives told step before after (Err Worn) = ⊥
-FreeGives told step before after (Err (Recorder why)) = Does told None before after × (after.logged.fault ≡ option_or before.logged.fault (Some why))
-FreeGives told step before after (Err (Owed back)) = ⊥
+FreeGives visible step before after (Ok (Some effects)) = IsDone visible step before after effects
+FreeGives visible step before after (Ok None) = Lacks step before × (after ≡ before)
+FreeGives visible step before after (Err NoMemory) = Does visible None before after × (after.logged.fault ≡ before.logged.fault)
+FreeGives visible step before after (Err Worn) = ⊥
+FreeGives visible step before after (Err (Recorder why)) = Does visible None before after × (after.logged.fault ≡ option_or before.logged.fault (Some why))
+FreeGives visible step before after (Err (Owed back)) = ⊥
 
 -- what any step answers
 abbrev pub StepGives : {C : Type 0} → (C → Option (List CoreEntry)) → CoreStep → Cell C → Cell C → Result (Option (List Effect)) StepFault → Type 0
-StepGives told step before after (Ok o) = IsFree step before × FreeGives told step before after (Ok o)
-StepGives told step before after (Err NoMemory) = IsFree step before × FreeGives told step before after (Err NoMemory)
-StepGives told step before after (Err Worn) = (before.logged.owed && waits step ≡ false) × (before.logged.steps ≡ 2 ^ 64 - 1) × (after ≡ before)
-StepGives told step before after (Err (Recorder why)) = IsFree step before × FreeGives told step before after (Err (Recorder why))
-StepGives told step before after (Err (Owed back)) = (before.logged.owed && waits step ≡ true) × (back ≡ step) × (after ≡ before)
+StepGives visible step before after (Ok o) = IsFree step before × FreeGives visible step before after (Ok o)
+StepGives visible step before after (Err NoMemory) = IsFree step before × FreeGives visible step before after (Err NoMemory)
+StepGives visible step before after (Err Worn) = (before.logged.owed && waits step ≡ false) × (before.logged.steps ≡ 2 ^ 64 - 1) × (after ≡ before)
+StepGives visible step before after (Err (Recorder why)) = IsFree step before × FreeGives visible step before after (Err (Recorder why))
+StepGives visible step before after (Err (Owed back)) = (before.logged.owed && waits step ≡ true) × (back ≡ step) × (after ≡ before)
 
 -- ---- where a step stops
 
@@ -242,23 +242,23 @@ step_for (asked.Out sink) = Step.out sink
 
 -- a step that no sink has a part in
 abbrev pub OwnGives : {C : Type 0} → (C → Option (List CoreEntry)) → CoreStep → Logged C → Logged C → Result (List Effect) StepFault → Type 0
-OwnGives told step before after (Ok effects) =
-    (d : PlainStep) × IsEntryFor step d × LoggedDoes told (Some d) before after × (effects ≡ effects_by spec_of before.state (steps_of d)) × (after.fault ≡ before.fault)
-OwnGives told step before after (Err NoMemory) = LoggedDoes told None before after × (after.fault ≡ before.fault)
-OwnGives told step before after (Err Worn) = ⊥
-OwnGives told step before after (Err (Recorder why)) = LoggedDoes told None before after × (after.fault ≡ option_or before.fault (Some why))
-OwnGives told step before after (Err (Owed back)) = ⊥
+OwnGives visible step before after (Ok effects) =
+    (d : PlainStep) × IsEntryFor step d × LoggedDoes visible (Some d) before after × (effects ≡ effects_by spec_of before.state (steps_of d)) × (after.fault ≡ before.fault)
+OwnGives visible step before after (Err NoMemory) = LoggedDoes visible None before after × (after.fault ≡ before.fault)
+OwnGives visible step before after (Err Worn) = ⊥
+OwnGives visible step before after (Err (Recorder why)) = LoggedDoes visible None before after × (after.fault ≡ option_or before.fault (Some why))
+OwnGives visible step before after (Err (Owed back)) = ⊥
 
 -- a notice of the sink with an index
 abbrev pub NoticeGives : {C : Type 0} → (C → Option (List CoreEntry)) → ℕ → Logged C → Logged C → SinkEnds → SinkEnds → Result (Option (List Effect)) StepFault → Type 0
-NoticeGives told index before after e f (Ok (Some effects)) =
-    (n : Notice PlainStream) × DoesAt told (Some (plain.Notice index (plain_notice n))) index before after e f
+NoticeGives visible index before after e f (Ok (Some effects)) =
+    (n : Notice PlainStream) × DoesAt visible (Some (plain.Notice index (plain_notice n))) index before after e f
     × (effects ≡ effects_by spec_of before.state (steps_of (plain.Notice index (plain_notice n)))) × (after.fault ≡ before.fault)
-NoticeGives told index before after e f (Ok None) = (e.kept ≡ None) × (f ≡ e) × (after ≡ before)
-NoticeGives told index before after e f (Err NoMemory) = DoesAt told None index before after e f × (after.fault ≡ before.fault)
-NoticeGives told index before after e f (Err Worn) = ⊥
-NoticeGives told index before after e f (Err (Recorder why)) = DoesAt told None index before after e f × (after.fault ≡ option_or before.fault (Some why))
-NoticeGives told index before after e f (Err (Owed back)) = ⊥
+NoticeGives visible index before after e f (Ok None) = (e.held ≡ None) × (f ≡ e) × (after ≡ before)
+NoticeGives visible index before after e f (Err NoMemory) = DoesAt visible None index before after e f × (after.fault ≡ before.fault)
+NoticeGives visible index before after e f (Err Worn) = ⊥
+NoticeGives visible index before after e f (Err (Recorder why)) = DoesAt visible None index before after e f × (after.fault ≡ option_or before.fault (Some why))
+NoticeGives visible index before after e f (Err (Owed back)) = ⊥
 
 -- nothing waits for a sink, or its inbox held 256 of those that were posted
 abbrev pub HandsAll : SinkId → State PlainStream → SinkEnds → Type 0
@@ -280,8 +280,8 @@ pub record Fetches (e f : SinkEnds) : Type 0 where
   pub posted : f.posted ≡ e.posted
   pub took : List (Notice PlainStream)
   pub taken : f.taken ≡ e.taken ++ took
-  pub kept : option_to_list e.kept ++ took ≡ option_to_list f.kept
-  pub none : f.kept ≡ None → f ≡ e
+  pub held : option_to_list e.held ++ took ≡ option_to_list f.held
+  pub none : f.held ≡ None → f ≡ e
 
 -- the first message that waits for a sink is posted
 pub record PostsOne (sink : SinkId) (before after : State PlainStream) (e f : SinkEnds) : Type 0 where
@@ -293,23 +293,23 @@ pub record PostsOne (sink : SinkId) (before after : State PlainStream) (e f : Si
 -- and so many of them
 pub record PostsMany (sink : SinkId) (count : ℕ) (before after : State PlainStream) (e f : SinkEnds) : Type 0 where
   pub state : after ≡ stepped_by spec_of before (replicate count (Step.out sink))
-  pub ends : f ≡ record e { posted = e.posted ++ told_by spec_of sink before (replicate count (Step.out sink)) }
+  pub ends : f ≡ record e { posted = e.posted ++ posted_by_steps spec_of sink before (replicate count (Step.out sink)) }
 
 -- the messages of the sink with an index
 abbrev pub OutGives : {C : Type 0} → (C → Option (List CoreEntry)) → SinkId → Logged C → Logged C → SinkEnds → SinkEnds → Result (List Effect) StepFault → Type 0
-OutGives told sink before after e f (Ok effects) =
-    (count : ℕ) × DoesAt told (Some (plain.Out sink.0 count)) sink.0 before after e f × HandsAll sink after.state f × (effects ≡ []) × (after.fault ≡ before.fault)
-OutGives told sink before after e f (Err NoMemory) = ⊥
-OutGives told sink before after e f (Err Worn) = ⊥
-OutGives told sink before after e f (Err (Recorder why)) = DoesAt told None sink.0 before after e f × (after.fault ≡ option_or before.fault (Some why))
-OutGives told sink before after e f (Err (Owed back)) = ⊥
+OutGives visible sink before after e f (Ok effects) =
+    (count : ℕ) × DoesAt visible (Some (plain.Out sink.0 count)) sink.0 before after e f × HandsAll sink after.state f × (effects ≡ []) × (after.fault ≡ before.fault)
+OutGives visible sink before after e f (Err NoMemory) = ⊥
+OutGives visible sink before after e f (Err Worn) = ⊥
+OutGives visible sink before after e f (Err (Recorder why)) = DoesAt visible None sink.0 before after e f × (after.fault ≡ option_or before.fault (Some why))
+OutGives visible sink before after e f (Err (Owed back)) = ⊥
 
 -- no messages, to a sink that isn't there
 abbrev pub NowhereGives : {C : Type 0} {R : Ghosts C CoreEntry} → (C → Option (List CoreEntry)) → ℕ → StepLog C R → StepLog C R → Result (List Effect) StepFault → Type 0
-NowhereGives told index before after (Ok effects) =
-    ((state : State PlainStream) → LoggedDoes told (Some (plain.Out index 0)) (logged_of state before) (logged_of state after)) × (effects ≡ []) × (after.fault ≡ before.fault)
-NowhereGives told index before after (Err NoMemory) = ⊥
-NowhereGives told index before after (Err Worn) = ⊥
-NowhereGives told index before after (Err (Recorder why)) =
-    ((state : State PlainStream) → LoggedDoes told None (logged_of state before) (logged_of state after)) × (after.fault ≡ option_or before.fault (Some why))
-NowhereGives told index before after (Err (Owed back)) = ⊥
+NowhereGives visible index before after (Ok effects) =
+    ((state : State PlainStream) → LoggedDoes visible (Some (plain.Out index 0)) (logged_of state before) (logged_of state after)) × (effects ≡ []) × (after.fault ≡ before.fault)
+NowhereGives visible index before after (Err NoMemory) = ⊥
+NowhereGives visible index before after (Err Worn) = ⊥
+NowhereGives visible index before after (Err (Recorder why)) =
+    ((state : State PlainStream) → LoggedDoes visible None (logged_of state before) (logged_of state after)) × (after.fault ≡ option_or before.fault (Some why))
+NowhereGives visible index before after (Err (Owed back)) = ⊥

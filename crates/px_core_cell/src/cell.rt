@@ -38,7 +38,7 @@ impl<C: Recorder<CoreEntry>, L: Seats> Model for Live<C, L> {
 
     ghost view = { λ l. cell_of l.parts };
 
-    ghost invariant = { λ l. IsCell C.told L.began (cell_of l.parts) × (l.book.total ≡ l.parts.log.steps) × (L.parts ≡ L.all) × (map boxes_of l.parts.ends.items ≡ L.boxes) };
+    ghost invariant = { λ l. IsCell C.visible L.began (cell_of l.parts) × (l.book.total ≡ l.parts.log.steps) × (L.parts ≡ L.all) × (map boxes_of l.parts.ends.items ≡ L.boxes) };
 }
 
 // All parts of a ledger.
@@ -120,7 +120,7 @@ impl<C: Recorder<CoreEntry> + Drop, L: Seats> CoreCell<C, L> {
         requires began { core.state ≡ L.began }
         requires begins { Begins core.state (map ends_of ends.items) }
         requires boxes { map boxes_of ends.items ≡ L.boxes }
-        requires none { IfSome (C.told recorder) (λ entries. entries ≡ []) }
+        requires none { IfSome (C.visible recorder) (λ entries. entries ≡ []) }
         ensures { result.1 ≡ record { parts = L.all; steps = 0 } }
     {
         let (book, share) = blank.open::<L>();
@@ -160,7 +160,7 @@ impl<C: Recorder<CoreEntry> + Drop, L: Seats> CoreCell<C, L> {
     /// Takes the lock and hands out what lies under it, by the seat with all parts. At least as many steps were done as the seat counts.
     pub fn take_parts<R: Wait>(&self, rt: &R, seat: CoreSeat<L>) -> CoreParts<C>
         requires { seat.parts ≡ L.all }
-        ensures history { IsCell C.told L.began (cell_of result) }
+        ensures history { IsCell C.visible L.began (cell_of result) }
         ensures boxes { map boxes_of result.ends.items ≡ L.boxes }
         ensures steps { seat.steps ≤ result.log.steps }
         ensures caused { IsCaused result.log.fault (C.faults result.log.recorder) (C.fulls result.log.recorder) }

@@ -17,7 +17,7 @@ pub struct CoreEnd {
     pub outbox: Arc<Mailbox<Notice<Stream>>>,
     pub post: PostPass<Msg<Stream>>,
     pub take: TakePass<Notice<Stream>>,
-    pub kept: Option<Notice<Carried>>,
+    pub held: Option<Notice<Carried>>,
     pub ghost posts: { IsPassOf (arc_value inbox).queue post.pass },
     pub ghost takes: { IsPassOf (arc_value outbox).queue take.pass },
 }
@@ -39,14 +39,14 @@ impl CoreEnd {
         ensures outbox { result.outbox ≡ outbox }
         ensures post { result.post ≡ post }
         ensures take { result.take ≡ take }
-        ensures kept { result.kept ≡ None }
+        ensures held { result.held ≡ None }
     {
         CoreEnd {
             inbox,
             outbox,
             post,
             take,
-            kept: None,
+            held: None,
         }
     }
 }

@@ -24,11 +24,11 @@ fn ready_entry<C: Recorder<CoreEntry>>(
 ) -> Result<CoreEntry, StepFault>
     ensures step { IfOk result (λ entry. entry.step ≡ step) }
     ensures takes { IfOk result (λ entry. C.takes log.new.recorder (size_of_core_entry entry)) }
-    ensures told { C.told log.new.recorder ≡ C.told log.old.recorder }
+    ensures visible { C.visible log.new.recorder ≡ C.visible log.old.recorder }
     ensures fault { MatchResult result (λ _. log.new.fault ≡ log.old.fault) (λ e. Unnoted e log.old.fault log.new.fault) }
     ensures steps { log.new.steps ≡ log.old.steps }
     ensures owed { log.new.owed ≡ log.old.owed }
-    ensures said { Says C.limit C.told C.faults C.fulls result log.old.recorder log.new.recorder }
+    ensures said { Says C.limit C.visible C.faults C.fulls result log.old.recorder log.new.recorder }
 {
     let entry = CoreEntry { step };
     log.ready(entry.size())?;
@@ -44,11 +44,11 @@ pub(crate) fn own_entry<C: Recorder<CoreEntry>>(
     requires own { is_own step.now ≡ true }
     ensures step { IfOk result (λ entry. IsEntryFor step.now entry.step) }
     ensures takes { IfOk result (λ entry. C.takes log.new.recorder (size_of_core_entry entry)) }
-    ensures told { C.told log.new.recorder ≡ C.told log.old.recorder }
+    ensures visible { C.visible log.new.recorder ≡ C.visible log.old.recorder }
     ensures fault { MatchResult result (λ _. log.new.fault ≡ log.old.fault) (λ e. Unnoted e log.old.fault log.new.fault) }
     ensures steps { log.new.steps ≡ log.old.steps }
     ensures owed { log.new.owed ≡ log.old.owed }
-    ensures said { Says C.limit C.told C.faults C.fulls result log.old.recorder log.new.recorder }
+    ensures said { Says C.limit C.visible C.faults C.fulls result log.old.recorder log.new.recorder }
 {
     let plain = plain_step(alloc, step)?;
     ready_entry(log, plain)
@@ -63,11 +63,11 @@ pub(crate) fn notice_entry<C: Recorder<CoreEntry>>(
 ) -> Result<CoreEntry, StepFault>
     ensures step { IfOk result (λ entry. entry.step ≡ plain.Notice sink.0 (plain_notice notice.now)) }
     ensures takes { IfOk result (λ entry. C.takes log.new.recorder (size_of_core_entry entry)) }
-    ensures told { C.told log.new.recorder ≡ C.told log.old.recorder }
+    ensures visible { C.visible log.new.recorder ≡ C.visible log.old.recorder }
     ensures fault { MatchResult result (λ _. log.new.fault ≡ log.old.fault) (λ e. Unnoted e log.old.fault log.new.fault) }
     ensures steps { log.new.steps ≡ log.old.steps }
     ensures owed { log.new.owed ≡ log.old.owed }
-    ensures said { Says C.limit C.told C.faults C.fulls result log.old.recorder log.new.recorder }
+    ensures said { Says C.limit C.visible C.faults C.fulls result log.old.recorder log.new.recorder }
 {
     let notice = plain_notice(alloc, notice)?;
     ready_entry(

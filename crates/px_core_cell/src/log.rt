@@ -24,11 +24,11 @@ impl<C: Recorder<CoreEntry>> StepLog<C> {
     /// The recorder takes room for an entry of `bytes` bytes. Its first fault is noted.
     pub(crate) fn ready(&mut self, bytes: usize) -> Result<(), StepFault>
         ensures takes { OnOk result (C.takes self.new.recorder bytes) }
-        ensures told { C.told self.new.recorder ≡ C.told self.old.recorder }
+        ensures visible { C.visible self.new.recorder ≡ C.visible self.old.recorder }
         ensures fault { MatchResult result (λ _. self.new.fault ≡ self.old.fault) (λ e. ReadyFails e self.old.fault self.new.fault) }
         ensures steps { self.new.steps ≡ self.old.steps }
         ensures owed { self.new.owed ≡ self.old.owed }
-        ensures said { Says C.limit C.told C.faults C.fulls result self.old.recorder self.new.recorder }
+        ensures said { Says C.limit C.visible C.faults C.fulls result self.old.recorder self.new.recorder }
     {
         match self.recorder.ready(bytes) {
             Ok(()) => Ok(()),
@@ -43,11 +43,11 @@ impl<C: Recorder<CoreEntry>> StepLog<C> {
     pub(crate) fn note(&mut self, entry: CoreEntry, owed: bool)
         requires takes { C.takes self.old.recorder (size_of_core_entry entry) }
         requires steps { self.old.steps < 2 ^ 64 - 1 }
-        ensures told { C.told self.new.recorder ≡ noted entry (C.told self.old.recorder) }
+        ensures visible { C.visible self.new.recorder ≡ noted entry (C.visible self.old.recorder) }
         ensures fault { self.new.fault ≡ self.old.fault }
         ensures steps { self.new.steps ≡ self.old.steps + 1 }
         ensures owed { self.new.owed ≡ owed }
-        ensures calm { IsCalm C.limit C.told C.faults C.fulls self.old.recorder self.new.recorder }
+        ensures calm { IsCalm C.limit C.visible C.faults C.fulls self.old.recorder self.new.recorder }
     {
         self.recorder.note(entry);
         self.steps += 1;

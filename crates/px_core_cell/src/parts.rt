@@ -2,7 +2,7 @@
 
 ghost use Rattle.std.specs.Prelude.{◌≡◌, ◌-◌, ◌^◌, ◌<◌, Some, true, slice_get, Ok, Err, IfOk, MatchResult, map};
 ghost use Rattle.px_header.specs.declared.header.SinkSpec.{SinkSpec};
-ghost use Rattle.px_core.specs.Keeps.{IsKept};
+ghost use Rattle.px_core.specs.Consistency.{IsConsistent};
 ghost use Rattle.px_core_cell.specs.declared.step.CoreStep.TheVariants as asked;
 ghost use Rattle.px_core_cell.specs.Cell.{ends_of, logged_of, cell_of, calls_of, calls_in};
 ghost use Rattle.px_core_cell.specs.History.{IsHeard, IsSound, first_cell};
@@ -41,8 +41,8 @@ fn own_step<C: Recorder<CoreEntry>>(
     requires own { is_own step ≡ true }
     requires asked { IsAsked step }
     requires countable { log.old.steps < 2 ^ 64 - 1 }
-    ensures gives { OwnGives C.told step (logged_of core.old.state log.old) (logged_of core.new.state log.new) result }
-    ensures said { Says C.limit C.told C.faults C.fulls result log.old.recorder log.new.recorder }
+    ensures gives { OwnGives C.visible step (logged_of core.old.state log.old) (logged_of core.new.state log.new) result }
+    ensures said { Says C.limit C.visible C.faults C.fulls result log.old.recorder log.new.recorder }
 {
     let owed = waits(&step);
     let entry = own_entry(alloc, log, &step)?;
@@ -68,13 +68,13 @@ fn notice_step<C: Recorder<CoreEntry>, R: Wait>(
     sink: SinkId,
 ) -> Result<Option<Effects>, StepFault>
     requires countable { log.old.steps < 2 ^ 64 - 1 }
-    ensures gives { NoticeGives C.told sink.0 (logged_of core.old.state log.old) (logged_of core.new.state log.new) (ends_of end.old) (ends_of end.new) result }
+    ensures gives { NoticeGives C.visible sink.0 (logged_of core.old.state log.old) (logged_of core.new.state log.new) (ends_of end.old) (ends_of end.new) result }
     ensures stops { NoticeStops (calls_of end.old) (calls_of end.new) result }
-    ensures said { StepSays C.limit C.told C.faults C.fulls result log.old.recorder log.new.recorder }
+    ensures said { StepSays C.limit C.visible C.faults C.fulls result log.old.recorder log.new.recorder }
     ensures boxes { boxes_of end.new ≡ boxes_of end.old }
 {
     end.fetch(rt);
-    let Some(notice) = &end.kept else {
+    let Some(notice) = &end.held else {
         return Ok(None);
     };
     let entry = notice_entry(alloc, log, sink, notice)?;
@@ -100,11 +100,11 @@ fn out_step<C: Recorder<CoreEntry>, R: Wait>(
     sink: SinkId,
 ) -> Result<Effects, StepFault>
     requires countable { log.old.steps < 2 ^ 64 - 1 }
-    requires kept { IsKept spec_of core.old.state }
+    requires consistent { IsConsistent spec_of core.old.state }
     requires heard { (s : SinkSpec) × (slice_get core.old.state.sinks sink.0 ≡ Some s) × IsHeard core.old.state sink.0 s (ends_of end.old) }
-    ensures gives { OutGives C.told sink (logged_of core.old.state log.old) (logged_of core.new.state log.new) (ends_of end.old) (ends_of end.new) result }
+    ensures gives { OutGives C.visible sink (logged_of core.old.state log.old) (logged_of core.new.state log.new) (ends_of end.old) (ends_of end.new) result }
     ensures stops { OutStops sink core.new.state (calls_of end.old) (calls_of end.new) result }
-    ensures said { Says C.limit C.told C.faults C.fulls result log.old.recorder log.new.recorder }
+    ensures said { Says C.limit C.visible C.faults C.fulls result log.old.recorder log.new.recorder }
     ensures boxes { boxes_of end.new ≡ boxes_of end.old }
 {
     log.ready(64)?;
@@ -129,8 +129,8 @@ fn nowhere_step<C: Recorder<CoreEntry>>(
     sink: SinkId,
 ) -> Result<Effects, StepFault>
     requires countable { log.old.steps < 2 ^ 64 - 1 }
-    ensures gives { NowhereGives C.told sink.0 log.old log.new result }
-    ensures said { Says C.limit C.told C.faults C.fulls result log.old.recorder log.new.recorder }
+    ensures gives { NowhereGives C.visible sink.0 log.old log.new result }
+    ensures said { Says C.limit C.visible C.faults C.fulls result log.old.recorder log.new.recorder }
 {
     log.ready(64)?;
     let owed = log.owed;
@@ -172,9 +172,9 @@ impl<C: Recorder<CoreEntry>> CoreParts<C> {
         sink: SinkId,
     ) -> Result<Option<Effects>, StepFault>
         requires countable { self.old.log.steps < 2 ^ 64 - 1 }
-        ensures gives { FreeGives C.told (asked.Notice sink) (cell_of self.old) (cell_of self.new) result }
+        ensures gives { FreeGives C.visible (asked.Notice sink) (cell_of self.old) (cell_of self.new) result }
         ensures stops { Stops (asked.Notice sink) self.new.core.state (calls_in self.old) (calls_in self.new) result }
-        ensures said { StepSays C.limit C.told C.faults C.fulls result self.old.log.recorder self.new.log.recorder }
+        ensures said { StepSays C.limit C.visible C.faults C.fulls result self.old.log.recorder self.new.log.recorder }
         ensures boxes { map boxes_of self.new.ends.items ≡ map boxes_of self.old.ends.items }
     {
         let CoreParts { core, log, ends } = self;
@@ -190,9 +190,9 @@ impl<C: Recorder<CoreEntry>> CoreParts<C> {
     fn out<R: Wait>(&mut self, rt: &R, alloc: Global, sink: SinkId) -> Result<Effects, StepFault>
         requires countable { self.old.log.steps < 2 ^ 64 - 1 }
         requires sound { IsSound (cell_of self.old) }
-        ensures gives { MatchResult result (λ effects. FreeGives C.told (asked.Out sink) (cell_of self.old) (cell_of self.new) (Ok (Some effects))) (λ e. FreeGives C.told (asked.Out sink) (cell_of self.old) (cell_of self.new) (Err e)) }
+        ensures gives { MatchResult result (λ effects. FreeGives C.visible (asked.Out sink) (cell_of self.old) (cell_of self.new) (Ok (Some effects))) (λ e. FreeGives C.visible (asked.Out sink) (cell_of self.old) (cell_of self.new) (Err e)) }
         ensures stops { IfOk result (λ effects. Stops (asked.Out sink) self.new.core.state (calls_in self.old) (calls_in self.new) (Ok (Some effects))) }
-        ensures said { Says C.limit C.told C.faults C.fulls result self.old.log.recorder self.new.log.recorder }
+        ensures said { Says C.limit C.visible C.faults C.fulls result self.old.log.recorder self.new.log.recorder }
         ensures boxes { map boxes_of self.new.ends.items ≡ map boxes_of self.old.ends.items }
     {
         let CoreParts { core, log, ends } = self;
@@ -209,8 +209,8 @@ impl<C: Recorder<CoreEntry>> CoreParts<C> {
         requires own { is_own step ≡ true }
         requires asked { IsAsked step }
         requires countable { self.old.log.steps < 2 ^ 64 - 1 }
-        ensures gives { MatchResult result (λ effects. FreeGives C.told step (cell_of self.old) (cell_of self.new) (Ok (Some effects))) (λ e. FreeGives C.told step (cell_of self.old) (cell_of self.new) (Err e)) }
-        ensures said { Says C.limit C.told C.faults C.fulls result self.old.log.recorder self.new.log.recorder }
+        ensures gives { MatchResult result (λ effects. FreeGives C.visible step (cell_of self.old) (cell_of self.new) (Ok (Some effects))) (λ e. FreeGives C.visible step (cell_of self.old) (cell_of self.new) (Err e)) }
+        ensures said { Says C.limit C.visible C.faults C.fulls result self.old.log.recorder self.new.log.recorder }
         ensures boxes { map boxes_of self.new.ends.items ≡ map boxes_of self.old.ends.items }
     {
         let CoreParts { core, log, ends: _ } = self;
@@ -227,9 +227,9 @@ impl<C: Recorder<CoreEntry>> CoreParts<C> {
         requires asked { IsAsked step }
         requires countable { self.old.log.steps < 2 ^ 64 - 1 }
         requires sound { IsSound (cell_of self.old) }
-        ensures gives { FreeGives C.told step (cell_of self.old) (cell_of self.new) result }
+        ensures gives { FreeGives C.visible step (cell_of self.old) (cell_of self.new) result }
         ensures stops { Stops step self.new.core.state (calls_in self.old) (calls_in self.new) result }
-        ensures said { StepSays C.limit C.told C.faults C.fulls result self.old.log.recorder self.new.log.recorder }
+        ensures said { StepSays C.limit C.visible C.faults C.fulls result self.old.log.recorder self.new.log.recorder }
         ensures nothing { IsNothing step result }
         ensures boxes { map boxes_of self.new.ends.items ≡ map boxes_of self.old.ends.items }
     {
@@ -255,9 +255,9 @@ impl<C: Recorder<CoreEntry>> CoreParts<C> {
     ) -> Result<Option<Effects>, StepFault>
         requires asked { IsAsked step }
         requires sound { IsSound (cell_of self.old) }
-        ensures gives { StepGives C.told step (cell_of self.old) (cell_of self.new) result }
+        ensures gives { StepGives C.visible step (cell_of self.old) (cell_of self.new) result }
         ensures stops { Stops step self.new.core.state (calls_in self.old) (calls_in self.new) result }
-        ensures said { StepSays C.limit C.told C.faults C.fulls result self.old.log.recorder self.new.log.recorder }
+        ensures said { StepSays C.limit C.visible C.faults C.fulls result self.old.log.recorder self.new.log.recorder }
         ensures nothing { IsNothing step result }
         ensures boxes { map boxes_of self.new.ends.items ≡ map boxes_of self.old.ends.items }
     {

@@ -2,7 +2,7 @@
 
 ghost use Rattle.std.specs.Prelude.{◌≡◌, ◌++◌, ◌∷◌, List, IfOk, OnOk};
 ghost use Rattle.std.specs.List.{concat};
-ghost use Rattle.px_block.specs.Kept.{KeptBlock, contents};
+ghost use Rattle.px_block.specs.HeldBlock.{HeldBlock, contents};
 ghost use Rattle.px_core_cell.specs.Plain.{plain_run, plain_notice, plain_body};
 
 use crate::parcel::Carried;
@@ -25,7 +25,7 @@ fn plain_run(run: Run) -> PlainRun
 
 // The bytes of one block more.
 fn copy_block(bytes: &mut Text, block: &Block) -> Mem<()>
-    ensures { OnOk result ((more : List KeptBlock) → bytes.new ++ concat (contents more) ≡ bytes.old ++ concat (contents (block.now ∷ more))) }
+    ensures { OnOk result ((more : List HeldBlock) → bytes.new ++ concat (contents more) ≡ bytes.old ++ concat (contents (block.now ∷ more))) }
 {
     bytes.extend(block.bytes())
 }

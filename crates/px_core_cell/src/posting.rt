@@ -4,7 +4,7 @@ ghost use Rattle.std.specs.Prelude.{◌≡◌, ◌⊎◌, ◌++◌, [], ◌∷�
 ghost use Rattle.px_mail.specs.Mailbox.{stored_by, found_by};
 ghost use Rattle.px_header.specs.declared.header.SinkSpec.{SinkSpec};
 ghost use Rattle.px_state.specs.Out.{waiting_for};
-ghost use Rattle.px_core.specs.Keeps.{IsKept};
+ghost use Rattle.px_core.specs.Consistency.{IsConsistent};
 ghost use Rattle.px_core.specs.Step.{Step, stepped, effects_of};
 ghost use Rattle.px_core_cell.specs.Cell.{ends_of, calls_of};
 ghost use Rattle.px_core_cell.specs.Boxes.{boxes_of};
@@ -23,32 +23,32 @@ impl CoreEnd {
     /// Where no notice is kept, the sink's next one is taken from its outbox and kept.
     pub(crate) fn fetch<R: Wait>(&mut self, rt: &R)
         ensures fetches { Fetches (ends_of self.old) (ends_of self.new) }
-        ensures looks { self.new.kept ≡ None → found_by self.new.take.pass ≡ found_by self.old.take.pass ++ false ∷ [] }
+        ensures looks { self.new.held ≡ None → found_by self.new.take.pass ≡ found_by self.old.take.pass ++ false ∷ [] }
         ensures boxes { boxes_of self.new ≡ boxes_of self.old }
     {
-        if self.kept.is_none() {
+        if self.held.is_none() {
             match self.outbox.take(rt, &mut self.take) {
                 None => {}
-                Some(notice) => self.kept = Some(handed_over(notice)),
+                Some(notice) => self.held = Some(handed_over(notice)),
             }
         }
     }
 
     /// The kept notice goes to the core. Without memory for it, it stays kept and nothing has changed.
     pub(crate) fn collect(&mut self, core: &mut CellCore, sink: SinkId) -> Mem<Effects>
-        requires { IsSome self.old.kept }
-        ensures done { IfOk result (λ effects. IfSome self.old.kept (λ n. (core.new.state ≡ stepped spec_of core.old.state (Step.notice sink n)) × (effects ≡ effects_of spec_of core.old.state (Step.notice sink n)))) }
-        ensures used { OnOk result (ends_of self.new ≡ record (ends_of self.old) { kept = None }) }
+        requires { IsSome self.old.held }
+        ensures done { IfOk result (λ effects. IfSome self.old.held (λ n. (core.new.state ≡ stepped spec_of core.old.state (Step.notice sink n)) × (effects ≡ effects_of spec_of core.old.state (Step.notice sink n)))) }
+        ensures used { OnOk result (ends_of self.new ≡ record (ends_of self.old) { held = None }) }
         ensures err { OnErr result ((core.new.state ≡ core.old.state) × (ends_of self.new ≡ ends_of self.old)) }
         ensures boxes { boxes_of self.new ≡ boxes_of self.old }
     {
-        let Some(notice) = self.kept.take() else {
+        let Some(notice) = self.held.take() else {
             unreachable!()
         };
         match core.notice(sink, notice) {
             Ok(effects) => Ok(effects),
             Err(back) => {
-                self.kept = Some(back);
+                self.held = Some(back);
                 Err(NoMemory)
             }
         }
@@ -56,7 +56,7 @@ impl CoreEnd {
 
     // The first message that waits for the sink is posted, if the inbox isn't full.
     fn post_one<R: Wait>(&mut self, rt: &R, core: &mut CellCore, sink: SinkId) -> bool
-        requires kept { IsKept spec_of core.old.state }
+        requires consistent { IsConsistent spec_of core.old.state }
         requires heard { (s : SinkSpec) × (slice_get core.old.state.sinks sink.0 ≡ Some s) × IsHeard core.old.state sink.0 s (ends_of self.old) }
         ensures posts { result ≡ true → PostsOne sink core.old.state core.new.state (ends_of self.old) (ends_of self.new) }
         ensures stops { result ≡ false → (core.new.state ≡ core.old.state) × (ends_of self.new ≡ ends_of self.old) × HandsAll sink core.new.state (ends_of self.new) }
@@ -78,7 +78,7 @@ impl CoreEnd {
 
     /// The messages that wait for the sink are posted, in order, until none waits or the inbox is full. Answers how many were.
     pub(crate) fn post_waiting<R: Wait>(&mut self, rt: &R, core: &mut CellCore, sink: SinkId) -> u64
-        requires kept { IsKept spec_of core.old.state }
+        requires consistent { IsConsistent spec_of core.old.state }
         requires heard { (s : SinkSpec) × (slice_get core.old.state.sinks sink.0 ≡ Some s) × IsHeard core.old.state sink.0 s (ends_of self.old) }
         ensures posts { PostsMany sink result core.old.state core.new.state (ends_of self.old) (ends_of self.new) }
         ensures until { HandsAll sink core.new.state (ends_of self.new) }

@@ -35,7 +35,7 @@ impl<C: Recorder<CoreEntry>> Model for CoreState<C> {
 
     ghost view = { λ s. record { began = s.began.value.state; cell = cell_of s.parts; calls = calls_in s.parts } };
 
-    ghost invariant = { λ s. IsCell C.told s.began.value.state (cell_of s.parts) };
+    ghost invariant = { λ s. IsCell C.visible s.began.value.state (cell_of s.parts) };
 }
 
 impl<C: Recorder<CoreEntry>> CoreState<C> {
@@ -43,7 +43,7 @@ impl<C: Recorder<CoreEntry>> CoreState<C> {
     /// sink's sample spec. Takes no memory.
     pub fn new(core: CellCore, recorder: C, ends: CoreEnds) -> CoreState<C>
         requires begins { Begins core.state (map ends_of ends.items) }
-        requires none { IfSome (C.told recorder) (λ entries. entries ≡ []) }
+        requires none { IfSome (C.visible recorder) (λ entries. entries ≡ []) }
         ensures { result ≡ record { began = core.state; cell = first_cell core.state recorder (map ends_of ends.items); calls = map calls_of ends.items } }
     {
         CoreState {
@@ -62,11 +62,11 @@ impl<C: Recorder<CoreEntry>> CoreState<C> {
         step: CoreStep,
     ) -> Result<Option<Effects>, StepFault>
         requires asked { IsAsked step }
-        ensures gives { StepGives C.told step self.old.cell self.new.cell result }
+        ensures gives { StepGives C.visible step self.old.cell self.new.cell result }
         ensures stops { Stops step self.new.cell.logged.state self.old.calls self.new.calls result }
-        ensures said { StepSays C.limit C.told C.faults C.fulls result self.old.cell.logged.recorder self.new.cell.logged.recorder }
+        ensures said { StepSays C.limit C.visible C.faults C.fulls result self.old.cell.logged.recorder self.new.cell.logged.recorder }
         ensures began { self.new.began ≡ self.old.began }
-        ensures history { IsCell C.told self.new.began self.new.cell }
+        ensures history { IsCell C.visible self.new.began self.new.cell }
     {
         self.parts.step(rt, alloc, step)
     }
@@ -81,7 +81,7 @@ impl<C: Recorder<CoreEntry>> CoreState<C> {
     /// All that it is made of. Takes no memory.
     pub fn into_parts(self) -> CoreParts<C>
         ensures parts { cell_of result ≡ self.cell }
-        ensures history { IsCell C.told self.began (cell_of result) }
+        ensures history { IsCell C.visible self.began (cell_of result) }
     {
         self.parts
     }

@@ -10,12 +10,12 @@ use Rattle.px_names.specs.Names.{Naming, same_text}
 use Rattle.px_reply.specs.declared.info.ClientInfo.{ClientInfo}
 use Rattle.px_reply.specs.Front.{reply_to}
 use Rattle.px_reply.specs.Info.{with_client, clients_reply}
-use Rattle.px_plan.specs.declared.change.Change.{Change}
-use Rattle.px_plan.specs.declared.change.Change.TheVariants.{Authed, Named, Masked, Ended}
-use Rattle.px_plan.specs.declared.input.Connection.{Connection}
-use Rattle.px_plan.specs.declared.sending.Reason.TheVariants.{Killed}
-use Rattle.px_plan.specs.Plan.{Planned, replied}
-use Rattle.px_plan.specs.Row.{Row, ◌>>=◌, check, present}
+use Rattle.px_outcome.specs.declared.change.Change.{Change}
+use Rattle.px_outcome.specs.declared.change.Change.TheVariants.{Authed, Named, Masked, Ended}
+use Rattle.px_outcome.specs.declared.input.Connection.{Connection}
+use Rattle.px_outcome.specs.declared.sending.Reason.TheVariants.{Killed}
+use Rattle.px_outcome.specs.Outcome.{OutcomeParts, replied}
+use Rattle.px_outcome.specs.Handled.{Handled, ◌>>=◌, check, present}
 use Rattle.px_ctl_info.specs.Properties.{text_under}
 
 -- ---- a client is let in, and says what it is
@@ -29,11 +29,11 @@ abbrev pub version_in : ℕ → ℕ
 version_in version = version % 2 ^ 16
 
 -- a connection is let in
-abbrev pub let_in : {M G : Type 0} → Connection → ℕ → Planned M G
+abbrev pub let_in : {M G : Type 0} → Connection → ℕ → OutcomeParts M G
 let_in me tag = replied (reply_to tag ++ number SERVER_VERSION) (Authed me.conn SERVER_VERSION ∷ [])
 
 -- AUTH: refused after a successful one, then for an old version, then for another cookie
-abbrev pub auth : {M G : Type 0} → Naming → Connection → ℕ → ℕ → List ℕ → Row (Planned M G)
+abbrev pub auth : {M G : Type 0} → Naming → Connection → ℕ → ℕ → List ℕ → Handled (OutcomeParts M G)
 auth names me tag version cookie = do
   first ← check (not (is_some me.version)) BadState
   spoken ← check (nat_le SERVER_VERSION (version_in version)) Version
@@ -46,7 +46,7 @@ list_with None list = list
 list_with (Some client) list = updated Replace client.list list
 
 -- SET_CLIENT_NAME: each key of the list is set, and the client's index is told
-abbrev pub set_client_name : {M G : Type 0} → Option Client → Connection → ℕ → List Property → Row (Planned M G)
+abbrev pub set_client_name : {M G : Type 0} → Option Client → Connection → ℕ → List Property → Handled (OutcomeParts M G)
 set_client_name client me tag list = Ok (replied (reply_to tag ++ number me.client) (Named me.conn (list_with client list) ∷ []))
 
 -- ---- what clients there are
@@ -59,13 +59,13 @@ abbrev pub info_of : Client → ClientInfo
 info_of client = record { index = client.index; name = text_under client.list NAME; list = client.list }
 
 -- GET_CLIENT_INFO
-abbrev pub client_info : {M G : Type 0} → Option Client → ℕ → Row (Planned M G)
+abbrev pub client_info : {M G : Type 0} → Option Client → ℕ → Handled (OutcomeParts M G)
 client_info client tag = do
   client ← present client NoEntity
   Ok (replied (with_client (reply_to tag) (info_of client)) [])
 
 -- GET_CLIENT_INFO_LIST
-abbrev pub client_infos : {M G : Type 0} → List Client → ℕ → Row (Planned M G)
+abbrev pub client_infos : {M G : Type 0} → List Client → ℕ → Handled (OutcomeParts M G)
 client_infos clients tag = Ok (replied (clients_reply tag (map info_of clients)) [])
 
 -- ---- what a client hears of
@@ -75,7 +75,7 @@ abbrev pub is_mask : ℕ → Bool
 is_mask mask = nat_eq (mask / 256) 0 || nat_eq (mask / 256) 2
 
 -- SUBSCRIBE
-abbrev pub subscribe : {M G : Type 0} → Connection → ℕ → ℕ → Row (Planned M G)
+abbrev pub subscribe : {M G : Type 0} → Connection → ℕ → ℕ → Handled (OutcomeParts M G)
 subscribe me tag mask = do
   known ← check (is_mask mask) Invalid
   Ok (replied (reply_to tag) (Masked me.conn mask ∷ []))
@@ -94,7 +94,7 @@ abbrev pub killed : {M G : Type 0} → Connection → List (Change M G)
 killed c = cond c.marked [] (Ended c.conn (Some Killed) 0 0 ∷ [])
 
 -- KILL_CLIENT
-abbrev pub kill_client : {M G : Type 0} → Option Connection → ℕ → Row (Planned M G)
+abbrev pub kill_client : {M G : Type 0} → Option Connection → ℕ → Handled (OutcomeParts M G)
 kill_client client tag = do
   c ← present client NoEntity
   Ok (replied (reply_to tag) (killed c))

@@ -11,13 +11,13 @@ use Rattle.px_reply.specs.declared.info.SinkInfo.{SinkInfo}
 use Rattle.px_reply.specs.declared.info.InputInfo.{InputInfo}
 use Rattle.px_reply.specs.Front.{reply_to}
 use Rattle.px_reply.specs.Info.{with_sink, with_input, sinks_reply, inputs_reply}
-use Rattle.px_plan.specs.declared.input.Input.{Input}
-use Rattle.px_plan.specs.declared.target.Target.{Target}
-use Rattle.px_plan.specs.declared.target.Named.{Named}
-use Rattle.px_plan.specs.Input.{goes_on}
-use Rattle.px_plan.specs.Plan.{Planned, replied}
-use Rattle.px_plan.specs.Row.{Row, ◌>>=◌, check, present}
-use Rattle.px_plan.specs.Target.{is_clear, target_of, raw_of}
+use Rattle.px_outcome.specs.declared.input.Input.{Input}
+use Rattle.px_outcome.specs.declared.target.Target.{Target}
+use Rattle.px_outcome.specs.declared.target.Named.{Named}
+use Rattle.px_outcome.specs.Input.{goes_on}
+use Rattle.px_outcome.specs.Outcome.{OutcomeParts, replied}
+use Rattle.px_outcome.specs.Handled.{Handled, ◌>>=◌, check, present}
+use Rattle.px_outcome.specs.Target.{is_clear, target_of, raw_of}
 use Rattle.px_ctl_info.specs.Properties.{STREAM_NAME, text_under}
 
 -- ---- what a packet can say: a name without a zero byte, and up to 32 channels
@@ -45,7 +45,7 @@ abbrev pub group_on : List FlatGroup → Target → Option FlatGroup
 group_on groups sink = slice_get groups sink.index.0
 
 -- GET_SINK_INFO, of the sink that is named
-abbrev pub sink_info : {M G : Type 0} → Named → List FlatGroup → ℕ → Row (Planned M G)
+abbrev pub sink_info : {M G : Type 0} → Named → List FlatGroup → ℕ → Handled (OutcomeParts M G)
 sink_info named groups tag = do
   clear ← check (is_clear named) Invalid
   sink ← present (target_of named) NoEntity
@@ -57,12 +57,12 @@ abbrev pub sinks_with : Target → Option FlatGroup → List SinkInfo
 sinks_with sink None = []
 sinks_with sink (Some group) = sink_of sink group ∷ []
 
-abbrev pub sinks_told : List FlatGroup → List Target → List SinkInfo
-sinks_told groups sinks = flat_map (λ s. sinks_with s (group_on groups s)) sinks
+abbrev pub sink_info_list : List FlatGroup → List Target → List SinkInfo
+sink_info_list groups sinks = flat_map (λ s. sinks_with s (group_on groups s)) sinks
 
 -- GET_SINK_INFO_LIST
-abbrev pub sink_infos : {M G : Type 0} → List Target → List FlatGroup → ℕ → Row (Planned M G)
-sink_infos sinks groups tag = Ok (replied (sinks_reply tag (sinks_told groups sinks)) [])
+abbrev pub sink_infos : {M G : Type 0} → List Target → List FlatGroup → ℕ → Handled (OutcomeParts M G)
+sink_infos sinks groups tag = Ok (replied (sinks_reply tag (sink_info_list groups sinks)) [])
 
 -- ---- sink inputs, each as a member of its sink's group, and with its property list
 
@@ -88,7 +88,7 @@ input_of x m list = record {
 }
 
 -- GET_SINK_INPUT_INFO, of this input
-abbrev pub input_info : {M G : Type 0} → Option Input → List FlatGroup → List InputList → ℕ → Row (Planned M G)
+abbrev pub input_info : {M G : Type 0} → Option Input → List FlatGroup → List InputList → ℕ → Handled (OutcomeParts M G)
 input_info input groups lists tag = do
   x ← present input NoEntity
   m ← present (member_on groups x) NoEntity
@@ -99,12 +99,12 @@ abbrev pub inputs_with : List InputList → Input → Option Member → List Inp
 inputs_with lists x None = []
 inputs_with lists x (Some m) = input_of x m (list_of lists x.index) ∷ []
 
-abbrev pub told_of : List FlatGroup → List InputList → Input → List InputInfo
-told_of groups lists x = cond (goes_on x) (inputs_with lists x (member_on groups x)) []
+abbrev pub input_info_of : List FlatGroup → List InputList → Input → List InputInfo
+input_info_of groups lists x = cond (goes_on x) (inputs_with lists x (member_on groups x)) []
 
-abbrev pub inputs_told : List FlatGroup → List InputList → List Input → List InputInfo
-inputs_told groups lists inputs = flat_map (told_of groups lists) inputs
+abbrev pub input_info_list : List FlatGroup → List InputList → List Input → List InputInfo
+input_info_list groups lists inputs = flat_map (input_info_of groups lists) inputs
 
 -- GET_SINK_INPUT_INFO_LIST: those that have ended aren't told
-abbrev pub input_infos : {M G : Type 0} → List Input → List FlatGroup → List InputList → ℕ → Row (Planned M G)
-input_infos inputs groups lists tag = Ok (replied (inputs_reply tag (inputs_told groups lists inputs)) [])
+abbrev pub input_infos : {M G : Type 0} → List Input → List FlatGroup → List InputList → ℕ → Handled (OutcomeParts M G)
+input_infos inputs groups lists tag = Ok (replied (inputs_reply tag (input_info_list groups lists inputs)) [])

@@ -10,11 +10,11 @@ use Rattle.px_names.specs.declared.client.Client.{Client}
 use Rattle.px_names.specs.declared.input_lists.InputList.{InputList}
 use Rattle.px_names.specs.InputLists.{list_of as list_of_input}
 use Rattle.px_reply.specs.Front.{reply_to}
-use Rattle.px_plan.specs.declared.change.Change.TheVariants.{Named, Described}
-use Rattle.px_plan.specs.declared.input.Connection.{Connection}
-use Rattle.px_plan.specs.declared.input.Input.{Input}
-use Rattle.px_plan.specs.Plan.{Planned, replied}
-use Rattle.px_plan.specs.Row.{Row, ◌>>=◌, check, present}
+use Rattle.px_outcome.specs.declared.change.Change.TheVariants.{Named, Described}
+use Rattle.px_outcome.specs.declared.input.Connection.{Connection}
+use Rattle.px_outcome.specs.declared.input.Input.{Input}
+use Rattle.px_outcome.specs.Outcome.{OutcomeParts, replied}
+use Rattle.px_outcome.specs.Handled.{Handled, ◌>>=◌, check, present}
 
 -- ---- what a list says of its object's name
 
@@ -55,13 +55,13 @@ without_keys list keys = fold without list keys
 -- ---- the commands
 
 -- UPDATE_CLIENT_PROPLIST
-abbrev pub update_client : {M G : Type 0} → Option Client → Connection → ℕ → ℕ → List Property → Row (Planned M G)
+abbrev pub update_client : {M G : Type 0} → Option Client → Connection → ℕ → ℕ → List Property → Handled (OutcomeParts M G)
 update_client client me tag number list = do
   mode ← present (mode_of number) Invalid
   Ok (replied (reply_to tag) (Named me.conn (updated mode (list_of client) list) ∷ []))
 
 -- REMOVE_CLIENT_PROPLIST
-abbrev pub remove_client : {M G : Type 0} → Option Client → Connection → ℕ → List (List ℕ) → Row (Planned M G)
+abbrev pub remove_client : {M G : Type 0} → Option Client → Connection → ℕ → List (List ℕ) → Handled (OutcomeParts M G)
 remove_client client me tag keys = do
   there ← check (has_keys (list_of client) keys) NoEntity
   Ok (replied (reply_to tag) (Named me.conn (without_keys (list_of client) keys) ∷ []))
@@ -69,14 +69,14 @@ remove_client client me tag keys = do
 -- ---- and those on a connection's stream, whose input is there and has a list among these
 
 -- UPDATE_PLAYBACK_STREAM_PROPLIST
-abbrev pub update_stream : {M G : Type 0} → Option Input → List InputList → ℕ → ℕ → List Property → Row (Planned M G)
+abbrev pub update_stream : {M G : Type 0} → Option Input → List InputList → ℕ → ℕ → List Property → Handled (OutcomeParts M G)
 update_stream stream lists tag number list = do
   x ← present stream NoEntity
   mode ← present (mode_of number) Invalid
   Ok (replied (reply_to tag) (Described (Input.index x) (updated mode (list_of_input lists (Input.index x)) list) ∷ []))
 
 -- REMOVE_PLAYBACK_STREAM_PROPLIST
-abbrev pub remove_stream : {M G : Type 0} → Option Input → List InputList → ℕ → List (List ℕ) → Row (Planned M G)
+abbrev pub remove_stream : {M G : Type 0} → Option Input → List InputList → ℕ → List (List ℕ) → Handled (OutcomeParts M G)
 remove_stream stream lists tag keys = do
   x ← present stream NoEntity
   there ← check (has_keys (list_of_input lists (Input.index x)) keys) NoEntity
@@ -99,7 +99,7 @@ abbrev pub with_name : List Property → List ℕ → List Property
 with_name list name = with_value list STREAM_NAME (name ++ 0 ∷ [])
 
 -- SET_PLAYBACK_STREAM_NAME
-abbrev pub set_stream_name : {M G : Type 0} → Option Input → List InputList → ℕ → Option (List ℕ) → Row (Planned M G)
+abbrev pub set_stream_name : {M G : Type 0} → Option Input → List InputList → ℕ → Option (List ℕ) → Handled (OutcomeParts M G)
 set_stream_name stream lists tag name = do
   x ← present stream NoEntity
   text ← present (name_in name) Invalid

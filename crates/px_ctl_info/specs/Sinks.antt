@@ -8,31 +8,31 @@ use Rattle.px_names.specs.Names.{Naming, NO_INDEX, sink_named}
 use Rattle.px_reply.specs.declared.info.ServerInfo.{ServerInfo}
 use Rattle.px_reply.specs.Front.{reply_to}
 use Rattle.px_reply.specs.Info.{server_reply}
-use Rattle.px_plan.specs.declared.change.Change.TheVariants.{Defaulted}
-use Rattle.px_plan.specs.declared.refusal.Refusal.TheVariants.{Code}
-use Rattle.px_plan.specs.declared.target.Target.{Target}
-use Rattle.px_plan.specs.declared.target.Named.{Named}
-use Rattle.px_plan.specs.Plan.{Planned, replied}
-use Rattle.px_plan.specs.Row.{Row, ◌>>=◌, present}
-use Rattle.px_plan.specs.Target.{raw_of, target_of}
+use Rattle.px_outcome.specs.declared.change.Change.TheVariants.{Defaulted}
+use Rattle.px_outcome.specs.declared.refusal.Refusal.TheVariants.{Code}
+use Rattle.px_outcome.specs.declared.target.Target.{Target}
+use Rattle.px_outcome.specs.declared.target.Named.{Named}
+use Rattle.px_outcome.specs.Outcome.{OutcomeParts, replied}
+use Rattle.px_outcome.specs.Handled.{Handled, ◌>>=◌, present}
+use Rattle.px_outcome.specs.Target.{raw_of, target_of}
 
 -- what is found, or the error that it isn't
-abbrev pub found : {A : Type 0} → Result A ErrorCode → Row A
+abbrev pub found : {A : Type 0} → Result A ErrorCode → Handled A
 found (Ok x) = Ok x
 found (Err code) = Err (Code code)
 
 -- the sink with a name, which must be given
-abbrev pub sink_called : Naming → Option (List ℕ) → Row SinkId
+abbrev pub sink_called : Naming → Option (List ℕ) → Handled SinkId
 sink_called names name = found (sink_named names NO_INDEX name false)
 
 -- LOOKUP_SINK: the sink's index
-abbrev pub lookup_sink : {M G : Type 0} → Naming → ℕ → Option (List ℕ) → Row (Planned M G)
+abbrev pub lookup_sink : {M G : Type 0} → Naming → ℕ → Option (List ℕ) → Handled (OutcomeParts M G)
 lookup_sink names tag name = do
   sink ← sink_called names name
   Ok (replied (reply_to tag ++ number sink.0) [])
 
 -- SET_DEFAULT_SINK: the sink is the default sink
-abbrev pub set_default_sink : {M G : Type 0} → Naming → ℕ → Option (List ℕ) → Row (Planned M G)
+abbrev pub set_default_sink : {M G : Type 0} → Naming → ℕ → Option (List ℕ) → Handled (OutcomeParts M G)
 set_default_sink names tag name = do
   sink ← sink_called names name
   Ok (replied (reply_to tag) (Defaulted sink ∷ []))
@@ -42,7 +42,7 @@ abbrev pub server_of : Target → ServerInfo
 server_of sink = record { spec = raw_of sink.spec; name = sink.name; map = sink.map }
 
 -- GET_SERVER_INFO, where this names the default sink
-abbrev pub server_info : {M G : Type 0} → Named → ℕ → Row (Planned M G)
+abbrev pub server_info : {M G : Type 0} → Named → ℕ → Handled (OutcomeParts M G)
 server_info named tag = do
   sink ← present (target_of named) NoEntity
   Ok (replied (server_reply tag (server_of sink)) [])

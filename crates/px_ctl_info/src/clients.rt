@@ -5,12 +5,12 @@ ghost use Rattle.std.specs.Prelude.{◌≡◌, ◌∷◌, [], nat_le, IfOk, Ok};
 ghost use Rattle.std.specs.Option.{option_map};
 ghost use Rattle.px_tag.specs.PropList.{updated};
 ghost use Rattle.px_tag.specs.declared.mode.Mode.TheVariants.{Replace};
-ghost use Rattle.px_plan.specs.declared.change.Change.TheVariants.{Named};
-ghost use Rattle.px_plan.specs.Row.{Plans};
+ghost use Rattle.px_outcome.specs.declared.change.Change.TheVariants.{Named};
+ghost use Rattle.px_outcome.specs.Handled.{HandledAs};
 ghost use Rattle.px_ctl_info.specs.Clients.{SERVER_VERSION, version_in, let_in, auth, list_with, set_client_name, is_mask, subscribe};
 
 use px_names::{Client, Names};
-use px_plan::{Change, Connection, Plan, Refusal, check};
+use px_outcome::{Change, Connection, Refusal, StepOutcome, check};
 use px_tag::{Mode, PropList};
 use px_types::ErrorCode;
 use px_types::limits::PROTOCOL_VERSION;
@@ -24,13 +24,17 @@ fn is_spoken(version: u32) -> bool
 }
 
 // A connection is let in.
-fn let_in<M: Drop, G: Drop>(alloc: Global, me: &Connection, tag: u32) -> Result<Plan<M, G>, Refusal>
-    ensures { Plans result (Ok (let_in me.now tag)) }
+fn let_in<M: Drop, G: Drop>(
+    alloc: Global,
+    me: &Connection,
+    tag: u32,
+) -> Result<StepOutcome<M, G>, Refusal>
+    ensures { HandledAs result (Ok (let_in me.now tag)) }
 {
     let reply = px_reply::auth(alloc, tag, u32::from(PROTOCOL_VERSION))?;
     let mut changes = Vec::new(alloc);
     changes.push(Change::Authed(me.conn, PROTOCOL_VERSION))?;
-    Ok(Plan::replied(alloc, reply, changes))
+    Ok(StepOutcome::replied(alloc, reply, changes))
 }
 
 /// AUTH of a client that speaks a version (the lower half of the number) and shows a cookie. Refused, by the first of these
@@ -42,8 +46,8 @@ pub fn auth<M: Drop, G: Drop>(
     tag: u32,
     version: u32,
     cookie: &[u8],
-) -> Result<Plan<M, G>, Refusal>
-    ensures { Plans result (auth names.now me.now tag version cookie.now) }
+) -> Result<StepOutcome<M, G>, Refusal>
+    ensures { HandledAs result (auth names.now me.now tag version cookie.now) }
 {
     check(me.version.is_none(), ErrorCode::BadState)?;
     check(is_spoken(version), ErrorCode::Version)?;
@@ -93,12 +97,12 @@ pub fn set_client_name<M: Drop, G: Drop>(
     me: &Connection,
     tag: u32,
     list: PropList,
-) -> Result<Plan<M, G>, Refusal>
-    ensures { Plans result (set_client_name (option_map (λ client. client.now) client.entry) me.now tag list) }
+) -> Result<StepOutcome<M, G>, Refusal>
+    ensures { HandledAs result (set_client_name (option_map (λ client. client.now) client.entry) me.now tag list) }
 {
     let changes = named(alloc, client, me, list)?;
     let reply = px_reply::client_index(alloc, tag, me.client)?;
-    Ok(Plan::replied(alloc, reply, changes))
+    Ok(StepOutcome::replied(alloc, reply, changes))
 }
 
 // Whether these bits are for facilities that there are.
@@ -115,12 +119,12 @@ pub fn subscribe<M: Drop, G: Drop>(
     me: &Connection,
     tag: u32,
     mask: u32,
-) -> Result<Plan<M, G>, Refusal>
-    ensures { Plans result (subscribe me.now tag mask) }
+) -> Result<StepOutcome<M, G>, Refusal>
+    ensures { HandledAs result (subscribe me.now tag mask) }
 {
     check(is_mask(mask), ErrorCode::Invalid)?;
     let reply = px_reply::plain(alloc, tag)?;
     let mut changes = Vec::new(alloc);
     changes.push(Change::Masked(me.conn, mask))?;
-    Ok(Plan::replied(alloc, reply, changes))
+    Ok(StepOutcome::replied(alloc, reply, changes))
 }

@@ -8,19 +8,19 @@ ghost use Rattle.px_flat.specs.FlatVolume.{member_of};
 ghost use Rattle.px_names.specs.InputLists.{list_of};
 ghost use Rattle.px_reply.specs.Front.{reply_to};
 ghost use Rattle.px_reply.specs.Info.{with_sink, with_input};
-ghost use Rattle.px_plan.specs.declared.input.Input.{Input};
-ghost use Rattle.px_plan.specs.declared.target.Target.{Target};
-ghost use Rattle.px_plan.specs.Input.{goes_on};
-ghost use Rattle.px_plan.specs.Plan.{replied};
-ghost use Rattle.px_plan.specs.Row.{Plans};
-ghost use Rattle.px_plan.specs.Target.{IsTarget, IsNamed};
+ghost use Rattle.px_outcome.specs.declared.input.Input.{Input};
+ghost use Rattle.px_outcome.specs.declared.target.Target.{Target};
+ghost use Rattle.px_outcome.specs.Input.{goes_on};
+ghost use Rattle.px_outcome.specs.Outcome.{replied};
+ghost use Rattle.px_outcome.specs.Handled.{HandledAs};
+ghost use Rattle.px_outcome.specs.Target.{IsTarget, IsNamed};
 ghost use Rattle.px_ctl_info.specs.Properties.{STREAM_NAME, text_under};
-ghost use Rattle.px_ctl_info.specs.Infos.{IsSinkInfo, IsInputInfo, sink_of, group_on, sink_info, sinks_told, sink_infos, member_on, input_of, input_info, inputs_told, input_infos};
+ghost use Rattle.px_ctl_info.specs.Infos.{IsSinkInfo, IsInputInfo, sink_of, group_on, sink_info, sink_info_list, sink_infos, member_on, input_of, input_info, input_info_list, input_infos};
 
 use crate::properties::text_under;
 use px_flat::{Group, Member};
 use px_names::InputLists;
-use px_plan::{Input, Named, Plan, Refusal, Standing, Target, check, present, raw_of};
+use px_outcome::{Input, Named, Refusal, Standing, StepOutcome, Target, check, present, raw_of};
 use px_reply::{InputInfo, SinkInfo};
 use px_tag::{PropList, RawMap, RawVolume};
 use px_types::limits::PROTOCOL_VERSION;
@@ -33,7 +33,7 @@ use std::alloc::Global;
 fn sink_of(alloc: Global, sink: &Target, group: &Group) -> Mem<SinkInfo>
     requires { IsTarget sink.now }
     ensures value { IfOk result (λ info. info ≡ sink_of sink.now group.now) }
-    ensures told { IfOk result IsSinkInfo }
+    ensures writable { IfOk result IsSinkInfo }
 {
     Ok(SinkInfo {
         index: u32::from(sink.index.0),
@@ -58,13 +58,13 @@ fn sink_reply<M: Drop, G: Drop>(
     sink: &Target,
     group: &Group,
     tag: u32,
-) -> Result<Plan<M, G>, Refusal>
+) -> Result<StepOutcome<M, G>, Refusal>
     requires { IsTarget sink.now }
-    ensures { Plans result (Ok (replied (with_sink (reply_to tag) (sink_of sink.now group.now)) [])) }
+    ensures { HandledAs result (Ok (replied (with_sink (reply_to tag) (sink_of sink.now group.now)) [])) }
 {
     let info = sink_of(alloc, sink, group)?;
     let reply = px_reply::sink_info(alloc, tag, PROTOCOL_VERSION, &info)?;
-    Ok(Plan::replied(alloc, reply, Vec::new(alloc)))
+    Ok(StepOutcome::replied(alloc, reply, Vec::new(alloc)))
 }
 
 /// GET_SINK_INFO of the sink that is named, where each sink has the group of its index. Refused: `Invalid` where it isn't clear
@@ -74,9 +74,9 @@ pub fn sink_info<M: Drop, G: Drop>(
     named: Named,
     groups: &[Group],
     tag: u32,
-) -> Result<Plan<M, G>, Refusal>
+) -> Result<StepOutcome<M, G>, Refusal>
     requires { IsNamed named }
-    ensures { Plans result (sink_info named groups.now tag) }
+    ensures { HandledAs result (sink_info named groups.now tag) }
 {
     check(named.is_clear(), ErrorCode::Invalid)?;
     let sink = present(named.target(), ErrorCode::NoEntity)?;
@@ -90,8 +90,8 @@ pub fn sink_info<M: Drop, G: Drop>(
 #[tactic(auto, using(crate::proofs::Sayable::one_more_sink))]
 fn add_sink(alloc: Global, infos: &mut Vec<SinkInfo>, sink: &Target, groups: &[Group]) -> Mem<()>
     requires { IsTarget sink.now }
-    ensures value { OnOk result ((more : List Target) → infos.new.items ++ sinks_told groups.now more ≡ infos.old.items ++ sinks_told groups.now (sink.now ∷ more)) }
-    ensures told { OnOk result (All IsSinkInfo infos.old.items → All IsSinkInfo infos.new.items) }
+    ensures value { OnOk result ((more : List Target) → infos.new.items ++ sink_info_list groups.now more ≡ infos.old.items ++ sink_info_list groups.now (sink.now ∷ more)) }
+    ensures writable { OnOk result (All IsSinkInfo infos.old.items → All IsSinkInfo infos.new.items) }
 {
     if let Some(group) = group_on(groups, sink) {
         infos.push(sink_of(alloc, sink, group)?)?;
@@ -100,10 +100,10 @@ fn add_sink(alloc: Global, infos: &mut Vec<SinkInfo>, sink: &Target, groups: &[G
 }
 
 /// What is told of each of these sinks that has a group, in their order.
-pub fn sinks_told(alloc: Global, sinks: &[Target], groups: &[Group]) -> Mem<Vec<SinkInfo>>
+pub fn sink_info_list(alloc: Global, sinks: &[Target], groups: &[Group]) -> Mem<Vec<SinkInfo>>
     requires { All IsTarget sinks.now }
-    ensures value { IfOk result (λ infos. infos.items ≡ sinks_told groups.now sinks.now) }
-    ensures told { IfOk result (λ infos. All IsSinkInfo infos.items) }
+    ensures value { IfOk result (λ infos. infos.items ≡ sink_info_list groups.now sinks.now) }
+    ensures writable { IfOk result (λ infos. All IsSinkInfo infos.items) }
 {
     let mut infos = Vec::new(alloc);
     for sink in sinks {
@@ -118,13 +118,13 @@ pub fn sink_infos<M: Drop, G: Drop>(
     sinks: &[Target],
     groups: &[Group],
     tag: u32,
-) -> Result<Plan<M, G>, Refusal>
+) -> Result<StepOutcome<M, G>, Refusal>
     requires { All IsTarget sinks.now }
-    ensures { Plans result (sink_infos sinks.now groups.now tag) }
+    ensures { HandledAs result (sink_infos sinks.now groups.now tag) }
 {
-    let infos = sinks_told(alloc, sinks, groups)?;
+    let infos = sink_info_list(alloc, sinks, groups)?;
     let reply = px_reply::sink_infos(alloc, tag, PROTOCOL_VERSION, infos.as_slice())?;
-    Ok(Plan::replied(alloc, reply, Vec::new(alloc)))
+    Ok(StepOutcome::replied(alloc, reply, Vec::new(alloc)))
 }
 
 // ---- sink inputs
@@ -161,7 +161,7 @@ fn name_of(alloc: Global, list: &PropList) -> Mem<Option<Text>>
 fn input_of(alloc: Global, x: &Input, m: &Member, list: PropList) -> Mem<InputInfo>
     requires { x.now.spec.channels ≤ 32 }
     ensures value { IfOk result (λ info. info ≡ input_of x.now m.now list) }
-    ensures told { IfOk result IsInputInfo }
+    ensures writable { IfOk result IsInputInfo }
 {
     Ok(InputInfo {
         index: x.index.0,
@@ -177,10 +177,10 @@ fn input_of(alloc: Global, x: &Input, m: &Member, list: PropList) -> Mem<InputIn
 }
 
 // What is told of an input that is a member.
-fn told_of(alloc: Global, x: &Input, m: &Member, lists: &InputLists) -> Mem<InputInfo>
+fn input_info_of(alloc: Global, x: &Input, m: &Member, lists: &InputLists) -> Mem<InputInfo>
     requires { x.now.spec.channels ≤ 32 }
     ensures value { IfOk result (λ info. info ≡ input_of x.now m.now (list_of lists.now.items x.now.index)) }
-    ensures told { IfOk result IsInputInfo }
+    ensures writable { IfOk result IsInputInfo }
 {
     match lists.copy_of(x.index) {
         Ok(list) => input_of(alloc, x, m, list),
@@ -195,13 +195,13 @@ fn input_reply<M: Drop, G: Drop>(
     m: &Member,
     lists: &InputLists,
     tag: u32,
-) -> Result<Plan<M, G>, Refusal>
+) -> Result<StepOutcome<M, G>, Refusal>
     requires { x.now.spec.channels ≤ 32 }
-    ensures { Plans result (Ok (replied (with_input (reply_to tag) (input_of x.now m.now (list_of lists.now.items x.now.index))) [])) }
+    ensures { HandledAs result (Ok (replied (with_input (reply_to tag) (input_of x.now m.now (list_of lists.now.items x.now.index))) [])) }
 {
-    let info = told_of(alloc, x, m, lists)?;
+    let info = input_info_of(alloc, x, m, lists)?;
     let reply = px_reply::input_info(alloc, tag, &info)?;
-    Ok(Plan::replied(alloc, reply, Vec::new(alloc)))
+    Ok(StepOutcome::replied(alloc, reply, Vec::new(alloc)))
 }
 
 /// GET_SINK_INPUT_INFO of this input, of at most 32 channels, where each sink has the group of its index. Refused: `NoEntity`
@@ -212,9 +212,9 @@ pub fn input_info<M: Drop, G: Drop>(
     groups: &[Group],
     lists: &InputLists,
     tag: u32,
-) -> Result<Plan<M, G>, Refusal>
+) -> Result<StepOutcome<M, G>, Refusal>
     requires { IfSome input (λ x. x.spec.channels ≤ 32) }
-    ensures { Plans result (input_info input groups.now lists.now.items tag) }
+    ensures { HandledAs result (input_info input groups.now lists.now.items tag) }
 {
     let x = present(input, ErrorCode::NoEntity)?;
     let Some(m) = member_on(groups, &x) else {
@@ -240,28 +240,28 @@ fn add_input(
     lists: &InputLists,
 ) -> Mem<()>
     requires { x.now.spec.channels ≤ 32 }
-    ensures value { OnOk result ((more : List Input) → infos.new.items ++ inputs_told groups.now lists.now.items more ≡ infos.old.items ++ inputs_told groups.now lists.now.items (x.now ∷ more)) }
-    ensures told { OnOk result (All IsInputInfo infos.old.items → All IsInputInfo infos.new.items) }
+    ensures value { OnOk result ((more : List Input) → infos.new.items ++ input_info_list groups.now lists.now.items more ≡ infos.old.items ++ input_info_list groups.now lists.now.items (x.now ∷ more)) }
+    ensures writable { OnOk result (All IsInputInfo infos.old.items → All IsInputInfo infos.new.items) }
 {
     if !goes_on(x) {
         return Ok(());
     }
     if let Some(m) = member_on(groups, x) {
-        infos.push(told_of(alloc, x, m, lists)?)?;
+        infos.push(input_info_of(alloc, x, m, lists)?)?;
     }
     Ok(())
 }
 
 /// What is told of each of these inputs that goes on and is a member of its sink's group, in their order.
-pub fn inputs_told(
+pub fn input_info_list(
     alloc: Global,
     inputs: &[Input],
     groups: &[Group],
     lists: &InputLists,
 ) -> Mem<Vec<InputInfo>>
     requires { All (λ x. (Input.spec x).channels ≤ 32) inputs.now }
-    ensures value { IfOk result (λ infos. infos.items ≡ inputs_told groups.now lists.now.items inputs.now) }
-    ensures told { IfOk result (λ infos. All IsInputInfo infos.items) }
+    ensures value { IfOk result (λ infos. infos.items ≡ input_info_list groups.now lists.now.items inputs.now) }
+    ensures writable { IfOk result (λ infos. All IsInputInfo infos.items) }
 {
     let mut infos = Vec::new(alloc);
     for x in inputs {
@@ -278,11 +278,11 @@ pub fn input_infos<M: Drop, G: Drop>(
     groups: &[Group],
     lists: &InputLists,
     tag: u32,
-) -> Result<Plan<M, G>, Refusal>
+) -> Result<StepOutcome<M, G>, Refusal>
     requires { All (λ x. (Input.spec x).channels ≤ 32) inputs.now }
-    ensures { Plans result (input_infos inputs.now groups.now lists.now.items tag) }
+    ensures { HandledAs result (input_infos inputs.now groups.now lists.now.items tag) }
 {
-    let infos = inputs_told(alloc, inputs, groups, lists)?;
+    let infos = input_info_list(alloc, inputs, groups, lists)?;
     let reply = px_reply::input_infos(alloc, tag, infos.as_slice())?;
-    Ok(Plan::replied(alloc, reply, Vec::new(alloc)))
+    Ok(StepOutcome::replied(alloc, reply, Vec::new(alloc)))
 }

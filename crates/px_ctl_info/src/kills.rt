@@ -1,11 +1,11 @@
 //! KILL_CLIENT (PulseAudio: `command_kill` of `pulsecore/protocol-native.c`).
 
 ghost use Rattle.std.specs.Prelude.{◌≡◌, IfOk};
-ghost use Rattle.px_plan.specs.Row.{Plans};
+ghost use Rattle.px_outcome.specs.Handled.{HandledAs};
 ghost use Rattle.std.specs.Option.{option_map};
 ghost use Rattle.px_ctl_info.specs.Clients.{connection_with, killed, kill_client};
 
-use px_plan::{Change, Connection, Plan, Reason, Refusal, present};
+use px_outcome::{Change, Connection, Reason, Refusal, StepOutcome, present};
 use px_types::{ErrorCode, Mem};
 use std::alloc::Global;
 
@@ -48,11 +48,11 @@ pub fn kill_client<M: Drop, G: Drop>(
     alloc: Global,
     client: Option<Connection>,
     tag: u32,
-) -> Result<Plan<M, G>, Refusal>
-    ensures { Plans result (kill_client client tag) }
+) -> Result<StepOutcome<M, G>, Refusal>
+    ensures { HandledAs result (kill_client client tag) }
 {
     let c = present(client, ErrorCode::NoEntity)?;
     let changes = killed(alloc, c)?;
     let reply = px_reply::plain(alloc, tag)?;
-    Ok(Plan::replied(alloc, reply, changes))
+    Ok(StepOutcome::replied(alloc, reply, changes))
 }

@@ -7,14 +7,14 @@ ghost use Rattle.std.specs.Option.{option_map};
 ghost use Rattle.px_tag.specs.Item.{is_text};
 ghost use Rattle.px_tag.specs.PropList.{has_key, without, updated};
 ghost use Rattle.px_reply.specs.Front.{reply_to};
-ghost use Rattle.px_plan.specs.declared.change.Change.TheVariants.{Named};
-ghost use Rattle.px_plan.specs.Plan.{replied};
-ghost use Rattle.px_plan.specs.Row.{Plans};
+ghost use Rattle.px_outcome.specs.declared.change.Change.TheVariants.{Named};
+ghost use Rattle.px_outcome.specs.Outcome.{replied};
+ghost use Rattle.px_outcome.specs.Handled.{HandledAs};
 ghost use Rattle.px_ctl_info.specs.Properties.{text_in, text_under, list_of, mode_of, has_keys, without_keys, update_client, remove_client};
 
 use px_cmd::Keys;
 use px_names::Client;
-use px_plan::{Change, Connection, Plan, Refusal, check, present};
+use px_outcome::{Change, Connection, Refusal, StepOutcome, check, present};
 use px_tag::{Mode, PropList};
 use px_types::ErrorCode;
 use std::alloc::Global;
@@ -102,13 +102,13 @@ fn named<M: Drop, G: Drop>(
     me: &Connection,
     tag: u32,
     list: PropList,
-) -> Result<Plan<M, G>, Refusal>
-    ensures { Plans result (Ok (replied (reply_to tag) (Named me.now.conn list ∷ []))) }
+) -> Result<StepOutcome<M, G>, Refusal>
+    ensures { HandledAs result (Ok (replied (reply_to tag) (Named me.now.conn list ∷ []))) }
 {
     let reply = px_reply::plain(alloc, tag)?;
     let mut changes = Vec::new(alloc);
     changes.push(Change::Named(me.conn, list))?;
-    Ok(Plan::replied(alloc, reply, changes))
+    Ok(StepOutcome::replied(alloc, reply, changes))
 }
 
 /// UPDATE_CLIENT_PROPLIST of a connection with this client, by the mode with a number. Refused: `Invalid` for another number
@@ -120,8 +120,8 @@ pub fn update_client<M: Drop, G: Drop>(
     tag: u32,
     number: u32,
     list: &PropList,
-) -> Result<Plan<M, G>, Refusal>
-    ensures { Plans result (update_client (option_map (λ client. client.now) client.entry) me.now tag number list.now) }
+) -> Result<StepOutcome<M, G>, Refusal>
+    ensures { HandledAs result (update_client (option_map (λ client. client.now) client.entry) me.now tag number list.now) }
 {
     let mode = present(mode_of(number), ErrorCode::Invalid)?;
     let made = updated(list_of(alloc, client)?, mode, list)?;
@@ -136,8 +136,8 @@ pub fn remove_client<M: Drop, G: Drop>(
     me: &Connection,
     tag: u32,
     keys: &Keys,
-) -> Result<Plan<M, G>, Refusal>
-    ensures { Plans result (remove_client (option_map (λ client. client.now) client.entry) me.now tag keys.now) }
+) -> Result<StepOutcome<M, G>, Refusal>
+    ensures { HandledAs result (remove_client (option_map (λ client. client.now) client.entry) me.now tag keys.now) }
 {
     let mut made = list_of(alloc, client)?;
     check(has_keys(&made, keys), ErrorCode::NoEntity)?;

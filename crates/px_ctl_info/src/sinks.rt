@@ -4,12 +4,12 @@
 ghost use Rattle.std.specs.Prelude.{◌≡◌, ◌≤◌, IfOk, IsTrue, length};
 ghost use Rattle.std.specs.Option.{option_map};
 ghost use Rattle.px_tag.specs.Item.{is_text};
-ghost use Rattle.px_plan.specs.Row.{Plans};
-ghost use Rattle.px_plan.specs.Target.{IsTarget, IsNamed};
+ghost use Rattle.px_outcome.specs.Handled.{HandledAs};
+ghost use Rattle.px_outcome.specs.Target.{IsTarget, IsNamed};
 ghost use Rattle.px_ctl_info.specs.Sinks.{found, sink_called, lookup_sink, set_default_sink, server_of, server_info};
 
 use px_names::Names;
-use px_plan::{Change, Named, Plan, Refusal, Target, present, raw_of};
+use px_outcome::{Change, Named, Refusal, StepOutcome, Target, present, raw_of};
 use px_reply::ServerInfo;
 use px_tag::RawMap;
 use px_types::limits::NO_INDEX;
@@ -39,12 +39,12 @@ pub fn lookup_sink<M: Drop, G: Drop>(
     names: &Names,
     tag: u32,
     name: Option<&[u8]>,
-) -> Result<Plan<M, G>, Refusal>
-    ensures { Plans result (lookup_sink names.now tag (option_map (λ name. name.now) name.entry)) }
+) -> Result<StepOutcome<M, G>, Refusal>
+    ensures { HandledAs result (lookup_sink names.now tag (option_map (λ name. name.now) name.entry)) }
 {
     let sink = sink_called(names, name)?;
     let reply = px_reply::sink_index(alloc, tag, u32::from(sink.0))?;
-    Ok(Plan::replied(alloc, reply, Vec::new(alloc)))
+    Ok(StepOutcome::replied(alloc, reply, Vec::new(alloc)))
 }
 
 /// SET_DEFAULT_SINK: the sink with the name is the default sink. Refused as LOOKUP_SINK is.
@@ -53,21 +53,21 @@ pub fn set_default_sink<M: Drop, G: Drop>(
     names: &Names,
     tag: u32,
     name: Option<&[u8]>,
-) -> Result<Plan<M, G>, Refusal>
-    ensures { Plans result (set_default_sink names.now tag (option_map (λ name. name.now) name.entry)) }
+) -> Result<StepOutcome<M, G>, Refusal>
+    ensures { HandledAs result (set_default_sink names.now tag (option_map (λ name. name.now) name.entry)) }
 {
     let sink = sink_called(names, name)?;
     let reply = px_reply::plain(alloc, tag)?;
     let mut changes = Vec::new(alloc);
     changes.push(Change::Defaulted(sink))?;
-    Ok(Plan::replied(alloc, reply, changes))
+    Ok(StepOutcome::replied(alloc, reply, changes))
 }
 
 /// What the server is, where this is its default sink.
 pub fn server_of(alloc: Global, sink: &Target) -> Mem<ServerInfo>
     requires { IsTarget sink.now }
     ensures value { IfOk result (λ info. info ≡ server_of sink.now) }
-    ensures told { IfOk result (λ info. IsTrue (is_text info.name) × (info.spec.channels ≤ 32)) }
+    ensures writable { IfOk result (λ info. IsTrue (is_text info.name) × (info.spec.channels ≤ 32)) }
 {
     Ok(ServerInfo {
         spec: raw_of(&sink.spec),
@@ -82,12 +82,12 @@ pub fn server_info<M: Drop, G: Drop>(
     named: Named,
     tag: u32,
     version: u16,
-) -> Result<Plan<M, G>, Refusal>
+) -> Result<StepOutcome<M, G>, Refusal>
     requires { IsNamed named }
-    ensures { Plans result (server_info named tag) }
+    ensures { HandledAs result (server_info named tag) }
 {
     let sink = present(named.target(), ErrorCode::NoEntity)?;
     let info = server_of(alloc, &sink)?;
     let reply = px_reply::server_info(alloc, tag, version, &info)?;
-    Ok(Plan::replied(alloc, reply, Vec::new(alloc)))
+    Ok(StepOutcome::replied(alloc, reply, Vec::new(alloc)))
 }

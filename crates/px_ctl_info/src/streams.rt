@@ -5,9 +5,9 @@
 ghost use Rattle.std.specs.Prelude.{◌≡◌, ◌≤◌, ◌++◌, ◌∷◌, [], IsTrue, IfOk, IfSome, OnOk, Ok, length};
 ghost use Rattle.std.specs.Option.{option_map};
 ghost use Rattle.px_reply.specs.Front.{reply_to};
-ghost use Rattle.px_plan.specs.Plan.{replied};
-ghost use Rattle.px_plan.specs.Row.{Plans};
-ghost use Rattle.px_plan.specs.declared.change.Change.TheVariants.{Described};
+ghost use Rattle.px_outcome.specs.Outcome.{replied};
+ghost use Rattle.px_outcome.specs.Handled.{HandledAs};
+ghost use Rattle.px_outcome.specs.declared.change.Change.TheVariants.{Described};
 ghost use Rattle.px_tag.specs.PropList.{with_value};
 ghost use Rattle.px_names.specs.InputLists.{list_of};
 ghost use Rattle.px_ctl_info.specs.Properties.{STREAM_NAME, update_stream, remove_stream, name_in, with_name, set_stream_name};
@@ -15,7 +15,7 @@ ghost use Rattle.px_ctl_info.specs.Properties.{STREAM_NAME, update_stream, remov
 use crate::properties::{has_keys, mode_of, remove_all, updated};
 use px_cmd::Keys;
 use px_names::InputLists;
-use px_plan::{Change, Input, Plan, Refusal, check, present};
+use px_outcome::{Change, Input, Refusal, StepOutcome, check, present};
 use px_tag::PropList;
 use px_types::{ErrorCode, InputId};
 use std::alloc::Global;
@@ -29,13 +29,13 @@ fn described<M: Drop, G: Drop>(
     tag: u32,
     input: InputId,
     list: PropList,
-) -> Result<Plan<M, G>, Refusal>
-    ensures { Plans result (Ok (replied (reply_to tag) (Described input list ∷ []))) }
+) -> Result<StepOutcome<M, G>, Refusal>
+    ensures { HandledAs result (Ok (replied (reply_to tag) (Described input list ∷ []))) }
 {
     let reply = px_reply::plain(alloc, tag)?;
     let mut changes = Vec::new(alloc);
     changes.push(Change::Described(input, list))?;
-    Ok(Plan::replied(alloc, reply, changes))
+    Ok(StepOutcome::replied(alloc, reply, changes))
 }
 
 /// UPDATE_PLAYBACK_STREAM_PROPLIST of a stream with this input, by the mode with a number. Refused: `NoEntity` where the
@@ -47,8 +47,8 @@ pub fn update_stream<M: Drop, G: Drop>(
     tag: u32,
     number: u32,
     list: &PropList,
-) -> Result<Plan<M, G>, Refusal>
-    ensures { Plans result (update_stream stream lists.now.items tag number list.now) }
+) -> Result<StepOutcome<M, G>, Refusal>
+    ensures { HandledAs result (update_stream stream lists.now.items tag number list.now) }
 {
     let x = present(stream, ErrorCode::NoEntity)?;
     let mode = present(mode_of(number), ErrorCode::Invalid)?;
@@ -64,8 +64,8 @@ pub fn remove_stream<M: Drop, G: Drop>(
     lists: &InputLists,
     tag: u32,
     keys: &Keys,
-) -> Result<Plan<M, G>, Refusal>
-    ensures { Plans result (remove_stream stream lists.now.items tag keys.now) }
+) -> Result<StepOutcome<M, G>, Refusal>
+    ensures { HandledAs result (remove_stream stream lists.now.items tag keys.now) }
 {
     let x = present(stream, ErrorCode::NoEntity)?;
     let mut made = lists.copy_of(x.index)?;
@@ -127,8 +127,8 @@ pub fn set_stream_name<M: Drop, G: Drop>(
     lists: &InputLists,
     tag: u32,
     name: Option<&[u8]>,
-) -> Result<Plan<M, G>, Refusal>
-    ensures { Plans result (set_stream_name stream lists.now.items tag (option_map (λ name. name.now) name.entry)) }
+) -> Result<StepOutcome<M, G>, Refusal>
+    ensures { HandledAs result (set_stream_name stream lists.now.items tag (option_map (λ name. name.now) name.entry)) }
 {
     let x = present(stream, ErrorCode::NoEntity)?;
     let Some(name) = name_in(name) else {

@@ -13,11 +13,11 @@ use Rattle.px_flat.specs.declared.member.Member.{Member}
 use Rattle.px_flat.specs.Member.{channels_of, IsMember}
 use Rattle.px_flat.specs.FlatVolume.{FlatGroup}
 use Rattle.px_flat.proofs.Inputs.{feeds_count}
-use Rattle.px_plan.specs.declared.target.Named.{Named}
-use Rattle.px_plan.specs.declared.target.Named.TheVariants.{Unclear, Unknown, Sink}
-use Rattle.px_plan.specs.declared.target.Target.{Target}
-use Rattle.px_plan.specs.Row.{check, present}
-use Rattle.px_plan.specs.Target.{IsTarget, target_of}
+use Rattle.px_outcome.specs.declared.target.Named.{Named}
+use Rattle.px_outcome.specs.declared.target.Named.TheVariants.{Unclear, Unknown, Sink}
+use Rattle.px_outcome.specs.declared.target.Target.{Target}
+use Rattle.px_outcome.specs.Handled.{check, present}
+use Rattle.px_outcome.specs.Target.{IsTarget, target_of}
 use Rattle.px_ctl_play.specs.Asked.{channels_on, positions_on}
 use Rattle.px_ctl_play.specs.Joining.{volume_on, IsReady, IsReadyAt}
 

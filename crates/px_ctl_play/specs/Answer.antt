@@ -2,18 +2,18 @@
 use Rattle.std.specs.Prelude.{ℕ, List, [], ◌∷◌, Option, None, Some}
 use Rattle.px_flat.specs.FlatVolume.{FlatGroup}
 use Rattle.px_msg.specs.declared.message.Msg.{Msg}
-use Rattle.px_plan.specs.declared.change.Change.TheVariants.{Said, Asked, Answered}
-use Rattle.px_plan.specs.declared.input.Connection.{Connection}
-use Rattle.px_plan.specs.declared.input.Input.{Input}
-use Rattle.px_plan.specs.declared.sending.Sending.{Sending}
-use Rattle.px_plan.specs.declared.waiting.Awaited.{Awaited}
-use Rattle.px_plan.specs.declared.waiting.Waiting.{Waiting}
-use Rattle.px_plan.specs.Plan.{Planned, changing}
+use Rattle.px_outcome.specs.declared.change.Change.TheVariants.{Posted, Asked, Answered}
+use Rattle.px_outcome.specs.declared.input.Connection.{Connection}
+use Rattle.px_outcome.specs.declared.input.Input.{Input}
+use Rattle.px_outcome.specs.declared.sending.Sending.{Sending}
+use Rattle.px_outcome.specs.declared.waiting.Awaited.{Awaited}
+use Rattle.px_outcome.specs.declared.waiting.Waiting.{Waiting}
+use Rattle.px_outcome.specs.Outcome.{OutcomeParts, changing}
 
 -- an input's sink is asked, and the request waits
-abbrev pub asked : {P : Type 0} → Input → Msg P → Awaited → ℕ → Planned (Msg P) FlatGroup
+abbrev pub asked : {P : Type 0} → Input → Msg P → Awaited → ℕ → OutcomeParts (Msg P) FlatGroup
 asked x message awaited tag =
-    changing (Said x.index message ∷ Asked (record { input = x.index; tag = tag; awaited = awaited }) ∷ [])
+    changing (Posted x.index message ∷ Asked (record { input = x.index; tag = tag; awaited = awaited }) ∷ [])
 
 -- a packet for a connection, where that is there
 abbrev pub sent_to : Option Connection → List ℕ → List Sending
@@ -21,5 +21,5 @@ sent_to None packet = []
 sent_to (Some c) packet = record { conn = c.conn; packet = packet } ∷ []
 
 -- a request waits no more, and its connection, where that is there, has the reply
-abbrev pub answered : {P : Type 0} → Option Connection → Waiting → List ℕ → Planned (Msg P) FlatGroup
-answered owner w reply = record { reply = None; errors = []; told = sent_to owner reply; changes = Answered w ∷ [] }
+abbrev pub answered : {P : Type 0} → Option Connection → Waiting → List ℕ → OutcomeParts (Msg P) FlatGroup
+answered owner w reply = record { reply = None; errors = []; notified = sent_to owner reply; changes = Answered w ∷ [] }

@@ -11,19 +11,19 @@ use Rattle.px_msg.specs.declared.message.Msg.{Msg}
 use Rattle.px_msg.specs.declared.message.Msg.TheVariants.{Attach}
 use Rattle.px_msg.specs.View.{sample_spec}
 use Rattle.px_reply.specs.Message.{moved_message}
-use Rattle.px_plan.specs.declared.change.Change.{Change}
-use Rattle.px_plan.specs.declared.change.Change.TheVariants.{Arrives, Released}
-use Rattle.px_plan.specs.declared.input.Connection.{Connection}
-use Rattle.px_plan.specs.declared.input.Input.{Input}
-use Rattle.px_plan.specs.declared.sending.Sending.{Sending}
-use Rattle.px_plan.specs.declared.target.Target.{Target}
-use Rattle.px_plan.specs.Input.{has_index, is_settled, settled_on}
-use Rattle.px_plan.specs.Plan.{Planned}
+use Rattle.px_outcome.specs.declared.change.Change.{Change}
+use Rattle.px_outcome.specs.declared.change.Change.TheVariants.{Arrives, Released}
+use Rattle.px_outcome.specs.declared.input.Connection.{Connection}
+use Rattle.px_outcome.specs.declared.input.Input.{Input}
+use Rattle.px_outcome.specs.declared.sending.Sending.{Sending}
+use Rattle.px_outcome.specs.declared.target.Target.{Target}
+use Rattle.px_outcome.specs.Input.{has_index, is_settled, settled_on}
+use Rattle.px_outcome.specs.Outcome.{OutcomeParts}
 use Rattle.px_ctl_play.specs.Answer.{sent_to}
 use Rattle.px_ctl_play.specs.Create.{latency_of}
 use Rattle.px_ctl_play.specs.Factors.{own_factors, regrouped}
 use Rattle.px_ctl_play.specs.Move.{feed_to}
-use Rattle.px_ctl_play.specs.Told.{bytes_asked, has_left, same_spec}
+use Rattle.px_ctl_play.specs.Notified.{bytes_asked, has_left, same_spec}
 
 -- a stream with this spec is what a sink hands over for an input: the sink was told to, and the stream is the input's
 abbrev pub hands_over : SampleSpec → Input → Bool
@@ -31,12 +31,12 @@ hands_over spec x = has_left x.way && same_spec spec (sample_spec x.spec)
 
 -- ---- what the client is told: the sink, the attributes of its stream in bytes, and how long a frame waits at the most
 
-abbrev pub attributes_told : Input → List ℕ
-attributes_told x =
+abbrev pub attributes_in_bytes : Input → List ℕ
+attributes_in_bytes x =
     bytes_asked x x.attr.maxlength ∷ bytes_asked x x.attr.tlength ∷ bytes_asked x x.attr.prebuf ∷ bytes_asked x x.attr.minreq ∷ []
 
 abbrev pub arrived_message : Input → Target → List ℕ
-arrived_message x sink = moved_message x.stream sink.index.0 sink.name (attributes_told x) (latency_of sink)
+arrived_message x sink = moved_message x.stream sink.index.0 sink.name (attributes_in_bytes x) (latency_of sink)
 
 -- ---- the groups
 
@@ -58,7 +58,7 @@ pub record Arriving (M G : Type 0) : Type 0 where
   pub feed : List ℕ
   pub factors : List ℕ
   -- the messages to clients
-  pub told : List Sending
+  pub notified : List Sending
   -- the changes behind the arrival
   pub later : List (Change M G)
 
@@ -76,7 +76,7 @@ abbrev pub arrival_of : {P : Type 0} → Input → Member → List ℕ → FlatG
 arrival_of x m feed from group sink owner inputs waited = record {
   feed = feed;
   factors = own_factors (joined_by x.index m feed group) x.index;
-  told = sent_to owner (arrived_message x sink);
+  notified = sent_to owner (arrived_message x sink);
   later = later x (detached x.index from) sink.index (joined_by x.index m feed group) inputs waited;
 }
 
@@ -93,11 +93,11 @@ arrive x from group sink owner inputs waited =
 
 -- ---- the whole plan
 
-abbrev pub arriving_with : {P : Type 0} → InputId → P → Arriving (Msg P) FlatGroup → Planned (Msg P) FlatGroup
+abbrev pub arriving_with : {P : Type 0} → InputId → P → Arriving (Msg P) FlatGroup → OutcomeParts (Msg P) FlatGroup
 arriving_with index parcel a = record {
   reply = None;
   errors = [];
-  told = a.told;
+  notified = a.notified;
   changes = Arrives index (Attach index parcel a.feed a.factors) ∷ a.later;
 }
 

@@ -10,10 +10,10 @@ use Rattle.px_chmap.specs.Plan.{plan_of}
 use Rattle.px_vol.specs.Volume.{greatest}
 use Rattle.px_model.specs.declared.data.Attr.{Attr}
 use Rattle.px_msg.specs.Repair.{repaired}
-use Rattle.px_plan.specs.declared.input.Connection.{Connection}
-use Rattle.px_plan.specs.declared.input.Input.{Input}
-use Rattle.px_plan.specs.declared.target.Target.{Target}
-use Rattle.px_plan.specs.Input.{bound_for, going_of}
+use Rattle.px_outcome.specs.declared.input.Connection.{Connection}
+use Rattle.px_outcome.specs.declared.input.Input.{Input}
+use Rattle.px_outcome.specs.declared.target.Target.{Target}
+use Rattle.px_outcome.specs.Input.{bound_for, going_of}
 
 -- ---- what can be at all
 

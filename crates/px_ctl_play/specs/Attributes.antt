@@ -7,19 +7,19 @@ use Rattle.px_msg.specs.declared.message.Msg.{Msg}
 use Rattle.px_msg.specs.declared.message.Msg.TheVariants.{Attr as NewAttr}
 use Rattle.px_msg.specs.Repair.{repaired, bytes_of}
 use Rattle.px_reply.specs.Message.{attributes_reply}
-use Rattle.px_plan.specs.declared.change.Change.TheVariants.{Said}
-use Rattle.px_plan.specs.declared.input.Input.{Input}
-use Rattle.px_plan.specs.Plan.{Planned, replied}
-use Rattle.px_plan.specs.Row.{Row, ◌>>=◌, present}
+use Rattle.px_outcome.specs.declared.change.Change.TheVariants.{Posted}
+use Rattle.px_outcome.specs.declared.input.Input.{Input}
+use Rattle.px_outcome.specs.Outcome.{OutcomeParts, replied}
+use Rattle.px_outcome.specs.Handled.{Handled, ◌>>=◌, present}
 use Rattle.px_ctl_play.specs.Time.{microseconds}
 
 -- an input's sink, of a depth and a rate, is told these attributes, and the client has them in bytes, with the sink's latency
-abbrev pub attributed : {P : Type 0} → ℕ → ℕ → Input → Attr → ℕ → Planned (Msg P) FlatGroup
+abbrev pub attributed : {P : Type 0} → ℕ → ℕ → Input → Attr → ℕ → OutcomeParts (Msg P) FlatGroup
 attributed depth rate x attr tag =
-    replied (attributes_reply tag (bytes_of x.spec attr) (microseconds rate depth)) (Said x.index (NewAttr x.index attr) ∷ [])
+    replied (attributes_reply tag (bytes_of x.spec attr) (microseconds rate depth)) (Posted x.index (NewAttr x.index attr) ∷ [])
 
 -- the connection's stream, where it is there, gets what is asked, as it is repaired
-abbrev pub attributes : {P : Type 0} → Option Input → ℕ → ℕ → List ℕ → ℕ → Row (Planned (Msg P) FlatGroup)
+abbrev pub attributes : {P : Type 0} → Option Input → ℕ → ℕ → List ℕ → ℕ → Handled (OutcomeParts (Msg P) FlatGroup)
 attributes stream depth rate asked tag = do
   x ← present stream NoEntity
   Ok (attributed depth rate x (repaired (Input.spec x) asked) tag)

@@ -5,33 +5,33 @@ use Rattle.px_flat.specs.FlatVolume.{FlatGroup}
 use Rattle.px_msg.specs.declared.message.Msg.{Msg}
 use Rattle.px_msg.specs.declared.message.Msg.TheVariants.{Cork, Flush, Trigger, Prebuf}
 use Rattle.px_reply.specs.Front.{reply_to}
-use Rattle.px_plan.specs.declared.change.Change.TheVariants.{Said}
-use Rattle.px_plan.specs.declared.input.Input.{Input}
-use Rattle.px_plan.specs.Plan.{Planned, replied}
-use Rattle.px_plan.specs.Row.{Row, ◌>>=◌, present}
+use Rattle.px_outcome.specs.declared.change.Change.TheVariants.{Posted}
+use Rattle.px_outcome.specs.declared.input.Input.{Input}
+use Rattle.px_outcome.specs.Outcome.{OutcomeParts, replied}
+use Rattle.px_outcome.specs.Handled.{Handled, ◌>>=◌, present}
 
 -- an input's sink is told this, and the client has a reply without fields
-abbrev pub said : {P : Type 0} → Input → Msg P → ℕ → Planned (Msg P) FlatGroup
-said x message tag = replied (reply_to tag) (Said x.index message ∷ [])
+abbrev pub post_and_reply : {P : Type 0} → Input → Msg P → ℕ → OutcomeParts (Msg P) FlatGroup
+post_and_reply x message tag = replied (reply_to tag) (Posted x.index message ∷ [])
 
 -- each is of a stream of the connection, where it is there
 
-abbrev pub cork : {P : Type 0} → Option Input → Bool → ℕ → Row (Planned (Msg P) FlatGroup)
+abbrev pub cork : {P : Type 0} → Option Input → Bool → ℕ → Handled (OutcomeParts (Msg P) FlatGroup)
 cork stream on tag = do
   x ← present stream NoEntity
-  Ok (said x (Cork (Input.index x) on) tag)
+  Ok (post_and_reply x (Cork (Input.index x) on) tag)
 
-abbrev pub flush : {P : Type 0} → Option Input → ℕ → Row (Planned (Msg P) FlatGroup)
+abbrev pub flush : {P : Type 0} → Option Input → ℕ → Handled (OutcomeParts (Msg P) FlatGroup)
 flush stream tag = do
   x ← present stream NoEntity
-  Ok (said x (Flush (Input.index x)) tag)
+  Ok (post_and_reply x (Flush (Input.index x)) tag)
 
-abbrev pub trigger : {P : Type 0} → Option Input → ℕ → Row (Planned (Msg P) FlatGroup)
+abbrev pub trigger : {P : Type 0} → Option Input → ℕ → Handled (OutcomeParts (Msg P) FlatGroup)
 trigger stream tag = do
   x ← present stream NoEntity
-  Ok (said x (Trigger (Input.index x)) tag)
+  Ok (post_and_reply x (Trigger (Input.index x)) tag)
 
-abbrev pub prebuf : {P : Type 0} → Option Input → ℕ → Row (Planned (Msg P) FlatGroup)
+abbrev pub prebuf : {P : Type 0} → Option Input → ℕ → Handled (OutcomeParts (Msg P) FlatGroup)
 prebuf stream tag = do
   x ← present stream NoEntity
-  Ok (said x (Prebuf (Input.index x)) tag)
+  Ok (post_and_reply x (Prebuf (Input.index x)) tag)

@@ -8,18 +8,18 @@ use Rattle.px_msg.specs.declared.message.Msg.{Msg}
 use Rattle.px_msg.specs.declared.message.Msg.TheVariants.{New}
 use Rattle.px_reply.specs.declared.played.Created.{Created}
 use Rattle.px_reply.specs.Message.{created_reply}
-use Rattle.px_plan.specs.declared.change.Change.{Change}
-use Rattle.px_plan.specs.declared.change.Change.TheVariants.{Made, Described}
-use Rattle.px_plan.specs.declared.input.Connection.{Connection}
-use Rattle.px_plan.specs.declared.input.Input.{Input}
-use Rattle.px_plan.specs.declared.input.Standing.TheVariants.{Settled}
-use Rattle.px_plan.specs.declared.input.Way.TheVariants.{Coming}
-use Rattle.px_plan.specs.declared.target.Named.{Named}
-use Rattle.px_plan.specs.declared.target.Target.{Target}
-use Rattle.px_plan.specs.Input.{settled_on}
-use Rattle.px_plan.specs.Plan.{Planned, replied}
-use Rattle.px_plan.specs.Row.{Row, ◌>>=◌, check, present}
-use Rattle.px_plan.specs.Target.{is_clear, target_of, raw_of}
+use Rattle.px_outcome.specs.declared.change.Change.{Change}
+use Rattle.px_outcome.specs.declared.change.Change.TheVariants.{Made, Described}
+use Rattle.px_outcome.specs.declared.input.Connection.{Connection}
+use Rattle.px_outcome.specs.declared.input.Input.{Input}
+use Rattle.px_outcome.specs.declared.input.Standing.TheVariants.{Settled}
+use Rattle.px_outcome.specs.declared.input.Way.TheVariants.{Coming}
+use Rattle.px_outcome.specs.declared.target.Named.{Named}
+use Rattle.px_outcome.specs.declared.target.Target.{Target}
+use Rattle.px_outcome.specs.Input.{settled_on}
+use Rattle.px_outcome.specs.Outcome.{OutcomeParts, replied}
+use Rattle.px_outcome.specs.Handled.{Handled, ◌>>=◌, check, present}
+use Rattle.px_outcome.specs.Target.{is_clear, target_of, raw_of}
 use Rattle.px_ctl_play.specs.Asked.{spec_on, attr_on, positions_on, is_lawful, is_supported, feed_on, has_room}
 use Rattle.px_ctl_play.specs.Factors.{own_factors, regrouped}
 use Rattle.px_ctl_play.specs.Joining.{joined}
@@ -85,12 +85,12 @@ abbrev pub begun : {P : Type 0} → List Input → ℕ → Connection → Create
 begun inputs made me a group feed x =
     Made x (new_of a group feed x) (me.streams + 1) (made + 1) ∷ regrouped x.sink group (settled_on inputs x.sink ++ x ∷ []) ∷ []
 
-abbrev pub created : {P : Type 0} → List Input → ℕ → Connection → ℕ → Target → FlatGroup → CreateFields → List ℕ → Input → Planned (Msg P) FlatGroup
+abbrev pub created : {P : Type 0} → List Input → ℕ → Connection → ℕ → Target → FlatGroup → CreateFields → List ℕ → Input → OutcomeParts (Msg P) FlatGroup
 created inputs made me tag sink group a feed x =
     replied (created_reply tag (created_of sink a x)) (changes_of inputs made me a (joined group sink a feed x) feed x)
 
 -- the stream is made on this sink, which has this group, where the sink can play it and there is room for it
-abbrev pub create_on : {P : Type 0} → List Input → ℕ → Connection → ℕ → Target → FlatGroup → CreateFields → Row (Planned (Msg P) FlatGroup)
+abbrev pub create_on : {P : Type 0} → List Input → ℕ → Connection → ℕ → Target → FlatGroup → CreateFields → Handled (OutcomeParts (Msg P) FlatGroup)
 create_on inputs made me tag sink group a = do
   supported ← check (is_supported sink a) NotSupported
   feed ← present (feed_on sink a) NotSupported
@@ -98,7 +98,7 @@ create_on inputs made me tag sink group a = do
   Ok (created inputs made me tag sink group a feed (input_made made me sink a))
 
 -- a connection asks for a stream, where these inputs are there, so many were ever made, and the sink that is named has this group
-abbrev pub create : {P : Type 0} → List Input → ℕ → Connection → ℕ → Named → Option FlatGroup → CreateFields → Row (Planned (Msg P) FlatGroup)
+abbrev pub create : {P : Type 0} → List Input → ℕ → Connection → ℕ → Named → Option FlatGroup → CreateFields → Handled (OutcomeParts (Msg P) FlatGroup)
 create inputs made me tag named group a = do
   lawful ← check (is_lawful a) Invalid
   clear ← check (is_clear named) Invalid

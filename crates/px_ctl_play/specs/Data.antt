@@ -5,9 +5,9 @@ use Rattle.px_sample.specs.Format.{frame_size_of}
 use Rattle.px_flat.specs.FlatVolume.{FlatGroup}
 use Rattle.px_msg.specs.declared.message.Msg.{Msg}
 use Rattle.px_msg.specs.declared.message.Msg.TheVariants.{Write}
-use Rattle.px_plan.specs.declared.change.Change.TheVariants.{Said}
-use Rattle.px_plan.specs.declared.input.Input.{Input}
-use Rattle.px_plan.specs.Plan.{Planned, idle, changing}
+use Rattle.px_outcome.specs.declared.change.Change.TheVariants.{Posted}
+use Rattle.px_outcome.specs.declared.input.Input.{Input}
+use Rattle.px_outcome.specs.Outcome.{OutcomeParts, idle, changing}
 use Rattle.px_ctl_play.specs.declared.data.Frames.{Frames}
 
 -- so many bytes, at an offset of so many, are whole frames of a size, and stand at a frame; a frame has a byte at least
@@ -27,11 +27,11 @@ frames_of x offset bytes = frames_in (frame_size_of x.spec) offset bytes
 abbrev pub write : {P : Type 0} → Input → Frames → ℕ → List ℕ → Msg P
 write x frames seek bytes = Write x.index seek frames.offset frames.count bytes
 
-abbrev pub written : {P : Type 0} → Option Frames → Input → ℕ → List ℕ → Planned (Msg P) FlatGroup
+abbrev pub written : {P : Type 0} → Option Frames → Input → ℕ → List ℕ → OutcomeParts (Msg P) FlatGroup
 written None x seek bytes = idle
-written (Some frames) x seek bytes = changing (Said x.index (write x frames seek bytes) ∷ [])
+written (Some frames) x seek bytes = changing (Posted x.index (write x frames seek bytes) ∷ [])
 
 -- data on a channel; one that is none of the connection's streams is ignored, and so is data that isn't whole frames
-abbrev pub data_for : {P : Type 0} → Option Input → ℤ → ℕ → List ℕ → Planned (Msg P) FlatGroup
+abbrev pub data_for : {P : Type 0} → Option Input → ℤ → ℕ → List ℕ → OutcomeParts (Msg P) FlatGroup
 data_for None offset seek bytes = idle
 data_for (Some x) offset seek bytes = written (frames_of x offset (length bytes)) x seek bytes

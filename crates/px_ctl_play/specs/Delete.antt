@@ -5,13 +5,13 @@ use Rattle.px_types.specs.ErrorCode.{code_of}
 use Rattle.px_flat.specs.FlatVolume.{FlatGroup}
 use Rattle.px_msg.specs.declared.message.Msg.{Msg}
 use Rattle.px_reply.specs.Front.{reply_to, refusal}
-use Rattle.px_plan.specs.declared.change.Change.TheVariants.{Leaves}
-use Rattle.px_plan.specs.declared.input.Input.{Input}
-use Rattle.px_plan.specs.declared.sending.Sending.{Sending}
-use Rattle.px_plan.specs.declared.waiting.Waiting.{Waiting}
-use Rattle.px_plan.specs.Plan.{Planned}
-use Rattle.px_plan.specs.Row.{Row, ◌>>=◌, present}
-use Rattle.px_plan.specs.Waiting.{waiting_of}
+use Rattle.px_outcome.specs.declared.change.Change.TheVariants.{Leaves}
+use Rattle.px_outcome.specs.declared.input.Input.{Input}
+use Rattle.px_outcome.specs.declared.sending.Sending.{Sending}
+use Rattle.px_outcome.specs.declared.waiting.Waiting.{Waiting}
+use Rattle.px_outcome.specs.Outcome.{OutcomeParts}
+use Rattle.px_outcome.specs.Handled.{Handled, ◌>>=◌, present}
+use Rattle.px_outcome.specs.Waiting.{waiting_of}
 
 -- the error for a request about an input that is no more
 abbrev pub error_for : Input → Waiting → Sending
@@ -22,15 +22,15 @@ abbrev pub errors_for : Input → List Waiting → List Sending
 errors_for x waiting = map (error_for x) (waiting_of waiting x.index)
 
 -- an input ends: who asked has a reply, and behind it go these errors and these messages
-abbrev pub ended : {M G : Type 0} → Input → List Sending → List Sending → ℕ → Planned M G
-ended x errors told tag = record { reply = Some (reply_to tag); errors = errors; told = told; changes = Leaves x.index ∷ [] }
+abbrev pub ended : {M G : Type 0} → Input → List Sending → List Sending → ℕ → OutcomeParts M G
+ended x errors notified tag = record { reply = Some (reply_to tag); errors = errors; notified = notified; changes = Leaves x.index ∷ [] }
 
 -- an input ends: the client has its reply, and then an error for each request that waits
-abbrev pub deleted : {P : Type 0} → Input → List Waiting → ℕ → Planned (Msg P) FlatGroup
-deleted x waiting tag = record { reply = Some (reply_to tag); errors = errors_for x waiting; told = []; changes = Leaves x.index ∷ [] }
+abbrev pub deleted : {P : Type 0} → Input → List Waiting → ℕ → OutcomeParts (Msg P) FlatGroup
+deleted x waiting tag = record { reply = Some (reply_to tag); errors = errors_for x waiting; notified = []; changes = Leaves x.index ∷ [] }
 
 -- the connection's stream ends, where it is there
-abbrev pub delete : {P : Type 0} → Option Input → List Waiting → ℕ → Row (Planned (Msg P) FlatGroup)
+abbrev pub delete : {P : Type 0} → Option Input → List Waiting → ℕ → Handled (OutcomeParts (Msg P) FlatGroup)
 delete stream waiting tag = do
   x ← present stream NoEntity
   Ok (deleted x waiting tag)

@@ -5,28 +5,28 @@ use Rattle.px_flat.specs.FlatVolume.{FlatGroup}
 use Rattle.px_msg.specs.declared.message.Msg.{Msg}
 use Rattle.px_msg.specs.declared.message.Msg.TheVariants.{Drain}
 use Rattle.px_reply.specs.Front.{reply_to}
-use Rattle.px_plan.specs.declared.input.Connection.{Connection}
-use Rattle.px_plan.specs.declared.input.Input.{Input}
-use Rattle.px_plan.specs.declared.waiting.Awaited.TheVariants.{Drained}
-use Rattle.px_plan.specs.declared.waiting.Waiting.{Waiting}
-use Rattle.px_plan.specs.Input.{goes_on}
-use Rattle.px_plan.specs.Plan.{Planned, idle}
-use Rattle.px_plan.specs.Row.{Row, ◌>>=◌, present}
-use Rattle.px_plan.specs.Waiting.{drain_under}
+use Rattle.px_outcome.specs.declared.input.Connection.{Connection}
+use Rattle.px_outcome.specs.declared.input.Input.{Input}
+use Rattle.px_outcome.specs.declared.waiting.Awaited.TheVariants.{Drained}
+use Rattle.px_outcome.specs.declared.waiting.Waiting.{Waiting}
+use Rattle.px_outcome.specs.Input.{goes_on}
+use Rattle.px_outcome.specs.Outcome.{OutcomeParts, idle}
+use Rattle.px_outcome.specs.Handled.{Handled, ◌>>=◌, present}
+use Rattle.px_outcome.specs.Waiting.{drain_under}
 use Rattle.px_ctl_play.specs.Answer.{asked, answered}
 
 -- the sink of the connection's stream, where it is there, is asked to say when all of it was played
-abbrev pub drain : {P : Type 0} → Option Input → ℕ → Row (Planned (Msg P) FlatGroup)
+abbrev pub drain : {P : Type 0} → Option Input → ℕ → Handled (OutcomeParts (Msg P) FlatGroup)
 drain stream tag = do
   x ← present stream NoEntity
   Ok (asked x (Drain (Input.index x) tag) Drained tag)
 
 -- the request has a reply without fields, where it waits
-abbrev pub drain_answered : {P : Type 0} → Option Connection → Option Waiting → Planned (Msg P) FlatGroup
+abbrev pub drain_answered : {P : Type 0} → Option Connection → Option Waiting → OutcomeParts (Msg P) FlatGroup
 drain_answered owner None = idle
 drain_answered owner (Some w) = answered owner w (reply_to w.tag)
 
 -- all of an input was played: the first drain under the tag that waits of it is answered, where it is there and goes on
-abbrev pub drained : {P : Type 0} → Option Input → Option Connection → List Waiting → ℕ → Planned (Msg P) FlatGroup
+abbrev pub drained : {P : Type 0} → Option Input → Option Connection → List Waiting → ℕ → OutcomeParts (Msg P) FlatGroup
 drained None owner waiting tag = idle
 drained (Some x) owner waiting tag = cond (goes_on x) (drain_answered owner (drain_under waiting x.index tag)) idle

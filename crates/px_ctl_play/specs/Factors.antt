@@ -6,9 +6,9 @@ use Rattle.px_flat.specs.FlatVolume.{FlatGroup, factors_for}
 use Rattle.px_msg.specs.declared.factors.InputFactors.{InputFactors}
 use Rattle.px_msg.specs.declared.message.Msg.{Msg}
 use Rattle.px_msg.specs.declared.message.Msg.TheVariants.{Factors}
-use Rattle.px_plan.specs.declared.change.Change.{Change}
-use Rattle.px_plan.specs.declared.change.Change.TheVariants.{Regrouped}
-use Rattle.px_plan.specs.declared.input.Input.{Input}
+use Rattle.px_outcome.specs.declared.change.Change.{Change}
+use Rattle.px_outcome.specs.declared.change.Change.TheVariants.{Regrouped}
+use Rattle.px_outcome.specs.declared.input.Input.{Input}
 
 -- the factors of an input, where it has some
 abbrev pub gains_of : InputId → Option (List ℕ) → List InputFactors

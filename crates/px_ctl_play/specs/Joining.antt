@@ -4,10 +4,10 @@ use Rattle.px_cmd.specs.declared.command.CreateFields.{CreateFields}
 use Rattle.px_flat.specs.declared.member.How.TheVariants.{Absolute}
 use Rattle.px_flat.specs.Channels.{greatest_of}
 use Rattle.px_flat.specs.FlatVolume.{FlatGroup, member_of, attached}
-use Rattle.px_plan.specs.declared.input.Input.{Input}
-use Rattle.px_plan.specs.declared.target.Named.{Named}
-use Rattle.px_plan.specs.declared.target.Named.TheVariants.{Unclear, Unknown, Sink}
-use Rattle.px_plan.specs.declared.target.Target.{Target}
+use Rattle.px_outcome.specs.declared.input.Input.{Input}
+use Rattle.px_outcome.specs.declared.target.Named.{Named}
+use Rattle.px_outcome.specs.declared.target.Named.TheVariants.{Unclear, Unknown, Sink}
+use Rattle.px_outcome.specs.declared.target.Target.{Target}
 use Rattle.px_ctl_play.specs.Asked.{channels_on}
 
 -- the client gave one volume for all channels that it has on its sink, or one each

@@ -3,13 +3,13 @@ use Rattle.std.specs.Prelude.{ℕ, List, [], ◌∷◌, ◌++◌, Option, None, 
 use Rattle.px_types.specs.declared.error_code.ErrorCode.TheVariants.{NoEntity}
 use Rattle.px_tag.specs.Item.{number}
 use Rattle.px_reply.specs.Front.{reply_to, message}
-use Rattle.px_plan.specs.declared.change.Change.TheVariants.{Leaves}
-use Rattle.px_plan.specs.declared.input.Connection.{Connection}
-use Rattle.px_plan.specs.declared.input.Input.{Input}
-use Rattle.px_plan.specs.declared.sending.Sending.{Sending}
-use Rattle.px_plan.specs.declared.waiting.Waiting.{Waiting}
-use Rattle.px_plan.specs.Plan.{Planned}
-use Rattle.px_plan.specs.Row.{Row, ◌>>=◌, present}
+use Rattle.px_outcome.specs.declared.change.Change.TheVariants.{Leaves}
+use Rattle.px_outcome.specs.declared.input.Connection.{Connection}
+use Rattle.px_outcome.specs.declared.input.Input.{Input}
+use Rattle.px_outcome.specs.declared.sending.Sending.{Sending}
+use Rattle.px_outcome.specs.declared.waiting.Waiting.{Waiting}
+use Rattle.px_outcome.specs.Outcome.{OutcomeParts}
+use Rattle.px_outcome.specs.Handled.{Handled, ◌>>=◌, present}
 use Rattle.px_ctl_play.specs.Answer.{sent_to}
 use Rattle.px_ctl_play.specs.Delete.{errors_for}
 
@@ -23,16 +23,16 @@ abbrev pub killed_message : Input → List ℕ
 killed_message x = message 64 ++ number x.stream
 
 -- an input ends: who asked has a reply, and its own client the errors and then the message
-abbrev pub killed : {M G : Type 0} → Input → Option Connection → List Waiting → ℕ → Planned M G
+abbrev pub killed : {M G : Type 0} → Input → Option Connection → List Waiting → ℕ → OutcomeParts M G
 killed x owner waiting tag = record {
   reply = Some (reply_to tag);
   errors = errors_to owner x waiting;
-  told = sent_to owner (killed_message x);
+  notified = sent_to owner (killed_message x);
   changes = Leaves x.index ∷ [];
 }
 
 -- KILL_SINK_INPUT of this input, whose connection is there where it goes on
-abbrev pub kill_input : {M G : Type 0} → Option Input → Option Connection → List Waiting → ℕ → Row (Planned M G)
+abbrev pub kill_input : {M G : Type 0} → Option Input → Option Connection → List Waiting → ℕ → Handled (OutcomeParts M G)
 kill_input input owner waiting tag = do
   x ← present input NoEntity
   Ok (killed x owner waiting tag)

@@ -12,21 +12,21 @@ use Rattle.px_msg.specs.declared.message.Msg.{Msg}
 use Rattle.px_msg.specs.declared.message.Msg.TheVariants.{Query}
 use Rattle.px_reply.specs.declared.played.LatencyFields.{LatencyFields}
 use Rattle.px_reply.specs.Message.{latency_reply}
-use Rattle.px_plan.specs.declared.input.Connection.{Connection}
-use Rattle.px_plan.specs.declared.input.Input.{Input}
-use Rattle.px_plan.specs.declared.waiting.Awaited.{Awaited}
-use Rattle.px_plan.specs.declared.waiting.Awaited.TheVariants.{Drained, Latency}
-use Rattle.px_plan.specs.declared.waiting.Waiting.{Waiting}
-use Rattle.px_plan.specs.Input.{goes_on}
-use Rattle.px_plan.specs.Plan.{Planned, idle}
-use Rattle.px_plan.specs.Row.{Row, ◌>>=◌, present}
-use Rattle.px_plan.specs.Waiting.{question_under}
+use Rattle.px_outcome.specs.declared.input.Connection.{Connection}
+use Rattle.px_outcome.specs.declared.input.Input.{Input}
+use Rattle.px_outcome.specs.declared.waiting.Awaited.{Awaited}
+use Rattle.px_outcome.specs.declared.waiting.Awaited.TheVariants.{Drained, Latency}
+use Rattle.px_outcome.specs.declared.waiting.Waiting.{Waiting}
+use Rattle.px_outcome.specs.Input.{goes_on}
+use Rattle.px_outcome.specs.Outcome.{OutcomeParts, idle}
+use Rattle.px_outcome.specs.Handled.{Handled, ◌>>=◌, present}
+use Rattle.px_outcome.specs.Waiting.{question_under}
 use Rattle.px_ctl_play.specs.declared.timing.Progress.{Progress}
 use Rattle.px_ctl_play.specs.Answer.{asked, answered}
 use Rattle.px_ctl_play.specs.Time.{microseconds}
 
 -- the sink of the connection's stream, where it is there, is asked how far it is; the time that the client gives waits with the request
-abbrev pub latency : {P : Type 0} → Option Input → TimeVal → ℕ → Row (Planned (Msg P) FlatGroup)
+abbrev pub latency : {P : Type 0} → Option Input → TimeVal → ℕ → Handled (OutcomeParts (Msg P) FlatGroup)
 latency stream time tag = do
   x ← present stream NoEntity
   Ok (asked x (Query (Input.index x) tag) (Latency time) tag)
@@ -69,12 +69,12 @@ fields_of rate x progress time = record {
 -- ---- the sink's answer
 
 -- the request has its reply, where it waits
-abbrev pub latency_answered : {P : Type 0} → ℕ → Input → Option Connection → Option Waiting → Progress → Planned (Msg P) FlatGroup
+abbrev pub latency_answered : {P : Type 0} → ℕ → Input → Option Connection → Option Waiting → Progress → OutcomeParts (Msg P) FlatGroup
 latency_answered rate x owner None progress = idle
 latency_answered rate x owner (Some w) progress = answered owner w (latency_reply w.tag (fields_of rate x progress (time_given w.awaited)))
 
 -- an input on a sink of a rate is so far: the first question under the tag that waits of it is answered, where it is there and goes on
-abbrev pub measured : {P : Type 0} → Option Input → Option Connection → List Waiting → ℕ → ℕ → Progress → Planned (Msg P) FlatGroup
+abbrev pub measured : {P : Type 0} → Option Input → Option Connection → List Waiting → ℕ → ℕ → Progress → OutcomeParts (Msg P) FlatGroup
 measured None owner waiting rate tag progress = idle
 measured (Some x) owner waiting rate tag progress =
     cond (goes_on x) (latency_answered rate x owner (question_under waiting x.index tag) progress) idle

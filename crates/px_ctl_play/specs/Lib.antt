@@ -11,6 +11,6 @@ pub mod Attributes
 pub mod Answer
 pub mod Drain
 pub mod Latency
-pub mod Told
+pub mod Notified
 pub mod Move
 pub mod Arrival

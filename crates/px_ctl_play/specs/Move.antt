@@ -4,14 +4,14 @@ use Rattle.px_types.specs.declared.ids.SinkId.{SinkId}
 use Rattle.px_types.specs.declared.error_code.ErrorCode.TheVariants.{Busy, Invalid, NoEntity, NotSupported, TooLarge}
 use Rattle.px_chmap.specs.Plan.{plan_of}
 use Rattle.px_reply.specs.Front.{reply_to}
-use Rattle.px_plan.specs.declared.change.Change.TheVariants.{Moves}
-use Rattle.px_plan.specs.declared.input.Input.{Input}
-use Rattle.px_plan.specs.declared.target.Named.{Named}
-use Rattle.px_plan.specs.declared.target.Target.{Target}
-use Rattle.px_plan.specs.Input.{is_moving, bound_for}
-use Rattle.px_plan.specs.Plan.{Planned, replied}
-use Rattle.px_plan.specs.Row.{Row, ◌>>=◌, check, present}
-use Rattle.px_plan.specs.Target.{is_clear, target_of}
+use Rattle.px_outcome.specs.declared.change.Change.TheVariants.{Moves}
+use Rattle.px_outcome.specs.declared.input.Input.{Input}
+use Rattle.px_outcome.specs.declared.target.Named.{Named}
+use Rattle.px_outcome.specs.declared.target.Target.{Target}
+use Rattle.px_outcome.specs.Input.{is_moving, bound_for}
+use Rattle.px_outcome.specs.Outcome.{OutcomeParts, replied}
+use Rattle.px_outcome.specs.Handled.{Handled, ◌>>=◌, check, present}
+use Rattle.px_outcome.specs.Target.{is_clear, target_of}
 use Rattle.px_ctl_play.specs.Asked.{MOST_ON_SINK}
 
 -- the stream channel that feeds each channel of a sink with this map, where there is a plan
@@ -23,11 +23,11 @@ abbrev pub has_place : List Input → SinkId → Bool
 has_place inputs sink = nat_lt (length (bound_for inputs sink)) MOST_ON_SINK
 
 -- what is planned for an input that goes to a sink
-abbrev pub sent : {M G : Type 0} → Input → Target → ℕ → Planned M G
+abbrev pub sent : {M G : Type 0} → Input → Target → ℕ → OutcomeParts M G
 sent x sink tag = replied (reply_to tag) (Moves x.index sink.index ∷ [])
 
 -- an input goes to a sink that it isn't on
-abbrev pub sent_off : {M G : Type 0} → Input → Target → List Input → ℕ → Row (Planned M G)
+abbrev pub sent_off : {M G : Type 0} → Input → Target → List Input → ℕ → Handled (OutcomeParts M G)
 sent_off x sink inputs tag = do
   free ← check (not x.no_move) Invalid
   rate ← check (nat_eq x.spec.rate sink.spec.rate) NotSupported
@@ -36,10 +36,10 @@ sent_off x sink inputs tag = do
   Ok (replied (reply_to tag) (Moves x.index sink.index ∷ []))
 
 -- where it is there already, nothing happens
-abbrev pub moved_to : {M G : Type 0} → Input → Target → List Input → ℕ → Row (Planned M G)
+abbrev pub moved_to : {M G : Type 0} → Input → Target → List Input → ℕ → Handled (OutcomeParts M G)
 moved_to x sink inputs tag = cond (nat_eq x.sink.0 sink.index.0) (Ok (replied (reply_to tag) [])) (sent_off x sink inputs tag)
 
-abbrev pub move_input : {M G : Type 0} → Option Input → Named → List Input → ℕ → Row (Planned M G)
+abbrev pub move_input : {M G : Type 0} → Option Input → Named → List Input → ℕ → Handled (OutcomeParts M G)
 move_input input named inputs tag = do
   clear ← check (is_clear named) Invalid
   x ← present input NoEntity

@@ -1,12 +1,12 @@
 //! Requests that are answered later, once a stream's sink has told what they ask for.
 
 ghost use Rattle.std.specs.Prelude.{◌≡◌, IfOk, Ok};
-ghost use Rattle.px_plan.specs.Row.{Plans};
+ghost use Rattle.px_outcome.specs.Handled.{HandledAs};
 ghost use Rattle.px_ctl_play.specs.Answer.{asked, sent_to, answered};
 
 use px_flat::Group;
 use px_msg::Msg;
-use px_plan::{Awaited, Change, Connection, Input, Plan, Refusal, Sending, Waiting};
+use px_outcome::{Awaited, Change, Connection, Input, Refusal, Sending, StepOutcome, Waiting};
 use px_tag::Packet;
 use px_types::Mem;
 use std::alloc::Global;
@@ -18,17 +18,17 @@ pub(crate) fn asked<P: Drop>(
     message: Msg<P>,
     awaited: Awaited,
     tag: u32,
-) -> Result<Plan<Msg<P>, Group>, Refusal>
-    ensures { Plans result (Ok (asked x.now message awaited tag)) }
+) -> Result<StepOutcome<Msg<P>, Group>, Refusal>
+    ensures { HandledAs result (Ok (asked x.now message awaited tag)) }
 {
     let mut changes = Vec::new(alloc);
-    changes.push(Change::Said(x.index, message))?;
+    changes.push(Change::Posted(x.index, message))?;
     changes.push(Change::Asked(Waiting {
         input: x.index,
         tag,
         awaited,
     }))?;
-    Ok(Plan::changing(alloc, changes))
+    Ok(StepOutcome::changing(alloc, changes))
 }
 
 /// A packet for a connection, where that is there.
@@ -54,16 +54,16 @@ pub(crate) fn answered<P: Drop>(
     owner: Option<Connection>,
     request: Waiting,
     reply: Packet,
-) -> Mem<Plan<Msg<P>, Group>>
-    ensures { IfOk result (λ plan. plan ≡ answered owner request reply) }
+) -> Mem<StepOutcome<Msg<P>, Group>>
+    ensures { IfOk result (λ outcome. outcome ≡ answered owner request reply) }
 {
-    let told = sent_to(alloc, owner, reply)?;
+    let notified = sent_to(alloc, owner, reply)?;
     let mut changes = Vec::new(alloc);
     changes.push(Change::Answered(request))?;
-    Ok(Plan {
+    Ok(StepOutcome {
         reply: None,
         errors: Vec::new(alloc),
-        told,
+        notified,
         changes,
     })
 }

@@ -7,10 +7,10 @@ ghost use Rattle.px_chmap.specs.Plan.{FeedsAll};
 ghost use Rattle.px_flat.specs.FlatVolume.{member_of};
 ghost use Rattle.px_flat.specs.Member.{IsMember, AreRatios};
 ghost use Rattle.px_msg.specs.View.{sample_spec};
-ghost use Rattle.px_plan.specs.declared.change.Change.TheVariants.{Released};
-ghost use Rattle.px_plan.specs.Target.{IsTarget};
+ghost use Rattle.px_outcome.specs.declared.change.Change.TheVariants.{Released};
+ghost use Rattle.px_outcome.specs.Target.{IsTarget};
 ghost use Rattle.px_ctl_play.specs.Answer.{sent_to};
-ghost use Rattle.px_ctl_play.specs.Arrival.{hands_over, attributes_told, arrived_message, joined_by, both_regrouped, later, arrival_of, arrive, HasChannels, CanJoin};
+ghost use Rattle.px_ctl_play.specs.Arrival.{hands_over, attributes_in_bytes, arrived_message, joined_by, both_regrouped, later, arrival_of, arrive, HasChannels, CanJoin};
 
 use crate::answer::sent_to;
 use crate::changes::two;
@@ -18,11 +18,11 @@ use crate::created::latency_of;
 use crate::departure::{same_spec, without};
 use crate::factors::{own_factors, regrouped, regrouped_and};
 use crate::moving::feed_to;
-use crate::told::bytes_asked;
+use crate::notified::bytes_asked;
 use px_chmap::Feed;
 use px_flat::{Group, How, Member};
 use px_msg::Msg;
-use px_plan::{Change, Connection, Input, Sending, Target, Way};
+use px_outcome::{Change, Connection, Input, Sending, Target, Way};
 use px_sample::Spec;
 use px_tag::Packet;
 use px_types::{InputId, Mem, NoMemory, SinkId};
@@ -37,7 +37,7 @@ pub struct Arrival<M, G> {
     pub feed: Feed,
     pub factors: Factors,
     /// The messages to clients.
-    pub told: Vec<Sending>,
+    pub notified: Vec<Sending>,
     /// The changes behind the arrival, in order.
     pub later: Vec<Change<M, G>>,
 }
@@ -47,7 +47,7 @@ impl<M, G> Model for Arrival<M, G> {
 
     ghost Value = { Arriving M G };
 
-    ghost view = { λ a. record { feed = a.feed; factors = a.factors; told = a.told.items; later = a.later.items } };
+    ghost view = { λ a. record { feed = a.feed; factors = a.factors; notified = a.notified.items; later = a.later.items } };
 }
 
 /// Whether a stream with this spec is what a sink hands over for an input: the sink was told to, and the stream is the input's. Takes no
@@ -59,8 +59,8 @@ pub fn hands_over(spec: Spec, x: &Input) -> bool
 }
 
 // The attributes of its stream, in bytes.
-fn attributes_told(x: &Input) -> [u32; 4]
-    ensures { result ≡ attributes_told x.now }
+fn attributes_in_bytes(x: &Input) -> [u32; 4]
+    ensures { result ≡ attributes_in_bytes x.now }
 {
     [
         bytes_asked(x, x.attr.maxlength),
@@ -80,13 +80,13 @@ fn arrived_message(alloc: Global, x: &Input, sink: &Target) -> px_tag::Mem<Packe
         x.stream,
         u32::from(sink.index.0),
         sink.name.as_slice(),
-        attributes_told(x),
+        attributes_in_bytes(x),
         latency_of(sink),
     )
 }
 
 // To the connection of the input, where that goes on.
-fn told(alloc: Global, x: &Input, sink: &Target, owner: Option<Connection>) -> Mem<Vec<Sending>>
+fn notified(alloc: Global, x: &Input, sink: &Target, owner: Option<Connection>) -> Mem<Vec<Sending>>
     requires { IsTarget sink.now }
     ensures { IfOk result (λ sent. sent.items ≡ sent_to owner (arrived_message x.now sink.now)) }
 {
@@ -213,13 +213,13 @@ fn arrival_of<P: Drop>(
 {
     let joined = joined_by(alloc, x, m, sink, &feed, group)?;
     let factors = own_factors(&joined, x.index);
-    let told = told(alloc, x, sink, owner)?;
+    let notified = notified(alloc, x, sink, owner)?;
     let from = without(alloc, from, x.index)?;
     let later = later(alloc, x, from, sink.index, joined, inputs, waited)?;
     Ok(Arrival {
         feed,
         factors,
-        told,
+        notified,
         later,
     })
 }

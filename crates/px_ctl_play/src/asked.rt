@@ -8,13 +8,13 @@ ghost use Rattle.px_chmap.specs.Plan.{FeedsAll};
 ghost use Rattle.px_vol.specs.Volume.{IsChannelVolume, greatest};
 ghost use Rattle.px_model.specs.Orderly.{IsRepaired};
 ghost use Rattle.px_msg.specs.Repair.{IsWithinBytes};
-ghost use Rattle.px_plan.specs.Target.{IsTarget};
+ghost use Rattle.px_outcome.specs.Target.{IsTarget};
 ghost use Rattle.px_ctl_play.specs.Asked.{is_spec, is_map, are_volumes, is_lawful, format_on, rate_on, channels_on, positions_on, feed_on, spec_on, attr_on};
 
 use px_chmap::{Feed, Map, plan};
 use px_cmd::CreateFields;
 use px_msg::{Attr, repair};
-use px_plan::Target;
+use px_outcome::Target;
 use px_sample::{Format, Spec};
 use px_tag::RawSpec;
 use px_types::limits::{MAX_CHANNELS, MAX_RATE};

@@ -3,13 +3,13 @@
 
 ghost use Rattle.std.specs.Prelude.{◌≡◌, ◌≤◌, IfSome, Ok};
 ghost use Rattle.px_msg.specs.Repair.{repaired};
-ghost use Rattle.px_plan.specs.Row.{Plans};
+ghost use Rattle.px_outcome.specs.Handled.{HandledAs};
 ghost use Rattle.px_ctl_play.specs.Attributes.{attributed, attributes};
 
 use crate::time::microseconds;
 use px_flat::Group;
 use px_msg::{Msg, in_bytes, repair};
-use px_plan::{Change, Input, Plan, Refusal, present};
+use px_outcome::{Change, Input, Refusal, StepOutcome, present};
 use px_types::ErrorCode;
 use std::alloc::Global;
 
@@ -21,10 +21,10 @@ fn attributed<P: Drop>(
     x: &Input,
     asked: [u32; 4],
     tag: u32,
-) -> Result<Plan<Msg<P>, Group>, Refusal>
+) -> Result<StepOutcome<Msg<P>, Group>, Refusal>
     requires rate { 1 ≤ rate }
     requires channels { 1 ≤ x.now.spec.channels }
-    ensures { Plans result (Ok (attributed depth rate x.now (repaired x.now.spec asked) tag)) }
+    ensures { HandledAs result (Ok (attributed depth rate x.now (repaired x.now.spec asked) tag)) }
 {
     let attr = repair(&x.spec, asked);
     let bytes = in_bytes(&x.spec, &attr);
@@ -34,8 +34,8 @@ fn attributed<P: Drop>(
         attr,
     };
     let mut changes = Vec::new(alloc);
-    changes.push(Change::Said(x.index, message))?;
-    Ok(Plan::replied(alloc, reply, changes))
+    changes.push(Change::Posted(x.index, message))?;
+    Ok(StepOutcome::replied(alloc, reply, changes))
 }
 
 /// SET_PLAYBACK_STREAM_BUFFER_ATTR, which asks for maxlength, tlength, prebuf and minreq in bytes: `NoEntity` where the
@@ -49,10 +49,10 @@ pub fn attributes<P: Drop>(
     rate: u32,
     asked: [u32; 4],
     tag: u32,
-) -> Result<Plan<Msg<P>, Group>, Refusal>
+) -> Result<StepOutcome<Msg<P>, Group>, Refusal>
     requires rate { 1 ≤ rate }
     requires channels { IfSome stream (λ x. 1 ≤ x.spec.channels) }
-    ensures { Plans result (attributes stream depth rate asked tag) }
+    ensures { HandledAs result (attributes stream depth rate asked tag) }
 {
     let x = present(stream, ErrorCode::NoEntity)?;
     attributed(alloc, depth, rate, &x, asked, tag)

@@ -2,7 +2,7 @@
 
 ghost use Rattle.std.specs.Prelude.{◌≡◌, ◌++◌, ◌∷◌, [], IfOk};
 
-use px_plan::Change;
+use px_outcome::Change;
 use px_types::Mem;
 use std::alloc::Global;
 

@@ -2,28 +2,28 @@
 //! `command_trigger_or_flush_or_prebuf_playback_stream` of `pulsecore/protocol-native.c`).
 
 ghost use Rattle.std.specs.Prelude.{◌≡◌, Ok};
-ghost use Rattle.px_plan.specs.Row.{Plans};
-ghost use Rattle.px_ctl_play.specs.Control.{said, cork, flush, trigger, prebuf};
+ghost use Rattle.px_outcome.specs.Handled.{HandledAs};
+ghost use Rattle.px_ctl_play.specs.Control.{post_and_reply, cork, flush, trigger, prebuf};
 
 use px_flat::Group;
 use px_msg::Msg;
-use px_plan::{Change, Input, Plan, Refusal, present};
+use px_outcome::{Change, Input, Refusal, StepOutcome, present};
 use px_types::ErrorCode;
 use std::alloc::Global;
 
 // An input's sink is told this, and the client has a reply without fields.
-fn said<P: Drop>(
+fn post_and_reply<P: Drop>(
     alloc: Global,
     x: &Input,
     message: Msg<P>,
     tag: u32,
-) -> Result<Plan<Msg<P>, Group>, Refusal>
-    ensures { Plans result (Ok (said x.now message tag)) }
+) -> Result<StepOutcome<Msg<P>, Group>, Refusal>
+    ensures { HandledAs result (Ok (post_and_reply x.now message tag)) }
 {
     let reply = px_reply::plain(alloc, tag)?;
     let mut changes = Vec::new(alloc);
-    changes.push(Change::Said(x.index, message))?;
-    Ok(Plan::replied(alloc, reply, changes))
+    changes.push(Change::Posted(x.index, message))?;
+    Ok(StepOutcome::replied(alloc, reply, changes))
 }
 
 /// CORK_PLAYBACK_STREAM: `NoEntity` where the connection has no stream of this number, else its sink is told to cork it, or to
@@ -33,11 +33,11 @@ pub fn cork<P: Drop>(
     stream: Option<Input>,
     on: bool,
     tag: u32,
-) -> Result<Plan<Msg<P>, Group>, Refusal>
-    ensures { Plans result (cork stream on tag) }
+) -> Result<StepOutcome<Msg<P>, Group>, Refusal>
+    ensures { HandledAs result (cork stream on tag) }
 {
     let x = present(stream, ErrorCode::NoEntity)?;
-    said(alloc, &x, Msg::Cork { input: x.index, on }, tag)
+    post_and_reply(alloc, &x, Msg::Cork { input: x.index, on }, tag)
 }
 
 /// FLUSH_PLAYBACK_STREAM: `NoEntity` where the connection has no stream of this number, else its sink is told to drop what
@@ -46,11 +46,11 @@ pub fn flush<P: Drop>(
     alloc: Global,
     stream: Option<Input>,
     tag: u32,
-) -> Result<Plan<Msg<P>, Group>, Refusal>
-    ensures { Plans result (flush stream tag) }
+) -> Result<StepOutcome<Msg<P>, Group>, Refusal>
+    ensures { HandledAs result (flush stream tag) }
 {
     let x = present(stream, ErrorCode::NoEntity)?;
-    said(alloc, &x, Msg::Flush { input: x.index }, tag)
+    post_and_reply(alloc, &x, Msg::Flush { input: x.index }, tag)
 }
 
 /// TRIGGER_PLAYBACK_STREAM: `NoEntity` where the connection has no stream of this number, else its sink is told to play it
@@ -59,11 +59,11 @@ pub fn trigger<P: Drop>(
     alloc: Global,
     stream: Option<Input>,
     tag: u32,
-) -> Result<Plan<Msg<P>, Group>, Refusal>
-    ensures { Plans result (trigger stream tag) }
+) -> Result<StepOutcome<Msg<P>, Group>, Refusal>
+    ensures { HandledAs result (trigger stream tag) }
 {
     let x = present(stream, ErrorCode::NoEntity)?;
-    said(alloc, &x, Msg::Trigger { input: x.index }, tag)
+    post_and_reply(alloc, &x, Msg::Trigger { input: x.index }, tag)
 }
 
 /// PREBUF_PLAYBACK_STREAM: `NoEntity` where the connection has no stream of this number, else its sink is told to let it wait
@@ -72,9 +72,9 @@ pub fn prebuf<P: Drop>(
     alloc: Global,
     stream: Option<Input>,
     tag: u32,
-) -> Result<Plan<Msg<P>, Group>, Refusal>
-    ensures { Plans result (prebuf stream tag) }
+) -> Result<StepOutcome<Msg<P>, Group>, Refusal>
+    ensures { HandledAs result (prebuf stream tag) }
 {
     let x = present(stream, ErrorCode::NoEntity)?;
-    said(alloc, &x, Msg::Prebuf { input: x.index }, tag)
+    post_and_reply(alloc, &x, Msg::Prebuf { input: x.index }, tag)
 }

@@ -5,7 +5,7 @@ ghost use Rattle.px_flat.specs.FlatVolume.{member_of};
 ghost use Rattle.px_model.specs.Orderly.{IsRepaired};
 ghost use Rattle.px_msg.specs.Repair.{IsWithinBytes};
 ghost use Rattle.px_reply.specs.Message.{created_reply};
-ghost use Rattle.px_plan.specs.Target.{IsTarget};
+ghost use Rattle.px_outcome.specs.Target.{IsTarget};
 ghost use Rattle.px_ctl_play.specs.Create.{new_of, latency_of, created_of};
 
 use crate::asked::positions_on;
@@ -15,7 +15,7 @@ use px_chmap::Feed;
 use px_cmd::CreateFields;
 use px_flat::Group;
 use px_msg::{Msg, NewStream, in_bytes};
-use px_plan::{Input, Target, raw_of};
+use px_outcome::{Input, Target, raw_of};
 use px_reply::Created;
 use px_tag::{Packet, RawMap};
 use std::alloc::Global;

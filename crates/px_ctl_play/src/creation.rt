@@ -8,9 +8,9 @@ ghost use Rattle.px_vol.specs.Volume.{IsChannelVolume};
 ghost use Rattle.px_flat.specs.FlatVolume.{member_of};
 ghost use Rattle.px_model.specs.Orderly.{IsRepaired};
 ghost use Rattle.px_msg.specs.Repair.{IsWithinBytes};
-ghost use Rattle.px_plan.specs.Row.{Plans};
-ghost use Rattle.px_plan.specs.Target.{IsTarget, IsNamed};
-ghost use Rattle.px_plan.specs.declared.change.Change.TheVariants.{Made, Described};
+ghost use Rattle.px_outcome.specs.Handled.{HandledAs};
+ghost use Rattle.px_outcome.specs.Target.{IsTarget, IsNamed};
+ghost use Rattle.px_outcome.specs.declared.change.Change.TheVariants.{Made, Described};
 ghost use Rattle.px_ctl_play.specs.Asked.{channels_on};
 ghost use Rattle.px_ctl_play.specs.Joining.{IsReady, IsReadyAt};
 ghost use Rattle.px_ctl_play.specs.Create.{input_made, new_of, begun, changes_of, created, create_on, create};
@@ -25,8 +25,8 @@ use px_chmap::Feed;
 use px_cmd::CreateFields;
 use px_flat::Group;
 use px_msg::Msg;
-use px_plan::{
-    Change, Connection, Input, Named, Plan, Refusal, Standing, Target, Way, check, present,
+use px_outcome::{
+    Change, Connection, Input, Named, Refusal, Standing, StepOutcome, Target, Way, check, present,
 };
 use px_types::{ErrorCode, InputId, Mem, NoMemory};
 use std::alloc::Global;
@@ -157,7 +157,7 @@ fn created<P: Drop>(
     group: &Group,
     a: &CreateFields,
     feed: Feed,
-) -> Result<Plan<Msg<P>, Group>, Refusal>
+) -> Result<StepOutcome<Msg<P>, Group>, Refusal>
     requires sink { IsTarget sink }
     requires ready { IsReady sink made group.now }
     requires some { 1 ≤ a.now.spec.channels }
@@ -167,13 +167,13 @@ fn created<P: Drop>(
     requires feeds { FeedsAll (channels_on sink a.now) sink.spec.channels feed }
     requires inputs { made < 4294967295 }
     requires streams { me.now.streams < 4294967295 }
-    ensures { Plans result (Ok (created inputs.now made me.now tag sink group.now a.now feed (input_made made me.now sink a.now))) }
+    ensures { HandledAs result (Ok (created inputs.now made me.now tag sink group.now a.now feed (input_made made me.now sink a.now))) }
 {
     let x = input_made(made, me, &sink, a);
     let group = joined(alloc, group, &sink, a, &feed, &x)?;
     let changes = changes_of(alloc, inputs, made, me, a, group, feed, x)?;
     match reply_of(alloc, tag, sink, a, &x) {
-        Ok(reply) => Ok(Plan::replied(alloc, reply, changes)),
+        Ok(reply) => Ok(StepOutcome::replied(alloc, reply, changes)),
         Err(_) => {
             drop(changes);
             Err(Refusal::NoMemory)
@@ -191,7 +191,7 @@ fn create_on<P: Drop>(
     sink: Target,
     group: &Group,
     a: &CreateFields,
-) -> Result<Plan<Msg<P>, Group>, Refusal>
+) -> Result<StepOutcome<Msg<P>, Group>, Refusal>
     requires sink { IsTarget sink }
     requires ready { IsReady sink made group.now }
     requires some { 1 ≤ a.now.spec.channels }
@@ -199,7 +199,7 @@ fn create_on<P: Drop>(
     requires map { IsChannelMap a.now.map }
     requires length { a.now.spec.channels ≡ length a.now.map }
     requires volume { IsChannelVolume a.now.volume }
-    ensures { Plans result (create_on inputs.now made me.now tag sink group.now a.now) }
+    ensures { HandledAs result (create_on inputs.now made me.now tag sink group.now a.now) }
 {
     check(is_supported(&sink, a), ErrorCode::NotSupported)?;
     let feed = present(feed_on(&sink, a), ErrorCode::NotSupported)?;
@@ -222,10 +222,10 @@ pub fn create<P: Drop>(
     named: Named,
     group: Option<&Group>,
     a: &CreateFields,
-) -> Result<Plan<Msg<P>, Group>, Refusal>
+) -> Result<StepOutcome<Msg<P>, Group>, Refusal>
     requires named { IsNamed named }
     requires ready { IsReadyAt named made (option_map (λ g. g.now) group) }
-    ensures { Plans result (create inputs.now made me.now tag named (option_map (λ g. g.now) group.entry) a.now) }
+    ensures { HandledAs result (create inputs.now made me.now tag named (option_map (λ g. g.now) group.entry) a.now) }
 {
     check(is_lawful(a), ErrorCode::Invalid)?;
     check(named.is_clear(), ErrorCode::Invalid)?;

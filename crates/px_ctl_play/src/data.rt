@@ -8,7 +8,7 @@ ghost use Rattle.px_ctl_play.specs.Data.{are_frames, frames_in, frames_of, write
 
 use px_block::Blocks;
 use px_msg::Msg;
-use px_plan::Input;
+use px_outcome::Input;
 use px_sample::Spec;
 
 /// Frames of a stream: the offset of the first, and how many.

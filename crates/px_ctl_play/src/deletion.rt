@@ -2,14 +2,14 @@
 //! requests which wait are told so is own).
 
 ghost use Rattle.std.specs.Prelude.{◌≡◌, ◌++◌, ◌∷◌, List, IfOk, OnOk, Ok};
-ghost use Rattle.px_plan.specs.declared.waiting.Waiting.{Waiting};
-ghost use Rattle.px_plan.specs.Row.{Plans};
+ghost use Rattle.px_outcome.specs.declared.waiting.Waiting.{Waiting};
+ghost use Rattle.px_outcome.specs.Handled.{HandledAs};
 ghost use Rattle.px_ctl_play.specs.Delete.{errors_for, ended, delete};
 
 use crate::changes::one;
 use px_flat::Group;
 use px_msg::Msg;
-use px_plan::{Change, Input, Plan, Refusal, Sending, Waiting, present};
+use px_outcome::{Change, Input, Refusal, Sending, StepOutcome, Waiting, present};
 use px_tag::Mem;
 use px_types::ErrorCode;
 use std::alloc::Global;
@@ -44,17 +44,17 @@ pub(crate) fn ended<M: Drop, G: Drop>(
     alloc: Global,
     x: &Input,
     errors: Vec<Sending>,
-    told: Vec<Sending>,
+    notified: Vec<Sending>,
     tag: u32,
-) -> Result<Plan<M, G>, Refusal>
-    ensures { Plans result (Ok (ended x.now errors.items told.items tag)) }
+) -> Result<StepOutcome<M, G>, Refusal>
+    ensures { HandledAs result (Ok (ended x.now errors.items notified.items tag)) }
 {
     let reply = px_reply::plain(alloc, tag)?;
     let changes = one(alloc, Change::Leaves(x.index))?;
-    Ok(Plan {
+    Ok(StepOutcome {
         reply: Some(reply),
         errors,
-        told,
+        notified,
         changes,
     })
 }
@@ -67,8 +67,8 @@ pub fn delete<P: Drop>(
     stream: Option<Input>,
     waiting: &[Waiting],
     tag: u32,
-) -> Result<Plan<Msg<P>, Group>, Refusal>
-    ensures { Plans result (delete stream waiting.now tag) }
+) -> Result<StepOutcome<Msg<P>, Group>, Refusal>
+    ensures { HandledAs result (delete stream waiting.now tag) }
 {
     let x = present(stream, ErrorCode::NoEntity)?;
     let errors = errors_for(alloc, &x, waiting)?;

@@ -4,13 +4,13 @@ ghost use Rattle.std.specs.Prelude.{◌≡◌, IfOk, IfSome, IsSome};
 ghost use Rattle.std.specs.Option.{option_map};
 ghost use Rattle.px_flat.specs.FlatVolume.{member_of, detached};
 ghost use Rattle.px_msg.specs.View.{sample_spec};
-ghost use Rattle.px_ctl_play.specs.Told.{same_spec, gives_up, gone, left, IsMemberIn};
+ghost use Rattle.px_ctl_play.specs.Notified.{same_spec, gives_up, gone, left, IsMemberIn};
 
 use crate::changes::two;
 use crate::factors::regrouped;
 use px_flat::Group;
 use px_msg::Msg;
-use px_plan::{Change, Input, Plan, Standing, Way};
+use px_outcome::{Change, Input, Standing, StepOutcome, Way};
 use px_sample::Spec;
 use px_types::{InputId, Mem};
 use std::alloc::Global;
@@ -45,17 +45,17 @@ fn gone<P: Drop>(
     x: &Input,
     group: Option<&Group>,
     inputs: &[Input],
-) -> Mem<Plan<Msg<P>, Group>>
+) -> Mem<StepOutcome<Msg<P>, Group>>
     requires { IsMemberIn (option_map (λ g. g.now) group) x.now }
-    ensures { IfOk result (λ plan. plan ≡ gone x.now (option_map (λ g. g.now) group.entry) inputs.now) }
+    ensures { IfOk result (λ outcome. outcome ≡ gone x.now (option_map (λ g. g.now) group.entry) inputs.now) }
 {
     let Some(group) = group else {
-        return Ok(Plan::idle(alloc));
+        return Ok(StepOutcome::idle(alloc));
     };
     let group = without(alloc, group, x.index)?;
     let regrouped = regrouped(alloc, x.sink, group, inputs)?;
     let changes = two(alloc, Change::Gone(x.index), regrouped)?;
-    Ok(Plan::changing(alloc, changes))
+    Ok(StepOutcome::changing(alloc, changes))
 }
 
 /// A sink with this group has given up a stream with this spec, for the input that it has, if it has that one, which is in the
@@ -68,12 +68,12 @@ pub fn left<P: Drop>(
     group: Option<&Group>,
     spec: Spec,
     inputs: &[Input],
-) -> Mem<Plan<Msg<P>, Group>>
+) -> Mem<StepOutcome<Msg<P>, Group>>
     requires { IfSome input (IsMemberIn (option_map (λ g. g.now) group)) }
-    ensures { IfOk result (λ plan. plan ≡ left input (option_map (λ g. g.now) group.entry) (sample_spec spec) inputs.now) }
+    ensures { IfOk result (λ outcome. outcome ≡ left input (option_map (λ g. g.now) group.entry) (sample_spec spec) inputs.now) }
 {
     match input {
         Some(x) if gives_up(spec, &x) => gone(alloc, &x, group, inputs),
-        _ => Ok(Plan::idle(alloc)),
+        _ => Ok(StepOutcome::idle(alloc)),
     }
 }

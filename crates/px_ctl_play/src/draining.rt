@@ -4,15 +4,15 @@
 
 ghost use Rattle.std.specs.Prelude.{◌≡◌, IfOk};
 ghost use Rattle.std.specs.Option.{option_map};
-ghost use Rattle.px_plan.specs.Row.{Plans};
-ghost use Rattle.px_plan.specs.Waiting.{is_drain_under, drain_under};
+ghost use Rattle.px_outcome.specs.Handled.{HandledAs};
+ghost use Rattle.px_outcome.specs.Waiting.{is_drain_under, drain_under};
 ghost use Rattle.px_ctl_play.specs.Drain.{drain, drain_answered, drained};
 
 use crate::answer::{answered, asked};
 use crate::refusals::goes_on;
 use px_flat::Group;
 use px_msg::Msg;
-use px_plan::{Awaited, Connection, Input, Plan, Refusal, Waiting, present};
+use px_outcome::{Awaited, Connection, Input, Refusal, StepOutcome, Waiting, present};
 use px_types::{ErrorCode, InputId, Mem, NoMemory};
 use std::alloc::Global;
 
@@ -22,8 +22,8 @@ pub fn drain<P: Drop>(
     alloc: Global,
     stream: Option<Input>,
     tag: u32,
-) -> Result<Plan<Msg<P>, Group>, Refusal>
-    ensures { Plans result (drain stream tag) }
+) -> Result<StepOutcome<Msg<P>, Group>, Refusal>
+    ensures { HandledAs result (drain stream tag) }
 {
     let x = present(stream, ErrorCode::NoEntity)?;
     let message = Msg::Drain {
@@ -54,11 +54,11 @@ fn drain_answered<P: Drop>(
     alloc: Global,
     owner: Option<Connection>,
     request: Option<&Waiting>,
-) -> Mem<Plan<Msg<P>, Group>>
-    ensures { IfOk result (λ plan. plan ≡ drain_answered owner (option_map (λ request. request.now) request.entry)) }
+) -> Mem<StepOutcome<Msg<P>, Group>>
+    ensures { IfOk result (λ outcome. outcome ≡ drain_answered owner (option_map (λ request. request.now) request.entry)) }
 {
     let Some(request) = request else {
-        return Ok(Plan::idle(alloc));
+        return Ok(StepOutcome::idle(alloc));
     };
     match px_reply::plain(alloc, request.tag) {
         Ok(reply) => answered(alloc, owner, *request, reply),
@@ -75,13 +75,13 @@ pub fn drained<P: Drop>(
     owner: Option<Connection>,
     waiting: &[Waiting],
     tag: u32,
-) -> Mem<Plan<Msg<P>, Group>>
-    ensures { IfOk result (λ plan. plan ≡ drained input owner waiting.now tag) }
+) -> Mem<StepOutcome<Msg<P>, Group>>
+    ensures { IfOk result (λ outcome. outcome ≡ drained input owner waiting.now tag) }
 {
     match input {
         Some(x) if goes_on(&x) => {
             drain_answered(alloc, owner, drain_under(waiting, x.index, tag))
         }
-        _ => Ok(Plan::idle(alloc)),
+        _ => Ok(StepOutcome::idle(alloc)),
     }
 }

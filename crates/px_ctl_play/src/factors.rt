@@ -2,14 +2,14 @@
 
 ghost use Rattle.std.specs.Prelude.{◌≡◌, ◌++◌, ◌∷◌, [], List, None, Some, IsSome, IfOk, OnOk};
 ghost use Rattle.px_flat.specs.FlatVolume.{factors_for, member_of, real_of};
-ghost use Rattle.px_plan.specs.Input.{settled_on, is_settled};
-ghost use Rattle.px_plan.specs.declared.input.Input.{Input};
+ghost use Rattle.px_outcome.specs.Input.{settled_on, is_settled};
+ghost use Rattle.px_outcome.specs.declared.input.Input.{Input};
 ghost use Rattle.px_ctl_play.specs.Arrival.{is_settled_with, settled_with};
 ghost use Rattle.px_ctl_play.specs.Factors.{gains_of, factor_list, own_factors, regrouped};
 
 use px_flat::Group;
 use px_msg::{FactorList, InputFactors, Msg};
-use px_plan::{Change, Input, Standing};
+use px_outcome::{Change, Input, Standing};
 use px_types::{InputId, Mem, SinkId};
 use px_vol::{CVolume, Factors};
 use std::alloc::Global;

@@ -12,7 +12,7 @@ use crate::asked::channels_on;
 use px_chmap::Feed;
 use px_cmd::CreateFields;
 use px_flat::{Group, How};
-use px_plan::{Input, Target};
+use px_outcome::{Input, Target};
 use px_types::Mem;
 use px_vol::CVolume;
 use std::alloc::Global;

@@ -2,13 +2,13 @@
 //! `pulsecore/protocol-native.c`; that requests which wait are told so is own).
 
 ghost use Rattle.std.specs.Prelude.{◌≡◌, IfOk, Ok};
-ghost use Rattle.px_plan.specs.Row.{Plans};
+ghost use Rattle.px_outcome.specs.Handled.{HandledAs};
 ghost use Rattle.px_ctl_play.specs.Answer.{sent_to};
 ghost use Rattle.px_ctl_play.specs.Kill.{errors_to, killed_message, killed, kill_input};
 
 use crate::answer::sent_to;
 use crate::deletion::{ended, errors_for};
-use px_plan::{Connection, Input, Plan, Refusal, Sending, Waiting, present};
+use px_outcome::{Connection, Input, Refusal, Sending, StepOutcome, Waiting, present};
 use px_types::{ErrorCode, Mem, NoMemory};
 use std::alloc::Global;
 
@@ -28,7 +28,7 @@ fn errors_to(
 }
 
 // PLAYBACK_STREAM_KILLED to the connection of an input, where that goes on.
-fn told(alloc: Global, owner: Option<Connection>, x: &Input) -> Mem<Vec<Sending>>
+fn notified(alloc: Global, owner: Option<Connection>, x: &Input) -> Mem<Vec<Sending>>
     ensures { IfOk result (λ sent. sent.items ≡ sent_to owner (killed_message x.now)) }
 {
     match px_reply::killed(alloc, x.stream) {
@@ -44,12 +44,12 @@ fn killed<M: Drop, G: Drop>(
     owner: Option<Connection>,
     waiting: &[Waiting],
     tag: u32,
-) -> Result<Plan<M, G>, Refusal>
-    ensures { Plans result (Ok (killed x.now owner waiting.now tag)) }
+) -> Result<StepOutcome<M, G>, Refusal>
+    ensures { HandledAs result (Ok (killed x.now owner waiting.now tag)) }
 {
     let errors = errors_to(alloc, owner, x, waiting)?;
-    let told = told(alloc, owner, x)?;
-    ended(alloc, x, errors, told, tag)
+    let notified = notified(alloc, owner, x)?;
+    ended(alloc, x, errors, notified, tag)
 }
 
 /// KILL_SINK_INPUT of this input, whose connection is `owner` where that goes on: the input ends. Behind the plain reply the
@@ -61,8 +61,8 @@ pub fn kill_input<M: Drop, G: Drop>(
     owner: Option<Connection>,
     waiting: &[Waiting],
     tag: u32,
-) -> Result<Plan<M, G>, Refusal>
-    ensures { Plans result (kill_input input owner waiting.now tag) }
+) -> Result<StepOutcome<M, G>, Refusal>
+    ensures { HandledAs result (kill_input input owner waiting.now tag) }
 {
     let x = present(input, ErrorCode::NoEntity)?;
     killed(alloc, &x, owner, waiting, tag)

@@ -1,5 +1,5 @@
 //! The commands of playback streams and what their sinks tell of them: each reads the parts of the state that its rule names,
-//! and gives a plan or the reason why it is refused. It exports a call a command, and one a kind of notice, and
+//! and gives an outcome or the reason why it is refused. It exports a call a command, and one a kind of notice, and
 //! `regrouped`, by which a sink is told the factors that its group of volumes gives.
 #![tactic(auto)]
 
@@ -19,10 +19,10 @@ mod factors;
 mod joining;
 mod killing;
 mod moving;
+mod notified;
 mod refusals;
 mod time;
 mod timing;
-mod told;
 
 pub use arrival::{Arrival, arrive, hands_over};
 pub use buffer_attr::attributes;
@@ -35,5 +35,5 @@ pub use draining::{drain, drained};
 pub use factors::regrouped;
 pub use killing::kill_input;
 pub use moving::move_input;
+pub use notified::{News, notify};
 pub use timing::{Progress, latency, measured};
-pub use told::{News, tell};

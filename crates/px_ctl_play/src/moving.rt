@@ -2,13 +2,13 @@
 
 ghost use Rattle.std.specs.Prelude.{◌≡◌, length, IfSome, Ok};
 ghost use Rattle.px_chmap.specs.Plan.{FeedsAll};
-ghost use Rattle.px_plan.specs.Input.{is_moving};
-ghost use Rattle.px_plan.specs.Row.{Plans};
+ghost use Rattle.px_outcome.specs.Input.{is_moving};
+ghost use Rattle.px_outcome.specs.Handled.{HandledAs};
 ghost use Rattle.px_ctl_play.specs.Move.{feed_to, has_place, sent, sent_off, moved_to, move_input};
 
 use crate::refusals::count_bound;
 use px_chmap::{Feed, Map, plan};
-use px_plan::{Change, Input, Named, Plan, Refusal, Standing, Target, check, present};
+use px_outcome::{Change, Input, Named, Refusal, Standing, StepOutcome, Target, check, present};
 use px_types::limits::MAX_INPUTS_ON_SINK;
 use px_types::{ErrorCode, SinkId};
 use std::alloc::Global;
@@ -41,13 +41,13 @@ fn sent<M: Drop, G: Drop>(
     x: &Input,
     sink: &Target,
     tag: u32,
-) -> Result<Plan<M, G>, Refusal>
-    ensures { Plans result (Ok (sent x.now sink.now tag)) }
+) -> Result<StepOutcome<M, G>, Refusal>
+    ensures { HandledAs result (Ok (sent x.now sink.now tag)) }
 {
     let reply = px_reply::plain(alloc, tag)?;
     let mut changes = Vec::new(alloc);
     changes.push(Change::Moves(x.index, sink.index))?;
-    Ok(Plan::replied(alloc, reply, changes))
+    Ok(StepOutcome::replied(alloc, reply, changes))
 }
 
 // An input goes to a sink that it isn't on.
@@ -57,8 +57,8 @@ fn sent_off<M: Drop, G: Drop>(
     sink: &Target,
     inputs: &[Input],
     tag: u32,
-) -> Result<Plan<M, G>, Refusal>
-    ensures { Plans result (sent_off x.now sink.now inputs.now tag) }
+) -> Result<StepOutcome<M, G>, Refusal>
+    ensures { HandledAs result (sent_off x.now sink.now inputs.now tag) }
 {
     check(!x.no_move, ErrorCode::Invalid)?;
     check(x.spec.rate == sink.spec.rate, ErrorCode::NotSupported)?;
@@ -74,12 +74,12 @@ fn moved_to<M: Drop, G: Drop>(
     sink: &Target,
     inputs: &[Input],
     tag: u32,
-) -> Result<Plan<M, G>, Refusal>
-    ensures { Plans result (moved_to x.now sink.now inputs.now tag) }
+) -> Result<StepOutcome<M, G>, Refusal>
+    ensures { HandledAs result (moved_to x.now sink.now inputs.now tag) }
 {
     if x.sink.0 == sink.index.0 {
         let reply = px_reply::plain(alloc, tag)?;
-        Ok(Plan::replied(alloc, reply, Vec::new(alloc)))
+        Ok(StepOutcome::replied(alloc, reply, Vec::new(alloc)))
     } else {
         sent_off(alloc, x, sink, inputs, tag)
     }
@@ -96,8 +96,8 @@ pub fn move_input<M: Drop, G: Drop>(
     named: Named,
     inputs: &[Input],
     tag: u32,
-) -> Result<Plan<M, G>, Refusal>
-    ensures { Plans result (move_input input named inputs.now tag) }
+) -> Result<StepOutcome<M, G>, Refusal>
+    ensures { HandledAs result (move_input input named inputs.now tag) }
 {
     check(named.is_clear(), ErrorCode::Invalid)?;
     let x = present(input, ErrorCode::NoEntity)?;

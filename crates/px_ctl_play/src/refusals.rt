@@ -1,12 +1,12 @@
 //! Why a stream that could be isn't made on its sink.
 
 ghost use Rattle.std.specs.Prelude.{◌≡◌, ◌<◌, true, length};
-ghost use Rattle.px_plan.specs.Input.{belongs_to, is_bound_for, bound_for, going_of, is_leaving, goes_on};
+ghost use Rattle.px_outcome.specs.Input.{belongs_to, is_bound_for, bound_for, going_of, is_leaving, goes_on};
 ghost use Rattle.px_ctl_play.specs.Asked.{is_supported, has_room};
 
 use crate::asked::{format_on, rate_on};
 use px_cmd::CreateFields;
-use px_plan::{Connection, Input, Standing, Target};
+use px_outcome::{Connection, Input, Standing, Target};
 use px_types::SinkId;
 use px_types::limits::{MAX_INPUTS, MAX_INPUTS_ON_SINK, NO_INDEX};
 

@@ -3,8 +3,8 @@
 
 ghost use Rattle.std.specs.Prelude.{◌≡◌, ◌≤◌, IfOk};
 ghost use Rattle.std.specs.Option.{option_map};
-ghost use Rattle.px_plan.specs.Row.{Plans};
-ghost use Rattle.px_plan.specs.Waiting.{is_question_under, question_under};
+ghost use Rattle.px_outcome.specs.Handled.{HandledAs};
+ghost use Rattle.px_outcome.specs.Waiting.{is_question_under, question_under};
 ghost use Rattle.px_ctl_play.specs.Latency.{latency, index_in_bytes, count_in_bytes, silent_for, playing_for, time_given, fields_of, latency_answered, measured};
 
 use crate::answer::{answered, asked};
@@ -13,7 +13,7 @@ use crate::refusals::goes_on;
 use crate::time::microseconds;
 use px_flat::Group;
 use px_msg::{Msg, Run};
-use px_plan::{Awaited, Connection, Input, Plan, Refusal, Waiting, present};
+use px_outcome::{Awaited, Connection, Input, Refusal, StepOutcome, Waiting, present};
 use px_reply::LatencyFields;
 use px_sample::Spec;
 use px_tag::TimeVal;
@@ -42,8 +42,8 @@ pub fn latency<P: Drop>(
     stream: Option<Input>,
     time: TimeVal,
     tag: u32,
-) -> Result<Plan<Msg<P>, Group>, Refusal>
-    ensures { Plans result (latency stream time tag) }
+) -> Result<StepOutcome<Msg<P>, Group>, Refusal>
+    ensures { HandledAs result (latency stream time tag) }
 {
     let x = present(stream, ErrorCode::NoEntity)?;
     let message = Msg::Query {
@@ -140,12 +140,12 @@ fn latency_answered<P: Drop>(
     owner: Option<Connection>,
     request: Option<&Waiting>,
     progress: Progress,
-) -> Mem<Plan<Msg<P>, Group>>
+) -> Mem<StepOutcome<Msg<P>, Group>>
     requires { 1 ≤ rate }
-    ensures { IfOk result (λ plan. plan ≡ latency_answered rate x.now owner (option_map (λ request. request.now) request.entry) progress) }
+    ensures { IfOk result (λ outcome. outcome ≡ latency_answered rate x.now owner (option_map (λ request. request.now) request.entry) progress) }
 {
     let Some(request) = request else {
-        return Ok(Plan::idle(alloc));
+        return Ok(StepOutcome::idle(alloc));
     };
     let fields = fields_of(rate, x, progress, time_given(request.awaited));
     match px_reply::latency(alloc, request.tag, &fields) {
@@ -165,15 +165,15 @@ pub fn measured<P: Drop>(
     rate: u32,
     tag: u32,
     progress: Progress,
-) -> Mem<Plan<Msg<P>, Group>>
+) -> Mem<StepOutcome<Msg<P>, Group>>
     requires { 1 ≤ rate }
-    ensures { IfOk result (λ plan. plan ≡ measured input owner waiting.now rate tag progress) }
+    ensures { IfOk result (λ outcome. outcome ≡ measured input owner waiting.now rate tag progress) }
 {
     match input {
         Some(x) if goes_on(&x) => {
             let request = question_under(waiting, x.index, tag);
             latency_answered(alloc, rate, &x, owner, request, progress)
         }
-        _ => Ok(Plan::idle(alloc)),
+        _ => Ok(StepOutcome::idle(alloc)),
     }
 }

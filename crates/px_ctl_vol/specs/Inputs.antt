@@ -4,15 +4,15 @@ use Rattle.px_types.specs.declared.error_code.ErrorCode.TheVariants.{Busy, Inval
 use Rattle.px_flat.specs.declared.member.Member.{Member}
 use Rattle.px_flat.specs.FlatVolume.{FlatGroup, member_of, with_input_volume, with_input_mute}
 use Rattle.px_msg.specs.declared.message.Msg.{Msg}
-use Rattle.px_plan.specs.declared.input.Input.{Input}
-use Rattle.px_plan.specs.Input.{is_moving}
-use Rattle.px_plan.specs.Plan.{Planned}
-use Rattle.px_plan.specs.Row.{Row, ◌>>=◌, check, present}
+use Rattle.px_outcome.specs.declared.input.Input.{Input}
+use Rattle.px_outcome.specs.Input.{is_moving}
+use Rattle.px_outcome.specs.Outcome.{OutcomeParts}
+use Rattle.px_outcome.specs.Handled.{Handled, ◌>>=◌, check, present}
 use Rattle.px_ctl_vol.specs.Asked.{is_volume, fits}
 use Rattle.px_ctl_vol.specs.Factors.{regrouped}
 
 -- an input, where it is in this group, has the volume, where its channels can have it and it isn't on its way to another sink
-abbrev pub with_suiting_volume : {P : Type 0} → Input → FlatGroup → List Input → List ℕ → ℕ → Row (Planned (Msg P) FlatGroup)
+abbrev pub with_suiting_volume : {P : Type 0} → Input → FlatGroup → List Input → List ℕ → ℕ → Handled (OutcomeParts (Msg P) FlatGroup)
 with_suiting_volume x group inputs volume tag = do
   member ← present (member_of (FlatGroup.members group) (Input.index x)) NoEntity
   suits ← check (fits volume (length (Member.volume member))) Invalid
@@ -20,7 +20,7 @@ with_suiting_volume x group inputs volume tag = do
   Ok (regrouped (Input.sink x) (with_input_volume (Input.index x) volume group) inputs tag)
 
 -- the input, in this group of the sink that it is on, has the volume, and the sink and its other inputs follow
-abbrev pub set_input_volume : {P : Type 0} → Option Input → Option FlatGroup → List Input → List ℕ → ℕ → Row (Planned (Msg P) FlatGroup)
+abbrev pub set_input_volume : {P : Type 0} → Option Input → Option FlatGroup → List Input → List ℕ → ℕ → Handled (OutcomeParts (Msg P) FlatGroup)
 set_input_volume input group inputs volume tag = do
   valid ← check (is_volume volume) Invalid
   x ← present input NoEntity
@@ -31,7 +31,7 @@ set_input_volume input group inputs volume tag = do
   Ok (regrouped (Input.sink x) (with_input_volume (Input.index x) volume group) inputs tag)
 
 -- the input, in this group of the sink that it is on, is muted or not
-abbrev pub set_input_mute : {P : Type 0} → Option Input → Option FlatGroup → List Input → Bool → ℕ → Row (Planned (Msg P) FlatGroup)
+abbrev pub set_input_mute : {P : Type 0} → Option Input → Option FlatGroup → List Input → Bool → ℕ → Handled (OutcomeParts (Msg P) FlatGroup)
 set_input_mute input group inputs on tag = do
   x ← present input NoEntity
   group ← present group NoEntity

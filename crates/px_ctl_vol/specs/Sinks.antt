@@ -4,23 +4,23 @@ use Rattle.px_types.specs.declared.error_code.ErrorCode.TheVariants.{Invalid, No
 use Rattle.px_types.specs.declared.ids.SinkId.{SinkId}
 use Rattle.px_flat.specs.FlatVolume.{FlatGroup, with_sink_volume, with_sink_mute}
 use Rattle.px_msg.specs.declared.message.Msg.{Msg}
-use Rattle.px_plan.specs.declared.input.Input.{Input}
-use Rattle.px_plan.specs.declared.target.Named.{Named}
-use Rattle.px_plan.specs.declared.target.Target.{Target}
-use Rattle.px_plan.specs.Plan.{Planned}
-use Rattle.px_plan.specs.Row.{Row, ◌>>=◌, check, present}
-use Rattle.px_plan.specs.Target.{is_clear, target_of}
+use Rattle.px_outcome.specs.declared.input.Input.{Input}
+use Rattle.px_outcome.specs.declared.target.Named.{Named}
+use Rattle.px_outcome.specs.declared.target.Target.{Target}
+use Rattle.px_outcome.specs.Outcome.{OutcomeParts}
+use Rattle.px_outcome.specs.Handled.{Handled, ◌>>=◌, check, present}
+use Rattle.px_outcome.specs.Target.{is_clear, target_of}
 use Rattle.px_ctl_vol.specs.Asked.{is_volume, fits}
 use Rattle.px_ctl_vol.specs.Factors.{regrouped}
 
 -- a sink with this group has the volume, where its channels can have it, and its inputs follow
-abbrev pub with_suiting_volume : {P : Type 0} → SinkId → FlatGroup → List Input → List ℕ → ℕ → Row (Planned (Msg P) FlatGroup)
+abbrev pub with_suiting_volume : {P : Type 0} → SinkId → FlatGroup → List Input → List ℕ → ℕ → Handled (OutcomeParts (Msg P) FlatGroup)
 with_suiting_volume sink group inputs volume tag = do
   suits ← check (fits volume (length (FlatGroup.reference group))) Invalid
   Ok (regrouped sink (with_sink_volume volume group) inputs tag)
 
 -- the sink that is named, with this group, has the volume, and its inputs follow
-abbrev pub set_sink_volume : {P : Type 0} → Named → Option FlatGroup → List Input → List ℕ → ℕ → Row (Planned (Msg P) FlatGroup)
+abbrev pub set_sink_volume : {P : Type 0} → Named → Option FlatGroup → List Input → List ℕ → ℕ → Handled (OutcomeParts (Msg P) FlatGroup)
 set_sink_volume named group inputs volume tag = do
   clear ← check (is_clear named) Invalid
   valid ← check (is_volume volume) Invalid
@@ -29,7 +29,7 @@ set_sink_volume named group inputs volume tag = do
   with_suiting_volume (Target.index sink) group inputs volume tag
 
 -- the sink that is named, with this group, is muted or not
-abbrev pub set_sink_mute : {P : Type 0} → Named → Option FlatGroup → List Input → Bool → ℕ → Row (Planned (Msg P) FlatGroup)
+abbrev pub set_sink_mute : {P : Type 0} → Named → Option FlatGroup → List Input → Bool → ℕ → Handled (OutcomeParts (Msg P) FlatGroup)
 set_sink_mute named group inputs on tag = do
   clear ← check (is_clear named) Invalid
   sink ← present (target_of named) NoEntity

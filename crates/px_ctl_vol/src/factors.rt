@@ -1,29 +1,29 @@
 //! A sink has another group of volumes, and is told the factors that this gives.
 
 ghost use Rattle.std.specs.Prelude.{◌≡◌, ◌∷◌, [], Ok};
-ghost use Rattle.px_plan.specs.Plan.{replied};
-ghost use Rattle.px_plan.specs.Row.{Plans};
+ghost use Rattle.px_outcome.specs.Outcome.{replied};
+ghost use Rattle.px_outcome.specs.Handled.{HandledAs};
 ghost use Rattle.px_reply.specs.Front.{reply_to};
 ghost use Rattle.px_ctl_vol.specs.Factors.{regrouped};
 
 use px_flat::Group;
 use px_msg::Msg;
-use px_plan::{Change, Input, Plan, Refusal};
+use px_outcome::{Change, Input, Refusal, StepOutcome};
 use px_types::SinkId;
 use std::alloc::Global;
 
-// A plan of this change alone, with a reply without fields.
+// An outcome of this change alone, with a reply without fields.
 fn replied<M: Drop, G: Drop>(
     alloc: Global,
     change: Change<M, G>,
     tag: u32,
-) -> Result<Plan<M, G>, Refusal>
-    ensures { Plans result (Ok (replied (reply_to tag) (change ∷ []))) }
+) -> Result<StepOutcome<M, G>, Refusal>
+    ensures { HandledAs result (Ok (replied (reply_to tag) (change ∷ []))) }
 {
     let mut changes = Vec::new(alloc);
     changes.push(change)?;
     let reply = px_reply::plain(alloc, tag)?;
-    Ok(Plan::replied(alloc, reply, changes))
+    Ok(StepOutcome::replied(alloc, reply, changes))
 }
 
 /// A sink has this group, and is told the factors of the inputs that are settled on it, in rising index; the client has a reply without
@@ -34,8 +34,8 @@ pub(crate) fn regrouped<P: Drop>(
     group: Group,
     inputs: &[Input],
     tag: u32,
-) -> Result<Plan<Msg<P>, Group>, Refusal>
-    ensures { Plans result (Ok (regrouped sink group inputs.now tag)) }
+) -> Result<StepOutcome<Msg<P>, Group>, Refusal>
+    ensures { HandledAs result (Ok (regrouped sink group inputs.now tag)) }
 {
     let change = px_ctl_play::regrouped(alloc, sink, group, inputs)?;
     replied(alloc, change, tag)

@@ -6,8 +6,8 @@ ghost use Rattle.std.specs.Option.{option_map};
 ghost use Rattle.px_vol.specs.Volume.{IsChannelVolume};
 ghost use Rattle.px_flat.specs.Member.{SuitsChannels};
 ghost use Rattle.px_flat.specs.FlatVolume.{member_of, with_input_volume, with_input_mute};
-ghost use Rattle.px_plan.specs.Input.{is_moving};
-ghost use Rattle.px_plan.specs.Row.{Plans};
+ghost use Rattle.px_outcome.specs.Input.{is_moving};
+ghost use Rattle.px_outcome.specs.Handled.{HandledAs};
 ghost use Rattle.px_ctl_vol.specs.Factors.{regrouped};
 ghost use Rattle.px_ctl_vol.specs.Inputs.{with_suiting_volume, set_input_volume, set_input_mute};
 
@@ -15,7 +15,7 @@ use crate::asked::{asked, fits, is_volume};
 use crate::factors::regrouped;
 use px_flat::{Group, Member};
 use px_msg::Msg;
-use px_plan::{Input, Plan, Refusal, Standing, check, present};
+use px_outcome::{Input, Refusal, Standing, StepOutcome, check, present};
 use px_tag::RawVolume;
 use px_types::{ErrorCode, InputId};
 use std::alloc::Global;
@@ -52,11 +52,11 @@ fn with_volume<P: Drop>(
     inputs: &[Input],
     volume: &RawVolume,
     tag: u32,
-) -> Result<Plan<Msg<P>, Group>, Refusal>
+) -> Result<StepOutcome<Msg<P>, Group>, Refusal>
     requires valid { IsChannelVolume volume.now }
     requires there { IsSome (member_of group.now.members x.now.index) }
     requires suits { IfSome (member_of group.now.members x.now.index) (λ m. SuitsChannels volume.now (length m.volume)) }
-    ensures { Plans result (Ok (regrouped x.now.sink (with_input_volume x.now.index volume.now group.now) inputs.now tag)) }
+    ensures { HandledAs result (Ok (regrouped x.now.sink (with_input_volume x.now.index volume.now group.now) inputs.now tag)) }
 {
     let mut changed = group.copy(alloc)?;
     changed.set_input(x.index, &asked(volume));
@@ -71,9 +71,9 @@ fn with_suiting_volume<P: Drop>(
     inputs: &[Input],
     volume: &RawVolume,
     tag: u32,
-) -> Result<Plan<Msg<P>, Group>, Refusal>
+) -> Result<StepOutcome<Msg<P>, Group>, Refusal>
     requires { IsChannelVolume volume.now }
-    ensures { Plans result (with_suiting_volume x.now group.now inputs.now volume.now tag) }
+    ensures { HandledAs result (with_suiting_volume x.now group.now inputs.now volume.now tag) }
 {
     let member = present(member_of(group.members(), x.index), ErrorCode::NoEntity)?;
     check(
@@ -92,9 +92,9 @@ fn with_mute<P: Drop>(
     inputs: &[Input],
     on: bool,
     tag: u32,
-) -> Result<Plan<Msg<P>, Group>, Refusal>
+) -> Result<StepOutcome<Msg<P>, Group>, Refusal>
     requires { IsSome (member_of group.now.members x.now.index) }
-    ensures { Plans result (Ok (regrouped x.now.sink (with_input_mute x.now.index on group.now) inputs.now tag)) }
+    ensures { HandledAs result (Ok (regrouped x.now.sink (with_input_mute x.now.index on group.now) inputs.now tag)) }
 {
     let mut changed = group.copy(alloc)?;
     changed.mute_input(x.index, on);
@@ -112,8 +112,8 @@ pub fn set_input_volume<P: Drop>(
     inputs: &[Input],
     volume: &RawVolume,
     tag: u32,
-) -> Result<Plan<Msg<P>, Group>, Refusal>
-    ensures { Plans result (set_input_volume input (option_map (λ group. group.now) group.entry) inputs.now volume.now tag) }
+) -> Result<StepOutcome<Msg<P>, Group>, Refusal>
+    ensures { HandledAs result (set_input_volume input (option_map (λ group. group.now) group.entry) inputs.now volume.now tag) }
 {
     check(is_volume(volume), ErrorCode::Invalid)?;
     let x = present(input, ErrorCode::NoEntity)?;
@@ -133,8 +133,8 @@ pub fn set_input_mute<P: Drop>(
     inputs: &[Input],
     on: bool,
     tag: u32,
-) -> Result<Plan<Msg<P>, Group>, Refusal>
-    ensures { Plans result (set_input_mute input (option_map (λ group. group.now) group.entry) inputs.now on tag) }
+) -> Result<StepOutcome<Msg<P>, Group>, Refusal>
+    ensures { HandledAs result (set_input_mute input (option_map (λ group. group.now) group.entry) inputs.now on tag) }
 {
     let x = present(input, ErrorCode::NoEntity)?;
     let Some(group) = group else {

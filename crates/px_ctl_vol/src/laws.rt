@@ -4,7 +4,7 @@ ghost use Rattle.std.specs.Prelude.{◌≡◌, List, map, filter, length};
 ghost use Rattle.std.specs.List.{AllByRecursion};
 ghost use Rattle.px_flat.specs.FlatVolume.{FlatGroup};
 ghost use Rattle.px_msg.specs.declared.factors.InputFactors.{InputFactors};
-ghost use Rattle.px_plan.specs.declared.input.Input.{Input};
+ghost use Rattle.px_outcome.specs.declared.input.Input.{Input};
 ghost use Rattle.px_ctl_play.specs.Factors.{factor_list};
 ghost use Rattle.px_ctl_vol.specs.Factors.{is_member};
 

@@ -1,5 +1,5 @@
 //! The commands on volumes and mutes, of sinks and of inputs: each reads the group of a sink's volumes that it changes, and gives a
-//! plan or the reason why it is refused. It exports a call a command, and what holds of the factors that they plan.
+//! outcome or the reason why it is refused. It exports a call a command, and what holds of the factors that they outcome.
 #![tactic(auto)]
 
 mod asked;

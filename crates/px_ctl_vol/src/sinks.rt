@@ -5,7 +5,7 @@ ghost use Rattle.std.specs.Prelude.{Ok};
 ghost use Rattle.std.specs.Option.{option_map};
 ghost use Rattle.px_vol.specs.Volume.{IsChannelVolume};
 ghost use Rattle.px_flat.specs.FlatVolume.{with_sink_mute};
-ghost use Rattle.px_plan.specs.Row.{Plans};
+ghost use Rattle.px_outcome.specs.Handled.{HandledAs};
 ghost use Rattle.px_ctl_vol.specs.Factors.{regrouped};
 ghost use Rattle.px_ctl_vol.specs.Sinks.{with_suiting_volume, set_sink_volume, set_sink_mute};
 
@@ -13,7 +13,7 @@ use crate::asked::{asked, fits, is_volume};
 use crate::factors::regrouped;
 use px_flat::Group;
 use px_msg::Msg;
-use px_plan::{Input, Named, Plan, Refusal, check, present};
+use px_outcome::{Input, Named, Refusal, StepOutcome, check, present};
 use px_tag::RawVolume;
 use px_types::{ErrorCode, SinkId};
 use std::alloc::Global;
@@ -26,9 +26,9 @@ fn with_volume<P: Drop>(
     inputs: &[Input],
     volume: &RawVolume,
     tag: u32,
-) -> Result<Plan<Msg<P>, Group>, Refusal>
+) -> Result<StepOutcome<Msg<P>, Group>, Refusal>
     requires { IsChannelVolume volume.now }
-    ensures { Plans result (with_suiting_volume sink group.now inputs.now volume.now tag) }
+    ensures { HandledAs result (with_suiting_volume sink group.now inputs.now volume.now tag) }
 {
     check(
         fits(volume, group.reference().values().len()),
@@ -47,8 +47,8 @@ fn with_mute<P: Drop>(
     inputs: &[Input],
     on: bool,
     tag: u32,
-) -> Result<Plan<Msg<P>, Group>, Refusal>
-    ensures { Plans result (Ok (regrouped sink (with_sink_mute on group.now) inputs.now tag)) }
+) -> Result<StepOutcome<Msg<P>, Group>, Refusal>
+    ensures { HandledAs result (Ok (regrouped sink (with_sink_mute on group.now) inputs.now tag)) }
 {
     let mut changed = group.copy(alloc)?;
     changed.mute_sink(on);
@@ -66,8 +66,8 @@ pub fn set_sink_volume<P: Drop>(
     inputs: &[Input],
     volume: &RawVolume,
     tag: u32,
-) -> Result<Plan<Msg<P>, Group>, Refusal>
-    ensures { Plans result (set_sink_volume named (option_map (λ group. group.now) group.entry) inputs.now volume.now tag) }
+) -> Result<StepOutcome<Msg<P>, Group>, Refusal>
+    ensures { HandledAs result (set_sink_volume named (option_map (λ group. group.now) group.entry) inputs.now volume.now tag) }
 {
     check(named.is_clear(), ErrorCode::Invalid)?;
     check(is_volume(volume), ErrorCode::Invalid)?;
@@ -88,8 +88,8 @@ pub fn set_sink_mute<P: Drop>(
     inputs: &[Input],
     on: bool,
     tag: u32,
-) -> Result<Plan<Msg<P>, Group>, Refusal>
-    ensures { Plans result (set_sink_mute named (option_map (λ group. group.now) group.entry) inputs.now on tag) }
+) -> Result<StepOutcome<Msg<P>, Group>, Refusal>
+    ensures { HandledAs result (set_sink_mute named (option_map (λ group. group.now) group.entry) inputs.now on tag) }
 {
     check(named.is_clear(), ErrorCode::Invalid)?;
     let sink = present(named.target(), ErrorCode::NoEntity)?;

@@ -10,6 +10,6 @@ sync_fails d small failing = record {
   bytes = 0;
   faults = next_count d.faults;
   counted = record { later = omega arith; more = omega arith };
-  told = subst (λ (b : Bool). MayFail (Some (next_of b (set_of d.armed d.each d.left)))) (sym failing) tt;
+  visible = subst (λ (b : Bool). MayFail (Some (next_of b (set_of d.armed d.each d.left)))) (sym failing) tt;
   state = ap (λ (p : List ℕ). record (state_of (sync_failed d)) { played = Some p }) (sym (append-nil d.played));
 }

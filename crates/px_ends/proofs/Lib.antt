@@ -1,4 +1,4 @@
-pub mod ToldBytes
+pub mod VisibleBytes
 pub mod Filling
 pub mod Frames
 mod Failing

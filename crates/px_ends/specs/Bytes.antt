@@ -4,7 +4,7 @@ use Rattle.px_ends.specs.declared.bytes.Got.{Got}
 use Rattle.px_ends.specs.declared.bytes.Got.TheVariants as got
 use Rattle.px_ends.specs.declared.bytes.Took.{Took}
 use Rattle.px_ends.specs.declared.bytes.Took.TheVariants as took
-use Rattle.px_ends.specs.Told.{before_taking, after_adding, IsAtEnd}
+use Rattle.px_ends.specs.Visible.{before_taking, after_adding, IsAtEnd}
 use Rattle.px_types.specs.Faults.{Rose}
 
 -- n bytes departed from what was left, the first n that the buffer now has

@@ -3,7 +3,7 @@
 use Rattle.std.specs.Prelude.{◌≡◌, ℕ, ◌+◌, ◌-◌, ◌*◌, ◌/◌, ◌^◌, ◌≤◌, min, Bool, true, IsFalse, List, ◌++◌, length, take, drop, Option, None, Some, ⊤, false}
 use Rattle.px_ends.specs.declared.device.DeviceShape.{DeviceShape}
 use Rattle.px_types.specs.Faults.{Rose}
-use Rattle.px_ends.specs.Told.{after_adding, WhereTold}
+use Rattle.px_ends.specs.Visible.{after_adding, WhereVisible}
 
 -- what a sync does: it consumes so many frames, or all that wait if those are fewer, or it fails
 pub data Next : Type 0 where
@@ -40,7 +40,7 @@ pub record IsShape (shape : DeviceShape) : Type 0 where
 
 -- the buffer holds the frames from consumed to filled, where it is told
 abbrev pub HoldsFrames : DeviceState → Type 0
-HoldsFrames d = WhereTold d.buffer (λ bytes. length bytes ≡ (d.filled - d.consumed) * d.frame)
+HoldsFrames d = WhereVisible d.buffer (λ bytes. length bytes ≡ (d.filled - d.consumed) * d.frame)
 
 -- ---- a sync
 
@@ -85,7 +85,7 @@ pub record Plays (consumed : ℕ) (before after : DeviceState) : Type 0 where
   pub going : IsFalse before.failed
   pub forward : before.consumed ≤ consumed
   pub within : consumed ≤ before.filled
-  pub told : Consumes before.next (before.filled - before.consumed) (consumed - before.consumed)
+  pub visible : Consumes before.next (before.filled - before.consumed) (consumed - before.consumed)
   pub steady : is_failing after.next ≡ is_failing before.next
   pub state : after ≡ record (played_on (consumed - before.consumed) before) { next = after.next }
 
@@ -97,7 +97,7 @@ pub record Fails (before after : DeviceState) : Type 0 where
   pub bytes : ℕ
   pub faults : ℕ
   pub counted : Rose before.faults faults
-  pub told : MayFail before.next
+  pub visible : MayFail before.next
   pub state : after ≡ record (failed_at bytes faults before) { next = after.next }
 
 -- ---- a put

@@ -12,7 +12,7 @@ use Rattle.px_ends.specs.declared.host.Accepted.{Accepted}
 use Rattle.px_ends.specs.declared.host.Accepted.TheVariants as accepted
 use Rattle.px_ends.specs.declared.host.HostFault.{HostFault}
 use Rattle.px_ends.specs.declared.host.HostFault.TheVariants as fault
-use Rattle.px_ends.specs.Told.{WhereTold}
+use Rattle.px_ends.specs.Visible.{WhereVisible}
 use Rattle.px_ends.specs.Device.{DeviceState}
 
 -- what a host took back of a sink
@@ -79,8 +79,8 @@ pub record IsNewDevice (shape : DeviceShape) (d : DeviceState) : Type 0 where
   pub depth : d.depth ≡ shape.depth
   pub consumed : d.consumed ≡ 0
   pub filled : d.filled ≡ 0
-  pub buffer : WhereTold d.buffer (λ bytes. bytes ≡ [])
-  pub played : WhereTold d.played (λ bytes. bytes ≡ [])
+  pub buffer : WhereVisible d.buffer (λ bytes. bytes ≡ [])
+  pub played : WhereVisible d.played (λ bytes. bytes ≡ [])
   pub faults : d.faults ≡ 0
   pub going : d.failed ≡ false
 
@@ -106,7 +106,7 @@ module _ {D R C : Type 0} where
 
   -- a start with these options that answers so: the bytes of the header file, or nothing changes but for a fault
   abbrev pub Starts : HeaderRead → ServeOptions → HostState D R C → HostState D R C → Type 0
-  Starts (read.Bytes text) options before after = WhereTold before.header (λ bytes. text ≡ bytes) × (after ≡ started_by options before)
+  Starts (read.Bytes text) options before after = WhereVisible before.header (λ bytes. text ≡ bytes) × (after ≡ started_by options before)
   Starts read.NoMemory options before after = after ≡ before
   Starts read.Failed options before after = FailsOnce before after
 

@@ -1,4 +1,4 @@
-pub mod Told
+pub mod Visible
 pub mod Bytes
 pub mod Links
 pub mod Whole

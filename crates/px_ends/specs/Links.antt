@@ -4,7 +4,7 @@ use Rattle.px_ends.specs.declared.link.Recv.{Recv}
 use Rattle.px_ends.specs.declared.link.Recv.TheVariants as recv
 use Rattle.px_ends.specs.declared.link.Sent.{Sent}
 use Rattle.px_ends.specs.declared.link.Sent.TheVariants as sent
-use Rattle.px_ends.specs.Told.{IsAtEnd}
+use Rattle.px_ends.specs.Visible.{IsAtEnd}
 use Rattle.px_types.specs.Faults.{Rose}
 use Rattle.px_ends.specs.Bytes.{Departs, Adds}
 

@@ -8,11 +8,11 @@ pub record MemoryClock : Type 0 where
   -- how often it was asked
   pub calls : ℕ
   -- the last moment that it told
-  pub told : ℕ
+  pub latest : ℕ
 
 -- what it tells next: the next of its moments, or none where all were told; never one before the last
 abbrev pub moment_in : MemoryClock → ℕ
-moment_in c = max c.told (unwrap_or (slice_get c.moments c.calls) c.told)
+moment_in c = max c.latest (unwrap_or (slice_get c.moments c.calls) c.latest)
 
 abbrev pub clock_after : MemoryClock → MemoryClock
-clock_after c = record c { calls = next_count c.calls; told = moment_in c }
+clock_after c = record c { calls = next_count c.calls; latest = moment_in c }

@@ -2,7 +2,7 @@
 use Rattle.std.specs.Prelude.{◌≡◌, ℕ, ◌<◌, ◌≤◌, List, ◌++◌, length, take, Option}
 use Rattle.px_ends.specs.declared.whole.Filled.{Filled}
 use Rattle.px_ends.specs.declared.whole.Filled.TheVariants as filled
-use Rattle.px_ends.specs.Told.{before_taking, after_adding, IsAtEnd}
+use Rattle.px_ends.specs.Visible.{before_taking, after_adding, IsAtEnd}
 use Rattle.px_types.specs.Faults.{Rose}
 
 -- so many bytes departed, which the buffer now has at its front

@@ -100,12 +100,12 @@ pub trait Host {
 
     /// A recorder for a sink, which holds nothing.
     fn lane_recorder(&mut self, alloc: Global) -> Result<Self::R, HostFault>
-        ensures recorder { IfOk result (λ recorder. IsNewRecorder (Self.R.told recorder) (Self.R.faults recorder) (Self.R.fulls recorder)) }
+        ensures recorder { IfOk result (λ recorder. IsNewRecorder (Self.R.visible recorder) (Self.R.faults recorder) (Self.R.fulls recorder)) }
         ensures host { Makes one_recorder result (now self.old) (now self.new) };
 
     /// A recorder for the core, which holds nothing.
     fn core_recorder(&mut self, alloc: Global) -> Result<Self::C, HostFault>
-        ensures recorder { IfOk result (λ recorder. IsNewRecorder (Self.C.told recorder) (Self.C.faults recorder) (Self.C.fulls recorder)) }
+        ensures recorder { IfOk result (λ recorder. IsNewRecorder (Self.C.visible recorder) (Self.C.faults recorder) (Self.C.fulls recorder)) }
         ensures host { Makes one_core result (now self.old) (now self.new) };
 
     /// Whether one more thread may be started. `false` is a fault.

@@ -41,7 +41,7 @@ impl Moments {
 pub struct MemClock {
     moments: Moments,
     calls: usize,
-    told: u64,
+    latest: u64,
 }
 
 impl Model for MemClock {
@@ -49,34 +49,34 @@ impl Model for MemClock {
 
     ghost Value = { MemoryClock };
 
-    ghost view = { λ c. record { moments = c.moments; calls = c.calls; told = c.told } };
+    ghost view = { λ c. record { moments = c.moments; calls = c.calls; latest = c.latest } };
 }
 
 impl MemClock {
     /// A clock of these moments that has told none. Takes no memory.
     pub fn new(moments: Moments) -> MemClock
-        ensures { result ≡ record { moments = moments; calls = 0; told = 0 } }
+        ensures { result ≡ record { moments = moments; calls = 0; latest = 0 } }
     {
         MemClock {
             moments,
             calls: 0,
-            told: 0,
+            latest: 0,
         }
     }
 }
 
 impl Clock for MemClock {
-    ghost told = { λ c. c.told };
+    ghost latest = { λ c. c.latest };
 
     fn now(&mut self) -> u64
-        ensures value { result ≡ self.new.told }
-        ensures later { self.old.told ≤ self.new.told }
+        ensures value { result ≡ self.new.latest }
+        ensures later { self.old.latest ≤ self.new.latest }
         ensures answer { result ≡ moment_in self.old }
         ensures after { self.new ≡ clock_after self.old }
     {
-        let next = self.moments.get(self.calls).unwrap_or(self.told);
-        self.told = self.told.max(next);
+        let next = self.moments.get(self.calls).unwrap_or(self.latest);
+        self.latest = self.latest.max(next);
         self.calls = self.calls.saturating_add(1);
-        self.told
+        self.latest
     }
 }

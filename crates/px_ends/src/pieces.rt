@@ -2,7 +2,7 @@
 
 ghost use Rattle.std.specs.Prelude.{◌≡◌, ◌≤◌, ◌++◌, [], length, IsTrue, OnOk, OnErr, ◌↔◌};
 ghost use Rattle.px_ends.specs.Bytes.{WriteTakes, WriteCounts};
-ghost use Rattle.px_ends.specs.Told.{after_adding};
+ghost use Rattle.px_ends.specs.Visible.{after_adding};
 ghost use Rattle.px_ends.specs.Whole.{AddsFront};
 ghost use Rattle.px_types.specs.Faults.{Rose};
 ghost use Rattle.px_ends.specs.Pieces.{PIECE};

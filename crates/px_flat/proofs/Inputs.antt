@@ -13,7 +13,7 @@ use Rattle.px_flat.specs.Member.{is_input, channels_of, to_reference, to_real, c
 use Rattle.px_flat.specs.FlatVolume.{FlatGroup, member_of, without_first, real_over, real_of, followed_over, raised_over, settled_over, attached, detached, factors_of}
 use Rattle.px_flat.specs.Inputs.{channels_in}
 use Rattle.px_flat.proofs.ByChannel.{length_per_channel}
-use Rattle.px_flat.proofs.Kept.{length_raised, length_real}
+use Rattle.px_flat.proofs.Preserved.{length_raised, length_real}
 
 abbrev counts : List Member → List ℕ
 counts ms = map (λ m. channels_of (Member.feed m)) ms

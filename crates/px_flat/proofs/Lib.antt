@@ -1,7 +1,7 @@
 pub mod ByChannel
 pub mod Found
 pub mod EachOne
-pub mod Kept
+pub mod Preserved
 pub mod Volumes
 pub mod TrueTo
 pub mod Inputs

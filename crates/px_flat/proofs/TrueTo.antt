@@ -10,7 +10,7 @@ use Rattle.px_flat.specs.Member.{IsMember, volume_at, with_mute, to_reference, t
 use Rattle.px_flat.specs.FlatVolume.{change_first, real_at, real_over, followed_over, raised_over, settled_over}
 use Rattle.px_flat.specs.Keeps.{IsTrueTo, IsGroup}
 use Rattle.px_flat.proofs.ByChannel.{at-per_channel, length_per_channel, same_default}
-use Rattle.px_flat.proofs.Kept.{all_map, all_change, to_real_keeps, to_reference_keeps, length_real, length_raised}
+use Rattle.px_flat.proofs.Preserved.{all_map, all_change, to_real_keeps, to_reference_keeps, length_real, length_raised}
 
 -- that a volume is given again by its quotient to one that is no less, and at most NORM
 abbrev pub IsUndone : Type 0

@@ -10,7 +10,7 @@ use Rattle.px_flat.specs.FlatVolume.{FlatGroup, with_input_volume, with_sink_vol
 use Rattle.px_flat.specs.Inputs.{channels_in}
 use Rattle.px_flat.specs.Keeps.{HasSameInputs}
 use Rattle.px_flat.proofs.ByChannel.{length_per_channel}
-use Rattle.px_flat.proofs.Kept.{length_raised, length_real, length_widened}
+use Rattle.px_flat.proofs.Preserved.{length_raised, length_real, length_widened}
 
 -- ---- members that change, but not in their input and their feed
 

@@ -5,14 +5,14 @@ use Rattle.px_frame.specs.declared.decoder.Run.TheVariants.{Fed, Broken}
 use Rattle.px_frame.specs.declared.frame.Frame.{Frame}
 use Rattle.px_frame.specs.Feeding.{Feeds}
 use Rattle.px_frame.specs.Progress.{Answers, Leaves, GivesBodies}
-use Rattle.px_frame.specs.Run.{IsRun, IsKept, answer_of, end_of}
+use Rattle.px_frame.specs.Run.{IsRun, IsRemaining, answer_of, end_of}
 use Rattle.px_frame.proofs.BodyLemmas.{bodies-read}
 use Rattle.px_frame.proofs.DecoderLemmas.{read-fed, fed-on, fed-broken}
 
 -- the part that it leaves
-pub run-kept : (start : ℕ) (held piece : List ℕ) (run : Run) → IsRun start held piece run → IsKept run
-run-kept start held piece (Fed frames part end) ran = ran.1
-run-kept start held piece (Broken frames fault at) ran = tt
+pub run-remaining : (start : ℕ) (held piece : List ℕ) (run : Run) → IsRun start held piece run → IsRemaining run
+run-remaining start held piece (Fed frames part end) ran = ran.1
+run-remaining start held piece (Broken frames fault at) ran = tt
 
 module _ (start : ℕ) (fed held piece : List ℕ) (before : List Frame) where
   -- its answer, of all that was fed

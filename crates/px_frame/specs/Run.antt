@@ -29,9 +29,9 @@ IsRun start held piece (Fed frames part start') = Feeds start held piece frames 
 IsRun start held piece (Broken frames fault at) = Breaks start held piece frames fault at
 
 -- the part of a frame that it leaves is one
-abbrev pub IsKept : Run → Type 0
-IsKept (Fed frames part start) = IsPart part
-IsKept (Broken frames fault at) = Unit {0}
+abbrev pub IsRemaining : Run → Type 0
+IsRemaining (Fed frames part start) = IsPart part
+IsRemaining (Broken frames fault at) = Unit {0}
 
 -- where a decoder stands behind it, and what it answers
 abbrev pub end_of : Run → Progress

@@ -5,7 +5,7 @@ ghost use Rattle.std.specs.Option.{option_to_list};
 ghost use Rattle.px_frame.specs.declared.frame.Frame.{Frame};
 ghost use Rattle.px_frame.specs.declared.fault.FrameFault.{FrameFault};
 ghost use Rattle.px_frame.specs.Progress.{Within, Stopped, Lost, HasFed, Answers, Leaves, GivesBodies};
-ghost use Rattle.px_frame.specs.Run.{IsRun, IsKept, answer_of, end_of};
+ghost use Rattle.px_frame.specs.Run.{IsRun, IsRemaining, answer_of, end_of};
 ghost use Rattle.px_frame.specs.Stage.{IsPart, held_of};
 
 use crate::fault::{FrameError, FrameFault};
@@ -99,7 +99,7 @@ impl Decoder {
 
     // Stands where the run ends, and answers what it brought.
     fn stand(&mut self, run: Run) -> Result<Frames, FrameError>
-        requires { IsKept run }
+        requires { IsRemaining run }
         ensures answer { result ≡ answer_of run }
         ensures stands { self.new ≡ end_of run }
     {

@@ -3,9 +3,9 @@ use Rattle.std.proofs.Common.{◌≡◌, ℕ, suc, ◌+◌, ◌-◌, ◌<◌, Li
 use Rattle.std.proofs.lemmas.List.{append-nil}
 use Rattle.std.proofs.lemmas.Option.{same_Some}
 use Rattle.std.specs.List.{flat_map}
-use Rattle.px_ends.specs.Told.{after_adding}
+use Rattle.px_ends.specs.Visible.{after_adding}
 use Rattle.px_ends.specs.Whole.{AddsFront}
-use Rattle.px_ends.proofs.ToldBytes.{adding_nothing, adding_both}
+use Rattle.px_ends.proofs.VisibleBytes.{adding_nothing, adding_both}
 use Rattle.px_session.specs.declared.event.Event.{Event}
 use Rattle.px_header.specs.declared.header.Header.{Header}
 use Rattle.px_session.specs.Spelling.{event, end_byte}

@@ -8,9 +8,9 @@ use px_annals::{Entry, MemRecorder, RecordFault, Recorder};
 #[derive(Debug, Drop)]
 pub enum History<E: Entry> {
     /// They are kept.
-    Kept(MemRecorder<E>),
+    InMemory(MemRecorder<E>),
     /// None is kept.
-    Unkept,
+    Discarded,
 }
 
 impl<E: Entry + Drop> History<E> {
@@ -19,16 +19,16 @@ impl<E: Entry + Drop> History<E> {
         ensures { result ≡ fulls_of self.now }
     {
         match self {
-            History::Kept(recorder) => recorder.fulls(),
-            History::Unkept => 0,
+            History::InMemory(recorder) => recorder.fulls(),
+            History::Discarded => 0,
         }
     }
 }
 
 impl<E: Entry + Drop> Recorder<E> for History<E> {
-    ghost use Rattle.px_host.specs.History.{told_by, limit_of, CanTake, fulls_of};
+    ghost use Rattle.px_host.specs.History.{visible_in, limit_of, CanTake, fulls_of};
 
-    ghost told = { told_by };
+    ghost visible = { visible_in };
 
     ghost limit = { limit_of };
 
@@ -40,15 +40,15 @@ impl<E: Entry + Drop> Recorder<E> for History<E> {
 
     fn ready(&mut self, bytes: usize) -> Result<(), RecordFault> {
         match self {
-            History::Kept(recorder) => recorder.ready(bytes),
-            History::Unkept => Ok(()),
+            History::InMemory(recorder) => recorder.ready(bytes),
+            History::Discarded => Ok(()),
         }
     }
 
     fn note(&mut self, entry: E) {
         match self {
-            History::Kept(recorder) => recorder.note(entry),
-            History::Unkept => {}
+            History::InMemory(recorder) => recorder.note(entry),
+            History::Discarded => {}
         }
     }
 

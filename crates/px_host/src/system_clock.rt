@@ -9,7 +9,7 @@ use std::time::Duration;
 #[derive(Drop)]
 pub struct SystemClock<R: rt::Clock + Drop> {
     rt: R,
-    told: u64,
+    latest: u64,
 }
 
 // The last number of 64 bits where there are more, which is in half a million years.
@@ -20,19 +20,19 @@ fn microseconds(time: Duration) -> u64 {
 impl<R: rt::Clock + Drop> SystemClock<R> {
     /// The clock of this runtime, which has told nothing. Takes no memory.
     pub fn new(rt: R) -> SystemClock<R>
-        ensures { result.told ≡ 0 }
+        ensures { result.latest ≡ 0 }
     {
-        SystemClock { rt, told: 0 }
+        SystemClock { rt, latest: 0 }
     }
 }
 
 impl<R: rt::Clock + Drop> Clock for SystemClock<R> {
-    ghost told = { λ c. c.told };
+    ghost latest = { λ c. c.latest };
 
     fn now(&mut self) -> u64 {
         if let Ok(time) = self.rt.monotonic() {
-            self.told = self.told.max(microseconds(time));
+            self.latest = self.latest.max(microseconds(time));
         }
-        self.told
+        self.latest
     }
 }

@@ -2,7 +2,7 @@
 ghost use Rattle.std.specs.Prelude.{◌≡◌, IfOk};
 ghost use Rattle.px_types.specs.Faults.{Rose};
 ghost use Rattle.px_ends.specs.Host.{IsNewRecorder};
-ghost use Rattle.px_host.specs.History.{told_by, fulls_of};
+ghost use Rattle.px_host.specs.History.{visible_in, fulls_of};
 
 use crate::{Connected, History, Outgoing, SystemClock, Writing};
 use px_annals::{CoreEntry, Entry, LaneEntry, MemRecorder};
@@ -98,12 +98,12 @@ fn open<R: Files<File = File>>(rt: &R, alloc: Global, out: &Text, name: &[u8]) -
 
 // A recorder with the limits of a history in memory, or none.
 fn history<E: Entry + Drop>(alloc: Global, memory: bool) -> Mem<History<E>>
-    ensures { IfOk result (λ history. IsNewRecorder (told_by history) 0 (fulls_of history)) }
+    ensures { IfOk result (λ history. IsNewRecorder (visible_in history) 0 (fulls_of history)) }
 {
     if memory {
-        Ok(History::Kept(MemRecorder::new(alloc, MAX_HISTORY_ENTRIES, MAX_HISTORY_BYTES)?))
+        Ok(History::InMemory(MemRecorder::new(alloc, MAX_HISTORY_ENTRIES, MAX_HISTORY_BYTES)?))
     } else {
-        Ok(History::Unkept)
+        Ok(History::Discarded)
     }
 }
 

@@ -5,11 +5,11 @@ use Rattle.std.proofs.lemmas.Option.{none-some, same_Some}
 use Rattle.std.specs.List.{find}
 use Rattle.std.specs.Option.{option_map}
 use Rattle.indexmap.specs.IndexMap.{IndexMap, get, ContainsKey}
-use Rattle.px_plan.specs.declared.input.Input.{Input}
+use Rattle.px_outcome.specs.declared.input.Input.{Input}
 use Rattle.px_input_table.specs.declared.input_table.StreamKey.{StreamKey}
 use Rattle.px_input_table.specs.Lists.{change_first, drop_first}
 use Rattle.px_input_table.specs.Inputs.{leaving}
-use Rattle.px_plan.specs.Input.{goes_on, is_stream}
+use Rattle.px_outcome.specs.Input.{goes_on, is_stream}
 use Rattle.px_input_table.specs.InputTable.{key_of, same_stream, first_of, AreByStream}
 
 -- ---- a choice at the head of a list
@@ -140,9 +140,9 @@ module _ {S : Type 0} (inputs : List Input) (table : IndexMap StreamKey Input S)
   nowhere none at = none-some key (sym (ap (λ r. option_map key_of r) none) ∙ at)
 
   -- the first that is so changes, and is of the same stream
-  pub kept-changed : (f : Input → Input) → ((z : Input) → key_of (f z) ≡ key_of z) → option_map key_of (find p inputs) ≡ Some key
+  pub holds-changed : (f : Input → Input) → ((z : Input) → key_of (f z) ≡ key_of z) → option_map key_of (find p inputs) ≡ Some key
       → (new : IndexMap StreamKey Input S) → Renews (change_first p f inputs) key table new → AreByStream (change_first p f inputs) new
-  kept-changed f keeps at new renews = renewed inputs (change_first p f inputs) table new key by_stream renews others
+  holds-changed f keeps at new renews = renewed inputs (change_first p f inputs) table new key by_stream renews others
     where
       others : (other : StreamKey) → same_stream key other ≡ false → first_of (change_first p f inputs) other ≡ first_of inputs other
       others other differ = by (find p inputs) refl
@@ -154,8 +154,8 @@ module _ {S : Type 0} (inputs : List Input) (table : IndexMap StreamKey Input S)
               found-changed p (is_stream other.conn other.stream) f inputs x found (apart key other x is_key differ) (apart key other (f x) (keeps x ∙ is_key) differ)
 
   -- it goes
-  pub kept-dropped : option_map key_of (find p inputs) ≡ Some key → (new : IndexMap StreamKey Input S) → Renews (drop_first p inputs) key table new → AreByStream (drop_first p inputs) new
-  kept-dropped at new renews = renewed inputs (drop_first p inputs) table new key by_stream renews others
+  pub holds-dropped : option_map key_of (find p inputs) ≡ Some key → (new : IndexMap StreamKey Input S) → Renews (drop_first p inputs) key table new → AreByStream (drop_first p inputs) new
+  holds-dropped at new renews = renewed inputs (drop_first p inputs) table new key by_stream renews others
     where
       others : (other : StreamKey) → same_stream key other ≡ false → first_of (drop_first p inputs) other ≡ first_of inputs other
       others other differ = by (find p inputs) refl
@@ -173,9 +173,9 @@ module _ {S : Type 0} (inputs : List Input) (table : IndexMap StreamKey Input S)
   there-dropped some = subst IsSome (sym (by_stream key)) (some-dropped p (is_stream key.conn key.stream) (λ z. z) inputs some)
 
 -- one more comes
-pub kept-pushed : {S : Type 0} (inputs : List Input) (table : IndexMap StreamKey Input S) → AreByStream inputs table → (x : Input)
+pub holds-pushed : {S : Type 0} (inputs : List Input) (table : IndexMap StreamKey Input S) → AreByStream inputs table → (x : Input)
     → (new : IndexMap StreamKey Input S) → Renews (inputs ++ x ∷ []) (key_of x) table new → AreByStream (inputs ++ x ∷ []) new
-kept-pushed inputs table by_stream x new renews =
+holds-pushed inputs table by_stream x new renews =
     renewed inputs (inputs ++ x ∷ []) table new (key_of x) by_stream renews
     (λ other differ. found-pushed (is_stream other.conn other.stream) inputs x (apart (key_of x) other x refl differ))
 

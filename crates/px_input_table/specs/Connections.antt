@@ -1,6 +1,6 @@
 -- How a connection changes.
 use Rattle.std.specs.Prelude.{ℕ, true, Some}
-use Rattle.px_plan.specs.declared.input.Connection.{Connection}
+use Rattle.px_outcome.specs.declared.input.Connection.{Connection}
 
 -- it has agreed on a version
 abbrev pub authed : ℕ → Connection → Connection

@@ -1,9 +1,9 @@
 -- The table of the inputs: in rising index, and by their streams.
 use Rattle.std.specs.Prelude.{◌≡◌, ℕ, Bool, ◌&&◌, nat_eq, List, Option}
 use Rattle.indexmap.specs.IndexMap.{IndexMap, get}
-use Rattle.px_plan.specs.declared.input.Input.{Input}
+use Rattle.px_outcome.specs.declared.input.Input.{Input}
 use Rattle.px_input_table.specs.declared.input_table.StreamKey.{StreamKey}
-use Rattle.px_plan.specs.Input.{stream_of}
+use Rattle.px_outcome.specs.Input.{stream_of}
 
 -- the inputs, how many the table holds without memory, and how many more streams
 pub record RoomyInputs : Type 0 where

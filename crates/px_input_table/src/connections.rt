@@ -2,11 +2,11 @@
 
 ghost use Rattle.std.specs.Prelude.{◌≡◌, ◌<◌, ◌≤◌, vec_len, vec_capacity};
 ghost use Rattle.std.specs.List.{position};
-ghost use Rattle.px_plan.specs.Input.{has_number};
+ghost use Rattle.px_outcome.specs.Input.{has_number};
 ghost use Rattle.px_input_table.specs.Lists.{change_first, drop_first};
 ghost use Rattle.px_input_table.specs.Connections.{authed, marked, with_streams};
 
-use px_plan::Connection;
+use px_outcome::Connection;
 use px_types::ConnId;
 
 // The place of the connection with a number.

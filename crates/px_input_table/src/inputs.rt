@@ -3,12 +3,12 @@
 ghost use Rattle.std.specs.Prelude.{◌≡◌, ◌≤◌, vec_len, vec_capacity};
 ghost use Rattle.std.specs.List.{position};
 ghost use Rattle.std.specs.Option.{option_map};
-ghost use Rattle.px_plan.specs.Input.{has_index, input_of};
+ghost use Rattle.px_outcome.specs.Input.{has_index, input_of};
 ghost use Rattle.px_input_table.specs.Lists.{change_first, drop_first};
 ghost use Rattle.px_input_table.specs.Inputs.{leaving, with_attr, on_way, moving_to, arrived_at};
 
 use px_model::Attr;
-use px_plan::{Input, Standing, Way};
+use px_outcome::{Input, Standing, Way};
 use px_types::{InputId, SinkId};
 
 /// The input with an index. Takes no memory.

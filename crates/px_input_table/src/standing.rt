@@ -1,9 +1,9 @@
 //! Where inputs belong.
 
 ghost use Rattle.std.specs.Prelude.{◌≡◌};
-ghost use Rattle.px_plan.specs.Input.{goes_on};
+ghost use Rattle.px_outcome.specs.Input.{goes_on};
 
-use px_plan::{Input, Standing};
+use px_outcome::{Input, Standing};
 
 /// Whether an input goes on: it hasn't ended. Takes no memory.
 pub fn goes_on(x: &Input) -> bool

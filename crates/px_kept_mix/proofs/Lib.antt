@@ -3,7 +3,7 @@ pub mod Moving
 pub mod Putting
 pub mod Ranges
 pub mod Reading
-pub mod Showing
+pub mod Packing
 pub mod Sounding
 pub mod Added
 pub mod Shares

@@ -321,7 +321,7 @@ impl KeptMix {
 
     /// Puts the frames from one on into `out`, all that are held, as a device gets them: each sum clipped to the sink's width, once, and
     /// packed. Takes no memory.
-    pub fn show<T: Ledger>(&self, sink: &Spec, from: u32, out: &mut [u8], steps: &mut Steps<T>)
+    pub fn pack<T: Ledger>(&self, sink: &Spec, from: u32, out: &mut [u8], steps: &mut Steps<T>)
         requires linear { IsLinear sink.now.format }
         requires channels { length self.now.runs ≡ sink.now.channels }
         requires from { from ≤ self.now.frames }

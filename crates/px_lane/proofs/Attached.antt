@@ -5,7 +5,7 @@ use Rattle.std.proofs.lemmas.List.{take_all, drop_all, take-append-drop}
 use Rattle.std.proofs.lemmas.List.Folds.{concat-append}
 use Rattle.std.proofs.Math.Seq.{drop-append-add, take-append-add}
 use Rattle.std.specs.List.{concat}
-use Rattle.px_ends.specs.Told.{after_adding, WhereTold}
+use Rattle.px_ends.specs.Visible.{after_adding, WhereVisible}
 use Rattle.px_ends.specs.Device.{DeviceState, Plays, IsPut, played_on, put_at, put_from, without_front, with_front, frames_in}
 use Rattle.px_model.specs.Frame.{Frame, frame_size}
 use Rattle.px_model.specs.Message.{Message}
@@ -52,15 +52,15 @@ past_whole size (suc n) (f ∷ frames) all = past_whole size n frames all.1
 
 -- ---- a sync
 
-front_told : (size n : ℕ) (frames : List Frame) → AreFramesOf size frames → (o : Option (List ℕ)) → WhereTold o (λ bytes. bytes ≡ concat frames)
-    → WhereTold (without_front (n * size) o) (λ bytes. bytes ≡ concat (drop n frames))
-front_told size n frames are None h = tt
-front_told size n frames are (Some bytes) h = ap (drop (n * size)) h ∙ concat_dropped size n frames are
+front_visible : (size n : ℕ) (frames : List Frame) → AreFramesOf size frames → (o : Option (List ℕ)) → WhereVisible o (λ bytes. bytes ≡ concat frames)
+    → WhereVisible (without_front (n * size) o) (λ bytes. bytes ≡ concat (drop n frames))
+front_visible size n frames are None h = tt
+front_visible size n frames are (Some bytes) h = ap (drop (n * size)) h ∙ concat_dropped size n frames are
 
-played_told : (size n : ℕ) (frames : List Frame) → AreFramesOf size frames → (o played : Option (List ℕ)) → WhereTold o (λ bytes. bytes ≡ concat frames)
+played_visible : (size n : ℕ) (frames : List Frame) → AreFramesOf size frames → (o played : Option (List ℕ)) → WhereVisible o (λ bytes. bytes ≡ concat frames)
     → with_front (n * size) o played ≡ played_more o played (concat (take n frames))
-played_told size n frames are None played h = refl
-played_told size n frames are (Some bytes) played h = ap (after_adding played) (ap (take (n * size)) h ∙ concat_taken size n frames are)
+played_visible size n frames are None played h = refl
+played_visible size n frames are (Some bytes) played h = ap (after_adding played) (ap (take (n * size)) h ∙ concat_taken size n frames are)
 
 -- a device that consumed some frames plays the sink that went forward by as many
 pub synced : (d d' : DeviceState) (sink : Sink) (consumed : ℕ) → IsLane sink → IsAttached d sink → Plays consumed d d' → IsAttached d' (settled sink (consumed - sink.consumed))
@@ -75,9 +75,9 @@ synced d d' sink consumed lane at plays =
       depth = ap (λ (e : DeviceState). e.depth) state ∙ at.depth;
       consumed = ap (λ (e : DeviceState). e.consumed) state ∙ ap (λ (c : ℕ). c + (consumed - sink.consumed)) at.consumed;
       filled = ap (λ (e : DeviceState). e.filled) state ∙ at.filled;
-      buffer = subst (λ (e : DeviceState). WhereTold e.buffer (λ bytes. bytes ≡ concat (drop (consumed - sink.consumed) sink.buffer))) (sym state)
-          (subst (λ (size : ℕ). WhereTold (without_front ((consumed - sink.consumed) * size) d.buffer) (λ bytes. bytes ≡ concat (drop (consumed - sink.consumed) sink.buffer))) (sym at.frame)
-          (front_told (frame_size sink.spec) (consumed - sink.consumed) sink.buffer lane.whole d.buffer at.buffer));
+      buffer = subst (λ (e : DeviceState). WhereVisible e.buffer (λ bytes. bytes ≡ concat (drop (consumed - sink.consumed) sink.buffer))) (sym state)
+          (subst (λ (size : ℕ). WhereVisible (without_front ((consumed - sink.consumed) * size) d.buffer) (λ bytes. bytes ≡ concat (drop (consumed - sink.consumed) sink.buffer))) (sym at.frame)
+          (front_visible (frame_size sink.spec) (consumed - sink.consumed) sink.buffer lane.whole d.buffer at.buffer));
     }
 
 pub synced_played : (d d' : DeviceState) (sink : Sink) (consumed : ℕ) → IsLane sink → IsAttached d sink → Plays consumed d d'
@@ -87,15 +87,15 @@ synced_played d d' sink consumed lane at plays =
     ap (λ (e : DeviceState). e.played) plays.state
     ∙ ap (λ (k : ℕ). with_front (k * d.frame) d.buffer d.played) same
     ∙ ap (λ (size : ℕ). with_front ((consumed - sink.consumed) * size) d.buffer d.played) at.frame
-    ∙ played_told (frame_size sink.spec) (consumed - sink.consumed) sink.buffer lane.whole d.buffer d.played at.buffer
+    ∙ played_visible (frame_size sink.spec) (consumed - sink.consumed) sink.buffer lane.whole d.buffer d.played at.buffer
 
 -- ---- a put
 
 -- what is kept and what is put behind it
-kept_told : (size k : ℕ) (old new : List Frame) → AreFramesOf size old → take k new ≡ take k old → (o : Option (List ℕ)) → WhereTold o (λ bytes. bytes ≡ concat old)
-    → WhereTold (put_from (k * size) (concat (drop k new)) o) (λ bytes. bytes ≡ concat new)
-kept_told size k old new are same None h = tt
-kept_told size k old new are same (Some bytes) h =
+visible_stays : (size k : ℕ) (old new : List Frame) → AreFramesOf size old → take k new ≡ take k old → (o : Option (List ℕ)) → WhereVisible o (λ bytes. bytes ≡ concat old)
+    → WhereVisible (put_from (k * size) (concat (drop k new)) o) (λ bytes. bytes ≡ concat new)
+visible_stays size k old new are same None h = tt
+visible_stays size k old new are same (Some bytes) h =
     ap (λ (xs : List ℕ). xs ++ concat (drop k new))
     (ap (take (k * size)) h ∙ concat_taken size k old are ∙ ap concat (sym same))
     ∙ sym (concat-append (take k new) (drop k new))
@@ -135,10 +135,10 @@ pub put_there : (samples : Samples) (d : DeviceState) (sink : Sink) (n stay : �
 put_there samples d sink n stay messages lane after there within few same at =
     let k : ℕ = (next_horizon sink n - (sink.consumed + n)) + stay in
     let new : List Frame = (turned samples sink n messages).buffer in
-    let first : sink.consumed ≤ sink.filled = omega (arith, lane.kept.consumed_first, lane.kept.horizon_first) in
-    let full : length new ≡ sink.depth = IsSink.buffer_full after.kept ∙ omega arith in
-    let place : next_horizon sink n + stay - d.consumed ≡ k = omega (arith, at.consumed, first, there, lane.kept.consumed_first, lane.kept.horizon_first) in
-    let fits = put_fits d sink n stay (frame_size sink.spec) new refl lane.kept lane.low_depth lane.some_bytes there within few after.whole full at in (
+    let first : sink.consumed ≤ sink.filled = omega (arith, lane.holds.consumed_first, lane.holds.horizon_first) in
+    let full : length new ≡ sink.depth = IsSink.buffer_full after.holds ∙ omega arith in
+    let place : next_horizon sink n + stay - d.consumed ≡ k = omega (arith, at.consumed, first, there, lane.holds.consumed_first, lane.holds.horizon_first) in
+    let fits = put_fits d sink n stay (frame_size sink.spec) new refl lane.holds lane.low_depth lane.some_bytes there within few after.whole full at in (
       fits.0,
       record {
         frame = at.frame;
@@ -146,9 +146,9 @@ put_there samples d sink n stay messages lane after there within few same at =
         depth = at.depth;
         consumed = at.consumed;
         filled = fits.1;
-        buffer = subst (λ (c : ℕ). WhereTold (put_from (c * d.frame) (concat (drop k new)) d.buffer) (λ bytes. bytes ≡ concat new)) (sym place)
-            (subst (λ (w : ℕ). WhereTold (put_from (k * w) (concat (drop k new)) d.buffer) (λ bytes. bytes ≡ concat new)) (sym at.frame)
-            (kept_told (frame_size sink.spec) k (drop n sink.buffer) new (past_whole (frame_size sink.spec) n sink.buffer lane.whole) same d.buffer at.buffer));
+        buffer = subst (λ (c : ℕ). WhereVisible (put_from (c * d.frame) (concat (drop k new)) d.buffer) (λ bytes. bytes ≡ concat new)) (sym place)
+            (subst (λ (w : ℕ). WhereVisible (put_from (k * w) (concat (drop k new)) d.buffer) (λ bytes. bytes ≡ concat new)) (sym at.frame)
+            (visible_stays (frame_size sink.spec) k (drop n sink.buffer) new (past_whole (frame_size sink.spec) n sink.buffer lane.whole) same d.buffer at.buffer));
       },
     )
 

@@ -35,17 +35,17 @@ frames_dropped size (suc k) n bytes = let m : suc k + n ≡ suc (k + n) = omega 
     ∙ ap (λ (x : ℕ). frames_of size n (drop x bytes)) (sym (one_more size k))
 
 -- the first k
-pub frames_kept : (size k n : ℕ) (bytes : List ℕ) → take k (frames_of size (k + n) bytes) ≡ frames_of size k bytes
-frames_kept size zero n bytes = refl
-frames_kept size (suc k) n bytes = let m : suc k + n ≡ suc (k + n) = omega arith in
+pub frames_stay : (size k n : ℕ) (bytes : List ℕ) → take k (frames_of size (k + n) bytes) ≡ frames_of size k bytes
+frames_stay size zero n bytes = refl
+frames_stay size (suc k) n bytes = let m : suc k + n ≡ suc (k + n) = omega arith in
     ap (λ (x : ℕ). take (suc k) (frames_of size x bytes)) m
-    ∙ ap (λ (fs : List Frame). take size bytes ∷ fs) (frames_kept size k n (drop size bytes))
+    ∙ ap (λ (fs : List Frame). take size bytes ∷ fs) (frames_stay size k n (drop size bytes))
 
 -- the first k and the others
 pub frames_joined : (size k n : ℕ) (bytes : List ℕ) → frames_of size (k + n) bytes ≡ frames_of size k bytes ++ frames_of size n (drop (k * size) bytes)
 frames_joined size k n bytes =
     sym (take-append-drop k (frames_of size (k + n) bytes))
-    ∙ ap (λ (fs : List Frame). fs ++ drop k (frames_of size (k + n) bytes)) (frames_kept size k n bytes)
+    ∙ ap (λ (fs : List Frame). fs ++ drop k (frames_of size (k + n) bytes)) (frames_stay size k n bytes)
     ∙ ap (λ (fs : List Frame). frames_of size k bytes ++ fs) (frames_dropped size k n bytes)
 
 -- the frames of frames' bytes
@@ -94,7 +94,7 @@ frames_renewed size k rest old new fresh is fit are =
     ∙ ap (λ (bytes : List ℕ). frames_of size k bytes)
     (take-append-le (k * size) (take (k * size) old) (concat fresh) (omega (arith, long)) ∙ take-take (k * size) (k * size) old (omega arith))
     ∙ frames_taken size k old
-    ∙ sym (frames_kept size k rest old))
+    ∙ sym (frames_stay size k rest old))
     ∙ ap (λ (fs : List Frame). take k (frames_of size (k + rest) old) ++ fs)
     (ap (λ (bytes : List ℕ). frames_of size (length fresh) bytes)
     (ap (λ (n : ℕ). drop n (take (k * size) old ++ concat fresh)) (sym long) ∙ drop-append_seam (take (k * size) old) (concat fresh))

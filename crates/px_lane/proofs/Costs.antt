@@ -105,8 +105,8 @@ all_free (m ∷ ms) xs = omega (arith, free m xs, all_free ms (inputs_with 0 m x
 
 -- the new frames and those that are clipped again
 pub mixed_cost : (c more streams n u k s s' s'' : ℕ) → k ≡ (n - u) + more → s' ≤ s + streams * (2 * (c * more)) → s'' ≡ s' + c * k → s'' ≤ s + c * mix_cost more streams + c * (n - u)
-mixed_cost c more streams n u k s s' s'' all added shown =
-    omega (arith, added, shown, ap (λ (x : ℕ). c * x) all, mul-add c (n - u) more, mul-add c (more * (2 * streams)) (more * 1), whole, once, each)
+mixed_cost c more streams n u k s s' s'' all added packed =
+    omega (arith, added, packed, ap (λ (x : ℕ). c * x) all, mul-add c (n - u) more, mul-add c (more * (2 * streams)) (more * 1), whole, once, each)
   where
     whole : c * mix_cost more streams ≡ c * (more * (2 * streams) + more * 1)
     whole = ap (λ (x : ℕ). c * x) (mul-add more (2 * streams) 1)
@@ -122,7 +122,7 @@ mixed_cost c more streams n u k s s' s'' all added shown =
         ∙ ap (λ (x : ℕ). c * x) (ap (λ (x : ℕ). x * streams) (mul_comm 2 more) ∙ mul_assoc more 2 streams)
 
 pub turned_cost : (c mix costs altered s s' s'' : ℕ) → s' + altered ≤ s + c * costs → s'' ≤ s' + c * mix + altered → s'' ≤ s + c * (mix + costs)
-turned_cost c mix costs altered s s' s'' told mixed = omega (arith, told, mixed, mul-add c mix costs)
+turned_cost c mix costs altered s s' s'' noticed mixed = omega (arith, noticed, mixed, mul-add c mix costs)
 
 -- each of so many streams read once
 pub grown : (streams streams' c k to from s s' : ℕ) → streams ≡ streams' → k ≡ to → s' ≤ s + streams * (2 * (c * (k - from))) → s' ≤ s + streams' * (2 * (c * (to - from)))

@@ -15,7 +15,7 @@ use Rattle.px_lane.specs.Inputs.{input_of, inputs_of, HasRoom}
 pub record Done (f : Stands → Stands) (g : Stands → List (Notice Stream)) (old now : List Input) (before after : List (Notice Stream)) (i : ℕ) : Type 0 where
   pub front : inputs_of (take i now) ≡ map f (inputs_of (take i old))
   pub rest : drop i now ≡ drop i old
-  pub told : after ≡ before ++ flat_map g (inputs_of (take i old))
+  pub noticed : after ≡ before ++ flat_map g (inputs_of (take i old))
   pub room : (r b : ℕ) → AllByRecursion (HasRoom r b) old → AllByRecursion (HasRoom r b) now
 
 -- the input that is next
@@ -42,7 +42,7 @@ more : (f : Stands → Stands) (g : Stands → List (Notice Stream)) (old now : 
     → Done f g old now before after i → i < length now → i < length old → slice_index_or now i d ≡ x → slice_index_or old i d ≡ x
     → input_of y ≡ f (input_of x) → (Input.stream (slice_index_or now i d)).room ≤ y.stream.room → (Input.stream (slice_index_or now i d)).block_room ≤ y.stream.block_room → later ≡ after ++ g (input_of x)
     → Done f g old (slice_set now i y) before later (i + 1)
-more f g old now before after later i d x y done l m here there e room blocks told =
+more f g old now before after later i d x y done l m here there e room blocks noticed =
     let olds : inputs_of (take (i + 1) old) ≡ inputs_of (take i old) ++ input_of x ∷ [] = ap inputs_of (one_more old i d x m there) ∙ map-append input_of (take i old) (x ∷ []) in
     record {
       front = ap inputs_of (take_more_set now i y l)
@@ -51,8 +51,8 @@ more f g old now before after later i d x y done l m here there e room blocks to
           ∙ sym (ap (map f) olds ∙ map-append f (inputs_of (take i old)) (input_of x ∷ []));
       rest = drop-set-lt (i + 1) now i y (omega arith)
           ∙ after_one now ∙ ap (drop 1) done.rest ∙ sym (after_one old);
-      told = told
-          ∙ ap (λ (ns : List (Notice Stream)). ns ++ g (input_of x)) done.told
+      noticed = noticed
+          ∙ ap (λ (ns : List (Notice Stream)). ns ++ g (input_of x)) done.noticed
           ∙ append_assoc before (flat_map g (inputs_of (take i old))) (g (input_of x))
           ∙ ap (λ (ns : List (Notice Stream)). before ++ ns)
           (sym (ap (flat_map g) olds
@@ -68,18 +68,18 @@ pub done_more : (f : Stands → Stands) (g : Stands → List (Notice Stream)) (o
     → Done f g old now before after i → i < length now → length now ≡ length old
     → input_of y ≡ f (input_of (slice_index_or now i d)) → (Input.stream (slice_index_or now i d)).room ≤ y.stream.room → (Input.stream (slice_index_or now i d)).block_room ≤ y.stream.block_room → later ≡ after ++ g (input_of (slice_index_or now i d))
     → Done f g old (slice_set now i y) before later (i + 1)
-done_more f g old now before after later i d y done l n e room blocks told =
-    more f g old now before after later i d (slice_index_or now i d) y done l (omega (arith, l, n)) refl (same_next old now i d done.rest) e room blocks told
+done_more f g old now before after later i d y done l n e room blocks noticed =
+    more f g old now before after later i d (slice_index_or now i d) y done l (omega (arith, l, n)) refl (same_next old now i d done.rest) e room blocks noticed
 
 fits : (g : Stands → List (Notice Stream)) (old : List Input) (before after : List (Notice Stream)) (i : ℕ) (d x : Input) (capacity : ℕ)
     → after ≡ before ++ flat_map g (inputs_of (take i old)) → i < length old → slice_index_or old i d ≡ x
     → length before + length (flat_map g (inputs_of old)) ≤ capacity
     → length after + length (g (input_of x)) ≤ capacity
-fits g old before after i d x capacity told l there room =
+fits g old before after i d x capacity noticed l there room =
     let all : inputs_of old ≡ inputs_of (take i old) ++ input_of x ∷ inputs_of (drop (i + 1) old) =
     ap inputs_of (sym (take-append-drop i old)) ∙ map-append input_of (take i old) (drop i old)
     ∙ ap (λ (xs : List Input). inputs_of (take i old) ++ inputs_of xs) (drop_more old i d l ∙ ap (λ (z : Input). z ∷ drop (i + 1) old) there) in
-    let said : length after ≡ length before + length (flat_map g (inputs_of (take i old))) = ap (λ (ns : List (Notice Stream)). length ns) told ∙ length-append before (flat_map g (inputs_of (take i old))) in
+    let said : length after ≡ length before + length (flat_map g (inputs_of (take i old))) = ap (λ (ns : List (Notice Stream)). length ns) noticed ∙ length-append before (flat_map g (inputs_of (take i old))) in
     let whole : length (flat_map g (inputs_of old)) ≡ length (flat_map g (inputs_of (take i old))) + (length (g (input_of x)) + length (flat_map g (inputs_of (drop (i + 1) old)))) =
     ap (λ (xs : List Stands). length (flat_map g xs)) all
     ∙ ap (λ (ns : List (Notice Stream)). length ns) (flat_map-append g (inputs_of (take i old)) (input_of x ∷ inputs_of (drop (i + 1) old)))
@@ -93,7 +93,7 @@ pub done_fits : (f : Stands → Stands) (g : Stands → List (Notice Stream)) (o
     → length before + length (flat_map g (inputs_of old)) ≤ capacity
     → length after + length (g (input_of (slice_index_or now i d))) ≤ capacity
 done_fits f g old now before after i d capacity done l n room =
-    fits g old before after i d (slice_index_or now i d) capacity done.told (omega (arith, l, n)) (same_next old now i d done.rest) room
+    fits g old before after i d (slice_index_or now i d) capacity done.noticed (omega (arith, l, n)) (same_next old now i d done.rest) room
 
 -- ---- the inputs after it
 
@@ -110,9 +110,9 @@ in_place items new n room left blocks capacity e l rising rooms less fits =
     subst (λ (xs : List Input). IsRising (inputs_of xs) × AllByRecursion (HasRoom left blocks) xs × (n + left ≤ capacity)) (sym (all_of_it items new n e l))
     (rising, rooms, omega (arith, less, fits))
 
-pub kept_in_place : (f : Stream → Stream) (items new : List Input) (n room blocks capacity : ℕ) → length items ≡ n → length new ≡ length items
+pub rooms_in_place : (f : Stream → Stream) (items new : List Input) (n room blocks capacity : ℕ) → length items ≡ n → length new ≡ length items
     → inputs_of new ≡ map (with_stream f) (inputs_of items) → ((r b : ℕ) → AllByRecursion (HasRoom r b) items → AllByRecursion (HasRoom r b) new)
     → IsRising (inputs_of items) × AllByRecursion (HasRoom room blocks) items × (n + room ≤ capacity)
     → IsRising (inputs_of (take n (new ++ drop (length new) items))) × AllByRecursion (HasRoom room blocks) (take n (new ++ drop (length new) items)) × (n + room ≤ capacity)
-kept_in_place f items new n room blocks capacity e l changed rooms keeps =
+rooms_in_place f items new n room blocks capacity e l changed rooms keeps =
     in_place items new n room room blocks capacity e l (subst IsRising (sym changed) (rising_each f (inputs_of items) keeps.0)) (rooms room blocks keeps.1) (omega arith) keeps.2

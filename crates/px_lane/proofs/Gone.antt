@@ -22,28 +22,28 @@ pub held_all : (size gone : ℕ) (bytes : List ℕ) → gone ≤ size → length
 held_all size gone bytes near long = length-take-le size (drop gone bytes) (omega (arith, near, long, length-drop gone bytes))
 
 -- others in place of the last ones that are held
-pub shown_behind : (size gone at : ℕ) (old shown : List ℕ) → gone ≤ size → length old ≡ 2 * size → at + length shown ≡ size
-    → take size (drop gone (take (gone + at) old ++ (shown ++ drop (gone + size) old))) ≡ take at (take size (drop gone old)) ++ shown
-shown_behind size gone at old shown near long fit =
+pub packed_behind : (size gone at : ℕ) (old packed : List ℕ) → gone ≤ size → length old ≡ 2 * size → at + length packed ≡ size
+    → take size (drop gone (take (gone + at) old ++ (packed ++ drop (gone + size) old))) ≡ take at (take size (drop gone old)) ++ packed
+packed_behind size gone at old packed near long fit =
     let front : length (take (gone + at) old) ≡ gone + at = length-take-le (gone + at) old (omega (arith, near, long, fit)) in
-    let kept : length (take at (drop gone old)) ≡ at = length-take-le at (drop gone old) (omega (arith, near, long, fit, length-drop gone old)) in
-    let both : length (take at (drop gone old) ++ shown) ≡ size = length-append (take at (drop gone old)) shown ∙ ap (λ (n : ℕ). n + length shown) kept ∙ fit in
+    let staying : length (take at (drop gone old)) ≡ at = length-take-le at (drop gone old) (omega (arith, near, long, fit, length-drop gone old)) in
+    let both : length (take at (drop gone old) ++ packed) ≡ size = length-append (take at (drop gone old)) packed ∙ ap (λ (n : ℕ). n + length packed) staying ∙ fit in
     ap (λ (xs : List ℕ). take size xs)
-    (drop-append-le gone (take (gone + at) old) (shown ++ drop (gone + size) old) (omega (arith, front))
-    ∙ ap (λ (xs : List ℕ). xs ++ (shown ++ drop (gone + size) old)) (drop-take gone at old)
-    ∙ sym (append_assoc (take at (drop gone old)) shown (drop (gone + size) old)))
-    ∙ take-append-le size (take at (drop gone old) ++ shown) (drop (gone + size) old) (omega (arith, both))
-    ∙ take_all size (take at (drop gone old) ++ shown) (omega (arith, both))
-    ∙ ap (λ (xs : List ℕ). xs ++ shown) (sym (take-take at size (drop gone old) (omega (arith, fit))))
+    (drop-append-le gone (take (gone + at) old) (packed ++ drop (gone + size) old) (omega (arith, front))
+    ∙ ap (λ (xs : List ℕ). xs ++ (packed ++ drop (gone + size) old)) (drop-take gone at old)
+    ∙ sym (append_assoc (take at (drop gone old)) packed (drop (gone + size) old)))
+    ∙ take-append-le size (take at (drop gone old) ++ packed) (drop (gone + size) old) (omega (arith, both))
+    ∙ take_all size (take at (drop gone old) ++ packed) (omega (arith, both))
+    ∙ ap (λ (xs : List ℕ). xs ++ packed) (sym (take-take at size (drop gone old) (omega (arith, fit))))
 
 -- the same of what the bytes are then
-pub shown_in_place : (size gone at : ℕ) (old new shown : List ℕ) → gone ≤ size → length old ≡ 2 * size → at ≤ size → length new ≡ length old
-    → new ≡ take (gone + at) old ++ (shown ++ drop (gone + size) old) → take size (drop gone new) ≡ take at (take size (drop gone old)) ++ shown
-shown_in_place size gone at old new shown near long inside same made =
+pub packed_in_place : (size gone at : ℕ) (old new packed : List ℕ) → gone ≤ size → length old ≡ 2 * size → at ≤ size → length new ≡ length old
+    → new ≡ take (gone + at) old ++ (packed ++ drop (gone + size) old) → take size (drop gone new) ≡ take at (take size (drop gone old)) ++ packed
+packed_in_place size gone at old new packed near long inside same made =
     let front : length (take (gone + at) old) ≡ gone + at = length-take-le (gone + at) old (omega (arith, near, long, inside)) in
-    let whole : length new ≡ length (take (gone + at) old) + (length shown + length (drop (gone + size) old)) =
+    let whole : length new ≡ length (take (gone + at) old) + (length packed + length (drop (gone + size) old)) =
     ap (λ (xs : List ℕ). length xs) made
-    ∙ length-append (take (gone + at) old) (shown ++ drop (gone + size) old)
-    ∙ ap (λ (n : ℕ). length (take (gone + at) old) + n) (length-append shown (drop (gone + size) old)) in
-    let fit : at + length shown ≡ size = omega (arith, near, long, same, front, whole, length-drop (gone + size) old) in
-    ap (λ (xs : List ℕ). take size (drop gone xs)) made ∙ shown_behind size gone at old shown near long fit
+    ∙ length-append (take (gone + at) old) (packed ++ drop (gone + size) old)
+    ∙ ap (λ (n : ℕ). length (take (gone + at) old) + n) (length-append packed (drop (gone + size) old)) in
+    let fit : at + length packed ≡ size = omega (arith, near, long, same, front, whole, length-drop (gone + size) old) in
+    ap (λ (xs : List ℕ). take size (drop gone xs)) made ∙ packed_behind size gone at old packed near long fit

@@ -41,4 +41,4 @@ orderly_mixes sink k mixed ms xs rising streams few h =
 
 pub streams_are : (sink : SampleSpec) (xs : List Stands) → AllByRecursion (λ x. IsStreamOf sink (Stands.stream x)) xs → AllByRecursion (λ x. IsStream (Stands.stream x)) xs
 streams_are sink [] h = tt
-streams_are sink (x ∷ xs) h = (h.0.kept, streams_are sink xs h.1)
+streams_are sink (x ∷ xs) h = (h.0.holds, streams_are sink xs h.1)

@@ -13,7 +13,7 @@ use Rattle.px_model.specs.Sink.{Sink, Input as Stands, IsRising, IsStreamOf, spe
 use Rattle.px_model.specs.Turn.{asked_stream, inputs_with, next_horizon}
 use Rattle.px_model.specs.Rows.{s16_samples}
 use Rattle.px_model.proofs.Streams.{stream_by}
-use Rattle.px_model.proofs.Shown.{specs_show, turn_leaves}
+use Rattle.px_model.proofs.Matching.{specs_match, turn_leaves}
 use Rattle.px_model.proofs.Inputs.{AreInputs, each_keeps}
 use Rattle.px_lane.specs.Needed.{Opens}
 use Rattle.px_lane.specs.Taking.{SuitsAt, CanTake, CanTakeAll}
@@ -84,7 +84,7 @@ fits sink (Message.new n) xs h fed = tt
 fits sink (Message.attach i parcel feed factors) xs h fed = (h.feed_fits.channels, h.factors_fit ∙ sym h.feed_fits.places)
 fits sink (Message.detach i) xs h fed = tt
 fits sink (Message.write w) xs h fed =
-    whole (stream_at w.input xs) w (subst (λ (o : Option SampleSpec). MatchOption o ⊤ (λ spec. IsWhole spec w)) (specs_show xs w.input) h)
+    whole (stream_at w.input xs) w (subst (λ (o : Option SampleSpec). MatchOption o ⊤ (λ spec. IsWhole spec w)) (specs_match xs w.input) h)
 fits sink (Message.cork i on) xs h fed = tt
 fits sink (Message.flush i) xs h fed = tt
 fits sink (Message.trigger i) xs h fed = tt

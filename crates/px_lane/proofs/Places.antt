@@ -207,6 +207,6 @@ room_small (StreamMessage.factors factors) = omega arith
 room_small (StreamMessage.query tag) = omega arith
 
 -- the answer of a stream tells whether there is an Overflow
-pub told_is : (told : Bool) → is_overflow (answer_for told) ≡ told
-told_is true = refl
-told_is false = refl
+pub overflow_is : (noticed : Bool) → is_overflow (answer_for noticed) ≡ noticed
+overflow_is true = refl
+overflow_is false = refl

@@ -56,12 +56,12 @@ left_over all here rest taken e t = t ∙ ap (drop (length here)) e ∙ drop-app
 
 -- ---- each in order
 
-pub take_fits : (mixed buffered : ℕ) (ready : Ready) (m : Message Stream) (all rest : List (Message Stream)) (xs : List Stands) (told start started : List (Notice Stream)) (capacity : ℕ)
-    → all ≡ m ∷ rest → IsReadyFor ready m → told ++ all_message_notices mixed buffered all xs ≡ start ++ started → length start + length started ≤ capacity
-    → length told + length (ready_notices mixed buffered ready xs) ≤ capacity
-take_fits mixed buffered ready m all rest xs told start started capacity e r same l =
-    let whole : length told + length (all_message_notices mixed buffered all xs) ≡ length start + length started =
-    sym (length-append told (all_message_notices mixed buffered all xs)) ∙ ap (λ (ns : List (Notice Stream)). length ns) same ∙ length-append start started in
+pub take_fits : (mixed buffered : ℕ) (ready : Ready) (m : Message Stream) (all rest : List (Message Stream)) (xs : List Stands) (noticed start started : List (Notice Stream)) (capacity : ℕ)
+    → all ≡ m ∷ rest → IsReadyFor ready m → noticed ++ all_message_notices mixed buffered all xs ≡ start ++ started → length start + length started ≤ capacity
+    → length noticed + length (ready_notices mixed buffered ready xs) ≤ capacity
+take_fits mixed buffered ready m all rest xs noticed start started capacity e r same l =
+    let whole : length noticed + length (all_message_notices mixed buffered all xs) ≡ length start + length started =
+    sym (length-append noticed (all_message_notices mixed buffered all xs)) ∙ ap (λ (ns : List (Notice Stream)). length ns) same ∙ length-append start started in
     let split : length (all_message_notices mixed buffered all xs) ≡ length (message_notices mixed buffered m xs) + length (all_message_notices mixed buffered rest (inputs_with mixed m xs)) =
     ap (λ (ms : List (Message Stream)). length (all_message_notices mixed buffered ms xs)) e
     ∙ length-append (message_notices mixed buffered m xs) (all_message_notices mixed buffered rest (inputs_with mixed m xs)) in

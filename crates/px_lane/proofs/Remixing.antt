@@ -17,7 +17,7 @@ use Rattle.px_stream.specs.Samples.{samples}
 use Rattle.px_lane.proofs.Buffers.{frames_renewed, length_frames}
 use Rattle.px_lane.proofs.Runs.{range_parts}
 use Rattle.px_lane.proofs.Shares.{mixes_sized}
-use Rattle.px_lane.proofs.Staying.{kept_are, remixed_stays}
+use Rattle.px_lane.proofs.Staying.{unaltered_front, remixed_stays}
 
 -- the front of what is taken and what comes behind it
 same_front : (k : ℕ) (old more : List Frame) → k ≤ length old → take k (take k old ++ more) ≡ take k old
@@ -59,7 +59,7 @@ module _ (spec : Spec) (linear : IsLinear spec.format) (counts : Counts) (order 
       ∙ frames_renewed (frame_size_of spec) (below + n) (counts.filled - counts.horizon - n) old new (map mix (range_with_len n more)) made
       (omega (arith, full, mul-le-mul_right (frame_size_of spec) few)) (mixes_sized spec linear (streams_of inputs) n more)
       ∙ ap (λ (m : ℕ). take (below + n) (frames_of (frame_size_of spec) m old) ++ map mix (range_with_len n more)) was
-      ∙ ap (λ (fs : List Frame). fs ++ map mix (range_with_len n more)) (kept_are before n order.consumed_first long stays)
+      ∙ ap (λ (fs : List Frame). fs ++ map mix (range_with_len n more)) (unaltered_front before n order.consumed_first long stays)
       ∙ append_assoc (take below before.buffer) (map mix (range_with_len 0 n)) (map mix (range_with_len n more))
       ∙ ap (λ (fs : List Frame). take below before.buffer ++ fs) (joined (omega arith) (omega (arith, order.consumed_first, order.horizon_first, order.filled_bounded, stays.within))))
 

@@ -55,8 +55,8 @@ nothing_behind [] = refl
 nothing_behind (n ∷ ns) = ap (λ (ms : List (Notice Stream)). n ∷ ms) (nothing_behind ns)
 
 -- and have nothing to tell
-pub tell_nothing : (frames : ℕ) (xs : List Stands) (before : List (Notice Stream)) → frames ≡ 0 → before ≡ before ++ flat_map (going_notices frames) xs
-tell_nothing frames xs before e =
+pub notice_nothing : (frames : ℕ) (xs : List Stands) (before : List (Notice Stream)) → frames ≡ 0 → before ≡ before ++ flat_map (going_notices frames) xs
+notice_nothing frames xs before e =
     nothing_behind before ∙ ap (λ (ns : List (Notice Stream)). before ++ ns) (sym (all_quiet xs) ∙ ap (λ (k : ℕ). flat_map (going_notices k) xs) (sym e))
 
 all_empty : (xs : List Input) → AllByRecursion (HasRoom 0 0) xs

@@ -14,7 +14,7 @@ use Rattle.px_mixcache.specs.Cache.{KeptSums, kept_at}
 use Rattle.px_kept_mix.specs.Kept.{from_on, AddLittle, changed_there}
 use Rattle.px_kept_mix.specs.Keeping.{SharesThere, AreSmall, IsKept, SoundsBefore}
 use Rattle.px_stream.specs.Heard.{SoundsSame}
-use Rattle.px_stream.specs.Kept.{KeptStream}
+use Rattle.px_stream.specs.HeldStream.{HeldStream}
 use Rattle.px_stream.specs.Samples.{samples}
 use Rattle.px_lane.specs.declared.input.Input.{Input}
 use Rattle.px_lane.specs.Inputs.{inputs_of}
@@ -24,7 +24,7 @@ use Rattle.px_lane.proofs.Feeds.{after_fed}
 
 -- the stream at a place is fed into as many channels as each
 pub fed_at : (channels : ℕ) (items : List Input) (i : ℕ) (d : Input) → AreFed channels (inputs_of items) → i < length items
-    → length (KeptStream.stream (Input.stream (get_or items i d))).feed ≡ channels
+    → length (HeldStream.stream (Input.stream (get_or items i d))).feed ≡ channels
 fed_at channels [] i d all less = absurd (omega (arith, less))
 fed_at channels (x ∷ items) zero d all less = all.0
 fed_at channels (x ∷ items) (suc i) d all less = fed_at channels items i d all.1 (omega (arith, less))

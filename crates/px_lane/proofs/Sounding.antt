@@ -149,7 +149,7 @@ gone_share sink s keeps d k channel =
 gone_shares : (sink : SampleSpec) (d k channel : ℕ) (xs : List Input) → AllByRecursion (λ x. IsStreamOf sink (Input.stream x)) xs
     → map (λ s. share_of samples sink s channel (frame_at s k)) (streams_of (map (with_stream (λ s. after s d)) xs)) ≡ map (λ s. share_of samples sink s channel (frame_at s (d + k))) (streams_of xs)
 gone_shares sink d k channel [] h = refl
-gone_shares sink d k channel (x ∷ xs) h = λ i. gone_share sink x.stream h.0.kept d k channel i ∷ gone_shares sink d k channel xs h.1 i
+gone_shares sink d k channel (x ∷ xs) h = λ i. gone_share sink x.stream h.0.holds d k channel i ∷ gone_shares sink d k channel xs h.1 i
 
 pub mix_gone : (sink : SampleSpec) (d k : ℕ) (xs : List Input) → AllByRecursion (λ x. IsStreamOf sink (Input.stream x)) xs
     → mix_of samples sink (streams_of (map (with_stream (λ s. after s d)) xs)) k ≡ mix_of samples sink (streams_of xs) (d + k)

@@ -28,8 +28,8 @@ settled_stays sink n m first second near there streams h = record {
 }
 
 -- its streams change, and mix fewer frames as before
-pub told_stays : (sink : Sink) (n j i : ℕ) (inputs : List Input) → IsUnaltered n sink → MixesSame sink.spec j sink.inputs inputs → i ≤ n → i ≤ j → IsUnaltered i (record sink { inputs = inputs })
-told_stays sink n j i inputs h same few fewer = record {
+pub unaltered_stays : (sink : Sink) (n j i : ℕ) (inputs : List Input) → IsUnaltered n sink → MixesSame sink.spec j sink.inputs inputs → i ≤ n → i ≤ j → IsUnaltered i (record sink { inputs = inputs })
+unaltered_stays sink n j i inputs h same few fewer = record {
   within = omega (arith, h.within, few);
   mixed = λ k l. h.mixed k (omega (arith, l, few)) ∙ ap (λ (f : Frame). Some f) (sym (same k (omega (arith, l, fewer))));
 }
@@ -37,9 +37,9 @@ told_stays sink n j i inputs h same few fewer = record {
 -- ---- mixing
 
 -- what stays is the front of the mix
-pub kept_are : (sink : Sink) (n : ℕ) → sink.consumed ≤ sink.horizon → length sink.buffer ≡ sink.filled - sink.consumed → IsUnaltered n sink
+pub unaltered_front : (sink : Sink) (n : ℕ) → sink.consumed ≤ sink.horizon → length sink.buffer ≡ sink.filled - sink.consumed → IsUnaltered n sink
     → take ((sink.horizon - sink.consumed) + n) sink.buffer ≡ take (sink.horizon - sink.consumed) sink.buffer ++ fresh_mix samples sink n
-kept_are sink n first full h =
+unaltered_front sink n first full h =
     let below : ℕ = sink.horizon - sink.consumed in
     let mix : ℕ → Frame = mix_of samples sink.spec (streams_of sink.inputs) in
     take-add (sink.horizon - sink.consumed) n sink.buffer

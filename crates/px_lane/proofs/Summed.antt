@@ -14,7 +14,7 @@ use Rattle.px_model.specs.Stream.{Stream, frame_at}
 use Rattle.px_model.specs.Mix.{share_of, sum_of, mix_of}
 use Rattle.px_model.specs.Sink.{Input as Stands}
 use Rattle.px_lane.specs.declared.input.Input.{Input}
-use Rattle.px_stream.specs.Kept.{KeptStream}
+use Rattle.px_stream.specs.HeldStream.{HeldStream}
 use Rattle.px_lane.specs.Inputs.{inputs_of}
 use Rattle.px_stream.specs.Samples.{samples, bit_width}
 use Rattle.px_msg.specs.View.{sample_spec}
@@ -22,7 +22,7 @@ use Rattle.px_stream.proofs.Sounds.{format_known}
 
 -- a fact of all streams is one of the stream of input i
 pub stream_of_input : (P : Stream → Type 0) (inputs : List Input) (i : ℕ) (d : Input) → AllByRecursion (λ x. P (Stands.stream x)) (inputs_of inputs) → i < length inputs
-    → P (KeptStream.stream (Input.stream (get_or inputs i d)))
+    → P (HeldStream.stream (Input.stream (get_or inputs i d)))
 stream_of_input P [] i d all less = absurd (omega (arith, less))
 stream_of_input P (x ∷ inputs) zero d all less = all.0
 stream_of_input P (x ∷ inputs) (suc i) d all less = stream_of_input P inputs i d all.1 (omega (arith, less))

@@ -16,13 +16,13 @@ use Rattle.px_model.specs.Sink.{Sink, Input, IsSink, IsStreamOf, IsRising, AllAb
 use Rattle.px_model.specs.Turn.{AreFor, asked_stream, settled, with_messages, turned, halted, next_horizon, stopped_turn, request_of}
 use Rattle.px_lane.specs.Mixing.{given_up}
 use Rattle.px_model.proofs.Rounds.{empty_keeps, turn_keeps, stop_keeps}
-use Rattle.px_model.proofs.Shown.{specs_show, turn_leaves, stop_leaves}
+use Rattle.px_model.proofs.Matching.{specs_match, turn_leaves, stop_leaves}
 use Rattle.px_lane.specs.Whole.{AreFramesOf}
 use Rattle.px_lane.specs.Lane.{IsLane}
 
 pub empty_lane : (spec : SampleSpec) (guard depth : ℕ) → depth ≤ 65536 → 1 ≤ frame_size spec → IsLane (empty_sink spec guard depth)
 empty_lane spec guard depth low some = record {
-  kept = empty_keeps spec guard depth;
+  holds = empty_keeps spec guard depth;
   few = subst (λ (n : ℕ). n ≤ 256) (sym (finite.len-empty nat_cmp SampleSpec)) (omega arith);
   low_depth = low;
   some_bytes = some;
@@ -43,7 +43,7 @@ pub length_specs : (xs : List Input) → IsRising xs → finite.len (specs_of xs
 length_specs [] h = finite.len-empty nat_cmp SampleSpec
 length_specs (x ∷ xs) h =
     let new : finite.contains_key (specs_of xs) x.index ≡ false =
-    ap is_some (specs_show xs x.index ∙ ap (λ (o : Option Stream). option_map Stream.spec o) (none_above x.index xs h.0)) in
+    ap is_some (specs_match xs x.index ∙ ap (λ (o : Option Stream). option_map Stream.spec o) (none_above x.index xs h.0)) in
     finite.len-insert nat_cmp_total (specs_of xs) x.index (Stream.spec x.stream)
     ∙ cond-false (finite.contains_key (specs_of xs) x.index) (finite.len (specs_of xs)) (finite.len (specs_of xs) + 1) new
     ∙ ap (λ (n : ℕ). n + 1) (length_specs xs h.1) ∙ omega arith
@@ -82,13 +82,13 @@ messages_few sink inputs (m ∷ messages) orderly few =
 
 asked_suits : (sink : SampleSpec) (mixed : ℕ) (s : Stream) → IsStreamOf sink (asked_stream mixed s) → IsStreamOf sink s
 asked_suits sink mixed s h = record {
-  kept = record {
-    queue_kept = h.kept.queue_kept;
-    prebuf_bounded = h.kept.prebuf_bounded;
-    tlength_bounded = h.kept.tlength_bounded;
-    maxlength_bounded = h.kept.maxlength_bounded;
-    minreq_positive = h.kept.minreq_positive;
-    requested_bounded = less s.requested (request_of s mixed) h.kept.requested_bounded;
+  holds = record {
+    queue_holds = h.holds.queue_holds;
+    prebuf_bounded = h.holds.prebuf_bounded;
+    tlength_bounded = h.holds.tlength_bounded;
+    maxlength_bounded = h.holds.maxlength_bounded;
+    minreq_positive = h.holds.minreq_positive;
+    requested_bounded = less s.requested (request_of s mixed) h.holds.requested_bounded;
   };
   playable = h.playable;
   feed_fits = h.feed_fits;
@@ -103,9 +103,9 @@ all_asked_suit : (sink : SampleSpec) (mixed : ℕ) (xs : List Input) → AllByRe
 all_asked_suit sink mixed [] h = tt
 all_asked_suit sink mixed (x ∷ xs) h = (asked_suits sink mixed x.stream h.0, all_asked_suit sink mixed xs h.1)
 
-pub told_suit : (samples : Samples) (sink : Sink) (n : ℕ) (messages : List (Message Stream)) → IsSink sink → n ≤ sink.filled - sink.consumed → AreFor sink messages
+pub posted_suit : (samples : Samples) (sink : Sink) (n : ℕ) (messages : List (Message Stream)) → IsSink sink → n ≤ sink.filled - sink.consumed → AreFor sink messages
     → AllByRecursion (λ x. IsStreamOf sink.spec (Input.stream x)) (with_messages (settled sink n) messages).inputs
-told_suit samples sink n messages keeps there are =
+posted_suit samples sink n messages keeps there are =
     all_asked_suit sink.spec (sink.consumed + n + sink.depth - (settled sink n).horizon) (with_messages (settled sink n) messages).inputs
     (IsSink.streams (turn_keeps samples sink keeps n there messages are))
 
@@ -118,12 +118,12 @@ left_few samples sink n messages lane are =
     subst (λ (inputs : Inputs). finite.len inputs ≤ 256) (turn_leaves samples sink n messages)
     (messages_few sink.spec (specs_of sink.inputs) messages are.orderly lane.few)
 
-pub told_few : (samples : Samples) (sink : Sink) (n : ℕ) (messages : List (Message Stream)) → IsLane sink → n ≤ sink.filled - sink.consumed → AreFor sink messages
+pub posted_few : (samples : Samples) (sink : Sink) (n : ℕ) (messages : List (Message Stream)) → IsLane sink → n ≤ sink.filled - sink.consumed → AreFor sink messages
     → length (with_messages (settled sink n) messages).inputs ≤ 256
-told_few samples sink n messages lane there are =
+posted_few samples sink n messages lane there are =
     let all = turned samples sink n messages in
     let size : finite.len (specs_of (turned samples sink n messages).inputs) ≡ length (turned samples sink n messages).inputs =
-    length_specs (turned samples sink n messages).inputs (IsSink.rising (turn_keeps samples sink lane.kept n there messages are)) in
+    length_specs (turned samples sink n messages).inputs (IsSink.rising (turn_keeps samples sink lane.holds n there messages are)) in
     let same = length_asked (sink.consumed + n + sink.depth - (settled sink n).horizon) (with_messages (settled sink n) messages).inputs in
     omega (arith, size, same, left_few samples sink n messages lane are)
 
@@ -132,7 +132,7 @@ told_few samples sink n messages lane there are =
 pub turned_lane : (samples : Samples) (sink : Sink) (n : ℕ) (messages : List (Message Stream)) → IsLane sink → n ≤ sink.filled - sink.consumed → AreFor sink messages
     → AreFramesOf (frame_size sink.spec) (turned samples sink n messages).buffer → IsLane (turned samples sink n messages)
 turned_lane samples sink n messages lane there are whole = record {
-  kept = turn_keeps samples sink lane.kept n there messages are;
+  holds = turn_keeps samples sink lane.holds n there messages are;
   few = left_few samples sink n messages lane are;
   low_depth = lane.low_depth;
   some_bytes = lane.some_bytes;
@@ -142,7 +142,7 @@ turned_lane samples sink n messages lane there are whole = record {
 pub stopped_lane : (sink : Sink) (messages : List (Message Stream)) → IsLane sink → AreFor sink messages
     → AreFramesOf (frame_size sink.spec) (stopped_turn sink messages).buffer → IsLane (stopped_turn sink messages)
 stopped_lane sink messages lane are whole = record {
-  kept = stop_keeps sink lane.kept messages are;
+  holds = stop_keeps sink lane.holds messages are;
   few = subst (λ (inputs : Inputs). finite.len inputs ≤ 256) (stop_leaves sink messages)
       (messages_few sink.spec (specs_of sink.inputs) messages are.orderly lane.few);
   low_depth = lane.low_depth;

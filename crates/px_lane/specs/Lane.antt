@@ -3,7 +3,7 @@ use Rattle.std.specs.Prelude.{◌≡◌, ℕ, ◌≤◌, Bool, true, false, IsTr
 use Rattle.std.specs.List.{concat}
 use Rattle.std.specs.FinMap as map
 use Rattle.px_types.specs.Faults.{next_count}
-use Rattle.px_ends.specs.Told.{after_adding, WhereTold}
+use Rattle.px_ends.specs.Visible.{after_adding, WhereVisible}
 use Rattle.px_ends.specs.Device.{DeviceState, Fails}
 use Rattle.px_model.specs.Frame.{frame_size}
 use Rattle.px_model.specs.Sink.{Sink, IsSink, specs_of}
@@ -18,7 +18,7 @@ pub record Mixer (D : Type 0) : Type 0 where
 
 -- what a sink keeps whose frames are bytes
 pub record IsLane (sink : Sink) : Type 0 where
-  pub kept : IsSink sink
+  pub holds : IsSink sink
   pub few : map.len (specs_of sink.inputs) ≤ 256
   pub low_depth : sink.depth ≤ 65536
   pub some_bytes : 1 ≤ frame_size sink.spec
@@ -31,7 +31,7 @@ pub record IsAttached (device : DeviceState) (sink : Sink) : Type 0 where
   pub depth : device.depth ≡ sink.depth
   pub consumed : device.consumed ≡ sink.consumed
   pub filled : device.filled ≡ sink.filled
-  pub buffer : WhereTold device.buffer (λ bytes. bytes ≡ concat sink.buffer)
+  pub buffer : WhereVisible device.buffer (λ bytes. bytes ≡ concat sink.buffer)
 
 -- what a device has played once these bytes were played too, where it tells that; one that doesn't tell its buffer doesn't
 abbrev pub played_more : Option (List ℕ) → Option (List ℕ) → List ℕ → Option (List ℕ)

@@ -11,7 +11,7 @@ use Rattle.px_model.specs.Turn.{inputs_with, message_notices, with_each_factors,
 use Rattle.px_msg.specs.View.{gains}
 use Rattle.px_msg.specs.declared.message.Msg.{Msg}
 use Rattle.px_msg.specs.declared.message.Msg.TheVariants.{Attach}
-use Rattle.px_stream.specs.Kept.{KeptStream}
+use Rattle.px_stream.specs.HeldStream.{HeldStream}
 use Rattle.px_stream.specs.Messages.{message_of, blocks_with, Suits}
 use Rattle.px_stream.specs.declared.message.Applied.{Applied}
 use Rattle.px_stream.specs.declared.message.Applied.TheVariants.{Quiet, Overflow}
@@ -58,11 +58,11 @@ streams_of _ = []
 -- ---- room
 
 -- for so many messages with so many blocks in all
-abbrev pub IsRoomy : ℕ → ℕ → KeptStream → Type 0
+abbrev pub IsRoomy : ℕ → ℕ → HeldStream → Type 0
 IsRoomy room blocks s = (room ≤ s.room) × (blocks ≤ s.block_room)
 
 -- a parcel that comes has it
-abbrev pub BringsRoom : ℕ → ℕ → Msg KeptStream → Type 0
+abbrev pub BringsRoom : ℕ → ℕ → Msg HeldStream → Type 0
 BringsRoom room blocks (Attach input parcel feed factors) = IsRoomy room blocks parcel
 BringsRoom room blocks _ = ⊤
 

@@ -17,7 +17,7 @@ use Rattle.px_lane.specs.declared.lane.LaneFault.TheVariants.{NoMemory, Worn}
 pub record Plays {D : Type 0} (now : D → DeviceState) (before after : Mixer D) (messages : List (Message Stream)) (consumed frames : ℕ) : Type 0 where
   pub going : IsFalse before.sink.stopped
   pub there : frames ≤ before.sink.filled - before.sink.consumed
-  pub told : Consumes (now before.device).next (before.sink.filled - before.sink.consumed) frames
+  pub visible : Consumes (now before.device).next (before.sink.filled - before.sink.consumed) frames
   pub sink : after.sink ≡ turned samples before.sink frames messages
   pub counted : consumed ≡ after.sink.consumed
   pub attached : IsAttached (now after.device) after.sink

@@ -51,7 +51,7 @@ fn move_to_front(bytes: &mut Vec<u8>, count: usize)
 }
 
 // Puts the bytes of the frames that are mixed, from one on, in place of those from place `at` up to place `to`.
-fn show_between<T: Ledger>(
+fn pack_between<T: Ledger>(
     inputs: &MixedInputs,
     from: u32,
     bytes: &mut Vec<u8>,
@@ -66,7 +66,7 @@ fn show_between<T: Ledger>(
     ensures bytes { bytes.new.items ≡ take at bytes.old.items ++ (concat (map (mix_of samples (sample_spec inputs.now.spec) (streams_of inputs.now.inputs)) (range_with_len from (inputs.now.frames - from))) ++ drop to bytes.old.items) }
     ensures ticks { steps.new ≡ steps.old + inputs.now.spec.channels * (inputs.now.frames - from) }
 {
-    inputs.show(from, &mut bytes.as_mut_slice()[at..to], steps);
+    inputs.pack(from, &mut bytes.as_mut_slice()[at..to], steps);
 }
 
 impl Buffer {
@@ -96,7 +96,7 @@ impl Buffer {
     }
 
     /// Puts the bytes of the frames that are mixed, from one on, in place of the last bytes, those from place `at` on.
-    pub(crate) fn show<T: Ledger>(
+    pub(crate) fn pack<T: Ledger>(
         &mut self,
         inputs: &MixedInputs,
         from: u32,
@@ -110,7 +110,7 @@ impl Buffer {
         ensures ticks { steps.new ≡ steps.old + inputs.now.spec.channels * (inputs.now.frames - from) }
     {
         let to = self.gone + self.size;
-        show_between(inputs, from, &mut self.bytes, self.gone + at, to, steps);
+        pack_between(inputs, from, &mut self.bytes, self.gone + at, to, steps);
     }
 
     /// The bytes.

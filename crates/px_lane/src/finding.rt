@@ -3,7 +3,7 @@ ghost use Rattle.std.specs.Prelude.{ℕ, ◌≡◌, ◌≤◌, ◌<◌, ◌+◌,
 ghost use Rattle.std.specs.List.{AllByRecursion};
 ghost use Rattle.px_model.specs.Message.{Message};
 ghost use Rattle.px_model.specs.Sink.{IsRising, stream_at, with_change, with_input, without_input};
-ghost use Rattle.px_model.specs.Notice.{Notice as Told};
+ghost use Rattle.px_model.specs.Notice.{Notice as ModelNotice};
 ghost use Rattle.px_model.specs.Turn.{with_each_factors, message_notices, latency_of, is_playing};
 ghost use Rattle.px_msg.specs.View.{gains};
 ghost use Rattle.px_model.specs.Applied.{applied};
@@ -29,7 +29,7 @@ use px_vol::Factors;
 use std::sync::ledger::Ledger;
 
 // The place of an index where those of all inputs follow one another, as they do until a stream leaves or goes to another sink.
-fn place_in_a_row(inputs: &[Input], index: InputId) -> usize {
+fn place_if_consecutive(inputs: &[Input], index: InputId) -> usize {
     match inputs.first() {
         Some(first) => index.0.saturating_sub(first.index.0) as usize,
         None => 0,
@@ -54,7 +54,7 @@ fn place(inputs: &[Input], index: InputId) -> usize
     ensures few { result ≤ length inputs.now }
     ensures end { (d : DeclaredInput) → result < length inputs.now → index.0 ≤ (DeclaredInput.index (slice_index_or inputs.now result d)).0 }
 {
-    let near = place_in_a_row(inputs, index);
+    let near = place_if_consecutive(inputs, index);
     if is_at(inputs, near, index) {
         return near;
     }
@@ -234,7 +234,7 @@ pub(crate) fn answer_at(
 
 // Where a stream stands, with so many frames mixed past the horizon and so many in the sink's buffer, as the answer to a tag.
 fn latency(stream: &Stream, input: InputId, tag: u32, mixed: u64, buffered: u32) -> Notice<Stream>
-    ensures { plain_notice result ≡ Told.latency input.0 tag (latency_of mixed buffered stream.now.stream) }
+    ensures { plain_notice result ≡ ModelNotice.latency input.0 tag (latency_of mixed buffered stream.now.stream) }
 {
     let ahead = stream.ahead(mixed);
     Notice::Latency {

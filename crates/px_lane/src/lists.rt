@@ -4,7 +4,7 @@ ghost use Rattle.std.specs.Option.{option_map};
 ghost use Rattle.std.specs.List.{AllByRecursion, sum_by};
 ghost use Rattle.std.specs.VecDeque.{deque_len, deque_capacity};
 ghost use Rattle.px_model.specs.Turn.{BringsStream};
-ghost use Rattle.px_stream.specs.Kept.{KeptStream};
+ghost use Rattle.px_stream.specs.HeldStream.{HeldStream};
 ghost use Rattle.px_lane.specs.Inputs.{inputs_of};
 ghost use Rattle.px_lane.specs.Needed.{needed, blocks_of, Opens};
 ghost use Rattle.px_lane.specs.Taking.{streams_of, IsRoomy, BringsRoom};
@@ -237,7 +237,7 @@ fn taken(
     ensures same { messages_of messages.new ≡ messages_of messages.old }
     ensures inputs { inputs.new.inputs ≡ inputs.old.inputs }
     ensures notices { out.new.notices ≡ out.old.notices }
-    ensures streams { IfOk result (λ made. map KeptStream.stream made.0.items ≡ flat_map streams_of (messages_of messages.old)) }
+    ensures streams { IfOk result (λ made. map HeldStream.stream made.0.items ≡ flat_map streams_of (messages_of messages.old)) }
     ensures blocks { IfOk result (λ made. made.1 ≡ sum_by blocks_of (messages_of messages.old)) }
     ensures streams_room { IfOk result (λ made. AllByRecursion (IsRoomy count made.1) made.0.items) }
     ensures parcels_room { IfOk result (λ made. AllByRecursion (BringsRoom count made.1) messages.new) }

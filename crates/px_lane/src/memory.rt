@@ -5,7 +5,7 @@ ghost use Rattle.px_model.specs.Control.{new_stream};
 ghost use Rattle.px_model.specs.Frame.{SampleSpec};
 ghost use Rattle.px_model.specs.Orderly.{IsNewStream};
 ghost use Rattle.px_msg.specs.View.{sample_spec, opened};
-ghost use Rattle.px_stream.specs.Kept.{KeptStream};
+ghost use Rattle.px_stream.specs.HeldStream.{HeldStream};
 ghost use Rattle.px_lane.specs.Inputs.{input_of, inputs_of, HasRoom};
 ghost use Rattle.px_lane.specs.Lists.{plain_message, messages_of};
 ghost use Rattle.px_lane.specs.Needed.{needed_by_input, needed_by, blocks_of, Opens};
@@ -84,7 +84,7 @@ pub(crate) fn opened(
     blocks: u32,
 ) -> Mem<VecDeque<Stream>>
     requires { AllByRecursion Opens (messages_of messages.now) }
-    ensures streams { IfOk result (λ streams. map KeptStream.stream streams.items ≡ flat_map streams_of (messages_of messages.now)) }
+    ensures streams { IfOk result (λ streams. map HeldStream.stream streams.items ≡ flat_map streams_of (messages_of messages.now)) }
     ensures room { IfOk result (λ streams. AllByRecursion (IsRoomy room blocks) streams.items) }
 {
     let mut streams = VecDeque::new(alloc);
@@ -131,7 +131,7 @@ fn reserve_parcel(message: &mut Msg<Stream>, room: u32, blocks: u32) -> Mem<()>
 /// Makes room for so many messages with so many blocks in all in each stream that is there.
 pub(crate) fn reserve_inputs(inputs: &mut [Input], room: u32, blocks: u32) -> Mem<()>
     ensures same { inputs_of inputs.new ≡ inputs_of inputs.old }
-    ensures kept { (old kept : ℕ) → AllByRecursion (HasRoom old kept) inputs.old → AllByRecursion (HasRoom old kept) inputs.new }
+    ensures held { (old held : ℕ) → AllByRecursion (HasRoom old held) inputs.old → AllByRecursion (HasRoom old held) inputs.new }
     ensures room { OnOk result (AllByRecursion (HasRoom room blocks) inputs.new) }
 {
     if room == 0 && blocks == 0 {

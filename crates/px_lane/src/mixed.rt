@@ -148,7 +148,7 @@ impl MixedInputs {
     }
 
     /// Gives up all frames that are mixed.
-    pub(crate) fn give_up(&mut self)
+    pub(crate) fn drop_unplayed(&mut self)
         ensures spec { self.new.spec ≡ self.old.spec }
         ensures depth { self.new.depth ≡ self.old.depth }
         ensures frames { self.new.frames ≡ 0 }
@@ -281,12 +281,12 @@ impl MixedInputs {
     }
 
     /// Puts the frames from one on into `out`, all that are mixed, as a device gets them.
-    pub(crate) fn show<T: Ledger>(&self, from: u32, out: &mut [u8], steps: &mut Steps<T>)
+    pub(crate) fn pack<T: Ledger>(&self, from: u32, out: &mut [u8], steps: &mut Steps<T>)
         requires from { from ≤ self.now.frames }
         requires whole { length out.old ≡ (self.now.frames - from) * frame_size_of self.now.spec }
         ensures bytes { out.new ≡ concat (map (mix_of samples (sample_spec self.now.spec) (streams_of self.now.inputs)) (range_with_len from (self.now.frames - from))) }
         ensures ticks { steps.new ≡ steps.old + self.now.spec.channels * (self.now.frames - from) }
     {
-        self.kept.show(&self.spec, from, out, steps);
+        self.kept.pack(&self.spec, from, out, steps);
     }
 }

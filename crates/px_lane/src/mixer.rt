@@ -201,14 +201,14 @@ impl SinkMixer {
     }
 
     /// Gives up all frames from the horizon on, for good.
-    pub(crate) fn give_up(&mut self)
+    pub(crate) fn drop_unplayed(&mut self)
         ensures value { self.new.sink ≡ given_up self.old.sink }
         ensures unaltered { self.new.unaltered ≡ 0 }
         ensures whole { AreFramesOf (frame_size self.new.sink.spec) self.new.sink.buffer }
         ensures room { self.new.room ≡ self.old.room }
         ensures block_room { self.new.block_room ≡ self.old.block_room }
     {
-        self.inputs.give_up();
+        self.inputs.drop_unplayed();
         self.filled = self.horizon;
         self.unaltered = 0;
         self.stopped = true;
@@ -234,7 +234,7 @@ impl SinkMixer {
         let stay = self.unaltered;
         let at = (below + stay) as usize * self.spec.frame_size();
         self.inputs.mix((self.depth as u64 - below) as u32, steps);
-        self.bytes.show(&self.inputs, stay as u32, at, steps);
+        self.bytes.pack(&self.inputs, stay as u32, at, steps);
         self.unaltered = self.depth as u64 - below;
         self.filled = self.consumed + self.depth as u64;
         stay
@@ -329,7 +329,7 @@ impl SinkMixer {
         ensures list { messages.new.capacity ≡ messages.old.capacity }
     {
         self.settle(0, out, blocks);
-        self.give_up();
+        self.drop_unplayed();
         self.take_all(messages, out, blocks, steps);
         self.ask(out);
     }

@@ -8,7 +8,7 @@ ghost use Rattle.px_model.specs.Message.{Message};
 ghost use Rattle.px_model.specs.Sink.{Input as Stands};
 ghost use Rattle.px_model.specs.Turn.{inputs_with, message_notices, inputs_with_all, all_message_notices};
 ghost use Rattle.px_lane.specs.Lists.{plain_message, messages_of};
-ghost use Rattle.px_stream.specs.Kept.{KeptStream};
+ghost use Rattle.px_stream.specs.HeldStream.{HeldStream};
 ghost use Rattle.px_lane.specs.Needed.{blocks_of};
 ghost use Rattle.px_lane.specs.Unaltered.{MixesSame};
 ghost use Rattle.px_lane.specs.Taking.{CanTake, CanTakeAll, streams_of, IsRoomy, BringsRoom, HasRoomLeft, IsReadyFor};
@@ -34,7 +34,7 @@ impl Model for Prepared {
     ghost use Rattle.std.specs.VecDeque.{deque_capacity};
     ghost use Rattle.std.specs.List.{AllByRecursion};
     ghost use Rattle.px_lane.specs.Lists.{messages_of};
-    ghost use Rattle.px_stream.specs.Kept.{KeptStream};
+    ghost use Rattle.px_stream.specs.HeldStream.{HeldStream};
     ghost use Rattle.px_lane.specs.Room.{ReadyMessages};
     ghost use Rattle.px_lane.specs.Taking.{streams_of, IsRoomy, BringsRoom};
 
@@ -43,7 +43,7 @@ impl Model for Prepared {
     ghost view = { λ p. record { messages = messages_of p.items.items; room = p.room; block_room = p.block_room; capacity = deque_capacity p.items } };
 
     ghost invariant = { λ p.
-        (map KeptStream.stream p.streams.items ≡ flat_map streams_of (messages_of p.items.items))
+        (map HeldStream.stream p.streams.items ≡ flat_map streams_of (messages_of p.items.items))
         × AllByRecursion (IsRoomy p.room p.block_room) p.streams.items
         × AllByRecursion (BringsRoom p.room p.block_room) p.items.items };
 }
@@ -57,7 +57,7 @@ impl Prepared {
         room: u32,
         block_room: u32,
     ) -> Prepared
-        requires streams { map KeptStream.stream streams.items ≡ flat_map streams_of (messages_of items.items) }
+        requires streams { map HeldStream.stream streams.items ≡ flat_map streams_of (messages_of items.items) }
         requires streams_room { AllByRecursion (IsRoomy room block_room) streams.items }
         requires parcels_room { AllByRecursion (BringsRoom room block_room) items.items }
         ensures { result ≡ record { messages = messages_of items.items; room = room; block_room = block_room; capacity = deque_capacity items } }
@@ -95,9 +95,9 @@ impl Prepared {
 
 // The message with the memory that it takes, which stands first.
 fn ready(message: Msg<Stream>, streams: &mut VecDeque<Stream>) -> Ready
-    requires streams { take (length (streams_of (plain_message message))) (map KeptStream.stream streams.old.items) ≡ streams_of (plain_message message) }
+    requires streams { take (length (streams_of (plain_message message))) (map HeldStream.stream streams.old.items) ≡ streams_of (plain_message message) }
     ensures ready { IsReadyFor result (plain_message message) }
-    ensures streams { map KeptStream.stream streams.new.items ≡ drop (length (streams_of (plain_message message))) (map KeptStream.stream streams.old.items) }
+    ensures streams { map HeldStream.stream streams.new.items ≡ drop (length (streams_of (plain_message message))) (map HeldStream.stream streams.old.items) }
     ensures room { (room kept : ℕ) → AllByRecursion (IsRoomy room kept) streams.old.items → BringsRoom room kept message → HasRoomLeft room kept result × AllByRecursion (IsRoomy room kept) streams.new.items }
 {
     match message {

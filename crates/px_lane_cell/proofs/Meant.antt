@@ -78,6 +78,6 @@ run_same (Playing frames) = refl
 
 pub stream_same : (s : Stream) → IsStream s → stream_meant (plain_of s) ≡ s
 stream_same s keeps =
-    let held = held_meant s.queue keeps.queue_kept.trimmed in
+    let held = held_meant s.queue keeps.queue_holds.trimmed in
     let run = run_same s.run in
     λ k. record s { queue = record s.queue { held = held k }; run = run k }

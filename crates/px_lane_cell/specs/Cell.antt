@@ -6,7 +6,7 @@ use Rattle.px_annals.specs.declared.entry.LaneEntry.{LaneEntry}
 use Rattle.px_ends.specs.Device.{DeviceState}
 use Rattle.px_mail.specs.Mailbox.{key_of, taken_by, posted_by, found_by, stored_by}
 use Rattle.px_msg.specs.declared.message.Msg.{Msg}
-use Rattle.px_msg.specs.declared.notice.Notice.{Notice as Kept}
+use Rattle.px_msg.specs.declared.notice.Notice.{Notice as CodeNotice}
 use Rattle.px_msg.specs.Letters.{none_there}
 use Rattle.px_msg.specs.View.{sample_spec}
 use Rattle.px_sample.specs.declared.spec.Spec.{Spec}
@@ -14,7 +14,7 @@ use Rattle.px_model.specs.Stream.{Stream}
 use Rattle.px_model.specs.Message.{Message}
 use Rattle.px_model.specs.Orderly.{inputs_left_by}
 use Rattle.px_model.specs.Sink.{Sink, specs_of}
-use Rattle.px_stream.specs.Kept.{KeptStream}
+use Rattle.px_stream.specs.HeldStream.{HeldStream}
 use Rattle.px_lane.specs.Lane.{Mixer, IsAttached}
 use Rattle.px_lane.specs.Lists.{BoundedMessages, BoundedNotices, messages_of, notices_of}
 use Rattle.px_lane_cell.specs.declared.ends.LaneEnds.{LaneEnds}
@@ -38,10 +38,10 @@ pub record Cell (D R : Type 0) : Type 0 where
 -- ---- its mailboxes
 
 -- what its passes have moved
-abbrev pub taken_in : LaneEnds → List (Msg KeptStream)
+abbrev pub taken_in : LaneEnds → List (Msg HeldStream)
 taken_in ends = taken_by ends.passes.take.pass
 
-abbrev pub posted_in : LaneEnds → List (Kept KeptStream)
+abbrev pub posted_in : LaneEnds → List (CodeNotice HeldStream)
 posted_in ends = posted_by ends.passes.post.pass
 
 -- of each take from its inbox whether it found a message, and of each post to its outbox whether the notice was stored
@@ -67,12 +67,12 @@ IsKeyOf ends sink = MatchOption (key_in ends) ⊥ (λ key. sample_spec key ≡ s
 -- ---- what it keeps
 
 -- the messages taken, but for those kept, have left its inputs there
-pub record HasLeft (sink : Sink) (taken kept : List (Message Stream)) : Type 0 where
+pub record HasLeft (sink : Sink) (taken held : List (Message Stream)) : Type 0 where
   pub gone : List (Message Stream)
-  pub whole : taken ≡ gone ++ kept
+  pub whole : taken ≡ gone ++ held
   pub inputs : specs_of sink.inputs ≡ inputs_left_by Stream.spec none_there gone
 
-pub record IsCell {D R : Type 0} (now : D → DeviceState) (told : R → Option (List LaneEntry)) (cell : Cell D R) : Type 0 where
+pub record IsCell {D R : Type 0} (now : D → DeviceState) (visible : R → Option (List LaneEntry)) (cell : Cell D R) : Type 0 where
   pub ends : AreEnds cell.ends
   pub key : IsKeyOf cell.ends cell.lane.sink
   pub lawful : AreTaken (key_in cell.ends) (taken_in cell.ends)
@@ -81,5 +81,5 @@ pub record IsCell {D R : Type 0} (now : D → DeviceState) (told : R → Option 
   pub attached : IsFalse cell.lane.sink.stopped → IsAttached (now cell.lane.device) cell.lane.sink
   pub inputs : HasLeft cell.lane.sink (messages_of (taken_in cell.ends)) cell.messages.messages
   -- where its recorder tells, all of its history
-  pub history : IfSome (told cell.recorder) (λ entries. IsAfter (now cell.lane.device) cell.lane.sink (history_meant entries)
+  pub history : IfSome (visible cell.recorder) (λ entries. IsAfter (now cell.lane.device) cell.lane.sink (history_meant entries)
       (messages_of (taken_in cell.ends)) cell.messages.messages (notices_of (posted_in cell.ends)) cell.notices.notices)

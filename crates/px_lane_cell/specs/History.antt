@@ -1,7 +1,7 @@
 -- A sink's mixer as the replay of its history, with what goes through the mailboxes beside it.
 use Rattle.std.specs.Prelude.{◌≡◌, ℕ, ◌-◌, List, [], ◌∷◌, ◌++◌, length, take, flat_map}
 use Rattle.std.specs.List.{concat}
-use Rattle.px_ends.specs.Told.{WhereTold}
+use Rattle.px_ends.specs.Visible.{WhereVisible}
 use Rattle.px_ends.specs.Device.{DeviceState}
 use Rattle.px_model.specs.Frame.{Frame}
 use Rattle.px_model.specs.Stream.{Stream}
@@ -27,9 +27,9 @@ abbrev pub ArePlayed : List ℕ → List ℕ → List ℕ → Type 0
 ArePlayed all others bytes = bytes ≡ all ++ take (length bytes - length all) others
 
 -- a sink over a device, after a history: what was taken is what its turns took and then what is kept, what its turns told is what was posted and then what is left
-pub record IsAfter (device : DeviceState) (sink : Sink) (history : List Entry) (taken kept : List (Message Stream)) (posted left : List (Notice Stream)) : Type 0 where
+pub record IsAfter (device : DeviceState) (sink : Sink) (history : List Entry) (taken held : List (Message Stream)) (posted left : List (Notice Stream)) : Type 0 where
   pub turns : IsHistory samples (unturned sink) history
   pub replayed : sink ≡ replay samples (unturned sink) history
-  pub messages : taken ≡ flat_map messages_of history ++ kept
+  pub messages : taken ≡ flat_map messages_of history ++ held
   pub notices : replay_notices samples (unturned sink) history ≡ posted ++ left
-  pub played : WhereTold device.played (ArePlayed (concat (replay_played samples (unturned sink) history)) (concat (left_at_stop (unturned sink) history)))
+  pub played : WhereVisible device.played (ArePlayed (concat (replay_played samples (unturned sink) history)) (concat (left_at_stop (unturned sink) history)))

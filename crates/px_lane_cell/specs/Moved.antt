@@ -3,7 +3,7 @@ use Rattle.std.specs.Prelude.{◌≡◌, ◌⊎◌, Bool, List, [], ◌++◌, le
 use Rattle.crossbeam_queue.specs.Fifo.{Held}
 use Rattle.px_mail.specs.Mailbox.{IsLawful, IsHeldOf, LastFails}
 use Rattle.px_msg.specs.declared.message.Msg.{Msg}
-use Rattle.px_msg.specs.declared.notice.Notice.{Notice as Kept}
+use Rattle.px_msg.specs.declared.notice.Notice.{Notice as CodeNotice}
 use Rattle.px_msg.specs.Letters.{AreLawful}
 use Rattle.px_msg.specs.View.{sample_spec}
 use Rattle.px_sample.specs.declared.spec.Spec.{Spec}
@@ -11,33 +11,33 @@ use Rattle.px_model.specs.Frame.{SampleSpec}
 use Rattle.px_model.specs.Stream.{Stream}
 use Rattle.px_model.specs.Message.{Message}
 use Rattle.px_model.specs.Notice.{Notice}
-use Rattle.px_stream.specs.Kept.{KeptStream}
+use Rattle.px_stream.specs.HeldStream.{HeldStream}
 use Rattle.px_lane.specs.Lists.{messages_of, notices_of}
 
 -- the sample spec of a parcel
-abbrev pub parcel_spec : KeptStream → SampleSpec
+abbrev pub parcel_spec : HeldStream → SampleSpec
 parcel_spec s = s.stream.spec
 
 -- messages that were taken from an inbox with this key are lawful there
-abbrev pub AreTaken : Option Spec → List (Msg KeptStream) → Type 0
-AreTaken key messages = IsLawful (λ (k : Spec) (letters : List (Msg KeptStream)). AreLawful parcel_spec (sample_spec k) letters) key messages
+abbrev pub AreTaken : Option Spec → List (Msg HeldStream) → Type 0
+AreTaken key messages = IsLawful (λ (k : Spec) (letters : List (Msg HeldStream)). AreLawful parcel_spec (sample_spec k) letters) key messages
 
 -- some were taken, and stand behind those that were there
-pub record Takes (taken taken' : List (Msg KeptStream)) (kept kept' : List (Message Stream)) : Type 0 where
-  pub got : List (Msg KeptStream)
+pub record Takes (taken taken' : List (Msg HeldStream)) (waiting waiting' : List (Message Stream)) : Type 0 where
+  pub got : List (Msg HeldStream)
   pub moved : taken' ≡ taken ++ got
-  pub stands : kept' ≡ kept ++ messages_of got
+  pub stands : waiting' ≡ waiting ++ messages_of got
 
 -- there are 256, or the last look into the inbox found it empty: what its pass wrote down before these looks and after them
-abbrev pub AreAll : List Bool → List Bool → Option Spec → List (Msg KeptStream) → List (Message Stream) → Type 0
-AreAll found found' key taken kept = (length kept ≡ 256) ⊎ (LastFails found found' × Held 0 (λ held. AreTaken key (taken ++ held)))
+abbrev pub AreAll : List Bool → List Bool → Option Spec → List (Msg HeldStream) → List (Message Stream) → Type 0
+AreAll found found' key taken waiting = (length waiting ≡ 256) ⊎ (LastFails found found' × Held 0 (λ held. AreTaken key (taken ++ held)))
 
 -- the first ones were posted, and the others are left
-pub record Posts (posted posted' : List (Kept KeptStream)) (notices left : List (Notice Stream)) : Type 0 where
-  pub gone : List (Kept KeptStream)
+pub record Posts (posted posted' : List (CodeNotice HeldStream)) (notices left : List (Notice Stream)) : Type 0 where
+  pub gone : List (CodeNotice HeldStream)
   pub moved : posted' ≡ posted ++ gone
   pub stays : notices ≡ notices_of gone ++ left
 
 -- none is left, or the outbox was full at the last post: what its pass wrote down before these posts and after them
-abbrev pub AreGone : List Bool → List Bool → List (Kept KeptStream) → List (Notice Stream) → Type 0
+abbrev pub AreGone : List Bool → List Bool → List (CodeNotice HeldStream) → List (Notice Stream) → Type 0
 AreGone stored stored' posted left = (left ≡ []) ⊎ (LastFails stored stored' × Held 256 (IsHeldOf posted))

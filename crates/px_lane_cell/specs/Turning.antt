@@ -25,15 +25,15 @@ consumed_in (Played consumed frames) = Some frames
 consumed_in (Stopped faults) = None
 
 -- a turn with its entry: all of these messages stand in it, and it gives the sink and the notices after it
-pub record IsNoted {D : Type 0} (now : D → DeviceState) (before after : Mixer D) (messages : List (Message Stream)) (told told' : List (Notice Stream)) (turned : Turned) (entry : LaneEntry) : Type 0 where
+pub record IsNoted {D : Type 0} (now : D → DeviceState) (before after : Mixer D) (messages : List (Message Stream)) (noticed noticed' : List (Notice Stream)) (turned : Turned) (entry : LaneEntry) : Type 0 where
   pub consumed : entry.consumed ≡ consumed_in turned
   pub whole : messages_meant entry.messages ≡ messages
   pub sink : after.sink ≡ sink_after samples before.sink (entry_meant entry)
-  pub notices : told' ≡ told ++ notices_by samples before.sink (entry_meant entry)
-  pub turns : Turns now before after messages told told' turned
+  pub notices : noticed' ≡ noticed ++ notices_by samples before.sink (entry_meant entry)
+  pub turns : Turns now before after messages noticed noticed' turned
 
 -- one entry is noted, and no message is kept
-pub record Makes {D R : Type 0} (now : D → DeviceState) (told : R → Option (List LaneEntry)) (before after : Cell D R) (turned : Turned) : Type 0 where
+pub record Makes {D R : Type 0} (now : D → DeviceState) (visible : R → Option (List LaneEntry)) (before after : Cell D R) (turned : Turned) : Type 0 where
   pub entry : LaneEntry
   -- all messages of the turn, and all notices after it
   pub messages : List (Message Stream)
@@ -41,18 +41,18 @@ pub record Makes {D R : Type 0} (now : D → DeviceState) (told : R → Option (
   pub takes : Takes (taken_in before.ends) (taken_in after.ends) before.messages.messages messages
   pub all : AreAll (found_in before.ends) (found_in after.ends) (key_in after.ends) (taken_in after.ends) messages
   pub turn : IsNoted now before.lane after.lane messages before.notices.notices notices turned entry
-  pub recorded : told after.recorder ≡ noted entry (told before.recorder)
+  pub recorded : visible after.recorder ≡ noted entry (visible before.recorder)
   pub counted : after.taken ≡ length entry.messages
   pub given : after.given ≡ length notices
-  pub none_kept : after.messages.messages ≡ []
+  pub none_held : after.messages.messages ≡ []
   pub posts : Posts (posted_in before.ends) (posted_in after.ends) notices after.notices.notices
   pub gone : AreGone (stored_in before.ends) (stored_in after.ends) (posted_in after.ends) after.notices.notices
 
 -- there is no turn: the messages that were taken are kept, and all else is what it was
-pub record Keeps {D R : Type 0} (told : R → Option (List LaneEntry)) (before after : Cell D R) : Type 0 where
+pub record Keeps {D R : Type 0} (visible : R → Option (List LaneEntry)) (before after : Cell D R) : Type 0 where
   pub takes : Takes (taken_in before.ends) (taken_in after.ends) before.messages.messages after.messages.messages
   pub lane : after.lane ≡ before.lane
-  pub recorded : told after.recorder ≡ told before.recorder
+  pub recorded : visible after.recorder ≡ visible before.recorder
   pub counted : after.taken ≡ before.taken
   pub given : after.given ≡ before.given
   pub notices : after.notices.notices ≡ before.notices.notices

@@ -3,7 +3,7 @@ ghost use Rattle.std.specs.Prelude.{◌≡◌, ◌≤◌, [], length, IfSome, If
 ghost use Rattle.std.specs.Option.{option_map};
 ghost use Rattle.px_annals.specs.History.{sizes_by, ReadyCounts};
 ghost use Rattle.px_annals.specs.Size.{size_of_lane_entry};
-ghost use Rattle.px_ends.specs.Told.{WhereTold};
+ghost use Rattle.px_ends.specs.Visible.{WhereVisible};
 ghost use Rattle.px_lane.specs.Lane.{IsAttached};
 ghost use Rattle.px_lane_cell.specs.History.{unturned};
 ghost use Rattle.px_lane_cell.specs.Moved.{AreTaken, Takes, AreAll, Posts, AreGone};
@@ -44,7 +44,7 @@ impl<D: Device, R: Recorder<LaneEntry>> Model for LaneCell<D, R> {
 
     ghost view = { λ c. record { lane = c.lane; recorder = c.recorder; ends = c.ends; messages = c.messages; notices = c.notices; taken = c.taken; given = c.given } };
 
-    ghost invariant = { λ c. IsCell D.now R.told (record { lane = c.lane; recorder = c.recorder; ends = c.ends; messages = c.messages; notices = c.notices; taken = c.taken; given = c.given }) };
+    ghost invariant = { λ c. IsCell D.now R.visible (record { lane = c.lane; recorder = c.recorder; ends = c.ends; messages = c.messages; notices = c.notices; taken = c.taken; given = c.given }) };
 }
 
 /// What a cell was made of, with the messages and the notices that it kept.
@@ -107,8 +107,8 @@ impl<D: Device + Drop, R: Recorder<LaneEntry> + Drop> LaneCell<D, R> {
     pub fn new(alloc: Global, lane: Lane<D>, recorder: R, ends: LaneEnds) -> Mem<LaneCell<D, R>>
         requires unturned { lane.sink ≡ unturned lane.sink }
         requires attached { IsAttached (D.now lane.device) lane.sink }
-        requires unplayed { WhereTold (D.now lane.device).played (λ bytes. bytes ≡ []) }
-        requires unnoted { IfSome (R.told recorder) (λ entries. entries ≡ []) }
+        requires unplayed { WhereVisible (D.now lane.device).played (λ bytes. bytes ≡ []) }
+        requires unnoted { IfSome (R.visible recorder) (λ entries. entries ≡ []) }
         requires ends { AreEnds ends }
         requires key { IsKeyOf ends lane.sink }
         requires untaken { taken_in ends ≡ [] }
@@ -118,7 +118,7 @@ impl<D: Device + Drop, R: Recorder<LaneEntry> + Drop> LaneCell<D, R> {
         ensures ends { IfOk result (λ cell. cell.ends ≡ ends) }
         ensures taken { IfOk result (λ cell. cell.taken ≡ 0) }
         ensures given { IfOk result (λ cell. cell.given ≡ 0) }
-        ensures kept { IfOk result (λ cell. (cell.messages.messages ≡ []) × (cell.notices.notices ≡ [])) }
+        ensures held { IfOk result (λ cell. (cell.messages.messages ≡ []) × (cell.notices.notices ≡ [])) }
     {
         match room_for_turn(alloc) {
             Ok(messages) => Ok(LaneCell {
@@ -149,12 +149,12 @@ impl<D: Device + Drop, R: Recorder<LaneEntry> + Drop> LaneCell<D, R> {
         alloc: Global,
         blocks: &mut B,
     ) -> Result<Turned, CellFault>
-        ensures ok { IfOk result (Makes D.now R.told self.old self.new) }
-        ensures err { OnErr result (Keeps R.told self.old self.new) }
+        ensures ok { IfOk result (Makes D.now R.visible self.old self.new) }
+        ensures err { OnErr result (Keeps R.visible self.old self.new) }
         ensures boxes { self.new.ends.boxes ≡ self.old.ends.boxes }
         ensures start { unturned self.new.lane.sink ≡ unturned self.old.lane.sink }
         ensures worn { IsWorn result self.old.lane.sink.filled }
-        ensures why { SaysWhy result (R.limit self.old.recorder) (option_map (sizes_by size_of_lane_entry) (R.told self.old.recorder)) }
+        ensures why { SaysWhy result (R.limit self.old.recorder) (option_map (sizes_by size_of_lane_entry) (R.visible self.old.recorder)) }
         ensures limit { R.limit self.new.recorder ≡ R.limit self.old.recorder }
         ensures counts { ReadyCounts (recorder_said result) (R.faults self.old.recorder) (R.faults self.new.recorder) (R.fulls self.old.recorder) (R.fulls self.new.recorder) }
     {
@@ -177,7 +177,7 @@ impl<D: Device + Drop, R: Recorder<LaneEntry> + Drop> LaneCell<D, R> {
     /// How many messages the last turn took that was made, 0 before the first.
     pub fn taken(&self) -> u32
         ensures count { result ≡ self.now.taken }
-        ensures kept { IsCell D.now R.told self.now }
+        ensures holds { IsCell D.now R.visible self.now }
     {
         self.taken
     }
@@ -197,7 +197,7 @@ impl<D: Device + Drop, R: Recorder<LaneEntry> + Drop> LaneCell<D, R> {
         ensures ends { result.ends ≡ self.ends }
         ensures messages { result.messages ≡ self.messages }
         ensures notices { result.notices ≡ self.notices }
-        ensures kept { IsCell D.now R.told self }
+        ensures holds { IsCell D.now R.visible self }
     {
         let LaneCell {
             lane,

@@ -1,7 +1,7 @@
 // A message as plain numbers and bytes.
 ghost use Rattle.std.specs.Prelude.{◌≡◌, map, length, IfOk};
 ghost use Rattle.std.specs.List.{concat};
-ghost use Rattle.px_block.specs.Kept.{contents};
+ghost use Rattle.px_block.specs.HeldBlock.{contents};
 ghost use Rattle.px_msg.specs.View.{opened, gains};
 ghost use Rattle.px_model.specs.Message.{Message};
 ghost use Rattle.px_lane.specs.Lists.{plain_message};

@@ -83,13 +83,13 @@ pub(crate) fn turn_noted<D: Device + Drop, R: Recorder<LaneEntry>, B: BlockSourc
 ) -> Result<Turned, CellFault>
     requires messages { IsOrderly Plain.spec lane.old.sink.spec (specs_of lane.old.sink.inputs) messages.old.messages }
     requires attached { IsFalse lane.old.sink.stopped → IsAttached (D.now lane.old.device) lane.old.sink }
-    ensures ok { IfOk result (λ turned. (entry : LaneEntry) × (R.told recorder.new ≡ noted entry (R.told recorder.old))
+    ensures ok { IfOk result (λ turned. (entry : LaneEntry) × (R.visible recorder.new ≡ noted entry (R.visible recorder.old))
         × (length entry.messages ≡ length messages.old.messages) × (messages.new.messages ≡ [])
         × IsNoted D.now lane.old lane.new messages.old.messages notices.old.notices notices.new.notices turned entry) }
-    ensures err { OnErr result ((lane.new ≡ lane.old) × (R.told recorder.new ≡ R.told recorder.old) × (messages.new.messages ≡ messages.old.messages) × (notices.new.notices ≡ notices.old.notices)) }
+    ensures err { OnErr result ((lane.new ≡ lane.old) × (R.visible recorder.new ≡ R.visible recorder.old) × (messages.new.messages ≡ messages.old.messages) × (notices.new.notices ≡ notices.old.notices)) }
     ensures room { messages.new.capacity ≡ messages.old.capacity }
     ensures worn { IsWorn result lane.old.sink.filled }
-    ensures why { SaysWhy result (R.limit recorder.old) (option_map (sizes_by size_of_lane_entry) (R.told recorder.old)) }
+    ensures why { SaysWhy result (R.limit recorder.old) (option_map (sizes_by size_of_lane_entry) (R.visible recorder.old)) }
     ensures limit { R.limit recorder.new ≡ R.limit recorder.old }
     ensures counts { ReadyCounts (recorder_said result) (R.faults recorder.old) (R.faults recorder.new) (R.fulls recorder.old) (R.fulls recorder.new) }
 {

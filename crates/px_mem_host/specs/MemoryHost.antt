@@ -32,7 +32,7 @@ pub record MemoryHost : Type 0 where
   pub failing : List ℕ
   pub calls : ℕ
   -- what it tells as a host
-  pub told : TheState
+  pub visible : TheState
 
 -- a host of this header that nothing was asked of
 abbrev pub new_state : List ℕ → TheState
@@ -56,7 +56,7 @@ is_failing h = is_listed h.failing (next_count h.calls)
 
 -- one call more, with these links still to be handed out
 abbrev pub called : List LinkPlan → TheState → MemoryHost → MemoryHost
-called links told h = record h { links = links; calls = next_count h.calls; told = told }
+called links visible h = record h { links = links; calls = next_count h.calls; visible = visible }
 
 -- a start fails exactly where it is listed
 abbrev pub StartFails : HeaderRead → Bool → Type 0

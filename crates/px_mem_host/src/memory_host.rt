@@ -56,7 +56,7 @@ impl<R: Wait> Model for MemHost<R> {
       limit = record { entries = h.entries; bytes = h.bytes };
       failing = h.failing;
       calls = h.calls;
-      told = record {
+      visible = record {
         faults = h.faults;
         overs = h.overs;
         links = h.given;
@@ -131,7 +131,7 @@ impl<R: Wait + Drop> MemHost<R> {
           limit = record { entries = entries; bytes = bytes };
           failing = failing;
           calls = 0;
-          told = new_state header;
+          visible = new_state header;
         }) }
     {
         links.clear(&rt, alloc)?;
@@ -161,9 +161,9 @@ impl<R: Wait + Drop> MemHost<R> {
 
     /// What became of it.
     pub fn into_taken(self) -> Taken
-        ensures started { self.told.started ≡ Some result.started.items }
-        ensures parts { self.told.parts ≡ Some result.parts.items }
-        ensures core_recorders { self.told.core_recorders ≡ Some result.core_recorders.items }
+        ensures started { self.visible.started ≡ Some result.started.items }
+        ensures parts { self.visible.parts ≡ Some result.parts.items }
+        ensures core_recorders { self.visible.core_recorders ≡ Some result.core_recorders.items }
     {
         Taken {
             started: self.started,
@@ -175,9 +175,9 @@ impl<R: Wait + Drop> MemHost<R> {
     // One call more: whether it is to fail, which is a fault.
     fn fails(&mut self) -> bool
         ensures listed { result ≡ is_failing self.old }
-        ensures yes { IsTrue result → FailsOnce self.old.told self.new.told }
-        ensures no { IsFalse result → self.new.told ≡ self.old.told }
-        ensures after { self.new ≡ called self.old.links self.new.told self.old }
+        ensures yes { IsTrue result → FailsOnce self.old.visible self.new.visible }
+        ensures no { IsFalse result → self.new.visible ≡ self.old.visible }
+        ensures after { self.new ≡ called self.old.links self.new.visible self.old }
     {
         self.calls = self.calls.saturating_add(1);
         if self.failing.has(self.calls) {
@@ -199,12 +199,12 @@ impl<R: Wait + Copy + Drop + Send> Host for MemHost<R> {
 
     type C = MemRecorder<CoreEntry>;
 
-    ghost now = { λ h. h.told };
+    ghost now = { λ h. h.visible };
 
     fn start(&mut self, alloc: Global, options: &ServeOptions) -> HeaderRead
-        ensures host { Starts result options.now self.old.told self.new.told }
+        ensures host { Starts result options.now self.old.visible self.new.visible }
         ensures fails { StartFails result (is_failing self.old) }
-        ensures after { self.new ≡ called self.old.links self.new.told self.old }
+        ensures after { self.new ≡ called self.old.links self.new.visible self.old }
     {
         if self.fails() {
             return HeaderRead::Failed;
@@ -222,9 +222,9 @@ impl<R: Wait + Copy + Drop + Send> Host for MemHost<R> {
     }
 
     fn accept(&mut self, _alloc: Global) -> Accepted<SharedLink<R>>
-        ensures host { Accepts result self.old.told self.new.told }
+        ensures host { Accepts result self.old.visible self.new.visible }
         ensures gives { HandsOut result (is_failing self.old) self.old.links self.new.links }
-        ensures after { self.new ≡ called self.new.links self.new.told self.old }
+        ensures after { self.new ≡ called self.new.links self.new.visible self.old }
     {
         if self.fails() {
             return Accepted::Failed;
@@ -254,9 +254,9 @@ impl<R: Wait + Copy + Drop + Send> Host for MemHost<R> {
     ) -> Result<MemDevice, HostFault>
         requires { IsShape shape.now }
         ensures device { IfOk result (λ device. IsNewDevice shape.now (state_of device)) }
-        ensures host { Makes one_device result self.old.told self.new.told }
+        ensures host { Makes one_device result self.old.visible self.new.visible }
         ensures made { MakesAs result (record (new_memory_device shape.now) { each = self.old.each; left = self.old.total }) (is_failing self.old) }
-        ensures after { self.new ≡ called self.old.links self.new.told self.old }
+        ensures after { self.new ≡ called self.old.links self.new.visible self.old }
     {
         if self.fails() {
             return Err(HostFault::Failed);
@@ -278,10 +278,10 @@ impl<R: Wait + Copy + Drop + Send> Host for MemHost<R> {
 
     fn lane_recorder(&mut self, alloc: Global) -> Result<MemRecorder<LaneEntry>, HostFault>
         ensures recorder { IfOk result (λ recorder. IsNewRecorder (Some recorder.held) 0 recorder.fulls) }
-        ensures host { Makes one_recorder result self.old.told self.new.told }
+        ensures host { Makes one_recorder result self.old.visible self.new.visible }
         ensures fails { FailsAs result (is_failing self.old) }
         ensures limit { IfOk result (λ recorder. recorder.limit ≡ self.old.limit) }
-        ensures after { self.new ≡ called self.old.links self.new.told self.old }
+        ensures after { self.new ≡ called self.old.links self.new.visible self.old }
     {
         if self.fails() {
             return Err(HostFault::Failed);
@@ -300,10 +300,10 @@ impl<R: Wait + Copy + Drop + Send> Host for MemHost<R> {
 
     fn core_recorder(&mut self, alloc: Global) -> Result<MemRecorder<CoreEntry>, HostFault>
         ensures recorder { IfOk result (λ recorder. IsNewRecorder (Some recorder.held) 0 recorder.fulls) }
-        ensures host { Makes one_core result self.old.told self.new.told }
+        ensures host { Makes one_core result self.old.visible self.new.visible }
         ensures fails { FailsAs result (is_failing self.old) }
         ensures limit { IfOk result (λ recorder. recorder.limit ≡ self.old.limit) }
-        ensures after { self.new ≡ called self.old.links self.new.told self.old }
+        ensures after { self.new ≡ called self.old.links self.new.visible self.old }
     {
         if self.fails() {
             return Err(HostFault::Failed);
@@ -324,18 +324,18 @@ impl<R: Wait + Copy + Drop + Send> Host for MemHost<R> {
     }
 
     fn may_start(&mut self) -> bool
-        ensures yes { IsTrue result → self.new.told ≡ self.old.told }
-        ensures no { IsFalse result → FailsOnce self.old.told self.new.told }
+        ensures yes { IsTrue result → self.new.visible ≡ self.old.visible }
+        ensures no { IsFalse result → FailsOnce self.old.visible self.new.visible }
         ensures fails { result ≡ not (is_failing self.old) }
-        ensures after { self.new ≡ called self.old.links self.new.told self.old }
+        ensures after { self.new ≡ called self.old.links self.new.visible self.old }
     {
         !self.fails()
     }
 
     fn retire(&mut self, sink: SinkId, device: MemDevice, recorder: MemRecorder<LaneEntry>)
-        requires { HasPart self.old.told }
-        ensures host { TakesPart device.faults 0 recorder.fulls (record { sink = sink; device = device; recorder = recorder }) self.old.told self.new.told }
-        ensures after { self.new ≡ record self.old { told = self.new.told } }
+        requires { HasPart self.old.visible }
+        ensures host { TakesPart device.faults 0 recorder.fulls (record { sink = sink; device = device; recorder = recorder }) self.old.visible self.new.visible }
+        ensures after { self.new ≡ record self.old { visible = self.new.visible } }
     {
         if device.faults() > 0 {
             self.device_faults = self.device_faults.saturating_add(1);
@@ -355,9 +355,9 @@ impl<R: Wait + Copy + Drop + Send> Host for MemHost<R> {
     }
 
     fn retire_core(&mut self, recorder: MemRecorder<CoreEntry>)
-        requires { HasCore self.old.told }
-        ensures host { TakesCore 0 recorder.fulls recorder self.old.told self.new.told }
-        ensures after { self.new ≡ record self.old { told = self.new.told } }
+        requires { HasCore self.old.visible }
+        ensures host { TakesCore 0 recorder.fulls recorder self.old.visible self.new.visible }
+        ensures after { self.new ≡ record self.old { visible = self.new.visible } }
     {
         if recorder.fulls() > 0 {
             self.fulls = self.fulls.saturating_add(1);

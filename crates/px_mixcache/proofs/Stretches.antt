@@ -19,15 +19,15 @@ use Rattle.px_sample.specs.WorkValue.{IsWithin, packed_sample, packed_of}
 use Rattle.px_kernel.specs.Kernel.{at, bits_of}
 use Rattle.px_mixcache.specs.Run.{KeptRun}
 use Rattle.px_mixcache.specs.Cache.{run_at}
-use Rattle.px_mixcache.specs.Shown.{frame_of}
+use Rattle.px_mixcache.specs.Packing.{frame_of}
 
 -- what a channel of a frame shows
-abbrev pub shown_at : Format → List KeptRun → ℕ → ℕ → ℤ
-shown_at format runs k c = saturate_signed (bits_of (width_of format)) (at (run_at runs c).sums k)
+abbrev pub clipped_at : Format → List KeptRun → ℕ → ℕ → ℤ
+clipped_at format runs k c = saturate_signed (bits_of (width_of format)) (at (run_at runs c).sums k)
 
 -- the bytes of a frame are those of what its channels show
-pub packed_frame : (format : Format) (runs : List KeptRun) (k : ℕ) → packed_of format (map (shown_at format runs k) (range_with_len 0 (length runs))) ≡ frame_of format runs k
-packed_frame format runs k = flat_map-map (λ (x : ℤ). packed_sample format x) (shown_at format runs k) (range_with_len 0 (length runs))
+pub packed_frame : (format : Format) (runs : List KeptRun) (k : ℕ) → packed_of format (map (clipped_at format runs k) (range_with_len 0 (length runs))) ≡ frame_of format runs k
+packed_frame format runs k = flat_map-map (λ (x : ℤ). packed_sample format x) (clipped_at format runs k) (range_with_len 0 (length runs))
 
 -- ---- values that stand frame by frame
 
@@ -70,11 +70,11 @@ stretch_listed f channels a (suc n) xs size each =
 
 -- the bytes of a stretch are those of its frames
 pub packed_stretch : (format : Format) (runs : List KeptRun) (a n : ℕ)
-    → packed_of format (frame_by_frame (shown_at format runs) (length runs) a n) ≡ concat (map (frame_of format runs) (range_with_len a n))
+    → packed_of format (frame_by_frame (clipped_at format runs) (length runs) a n) ≡ concat (map (frame_of format runs) (range_with_len a n))
 packed_stretch format runs a zero = refl
 packed_stretch format runs a (suc n) =
-    let first = map (shown_at format runs a) (range_with_len 0 (length runs)) in
-    let rest = frame_by_frame (shown_at format runs) (length runs) (a + 1) n in
+    let first = map (clipped_at format runs a) (range_with_len 0 (length runs)) in
+    let rest = frame_by_frame (clipped_at format runs) (length runs) (a + 1) n in
     flat_map-append (packed_sample format) first rest
     ∙ ap (λ (xs : List ℕ). xs ++ packed_of format rest) (packed_frame format runs a)
     ∙ ap (λ (xs : List ℕ). frame_of format runs a ++ xs) (packed_stretch format runs (a + 1) n)

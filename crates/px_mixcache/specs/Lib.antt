@@ -1,3 +1,3 @@
 pub mod Cache
 pub mod Run
-pub mod Shown
+pub mod Packing

@@ -2,14 +2,14 @@
 ghost use Rattle.std.specs.Prelude.{◌≡◌, ℕ, ◌+◌, ◌-◌, ◌*◌, ◌/◌, ◌^◌, ◌≤◌, ◌<◌, pos, length, slice_index, replicate, [], map, IfOk};
 ghost use Rattle.std.specs.List.{concat, range_with_len};
 ghost use Rattle.px_sample.specs.Format.{size_of, IsLinear};
-ghost use Rattle.px_mixcache.specs.Shown.{frame_of};
+ghost use Rattle.px_mixcache.specs.Packing.{frame_of};
 ghost use Rattle.px_kernel.specs.Kernel.{changed};
 ghost use Rattle.px_mixcache.specs.Run.{AreValues};
 ghost use Rattle.px_mixcache.specs.Cache.{kept_at, part_at, run_at, run_of};
 
+use crate::packing::pack_frames;
 use crate::run::Run;
 use crate::runs::{advance_all, change_all, empty_runs, extend_all};
-use crate::shown::show_frames;
 use px_kernel::Steps;
 use px_sample::Format;
 use px_types::{Mem, NoMemory};
@@ -127,6 +127,6 @@ impl MixCache {
         ensures bytes { out.new ≡ concat (map (frame_of format self.now.runs) (range_with_len at len)) }
         ensures ticks { steps.new ≡ steps.old + length self.now.runs * len }
     {
-        show_frames(&self.runs, at as usize, len as usize, format, out, steps);
+        pack_frames(&self.runs, at as usize, len as usize, format, out, steps);
     }
 }

@@ -12,7 +12,7 @@ use Rattle.px_model.specs.Sink.{Sink, empty_sink, streams_of}
 use Rattle.px_model.specs.Turn.{next_horizon, settled, with_messages, turned, stopped_turn, frame_mixed, played_by}
 use Rattle.px_model.specs.Deciding.{Entry, turn, stop, sink_after, replay, played_of, replay_played, CanBe, IsHistory, deciding, decided, ArePast, IsLastReaching}
 use Rattle.px_model.proofs.Places.{get-take, got_elem, get_left, get_right}
-use Rattle.px_model.proofs.Rounds.{get_kept, get_fresh, length-mixed}
+use Rattle.px_model.proofs.Rounds.{get_stays, get_fresh, length-mixed}
 
 -- a buffer from consumed to filled, whose frames are those of a function
 record IsBuffer (sink : Sink) (frames : ℕ → Option Frame) : Type 0 where
@@ -41,7 +41,7 @@ turn_buffer samples sink before b n messages h = record {
   each = λ k l. ⊎_elim
       (λ (low : k < next_horizon sink n - (sink.consumed + n)).
       let whole : sink.consumed + (n + k) ≡ sink.consumed + n + k = omega arith in
-      get_kept samples sink n messages k b.first b.full low
+      get_stays samples sink n messages k b.first b.full low
       ∙ b.each (n + k) (omega (arith, b.first))
       ∙ ap before whole
       ∙ sym (redecided_below samples (turned samples sink n messages) before (sink.consumed + n + k) (omega (arith, b.first))))

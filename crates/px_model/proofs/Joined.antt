@@ -88,7 +88,7 @@ Meets s k t = Ends s.queue.read (given_of s k) (stretch_of s k).ran_on t.queue.r
 
 meets_open : (s : Stream) → IsStream s → (k : ℕ) → s.corked ≡ false → Meets s k (stream_on s k)
 meets_open s keeps k c =
-    let ends : Ends s.queue.read (queue_given s.queue k) (queue_ran s.queue k) (queue_after s.queue k).read = queue_ends s.queue keeps.queue_kept k in
+    let ends : Ends s.queue.read (queue_given s.queue k) (queue_ran s.queue k) (queue_after s.queue k).read = queue_ends s.queue keeps.queue_holds k in
     subst (λ n. Ends s.queue.read n (stretch_of s k).ran_on (queue_after s.queue k).read) (sym (given_open s k c))
     (subst (λ b. Ends s.queue.read (queue_given s.queue k) (not b && not (is_short s.queue) && s.queue.prebuf == 0 && nat_lt (left_of s.queue) k) (queue_after s.queue k).read) (sym c) ends)
 
@@ -136,12 +136,12 @@ join_one x read (y ∷ track) e h b j = (
   j,
 )
 
-pub stream_kept : (sink : SampleSpec) (i : ℕ) (xs : List Input) (s : Stream) → AllByRecursion (λ x. IsStreamOf sink (Input.stream x)) xs → stream_at i xs ≡ Some s → IsStream s
-stream_kept sink i [] s k e = absurd (none-some s e)
-stream_kept sink i (x ∷ xs) s k e =
+pub stream_holds : (sink : SampleSpec) (i : ℕ) (xs : List Input) (s : Stream) → AllByRecursion (λ x. IsStreamOf sink (Input.stream x)) xs → stream_at i xs ≡ Some s → IsStream s
+stream_holds sink i [] s k e = absurd (none-some s e)
+stream_holds sink i (x ∷ xs) s k e =
     ⊎_elim
-    (λ (f : (x.index == i) ≡ true). subst IsStream (same_Some x.stream s (sym (cond-true (x.index == i) (Some x.stream) (stream_at i xs) f) ∙ e)) k.0.kept)
-    (λ (f : (x.index == i) ≡ false). stream_kept sink i xs s k.1 (sym (cond-false (x.index == i) (Some x.stream) (stream_at i xs) f) ∙ e))
+    (λ (f : (x.index == i) ≡ true). subst IsStream (same_Some x.stream s (sym (cond-true (x.index == i) (Some x.stream) (stream_at i xs) f) ∙ e)) k.0.holds)
+    (λ (f : (x.index == i) ≡ false). stream_holds sink i xs s k.1 (sym (cond-false (x.index == i) (Some x.stream) (stream_at i xs) f) ∙ e))
     (cases_Bool (x.index == i))
 
 -- what follows a stretch of a stream that is there
@@ -162,7 +162,7 @@ track_joined samples sink keeps (x ∷ history) h o i once =
     go None e j = j
     go (Some s) e j =
         let none : all_opens i (messages_of x) + history_opens i history ≡ 0 = omega (arith, once, ap presence_of e) in
-        follow s (stream_kept sink.spec i sink.inputs s keeps.streams e) (forward_by sink x) (stream_at i (sink_after samples sink x).inputs) (track_of samples (sink_after samples sink x) history i)
+        follow s (stream_holds sink.spec i sink.inputs s keeps.streams e) (forward_by sink x) (stream_at i (sink_after samples sink x).inputs) (track_of samples (sink_after samples sink x) history i)
         (subst (λ q. KeepsRead (gone (forward_by sink x) q) (stream_at i (sink_after samples sink x).inputs)) e (entry_reads samples sink x i (omega (arith, none))))
         (λ t f. begins_at samples (sink_after samples sink x) history i t f)
         (λ f. nothing_settled samples (sink_after samples sink x) history i f (omega (arith, none)))

@@ -7,13 +7,13 @@ pub mod Forward
 pub mod Adding
 pub mod Streams
 pub mod Pointwise
-pub mod Kept
+pub mod Preserved
 pub mod Inputs
 pub mod Rounds
 pub mod Decided
 pub mod Lookups
 pub mod Joined
-pub mod Shown
+pub mod Matching
 pub mod Replays
 pub mod Parcels
 pub mod Whole

@@ -51,11 +51,11 @@ asked_hands i read mixed x =
 
 -- ---- messages
 
-stands_kept : (read : ℤ) (o p : Option Stream) → StandsAt read o → KeepsRead o p → StandsAt read p
-stands_kept read None None h k = tt
-stands_kept read None (Some t) h k = absurd k
-stands_kept read (Some s) None h k = tt
-stands_kept read (Some s) (Some t) h k = k ∙ h
+still_stands : (read : ℤ) (o p : Option Stream) → StandsAt read o → KeepsRead o p → StandsAt read p
+still_stands read None None h k = tt
+still_stands read None (Some t) h k = absurd k
+still_stands read (Some s) None h k = tt
+still_stands read (Some s) (Some t) h k = k ∙ h
 
 refusals : (i : ℕ) (read : ℤ) (j : ℕ) (o : Outcome) → All i read (refusal_of j o)
 refusals i read j stored = tt
@@ -92,10 +92,10 @@ messages_hand i mixed buffered read [] xs e h = tt
 messages_hand i mixed buffered read (m ∷ messages) xs e h =
     joined i read (message_notices mixed buffered m xs) (all_message_notices mixed buffered messages (inputs_with mixed m xs))
     (message_hands i mixed buffered read m xs h)
-    (messages_hand i mixed buffered read messages (inputs_with mixed m xs) (omega (arith, e)) (stands_kept read (stream_at i xs) (stream_at i (inputs_with mixed m xs)) h (message_reads i mixed m xs (omega (arith, e)))))
+    (messages_hand i mixed buffered read messages (inputs_with mixed m xs) (omega (arith, e)) (still_stands read (stream_at i xs) (stream_at i (inputs_with mixed m xs)) h (message_reads i mixed m xs (omega (arith, e)))))
 
 pub messages_stand : (i mixed : ℕ) (read : ℤ) (messages : List (Message Stream)) (xs : List Input) → all_opens i messages ≡ 0 → StandsAt read (stream_at i xs) → StandsAt read (stream_at i (inputs_with_all mixed messages xs))
-messages_stand i mixed read messages xs e h = stands_kept read (stream_at i xs) (stream_at i (inputs_with_all mixed messages xs)) h (messages_read i mixed messages xs e)
+messages_stand i mixed read messages xs e h = still_stands read (stream_at i xs) (stream_at i (inputs_with_all mixed messages xs)) h (messages_read i mixed messages xs e)
 
 -- ---- a turn
 
@@ -124,12 +124,12 @@ entry_hands samples sink (stop messages) i s o h =
     (messages_hand i (next_horizon sink 0 - next_horizon sink 0) (next_horizon sink 0 - (sink.consumed + 0)) read messages (halted sink).inputs o (forward_stands i (next_horizon sink 0 - sink.horizon) s sink.inputs h)))
     (each_of i read (asked_notices 0) (asked_hands i read 0) (with_messages (halted sink) messages).inputs)
 
-kept_stands : (s : Stream) (o : Option Stream) → KeepsRead (Some s) o → StandsAt s.queue.read o
-kept_stands s None h = tt
-kept_stands s (Some t) h = h
+read_stands : (s : Stream) (o : Option Stream) → KeepsRead (Some s) o → StandsAt s.queue.read o
+read_stands s None h = tt
+read_stands s (Some t) h = h
 
 pub entry_stands : (samples : Samples) (sink : Sink) (e : Entry) (i : ℕ) (s : Stream) → all_opens i (messages_of e) ≡ 0 → stream_at i sink.inputs ≡ Some s
     → StandsAt (after s (forward_by sink e)).queue.read (stream_at i (sink_after samples sink e).inputs)
 entry_stands samples sink e i s o h =
-    kept_stands (after s (forward_by sink e)) (stream_at i (sink_after samples sink e).inputs)
+    read_stands (after s (forward_by sink e)) (stream_at i (sink_after samples sink e).inputs)
     (subst (λ q. KeepsRead (gone (forward_by sink e) q) (stream_at i (sink_after samples sink e).inputs)) h (entry_reads samples sink e i o))

@@ -18,7 +18,7 @@ use Rattle.px_model.specs.Sink.{Sink, Input, IsSink, IsStreamOf, empty_sink, str
 use Rattle.px_model.specs.Applied.{written_by}
 use Rattle.px_model.specs.Turn.{AreFor, BringsStream, inputs_with, inputs_with_all, with_each_factors, next_horizon, settled, with_messages, fresh_mix, asked_stream, turned, halted, stopped_turn, frame_mixed}
 use Rattle.px_model.proofs.Streams.{after_keeps, stream_by}
-use Rattle.px_model.proofs.Kept.{written_keeps, new_keeps, attached_keeps, corked_keeps, triggered_keeps, prebuffered_keeps, flushed_keeps, drained_keeps, attr_keeps, factors_keep, asked_keeps}
+use Rattle.px_model.proofs.Preserved.{written_keeps, new_keeps, attached_keeps, corked_keeps, triggered_keeps, prebuffered_keeps, flushed_keeps, drained_keeps, attr_keeps, factors_keep, asked_keeps}
 use Rattle.px_model.proofs.Inputs.{AreInputs, each_keeps, change_keeps, without_keeps, with_keeps}
 use Rattle.px_model.proofs.Places.{get_left, get_right, get-take, get-drop, get-range}
 
@@ -27,7 +27,7 @@ use Rattle.px_model.proofs.Places.{get_left, get_right, get-take, get-drop, get-
 -- a stream of a sink stays one, where its spec, feed and factors stay
 suits : (sink : SampleSpec) (s t : Stream) → IsStreamOf sink s → IsStream t → t.spec ≡ s.spec → t.feed ≡ s.feed → t.factors ≡ s.factors → IsStreamOf sink t
 suits sink s t h k p f g = record {
-  kept = k;
+  holds = k;
   playable = subst IsPlayable (sym p) h.playable;
   feed_fits = subst (λ x. IsFeed sink x t.feed) (sym p) (subst (λ x. IsFeed sink s.spec x) (sym f) h.feed_fits);
   factors_fit = subst (AreFactors sink) (sym g) h.factors_fit;
@@ -39,7 +39,7 @@ after_same s (suc k) =
     stream_by (λ t. (Stream.spec t ≡ s.spec) × (Stream.feed t ≡ s.feed) × (Stream.factors t ≡ s.factors)) s (suc k) (omega arith) (λ c. (refl, refl, refl)) (λ c. (refl, refl, refl))
 
 factors_suit : (sink : SampleSpec) (factors : List ℕ) → AreFactors sink factors → (s : Stream) → IsStreamOf sink s → IsStreamOf sink (with_factors s factors)
-factors_suit sink factors e s h = record { kept = factors_keep s h.kept factors; playable = h.playable; feed_fits = h.feed_fits; factors_fit = e }
+factors_suit sink factors e s h = record { holds = factors_keep s h.holds factors; playable = h.playable; feed_fits = h.feed_fits; factors_fit = e }
 
 each_factors_keep : (sink : SampleSpec) (each : List InputFactors) → AllByRecursion (λ f. AreFactors sink (InputFactors.factors f)) each → (inputs : List Input) → AreInputs (IsStreamOf sink) inputs → AreInputs (IsStreamOf sink) (with_each_factors each inputs)
 each_factors_keep sink [] e inputs h = h
@@ -51,15 +51,15 @@ each_factors_keep sink (f ∷ each) e inputs h =
 change_suits : (sink : SampleSpec) (i : ℕ) (f : Stream → Stream) → ((s : Stream) → IsStream s → IsStream (f s))
     → ((s : Stream) → Stream.spec (f s) ≡ s.spec) → ((s : Stream) → Stream.feed (f s) ≡ s.feed) → ((s : Stream) → Stream.factors (f s) ≡ s.factors)
     → (inputs : List Input) → AreInputs (IsStreamOf sink) inputs → AreInputs (IsStreamOf sink) (with_change i f inputs)
-change_suits sink i f k p q r inputs h = change_keeps (IsStreamOf sink) i f (λ s x. suits sink s (f s) x (k s x.kept) (p s) (q s) (r s)) inputs h
+change_suits sink i f k p q r inputs h = change_keeps (IsStreamOf sink) i f (λ s x. suits sink s (f s) x (k s x.holds) (p s) (q s) (r s)) inputs h
 
 message_keeps : (sink : SampleSpec) (there : Inputs) (mixed : ℕ) (m : Message Stream) → Fits Stream.spec sink there m → BringsStream m → (inputs : List Input) → AreInputs (IsStreamOf sink) inputs → AreInputs (IsStreamOf sink) (inputs_with mixed m inputs)
 message_keeps sink there mixed (Message.new n) f b inputs h =
     with_keeps (IsStreamOf sink) n.input (new_stream n.spec n.feed n.factors n.attr n.corked) inputs
-    (record { kept = new_keeps n.spec n.feed n.factors n.attr n.corked f.attr_repaired; playable = f.playable; feed_fits = f.feed_fits; factors_fit = f.factors_fit }) h
+    (record { holds = new_keeps n.spec n.feed n.factors n.attr n.corked f.attr_repaired; playable = f.playable; feed_fits = f.feed_fits; factors_fit = f.factors_fit }) h
 message_keeps sink there mixed (Message.attach i parcel feed factors) f b inputs h =
     with_keeps (IsStreamOf sink) i (attached parcel feed factors) inputs
-    (record { kept = attached_keeps parcel b feed factors; playable = f.playable; feed_fits = f.feed_fits; factors_fit = f.factors_fit }) h
+    (record { holds = attached_keeps parcel b feed factors; playable = f.playable; feed_fits = f.feed_fits; factors_fit = f.factors_fit }) h
 message_keeps sink there mixed (Message.detach i) f b inputs h = without_keeps (IsStreamOf sink) i inputs h
 message_keeps sink there mixed (Message.write w) f b inputs h =
     change_suits sink w.input (written_by w.seek w.offset w.frames w.bytes mixed) (λ s k. written_keeps s k (target_of s.queue (seek_of w.seek) w.offset) (frames_of (frame_size s.spec) w.frames w.bytes) (ahead_of s mixed))
@@ -87,13 +87,13 @@ settled_inputs : (sink : Sink) → IsSink sink → (n : ℕ) → AreInputs (IsSt
 settled_inputs sink keeps n =
     each_keeps (IsStreamOf sink.spec) (λ s. after s (next_horizon sink n - sink.horizon))
     (λ s h. let same = after_same s (next_horizon sink n - sink.horizon) in
-    suits sink.spec s (after s (next_horizon sink n - sink.horizon)) h (after_keeps s h.kept (next_horizon sink n - sink.horizon)) same.0 same.1 same.2) sink.inputs
+    suits sink.spec s (after s (next_horizon sink n - sink.horizon)) h (after_keeps s h.holds (next_horizon sink n - sink.horizon)) same.0 same.1 same.2) sink.inputs
     (record { rising = keeps.rising; streams = keeps.streams })
 
 -- the messages of a turn leave a sink's inputs as they are to be; they are orderly from those before it went forward
-told_inputs : (sink : Sink) → IsSink sink → (n mixed : ℕ) → (messages : List (Message Stream)) → AreFor sink messages → AreInputs (IsStreamOf sink.spec) (map (with_stream (asked_stream mixed)) (with_messages (settled sink n) messages).inputs)
-told_inputs sink keeps n mixed messages a =
-    each_keeps (IsStreamOf sink.spec) (asked_stream mixed) (λ s h. suits sink.spec s (asked_stream mixed s) h (asked_keeps mixed s h.kept) refl refl refl) (with_messages (settled sink n) messages).inputs
+posted_inputs : (sink : Sink) → IsSink sink → (n mixed : ℕ) → (messages : List (Message Stream)) → AreFor sink messages → AreInputs (IsStreamOf sink.spec) (map (with_stream (asked_stream mixed)) (with_messages (settled sink n) messages).inputs)
+posted_inputs sink keeps n mixed messages a =
+    each_keeps (IsStreamOf sink.spec) (asked_stream mixed) (λ s h. suits sink.spec s (asked_stream mixed s) h (asked_keeps mixed s h.holds) refl refl refl) (with_messages (settled sink n) messages).inputs
     (messages_keep sink.spec (specs_of sink.inputs) ((settled sink n).filled - (settled sink n).horizon) messages a.orderly a.parcels (settled sink n).inputs (settled_inputs sink keeps n))
 
 pub length-mixed : (samples : Samples) (sink : Sink) (n m : ℕ) (buffer : List Frame) (inputs : List Input) → length (take n buffer ++ map (mix_of samples sink.spec (streams_of inputs)) (range_with_len 0 m)) ≡ min n (length buffer) + m
@@ -102,7 +102,7 @@ length-mixed samples sink n m buffer inputs =
 
 pub turn_keeps : (samples : Samples) (sink : Sink) → IsSink sink → (n : ℕ) → n ≤ sink.filled - sink.consumed → (messages : List (Message Stream)) → AreFor sink messages → IsSink (turned samples sink n messages)
 turn_keeps samples sink keeps n h messages a =
-    let inputs : AreInputs (IsStreamOf sink.spec) (turned samples sink n messages).inputs = told_inputs sink keeps n (sink.consumed + n + sink.depth - next_horizon sink n) messages a in
+    let inputs : AreInputs (IsStreamOf sink.spec) (turned samples sink n messages).inputs = posted_inputs sink keeps n (sink.consumed + n + sink.depth - next_horizon sink n) messages a in
     record {
       consumed_first = omega (arith, keeps.consumed_first, keeps.horizon_first);
       horizon_first = omega (arith, keeps.filled_bounded);
@@ -116,7 +116,7 @@ turn_keeps samples sink keeps n h messages a =
 
 halted_inputs : (sink : Sink) → IsSink sink → (mixed : ℕ) → (messages : List (Message Stream)) → AreFor sink messages → AreInputs (IsStreamOf sink.spec) (map (with_stream (asked_stream mixed)) (with_messages (halted sink) messages).inputs)
 halted_inputs sink keeps mixed messages a =
-    each_keeps (IsStreamOf sink.spec) (asked_stream mixed) (λ s h. suits sink.spec s (asked_stream mixed s) h (asked_keeps mixed s h.kept) refl refl refl) (with_messages (halted sink) messages).inputs
+    each_keeps (IsStreamOf sink.spec) (asked_stream mixed) (λ s h. suits sink.spec s (asked_stream mixed s) h (asked_keeps mixed s h.holds) refl refl refl) (with_messages (halted sink) messages).inputs
     (messages_keep sink.spec (specs_of sink.inputs) ((halted sink).filled - (halted sink).horizon) messages a.orderly a.parcels (halted sink).inputs (settled_inputs sink keeps 0))
 
 pub stop_keeps : (sink : Sink) → IsSink sink → (messages : List (Message Stream)) → AreFor sink messages → IsSink (stopped_turn sink messages)
@@ -163,8 +163,8 @@ mix_asked samples sink m k inputs =
 -- ---- the buffer
 
 -- below the new horizon it is as before
-pub get_kept : (samples : Samples) (sink : Sink) (n : ℕ) (messages : List (Message Stream)) (k : ℕ) → sink.consumed ≤ sink.filled → length sink.buffer ≡ sink.filled - sink.consumed → k < next_horizon sink n - (sink.consumed + n) → slice_get (turned samples sink n messages).buffer k ≡ slice_get sink.buffer (n + k)
-get_kept samples sink n messages k first full h =
+pub get_stays : (samples : Samples) (sink : Sink) (n : ℕ) (messages : List (Message Stream)) (k : ℕ) → sink.consumed ≤ sink.filled → length sink.buffer ≡ sink.filled - sink.consumed → k < next_horizon sink n - (sink.consumed + n) → slice_get (turned samples sink n messages).buffer k ≡ slice_get sink.buffer (n + k)
+get_stays samples sink n messages k first full h =
     get_left (take (next_horizon sink n - (sink.consumed + n)) (drop n sink.buffer)) (fresh_mix samples (with_messages (settled sink n) messages) (sink.consumed + n + sink.depth - next_horizon sink n)) k
     (omega (arith, length-take (next_horizon sink n - (sink.consumed + n)) (drop n sink.buffer), length-drop n sink.buffer, full))
     ∙ get-take (next_horizon sink n - (sink.consumed + n)) (drop n sink.buffer) k h
@@ -186,11 +186,11 @@ pub frame_in_from : (sink : Sink) (f k : ℕ) → sink.consumed ≤ f → k ≡ 
 frame_in_from sink f k h e =
     cond-false (nat_lt f sink.consumed) None (slice_get sink.buffer (f - sink.consumed)) (le-ltb f sink.consumed h) ∙ ap (slice_get sink.buffer) (sym e)
 
-pub turn_kept : (samples : Samples) (sink : Sink) → IsSink sink → (n : ℕ) → n ≤ sink.filled - sink.consumed → (messages : List (Message Stream)) (f : ℕ)
+pub turn_stays : (samples : Samples) (sink : Sink) → IsSink sink → (n : ℕ) → n ≤ sink.filled - sink.consumed → (messages : List (Message Stream)) (f : ℕ)
     → (turned samples sink n messages).consumed ≤ f → f < (turned samples sink n messages).horizon → frame_in (turned samples sink n messages) f ≡ frame_in sink f
-turn_kept samples sink keeps n h messages f from below =
+turn_stays samples sink keeps n h messages f from below =
     frame_in_from (turned samples sink n messages) f (f - (sink.consumed + n)) from refl
-    ∙ get_kept samples sink n messages (f - (sink.consumed + n)) (omega (arith, keeps.consumed_first, keeps.horizon_first)) keeps.buffer_full (omega arith)
+    ∙ get_stays samples sink n messages (f - (sink.consumed + n)) (omega (arith, keeps.consumed_first, keeps.horizon_first)) keeps.buffer_full (omega arith)
     ∙ sym (frame_in_from sink f (n + (f - (sink.consumed + n))) (omega arith) (omega arith))
 
 pub turn_fresh : (samples : Samples) (sink : Sink) → IsSink sink → (n : ℕ) → n ≤ sink.filled - sink.consumed → (messages : List (Message Stream)) (f : ℕ)
@@ -200,8 +200,8 @@ turn_fresh samples sink keeps n h messages f from below =
     ∙ get_fresh samples sink n messages (f - (sink.consumed + n)) (f - next_horizon sink n) h (omega (arith, keeps.consumed_first, keeps.horizon_first)) keeps.buffer_full
     (omega (arith, keeps.consumed_first, keeps.horizon_first)) (omega arith)
 
-pub stop_kept : (sink : Sink) → IsSink sink → (messages : List (Message Stream)) (f : ℕ) → sink.consumed ≤ f → f < (stopped_turn sink messages).horizon → frame_in (stopped_turn sink messages) f ≡ frame_in sink f
-stop_kept sink keeps messages f from below =
+pub stop_stays : (sink : Sink) → IsSink sink → (messages : List (Message Stream)) (f : ℕ) → sink.consumed ≤ f → f < (stopped_turn sink messages).horizon → frame_in (stopped_turn sink messages) f ≡ frame_in sink f
+stop_stays sink keeps messages f from below =
     frame_in_from (stopped_turn sink messages) f (f - sink.consumed) (omega arith) (omega arith)
     ∙ get-take (next_horizon sink 0 - sink.consumed) sink.buffer (f - sink.consumed) (omega arith)
     ∙ sym (frame_in_from sink f (f - sink.consumed) from refl)

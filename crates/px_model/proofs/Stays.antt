@@ -17,9 +17,9 @@ use Rattle.px_model.specs.Deciding.{Entry, turn, stop, sink_after, notices_of, m
 use Rattle.px_model.specs.Track.{Stretch, Follows, stretch_of, stretches_from, track_of, forward_by, IsJoined, StandsAt, HandsOverAt, presence_of, opens, all_opens, history_opens, indices_of_all, Rise}
 use Rattle.px_model.specs.Stay.{HasOne, Comes, Leaves, Stay, IsStay, ComesIn, LeavesIn, GoesOn, AreStays, track_over}
 use Rattle.px_model.proofs.Lookups.{read_of, KeepsRead, keeps_then, keeps_same, at_map, at_each, message_reads, messages_read, entry_reads, entry_count, gone}
-use Rattle.px_model.proofs.Joined.{Begins, Meets, meets, begins_at, none_stays, nothing_settled, join_one, stream_kept, entry_keeps, track_joined, joined_rise}
+use Rattle.px_model.proofs.Joined.{Begins, Meets, meets, begins_at, none_stays, nothing_settled, join_one, stream_holds, entry_keeps, track_joined, joined_rise}
 use Rattle.px_model.proofs.Parcels.{All, joined, each_of, going_hands, asked_hands, message_hands, messages_hand}
-use Rattle.px_model.proofs.Shown.{here_with}
+use Rattle.px_model.proofs.Matching.{here_with}
 
 -- ---- the parts of a turn
 
@@ -38,13 +38,13 @@ forward sink e = map (with_stream (λ s. after s (forward_by sink e))) sink.inpu
 abbrev given : Sink → Entry → List Input
 given sink e = inputs_with_all (mixed_of sink e) (messages_of e) (forward sink e)
 
-abbrev told_of : Sink → Entry → List (Notice Stream)
-told_of sink e = all_message_notices (mixed_of sink e) (buffered_of sink e) (messages_of e) (forward sink e)
+abbrev notices_at : Sink → Entry → List (Notice Stream)
+notices_at sink e = all_message_notices (mixed_of sink e) (buffered_of sink e) (messages_of e) (forward sink e)
 
 forward_at : (sink : Sink) (e : Entry) (i : ℕ) (o : Option Stream) → stream_at i sink.inputs ≡ o → stream_at i (forward sink e) ≡ gone (forward_by sink e) o
 forward_at sink e i o h = at_each i (λ s. after s (forward_by sink e)) sink.inputs ∙ ap (gone (forward_by sink e)) h
 
-hands_by : (samples : Samples) (sink : Sink) (e : Entry) (i : ℕ) (read : ℤ) → All i read (told_of sink e) → All i read (notices_of samples sink e)
+hands_by : (samples : Samples) (sink : Sink) (e : Entry) (i : ℕ) (read : ℤ) → All i read (notices_at sink e) → All i read (notices_of samples sink e)
 hands_by samples sink (turn n messages) i read h =
     joined i read
     (flat_map (going_notices (next_horizon sink n - sink.horizon)) sink.inputs ++ all_message_notices (sink.filled - next_horizon sink n) (sink.filled - (sink.consumed + n)) messages (settled sink n).inputs)
@@ -128,7 +128,7 @@ leaves_here samples sink e i p s keeps h o l =
     let read : p.queue.read ≡ (after s k).queue.read =
     handed i (after s k).queue.read p (notices_of samples sink e)
     (hands_by samples sink e i (after s k).queue.read (messages_hand i (mixed_of sink e) (buffered_of sink e) (after s k).queue.read (messages_of e) (forward sink e) o stands)) l in
-    let ends : Meets s k p = subst (λ z. ((z ≡ onward (stretch_of s k).from (stretch_of s k).count) ⊎ IsTrue (stretch_of s k).ran_on) × (onward (stretch_of s k).from (stretch_of s k).count ≤ℤ z)) (sym read) (meets s (stream_kept sink.spec i sink.inputs s keeps.streams h) k) in
+    let ends : Meets s k p = subst (λ z. ((z ≡ onward (stretch_of s k).from (stretch_of s k).count) ⊎ IsTrue (stretch_of s k).ran_on) × (onward (stretch_of s k).from (stretch_of s k).count ≤ℤ z)) (sym read) (meets s (stream_holds sink.spec i sink.inputs s keeps.streams h) k) in
     join_one (stretch_of s k) p.queue.read (place_of p ∷ []) ends.0 ends.1 refl tt
 
 begins_with : (samples : Samples) (sink : Sink) (e : Entry) (history : List Entry) (i : ℕ) (t : Stream) (rest : List Stretch) → stream_at i sink.inputs ≡ Some t → Begins t.queue.read (track_of samples sink (e ∷ history) i ++ rest)
@@ -148,7 +148,7 @@ goes_before samples sink e f history i p s keeps h o later l j =
     go None m r = absurd (none_leaves_in samples i p (sink_after samples sink e) (f ∷ history) m later l)
     go (Some t) m r =
         let k : ℕ = forward_by sink e in
-        let ends : Meets s k t = subst (λ z. ((z ≡ onward (stretch_of s k).from (stretch_of s k).count) ⊎ IsTrue (stretch_of s k).ran_on) × (onward (stretch_of s k).from (stretch_of s k).count ≤ℤ z)) (sym r) (meets s (stream_kept sink.spec i sink.inputs s keeps.streams h) k) in
+        let ends : Meets s k t = subst (λ z. ((z ≡ onward (stretch_of s k).from (stretch_of s k).count) ⊎ IsTrue (stretch_of s k).ran_on) × (onward (stretch_of s k).from (stretch_of s k).count ≤ℤ z)) (sym r) (meets s (stream_holds sink.spec i sink.inputs s keeps.streams h) k) in
         join_one (stretch_of s k) t.queue.read (track_of samples (sink_after samples sink e) (f ∷ history) i ++ place_of p ∷ []) ends.0 ends.1
         (begins_with samples (sink_after samples sink e) f history i t (place_of p ∷ []) m) j
 
@@ -203,9 +203,9 @@ opens_once i p [] c = absurd c
 opens_once i p (m ∷ messages) c =
     ⊎_elim (λ h. omega (arith, Brought.opened (brought i 0 0 p m [] h))) (λ h. omega (arith, opens_once i p messages h)) c
 
-kept_stands : (s : Stream) (o : Option Stream) → KeepsRead (Some s) o → StandsAt s.queue.read o
-kept_stands s None h = tt
-kept_stands s (Some t) h = h
+read_stands : (s : Stream) (o : Option Stream) → KeepsRead (Some s) o → StandsAt s.queue.read o
+read_stands s None h = tt
+read_stands s (Some t) h = h
 
 abbrev BroughtBy : ℕ → ℕ → ℕ → Stream → List (Message Stream) → List Input → Type 0
 BroughtBy i mixed buffered p messages xs =
@@ -218,7 +218,7 @@ brought_here i mixed buffered p m messages xs d o =
       keeps_then (Some p) (stream_at i (inputs_with mixed m xs)) (stream_at i (inputs_with_all mixed messages (inputs_with mixed m xs))) (Brought.stands b) (messages_read i mixed messages (inputs_with mixed m xs) none),
       joined i p.queue.read (message_notices mixed buffered m xs) (all_message_notices mixed buffered messages (inputs_with mixed m xs))
           (subst (All i p.queue.read) (sym (Brought.silent b)) tt)
-          (messages_hand i mixed buffered p.queue.read messages (inputs_with mixed m xs) none (kept_stands p (stream_at i (inputs_with mixed m xs)) (Brought.stands b))),
+          (messages_hand i mixed buffered p.queue.read messages (inputs_with mixed m xs) none (read_stands p (stream_at i (inputs_with mixed m xs)) (Brought.stands b))),
     )
 
 brought_later : (i mixed buffered : ℕ) (p : Stream) (m : Message Stream) (messages : List (Message Stream)) (xs : List Input) → stream_at i xs ≡ None → HasOne (Comes i p) messages → all_opens i (m ∷ messages) ≤ 1
@@ -320,7 +320,7 @@ append_none (x ∷ xs) = ap (λ l. x ∷ l) (append_none xs)
 
 go_on : (samples : Samples) (i : ℕ) (a : Stay) (stays : List Stay) → AreStays samples i (a ∷ stays) → GoOn samples i a stays
 go_on samples i a [] h = record {
-  joined_all = subst IsJoined (sym (append_none (track_of samples a.sink a.history i))) (track_joined samples a.sink h.kept a.history h.can h.orderly i h.once);
+  joined_all = subst IsJoined (sym (append_none (track_of samples a.sink a.history i))) (track_joined samples a.sink h.holds a.history h.can h.orderly i h.once);
   begins_all = λ p c. subst (Begins p.queue.read) (sym (append_none (track_of samples a.sink a.history i))) (begins_last samples i p a.sink a.history h.once c);
 }
 go_on samples i a (b ∷ stays) h =
@@ -329,7 +329,7 @@ go_on samples i a (b ∷ stays) h =
     let next : Begins (GoesOn.parcel on).queue.read (track_over samples i (b ∷ stays)) = GoOn.begins_all rest (GoesOn.parcel on) (GoesOn.comes on) in
     record {
       joined_all = joins (GoesOn.parcel on) (track_of samples a.sink a.history i) (track_over samples i (b ∷ stays))
-          (ends_at samples i (GoesOn.parcel on) a.sink a.history (IsStay.kept h.0) (IsStay.can h.0) (IsStay.orderly h.0) (IsStay.once h.0) (GoesOn.leaves on)) next (GoOn.joined_all rest);
+          (ends_at samples i (GoesOn.parcel on) a.sink a.history (IsStay.holds h.0) (IsStay.can h.0) (IsStay.orderly h.0) (IsStay.once h.0) (GoesOn.leaves on)) next (GoOn.joined_all rest);
       begins_all = λ p c. begins_through p.queue.read (GoesOn.parcel on) (track_of samples a.sink a.history i) (track_over samples i (b ∷ stays))
           (begins_then samples i p (GoesOn.parcel on) a.sink a.history (IsStay.once h.0) c (GoesOn.leaves on)) next;
     }

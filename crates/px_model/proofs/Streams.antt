@@ -41,7 +41,7 @@ same_prebuf q (suc n) = after_by (λ t. q.prebuf ≡ Queue.prebuf t) q (suc n) (
 
 on_keeps : (s : Stream) → IsStream s → (k : ℕ) → IsStream (stream_on s k)
 on_keeps s keeps k = record {
-  queue_kept = queue_after_keeps s.queue keeps.queue_kept k;
+  queue_holds = queue_after_keeps s.queue keeps.queue_holds k;
   prebuf_bounded = subst (λ n. n ≤ s.tlength) (same_prebuf s.queue k) keeps.prebuf_bounded;
   tlength_bounded = keeps.tlength_bounded;
   maxlength_bounded = keeps.maxlength_bounded;
@@ -72,7 +72,7 @@ given_adds s keeps zero b = let e : 0 + b ≡ b = omega arith in ap (given_of s)
 given_adds s keeps (suc a) b =
     stream_by (λ t. given_of s (suc a + b) ≡ given_of s (suc a) + given_of t b) s (suc a) (omega arith)
     (λ c. given_corked s (suc a + b) c ∙ (λ i. sym (given_corked s (suc a) c) i + sym (given_corked s b c) i))
-    (λ c. given_open s (suc a + b) c ∙ queue_given_adds s.queue keeps.queue_kept (suc a) b
+    (λ c. given_open s (suc a + b) c ∙ queue_given_adds s.queue keeps.queue_holds (suc a) b
     ∙ (λ i. sym (given_open s (suc a) c) i + sym (given_open (stream_on s (suc a)) b c) i))
 
 frame_corked : (s : Stream) (k : ℕ) → s.corked ≡ true → frame_at s k ≡ nothing
@@ -86,14 +86,14 @@ frame_ahead s keeps zero k = let e : k ≡ 0 + k = omega arith in ap (frame_at s
 frame_ahead s keeps (suc a) k =
     stream_by (λ t. frame_at t k ≡ frame_at s (suc a + k)) s (suc a) (omega arith)
     (λ c. frame_corked s k c ∙ sym (frame_corked s (suc a + k) c))
-    (λ c. frame_open (stream_on s (suc a)) k c ∙ queue_frame_ahead s.queue keeps.queue_kept (suc a) k ∙ sym (frame_open s (suc a + k) c))
+    (λ c. frame_open (stream_on s (suc a)) k c ∙ queue_frame_ahead s.queue keeps.queue_holds (suc a) k ∙ sym (frame_open s (suc a + k) c))
 
 gave_all : (s : Stream) → IsStream s → (a b k : ℕ) → k < given_of (after s a) b → given_of s a ≡ a
 gave_all s keeps zero b k l = given_none s
 gave_all s keeps (suc a) b k l =
     stream_by (λ t. k < given_of t b → given_of s (suc a) ≡ suc a) s (suc a) (omega arith)
     (λ c m. let none : given_of s b ≡ 0 = given_corked s b c in absurd (omega arith))
-    (λ c m. given_open s (suc a) c ∙ queue_gave_all s.queue keeps.queue_kept (suc a) b k (subst (λ n. k < n) (given_open (stream_on s (suc a)) b c) m))
+    (λ c m. given_open s (suc a) c ∙ queue_gave_all s.queue keeps.queue_holds (suc a) b k (subst (λ n. k < n) (given_open (stream_on s (suc a)) b c) m))
     l
 
 pub frames_join : (s : Stream) → IsStream s → (a b : ℕ) → frames_given s (a + b) ≡ frames_given s a ++ frames_given (after s a) b
@@ -129,8 +129,8 @@ after_adds s keeps (suc a) (suc b) =
     ap (λ t. after t (suc b)) (after_open s (suc a) c (omega arith))
     ∙ after_open (stream_on s (suc a)) (suc b) c (omega arith)
     ∙ (λ i. record s {
-      queue = queue_after_adds s.queue keeps.queue_kept (suc a) (suc b) i;
-      run = runs_join s.run s.queue keeps.queue_kept (suc a) (suc b) (omega arith) (omega arith) i;
+      queue = queue_after_adds s.queue keeps.queue_holds (suc a) (suc b) i;
+      run = runs_join s.run s.queue keeps.queue_holds (suc a) (suc b) (omega arith) (omega arith) i;
     })
     ∙ sym (after_open s (suc a + suc b) c (omega arith)))
     (cases_Bool s.corked)

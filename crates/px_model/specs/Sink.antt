@@ -81,7 +81,7 @@ IsRising (x ∷ inputs) = AllAbove x.index inputs × IsRising inputs
 
 -- a stream that a sink can mix: it keeps what a stream keeps, and has a spec that is played, and a channel and a factor for each sink channel
 pub record IsStreamOf (sink : SampleSpec) (s : Stream) : Type 0 where
-  pub kept : IsStream s
+  pub holds : IsStream s
   pub playable : IsPlayable s.spec
   pub feed_fits : IsFeed sink s.spec s.feed
   pub factors_fit : AreFactors sink s.factors

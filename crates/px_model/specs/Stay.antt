@@ -44,7 +44,7 @@ pub record Stay : Type 0 where
 
 -- the input is opened there at most once
 pub record IsStay (samples : Samples) (i : ℕ) (stay : Stay) : Type 0 where
-  pub kept : IsSink stay.sink
+  pub holds : IsSink stay.sink
   pub can : IsHistory samples stay.sink stay.history
   pub orderly : IsOrderlyHistory samples stay.sink stay.history
   pub once : presence_of (stream_at i stay.sink.inputs) + history_opens i stay.history ≤ 1

@@ -30,7 +30,7 @@ frame_at s k = if s.corked then nothing else queue_frame s.queue k
 
 -- what a stream keeps
 pub record IsStream (s : Stream) : Type 0 where
-  pub queue_kept : IsQueue s.queue
+  pub queue_holds : IsQueue s.queue
   pub prebuf_bounded : s.queue.prebuf ≤ s.tlength
   pub tlength_bounded : s.tlength ≤ s.maxlength
   pub maxlength_bounded : s.maxlength ≤ 4194304

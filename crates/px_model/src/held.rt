@@ -44,7 +44,7 @@ pub fn write_changes_its_indices()
 /// `pa_memblockq_drop`.
 pub fn going_drops_the_past()
     ensures rises { (q : Queue) → IsQueue q → (k : ℕ) → q.read ≤ℤ (queue_after q k).read }
-    ensures kept { (q : Queue) → IsQueue q → (k : ℕ) (i : ℤ) → (queue_after q k).read ≤ℤ i
+    ensures stays { (q : Queue) → IsQueue q → (k : ℕ) (i : ℤ) → (queue_after q k).read ≤ℤ i
         → frame_held (queue_after q k) i ≡ frame_held q i }
     ensures left { (q : Queue) → left_of q ≡ above (edge_of q) q.read }
 {}

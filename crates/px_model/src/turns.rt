@@ -33,7 +33,7 @@ pub fn sink_keeps()
 /// streams as the turn leaves them, of as many bytes as a frame of the sink has; a stopped turn
 /// keeps the frames below its horizon and gives up the others. Source: PulseAudio's rewinding.
 pub fn turn_mixes_from_its_horizon()
-    ensures kept { (samples : Samples) (sink : Sink) → IsSink sink → (n : ℕ)
+    ensures stays { (samples : Samples) (sink : Sink) → IsSink sink → (n : ℕ)
         → n ≤ sink.filled - sink.consumed
         → (messages : List (Message Stream)) (f : ℕ) → (turned samples sink n messages).consumed ≤ f
         → f < (turned samples sink n messages).horizon
@@ -48,7 +48,7 @@ pub fn turn_mixes_from_its_horizon()
         → ((x : ℤ) → length (samples.packed sink.format x) ≡ size)
         → (streams : List Stream) (k : ℕ)
         → length (mix_of samples sink streams k) ≡ sink.channels * size }
-    ensures stop_kept { (sink : Sink) → IsSink sink
+    ensures stop_stays { (sink : Sink) → IsSink sink
         → (messages : List (Message Stream)) (f : ℕ) → sink.consumed ≤ f
         → f < (stopped_turn sink messages).horizon
         → frame_in (stopped_turn sink messages) f ≡ frame_in sink f }

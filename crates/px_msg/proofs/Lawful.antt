@@ -4,7 +4,7 @@ use Rattle.std.proofs.lemmas.List.{map-append}
 use Rattle.px_model.specs.Frame.{SampleSpec}
 use Rattle.px_model.specs.Message.{Message}
 use Rattle.px_model.specs.Orderly.{Inputs, IsOrderly, inputs_left, inputs_left_by}
-use Rattle.px_model.proofs.Shown.{orderly_begins, orderly_goes_on, orderly_joins}
+use Rattle.px_model.proofs.Matching.{orderly_begins, orderly_goes_on, orderly_joins}
 use Rattle.px_msg.specs.declared.message.Msg.{Msg}
 use Rattle.px_msg.specs.View.{message_of}
 use Rattle.px_msg.specs.Letters.{none_there, AreLawful, inputs_after}

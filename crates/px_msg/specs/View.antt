@@ -4,7 +4,7 @@ use Rattle.px_sample.specs.declared.spec.Spec.{Spec}
 use Rattle.px_sample.specs.Format.{code_of}
 use Rattle.px_model.specs.Frame.{SampleSpec}
 use Rattle.px_model.specs.Message.{Message, NewStream as Opened, InputFactors as Gains}
-use Rattle.px_model.specs.Notice.{Notice as Told}
+use Rattle.px_model.specs.Notice.{Notice as ModelNotice}
 use Rattle.px_msg.specs.declared.message.Msg.{Msg}
 use Rattle.px_msg.specs.declared.message.Msg.TheVariants.{New, Attach, Detach, Write, Cork, Flush, Trigger, Prebuf, Drain, Attr, Factors, Query}
 use Rattle.px_msg.specs.declared.message.NewStream.{NewStream}
@@ -39,23 +39,23 @@ message_of parcel_of (Factors each) = Message.factors (map gains each)
 message_of parcel_of (Query input tag) = Message.query input.0 tag
 
 -- a notice
-abbrev pub notice_of : {P Q : Type 0} → (P → Q) → Notice P → Told Q
-notice_of parcel_of (Request input frames) = Told.request input.0 frames
-notice_of parcel_of (Overflow input) = Told.overflow input.0
-notice_of parcel_of (Underflow input) = Told.underflow input.0
-notice_of parcel_of (Started input) = Told.started input.0
-notice_of parcel_of (Drained input tag) = Told.drained input.0 tag
-notice_of parcel_of (Detached input parcel) = Told.detached input.0 (parcel_of parcel)
+abbrev pub notice_of : {P Q : Type 0} → (P → Q) → Notice P → ModelNotice Q
+notice_of parcel_of (Request input frames) = ModelNotice.request input.0 frames
+notice_of parcel_of (Overflow input) = ModelNotice.overflow input.0
+notice_of parcel_of (Underflow input) = ModelNotice.underflow input.0
+notice_of parcel_of (Started input) = ModelNotice.started input.0
+notice_of parcel_of (Drained input tag) = ModelNotice.drained input.0 tag
+notice_of parcel_of (Detached input parcel) = ModelNotice.detached input.0 (parcel_of parcel)
 notice_of parcel_of (Latency input tag write read buffered playing run) =
-    Told.latency input.0 tag (record { write = write; read = read; buffered = buffered; playing = playing; run = run })
+    ModelNotice.latency input.0 tag (record { write = write; read = read; buffered = buffered; playing = playing; run = run })
 
 -- the notice of the code that is seen so
-abbrev pub notice_for : {P : Type 0} → Told P → Notice P
-notice_for (Told.request input frames) = Request (record { 0 = input }) frames
-notice_for (Told.overflow input) = Overflow (record { 0 = input })
-notice_for (Told.underflow input) = Underflow (record { 0 = input })
-notice_for (Told.started input) = Started (record { 0 = input })
-notice_for (Told.drained input tag) = Drained (record { 0 = input }) tag
-notice_for (Told.detached input parcel) = Detached (record { 0 = input }) parcel
-notice_for (Told.latency input tag answer) =
+abbrev pub notice_for : {P : Type 0} → ModelNotice P → Notice P
+notice_for (ModelNotice.request input frames) = Request (record { 0 = input }) frames
+notice_for (ModelNotice.overflow input) = Overflow (record { 0 = input })
+notice_for (ModelNotice.underflow input) = Underflow (record { 0 = input })
+notice_for (ModelNotice.started input) = Started (record { 0 = input })
+notice_for (ModelNotice.drained input tag) = Drained (record { 0 = input }) tag
+notice_for (ModelNotice.detached input parcel) = Detached (record { 0 = input }) parcel
+notice_for (ModelNotice.latency input tag answer) =
     Latency (record { 0 = input }) tag answer.write answer.read answer.buffered answer.playing answer.run

@@ -3,9 +3,9 @@ use Rattle.std.proofs.Common.{◌≡◌, ℕ, ◌+◌, ◌-◌, ◌<◌, ◌≤�
 use Rattle.std.proofs.Math.Seq.{take-append-add}
 use Rattle.std.proofs.lemmas.Bool.{cases_lt}
 use Rattle.std.proofs.lemmas.List.{take_all, take-append-le}
-use Rattle.px_ends.specs.Told.{after_adding}
+use Rattle.px_ends.specs.Visible.{after_adding}
 use Rattle.px_ends.specs.Whole.{AddsFront}
-use Rattle.px_ends.proofs.ToldBytes.{adding_both}
+use Rattle.px_ends.proofs.VisibleBytes.{adding_both}
 
 -- the first bytes of both: as many as there are from the front, and the rest from the back
 pub front_of_both : (front back : List ℕ) (count : ℕ) → take (min count (length front)) front ++ take (count - min count (length front)) back ≡ take count (front ++ back)

@@ -1,7 +1,7 @@
 // A device that plays by a clock.
 ghost use Rattle.std.specs.Prelude.{◌≡◌, ◌+◌, ◌-◌, ◌^◌, ◌<◌, ◌≤◌, IfOk, OnOk, OnErr, IsTrue, IsFalse};
 ghost use Rattle.px_types.specs.Faults.{Rose};
-ghost use Rattle.px_ends.specs.Told.{after_adding};
+ghost use Rattle.px_ends.specs.Visible.{after_adding};
 ghost use Rattle.px_ends.specs.Whole.{AddsFront};
 ghost use Rattle.px_ends.specs.Device.{HoldsFrames, IsShape, Plays, Fails, IsPut, put_at};
 ghost use Rattle.px_paced.specs.Paced.{frames_of, state_of, new_paced, bytes_at, synced, begun_at, sync_failed, fails_again, after_put};
@@ -123,12 +123,12 @@ impl<K: Sink, C: Clock> PacedSink<K, C> {
     // Consumes what is due by the moment that its clock tells, as far as it is there, and skips the rest of it. Where the write of its
     // bytes fails, it has begun, and nothing else has changed.
     fn play_due(&mut self) -> Result<(), WriteFailed>
-        ensures after { OnOk result (self.new ≡ synced (C.told self.new.clock) self.new.out self.new.clock self.old) }
-        ensures out { OnOk result (K.held self.new.out ≡ after_adding (K.held self.old.out) (bytes_at (C.told self.new.clock) self.old)) }
+        ensures after { OnOk result (self.new ≡ synced (C.latest self.new.clock) self.new.out self.new.clock self.old) }
+        ensures out { OnOk result (K.held self.new.out ≡ after_adding (K.held self.old.out) (bytes_at (C.latest self.new.clock) self.old)) }
         ensures ok_count { OnOk result (K.faults self.new.out ≡ K.faults self.old.out) }
         ensures cause { OnErr result (Rose (K.faults self.old.out) (K.faults self.new.out)) }
-        ensures front { OnErr result (AddsFront (bytes_at (C.told self.new.clock) self.old) (K.held self.old.out) (K.held self.new.out)) }
-        ensures begun { OnErr result (self.new ≡ begun_at (C.told self.new.clock) self.new.out self.new.clock self.old) }
+        ensures front { OnErr result (AddsFront (bytes_at (C.latest self.new.clock) self.old) (K.held self.old.out) (K.held self.new.out)) }
+        ensures begun { OnErr result (self.new ≡ begun_at (C.latest self.new.clock) self.new.out self.new.clock self.old) }
     {
         let moment = self.clock.now();
         let began = self.began.unwrap_or(moment);
@@ -157,13 +157,13 @@ impl<K: Sink, C: Clock> Device for PacedSink<K, C> {
         ensures err { OnErr result (Fails (state_of self.old) (state_of self.new)) }
         ensures full { HoldsFrames (state_of self.old) × HoldsFrames (state_of self.new) }
         // What is due by the moment that its clock tells is consumed, as far as it is there, and the rest of it is skipped.
-        ensures after { OnOk result (self.new ≡ synced (C.told self.new.clock) self.new.out self.new.clock self.old) }
-        ensures out { OnOk result (K.held self.new.out ≡ after_adding (K.held self.old.out) (bytes_at (C.told self.new.clock) self.old)) }
+        ensures after { OnOk result (self.new ≡ synced (C.latest self.new.clock) self.new.out self.new.clock self.old) }
+        ensures out { OnOk result (K.held self.new.out ≡ after_adding (K.held self.old.out) (bytes_at (C.latest self.new.clock) self.old)) }
         ensures ok_count { OnOk result (K.faults self.new.out ≡ K.faults self.old.out) }
         // The first Err comes only where a write failed.
         ensures cause { OnErr result (IsFalse self.old.failed → Rose (K.faults self.old.out) (K.faults self.new.out)) }
-        ensures front { OnErr result (IsFalse self.old.failed → AddsFront (bytes_at (C.told self.new.clock) self.old) (K.held self.old.out) (K.held self.new.out)) }
-        ensures after_fault { OnErr result (IsFalse self.old.failed → self.new ≡ sync_failed (C.told self.new.clock) self.new.out self.new.clock self.old) }
+        ensures front { OnErr result (IsFalse self.old.failed → AddsFront (bytes_at (C.latest self.new.clock) self.old) (K.held self.old.out) (K.held self.new.out)) }
+        ensures after_fault { OnErr result (IsFalse self.old.failed → self.new ≡ sync_failed (C.latest self.new.clock) self.new.out self.new.clock self.old) }
         ensures again { IsTrue self.old.failed → (self.new ≡ fails_again self.old) }
     {
         if self.failed {

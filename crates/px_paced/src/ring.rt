@@ -2,7 +2,7 @@
 ghost use Rattle.std.specs.Prelude.{◌≡◌, ◌≤◌, ◌+◌, ◌++◌, take, drop, length, OnOk, OnErr};
 ghost use Rattle.circular_buffer.specs.Buffer.{buffer};
 ghost use Rattle.px_types.specs.Faults.{Rose};
-ghost use Rattle.px_ends.specs.Told.{after_adding};
+ghost use Rattle.px_ends.specs.Visible.{after_adding};
 ghost use Rattle.px_ends.specs.Whole.{AddsFront};
 
 use circular_buffer::HeapCircularBuffer;

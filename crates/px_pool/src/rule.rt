@@ -15,15 +15,15 @@ impl Protocol<Block, ()> for Emptied {
 }
 
 /// A block is kept, or the pool is full.
-pub struct Keeps;
+pub struct Stores;
 
-impl Outcome<Block, ()> for Keeps {
+impl Outcome<Block, ()> for Stores {
     ghost use Rattle.std.specs.Prelude.{⊤};
 
     ghost then = { λ before block after. ⊤ };
 }
 
-impl Lesson<Block, ()> for Keeps {
+impl Lesson<Block, ()> for Stores {
     ghost use Rattle.px_pool.specs.Pool.{AreEmpty};
 
     ghost fact = { λ seat blocks. AreEmpty blocks };

@@ -4,7 +4,7 @@ ghost use Rattle.std.specs.Arc.{arc_value};
 ghost use Rattle.crossbeam_queue.specs.Passes.{IsPassOf, ruled_capacity};
 
 use crate::pool::Pool;
-use crate::rule::{Finds, Keeps};
+use crate::rule::{Finds, Stores};
 use crossbeam_queue::Pass;
 use px_block::{Block, BlockSource, Mem};
 use std::sync::{Arc, Wait};
@@ -52,10 +52,10 @@ impl<R: Wait> BlockSource for PoolSeat<R> {
 
     fn give(&mut self, mut block: Block) {
         block.clear();
-        let kept = self
+        let stored = self
             .pool
             .queue
-            .push_as::<Keeps, R>(&self.rt, &mut self.pass, block);
-        drop(kept);
+            .push_as::<Stores, R>(&self.rt, &mut self.pass, block);
+        drop(stored);
     }
 }

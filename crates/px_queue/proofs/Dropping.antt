@@ -17,9 +17,9 @@ pub rest_short : (ps : List Piece) → 0 < length ps → length (drop 1 ps) + 1 
 rest_short [] some = absurd (omega arith)
 rest_short (p ∷ ps) some = omega arith
 
-pub kept_rise : (high : ℕ) (ps : List Piece) (from : ℕ) (d : Piece) → from ≤ high → Rise 0 high ps → (0 < length ps → from ≤ (slice_index_or ps 0 d).at) → Rise from high ps
-kept_rise high [] from d top rise low = top
-kept_rise high (p ∷ ps) from d top rise low = (low (omega arith), rise.1)
+pub held_rise : (high : ℕ) (ps : List Piece) (from : ℕ) (d : Piece) → from ≤ high → Rise 0 high ps → (0 < length ps → from ≤ (slice_index_or ps 0 d).at) → Rise from high ps
+held_rise high [] from d top rise low = top
+held_rise high (p ∷ ps) from d top rise low = (low (omega arith), rise.1)
 
 pub cut_first_rise : (high : ℕ) (ps : List Piece) (from : ℕ) (d : Piece) → 0 < length ps → Rise 0 high ps → (slice_index_or ps 0 d).at ≤ from → from ≤ end_of (slice_index_or ps 0 d)
     → Rise from high (tail_from (slice_index_or ps 0 d) from ∷ drop 1 ps)

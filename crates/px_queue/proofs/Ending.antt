@@ -10,14 +10,14 @@ pub ends_outside : (q : Queue) (limit p : ℤ) (l : ℕ) (a : ℤ) → (is_index
 ends_outside q limit p l a out =
     ap (λ (b : Bool). cond (not b) outside (cond (passes_end q p l && int_lt limit (onward p l -ℤ a)) overflow stored)) out
 
-index_shown : (i : ℤ) → IsIndex i → is_index i ≡ true
-index_shown i range = grind (arith, ints, range.0, range.1)
+index_holds : (i : ℤ) → IsIndex i → is_index i ≡ true
+index_holds i range = grind (arith, ints, range.0, range.1)
 
 ends_inside : (q : Queue) (limit p : ℤ) (l : ℕ) (a : ℤ) → IsIndex p → IsIndex (onward p l)
     → outcome_of q limit p l a ≡ cond (passes_end q p l && int_lt limit (onward p l -ℤ a)) overflow stored
 ends_inside q limit p l a first last =
-    ap (λ (b : Bool). cond (not (b && is_index (onward p l))) outside (cond (passes_end q p l && int_lt limit (onward p l -ℤ a)) overflow stored)) (index_shown p first)
-    ∙ ap (λ (b : Bool). cond (not (true && b)) outside (cond (passes_end q p l && int_lt limit (onward p l -ℤ a)) overflow stored)) (index_shown (onward p l) last)
+    ap (λ (b : Bool). cond (not (b && is_index (onward p l))) outside (cond (passes_end q p l && int_lt limit (onward p l -ℤ a)) overflow stored)) (index_holds p first)
+    ∙ ap (λ (b : Bool). cond (not (true && b)) outside (cond (passes_end q p l && int_lt limit (onward p l -ℤ a)) overflow stored)) (index_holds (onward p l) last)
 
 -- by the test on where it ends
 pub ends_by : (q : Queue) (limit p : ℤ) (l : ℕ) (a end : ℤ) (test : Bool) → IsIndex p → IsIndex (onward p l) → end ≡ onward p l

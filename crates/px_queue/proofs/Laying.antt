@@ -6,7 +6,7 @@ use Rattle.std.proofs.lemmas.List.{take-append-drop, take_at, drop_at, length-ta
 use Rattle.px_model.proofs.Places.{get_left, get_right, got_elem}
 use Rattle.std.specs.List.{concat}
 use Rattle.px_block.specs.Given.{blocks_for}
-use Rattle.px_block.specs.Kept.{KeptBlock, contents}
+use Rattle.px_block.specs.HeldBlock.{HeldBlock, contents}
 use Rattle.px_block.specs.Packed.{IsPacked}
 use Rattle.px_block.proofs.PackedLemmas.{length_contents, packed-count}
 use Rattle.px_queue.specs.Pieces.{Piece, end_of, byte_in, first_of, byte_at, front_of, last_of, Rise}
@@ -106,12 +106,12 @@ over_bytes ps qs old at i all new laid rise low none high =
     no_more None = refl
     no_more (Some b) = refl
 
-pub no_bytes : (bs : List KeptBlock) → length bs ≡ 0 → concat (contents bs) ≡ []
+pub no_bytes : (bs : List HeldBlock) → length bs ≡ 0 → concat (contents bs) ≡ []
 no_bytes [] none = refl
 no_bytes (b ∷ bs) none = absurd (omega arith)
 
 -- how many blocks there are, by their bytes
-pub count_by_bytes : (bs : List KeptBlock) (bytes : List ℕ) → IsPacked (contents bs) → concat (contents bs) ≡ bytes → length bs ≡ blocks_for (length bytes)
+pub count_by_bytes : (bs : List HeldBlock) (bytes : List ℕ) → IsPacked (contents bs) → concat (contents bs) ≡ bytes → length bs ≡ blocks_for (length bytes)
 count_by_bytes bs bytes packed e =
     sym (length_contents bs) ∙ packed-count (contents bs) packed ∙ ap (λ (xs : List ℕ). blocks_for (length xs)) e
 

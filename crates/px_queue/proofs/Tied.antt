@@ -174,8 +174,8 @@ freed_count s t key set e =
     let gone = one_gone (under s key) e in
     omega (arith, blocks_set s t key (released (under s key)) set, gone.0, gone.1)
 
-pub kept_count : (s t : Shelves) (key : ℕ) → SetsOnly s t key (released (under s key)) → 1 < references_to (under s key) → blocks_on t ≡ blocks_on s
-kept_count s t key set e = omega (arith, blocks_set s t key (released (under s key)) set, one_stays (under s key) e)
+pub same_count : (s t : Shelves) (key : ℕ) → SetsOnly s t key (released (under s key)) → 1 < references_to (under s key) → blocks_on t ≡ blocks_on s
+same_count s t key set e = omega (arith, blocks_set s t key (released (under s key)) set, one_stays (under s key) e)
 
 -- no chunks lie in no blocks
 pub none_tied : (s : Shelves) → IsTied s [] → blocks_on s ≡ 0

@@ -1,7 +1,7 @@
 pub mod Pieces
 pub mod Laid
 pub mod Framed
-pub mod Kept
+pub mod HeldQueue
 pub mod Pushed
 pub mod Peeked
 pub mod Plain

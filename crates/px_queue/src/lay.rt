@@ -2,7 +2,7 @@
 ghost use Rattle.std.specs.Prelude.{◌≡◌, ℕ, ◌+◌, ◌≤◌, length, IsTrue, IsFalse, IfSome};
 ghost use Rattle.std.specs.List.{concat};
 ghost use Rattle.px_block.specs.Given.{after_giving, blocks_for};
-ghost use Rattle.px_block.specs.Kept.{contents};
+ghost use Rattle.px_block.specs.HeldBlock.{contents};
 ghost use Rattle.px_queue.specs.Pieces.{byte_in, byte_at, first_of, Rise};
 ghost use Rattle.px_queue.specs.Laid.{TOP};
 

@@ -4,7 +4,7 @@ ghost use Rattle.px_block.specs.Given.{after_giving};
 ghost use Rattle.px_model.specs.Queue.{end_of, edge_of, left_of, is_short};
 ghost use Rattle.px_model.specs.Going.{queue_given, queue_after};
 ghost use Rattle.px_model.specs.Control.{new_queue, emptied, with_prebuf};
-ghost use Rattle.px_queue.specs.Kept.{with_hold};
+ghost use Rattle.px_queue.specs.HeldQueue.{with_hold};
 ghost use Rattle.px_queue.specs.Framed.{step_by};
 
 use crate::chunks::Chunks;
@@ -32,10 +32,10 @@ pub struct FrameQueue {
 impl Model for FrameQueue {
     ghost use Rattle.std.specs.Prelude.{◌≡◌, length};
     ghost use Rattle.px_model.specs.Queue.{IsQueue};
-    ghost use Rattle.px_queue.specs.Kept.{KeptQueue};
+    ghost use Rattle.px_queue.specs.HeldQueue.{HeldQueue};
     ghost use Rattle.px_queue.specs.Framed.{held_from, queue_of, IsLaid};
 
-    ghost Value = { KeptQueue };
+    ghost Value = { HeldQueue };
 
     ghost view = { λ q. record {
       queue = queue_of q.frame q.chunks.before q.read q.held q.write q.hold q.prebuf;

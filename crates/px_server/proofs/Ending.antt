@@ -15,7 +15,7 @@ use Rattle.px_header.specs.declared.header.SinkSpec.{SinkSpec}
 use Rattle.px_state.specs.State.{State, new_state}
 use Rattle.px_core_cell.specs.Cause.{IsCaused}
 use Rattle.px_core_cell.specs.Cell.{Cell, SinkEnds}
-use Rattle.px_core_cell.specs.History.{IsReplay, IsTold}
+use Rattle.px_core_cell.specs.History.{IsReplay, IsAgreed}
 use Rattle.px_server.specs.declared.served.LanePart.{LanePart}
 use Rattle.px_workers.specs.declared.stop.Stop.{Stop}
 use Rattle.px_workers.specs.declared.stop.Stop.TheVariants as stops
@@ -32,19 +32,19 @@ none_there : (C : Type 0) → IsSome {T = C} None → ⊥
 none_there C some = search rules
 
 -- what a core's entries say of a sink, wherever its recorder tells
-pub replay_told : {C : Type 0} (began : State PlainStream) (cell : Cell C) (core : Option (List CoreEntry)) → IfSome core (IsReplay began cell)
-    → (i : ℕ) (e : SinkEnds) → slice_get cell.ends i ≡ Some e → IfSome core (λ entries. IsTold began entries (0 + i) e)
-replay_told began cell None none i e is = tt
-replay_told began cell (Some entries) replay i e is =
-    let same : i ≡ 0 + i = omega arith in subst (λ (n : ℕ). IsTold began entries n e) same (replay.told i e is)
+pub replay_agreed : {C : Type 0} (began : State PlainStream) (cell : Cell C) (core : Option (List CoreEntry)) → IfSome core (IsReplay began cell)
+    → (i : ℕ) (e : SinkEnds) → slice_get cell.ends i ≡ Some e → IfSome core (λ entries. IsAgreed began entries (0 + i) e)
+replay_agreed began cell None none i e is = tt
+replay_agreed began cell (Some entries) replay i e is =
+    let same : i ≡ 0 + i = omega arith in subst (λ (n : ℕ). IsAgreed began entries n e) same (replay.agreed i e is)
 
-module _ {D R C : Type 0} (now : D → DeviceState) (told : R → Option (List LaneEntry)) (faults fulls : R → ℕ) (core_told : C → Option (List CoreEntry)) (core_faults core_fulls : C → ℕ) where
+module _ {D R C : Type 0} (now : D → DeviceState) (visible : R → Option (List LaneEntry)) (faults fulls : R → ℕ) (core_visible : C → Option (List CoreEntry)) (core_faults core_fulls : C → ℕ) where
   -- a call whose workers were joined
   pub run_ends : (began : State PlainStream) (idle : List (Unworked D R)) (before after : HostState D R C)
       (stop : Stop) (fault : Option RecordFault) (sink_fault : Option Status) (answered : Status) (parts : List (LanePart D R)) (recorder : C)
-      → AreParts began (core_told recorder) now told faults fulls (map unworked idle) parts → sink_fault ≡ first_met (map unworked idle)
+      → AreParts began (core_visible recorder) now visible faults fulls (map unworked idle) parts → sink_fault ≡ first_met (map unworked idle)
       → IsCauseOf stop before after → IsCaused fault (core_faults recorder) (core_fulls recorder) → answered ≡ decided stop fault sink_fault
-      → Ends core_told core_faults core_fulls began now told faults fulls (map start_of idle) before after answered parts (Some recorder)
+      → Ends core_visible core_faults core_fulls began now visible faults fulls (map start_of idle) before after answered parts (Some recorder)
   run_ends began idle before after stop fault sink_fault answered parts recorder all first cause caused is = record {
     works = map unworked idle;
     all = starts_unworked idle;
@@ -53,33 +53,33 @@ module _ {D R C : Type 0} (now : D → DeviceState) (told : R → Option (List L
       stop = stop;
       cause = cause;
       fault = fault;
-      kept = caused;
+      recorder_back = caused;
       status = is ∙ ap (decided stop fault) first;
     };
   }
 
   -- its sinks, by how they began before their workers had them
   pub ends_since : (began : State PlainStream) (starts begun : List Start) (before after : HostState D R C) (answered : Status) (parts : List (LanePart D R)) (core : Option C)
-      → starts ≡ begun → Ends core_told core_faults core_fulls began now told faults fulls starts before after answered parts core
-      → Ends core_told core_faults core_fulls began now told faults fulls begun before after answered parts core
+      → starts ≡ begun → Ends core_visible core_faults core_fulls began now visible faults fulls starts before after answered parts core
+      → Ends core_visible core_faults core_fulls began now visible faults fulls begun before after answered parts core
   ends_since began starts begun before after answered parts core same e = record { works = e.works; all = e.all ∙ same; lanes = e.lanes; decided = e.decided }
 
   -- a call that has made no core is decided by what made it stop
   pub undecided_is : (before after : HostState D R C) (stop : Stop) (works : List Worked) → IsCauseOf stop before after
-      → IsDecided core_told core_faults core_fulls before after (undecided stop) works None
-  undecided_is before after stops.Over works cause = record { stop = stops.Memory; cause = tt; fault = None; kept = refl; status = refl }
-  undecided_is before after stops.Memory works cause = record { stop = stops.Memory; cause = tt; fault = None; kept = refl; status = refl }
-  undecided_is before after stops.Host works cause = record { stop = stops.Host; cause = cause; fault = None; kept = refl; status = refl }
-  undecided_is before after (stops.Unrecorded why) works cause = record { stop = stops.Memory; cause = tt; fault = None; kept = refl; status = refl }
+      → IsDecided core_visible core_faults core_fulls before after (undecided stop) works None
+  undecided_is before after stops.Over works cause = record { stop = stops.Memory; cause = tt; fault = None; recorder_back = refl; status = refl }
+  undecided_is before after stops.Memory works cause = record { stop = stops.Memory; cause = tt; fault = None; recorder_back = refl; status = refl }
+  undecided_is before after stops.Host works cause = record { stop = stops.Host; cause = cause; fault = None; recorder_back = refl; status = refl }
+  undecided_is before after (stops.Unrecorded why) works cause = record { stop = stops.Memory; cause = tt; fault = None; recorder_back = refl; status = refl }
 
   pub unserved_is : (header : Header) (idle : List (Unworked D R)) (before after : HostState D R C) (stop : Stop) (answered : Status) (parts : List (LanePart D R)) (core : Option C)
       → IsFrontOf (map start_of idle) (starts_of header.sinks) → IsLater before after → HasLent (length idle) 0 after → IsCauseOf stop before after
-      → answered ≡ undecided stop → ((began : State PlainStream) → AreParts began None now told faults fulls (map unworked idle) parts) → core ≡ None
-      → IsServed core_told core_faults core_fulls now told faults fulls header before after answered parts core
+      → answered ≡ undecided stop → ((began : State PlainStream) → AreParts began None now visible faults fulls (map unworked idle) parts) → core ≡ None
+      → IsServed core_visible core_faults core_fulls now visible faults fulls header before after answered parts core
   unserved_is header idle before after stop answered parts core front later lent cause is all none =
-      let count : length parts ≡ length idle = parts_count (new_state header) None now told faults fulls (map unworked idle) parts (all (new_state header)) ∙ length-map idle unworked in
-      subst (λ (s : Status). IsServed core_told core_faults core_fulls now told faults fulls header before after s parts core) (sym is)
-      (subst (λ (o : Option C). IsServed core_told core_faults core_fulls now told faults fulls header before after (undecided stop) parts o) (sym none)
+      let count : length parts ≡ length idle = parts_count (new_state header) None now visible faults fulls (map unworked idle) parts (all (new_state header)) ∙ length-map idle unworked in
+      subst (λ (s : Status). IsServed core_visible core_faults core_fulls now visible faults fulls header before after s parts core) (sym is)
+      (subst (λ (o : Option C). IsServed core_visible core_faults core_fulls now visible faults fulls header before after (undecided stop) parts o) (sym none)
       (record {
         later = later;
         lent = subst (λ (n : ℕ). HasLent n 0 after) (sym count) lent;
@@ -102,19 +102,19 @@ module _ {D R C : Type 0} (now : D → DeviceState) (told : R → Option (List L
 
   pub served_is : (header : Header) (began : State PlainStream) (idle : List (Unworked D R)) (before after : HostState D R C) (answered : Status) (parts : List (LanePart D R)) (core : Option C)
       → began ≡ new_state header → map start_of idle ≡ starts_of header.sinks → IsLater before after → HasLent (length idle) 1 after → IsSome core
-      → Ends core_told core_faults core_fulls began now told faults fulls (map start_of idle) before after answered parts core
-      → IsServed core_told core_faults core_fulls now told faults fulls header before after answered parts core
+      → Ends core_visible core_faults core_fulls began now visible faults fulls (map start_of idle) before after answered parts core
+      → IsServed core_visible core_faults core_fulls now visible faults fulls header before after answered parts core
   served_is header began idle before after answered parts None is starts later lent some ends = absurd (none_there C some)
   served_is header began idle before after answered parts (Some recorder) is starts later lent some ends =
       let count : length parts ≡ length idle =
-      parts_count began (core_told recorder) now told faults fulls ends.works parts ends.lanes ∙ sym (length-map ends.works (λ w. Worked.start w)) ∙ ap length ends.all ∙ length-map idle start_of in
+      parts_count began (core_visible recorder) now visible faults fulls ends.works parts ends.lanes ∙ sym (length-map ends.works (λ w. Worked.start w)) ∙ ap length ends.all ∙ length-map idle start_of in
       record {
         later = later;
         lent = subst (λ (n : ℕ). HasLent n 1 after) (sym count) lent;
         starts = map start_of idle;
         front = ([], starts_all starts);
         all = λ there. starts;
-        ends = subst (λ (b : State PlainStream). Ends core_told core_faults core_fulls b now told faults fulls (map start_of idle) before after answered parts (Some recorder)) is ends;
+        ends = subst (λ (b : State PlainStream). Ends core_visible core_faults core_fulls b now visible faults fulls (map start_of idle) before after answered parts (Some recorder)) is ends;
         whole = λ fine. some;
       } where
         starts_all : {xs ys : List Start} → xs ≡ ys → ys ≡ xs ++ []
@@ -122,8 +122,8 @@ module _ {D R C : Type 0} (now : D → DeviceState) (told : R → Option (List L
 
   -- it is the same call seen from before the host made its parts
   pub served_since : (header : Header) (before made after : HostState D R C) (answered : Status) (parts : List (LanePart D R)) (core : Option C)
-      → IsLater before made → IsServed core_told core_faults core_fulls now told faults fulls header made after answered parts core
-      → IsServed core_told core_faults core_fulls now told faults fulls header before after answered parts core
+      → IsLater before made → IsServed core_visible core_faults core_fulls now visible faults fulls header made after answered parts core
+      → IsServed core_visible core_faults core_fulls now visible faults fulls header before after answered parts core
   served_since header before made after answered parts core first s =
       let d = s.ends.decided in record {
         later = later_later before made after first s.later;
@@ -135,7 +135,7 @@ module _ {D R C : Type 0} (now : D → DeviceState) (told : R → Option (List L
           works = s.ends.works;
           all = s.ends.all;
           lanes = s.ends.lanes;
-          decided = record { stop = d.stop; cause = cause_later d.stop before made after first d.cause; fault = d.fault; kept = d.kept; status = d.status };
+          decided = record { stop = d.stop; cause = cause_later d.stop before made after first d.cause; fault = d.fault; recorder_back = d.recorder_back; status = d.status };
         };
         whole = s.whole;
       }

@@ -22,10 +22,10 @@ use Rattle.px_server.specs.Parts.{sink_for, start_for, starts_from, Adds}
 use Rattle.px_server.specs.Taped.{AreTaping}
 
 -- a cell over what was made for a sink has met nothing
-pub fresh_honest : {D E : Type 0} (now : D → DeviceState) (told : E → Option (List LaneEntry)) (faults fulls : E → ℕ) (sink : SinkSpec) (device : D) (recorder : E) (cell : Cell D E)
-    → IsFresh sink (now device) (told recorder) (faults recorder) (fulls recorder)
+pub fresh_honest : {D E : Type 0} (now : D → DeviceState) (visible : E → Option (List LaneEntry)) (faults fulls : E → ℕ) (sink : SinkSpec) (device : D) (recorder : E) (cell : Cell D E)
+    → IsFresh sink (now device) (visible recorder) (faults recorder) (fulls recorder)
     → cell.lane ≡ record { sink = sink_for sink; device = device; faults = 0 } → cell.recorder ≡ recorder → IsHonest now faults fulls cell Nothing
-fresh_honest {D} {E} now told faults fulls sink device recorder cell fresh lane same = record {
+fresh_honest {D} {E} now visible faults fulls sink device recorder cell fresh lane same = record {
   sink_fault = (
     subst (λ (m : Mixer D). (now m.device).faults ≡ 0) (sym lane) fresh.going,
     subst (λ (r : E). faults r ≡ 0) (sym same) fresh.ready.0,

@@ -17,23 +17,23 @@ use Rattle.px_workers.specs.Working.{Start, start_of, Unworked}
 use Rattle.px_server.specs.Parts.{Worked, IsPart, AreParts, Adds, unworked}
 use Rattle.px_server.specs.Serving.{first_met}
 
-module _ {D R : Type 0} (began : State PlainStream) (core : Option (List CoreEntry)) (now : D → DeviceState) (told : R → Option (List LaneEntry)) (faults fulls : R → ℕ) where
+module _ {D R : Type 0} (began : State PlainStream) (core : Option (List CoreEntry)) (now : D → DeviceState) (visible : R → Option (List LaneEntry)) (faults fulls : R → ℕ) where
   -- what is left of a sink without a core, and what the core's entries say of it
-  pub part_told : (work : Worked) (part : LanePart D R) → IsPart began None now told faults fulls work part
-      → IfSome core (λ entries. IfSome (told part.recorder) (IsDelivered began entries work.start.index work.start.sink)) → IsPart began core now told faults fulls work part
-  part_told work part p delivered = record { sink = p.sink; played = p.played; delivered = delivered; sink_fault = p.sink_fault }
+  pub part_agreed : (work : Worked) (part : LanePart D R) → IsPart began None now visible faults fulls work part
+      → IfSome core (λ entries. IfSome (visible part.recorder) (IsDelivered began entries work.start.index work.start.sink)) → IsPart began core now visible faults fulls work part
+  part_agreed work part p delivered = record { sink = p.sink; played = p.played; delivered = delivered; sink_fault = p.sink_fault }
 
   -- one more
   pub parts_more : (works : List Worked) (parts : List (LanePart D R)) (work : Worked) (part : LanePart D R)
-      → AreParts began core now told faults fulls works parts → IsPart began core now told faults fulls work part
-      → AreParts began core now told faults fulls (works ++ work ∷ []) (parts ++ part ∷ [])
+      → AreParts began core now visible faults fulls works parts → IsPart began core now visible faults fulls work part
+      → AreParts began core now visible faults fulls (works ++ work ∷ []) (parts ++ part ∷ [])
   parts_more [] [] work part all one = (one, tt)
   parts_more [] (p ∷ parts) work part all one = absurd all
   parts_more (w ∷ works) [] work part all one = absurd all
   parts_more (w ∷ works) (p ∷ parts) work part all one = (all.0, parts_more works parts work part all.1 one)
 
   -- as many are left as there were
-  pub parts_count : (works : List Worked) (parts : List (LanePart D R)) → AreParts began core now told faults fulls works parts → length parts ≡ length works
+  pub parts_count : (works : List Worked) (parts : List (LanePart D R)) → AreParts began core now visible faults fulls works parts → length parts ≡ length works
   parts_count [] [] all = refl
   parts_count [] (p ∷ parts) all = absurd all
   parts_count (w ∷ works) [] all = absurd all
@@ -43,24 +43,24 @@ module _ {D R : Type 0} (began : State PlainStream) (core : Option (List CoreEnt
   pub record Handed (all left : List (Unworked D R)) (lanes : List (LanePart D R)) : Type 0 where
     pub done : List Worked
     pub whole : done ++ map unworked left ≡ map unworked all
-    pub parts : AreParts began core now told faults fulls done lanes
+    pub parts : AreParts began core now visible faults fulls done lanes
 
   pub handed_none : (all : List (Unworked D R)) (lanes : List (LanePart D R)) → lanes ≡ [] → Handed all all lanes
-  handed_none all lanes none = record { done = []; whole = refl; parts = subst (AreParts began core now told faults fulls []) (sym none) tt }
+  handed_none all lanes none = record { done = []; whole = refl; parts = subst (AreParts began core now visible faults fulls []) (sym none) tt }
 
   pub handed_one : (all left rest : List (Unworked D R)) (one : Unworked D R) (lanes next : List (LanePart D R)) (part : LanePart D R)
-      → left ≡ one ∷ rest → next ≡ lanes ++ part ∷ [] → IsPart began core now told faults fulls (unworked one) part
+      → left ≡ one ∷ rest → next ≡ lanes ++ part ∷ [] → IsPart began core now visible faults fulls (unworked one) part
       → Handed all left lanes → Handed all rest next
   handed_one all left rest one lanes next part front more is h = record {
     done = h.done ++ unworked one ∷ [];
     whole = append_assoc h.done (unworked one ∷ []) (map unworked rest) ∙ ap (λ (l : List (Unworked D R)). h.done ++ map unworked l) (sym front) ∙ h.whole;
-    parts = subst (AreParts began core now told faults fulls (h.done ++ unworked one ∷ [])) (sym more) (parts_more h.done lanes (unworked one) part h.parts is);
+    parts = subst (AreParts began core now visible faults fulls (h.done ++ unworked one ∷ [])) (sym more) (parts_more h.done lanes (unworked one) part h.parts is);
   }
 
   pub handed_all : (all left : List (Unworked D R)) (lanes : List (LanePart D R)) → left ≡ [] → Handed all left lanes
-      → AreParts began core now told faults fulls (map unworked all) lanes
+      → AreParts began core now visible faults fulls (map unworked all) lanes
   handed_all all left lanes none h =
-      subst (λ (l : List Worked). AreParts began core now told faults fulls l lanes)
+      subst (λ (l : List Worked). AreParts began core now visible faults fulls l lanes)
       (sym (append-nil h.done) ∙ ap (λ (l : List (Unworked D R)). h.done ++ map unworked l) (sym none) ∙ h.whole) h.parts
 
 pub or_none : (a : Option Status) → option_or a None ≡ a

@@ -23,21 +23,21 @@ use Rattle.px_tape.specs.Tape.{Turns, turns_in, total}
 -- ---- one sink
 
 -- a turn that was made is one entry more, and one that is kept
-pub turn_kept : {E : Type 0} (told : E → Option (List LaneEntry)) (before after : E) (entry : LaneEntry) (t t' : Turns) (turn : Turn)
-    → told after ≡ noted entry (told before) → t'.turns ≡ t.turns ++ turn ∷ [] → AreTaped told before (Some t) → AreTaped told after (Some t')
-turn_kept told before after entry t t' turn noted_is more taped =
-    subst (λ (o : Option (List LaneEntry)). IfSome o (λ entries. length t'.turns ≡ length entries)) (sym noted_is) (longer (told before) taped) where
+pub turn_taped : {E : Type 0} (visible : E → Option (List LaneEntry)) (before after : E) (entry : LaneEntry) (t t' : Turns) (turn : Turn)
+    → visible after ≡ noted entry (visible before) → t'.turns ≡ t.turns ++ turn ∷ [] → AreTaped visible before (Some t) → AreTaped visible after (Some t')
+turn_taped visible before after entry t t' turn noted_is more taped =
+    subst (λ (o : Option (List LaneEntry)). IfSome o (λ entries. length t'.turns ≡ length entries)) (sym noted_is) (longer (visible before) taped) where
       longer : (o : Option (List LaneEntry)) → IfSome o (λ entries. length t.turns ≡ length entries) → IfSome (noted entry o) (λ entries. length t'.turns ≡ length entries)
       longer None same = tt
       longer (Some entries) same =
           let count = ap length more in omega (arith, same, count, length-append t.turns (turn ∷ []), length-append entries (entry ∷ []))
 
 -- where there was none nothing has changed
-pub none_kept : {E : Type 0} (told : E → Option (List LaneEntry)) (before after : E) (t t' : Turns)
-    → told after ≡ told before → t'.turns ≡ t.turns → AreTaped told before (Some t) → AreTaped told after (Some t')
-none_kept told before after t t' same kept taped =
+pub none_taped : {E : Type 0} (visible : E → Option (List LaneEntry)) (before after : E) (t t' : Turns)
+    → visible after ≡ visible before → t'.turns ≡ t.turns → AreTaped visible before (Some t) → AreTaped visible after (Some t')
+none_taped visible before after t t' same held taped =
     subst (λ (o : Option (List LaneEntry)). IfSome o (λ entries. length t'.turns ≡ length entries)) (sym same)
-    (subst (λ (turns : List Turn). IfSome (told before) (λ entries. length turns ≡ length entries)) (sym kept) taped)
+    (subst (λ (turns : List Turn). IfSome (visible before) (λ entries. length turns ≡ length entries)) (sym held) taped)
 
 -- ---- several sinks
 
@@ -89,36 +89,36 @@ fine_over (stops.Unrecorded why) fault sink_fault fine = absurd (never fault fin
   never (Some (record_fault.Full entries bytes)) is = search rules
   never (Some record_fault.Failed) is = search rules
 
-module _ {D R : Type 0} (told : R → Option (List LaneEntry)) where
-  entries_more : (parts : List (LanePart D R)) (part : LanePart D R) → entries_in told (parts ++ part ∷ []) ≡ joined (entries_in told parts) (told part.recorder)
-  entries_more [] part = alone (told part.recorder) where
+module _ {D R : Type 0} (visible : R → Option (List LaneEntry)) where
+  entries_more : (parts : List (LanePart D R)) (part : LanePart D R) → entries_in visible (parts ++ part ∷ []) ≡ joined (entries_in visible parts) (visible part.recorder)
+  entries_more [] part = alone (visible part.recorder) where
     alone : (o : Option (List LaneEntry)) → added o (Some 0) ≡ joined (Some 0) o
     alone None = refl
     alone (Some entries) = ap Some (omega arith)
-  entries_more (p ∷ parts) part = ap (added (told p.recorder)) (entries_more parts part) ∙ added_joined (told p.recorder) (entries_in told parts) (told part.recorder)
+  entries_more (p ∷ parts) part = ap (added (visible p.recorder)) (entries_more parts part) ∙ added_joined (visible p.recorder) (entries_in visible parts) (visible part.recorder)
 
-  pub counted_none : (parts : List (LanePart D R)) (turns : List Turns) → parts ≡ [] → turns ≡ [] → AreCounted told parts (total turns)
-  counted_none parts turns none empty = subst (λ (p : List (LanePart D R)). AreCounted told p (total turns)) (sym none) (ap total empty)
+  pub counted_none : (parts : List (LanePart D R)) (turns : List Turns) → parts ≡ [] → turns ≡ [] → AreCounted visible parts (total turns)
+  counted_none parts turns none empty = subst (λ (p : List (LanePart D R)). AreCounted visible p (total turns)) (sym none) (ap total empty)
 
   -- one sink more
   pub counted_one : (parts next : List (LanePart D R)) (part : LanePart D R) (turns after : List Turns) (recorder : R) (made : Option Turns)
-      → next ≡ parts ++ part ∷ [] → part.recorder ≡ recorder → is_some made ≡ true → AreTaped told recorder made → IfSome made (λ t. after ≡ turns ++ t ∷ [])
-      → AreCounted told parts (total turns) → AreCounted told next (total after)
-  counted_one parts next part turns after recorder None more same on taped kept counted = absurd (off on) where
+      → next ≡ parts ++ part ∷ [] → part.recorder ≡ recorder → is_some made ≡ true → AreTaped visible recorder made → IfSome made (λ t. after ≡ turns ++ t ∷ [])
+      → AreCounted visible parts (total turns) → AreCounted visible next (total after)
+  counted_one parts next part turns after recorder None more same on taped held counted = absurd (off on) where
     off : false ≡ true → ⊥
     off is = search rules
-  counted_one parts next part turns after recorder (Some t) more same on taped kept counted =
-      let here : IfSome (told part.recorder) (λ entries. length t.turns ≡ length entries) = subst (λ (r : R). IfSome (told r) (λ entries. length t.turns ≡ length entries)) (sym same) taped in
-      let longer : total after ≡ total turns + length t.turns = ap total kept ∙ total_more turns t in
-      subst (λ (p : List (LanePart D R)). AreCounted told p (total after)) (sym more)
-      (subst (λ (n : ℕ). AreCounted told (parts ++ part ∷ []) n) (sym longer)
-      (subst (λ (o : Option ℕ). IfSome o (λ n. total turns + length t.turns ≡ n)) (sym (entries_more parts part)) (both (entries_in told parts) (told part.recorder) (total turns) (length t.turns) counted here)))
+  counted_one parts next part turns after recorder (Some t) more same on taped held counted =
+      let here : IfSome (visible part.recorder) (λ entries. length t.turns ≡ length entries) = subst (λ (r : R). IfSome (visible r) (λ entries. length t.turns ≡ length entries)) (sym same) taped in
+      let longer : total after ≡ total turns + length t.turns = ap total held ∙ total_more turns t in
+      subst (λ (p : List (LanePart D R)). AreCounted visible p (total after)) (sym more)
+      (subst (λ (n : ℕ). AreCounted visible (parts ++ part ∷ []) n) (sym longer)
+      (subst (λ (o : Option ℕ). IfSome o (λ n. total turns + length t.turns ≡ n)) (sym (entries_more parts part)) (both (entries_in visible parts) (visible part.recorder) (total turns) (length t.turns) counted here)))
 
   -- ---- what is handed back
 
   pub untaped : (taped : Bool) (answered : Status) (parts : List (LanePart D R)) (tape : Option (List Event)) (stop : Stop) → answered ≡ undecided stop → tape ≡ None
-      → HasTape told taped answered parts tape
-  untaped taped answered parts tape stop is none = subst (λ (o : Option (List Event)). HasTape told taped answered parts o) (sym none) (record {
+      → HasTape visible taped answered parts tape
+  untaped taped answered parts tape stop is none = subst (λ (o : Option (List Event)). HasTape visible taped answered parts o) (sym none) (record {
     none = λ off. refl;
     turns = tt;
     whole = λ on fine. absurd (not_fine stop (sym is ∙ fine));
@@ -129,19 +129,19 @@ module _ {D R : Type 0} (told : R → Option (List LaneEntry)) where
     not_fine stops.Host fine = search rules
     not_fine (stops.Unrecorded why) fine = search rules
 
-  counts : (parts : List (LanePart D R)) (count : ℕ) (tape : Option (List Event)) → AreCounted told parts count → IfSome tape (λ events. turns_in events ≡ count)
-      → IfSome tape (λ events. AreCounted told parts (turns_in events))
+  counts : (parts : List (LanePart D R)) (count : ℕ) (tape : Option (List Event)) → AreCounted visible parts count → IfSome tape (λ events. turns_in events ≡ count)
+      → IfSome tape (λ events. AreCounted visible parts (turns_in events))
   counts parts count None are woven = tt
-  counts parts count (Some events) are woven = subst (AreCounted told parts) (sym woven) are
+  counts parts count (Some events) are woven = subst (AreCounted visible parts) (sym woven) are
 
   pub tape_is : (taped : Bool) (idle : List (Unworked D R)) (turns : List Turns) (parts : List (LanePart D R)) (tape : Option (List Event))
       (stop : Stop) (fault : Option RecordFault) (sink_fault : Option Status) (answered : Status)
-      → (taped ≡ true → AreTaping idle) → (AreTaping idle → AreCounted told parts (total turns))
+      → (taped ≡ true → AreTaping idle) → (AreTaping idle → AreCounted visible parts (total turns))
       → (taped ≡ false → tape ≡ None) → IfSome tape (λ events. turns_in events ≡ total turns) → (taped ≡ true → stop ≡ stops.Over → IsSome tape) → answered ≡ decided stop fault sink_fault
-      → HasTape told taped answered parts tape
+      → HasTape visible taped answered parts tape
   tape_is false idle turns parts tape stop fault sink_fault answered taping counted none woven whole is = record {
     none = none;
-    turns = subst (λ (o : Option (List Event)). IfSome o (λ events. AreCounted told parts (turns_in events))) (sym (none refl)) tt;
+    turns = subst (λ (o : Option (List Event)). IfSome o (λ events. AreCounted visible parts (turns_in events))) (sym (none refl)) tt;
     whole = λ on. absurd (off on);
   } where
     off : false ≡ true → ⊥
@@ -153,7 +153,7 @@ module _ {D R : Type 0} (told : R → Option (List LaneEntry)) where
   }
 
 -- a call that stops for want of memory where nothing else has stopped it
-pub cause_kept : {D R C : Type 0} (before after : HostState D R C) (stop then : Stop) → (then ≡ stop) ⊎ ((stop ≡ stops.Over) × (then ≡ stops.Memory))
+pub cause_stays : {D R C : Type 0} (before after : HostState D R C) (stop then : Stop) → (then ≡ stop) ⊎ ((stop ≡ stops.Over) × (then ≡ stops.Memory))
     → IsCauseOf stop before after → IsCauseOf then before after
-cause_kept before after stop then (inl same) cause = subst (λ (s : Stop). IsCauseOf s before after) (sym same) cause
-cause_kept before after stop then (inr memory) cause = subst (λ (s : Stop). IsCauseOf s before after) (sym memory.1) tt
+cause_stays before after stop then (inl same) cause = subst (λ (s : Stop). IsCauseOf s before after) (sym same) cause
+cause_stays before after stop then (inr memory) cause = subst (λ (s : Stop). IsCauseOf s before after) (sym memory.1) tt

@@ -13,7 +13,7 @@ use Rattle.px_msg.specs.View.{message_of, notice_of}
 use Rattle.px_stream.specs.Plain.{plain_of}
 use Rattle.px_stream.specs.Samples.{samples}
 use Rattle.px_state.specs.State.{State}
-use Rattle.px_core.specs.Hearing.{told_by}
+use Rattle.px_core.specs.Hearing.{posted_by_steps}
 use Rattle.px_core_cell.specs.Parcel.{spec_of}
 use Rattle.px_core_cell.specs.History.{steps_in, noticed_by}
 use Rattle.px_lane_cell.specs.Meaning.{history_meant}
@@ -54,12 +54,12 @@ abbrev pub messages_taken : List LaneEntry → List (Message PlainStream)
 messages_taken entries = map plain_message (flat_map messages_of (history_meant entries))
 
 -- what its turns told
-abbrev pub notices_told : Sink → List LaneEntry → List (Notice PlainStream)
-notices_told start entries = map plain_notice (replay_notices samples start (history_meant entries))
+abbrev pub turn_notices : Sink → List LaneEntry → List (Notice PlainStream)
+turn_notices start entries = map plain_notice (replay_notices samples start (history_meant entries))
 
 -- the messages that the core handed out to it
 abbrev pub messages_handed : State PlainStream → SinkId → List CoreEntry → List (Message PlainStream)
-messages_handed began sink entries = map (message_of (λ p. p)) (told_by spec_of sink began (steps_in entries))
+messages_handed began sink entries = map (message_of (λ p. p)) (posted_by_steps spec_of sink began (steps_in entries))
 
 -- the notices of it that came to the core
 abbrev pub notices_heard : SinkId → List CoreEntry → List (Notice PlainStream)
@@ -68,4 +68,4 @@ notices_heard sink entries = map (notice_of (λ p. p)) (noticed_by sink.0 entrie
 -- what was taken is a front of what was handed out, both ways
 pub record IsDelivered (began : State PlainStream) (core : List CoreEntry) (sink : SinkId) (start : Sink) (lane : List LaneEntry) : Type 0 where
   pub messages : IsFrontOf (messages_taken lane) (messages_handed began sink core)
-  pub notices : IsFrontOf (notices_heard sink core) (notices_told start lane)
+  pub notices : IsFrontOf (notices_heard sink core) (turn_notices start lane)

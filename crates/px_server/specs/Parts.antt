@@ -5,7 +5,7 @@ use Rattle.px_types.specs.declared.ids.SinkId.{SinkId}
 use Rattle.px_annals.specs.declared.entry.CoreEntry.{CoreEntry}
 use Rattle.px_annals.specs.declared.entry.LaneEntry.{LaneEntry}
 use Rattle.px_annals.specs.declared.stream.PlainStream.{PlainStream}
-use Rattle.px_ends.specs.Told.{WhereTold}
+use Rattle.px_ends.specs.Visible.{WhereVisible}
 use Rattle.px_ends.specs.Device.{DeviceState}
 use Rattle.px_model.specs.Sink.{Sink, empty_sink}
 use Rattle.px_model.specs.Deciding.{replay_played, IsHistory}
@@ -15,7 +15,7 @@ use Rattle.px_stream.specs.Samples.{samples}
 use Rattle.px_state.specs.State.{State}
 use Rattle.px_core_cell.specs.declared.ends.CoreEnd.{CoreEnd}
 use Rattle.px_core_cell.specs.Cell.{ends_of}
-use Rattle.px_core_cell.specs.History.{IsTold}
+use Rattle.px_core_cell.specs.History.{IsAgreed}
 use Rattle.px_lane_cell.specs.Meaning.{history_meant}
 use Rattle.px_lane_cell.specs.History.{left_at_stop, ArePlayed}
 use Rattle.px_server.specs.declared.served.LanePart.{LanePart}
@@ -43,7 +43,7 @@ starts_of sinks = starts_from 0 sinks
 -- a device has played what these entries of its sink's history say: all frames that they play, and where it failed, a front of those that waited then
 pub record HasPlayed (start : Sink) (device : DeviceState) (entries : List LaneEntry) : Type 0 where
   pub turns : IsHistory samples start (history_meant entries)
-  pub played : WhereTold device.played (ArePlayed (concat (replay_played samples start (history_meant entries))) (concat (left_at_stop start (history_meant entries))))
+  pub played : WhereVisible device.played (ArePlayed (concat (replay_played samples start (history_meant entries))) (concat (left_at_stop start (history_meant entries))))
 
 -- a sink's work: how it began, and what its worker met
 pub record Worked : Type 0 where
@@ -58,17 +58,17 @@ abbrev pub unworked : {D E : Type 0} → Unworked D E → Worked
 unworked u = worked (start_of u) u.sink_fault
 
 -- what the core's recorder tells, where there is one
-abbrev pub told_there : {C : Type 0} → (C → Option (List CoreEntry)) → Option C → Option (List CoreEntry)
-told_there told None = None
-told_there told (Some recorder) = told recorder
+abbrev pub visible_there : {C : Type 0} → (C → Option (List CoreEntry)) → Option C → Option (List CoreEntry)
+visible_there visible None = None
+visible_there visible (Some recorder) = visible recorder
 
-module _ {D R : Type 0} (began : State PlainStream) (core : Option (List CoreEntry)) (now : D → DeviceState) (told : R → Option (List LaneEntry)) (faults fulls : R → ℕ) where
+module _ {D R : Type 0} (began : State PlainStream) (core : Option (List CoreEntry)) (now : D → DeviceState) (visible : R → Option (List LaneEntry)) (faults fulls : R → ℕ) where
   -- what is left of a sink: its device has played what its recorder holds, where both tell; what its worker met has its cause in them; and where the
   -- core's recorder tells too, what was taken on either side is a front of what was handed out on the other
   pub record IsPart (work : Worked) (part : LanePart D R) : Type 0 where
     pub sink : part.sink ≡ work.start.index
-    pub played : IfSome (told part.recorder) (HasPlayed work.start.sink (now part.device))
-    pub delivered : IfSome core (λ entries. IfSome (told part.recorder) (IsDelivered began entries work.start.index work.start.sink))
+    pub played : IfSome (visible part.recorder) (HasPlayed work.start.sink (now part.device))
+    pub delivered : IfSome core (λ entries. IfSome (visible part.recorder) (IsDelivered began entries work.start.index work.start.sink))
     pub sink_fault : IsFaultOf (now part.device).faults (faults part.recorder) (fulls part.recorder) work.sink_fault
 
   -- what is left of sinks, in their order
@@ -83,8 +83,8 @@ abbrev pub Adds : {X : Type 0} → List X → List X → List X → Type 0
 Adds before more after = (added : List _) × IsFrontOf added more × (after ≡ before ++ added)
 
 -- sinks and the core's ends of their mailboxes, in the same order: what was posted to each sink and taken from it is what the core's entries say of it
-abbrev pub AreTold : {D E : Type 0} → State PlainStream → Option (List CoreEntry) → List (Unworked D E) → List CoreEnd → Type 0
-AreTold began core [] [] = ⊤
-AreTold began core [] (end ∷ ends) = ⊥
-AreTold began core (u ∷ idle) [] = ⊥
-AreTold began core (u ∷ idle) (end ∷ ends) = IfSome core (λ entries. IsTold began entries u.sink.0 (ends_of end)) × AreTold began core idle ends
+abbrev pub AreAgreed : {D E : Type 0} → State PlainStream → Option (List CoreEntry) → List (Unworked D E) → List CoreEnd → Type 0
+AreAgreed began core [] [] = ⊤
+AreAgreed began core [] (end ∷ ends) = ⊥
+AreAgreed began core (u ∷ idle) [] = ⊥
+AreAgreed began core (u ∷ idle) (end ∷ ends) = IfSome core (λ entries. IsAgreed began entries u.sink.0 (ends_of end)) × AreAgreed began core idle ends

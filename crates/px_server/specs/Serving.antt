@@ -18,7 +18,7 @@ use Rattle.px_workers.specs.Hosted.{IsLater, IsCauseOf}
 use Rattle.px_server.specs.Hosted.{HasLent}
 use Rattle.px_server.specs.Causes.{status_of_fault, decided}
 use Rattle.px_workers.specs.Working.{Start}
-use Rattle.px_server.specs.Parts.{Worked, starts_of, told_there, AreParts, IsFrontOf}
+use Rattle.px_server.specs.Parts.{Worked, starts_of, visible_there, AreParts, IsFrontOf}
 
 -- the status of the first sink whose worker met something, in the order of the sinks
 abbrev pub first_met : List Worked → Option Status
@@ -30,25 +30,25 @@ abbrev pub cores_in : {C : Type 0} → Option C → ℕ
 cores_in None = 0
 cores_in (Some recorder) = 1
 
-module _ {D R C : Type 0} (core_told : C → Option (List CoreEntry)) (core_faults core_fulls : C → ℕ) where
+module _ {D R C : Type 0} (core_visible : C → Option (List CoreEntry)) (core_faults core_fulls : C → ℕ) where
   -- the first cause decides: what made the call stop, then the fault that the core's recorder had first, then what the sinks' workers met
   pub record IsDecided (before after : HostState D R C) (answered : Status) (works : List Worked) (core : Option C) : Type 0 where
     pub stop : Stop
     pub cause : IsCauseOf stop before after
     pub fault : Option RecordFault
-    pub kept : MatchOption core (fault ≡ None) (λ recorder. IsCaused fault (core_faults recorder) (core_fulls recorder))
+    pub recorder_back : MatchOption core (fault ≡ None) (λ recorder. IsCaused fault (core_faults recorder) (core_fulls recorder))
     pub status : answered ≡ decided stop fault (first_met works)
 
   -- how a call ends that had sinks which began so, and a core that began so
-  pub record Ends (began : State PlainStream) (now : D → DeviceState) (told : R → Option (List LaneEntry)) (faults fulls : R → ℕ) (starts : List Start)
+  pub record Ends (began : State PlainStream) (now : D → DeviceState) (visible : R → Option (List LaneEntry)) (faults fulls : R → ℕ) (starts : List Start)
       (before after : HostState D R C) (answered : Status) (parts : List (LanePart D R)) (core : Option C) : Type 0 where
     pub works : List Worked
     pub all : map (λ w. Worked.start w) works ≡ starts
-    pub lanes : AreParts began (told_there core_told core) now told faults fulls works parts
+    pub lanes : AreParts began (visible_there core_visible core) now visible faults fulls works parts
     pub decided : IsDecided before after answered works core
 
   -- a serving call on the sinks of a header
-  pub record IsServed (now : D → DeviceState) (told : R → Option (List LaneEntry)) (faults fulls : R → ℕ) (header : Header)
+  pub record IsServed (now : D → DeviceState) (visible : R → Option (List LaneEntry)) (faults fulls : R → ℕ) (header : Header)
       (before after : HostState D R C) (answered : Status) (parts : List (LanePart D R)) (core : Option C) : Type 0 where
     pub later : IsLater before after
     -- the host can take back all that is handed out
@@ -57,6 +57,6 @@ module _ {D R C : Type 0} (core_told : C → Option (List CoreEntry)) (core_faul
     pub starts : List Start
     pub front : IsFrontOf starts (starts_of header.sinks)
     pub all : IsSome core → starts ≡ starts_of header.sinks
-    pub ends : Ends (new_state header) now told faults fulls starts before after answered parts core
+    pub ends : Ends (new_state header) now visible faults fulls starts before after answered parts core
     -- where nothing failed, the core's recorder is there
     pub whole : answered ≡ status.Ok → IsSome core

@@ -19,11 +19,11 @@ added None total = None
 added (Some entries) None = None
 added (Some entries) (Some total) = Some (length entries + total)
 
-module _ {D R : Type 0} (told : R → Option (List LaneEntry)) where
+module _ {D R : Type 0} (visible : R → Option (List LaneEntry)) where
   -- how many entries the recorders of sinks have together, where all of them tell
   abbrev pub entries_in : List (LanePart D R) → Option ℕ
   entries_in [] = Some 0
-  entries_in (part ∷ parts) = added (told part.recorder) (entries_in parts)
+  entries_in (part ∷ parts) = added (visible part.recorder) (entries_in parts)
 
   -- they have so many
   abbrev pub AreCounted : List (LanePart D R) → ℕ → Type 0

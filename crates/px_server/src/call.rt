@@ -60,7 +60,7 @@ fn unserved<H: Host>(
     requires none { lanes.items ≡ [] }
     requires room { length idle.items ≤ vec_capacity lanes }
     ensures status { result.status ≡ undecided stop }
-    ensures lanes { (began : State PlainStream) → AreParts began None H.D.now H.R.told H.R.faults H.R.fulls (map unworked idle.items) result.lanes.items }
+    ensures lanes { (began : State PlainStream) → AreParts began None H.D.now H.R.visible H.R.faults H.R.fulls (map unworked idle.items) result.lanes.items }
     ensures core { result.core ≡ None }
     ensures tape { result.tape ≡ None }
 {
@@ -105,7 +105,7 @@ fn make_outside<H: Host>(
     ensures cause { IfErr result (λ stop. IsCauseOf stop (H.now host.old) (H.now host.new)) }
     ensures made { OnOk result (AreMade taped 0 header.now.sinks idle.new.items ends.new.items) }
     ensures front { IsFrontOf (map start_of idle.new.items) (starts_of header.now.sinks) }
-    ensures none { IfOk result (λ recorder. IfSome (H.C.told recorder) (λ entries. entries ≡ [])) }
+    ensures none { IfOk result (λ recorder. IfSome (H.C.visible recorder) (λ entries. entries ≡ [])) }
 {
     make_all(alloc, taped, header, host, idle, ends)?;
     match host.core_recorder(alloc) {
@@ -139,7 +139,7 @@ where
     requires began { L.began ≡ new_state header.now }
     requires boxes { map boxes_of ends.items ≡ L.boxes }
     requires ends { map ends_of ends.items ≡ map fresh_ends header.now.sinks }
-    requires none { IfSome (C.told recorder) (λ entries. entries ≡ []) }
+    requires none { IfSome (C.visible recorder) (λ entries. entries ≡ []) }
     ensures { IfOk result (λ made. made.1.parts ≡ 65552) }
 {
     let core = Core::new(alloc, header)?;
@@ -167,7 +167,7 @@ where
     requires began { L.began ≡ new_state header.now }
     requires boxes { map boxes_of ends.items ≡ L.boxes }
     requires ends { map ends_of ends.items ≡ map fresh_ends header.now.sinks }
-    requires none { IfSome (C.told recorder) (λ entries. entries ≡ []) }
+    requires none { IfSome (C.visible recorder) (λ entries. entries ≡ []) }
     ensures { IfOk result (λ handle. handle.seat.parts ≡ 65552) }
 {
     let pool = pool_of(alloc)?;
@@ -210,14 +210,14 @@ where
     requires began { L.began ≡ new_state header.now }
     requires boxes { map boxes_of made.ends.items ≡ L.boxes }
     requires made { AreMade taped 0 header.now.sinks made.idle.items made.ends.items }
-    requires untold { IfSome (H.C.told made.recorder) (λ entries. entries ≡ []) }
+    requires nothing_posted { IfSome (H.C.visible made.recorder) (λ entries. entries ≡ []) }
     requires none { lanes.items ≡ [] }
     requires room { length made.idle.items ≤ vec_capacity lanes }
     requires no_turns { made.turns.items ≡ [] }
     requires turns_room { length made.idle.items ≤ vec_capacity made.turns }
     requires lent { HasLent (length made.idle.items) 1 (H.now host.old) }
-    ensures served { IsServed H.C.told H.C.faults H.C.fulls H.D.now H.R.told H.R.faults H.R.fulls header.now (H.now host.old) (H.now host.new) result.status result.lanes.items result.core }
-    ensures tape { HasTape H.R.told taped result.status result.lanes.items result.tape }
+    ensures served { IsServed H.C.visible H.C.faults H.C.fulls H.D.now H.R.visible H.R.faults H.R.fulls header.now (H.now host.old) (H.now host.new) result.status result.lanes.items result.core }
+    ensures tape { HasTape H.R.visible taped result.status result.lanes.items result.tape }
 {
     let Made {
         idle,
@@ -256,8 +256,8 @@ where
     requires room { length header.now.sinks ≤ vec_capacity lanes }
     requires no_turns { turns.items ≡ [] }
     requires turns_room { length header.now.sinks ≤ vec_capacity turns }
-    ensures served { IsServed H.C.told H.C.faults H.C.fulls H.D.now H.R.told H.R.faults H.R.fulls header.now (H.now host.old) (H.now host.new) result.status result.lanes.items result.core }
-    ensures tape { HasTape H.R.told taped result.status result.lanes.items result.tape }
+    ensures served { IsServed H.C.visible H.C.faults H.C.fulls H.D.now H.R.visible H.R.faults H.R.fulls header.now (H.now host.old) (H.now host.new) result.status result.lanes.items result.core }
+    ensures tape { HasTape H.R.visible taped result.status result.lanes.items result.tape }
 {
     let mut idle = VecDeque::new(alloc);
     let mut ends = Vec::new(alloc);
@@ -297,8 +297,8 @@ where
     H::C: 'static,
     G: Gate + Drop + Send + Sync + 'static,
     requires { IsHeader header.now }
-    ensures served { IsServed H.C.told H.C.faults H.C.fulls H.D.now H.R.told H.R.faults H.R.fulls header.now (H.now host.old) (H.now host.new) result.status result.lanes.items result.core }
-    ensures tape { HasTape H.R.told taped result.status result.lanes.items result.tape }
+    ensures served { IsServed H.C.visible H.C.faults H.C.fulls H.D.now H.R.visible H.R.faults H.R.fulls header.now (H.now host.old) (H.now host.new) result.status result.lanes.items result.core }
+    ensures tape { HasTape H.R.visible taped result.status result.lanes.items result.tape }
 {
     let mut lanes = Vec::new(alloc);
     let mut turns = Vec::new(alloc);

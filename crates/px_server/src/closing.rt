@@ -41,8 +41,8 @@ where
     requires no_turns { turns.items ≡ [] }
     requires turns_room { length idle.items ≤ vec_capacity turns }
     requires taping { taped ≡ true → AreTaping idle.items }
-    ensures tape { HasTape H.R.told taped result.status result.lanes.items result.tape }
-    ensures ends { (before after : _) → IsCauseOf stop before after → Ends H.C.told H.C.faults H.C.fulls L.began H.D.now H.R.told H.R.faults H.R.fulls (map start_of idle.items) before after result.status result.lanes.items result.core }
+    ensures tape { HasTape H.R.visible taped result.status result.lanes.items result.tape }
+    ensures ends { (before after : _) → IsCauseOf stop before after → Ends H.C.visible H.C.faults H.C.fulls L.began H.D.now H.R.visible H.R.faults H.R.fulls (map start_of idle.items) before after result.status result.lanes.items result.core }
     ensures core { IsSome result.core }
 {
     let alloc = handle.alloc;
@@ -86,10 +86,10 @@ where
     requires no_turns { turns.items ≡ [] }
     requires turns_room { length idle.items ≤ vec_capacity turns }
     requires taping { taped ≡ true → AreTaping idle.items }
-    ensures tape { HasTape H.R.told taped result.status result.lanes.items result.tape }
+    ensures tape { HasTape H.R.visible taped result.status result.lanes.items result.tape }
     ensures later { IsLater (H.now host.old) (H.now host.new) }
     ensures lent { (H.now host.new).lent ≡ (H.now host.old).lent }
-    ensures ends { Ends H.C.told H.C.faults H.C.fulls L.began H.D.now H.R.told H.R.faults H.R.fulls (map start_of idle.items) (H.now host.old) (H.now host.new) result.status result.lanes.items result.core }
+    ensures ends { Ends H.C.visible H.C.faults H.C.fulls L.began H.D.now H.R.visible H.R.faults H.R.fulls (map start_of idle.items) (H.now host.old) (H.now host.new) result.status result.lanes.items result.core }
     ensures core { IsSome result.core }
 {
     let handle = WorkerHandle { core: handle };

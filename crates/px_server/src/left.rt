@@ -7,12 +7,12 @@ ghost use Rattle.px_header.specs.declared.header.SinkSpec.{SinkSpec};
 ghost use Rattle.px_core_cell.specs.Boxes.{boxes_of};
 ghost use Rattle.px_core_cell.specs.Cause.{IsCaused};
 ghost use Rattle.px_core_cell.specs.Cell.{ends_of};
-ghost use Rattle.px_core_cell.specs.History.{IsTold};
+ghost use Rattle.px_core_cell.specs.History.{IsAgreed};
 ghost use Rattle.px_lane_cell.specs.History.{unturned};
 ghost use Rattle.px_workers.specs.declared.sink_state.SinkFault.{SinkFault as Seen};
 ghost use Rattle.px_server.specs.Delivered.{IsDelivered};
 ghost use Rattle.px_workers.specs.Working.{start_at, start_of, IsHonest};
-ghost use Rattle.px_server.specs.Parts.{worked, unworked, starts_of, IsPart, AreParts, AreTold};
+ghost use Rattle.px_server.specs.Parts.{worked, unworked, starts_of, IsPart, AreParts, AreAgreed};
 ghost use Rattle.px_server.specs.Serving.{first_met};
 ghost use Rattle.px_server.specs.Taped.{AreTaping, AreCounted};
 ghost use Rattle.px_server.specs.Mailboxes.{boxes_at, boxes_in};
@@ -33,7 +33,7 @@ use std::sync::Wait;
 
 // What is left of a sink, where there is no core.
 fn part_of<D: Device + Drop, E: Recorder<LaneEntry> + Drop>(idle: SinkState<D, E>) -> LanePart<D, E>
-    ensures { (began : State PlainStream) → IsPart began None D.now E.told E.faults E.fulls (unworked idle) result }
+    ensures { (began : State PlainStream) → IsPart began None D.now E.visible E.faults E.fulls (unworked idle) result }
 {
     let parts = idle.cell.into_parts();
     LanePart {
@@ -50,7 +50,7 @@ pub(crate) fn hand_back<D: Device + Drop, E: Recorder<LaneEntry> + Drop>(
 )
     requires none { lanes.old.items ≡ [] }
     requires room { length idle.old.items ≤ vec_capacity lanes.old }
-    ensures { (began : State PlainStream) → AreParts began None D.now E.told E.faults E.fulls (map unworked idle.old.items) lanes.new.items }
+    ensures { (began : State PlainStream) → AreParts began None D.now E.visible E.faults E.fulls (map unworked idle.old.items) lanes.new.items }
 {
     while let Some(sink) = idle.pop_front() {
         lanes.push(part_of(sink)).unwrap();
@@ -65,9 +65,9 @@ fn closed<D: Device + Drop, E: Recorder<LaneEntry> + Drop>(
 ) -> LanePart<D, E>
     requires { boxes_at cell.ends ≡ boxes_of end }
     ensures part { (began : State PlainStream) (sink_fault : Seen) → IsHonest D.now E.faults E.fulls cell sink_fault
-        → IsPart began None D.now E.told E.faults E.fulls (worked (start_at sink cell.lane.sink) sink_fault) result }
-    ensures delivered { (began : State PlainStream) (entries : List Entry) → IsTold began entries sink.0 (ends_of end)
-        → IfSome (E.told result.recorder) (IsDelivered began entries sink (unturned cell.lane.sink)) }
+        → IsPart began None D.now E.visible E.faults E.fulls (worked (start_at sink cell.lane.sink) sink_fault) result }
+    ensures delivered { (began : State PlainStream) (entries : List Entry) → IsAgreed began entries sink.0 (ends_of end)
+        → IfSome (E.visible result.recorder) (IsDelivered began entries sink (unturned cell.lane.sink)) }
     ensures recorder { result.recorder ≡ cell.recorder }
 {
     let LaneCellParts {
@@ -90,7 +90,7 @@ fn closed<D: Device + Drop, E: Recorder<LaneEntry> + Drop>(
 }
 
 // Keeps the turns of one sink more, where there is a tape.
-fn keep_turns(turns: &mut Vec<SinkTurns>, made: Option<SinkTurns>)
+fn add_turns(turns: &mut Vec<SinkTurns>, made: Option<SinkTurns>)
     requires { vec_len turns.old < vec_capacity turns.old }
     ensures room { (vec_len turns.new ≤ vec_len turns.old + 1) × (vec_capacity turns.old ≤ vec_capacity turns.new) }
     ensures more { IfSome made (λ t. turns.new.items ≡ turns.old.items ++ t ∷ []) }
@@ -113,10 +113,10 @@ fn close_all<D: Device + Drop, E: Recorder<LaneEntry> + Drop>(
     requires room { length idle.old.items ≤ vec_capacity lanes.old }
     requires no_turns { turns.old.items ≡ [] }
     requires turns_room { length idle.old.items ≤ vec_capacity turns.old }
-    ensures turns { AreTaping idle.old.items → AreCounted E.told lanes.new.items (total turns.new.items) }
+    ensures turns { AreTaping idle.old.items → AreCounted E.visible lanes.new.items (total turns.new.items) }
     ensures sink_fault { result ≡ first_met (map unworked idle.old.items) }
-    ensures parts { (began : State PlainStream) (core : Option (List Entry)) → AreTold began core idle.old.items ends.items
-        → AreParts began core D.now E.told E.faults E.fulls (map unworked idle.old.items) lanes.new.items }
+    ensures parts { (began : State PlainStream) (core : Option (List Entry)) → AreAgreed began core idle.old.items ends.items
+        → AreParts began core D.now E.visible E.faults E.fulls (map unworked idle.old.items) lanes.new.items }
 {
     let mut ends = VecDeque::from_vec(ends);
     let mut first = None;
@@ -133,7 +133,7 @@ fn close_all<D: Device + Drop, E: Recorder<LaneEntry> + Drop>(
             unreachable!()
         };
         first = first.or(status_of_fault(sink_fault));
-        keep_turns(turns, made);
+        add_turns(turns, made);
         lanes.push(closed(sink, cell, end)).unwrap();
     }
     first
@@ -178,9 +178,9 @@ where
     requires room { length idle.old.items ≤ vec_capacity lanes.old }
     requires no_turns { turns.old.items ≡ [] }
     requires turns_room { length idle.old.items ≤ vec_capacity turns.old }
-    ensures turns { AreTaping idle.old.items → AreCounted E.told lanes.new.items (total turns.new.items) }
+    ensures turns { AreTaping idle.old.items → AreCounted E.visible lanes.new.items (total turns.new.items) }
     ensures sink_fault { result.sink_fault ≡ first_met (map unworked idle.old.items) }
-    ensures parts { AreParts L.began (C.told result.recorder) D.now E.told E.faults E.fulls (map unworked idle.old.items) lanes.new.items }
+    ensures parts { AreParts L.began (C.visible result.recorder) D.now E.visible E.faults E.fulls (map unworked idle.old.items) lanes.new.items }
     ensures caused { IsCaused result.fault (C.faults result.recorder) (C.fulls result.recorder) }
 {
     let (log, ends) = without_core(handle.into_core());

@@ -76,9 +76,9 @@ fn outside<H: Host>(alloc: Global, sink: &SinkSpec, host: &mut H) -> Result<(H::
     requires { (earlier : List Spec) × IsSink earlier sink.now }
     ensures later { IsLater (H.now host.old) (H.now host.new) }
     ensures lent { OnOk result ((n : ℕ) → HasLent n 0 (H.now host.old) → HasLent (n + 1) 0 (H.now host.new)) }
-    ensures kept { OnErr result ((n : ℕ) → HasLent n 0 (H.now host.old) → HasLent n 0 (H.now host.new)) }
+    ensures lent_stays { OnErr result ((n : ℕ) → HasLent n 0 (H.now host.old) → HasLent n 0 (H.now host.new)) }
     ensures cause { IfErr result (λ fault. IsCauseOf (stop_by fault) (H.now host.old) (H.now host.new)) }
-    ensures fresh { IfOk result (λ made. IsFresh sink.now (H.D.now made.0) (H.R.told made.1) (H.R.faults made.1) (H.R.fulls made.1)) }
+    ensures fresh { IfOk result (λ made. IsFresh sink.now (H.D.now made.0) (H.R.visible made.1) (H.R.faults made.1) (H.R.fulls made.1)) }
 {
     let device = host.device(alloc, sink.name.as_slice(), &shape_of(sink))?;
     let recorder = host.lane_recorder(alloc)?;
@@ -94,7 +94,7 @@ fn cell_at<D: Device + Drop, E: Recorder<LaneEntry> + Drop>(
     recorder: E,
 ) -> Mem<LaneCell<D, E>>
     requires sink { (earlier : List Spec) × IsSink earlier sink.now }
-    requires fresh { IsFresh sink.now (D.now device) (E.told recorder) (E.faults recorder) (E.fulls recorder) }
+    requires fresh { IsFresh sink.now (D.now device) (E.visible recorder) (E.faults recorder) (E.fulls recorder) }
     requires ends { AreEnds ends × IsKeyOf ends (sink_for sink.now) }
     requires unmoved { (taken_in ends ≡ []) × (posted_in ends ≡ []) }
     ensures lane { IfOk result (λ cell. cell.lane ≡ record { sink = sink_for sink.now; device = device; faults = 0 }) }
@@ -113,10 +113,10 @@ fn cell_of<D: Device + Drop, E: Recorder<LaneEntry> + Drop>(
     recorder: E,
 ) -> Mem<(LaneCell<D, E>, CoreEnd)>
     requires sink { (earlier : List Spec) × IsSink earlier sink.now }
-    requires fresh { IsFresh sink.now (D.now device) (E.told recorder) (E.faults recorder) (E.fulls recorder) }
+    requires fresh { IsFresh sink.now (D.now device) (E.visible recorder) (E.faults recorder) (E.fulls recorder) }
     ensures sink { IfOk result (λ made. made.0.lane.sink ≡ sink_for sink.now) }
     ensures honest { IfOk result (λ made. IsHonest D.now E.faults E.fulls made.0 Nothing) }
-    ensures unnoted { IfOk result (λ made. IfSome (E.told made.0.recorder) (λ entries. entries ≡ [])) }
+    ensures unnoted { IfOk result (λ made. IfSome (E.visible made.0.recorder) (λ entries. entries ≡ [])) }
     ensures core { IfOk result (λ made. ends_of made.1 ≡ fresh_ends sink.now) }
     ensures boxes { IfOk result (λ made. boxes_at made.0.ends ≡ boxes_of made.1) }
 {
@@ -151,7 +151,7 @@ fn new_sink_state<H: Host>(
     requires { (earlier : List Spec) × IsSink earlier sink.now }
     ensures later { IsLater (H.now host.old) (H.now host.new) }
     ensures lent { OnOk result ((n : ℕ) → HasLent n 0 (H.now host.old) → HasLent (n + 1) 0 (H.now host.new)) }
-    ensures kept { OnErr result ((n : ℕ) → HasLent n 0 (H.now host.old) → HasLent n 0 (H.now host.new)) }
+    ensures lent_stays { OnErr result ((n : ℕ) → HasLent n 0 (H.now host.old) → HasLent n 0 (H.now host.new)) }
     ensures cause { IfErr result (λ stop. IsCauseOf stop (H.now host.old) (H.now host.new)) }
     ensures made { IfOk result (λ made. IsMade taped index sink.now made.0 made.1) }
 {

@@ -53,7 +53,7 @@ header_long h = omega arith
 
 event_forward : (place : Place) (x : Step × Place) → event_at place ≡ Ok x → place.at < x.1.at
 event_forward place x e =
-    omega (arith, event_shorter place x e, behind_end place x.1 ((step_steady true).kept place x e))
+    omega (arith, event_shorter place x e, behind_end place x.1 ((step_steady true).stays_behind place x e))
 
 pub step_forward : (begun : Bool) (place : Place) (s : Step) (after : Place) → AreBytes place.rest → step_at begun place ≡ Ok (s, after) → place.at < after.at
 unfolding first_at
@@ -129,16 +129,16 @@ stepped_on old new taken left (Err (error.Refused at c)) stepped ends = refused 
 stepped_on old new taken left (Err error.Failed) stepped ends = tt
 stepped_on old new taken left (Err error.NoMemory) stepped ends = tt
 
-told_is : (x y : List ℕ) → (let o : Option (List ℕ) = Some x in o) ≡ Some y → x ≡ y
-told_is x y e = cc
+some_is : (x y : List ℕ) → (let o : Option (List ℕ) = Some x in o) ≡ Some y → x ≡ y
+some_is x y e = cc
 
 -- the answer over the bytes that were taken is the answer over all bytes that were ahead
 pub gives_all : (r : Result Step ReadError) (old new : Reader) (before after : Option (List ℕ)) → Takes r old new before after → Gives r old new (all_ahead old before) (all_ahead new after)
 gives_all r old new None after t = tt
-gives_all r old new (Some bytes) None t = absurd (untold t.departed)
+gives_all r old new (Some bytes) None t = absurd (nothing_posted t.departed)
   where
-    untold : (let o : Option (List ℕ) = Some bytes in o) ≡ None → ⊥
-    untold e = cc
+    nothing_posted : (let o : Option (List ℕ) = Some bytes in o) ≡ None → ⊥
+    nothing_posted e = cc
 gives_all r old new (Some bytes) (Some left) t =
-    let same : bytes ≡ t.taken ++ left = told_is bytes (t.taken ++ left) t.departed in
+    let same : bytes ≡ t.taken ++ left = some_is bytes (t.taken ++ left) t.departed in
     (new.ahead ++ left, refl, subst (λ (b : List ℕ). Stepped r new (new.ahead ++ left) (step_at old.begun (place_with old (old.ahead ++ b)))) (sym same) (stepped_on old new t.taken left r t.stepped t.ended))

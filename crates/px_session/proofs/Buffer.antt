@@ -16,9 +16,9 @@ vec_whole len written items same size =
 -- the first k of a buffer with room are those of a vector that were moved to its front
 pub stays : (k from len : ℕ) (buffer made moved slice items held : List ℕ) → length moved ≡ length items → len ≡ length items → buffer ≡ made → take k made ≡ take k (take len (moved ++ drop (length moved) items)) → take k moved ≡ take k (drop from slice) → slice ≡ items → take k (drop from items) ≡ held
     → take k buffer ≡ held
-stays k from len buffer made moved slice items held same size with_room kept front whole seen =
+stays k from len buffer made moved slice items held same size with_room held_bytes front whole seen =
     ap (take k) with_room
-    ∙ kept
+    ∙ held_bytes
     ∙ ap (take k) (vec_whole len moved items same size)
     ∙ front
     ∙ ap (λ (bytes : List ℕ). take k (drop from bytes)) whole
@@ -50,13 +50,13 @@ fits_behind k n buffer part inside few size = omega (arith, inside, few, size, l
 -- where none came, the first k are as they were
 pub none_came : (k len : ℕ) (items buffer part held : List ℕ) → k ≤ length buffer → length part ≡ length (mid_of k (length buffer - k) buffer) → buffer ≡ items → len ≡ length items → take k buffer ≡ held
     → take (k - 0) (drop 0 (take len (put_mid k (length buffer - k) buffer part ++ drop (length (put_mid k (length buffer - k) buffer part)) items))) ≡ held
-none_came k len items buffer part held inside size same long kept =
+none_came k len items buffer part held inside size same long held_bytes =
     let whole = take len (put_mid k (length buffer - k) buffer part ++ drop (length (put_mid k (length buffer - k) buffer part)) items) in
     let count : k - 0 ≡ (k + 0) - 0 = omega arith in
     ap (λ (m : ℕ). take m (drop 0 whole)) count
     ∙ came k 0 len items buffer part inside (omega arith) size same long
     ∙ append-nil (take k buffer)
-    ∙ kept
+    ∙ held_bytes
 
 -- what is left behind the first n of the bytes between two places
 pub used : (from to n : ℕ) (items : List ℕ) → n ≤ to - from → take (to - (from + n)) (drop (from + n) items) ≡ drop n (take (to - from) (drop from items))

@@ -97,7 +97,7 @@ pub event_shorter : (place : Place) (x : Step × Place) → event_at place ≡ O
 unfolding event_at
 event_shorter place x e =
     let s = go_on_ok (byte_at place) (fields_at place.at) x e in
-    omega (arith, byte_shorter place s.0 s.1, behind_fewer s.0.1 x.1 ((fields_steady place.at s.0.0).kept s.0.1 x s.2))
+    omega (arith, byte_shorter place s.0 s.1, behind_fewer s.0.1 x.1 ((fields_steady place.at s.0.0).stays_behind s.0.1 x s.2))
 
 stand_by : (n : ℕ) (place : Place) → ((after : Place) → length after.rest < length place.rest → (events : List Event) × (ending : Ending) × Stand events ending after) → (r : Result (Step × Place) Refusal) → event_at place ≡ r → (events : List Event) × (ending : Ending) × Stand events ending place
 stand_by n place later (Err f) e = ([], Broken f, e)
@@ -185,13 +185,13 @@ stand_early : (events : List Event) (f : Refusal) (place : Place) → Stand even
 stand_early [] f place s early = event_steady.short place f s early
 stand_early (e ∷ events) f place s early =
     let r = stand_early events f s.0 s.2 early in
-    (r.0 ∙ behind_end place s.0 (event_steady.kept place (step.Event e, s.0) s.1), r.1)
+    (r.0 ∙ behind_end place s.0 (event_steady.stays_behind place (step.Event e, s.0) s.1), r.1)
 
 stand_endless : (events : List Event) (f : Refusal) (place : Place) → Stand events (Broken f) place → f.cause ≡ cause.Endless → (f.at ≡ limit) × (limit ≤ end_of place)
 stand_endless [] f place s goes = event_steady.endless place f s goes
 stand_endless (e ∷ events) f place s goes =
     let r = stand_endless events f s.0 s.2 goes in
-    let same = behind_end place s.0 (event_steady.kept place (step.Event e, s.0) s.1) in
+    let same = behind_end place s.0 (event_steady.stays_behind place (step.Event e, s.0) s.1) in
     (r.0, omega (arith, r.1, same))
 
 pub session_early : (bytes : List ℕ) (s : Session) (f : Refusal) → IsSession bytes s → IsRefusedBy s f → f.cause ≡ cause.Truncated → (f.at ≡ length bytes) × (length bytes < limit)
@@ -201,7 +201,7 @@ session_early bytes (NoHeader g) f s is early =
     (omega (arith, at, r.0), omega (arith, r.0, r.1))
 session_early bytes (Events h events (Broken g)) f s is early =
     let r = stand_early events g s.0 s.2 (ap (λ (h : Refusal). h.cause) is ∙ early) in
-    let same = behind_end (start_of bytes) s.0 (header_steady.kept (start_of bytes) (h, s.0) s.1) in
+    let same = behind_end (start_of bytes) s.0 (header_steady.stays_behind (start_of bytes) (h, s.0) s.1) in
     let at : f.at ≡ g.at = ap (λ (h : Refusal). h.at) (sym is) in
     (omega (arith, at, r.0, same), omega (arith, r.0, r.1, same))
 session_early bytes (Events h events Ended) f s is early = absurd is
@@ -212,7 +212,7 @@ session_endless bytes (NoHeader g) f s is goes =
     (ap (λ (h : Refusal). h.at) (sym is) ∙ r.0, omega (arith, r.1))
 session_endless bytes (Events h events (Broken g)) f s is goes =
     let r = stand_endless events g s.0 s.2 (ap (λ (h : Refusal). h.cause) is ∙ goes) in
-    let same = behind_end (start_of bytes) s.0 (header_steady.kept (start_of bytes) (h, s.0) s.1) in
+    let same = behind_end (start_of bytes) s.0 (header_steady.stays_behind (start_of bytes) (h, s.0) s.1) in
     (ap (λ (h : Refusal). h.at) (sym is) ∙ r.0, omega (arith, r.1, same))
 session_endless bytes (Events h events Ended) f s is goes = absurd is
 

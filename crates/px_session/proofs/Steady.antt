@@ -30,7 +30,7 @@ IsEndless f = f.cause ≡ cause.Endless
 pub record IsSteady {A : Type 0} (closed : A → Type 0) (read : Reading A) : Type 0 where
   pub ok : (place : Place) (x : A × Place) (behind : List ℕ) → read place ≡ Ok x → closed x.0 → read (more place behind) ≡ Ok (x.0, more x.1 behind)
   pub final : (place : Place) (f : Refusal) (behind : List ℕ) → read place ≡ Err f → (IsEarlyEnd f → ⊥) → read (more place behind) ≡ Err f
-  pub kept : (place : Place) (x : A × Place) → read place ≡ Ok x → IsBehind place x.1
+  pub stays_behind : (place : Place) (x : A × Place) → read place ≡ Ok x → IsBehind place x.1
   pub short : (place : Place) (f : Refusal) → read place ≡ Err f → IsEarlyEnd f → (f.at ≡ end_of place) × (f.at < limit)
   pub endless : (place : Place) (f : Refusal) → read place ≡ Err f → IsEndless f → (f.at ≡ limit) × (limit ≤ end_of place)
 
@@ -87,7 +87,7 @@ pub done_steady : {A : Type 0} (closed : A → Type 0) (x : A) → IsSteady clos
 done_steady closed x = record {
   ok = λ place y behind e c. ap (λ z. answer (z.0, more z.1 behind)) (ok_is (x, place) y e);
   final = λ place f behind e late. absurd cc;
-  kept = λ place y e. subst (λ (z : Place). IsBehind place z) (ap (λ z. z.1) (ok_is (x, place) y e)) (behind_self place);
+  stays_behind = λ place y e. subst (λ (z : Place). IsBehind place z) (ap (λ z. z.1) (ok_is (x, place) y e)) (behind_self place);
   short = λ place f e early. absurd cc;
   endless = λ place f e goes. absurd cc;
 }
@@ -97,7 +97,7 @@ pub refuse_steady : {A : Type 0} (closed : A → Type 0) (f : Refusal) → (IsEa
 refuse_steady closed f other finite = record {
   ok = λ place y behind e c. absurd cc;
   final = λ place h behind e late. e;
-  kept = λ place y e. absurd cc;
+  stays_behind = λ place y e. absurd cc;
   short = λ place h e early. absurd (other (ap (λ r. r.cause) (err_is f h e) ∙ early));
   endless = λ place h e goes. absurd (finite (ap (λ r. r.cause) (err_is f h e) ∙ goes));
 }
@@ -119,18 +119,18 @@ go_on_steady {A} {B} closed first next hf hn same = record {
         | inl h ↦ rw (hf.final place f behind h late) refl
         | inr s ↦ rw (hf.ok place s.0 behind s.1 tt) (same place behind s.0.0 (more s.0.1 behind) ∙ (hn place s.0.0).final s.0.1 f behind s.2 late)
       ]);
-  kept = λ place y e.
+  stays_behind = λ place y e.
       (let s = go_on_ok (first place) (next place) y e in
-      behind_twice place s.0.1 y.1 (hf.kept place s.0 s.1) ((hn place s.0.0).kept s.0.1 y s.2));
+      behind_twice place s.0.1 y.1 (hf.stays_behind place s.0 s.1) ((hn place s.0.0).stays_behind s.0.1 y s.2));
   short = λ place f e early.
       (elim (go_on_err (first place) (next place) f e) [
         | inl h ↦ hf.short place f h early
-        | inr s ↦ (let r = (hn place s.0.0).short s.0.1 f s.2 early in (r.0 ∙ behind_end place s.0.1 (hf.kept place s.0 s.1), r.1))
+        | inr s ↦ (let r = (hn place s.0.0).short s.0.1 f s.2 early in (r.0 ∙ behind_end place s.0.1 (hf.stays_behind place s.0 s.1), r.1))
       ]);
   endless = λ place f e goes.
       (elim (go_on_err (first place) (next place) f e) [
         | inl h ↦ hf.endless place f h goes
-        | inr s ↦ (let r = (hn place s.0.0).endless s.0.1 f s.2 goes in let same = behind_end place s.0.1 (hf.kept place s.0 s.1) in (r.0, omega (arith, r.1, same)))
+        | inr s ↦ (let r = (hn place s.0.0).endless s.0.1 f s.2 goes in let same = behind_end place s.0.1 (hf.stays_behind place s.0 s.1) in (r.0, omega (arith, r.1, same)))
       ]);
 }
 
@@ -181,7 +181,7 @@ bytes_steady n = record {
         ])
         | inr g ↦ absurd (ok_no_err _ f g.1)
       ]);
-  kept = λ place x e.
+  stays_behind = λ place x e.
       (let g = guard_ok (ltb (available place) n) (short_at place) (answer (take n place.rest, past n place)) x e in
       let there : n ≤ available place = ltb-false _ _ g.0 in
       subst (λ (z : Place). IsBehind place z) (ap (λ (z : List ℕ × Place). z.1) (ok_is (take n place.rest, past n place) x g.1)) (record { count = n; fit = omega (arith, there); is = refl }));

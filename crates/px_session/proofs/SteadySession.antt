@@ -38,7 +38,7 @@ at_steady : {A : Type 0} (closed : A → Type 0) (read : ℕ → Reading A) → 
 at_steady closed read h = record {
   ok = λ place x behind e c. (h place.at).ok place x behind e c;
   final = λ place f behind e late. (h place.at).final place f behind e late;
-  kept = λ place x e. (h place.at).kept place x e;
+  stays_behind = λ place x e. (h place.at).stays_behind place x e;
   short = λ place f e early. (h place.at).short place f e early;
   endless = λ place f e goes. (h place.at).endless place f e goes;
 }
@@ -129,9 +129,9 @@ end_is_open : (rest : List ℕ) (place : Place) (x : Step × Place) → ended_by
 end_is_open [] place x e c = subst (λ (z : Step × Place). Closed z.0) (sym (ok_is (step.End, place) x e)) c
 end_is_open (byte ∷ rest) place x e c = absurd cc
 
-end_is_kept : (rest : List ℕ) (place : Place) (x : Step × Place) → ended_by rest place ≡ Ok x → IsBehind place x.1
-end_is_kept [] place x e = subst (λ (z : Place). IsBehind place z) (ap (λ (z : Step × Place). z.1) (ok_is (step.End, place) x e)) (behind_self place)
-end_is_kept (byte ∷ rest) place x e = absurd cc
+end_stays_behind : (rest : List ℕ) (place : Place) (x : Step × Place) → ended_by rest place ≡ Ok x → IsBehind place x.1
+end_stays_behind [] place x e = subst (λ (z : Place). IsBehind place z) (ap (λ (z : Step × Place). z.1) (ok_is (step.End, place) x e)) (behind_self place)
+end_stays_behind (byte ∷ rest) place x e = absurd cc
 
 end_is_final : (rest : List ℕ) (place : Place) (behind : List ℕ) (f : Refusal) → ended_by rest place ≡ Err f → ended_by (rest ++ behind) (more place behind) ≡ Err f
 end_is_final [] place behind f e = absurd cc
@@ -156,7 +156,7 @@ unfolding end_at
 end_steady = record {
   ok = λ place x behind e c. absurd (end_is_open place.rest place x e c);
   final = λ place f behind e late. end_is_final place.rest place behind f e;
-  kept = λ place x e. end_is_kept place.rest place x e;
+  stays_behind = λ place x e. end_stays_behind place.rest place x e;
   short = λ place f e early. absurd (end_is_late place.rest place f e early);
   endless = λ place f e goes. absurd (end_is_finite place.rest place f e goes);
 }

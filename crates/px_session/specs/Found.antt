@@ -1,6 +1,6 @@
 -- What a look at the bytes at hand finds.
 use Rattle.std.specs.Prelude.{◌≡◌, ◌≢◌, ℕ, ◌≤◌, Bool, List, ◌++◌, length, drop, Option, None, Some, Result, Ok, Err}
-use Rattle.px_ends.specs.Told.{before_taking}
+use Rattle.px_ends.specs.Visible.{before_taking}
 use Rattle.px_session.specs.declared.event.Step.{Step}
 use Rattle.px_session.specs.declared.event.Step.TheVariants as step
 use Rattle.px_session.specs.declared.fault.Cause.TheVariants as cause

@@ -1,6 +1,6 @@
 -- What a reader holds of its source's bytes.
 use Rattle.std.specs.Prelude.{◌≡◌, ℕ, ◌≤◌, List, ◌++◌, length, Option, Result, Ok, Err}
-use Rattle.px_ends.specs.Told.{before_taking, IsAtEnd}
+use Rattle.px_ends.specs.Visible.{before_taking, IsAtEnd}
 use Rattle.px_types.specs.Faults.{Rose}
 use Rattle.px_session.specs.declared.held.More.{More}
 use Rattle.px_session.specs.declared.held.More.TheVariants.{Came, Ended}

@@ -1,6 +1,6 @@
 -- What a reader is seen as, and what its next step says of the bytes.
 use Rattle.std.specs.Prelude.{◌≡◌, ℕ, Bool, true, List, ◌++◌, Option, Some, Result, Ok, Err}
-use Rattle.px_ends.specs.Told.{before_taking, IsAtEnd, WhereTold}
+use Rattle.px_ends.specs.Visible.{before_taking, IsAtEnd, WhereVisible}
 use Rattle.px_session.specs.declared.event.Step.{Step}
 use Rattle.px_session.specs.declared.event.Step.TheVariants as step
 use Rattle.px_session.specs.declared.fault.Cause.TheVariants as cause
@@ -46,4 +46,4 @@ pub record Takes (answer : Result Step ReadError) (old new : Reader) (before aft
 
 -- the answer is what stands next in all bytes that were ahead of the reader; it stands behind it, and the others are ahead
 abbrev pub Gives : Result Step ReadError → Reader → Reader → Option (List ℕ) → Option (List ℕ) → Type 0
-Gives answer old new before after = WhereTold before (λ bytes. (behind : List ℕ) × (after ≡ Some behind) × Stepped answer new behind (step_at old.begun (place_with old bytes)))
+Gives answer old new before after = WhereVisible before (λ bytes. (behind : List ℕ) × (after ≡ Some behind) × Stepped answer new behind (step_at old.begun (place_with old bytes)))

@@ -63,7 +63,7 @@ impl Reader {
     pub fn reuse(&mut self, text: Text)
         ensures { self.new ≡ self.old }
     {
-        self.supply.keep(text);
+        self.supply.reclaim(text);
     }
 
     // What stands next in the bytes that it took from the source.

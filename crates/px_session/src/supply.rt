@@ -27,7 +27,7 @@ impl Supply {
     }
 
     /// Keeps a text for the bytes of the next event, in place of one that it kept before. Takes no memory.
-    pub(crate) fn keep(&mut self, text: Text)
+    pub(crate) fn reclaim(&mut self, text: Text)
         ensures { self.new.used ≡ Some text }
     {
         self.used = Some(text);

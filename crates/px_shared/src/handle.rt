@@ -41,7 +41,7 @@ impl<R: Wait + Copy, C: Recorder<CoreEntry> + Drop, L: Seats, O: Outlet + Drop> 
     /// Takes out what lies under the core's lock, by a handle with all shares.
     pub fn into_core(self) -> CoreParts<C>
         requires { self.seat.parts ≡ L.all }
-        ensures history { IsCell C.told L.began (cell_of result) }
+        ensures history { IsCell C.visible L.began (cell_of result) }
         ensures boxes { map boxes_of result.ends.items ≡ L.boxes }
         ensures caused { IsCaused result.log.fault (C.faults result.log.recorder) (C.fulls result.log.recorder) }
     {

@@ -11,8 +11,8 @@ use Rattle.px_header.specs.HeaderRules.{is_from_to, IsSink, AreSinks}
 use Rattle.px_types.specs.declared.error_code.ErrorCode.{ErrorCode}
 use Rattle.px_types.specs.declared.error_code.ErrorCode.TheVariants.{Invalid}
 use Rattle.px_types.specs.declared.ids.SinkId.{SinkId}
-use Rattle.px_plan.specs.declared.target.Target.{Target}
-use Rattle.px_plan.specs.Target.{target_of as target_in, IsTarget}
+use Rattle.px_outcome.specs.declared.target.Target.{Target}
+use Rattle.px_outcome.specs.Target.{target_of as target_in, IsTarget}
 use Rattle.px_sinks.specs.Sinks.{IsOfHeader, target_of, found_as, named_as, targets_from}
 
 both_true : (a b : Bool) → (a && b) ≡ true → (a ≡ true) × (b ≡ true)

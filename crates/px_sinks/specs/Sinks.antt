@@ -9,11 +9,11 @@ use Rattle.px_header.specs.HeaderRules.{IsSink}
 use Rattle.px_cmd.specs.declared.command.SinkRef.{SinkRef}
 use Rattle.px_names.specs.Names.{Naming, sink_named}
 use Rattle.px_flat.specs.FlatVolume.{FlatGroup}
-use Rattle.px_plan.specs.declared.input.Input.{Input}
-use Rattle.px_plan.specs.declared.target.Target.{Target}
-use Rattle.px_plan.specs.declared.target.Named.{Named}
-use Rattle.px_plan.specs.declared.target.Named.TheVariants.{Unclear, Unknown, Sink}
-use Rattle.px_plan.specs.Target.{target_of as target_in}
+use Rattle.px_outcome.specs.declared.input.Input.{Input}
+use Rattle.px_outcome.specs.declared.target.Target.{Target}
+use Rattle.px_outcome.specs.declared.target.Named.{Named}
+use Rattle.px_outcome.specs.declared.target.Named.TheVariants.{Unclear, Unknown, Sink}
+use Rattle.px_outcome.specs.Target.{target_of as target_in}
 
 -- a sink that stands in a header behind others
 abbrev pub IsOfHeader : SinkSpec → Type 0

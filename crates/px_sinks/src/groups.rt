@@ -5,7 +5,7 @@ ghost use Rattle.std.specs.Option.{option_map};
 ghost use Rattle.px_sinks.specs.Sinks.{group_named, group_under};
 
 use px_flat::Group;
-use px_plan::{Input, Named};
+use px_outcome::{Input, Named};
 use px_types::SinkId;
 
 /// The group of a sink, where it is there. Takes no memory.

@@ -6,13 +6,13 @@ ghost use Rattle.std.specs.Option.{option_map};
 ghost use Rattle.px_header.specs.declared.header.SinkSpec.{SinkSpec};
 ghost use Rattle.px_header.specs.HeaderRules.{AreSinks};
 ghost use Rattle.px_names.specs.Names.{NO_INDEX, sink_named};
-ghost use Rattle.px_plan.specs.Target.{IsTarget, IsNamed};
+ghost use Rattle.px_outcome.specs.Target.{IsTarget, IsNamed};
 ghost use Rattle.px_sinks.specs.Sinks.{MOST_SINKS, IsOfHeader, rate_on, rate_of, depth_of, sink_of, target_of, target_at, found_as, named_as, named_by, targets_from, targets_of};
 
 use px_cmd::SinkRef;
 use px_header::SinkSpec;
 use px_names::Names;
-use px_plan::{Input, Named, Target};
+use px_outcome::{Input, Named, Target};
 use px_types::limits::{MAX_SINKS, NO_INDEX};
 use px_types::{ErrorCode, Mem, SinkId, Text};
 use std::alloc::Global;

@@ -5,7 +5,7 @@ use Rattle.std.specs.List.{find, position}
 use Rattle.std.specs.Option.{option_map}
 use Rattle.std.proofs.lemmas.Option.{none-some}
 use Rattle.px_types.specs.declared.ids.InputId.{InputId}
-use Rattle.px_plan.specs.declared.input.Input.{Input}
+use Rattle.px_outcome.specs.declared.input.Input.{Input}
 use Rattle.px_state.specs.declared.delayed.Delayed.{Delayed}
 use Rattle.px_state.specs.Delayed.{is_of}
 use Rattle.px_state.specs.State.{State}

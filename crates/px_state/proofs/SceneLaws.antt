@@ -5,20 +5,20 @@ use Rattle.std.specs.List.{find}
 use Rattle.px_types.specs.declared.ids.ConnId.{ConnId}
 use Rattle.px_types.specs.declared.ids.SinkId.{SinkId}
 use Rattle.px_msg.specs.declared.message.Msg.{Msg}
-use Rattle.px_plan.specs.declared.input.Input.{Input}
-use Rattle.px_plan.specs.declared.input.Standing.{Standing}
-use Rattle.px_plan.specs.declared.input.Standing.TheVariants.{Settled, Moving, Leaving}
-use Rattle.px_plan.specs.declared.change.Change.TheVariants.{Authed, Named, Masked, Defaulted, Made, Described, Leaves, Moves, Arrives, Released, Said, Regrouped, Asked, Answered, Gone, Ended, Forgotten}
+use Rattle.px_outcome.specs.declared.input.Input.{Input}
+use Rattle.px_outcome.specs.declared.input.Standing.{Standing}
+use Rattle.px_outcome.specs.declared.input.Standing.TheVariants.{Settled, Moving, Leaving}
+use Rattle.px_outcome.specs.declared.change.Change.TheVariants.{Authed, Named, Masked, Defaulted, Made, Described, Leaves, Moves, Arrives, Released, Posted, Regrouped, Asked, Answered, Gone, Ended, Forgotten}
 use Rattle.px_header.specs.declared.header.SinkSpec.{SinkSpec}
-use Rattle.px_subscribe.specs.Moments.{telling_of, told_between}
-use Rattle.px_subscribe.proofs.Unchanged.{none_since, quiet_tells_nothing}
+use Rattle.px_subscribe.specs.Moments.{info_lists_of, notified_between}
+use Rattle.px_subscribe.proofs.Unchanged.{none_since, quiet_notifies_nobody}
 use Rattle.px_subscribe.proofs.Deaf.{deaf_changes, deaf_joined}
-use Rattle.px_subscribe.specs.Scene.{Scene, scene_at, are_quiet, are_deaf, nobody_hears, left_by, left_of, sent_by, sent_of, come_by, come_of, said_by, said_of, scene_changed, scene_after}
+use Rattle.px_subscribe.specs.Scene.{Scene, scene_at, are_quiet, are_deaf, nobody_hears, left_by, left_of, sent_by, sent_of, come_by, come_of, inputs_posted_to, inputs_posted_if_there, scene_changed, scene_after}
 use Rattle.px_state.specs.declared.delayed.Delayed.{Delayed}
 use Rattle.px_state.specs.Delayed.{is_of}
 use Rattle.px_state.specs.State.{State, input_of}
-use Rattle.px_state.specs.Change.{Change, ending, ending_of, departs, departs_of, arrives, arrives_of, saying, saying_of, releasing, releasing_of, changed, committed}
-use Rattle.px_state.specs.Plan.{sent_all}
+use Rattle.px_state.specs.Change.{Change, ending, ending_of, departs, departs_of, arrives, arrives_of, posting_to_input, posting_if_there, releasing, releasing_of, changed, committed}
+use Rattle.px_state.specs.Outcome.{sent_all}
 use Rattle.px_state.specs.Change.{joined}
 use Rattle.px_state.specs.Events.{scene_of, step_events}
 
@@ -53,14 +53,14 @@ arrived_scene : {P : Type 0} (o : Option Input) (m : Msg P) (state : State P) �
 arrived_scene None m state = refl
 arrived_scene (Some x) m state = arrives_scene x.standing x m state
 
-says_scene : {P : Type 0} (standing : Standing) (x : Input) (m : Msg P) (state : State P) → scene_of (saying standing x m state) ≡ with_inputs (said_by standing x m state.inputs) (scene_of state)
-says_scene Settled x m state = refl
-says_scene (Moving to) x m state = refl
-says_scene Leaving x m state = refl
+posting_scene : {P : Type 0} (standing : Standing) (x : Input) (m : Msg P) (state : State P) → scene_of (posting_to_input standing x m state) ≡ with_inputs (inputs_posted_to standing x m state.inputs) (scene_of state)
+posting_scene Settled x m state = refl
+posting_scene (Moving to) x m state = refl
+posting_scene Leaving x m state = refl
 
-said_scene : {P : Type 0} (o : Option Input) (m : Msg P) (state : State P) → scene_of (saying_of o m state) ≡ with_inputs (said_of o m state.inputs) (scene_of state)
-said_scene None m state = refl
-said_scene (Some x) m state = says_scene x.standing x m state
+posted_scene : {P : Type 0} (o : Option Input) (m : Msg P) (state : State P) → scene_of (posting_if_there o m state) ≡ with_inputs (inputs_posted_if_there o m state.inputs) (scene_of state)
+posted_scene None m state = refl
+posted_scene (Some x) m state = posting_scene x.standing x m state
 
 releases_scene : {P : Type 0} (x : Input) (o : Option (Delayed P)) (state : State P) → scene_of (releasing x o state) ≡ scene_of state
 releases_scene x None state = refl
@@ -91,7 +91,7 @@ change_scene state (Leaves index) = ended_scene (input_of state.inputs index) st
 change_scene state (Moves index to) = departed_scene to (input_of state.inputs index) state
 change_scene state (Arrives index m) = arrived_scene (input_of state.inputs index) m state
 change_scene state (Released index) = released_scene (input_of state.inputs index) state
-change_scene state (Said index m) = said_scene (input_of state.inputs index) m state
+change_scene state (Posted index m) = posted_scene (input_of state.inputs index) m state
 change_scene state (Regrouped sink group m) = refl
 change_scene state (Asked w) = refl
 change_scene state (Answered w) = refl
@@ -135,14 +135,14 @@ arrived_rest : {P : Type 0} (o : Option Input) (m : Msg P) (state : State P) →
 arrived_rest None m state = refl
 arrived_rest (Some x) m state = arrives_rest x.standing x m state
 
-says_rest : {P : Type 0} (standing : Standing) (x : Input) (m : Msg P) (state : State P) → rest_of (saying standing x m state) ≡ rest_of state
-says_rest Settled x m state = refl
-says_rest (Moving to) x m state = refl
-says_rest Leaving x m state = refl
+posting_rest : {P : Type 0} (standing : Standing) (x : Input) (m : Msg P) (state : State P) → rest_of (posting_to_input standing x m state) ≡ rest_of state
+posting_rest Settled x m state = refl
+posting_rest (Moving to) x m state = refl
+posting_rest Leaving x m state = refl
 
-said_rest : {P : Type 0} (o : Option Input) (m : Msg P) (state : State P) → rest_of (saying_of o m state) ≡ rest_of state
-said_rest None m state = refl
-said_rest (Some x) m state = says_rest x.standing x m state
+posted_rest : {P : Type 0} (o : Option Input) (m : Msg P) (state : State P) → rest_of (posting_if_there o m state) ≡ rest_of state
+posted_rest None m state = refl
+posted_rest (Some x) m state = posting_rest x.standing x m state
 
 releases_rest : {P : Type 0} (x : Input) (o : Option (Delayed P)) (state : State P) → rest_of (releasing x o state) ≡ rest_of state
 releases_rest x None state = refl
@@ -163,7 +163,7 @@ change_rest state (Leaves index) = ended_rest (input_of state.inputs index) stat
 change_rest state (Moves index to) = departed_rest to (input_of state.inputs index) state
 change_rest state (Arrives index m) = arrived_rest (input_of state.inputs index) m state
 change_rest state (Released index) = released_rest (input_of state.inputs index) state
-change_rest state (Said index m) = said_rest (input_of state.inputs index) m state
+change_rest state (Posted index m) = posted_rest (input_of state.inputs index) m state
 change_rest state (Regrouped sink group m) = refl
 change_rest state (Asked w) = refl
 change_rest state (Answered w) = refl
@@ -177,29 +177,29 @@ changes_rest state (c ∷ changes) = changes_rest (changed state c) changes ∙ 
 
 -- ---- events
 
-pub events_are : {P : Type 0} (before after : State P) → step_events before after ≡ sent_all (told_between before.sinks after.clients_made (scene_of before) (scene_of after))
+pub events_are : {P : Type 0} (before after : State P) → step_events before after ≡ sent_all (notified_between before.sinks after.clients_made (scene_of before) (scene_of after))
 unfolding step_events
 events_are before after = refl
 
 -- what changes tell is reckoned without making them
 pub changes_events : {P : Type 0} (state : State P) (changes : List (Change P))
-    → step_events state (committed state changes) ≡ sent_all (told_between state.sinks state.clients_made (scene_of state) (scene_after (scene_of state) changes))
-changes_events state changes = events_are state (committed state changes) ∙ (λ k. sent_all (told_between state.sinks (changes_rest state changes k).1 (scene_of state) (changes_scene state changes k)))
+    → step_events state (committed state changes) ≡ sent_all (notified_between state.sinks state.clients_made (scene_of state) (scene_after (scene_of state) changes))
+changes_events state changes = events_are state (committed state changes) ∙ (λ k. sent_all (notified_between state.sinks (changes_rest state changes k).1 (scene_of state) (changes_scene state changes k)))
 
 -- changes of nothing that is told tell nobody anything
 pub quiet_events : {P : Type 0} (state : State P) (changes : List (Change P)) → are_quiet changes ≡ true → step_events state (committed state changes) ≡ []
 quiet_events state changes e =
-    changes_events state changes ∙ ap (λ told. sent_all told) (quiet_tells_nothing state.sinks state.clients_made (scene_of state) changes e)
+    changes_events state changes ∙ ap (λ notified. sent_all notified) (quiet_notifies_nobody state.sinks state.clients_made (scene_of state) changes e)
 
 -- nor does what changes nothing
 pub none_events : {P : Type 0} (state : State P) → step_events state state ≡ []
-none_events state = events_are state state ∙ ap (λ told. sent_all told) (none_since state.sinks state.clients_made (telling_of state.sinks (scene_of state)) (scene_of state) refl)
+none_events state = events_are state state ∙ ap (λ notified. sent_all notified) (none_since state.sinks state.clients_made (info_lists_of state.sinks (scene_of state)) (scene_of state) refl)
 
 -- nor does anything where nobody hears of anything
 pub deaf_events : {P : Type 0} (state : State P) (changes : List (Change P)) → nobody_hears state.names.clients changes ≡ true → step_events state (committed state changes) ≡ []
 deaf_events state changes e =
-    changes_events state changes ∙ ap (λ told. sent_all told) (deaf_changes state.sinks state.clients_made (scene_of state) changes e)
+    changes_events state changes ∙ ap (λ notified. sent_all notified) (deaf_changes state.sinks state.clients_made (scene_of state) changes e)
 
 pub deaf_joins : {P : Type 0} (state : State P) (conn : ConnId) → are_deaf state.names.clients ≡ true → step_events state (joined conn state) ≡ []
 deaf_joins state conn e =
-    events_are state (joined conn state) ∙ ap (λ told. sent_all told) (deaf_joined state.sinks (state.clients_made + 1) (scene_of state) conn state.clients_made e)
+    events_are state (joined conn state) ∙ ap (λ notified. sent_all notified) (deaf_joined state.sinks (state.clients_made + 1) (scene_of state) conn state.clients_made e)

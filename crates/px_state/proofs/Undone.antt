@@ -4,9 +4,9 @@ use Rattle.std.specs.Prelude.{set, IfSome}
 use Rattle.px_types.specs.declared.ids.InputId.{InputId}
 use Rattle.px_msg.specs.declared.message.Msg.{Msg}
 use Rattle.px_msg.specs.declared.message.Msg.TheVariants.{New, Attach, Detach, Write, Cork, Flush, Trigger, Prebuf, Drain, Attr, Factors, Query}
-use Rattle.px_plan.specs.declared.input.Input.{Input}
-use Rattle.px_plan.specs.declared.input.Way.{Way}
-use Rattle.px_plan.specs.declared.input.Way.TheVariants.{Coming, There, Left}
+use Rattle.px_outcome.specs.declared.input.Input.{Input}
+use Rattle.px_outcome.specs.declared.input.Way.{Way}
+use Rattle.px_outcome.specs.declared.input.Way.TheVariants.{Coming, There, Left}
 use Rattle.px_state.specs.State.{State, has_index, input_of}
 use Rattle.px_state.specs.Change.{change_first}
 use Rattle.px_state.specs.Out.{first_of, rest_of, on_way, with_way, inputs_past, inputs_before}

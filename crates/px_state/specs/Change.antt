@@ -11,16 +11,16 @@ use Rattle.px_names.specs.InputLists.{with_list_of, without_list_of}
 use Rattle.px_flat.specs.FlatVolume.{FlatGroup}
 use Rattle.px_msg.specs.declared.message.Msg.{Msg}
 use Rattle.px_msg.specs.declared.message.Msg.TheVariants.{Detach}
-use Rattle.px_plan.specs.declared.input.Connection.{Connection}
-use Rattle.px_plan.specs.declared.input.Input.{Input}
-use Rattle.px_plan.specs.declared.input.Standing.{Standing}
-use Rattle.px_plan.specs.declared.input.Standing.TheVariants.{Settled, Moving, Leaving}
-use Rattle.px_plan.specs.declared.change.Change.{Change as AnyChange}
-use Rattle.px_plan.specs.declared.change.Change.TheVariants.{Authed, Named, Masked, Defaulted, Made, Described, Leaves, Moves, Arrives, Released, Said, Regrouped, Asked, Answered, Gone, Ended, Forgotten}
+use Rattle.px_outcome.specs.declared.input.Connection.{Connection}
+use Rattle.px_outcome.specs.declared.input.Input.{Input}
+use Rattle.px_outcome.specs.declared.input.Standing.{Standing}
+use Rattle.px_outcome.specs.declared.input.Standing.TheVariants.{Settled, Moving, Leaving}
+use Rattle.px_outcome.specs.declared.change.Change.{Change as AnyChange}
+use Rattle.px_outcome.specs.declared.change.Change.TheVariants.{Authed, Named, Masked, Defaulted, Made, Described, Leaves, Moves, Arrives, Released, Posted, Regrouped, Asked, Answered, Gone, Ended, Forgotten}
 pub use Rattle.px_input_table.specs.Lists.{change_first, drop_first}
 pub use Rattle.px_input_table.specs.Inputs.{leaving, with_attr, moving_to, arrived_at}
 pub use Rattle.px_input_table.specs.Connections.{authed, marked, with_streams}
-pub use Rattle.px_subscribe.specs.Scene.{inputs_told, new_connection}
+pub use Rattle.px_subscribe.specs.Scene.{inputs_noted, new_connection}
 use Rattle.px_state.specs.declared.delayed.Delayed.{Delayed}
 use Rattle.px_state.specs.Delayed.{is_of, delayed_of_others}
 use Rattle.px_state.specs.State.{State, has_number, has_index, input_of, is_as, waiting_of_others}
@@ -86,22 +86,22 @@ abbrev pub ending_of : {P : Type 0} → Option Input → State P → State P
 ending_of None state = state
 ending_of (Some x) state = ending x.standing x state
 
-abbrev pub telling : {P : Type 0} → InputId → Msg P → State P → State P
-telling index m state = record state { inputs = inputs_told index m state.inputs }
+abbrev pub noting : {P : Type 0} → InputId → Msg P → State P → State P
+noting index m state = record state { inputs = inputs_noted index m state.inputs }
 
 -- a message waits while its input moves
 abbrev pub delaying : {P : Type 0} → InputId → Msg P → State P → State P
 delaying index m state = record state { delayed = state.delayed ++ record { input = index; message = m } ∷ [] }
 
 -- an input is told something: its sink is, where the input is settled there
-abbrev pub saying : {P : Type 0} → Standing → Input → Msg P → State P → State P
-saying Settled x m state = posting x.sink.0 m (telling x.index m state)
-saying (Moving to) x m state = delaying x.index m (telling x.index m state)
-saying Leaving x m state = state
+abbrev pub posting_to_input : {P : Type 0} → Standing → Input → Msg P → State P → State P
+posting_to_input Settled x m state = posting x.sink.0 m (noting x.index m state)
+posting_to_input (Moving to) x m state = delaying x.index m (noting x.index m state)
+posting_to_input Leaving x m state = state
 
-abbrev pub saying_of : {P : Type 0} → Option Input → Msg P → State P → State P
-saying_of None m state = state
-saying_of (Some x) m state = saying x.standing x m state
+abbrev pub posting_if_there : {P : Type 0} → Option Input → Msg P → State P → State P
+posting_if_there None m state = state
+posting_if_there (Some x) m state = posting_to_input x.standing x m state
 
 -- ---- an input moves between sinks
 
@@ -161,7 +161,7 @@ changed state (Leaves index) = ending_of (input_of state.inputs index) state
 changed state (Moves index to) = departs_of to (input_of state.inputs index) state
 changed state (Arrives index m) = arrives_of (input_of state.inputs index) m state
 changed state (Released index) = releasing_of (input_of state.inputs index) state
-changed state (Said index m) = saying_of (input_of state.inputs index) m state
+changed state (Posted index m) = posting_if_there (input_of state.inputs index) m state
 changed state (Regrouped sink group m) = posting sink.0 m (regrouping sink.0 group state)
 changed state (Asked w) = record state { waiting = state.waiting ++ w ∷ [] }
 changed state (Answered w) = record state { waiting = drop_first (is_as w) state.waiting }

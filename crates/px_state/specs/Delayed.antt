@@ -5,8 +5,8 @@ use Rattle.px_model.specs.Orderly.{IsRepaired, IsWhole}
 use Rattle.px_msg.specs.declared.message.Msg.{Msg}
 use Rattle.px_msg.specs.declared.message.Msg.TheVariants.{New, Attach, Detach, Write, Cork, Flush, Trigger, Prebuf, Drain, Attr, Factors, Query}
 use Rattle.px_msg.specs.View.{sample_spec}
-use Rattle.px_plan.specs.declared.input.Input.{Input}
-use Rattle.px_plan.specs.Input.{is_moving, input_of}
+use Rattle.px_outcome.specs.declared.input.Input.{Input}
+use Rattle.px_outcome.specs.Input.{is_moving, input_of}
 use Rattle.px_state.specs.declared.delayed.Delayed.{Delayed}
 
 abbrev pub is_of : {P : Type 0} → InputId → Delayed P → Bool

@@ -5,9 +5,9 @@ use Rattle.px_types.specs.declared.ids.ConnId.{ConnId}
 use Rattle.px_tag.specs.declared.fault.TagFault.{TagFault}
 use Rattle.px_tag.specs.declared.fault.TagFault.TheVariants.{WrongTag, Short, BadValue, Left}
 use Rattle.px_frame.specs.Descriptor.{descriptor_bytes, control_descriptor}
-use Rattle.px_plan.specs.declared.sending.Reason.{Reason}
-use Rattle.px_plan.specs.declared.sending.Reason.TheVariants.{Protocol}
-pub use Rattle.px_plan.specs.Plan.{reason_code}
+use Rattle.px_outcome.specs.declared.sending.Reason.{Reason}
+use Rattle.px_outcome.specs.declared.sending.Reason.TheVariants.{Protocol}
+pub use Rattle.px_outcome.specs.Outcome.{reason_code}
 use Rattle.px_state.specs.declared.effect.Effect.{Effect}
 use Rattle.px_state.specs.declared.effect.Effect.TheVariants.{Sent, Closed}
 

@@ -1,6 +1,6 @@
 -- The families of changes.
 use Rattle.std.specs.Prelude.{⊤}
-use Rattle.px_plan.specs.declared.change.Change.TheVariants.{Authed, Named, Masked, Defaulted, Described, Leaves, Moves, Arrives, Released, Said, Gone, Ended, Forgotten}
+use Rattle.px_outcome.specs.declared.change.Change.TheVariants.{Authed, Named, Masked, Defaulted, Described, Leaves, Moves, Arrives, Released, Posted, Gone, Ended, Forgotten}
 use Rattle.px_state.specs.Change.{Change}
 
 -- of a connection or its client, or of the default sink
@@ -20,6 +20,6 @@ IsOfInput (Leaves index) = ⊤
 IsOfInput (Moves index to) = ⊤
 IsOfInput (Arrives index m) = ⊤
 IsOfInput (Released index) = ⊤
-IsOfInput (Said index m) = ⊤
+IsOfInput (Posted index m) = ⊤
 IsOfInput (Gone index) = ⊤
 IsOfInput _ = ⊥

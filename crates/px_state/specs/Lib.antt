@@ -4,7 +4,7 @@ pub mod State
 pub mod Tables
 pub mod Change
 pub mod Families
-pub mod Plan
+pub mod Outcome
 pub mod Out
 pub mod Lending
 pub mod Events

@@ -6,12 +6,12 @@ use Rattle.px_header.specs.declared.header.Header.{Header}
 use Rattle.px_header.specs.declared.header.SinkSpec.{SinkSpec}
 use Rattle.px_flat.specs.FlatVolume.{FlatGroup, new_group}
 use Rattle.px_msg.specs.declared.message.Msg.{Msg}
-use Rattle.px_plan.specs.declared.input.Connection.{Connection}
-use Rattle.px_plan.specs.declared.input.Input.{Input}
-use Rattle.px_plan.specs.declared.waiting.Waiting.{Waiting}
-pub use Rattle.px_plan.specs.Input.{has_number, connection_of, is_leaving, goes_on, belongs_to, is_bound_for, stays_on, is_settled, has_index, input_of, going, input_named, is_stream, stream_of, is_from, settled_on, bound_for, going_of}
+use Rattle.px_outcome.specs.declared.input.Connection.{Connection}
+use Rattle.px_outcome.specs.declared.input.Input.{Input}
+use Rattle.px_outcome.specs.declared.waiting.Waiting.{Waiting}
+pub use Rattle.px_outcome.specs.Input.{has_number, connection_of, is_leaving, goes_on, belongs_to, is_bound_for, stays_on, is_settled, has_index, input_of, going, input_named, is_stream, stream_of, is_from, settled_on, bound_for, going_of}
 use Rattle.px_state.specs.declared.delayed.Delayed.{Delayed}
-pub use Rattle.px_plan.specs.Waiting.{is_as, waiting_of_others}
+pub use Rattle.px_outcome.specs.Waiting.{is_as, waiting_of_others}
 
 -- P is the type of a parcel: a stream on its way from one sink to another
 pub record State (P : Type 0) : Type 0 where

@@ -7,13 +7,13 @@ ghost use Rattle.px_state.specs.Answered.{answered, answer_effects};
 ghost use Rattle.px_state.specs.Tables.{state_of, HasRoom};
 
 use crate::commit::{apply, commit, reserve};
-use crate::effects::{Effects, told_and_closed};
+use crate::effects::{Effects, notified_and_closed};
 use crate::events::add_arrival_events;
 use crate::tables::Tables;
 use px_ctl_play::Arrival;
 use px_flat::Group;
 use px_msg::Msg;
-use px_plan::Change;
+use px_outcome::Change;
 use px_types::{InputId, Mem};
 use std::alloc::Global;
 
@@ -27,7 +27,7 @@ fn arrival_effects<P>(
     requires { AreSinks [] tables.now.sinks }
     ensures { IfOk result (λ effects. (parcel : P) → effects ≡ answer_effects None (state_of tables.now) (arriving_with input parcel made.now)) }
 {
-    let mut effects = told_and_closed(alloc, &made.told, &made.later)?;
+    let mut effects = notified_and_closed(alloc, &made.notified, &made.later)?;
     add_arrival_events(alloc, &mut effects, tables, input, &made.later)?;
     Ok(effects)
 }

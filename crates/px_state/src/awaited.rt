@@ -2,11 +2,11 @@
 
 ghost use Rattle.std.specs.Prelude.{◌≡◌, ◌≤◌, length, vec_capacity};
 ghost use Rattle.std.specs.List.{position};
-ghost use Rattle.px_plan.specs.Waiting.{is_drain};
+ghost use Rattle.px_outcome.specs.Waiting.{is_drain};
 ghost use Rattle.px_state.specs.State.{is_as, waiting_of_others};
 ghost use Rattle.px_state.specs.Change.{drop_first};
 
-use px_plan::{Awaited, Waiting};
+use px_outcome::{Awaited, Waiting};
 use px_types::InputId;
 
 // Whether one asks that a stream be drained, and not how far it is.
@@ -45,7 +45,7 @@ pub(crate) fn answer(waiting: &mut Vec<Waiting>, w: &Waiting)
 }
 
 /// An input has ended: what waited of it waits no more.
-pub(crate) fn give_up(waiting: &mut Vec<Waiting>, input: InputId)
+pub(crate) fn remove_input(waiting: &mut Vec<Waiting>, input: InputId)
     ensures items { waiting.new.items ≡ waiting_of_others waiting.old.items input }
     ensures capacity { vec_capacity waiting.new ≡ vec_capacity waiting.old }
     ensures len { length waiting.new.items ≤ length waiting.old.items }

@@ -1,7 +1,7 @@
 //! Changes of connections and their clients, and of the default sink.
 
 ghost use Rattle.std.specs.Prelude.{◌≡◌, ◌+◌, ℕ};
-ghost use Rattle.px_plan.specs.declared.change.Change.TheVariants.{Authed, Forgotten};
+ghost use Rattle.px_outcome.specs.declared.change.Change.TheVariants.{Authed, Forgotten};
 ghost use Rattle.px_state.specs.Change.{changed, marked, with_connection, defaulted};
 ghost use Rattle.px_state.specs.Families.{IsOfClient};
 ghost use Rattle.px_state.specs.Tables.{state_of, HasRoom};
@@ -9,7 +9,7 @@ ghost use Rattle.px_state.specs.Tables.{state_of, HasRoom};
 use crate::change::CoreChange;
 use crate::tables::Tables;
 use px_names::Names;
-use px_plan::Change;
+use px_outcome::Change;
 use px_types::{ConnId, SinkId};
 
 // A sink that is there is the default sink.

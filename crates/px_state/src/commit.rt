@@ -2,9 +2,9 @@
 
 ghost use Rattle.std.specs.Prelude.{◌≡◌, ◌≤◌, ◌+◌, [], ℕ, length, vec_capacity, Some, IfOk, OnOk, OnErr};
 ghost use Rattle.std.specs.List.{find};
-ghost use Rattle.px_plan.specs.declared.change.Change.TheVariants.{Made, Described, Leaves, Moves, Arrives, Released, Said, Regrouped, Asked, Answered, Gone};
+ghost use Rattle.px_outcome.specs.declared.change.Change.TheVariants.{Made, Described, Leaves, Moves, Arrives, Released, Posted, Regrouped, Asked, Answered, Gone};
 ghost use Rattle.px_header.specs.HeaderRules.{AreSinks};
-ghost use Rattle.px_state.specs.Change.{changed, committed, inputs_told, posting, delaying, saying, ending, departs, arrives, releasing};
+ghost use Rattle.px_state.specs.Change.{changed, committed, inputs_noted, posting, delaying, posting_to_input, ending, departs, arrives, releasing};
 ghost use Rattle.px_state.specs.Delayed.{is_of};
 ghost use Rattle.px_state.specs.Families.{IsOfInput};
 ghost use Rattle.px_state.specs.State.{input_of};
@@ -20,7 +20,7 @@ use crate::{awaited, clients, delayed, queues};
 use px_flat::Group;
 use px_input_table::InputTable;
 use px_msg::Msg;
-use px_plan::{Change, Input, Plan, Standing, Waiting};
+use px_outcome::{Change, Input, Standing, StepOutcome, Waiting};
 use px_sinks::set_group;
 use px_tag::PropList;
 use px_types::{ConnId, InputId, Mem, SinkId};
@@ -54,7 +54,7 @@ fn post<P: Drop>(tables: &mut Tables<P>, sink: SinkId, msg: Msg<P>)
 
 // New buffer attributes that an input is told of are its own.
 fn note<P>(inputs: &mut InputTable, index: InputId, msg: &Msg<P>)
-    ensures items { inputs.new.items ≡ inputs_told index msg.now inputs.old.items }
+    ensures items { inputs.new.items ≡ inputs_noted index msg.now inputs.old.items }
     ensures len { length inputs.new.items ≤ length inputs.old.items }
     ensures places { inputs.new.places ≡ inputs.old.places }
     ensures streams { inputs.old.streams ≤ inputs.new.streams + 1 }
@@ -80,9 +80,9 @@ fn delay<P: Drop>(tables: &mut Tables<P>, input: InputId, message: Msg<P>)
 }
 
 /// An input is told something: its sink is, where the input is settled there. Takes one place of the room.
-pub(crate) fn tell<P: Drop>(tables: &mut Tables<P>, x: &Input, msg: Msg<P>)
+pub(crate) fn post_to_input<P: Drop>(tables: &mut Tables<P>, x: &Input, msg: Msg<P>)
     requires { HasRoom 1 tables.old }
-    ensures state { state_of tables.new ≡ saying x.now.standing x.now msg (state_of tables.old) }
+    ensures state { state_of tables.new ≡ posting_to_input x.now.standing x.now msg (state_of tables.old) }
     ensures room { (n : ℕ) → HasRoom (n + 1) tables.old → HasRoom n tables.new }
 {
     match x.standing {
@@ -99,14 +99,14 @@ pub(crate) fn tell<P: Drop>(tables: &mut Tables<P>, x: &Input, msg: Msg<P>)
 }
 
 // A message for the sink of the input with an index.
-fn say<P: Drop>(tables: &mut Tables<P>, index: InputId, msg: Msg<P>)
+fn post_by_index<P: Drop>(tables: &mut Tables<P>, index: InputId, msg: Msg<P>)
     requires { HasRoom 1 tables.old }
-    ensures state { state_of tables.new ≡ changed (state_of tables.old) (Said index msg) }
+    ensures state { state_of tables.new ≡ changed (state_of tables.old) (Posted index msg) }
     ensures room { (n : ℕ) → HasRoom (n + 1) tables.old → HasRoom n tables.new }
 {
     match tables.inputs.input_of(index) {
         None => {}
-        Some(x) => tell(tables, &x, msg),
+        Some(x) => post_to_input(tables, &x, msg),
     }
 }
 
@@ -119,14 +119,14 @@ fn end<P: Drop>(tables: &mut Tables<P>, x: &Input)
     match x.standing {
         Standing::Settled => {
             tables.inputs.leave(x.index);
-            awaited::give_up(&mut tables.waiting, x.index);
-            delayed::give_up(&mut tables.delayed, x.index);
+            awaited::remove_input(&mut tables.waiting, x.index);
+            delayed::remove_input(&mut tables.delayed, x.index);
             post(tables, x.sink, Msg::Detach { input: x.index });
         }
         Standing::Moving(_) => {
             tables.inputs.leave(x.index);
-            awaited::give_up(&mut tables.waiting, x.index);
-            delayed::give_up(&mut tables.delayed, x.index);
+            awaited::remove_input(&mut tables.waiting, x.index);
+            delayed::remove_input(&mut tables.delayed, x.index);
         }
         Standing::Leaving => {}
     }
@@ -162,7 +162,7 @@ fn depart<P: Drop>(tables: &mut Tables<P>, x: &Input, to: SinkId)
 }
 
 // The input with an index is to be on a sink.
-fn send_off<P: Drop>(tables: &mut Tables<P>, index: InputId, to: SinkId)
+fn depart_by_index<P: Drop>(tables: &mut Tables<P>, index: InputId, to: SinkId)
     requires { HasRoom 1 tables.old }
     ensures state { state_of tables.new ≡ changed (state_of tables.old) (Moves index to) }
     ensures room { (n : ℕ) → HasRoom (n + 1) tables.old → HasRoom n tables.new }
@@ -191,7 +191,7 @@ fn arrive<P: Drop>(tables: &mut Tables<P>, x: &Input, msg: Msg<P>)
 }
 
 // The input with an index is on the sink that it moves to.
-fn take_in<P: Drop>(tables: &mut Tables<P>, index: InputId, msg: Msg<P>)
+fn arrive_by_index<P: Drop>(tables: &mut Tables<P>, index: InputId, msg: Msg<P>)
     requires { HasRoom 1 tables.old }
     ensures state { state_of tables.new ≡ changed (state_of tables.old) (Arrives index msg) }
     ensures room { (n : ℕ) → HasRoom (n + 1) tables.old → HasRoom n tables.new }
@@ -215,7 +215,7 @@ fn release<P: Drop>(tables: &mut Tables<P>, x: &Input)
 }
 
 // And of the input with an index.
-fn let_on<P: Drop>(tables: &mut Tables<P>, index: InputId)
+fn release_by_index<P: Drop>(tables: &mut Tables<P>, index: InputId)
     requires { HasRoom 1 tables.old }
     ensures state { state_of tables.new ≡ changed (state_of tables.old) (Released index) }
     ensures room { (n : ℕ) → HasRoom (n + 1) tables.old → HasRoom n tables.new }
@@ -276,7 +276,7 @@ fn answer<P>(tables: &mut Tables<P>, w: &Waiting)
 }
 
 // An ended input and its property list are given up.
-fn give_up<P: Drop>(tables: &mut Tables<P>, index: InputId)
+fn remove_input<P: Drop>(tables: &mut Tables<P>, index: InputId)
     requires { HasRoom 1 tables.old }
     ensures state { state_of tables.new ≡ changed (state_of tables.old) (Gone index) }
     ensures room { (n : ℕ) → HasRoom (n + 1) tables.old → HasRoom n tables.new }
@@ -295,11 +295,11 @@ fn apply_to_input<P: Drop>(tables: &mut Tables<P>, change: CoreChange<P>)
     match change {
         Change::Described(index, list) => describe(tables, index, list),
         Change::Leaves(index) => leave(tables, index),
-        Change::Moves(index, to) => send_off(tables, index, to),
-        Change::Arrives(index, msg) => take_in(tables, index, msg),
-        Change::Released(index) => let_on(tables, index),
-        Change::Said(index, msg) => say(tables, index, msg),
-        Change::Gone(index) => give_up(tables, index),
+        Change::Moves(index, to) => depart_by_index(tables, index, to),
+        Change::Arrives(index, msg) => arrive_by_index(tables, index, msg),
+        Change::Released(index) => release_by_index(tables, index),
+        Change::Posted(index, msg) => post_by_index(tables, index, msg),
+        Change::Gone(index) => remove_input(tables, index),
         _ => unreachable!(),
     }
 }
@@ -328,7 +328,7 @@ pub(crate) fn apply<P: Drop>(tables: &mut Tables<P>, change: CoreChange<P>)
         | Change::Moves(..)
         | Change::Arrives(..)
         | Change::Released(_)
-        | Change::Said(..)
+        | Change::Posted(..)
         | Change::Gone(_) => apply_to_input(tables, change),
         Change::Regrouped(sink, group, msg) => regroup(tables, sink, group, msg),
         Change::Asked(w) => ask(tables, w),
@@ -347,43 +347,43 @@ pub(crate) fn commit<P: Drop>(tables: &mut Tables<P>, changes: Vec<CoreChange<P>
     }
 }
 
-// What a plan does to the outside, with room for its changes. The state stays.
+// What an outcome does to the outside, with room for its changes. The state stays.
 fn effects_with_room<P>(
     alloc: Global,
     asker: Option<ConnId>,
     tables: &mut Tables<P>,
-    plan: &Plan<Msg<P>, Group>,
+    outcome: &StepOutcome<Msg<P>, Group>,
 ) -> Mem<Effects>
     requires { AreSinks [] tables.old.sinks }
-    ensures effects { IfOk result (λ effects. effects ≡ answer_effects asker (state_of tables.old) plan.now) }
+    ensures effects { IfOk result (λ effects. effects ≡ answer_effects asker (state_of tables.old) outcome.now) }
     ensures state { state_of tables.new ≡ state_of tables.old }
-    ensures room { OnOk result (HasRoom (length plan.now.changes) tables.new) }
+    ensures room { OnOk result (HasRoom (length outcome.now.changes) tables.new) }
 {
-    let effects = answer_effects(alloc, asker, tables, plan)?;
-    reserve(tables, plan.changes.len())?;
+    let effects = answer_effects(alloc, asker, tables, outcome)?;
+    reserve(tables, outcome.changes.len())?;
     Ok(effects)
 }
 
-/// The changes of a plan are made, and its effects are left; the reply goes to who asked. Where there is no memory for them
+/// The changes of an outcome are made, and its effects are left; the reply goes to who asked. Where there is no memory for them
 /// nothing has changed.
 pub fn finish<P: Drop>(
     alloc: Global,
     tables: &mut Tables<P>,
     asker: Option<ConnId>,
-    plan: Plan<Msg<P>, Group>,
+    outcome: StepOutcome<Msg<P>, Group>,
 ) -> Mem<Effects>
     requires { AreSinks [] tables.old.sinks }
-    ensures effects { IfOk result (λ effects. effects ≡ answer_effects asker (state_of tables.old) plan) }
-    ensures after { OnOk result (state_of tables.new ≡ answered (state_of tables.old) plan) }
+    ensures effects { IfOk result (λ effects. effects ≡ answer_effects asker (state_of tables.old) outcome) }
+    ensures after { OnOk result (state_of tables.new ≡ answered (state_of tables.old) outcome) }
     ensures err { OnErr result (state_of tables.new ≡ state_of tables.old) }
 {
-    match effects_with_room(alloc, asker, tables, &plan) {
+    match effects_with_room(alloc, asker, tables, &outcome) {
         Ok(effects) => {
-            commit(tables, plan.changes);
+            commit(tables, outcome.changes);
             Ok(effects)
         }
         Err(error) => {
-            drop(plan);
+            drop(outcome);
             Err(error)
         }
     }

@@ -5,7 +5,7 @@ ghost use Rattle.px_state.specs.Change.{joined, marked, with_connection};
 ghost use Rattle.px_state.specs.Tables.{state_of};
 
 use crate::tables::Tables;
-use px_plan::Connection;
+use px_outcome::Connection;
 use px_types::{ConnId, Mem};
 
 /// One more connection, and its client. Where there is no memory for it nothing has changed.

@@ -45,7 +45,7 @@ pub(crate) fn take_first<P>(delayed: &mut Vec<Delayed<P>>, input: InputId) -> Op
 }
 
 /// An input has ended: its messages wait no more. Takes no memory.
-pub(crate) fn give_up<P: Drop>(delayed: &mut Vec<Delayed<P>>, input: InputId)
+pub(crate) fn remove_input<P: Drop>(delayed: &mut Vec<Delayed<P>>, input: InputId)
     ensures items { delayed.new.items ≡ delayed_of_others delayed.old.items input }
     ensures capacity { vec_capacity delayed.new ≡ vec_capacity delayed.old }
     ensures len { length delayed.new.items ≤ length delayed.old.items }

@@ -3,11 +3,11 @@
 ghost use Rattle.std.specs.Prelude.{◌≡◌, ◌<◌, ◌≤◌, length, IfOk, IfSome};
 ghost use Rattle.std.specs.Option.{option_to_list};
 ghost use Rattle.px_state.specs.Effect.{framed, sent, closed_for, IsSendable};
-ghost use Rattle.px_state.specs.Plan.{closed_in};
+ghost use Rattle.px_state.specs.Outcome.{closed_in};
 
 use crate::change::CoreChange;
 use px_frame::{Packet, write_packet};
-use px_plan::{Change, Reason};
+use px_outcome::{Change, Reason};
 use px_types::{ConnId, Mem, NoMemory};
 use std::alloc::Global;
 
@@ -84,7 +84,7 @@ pub(crate) fn closed_in<P>(change: &CoreChange<P>) -> Option<Effect>
         | Change::Moves(..)
         | Change::Arrives(..)
         | Change::Released(_)
-        | Change::Said(..)
+        | Change::Posted(..)
         | Change::Regrouped(..)
         | Change::Asked(_)
         | Change::Answered(_)

@@ -2,16 +2,16 @@
 
 ghost use Rattle.std.specs.Prelude.{◌≡◌, ◌<◌, ◌≤◌, ◌++◌, ◌∷◌, [], true, length, vec_capacity, List, OnOk, OnErr, IfOk, IfSome};
 ghost use Rattle.std.specs.Option.{option_to_list};
-ghost use Rattle.px_plan.specs.declared.sending.Sending.{Sending};
+ghost use Rattle.px_outcome.specs.declared.sending.Sending.{Sending};
 ghost use Rattle.px_state.specs.Change.{Change};
 ghost use Rattle.px_state.specs.Effect.{fits, sending, IsSendable, AreSendable};
-ghost use Rattle.px_state.specs.Plan.{reply_to_asker, sent_all, closed_all, plan_effects};
+ghost use Rattle.px_state.specs.Outcome.{reply_to_asker, sent_all, closed_all, outcome_effects};
 
 use crate::change::CoreChange;
 use crate::effect::{Effect, closed_in, sent};
 use px_flat::Group;
 use px_msg::Msg;
-use px_plan::{Plan, Sending};
+use px_outcome::{Sending, StepOutcome};
 use px_tag::Packet;
 use px_types::limits::MAX_PAYLOAD;
 use px_types::{ConnId, Mem};
@@ -200,32 +200,32 @@ fn close_all<P>(effects: &mut Effects, changes: &[CoreChange<P>]) -> Mem<()>
 }
 
 /// Messages to clients, and the ends of connections among changes.
-pub(crate) fn told_and_closed<P>(
+pub(crate) fn notified_and_closed<P>(
     alloc: Global,
-    told: &[Sending],
+    notified: &[Sending],
     changes: &[CoreChange<P>],
 ) -> Mem<Effects>
-    ensures { IfOk result (λ effects. effects ≡ sent_all told.now ++ closed_all changes.now) }
+    ensures { IfOk result (λ effects. effects ≡ sent_all notified.now ++ closed_all changes.now) }
 {
     let mut effects = Effects::new(alloc);
-    send_all(alloc, &mut effects, told)?;
+    send_all(alloc, &mut effects, notified)?;
     close_all(&mut effects, changes)?;
     Ok(effects)
 }
 
-/// What a plan does to the outside: the reply, the errors for tags that wait, the messages to clients, and the connections that
+/// What an outcome does to the outside: the reply, the errors for tags that wait, the messages to clients, and the connections that
 /// are ended.
-pub(crate) fn plan_effects<P>(
+pub(crate) fn outcome_effects<P>(
     alloc: Global,
     asker: Option<ConnId>,
-    plan: &Plan<Msg<P>, Group>,
+    outcome: &StepOutcome<Msg<P>, Group>,
 ) -> Mem<Effects>
-    ensures { IfOk result (λ effects. effects ≡ plan_effects asker plan.now) }
+    ensures { IfOk result (λ effects. effects ≡ outcome_effects asker outcome.now) }
 {
     let mut effects = Effects::new(alloc);
-    send_reply(alloc, &mut effects, &plan.reply, asker)?;
-    send_all(alloc, &mut effects, &plan.errors)?;
-    send_all(alloc, &mut effects, &plan.told)?;
-    close_all(&mut effects, &plan.changes)?;
+    send_reply(alloc, &mut effects, &outcome.reply, asker)?;
+    send_all(alloc, &mut effects, &outcome.errors)?;
+    send_all(alloc, &mut effects, &outcome.notified)?;
+    close_all(&mut effects, &outcome.changes)?;
     Ok(effects)
 }

@@ -3,7 +3,7 @@
 ghost use Rattle.std.specs.Prelude.{◌≡◌, ◌++◌, ◌∷◌, [], ◌+◌, ◌<◌, IfOk, OnOk};
 ghost use Rattle.px_header.specs.HeaderRules.{AreSinks};
 ghost use Rattle.px_msg.specs.declared.message.Msg.{Msg as Message};
-ghost use Rattle.px_plan.specs.declared.change.Change.TheVariants.{Arrives};
+ghost use Rattle.px_outcome.specs.declared.change.Change.TheVariants.{Arrives};
 ghost use Rattle.px_state.specs.Answered.{answer_effects};
 ghost use Rattle.px_state.specs.Change.{committed};
 ghost use Rattle.px_state.specs.Change.{joined};
@@ -11,11 +11,11 @@ ghost use Rattle.px_state.specs.Events.{scene_of, step_events};
 ghost use Rattle.px_state.specs.Tables.{state_of};
 
 use crate::change::CoreChange;
-use crate::effects::{Effects, plan_effects, send_all};
+use crate::effects::{Effects, outcome_effects, send_all};
 use crate::tables::Tables;
 use px_flat::Group;
 use px_msg::Msg;
-use px_plan::Plan;
+use px_outcome::StepOutcome;
 use px_subscribe::{Scene, are_deaf, are_quiet, nobody_hears};
 use px_types::{ConnId, InputId, Mem};
 use std::alloc::Global;
@@ -52,23 +52,23 @@ fn add_events<P>(
         return Ok(());
     }
     let scene = scene_of(alloc, tables)?;
-    let told = scene.told_of(alloc, tables.sinks.as_slice(), tables.clients_made, changes)?;
-    send_all(alloc, effects, &told)?;
+    let notified = scene.notified_of(alloc, tables.sinks.as_slice(), tables.clients_made, changes)?;
+    send_all(alloc, effects, &notified)?;
     Ok(())
 }
 
-/// What a plan does to the outside, and what those are told who subscribe.
+/// What an outcome does to the outside, and what those are told who subscribe.
 pub(crate) fn answer_effects<P>(
     alloc: Global,
     asker: Option<ConnId>,
     tables: &Tables<P>,
-    plan: &Plan<Msg<P>, Group>,
+    outcome: &StepOutcome<Msg<P>, Group>,
 ) -> Mem<Effects>
     requires { AreSinks [] tables.now.sinks }
-    ensures { IfOk result (λ effects. effects ≡ answer_effects asker (state_of tables.now) plan.now) }
+    ensures { IfOk result (λ effects. effects ≡ answer_effects asker (state_of tables.now) outcome.now) }
 {
-    let mut effects = plan_effects(alloc, asker, plan)?;
-    add_events(alloc, &mut effects, tables, &plan.changes)?;
+    let mut effects = outcome_effects(alloc, asker, outcome)?;
+    add_events(alloc, &mut effects, tables, &outcome.changes)?;
     Ok(effects)
 }
 
@@ -88,8 +88,8 @@ pub(crate) fn add_arrival_events<P>(
     }
     let scene = scene_of(alloc, tables)?;
     let sinks = tables.sinks.as_slice();
-    let told = scene.told_arrived(alloc, sinks, tables.clients_made, input, later)?;
-    send_all(alloc, effects, &told)?;
+    let notified = scene.notified_arrived(alloc, sinks, tables.clients_made, input, later)?;
+    send_all(alloc, effects, &notified)?;
     Ok(())
 }
 
@@ -104,8 +104,8 @@ pub fn joined_events<P>(alloc: Global, tables: &Tables<P>, conn: ConnId) -> Mem<
     }
     let client = tables.clients_made;
     let scene = scene_of(alloc, tables)?;
-    let told = scene.told_joined(alloc, tables.sinks.as_slice(), client + 1, conn, client)?;
+    let notified = scene.notified_joined(alloc, tables.sinks.as_slice(), client + 1, conn, client)?;
     let mut effects = Effects::new(alloc);
-    send_all(alloc, &mut effects, &told)?;
+    send_all(alloc, &mut effects, &notified)?;
     Ok(effects)
 }

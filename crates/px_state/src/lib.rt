@@ -1,6 +1,6 @@
 //! The state of the control side: the tables that it is kept in, the messages that wait for each sink, and each change of it, with what
-//! that does to the outside. A plan is made as a whole or not at all. It exports `Tables` with the calls that change them, `Effects`,
-//! and the plans of refusals and of ends.
+//! that does to the outside. An outcome is made as a whole or not at all. It exports `Tables` with the calls that change them, `Effects`,
+//! and the outcomes of refusals and of ends.
 #![tactic(auto)]
 
 mod arrival;
@@ -15,7 +15,7 @@ mod effects;
 mod events;
 mod lending;
 mod out;
-mod plan;
+mod outcome;
 mod queues;
 mod start;
 mod tables;
@@ -31,7 +31,7 @@ pub use effects::{EffectRoom, Effects};
 pub use events::joined_events;
 pub use lending::put_back_undoes_handing_out;
 pub use out::{hand_out, outgoing, put_back};
-pub use plan::{broken_off, refused, requested};
+pub use outcome::{broken_off, refused, requested};
 pub use start::new_tables;
 pub use tables::Tables;
 pub use writing::post_frames;

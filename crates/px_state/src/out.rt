@@ -9,7 +9,7 @@ use crate::queues;
 use crate::tables::Tables;
 use px_input_table::InputTable;
 use px_msg::Msg;
-use px_plan::Way;
+use px_outcome::Way;
 use px_types::SinkId;
 
 // The way of the input that a message names, once it was handed out.

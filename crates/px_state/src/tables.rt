@@ -6,7 +6,7 @@ use px_header::SinkSpecs;
 use px_input_table::InputTable;
 use px_msg::Msg;
 use px_names::{InputLists, Names};
-use px_plan::{Connection, Waiting};
+use px_outcome::{Connection, Waiting};
 use std::collections::VecDeque;
 
 /// The state of the core. `P` is the type of a parcel: a stream on its way from one sink to another.

@@ -6,11 +6,11 @@ ghost use Rattle.px_state.specs.Answered.{answered};
 ghost use Rattle.px_state.specs.State.{input_of};
 ghost use Rattle.px_state.specs.Tables.{state_of};
 
-use crate::commit::{reserve, tell};
+use crate::commit::{post_to_input, reserve};
 use crate::tables::Tables;
 use px_block::Blocks;
 use px_ctl_play::Frames;
-use px_plan::Input;
+use px_outcome::Input;
 
 /// These frames of a stream wait for its sink. Where there is no memory for them the bytes are handed back, and nothing has changed.
 pub fn post_frames<P: Drop>(
@@ -28,7 +28,7 @@ pub fn post_frames<P: Drop>(
     match reserve(tables, 1) {
         Err(_) => Err(bytes),
         Ok(()) => {
-            tell(
+            post_to_input(
                 tables,
                 &input,
                 px_ctl_play::write(&input, frames, seek, bytes),

@@ -12,12 +12,12 @@ use Rattle.px_model.specs.Queue.{Queue, is_short}
 use Rattle.px_model.specs.Going.{queue_after, queue_on, ahead_of}
 use Rattle.px_model.specs.Write.{Outcome, stored, overflow, outside, queue_with}
 use Rattle.px_model.specs.Stream.{Stream, IsStream}
-use Rattle.px_stream.specs.Kept.{IsMixable}
+use Rattle.px_stream.specs.HeldStream.{IsMixable}
 
 -- with the same spec, feed and factors
 pub mixable_as : (s t : Stream) → IsMixable s → IsStream t → t.spec ≡ s.spec → t.feed ≡ s.feed → t.factors ≡ s.factors → IsMixable t
-mixable_as s t h kept spec feed factors = record {
-  kept = kept;
+mixable_as s t h holds spec feed factors = record {
+  holds = holds;
   playable = subst (λ x. IsPlayable x) (sym spec) h.playable;
   feed_fits = subst (λ (xs : List ℕ). All (λ channel. channel < t.spec.channels) xs) (sym feed)
       (subst (λ (x : SampleSpec). All (λ channel. channel < x.channels) s.feed) (sym spec) h.feed_fits);
@@ -39,4 +39,4 @@ index_fits : (z : ℤ) → IsIndex z → SFits w64 z
 index_fits z range = let low = range.0 in let high = range.1 in omega (arith, ints)
 
 pub ahead_fits : (s : Stream) → IsStream s → (k : ℕ) → SFits w64 (ahead_of s k)
-ahead_fits s keeps k = index_fits (ahead_of s k) (IsStream.queue_kept (after_keeps s keeps k)).read_in_range
+ahead_fits s keeps k = index_fits (ahead_of s k) (IsStream.queue_holds (after_keeps s keeps k)).read_in_range

@@ -70,7 +70,7 @@ frames_fit frames most samples channels is =
     omega (arith, mul-le-mul_right channels few, div-mul-le_self samples channels)
 
 -- the values of one frame more, and the places past it
-module _ (run place : ℕ) (out new : List ℤ) (inside : place < run) (kept : (i : ℕ) → i % run ≢ place → get_or new i (pos 0) ≡ get_or out i (pos 0)) where
+module _ (run place : ℕ) (out new : List ℤ) (inside : place < run) (holds : (i : ℕ) → i % run ≢ place → get_or new i (pos 0) ≡ get_or out i (pos 0)) where
   -- another place of a run stays
   pub stays : (c j : ℕ) → j < run → j ≢ place → get_or new (c * run + j) (pos 0) ≡ get_or out (c * run + j) (pos 0)
-  stays c j few other = kept (c * run + j) (λ e. other (sym (mod-mul-add c run j few) ∙ e))
+  stays c j few other = holds (c * run + j) (λ e. other (sym (mod-mul-add c run j few) ∙ e))

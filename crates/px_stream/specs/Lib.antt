@@ -1,5 +1,5 @@
 pub mod Samples
-pub mod Kept
+pub mod HeldStream
 pub mod Messages
 pub mod Values
 pub mod Lent

@@ -4,7 +4,7 @@ ghost use Rattle.px_block.specs.Given.{after_giving};
 ghost use Rattle.px_model.specs.Going.{after, given_of, ahead_of};
 ghost use Rattle.px_model.specs.Index.{above};
 ghost use Rattle.px_model.specs.Turn.{is_playing, has_ended, has_started, has_run_out, missing_of, request_of};
-ghost use Rattle.px_stream.specs.Kept.{IsMixable};
+ghost use Rattle.px_stream.specs.HeldStream.{IsMixable};
 
 use crate::run::run_after;
 use crate::state::{StreamState, less};
@@ -164,7 +164,7 @@ impl StreamState {
     /// As `Stream::draining`.
     pub(crate) fn draining(&self) -> usize
         ensures count { result ≡ length self.now.stream.draining }
-        ensures kept { IsMixable self.now.stream }
+        ensures holds { IsMixable self.now.stream }
     {
         self.draining.len()
     }

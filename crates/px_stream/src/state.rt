@@ -41,9 +41,9 @@ impl Model for StreamState {
     ghost use Rattle.std.specs.Prelude.{◌≡◌, ◌-◌, min, vec_len, vec_capacity};
     ghost use Rattle.px_msg.specs.View.{sample_spec};
     ghost use Rattle.px_model.specs.Frame.{frame_size};
-    ghost use Rattle.px_stream.specs.Kept.{KeptStream, stream_of, IsMixable};
+    ghost use Rattle.px_stream.specs.HeldStream.{HeldStream, stream_of, IsMixable};
 
-    ghost Value = { KeptStream };
+    ghost Value = { HeldStream };
 
     ghost view = { λ s. record {
       stream = stream_of s.queue.queue s.corked s.maxlength s.tlength s.minreq s.requested s.draining.items s.run (sample_spec s.spec) s.feed s.factors;

@@ -10,7 +10,7 @@ ghost use Rattle.px_model.specs.Going.{after, ahead_of};
 ghost use Rattle.px_model.specs.Orderly.{IsNewStream};
 ghost use Rattle.px_model.specs.Turn.{has_ended, has_started, has_run_out, missing_of, request_of};
 ghost use Rattle.px_stream.specs.Heard.{unaltered_of};
-ghost use Rattle.px_stream.specs.Kept.{IsMixable};
+ghost use Rattle.px_stream.specs.HeldStream.{IsMixable};
 ghost use Rattle.px_stream.specs.Messages.{message_of, Suits, blocks_with, room_for, answer_for};
 ghost use Rattle.px_stream.specs.Plain.{plain_of};
 ghost use Rattle.px_stream.specs.Values.{GivesValues};
@@ -36,9 +36,9 @@ pub struct Stream {
 }
 
 impl Model for Stream {
-    ghost use Rattle.px_stream.specs.Kept.{KeptStream};
+    ghost use Rattle.px_stream.specs.HeldStream.{HeldStream};
 
-    ghost Value = { KeptStream };
+    ghost Value = { HeldStream };
 
     ghost view = { λ s. s.state.value };
 }
@@ -144,7 +144,7 @@ impl Stream {
     /// How many drains wait for an answer.
     pub fn draining(&self) -> usize
         ensures count { result ≡ length self.now.stream.draining }
-        ensures kept { IsMixable self.now.stream }
+        ensures holds { IsMixable self.now.stream }
     {
         self.state.draining()
     }

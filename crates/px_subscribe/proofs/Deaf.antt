@@ -11,19 +11,19 @@ use Rattle.px_names.specs.declared.client.Client.{Client}
 use Rattle.px_names.specs.Clients.{is_on, change_first, without_first, with_list, client_on, mask_of, new_client}
 use Rattle.px_header.specs.declared.header.SinkSpec.{SinkSpec}
 use Rattle.px_msg.specs.declared.message.Msg.{Msg}
-use Rattle.px_plan.specs.declared.change.Change.{Change}
-use Rattle.px_plan.specs.declared.change.Change.TheVariants.{Authed, Named, Masked, Defaulted, Made, Described, Leaves, Moves, Arrives, Released, Said, Regrouped, Asked, Answered, Gone, Ended, Forgotten}
-use Rattle.px_plan.specs.declared.input.Connection.{Connection}
+use Rattle.px_outcome.specs.declared.change.Change.{Change}
+use Rattle.px_outcome.specs.declared.change.Change.TheVariants.{Authed, Named, Masked, Defaulted, Made, Described, Leaves, Moves, Arrives, Released, Posted, Regrouped, Asked, Answered, Gone, Ended, Forgotten}
+use Rattle.px_outcome.specs.declared.input.Connection.{Connection}
 use Rattle.px_subscribe.specs.declared.announce.Subscriber.{Subscriber}
 use Rattle.px_subscribe.specs.declared.event.Facility.{Facility}
 use Rattle.px_subscribe.specs.declared.event.Facility.TheVariants.{Sink, Input, Client as AClient, Server}
 use Rattle.px_subscribe.specs.declared.event.Event.{Event}
 use Rattle.px_subscribe.specs.Event.{hears, message_of}
-use Rattle.px_subscribe.specs.Announce.{told_to, announced, announced_all}
+use Rattle.px_subscribe.specs.Announce.{notified_to, announced, announced_all}
 use Rattle.px_subscribe.specs.Became.{events_between}
-use Rattle.px_subscribe.specs.InfoBytes.{Telling, infos_in}
+use Rattle.px_subscribe.specs.InfoBytes.{InfoLists, infos_in}
 use Rattle.px_subscribe.specs.Scene.{Scene, scene_changed, scene_after, scene_joined, is_maskless, is_deaf, are_deaf, nobody_hears}
-use Rattle.px_subscribe.specs.Moments.{telling_of, subscribers_in, subscribers_of, given_in, told_since, told_between}
+use Rattle.px_subscribe.specs.Moments.{info_lists_of, subscribers_in, subscribers_of, given_in, notified_since, notified_between}
 
 first_true : (a b : Bool) → (a && b) ≡ true → a ≡ true
 first_true true b e = refl
@@ -72,7 +72,7 @@ change_deaf s (Leaves index) m e = e
 change_deaf s (Moves index to) m e = e
 change_deaf s (Arrives index n) m e = e
 change_deaf s (Released index) m e = e
-change_deaf s (Said index n) m e = e
+change_deaf s (Posted index n) m e = e
 change_deaf s (Regrouped sink group n) m e = e
 change_deaf s (Asked w) m e = e
 change_deaf s (Answered w) m e = e
@@ -113,25 +113,25 @@ nothing_heard Input = refl
 nothing_heard AClient = refl
 nothing_heard Server = refl
 
-told_none : (e : Event) (s : Subscriber) → s.mask ≡ 0 → told_to e s ≡ []
-told_none e s z = ap (λ b. cond b (record { conn = s.conn; packet = message_of e } ∷ []) []) (ap (λ mask. hears mask e.facility) z ∙ nothing_heard e.facility)
+notified_none : (e : Event) (s : Subscriber) → s.mask ≡ 0 → notified_to e s ≡ []
+notified_none e s z = ap (λ b. cond b (record { conn = s.conn; packet = message_of e } ∷ []) []) (ap (λ mask. hears mask e.facility) z ∙ nothing_heard e.facility)
 
 announced_none : (e : Event) (subscribers : List Subscriber) → AllByRecursion (λ (s : Subscriber). s.mask ≡ 0) subscribers → announced subscribers e ≡ []
 announced_none e [] all = refl
-announced_none e (s ∷ subscribers) all = λ k. told_none e s all.0 k ++ announced_none e subscribers all.1 k
+announced_none e (s ∷ subscribers) all = λ k. notified_none e s all.0 k ++ announced_none e subscribers all.1 k
 
 all_none : (subscribers : List Subscriber) (events : List Event) → AllByRecursion (λ (s : Subscriber). s.mask ≡ 0) subscribers → announced_all subscribers events ≡ []
 all_none subscribers [] all = refl
 all_none subscribers (e ∷ events) all = λ k. announced_none e subscribers all k ++ all_none subscribers events all k
 
-deaf_since : (sinks : List SinkSpec) (clients_made : ℕ) (before : Telling) (s : Scene) → are_deaf s.clients ≡ true → told_since sinks clients_made before s ≡ []
+deaf_since : (sinks : List SinkSpec) (clients_made : ℕ) (before : InfoLists) (s : Scene) → are_deaf s.clients ≡ true → notified_since sinks clients_made before s ≡ []
 deaf_since sinks clients_made before s e =
-    all_none (subscribers_of s) (events_between (given_in sinks clients_made s) (infos_in before) (infos_in (telling_of sinks s))) (all_deaf s.clients s.connections e)
+    all_none (subscribers_of s) (events_between (given_in sinks clients_made s) (infos_in before) (infos_in (info_lists_of sinks s))) (all_deaf s.clients s.connections e)
 
-pub deaf_changes : {P : Type 0} (sinks : List SinkSpec) (clients_made : ℕ) (s : Scene) (changes : List (Change (Msg P) FlatGroup)) → nobody_hears s.clients changes ≡ true → told_between sinks clients_made s (scene_after s changes) ≡ []
+pub deaf_changes : {P : Type 0} (sinks : List SinkSpec) (clients_made : ℕ) (s : Scene) (changes : List (Change (Msg P) FlatGroup)) → nobody_hears s.clients changes ≡ true → notified_between sinks clients_made s (scene_after s changes) ≡ []
 deaf_changes sinks clients_made s changes e =
-    deaf_since sinks clients_made (telling_of sinks s) (scene_after s changes)
+    deaf_since sinks clients_made (info_lists_of sinks s) (scene_after s changes)
     (changes_deaf s changes (second_true (are_deaf s.clients) (list_all is_maskless changes) e) (first_true (are_deaf s.clients) (list_all is_maskless changes) e))
 
-pub deaf_joined : (sinks : List SinkSpec) (clients_made : ℕ) (s : Scene) (conn : ConnId) (client : ℕ) → are_deaf s.clients ≡ true → told_between sinks clients_made s (scene_joined conn client s) ≡ []
-deaf_joined sinks clients_made s conn client e = deaf_since sinks clients_made (telling_of sinks s) (scene_joined conn client s) (joined_deaf conn client s.clients e)
+pub deaf_joined : (sinks : List SinkSpec) (clients_made : ℕ) (s : Scene) (conn : ConnId) (client : ℕ) → are_deaf s.clients ≡ true → notified_between sinks clients_made s (scene_joined conn client s) ≡ []
+deaf_joined sinks clients_made s conn client e = deaf_since sinks clients_made (info_lists_of sinks s) (scene_joined conn client s) (joined_deaf conn client s.clients e)

@@ -1,4 +1,4 @@
-pub mod Telling
+pub mod WhatBecame
 mod Nearest
 mod Added
 pub mod Unchanged

@@ -3,7 +3,7 @@ use Rattle.std.proofs.Common.{◌≡◌, ℕ, ◌+◌, ◌<◌, ◌∷◌, List,
 use Rattle.std.proofs.lemmas.List.{at_drop_more}
 use Rattle.px_flat.specs.FlatVolume.{FlatGroup}
 use Rattle.px_msg.specs.declared.message.Msg.{Msg}
-use Rattle.px_plan.specs.declared.change.Change.{Change}
+use Rattle.px_outcome.specs.declared.change.Change.{Change}
 use Rattle.px_subscribe.specs.Scene.{Scene, scene_after}
 
 -- the changes that are left make of the scene so far what all make, also where one more is made

@@ -12,9 +12,9 @@ use Rattle.px_reply.specs.Info.{with_sink, with_input, with_client}
 use Rattle.px_subscribe.specs.declared.event.Facility.{Facility}
 use Rattle.px_subscribe.specs.declared.event.Facility.TheVariants.{Sink, Input, Client}
 use Rattle.px_subscribe.specs.declared.event.Event.{Event}
-use Rattle.px_subscribe.specs.declared.info_bytes.Told.{Told}
+use Rattle.px_subscribe.specs.declared.info_bytes.InfoBytes.{InfoBytes}
 use Rattle.px_subscribe.specs.Became.{became, event, events_at}
-use Rattle.px_subscribe.specs.InfoBytes.{sink_at, input_at, client_at, sinks_events, inputs_events, clients_events, sink_told, input_told, client_told, is_at, bytes_at, told_events, nearer, next_in}
+use Rattle.px_subscribe.specs.InfoBytes.{sink_at, input_at, client_at, sinks_events, inputs_events, clients_events, sink_info_bytes, input_info_bytes, client_info_bytes, is_at, bytes_at, events_in_bytes, nearer, next_in}
 
 -- ---- ranges
 
@@ -100,27 +100,27 @@ near_apart a i e k l = by (nat_le a i) (nat_lt i e) refl refl
     by true false s t u = grind (arith, nat_tests)
     by false c s t u = grind (arith, nat_tests)
 
-next_below : (told : List Told) (from end : ℕ) → next_in told from end ≤ end
+next_below : (infos : List InfoBytes) (from end : ℕ) → next_in infos from end ≤ end
 next_below [] from end = omega arith
-next_below (t ∷ told) from end = omega (arith, next_below told from (nearer from t end), near_below from t.index end)
+next_below (t ∷ infos) from end = omega (arith, next_below infos from (nearer from t end), near_below from t.index end)
 
-next_above : (told : List Told) (from end : ℕ) → from ≤ end → from ≤ next_in told from end
+next_above : (infos : List InfoBytes) (from end : ℕ) → from ≤ end → from ≤ next_in infos from end
 next_above [] from end l = l
-next_above (t ∷ told) from end l = next_above told from (nearer from t end) (near_above from t.index end l)
+next_above (t ∷ infos) from end l = next_above infos from (nearer from t end) (near_above from t.index end l)
 
-none_told : (told : List Told) (from end i : ℕ) → from ≤ i → i < next_in told from end → bytes_at told i ≡ None
-none_told [] from end i l u = refl
-none_told (t ∷ told) from end i l u =
-    ap (λ b. option_map (λ t. Told.bytes t) (cond b (Some t) (find (is_at i) told)))
-    (near_apart from t.index end i l (omega (arith, u, next_below told from (nearer from t end))))
-    ∙ none_told told from (nearer from t end) i l u
+no_bytes : (infos : List InfoBytes) (from end i : ℕ) → from ≤ i → i < next_in infos from end → bytes_at infos i ≡ None
+no_bytes [] from end i l u = refl
+no_bytes (t ∷ infos) from end i l u =
+    ap (λ b. option_map (λ t. InfoBytes.bytes t) (cond b (Some t) (find (is_at i) infos)))
+    (near_apart from t.index end i l (omega (arith, u, next_below infos from (nearer from t end))))
+    ∙ no_bytes infos from (nearer from t end) i l u
 
 -- ---- the events of a facility, object by object
 
-none_at : (f : Facility) (before after : List Told) (i : ℕ) → bytes_at before i ≡ None → bytes_at after i ≡ None → events_at f (λ bytes. bytes) (bytes_at before) (bytes_at after) i ≡ []
+none_at : (f : Facility) (before after : List InfoBytes) (i : ℕ) → bytes_at before i ≡ None → bytes_at after i ≡ None → events_at f (λ bytes. bytes) (bytes_at before) (bytes_at after) i ≡ []
 none_at f before after i p q = λ k. option_to_list (option_map (event f i) (became (λ bytes. bytes) (p k) (q k)))
 
-module _ (f : Facility) (before after : List Told) (from given : ℕ) (l : from ≤ given) where
+module _ (f : Facility) (before after : List InfoBytes) (from given : ℕ) (l : from ≤ given) where
   abbrev next : ℕ
   next = next_in after from (next_in before from given)
 
@@ -130,46 +130,46 @@ module _ (f : Facility) (before after : List Told) (from given : ℕ) (l : from 
   quiet_until : (i : ℕ) → from ≤ i → i < next → events_at f (λ bytes. bytes) (bytes_at before) (bytes_at after) i ≡ []
   quiet_until i a b =
       none_at f before after i
-      (none_told before from given i a (omega (arith, b, next_below after from (next_in before from given))))
-      (none_told after from (next_in before from given) i a b)
+      (no_bytes before from given i a (omega (arith, b, next_below after from (next_in before from given))))
+      (no_bytes after from (next_in before from given) i a b)
 
-  pub told_further : told_events f before after (next + 1) ≡ told_events f before after from ++ events_at f (λ bytes. bytes) (bytes_at before) (bytes_at after) next
-  told_further = reached (events_at f (λ bytes. bytes) (bytes_at before) (bytes_at after)) from next past quiet_until
+  pub events_further : events_in_bytes f before after (next + 1) ≡ events_in_bytes f before after from ++ events_at f (λ bytes. bytes) (bytes_at before) (bytes_at after) next
+  events_further = reached (events_at f (λ bytes. bytes) (bytes_at before) (bytes_at after)) from next past quiet_until
 
-  pub told_all : given ≤ next → told_events f before after given ≡ told_events f before after from
-  told_all e = ended (events_at f (λ bytes. bytes) (bytes_at before) (bytes_at after)) from given l (λ i a b. quiet_until i a (omega (arith, b, e)))
+  pub events_all : given ≤ next → events_in_bytes f before after given ≡ events_in_bytes f before after from
+  events_all e = ended (events_at f (λ bytes. bytes) (bytes_at before) (bytes_at after)) from given l (λ i a b. quiet_until i a (omega (arith, b, e)))
 
 -- the next object of the code is that of the lemmas above
-module _ (f : Facility) (before after : List Told) (from given middle here : ℕ) (l : from ≤ given) (p : middle ≡ next_in before from given) (q : here ≡ next_in after from middle) where
+module _ (f : Facility) (before after : List InfoBytes) (from given middle here : ℕ) (l : from ≤ given) (p : middle ≡ next_in before from given) (q : here ≡ next_in after from middle) where
   is_next : here ≡ next_in after from (next_in before from given)
   is_next = q ∙ ap (λ n. next_in after from n) p
 
   pub next_past : from ≤ here
   next_past = subst (λ n. from ≤ n) (sym is_next) (past f before after from given l)
 
-  pub next_further : told_events f before after (here + 1) ≡ told_events f before after from ++ events_at f (λ bytes. bytes) (bytes_at before) (bytes_at after) here
+  pub next_further : events_in_bytes f before after (here + 1) ≡ events_in_bytes f before after from ++ events_at f (λ bytes. bytes) (bytes_at before) (bytes_at after) here
   next_further =
-      subst (λ n. told_events f before after (n + 1) ≡ told_events f before after from ++ events_at f (λ bytes. bytes) (bytes_at before) (bytes_at after) n) (sym is_next)
-      (told_further f before after from given l)
+      subst (λ n. events_in_bytes f before after (n + 1) ≡ events_in_bytes f before after from ++ events_at f (λ bytes. bytes) (bytes_at before) (bytes_at after) n) (sym is_next)
+      (events_further f before after from given l)
 
-  pub next_all : given ≤ here → told_events f before after given ≡ told_events f before after from
-  next_all e = told_all f before after from given l (subst (λ n. given ≤ n) is_next e)
+  pub next_all : given ≤ here → events_in_bytes f before after given ≡ events_in_bytes f before after from
+  next_all e = events_all f before after from given l (subst (λ n. given ≤ n) is_next e)
 
 -- ---- infos as bytes
 
 module _ {A : Type 0} (index : A → ℕ) (bytes : A → List ℕ) where
-  abbrev tell : A → Told
-  tell x = record { index = index x; bytes = bytes x }
+  abbrev in_bytes : A → InfoBytes
+  in_bytes x = record { index = index x; bytes = bytes x }
 
   abbrev at : List A → ℕ → Option A
   at xs i = find (λ x. nat_eq (index x) i) xs
 
-  found : (xs : List A) (i : ℕ) → bytes_at (map tell xs) i ≡ option_map bytes (at xs i)
+  found : (xs : List A) (i : ℕ) → bytes_at (map in_bytes xs) i ≡ option_map bytes (at xs i)
   found [] i = refl
   found (x ∷ xs) i = by (found xs i) (nat_eq (index x) i)
     where
-      by : bytes_at (map tell xs) i ≡ option_map bytes (at xs i) → (b : Bool)
-          → option_map (λ t. Told.bytes t) (cond b (Some (tell x)) (find (is_at i) (map tell xs))) ≡ option_map bytes (cond b (Some x) (at xs i))
+      by : bytes_at (map in_bytes xs) i ≡ option_map bytes (at xs i) → (b : Bool)
+          → option_map (λ t. InfoBytes.bytes t) (cond b (Some (in_bytes x)) (find (is_at i) (map in_bytes xs))) ≡ option_map bytes (cond b (Some x) (at xs i))
       by later true = refl
       by later false = later
 
@@ -179,33 +179,33 @@ module _ {A : Type 0} (index : A → ℕ) (bytes : A → List ℕ) where
   same_became (Some x) None = refl
   same_became (Some x) (Some y) = refl
 
-  same_at : (f : Facility) (before after : List A) (i : ℕ) → events_at f bytes (at before) (at after) i ≡ events_at f (λ b. b) (bytes_at (map tell before)) (bytes_at (map tell after)) i
+  same_at : (f : Facility) (before after : List A) (i : ℕ) → events_at f bytes (at before) (at after) i ≡ events_at f (λ b. b) (bytes_at (map in_bytes before)) (bytes_at (map in_bytes after)) i
   same_at f before after i =
       ap (λ o. option_to_list (option_map (event f i) o))
       (sym ((λ k. became (λ b. b) (found before i k) (found after i k)) ∙ same_became (at before i) (at after i)))
 
   same_all : (f : Facility) (before after : List A) (is : List ℕ)
-      → flat_map (events_at f bytes (at before) (at after)) is ≡ flat_map (events_at f (λ b. b) (bytes_at (map tell before)) (bytes_at (map tell after))) is
+      → flat_map (events_at f bytes (at before) (at after)) is ≡ flat_map (events_at f (λ b. b) (bytes_at (map in_bytes before)) (bytes_at (map in_bytes after))) is
   same_all f before after [] = refl
   same_all f before after (i ∷ is) = λ k. same_at f before after i k ++ same_all f before after is k
 
-pub sinks_same : (before after : List SinkInfo) (given : ℕ) → sinks_events before after given ≡ told_events Sink (map sink_told before) (map sink_told after) given
+pub sinks_same : (before after : List SinkInfo) (given : ℕ) → sinks_events before after given ≡ events_in_bytes Sink (map sink_info_bytes before) (map sink_info_bytes after) given
 sinks_same before after given = same_all SinkInfo.index (with_sink (reply_to 0)) Sink before after (range_with_len 0 given)
 
-pub inputs_same : (before after : List InputInfo) (given : ℕ) → inputs_events before after given ≡ told_events Input (map input_told before) (map input_told after) given
+pub inputs_same : (before after : List InputInfo) (given : ℕ) → inputs_events before after given ≡ events_in_bytes Input (map input_info_bytes before) (map input_info_bytes after) given
 inputs_same before after given = same_all InputInfo.index (with_input (reply_to 0)) Input before after (range_with_len 0 given)
 
-pub clients_same : (before after : List ClientInfo) (given : ℕ) → clients_events before after given ≡ told_events Client (map client_told before) (map client_told after) given
+pub clients_same : (before after : List ClientInfo) (given : ℕ) → clients_events before after given ≡ events_in_bytes Client (map client_info_bytes before) (map client_info_bytes after) given
 clients_same before after given = same_all ClientInfo.index (with_client (reply_to 0)) Client before after (range_with_len 0 given)
 
-pub sinks_told_so : (before after : List SinkInfo) (b a : List Told) (given : ℕ) (old new : List Event) → b ≡ map sink_told before → a ≡ map sink_told after → new ≡ old ++ told_events Sink b a given → new ≡ old ++ sinks_events before after given
-sinks_told_so before after b a given old new p q e =
-    e ∙ (λ k. old ++ told_events Sink (p k) (q k) given) ∙ ap (λ (l : List Event). old ++ l) (sym (sinks_same before after given))
+pub sinks_in_bytes_so : (before after : List SinkInfo) (b a : List InfoBytes) (given : ℕ) (old new : List Event) → b ≡ map sink_info_bytes before → a ≡ map sink_info_bytes after → new ≡ old ++ events_in_bytes Sink b a given → new ≡ old ++ sinks_events before after given
+sinks_in_bytes_so before after b a given old new p q e =
+    e ∙ (λ k. old ++ events_in_bytes Sink (p k) (q k) given) ∙ ap (λ (l : List Event). old ++ l) (sym (sinks_same before after given))
 
-pub inputs_told_so : (before after : List InputInfo) (b a : List Told) (given : ℕ) (old new : List Event) → b ≡ map input_told before → a ≡ map input_told after → new ≡ old ++ told_events Input b a given → new ≡ old ++ inputs_events before after given
-inputs_told_so before after b a given old new p q e =
-    e ∙ (λ k. old ++ told_events Input (p k) (q k) given) ∙ ap (λ (l : List Event). old ++ l) (sym (inputs_same before after given))
+pub inputs_in_bytes_so : (before after : List InputInfo) (b a : List InfoBytes) (given : ℕ) (old new : List Event) → b ≡ map input_info_bytes before → a ≡ map input_info_bytes after → new ≡ old ++ events_in_bytes Input b a given → new ≡ old ++ inputs_events before after given
+inputs_in_bytes_so before after b a given old new p q e =
+    e ∙ (λ k. old ++ events_in_bytes Input (p k) (q k) given) ∙ ap (λ (l : List Event). old ++ l) (sym (inputs_same before after given))
 
-pub clients_told_so : (before after : List ClientInfo) (b a : List Told) (given : ℕ) (old new : List Event) → b ≡ map client_told before → a ≡ map client_told after → new ≡ old ++ told_events Client b a given → new ≡ old ++ clients_events before after given
-clients_told_so before after b a given old new p q e =
-    e ∙ (λ k. old ++ told_events Client (p k) (q k) given) ∙ ap (λ (l : List Event). old ++ l) (sym (clients_same before after given))
+pub clients_in_bytes_so : (before after : List ClientInfo) (b a : List InfoBytes) (given : ℕ) (old new : List Event) → b ≡ map client_info_bytes before → a ≡ map client_info_bytes after → new ≡ old ++ events_in_bytes Client b a given → new ≡ old ++ clients_events before after given
+clients_in_bytes_so before after b a given old new p q e =
+    e ∙ (λ k. old ++ events_in_bytes Client (p k) (q k) given) ∙ ap (λ (l : List Event). old ++ l) (sym (clients_same before after given))

@@ -2,8 +2,8 @@
 use Rattle.std.proofs.Common.{◌≡◌, refl}
 use Rattle.px_flat.specs.FlatVolume.{FlatGroup}
 use Rattle.px_msg.specs.declared.message.Msg.{Msg}
-use Rattle.px_plan.specs.declared.change.Change.{Change}
-use Rattle.px_plan.specs.declared.change.Change.TheVariants.{Authed, Named, Masked, Defaulted, Made, Described, Leaves, Moves, Arrives, Released, Said, Regrouped, Asked, Answered, Gone, Ended, Forgotten}
+use Rattle.px_outcome.specs.declared.change.Change.{Change}
+use Rattle.px_outcome.specs.declared.change.Change.TheVariants.{Authed, Named, Masked, Defaulted, Made, Described, Leaves, Moves, Arrives, Released, Posted, Regrouped, Asked, Answered, Gone, Ended, Forgotten}
 use Rattle.px_subscribe.specs.Scene.{Scene, scene_changed, clients_changed, inputs_changed}
 
 -- one after the other they are the whole change
@@ -18,7 +18,7 @@ both_parts s (Leaves index) = refl
 both_parts s (Moves index to) = refl
 both_parts s (Arrives index m) = refl
 both_parts s (Released index) = refl
-both_parts s (Said index m) = refl
+both_parts s (Posted index m) = refl
 both_parts s (Regrouped sink group m) = refl
 both_parts s (Asked w) = refl
 both_parts s (Answered w) = refl

@@ -9,22 +9,22 @@ use Rattle.px_header.specs.declared.header.SinkSpec.{SinkSpec}
 use Rattle.px_model.specs.declared.data.Attr.{Attr as Attributes}
 use Rattle.px_msg.specs.declared.message.Msg.{Msg}
 use Rattle.px_msg.specs.declared.message.Msg.TheVariants.{New, Attach, Detach, Write, Cork, Flush, Trigger, Prebuf, Drain, Attr, Factors, Query}
-use Rattle.px_plan.specs.declared.input.Input.{Input}
-use Rattle.px_plan.specs.declared.input.Standing.{Standing}
-use Rattle.px_plan.specs.declared.input.Standing.TheVariants.{Settled, Moving, Leaving}
-use Rattle.px_plan.specs.declared.change.Change.{Change}
-use Rattle.px_plan.specs.declared.change.Change.TheVariants.{Authed, Named, Masked, Defaulted, Made, Described, Leaves, Moves, Arrives, Released, Said, Regrouped, Asked, Answered, Gone, Ended, Forgotten}
-use Rattle.px_plan.specs.Input.{goes_on, input_of, has_index}
+use Rattle.px_outcome.specs.declared.input.Input.{Input}
+use Rattle.px_outcome.specs.declared.input.Standing.{Standing}
+use Rattle.px_outcome.specs.declared.input.Standing.TheVariants.{Settled, Moving, Leaving}
+use Rattle.px_outcome.specs.declared.change.Change.{Change}
+use Rattle.px_outcome.specs.declared.change.Change.TheVariants.{Authed, Named, Masked, Defaulted, Made, Described, Leaves, Moves, Arrives, Released, Posted, Regrouped, Asked, Answered, Gone, Ended, Forgotten}
+use Rattle.px_outcome.specs.Input.{goes_on, input_of, has_index}
 use Rattle.px_input_table.specs.Lists.{change_first}
 use Rattle.px_input_table.specs.Inputs.{with_attr}
 use Rattle.px_reply.specs.declared.info.InputInfo.{InputInfo}
 use Rattle.px_flat.specs.declared.member.Member.{Member}
-use Rattle.px_ctl_info.specs.Infos.{told_of, member_with, inputs_with, inputs_told as infos_told}
+use Rattle.px_ctl_info.specs.Infos.{input_info_of, member_with, inputs_with, input_info_list as listed_infos}
 use Rattle.px_subscribe.specs.Announce.{announced_all}
-use Rattle.px_subscribe.specs.InfoBytes.{Telling, infos_in}
-use Rattle.px_subscribe.proofs.Telling.{none_between}
-use Rattle.px_subscribe.specs.Scene.{Scene, inputs_told, said_by, said_of, scene_changed, scene_after, is_quiet, are_quiet}
-use Rattle.px_subscribe.specs.Moments.{telling_of, subscribers_of, given_in, told_since, told_between}
+use Rattle.px_subscribe.specs.InfoBytes.{InfoLists, infos_in}
+use Rattle.px_subscribe.proofs.WhatBecame.{none_between}
+use Rattle.px_subscribe.specs.Scene.{Scene, inputs_noted, inputs_posted_to, inputs_posted_if_there, scene_changed, scene_after, is_quiet, are_quiet}
+use Rattle.px_subscribe.specs.Moments.{info_lists_of, subscribers_of, given_in, notified_since, notified_between}
 
 module _ (groups : List FlatGroup) (lists : List InputList) where
   member_same : (attr : Attributes) (x : Input) (o : Option FlatGroup) → member_with o (with_attr attr x) ≡ member_with o x
@@ -35,46 +35,46 @@ module _ (groups : List FlatGroup) (lists : List InputList) where
   info_same attr x None = refl
   info_same attr x (Some m) = refl
 
-  told_same : (attr : Attributes) (x : Input) → told_of groups lists (with_attr attr x) ≡ told_of groups lists x
-  told_same attr x =
+  infos_same : (attr : Attributes) (x : Input) → input_info_of groups lists (with_attr attr x) ≡ input_info_of groups lists x
+  infos_same attr x =
       ap (λ (l : List InputInfo). cond (goes_on x) l [])
       (info_same attr x (member_with (slice_get groups x.sink.0) (with_attr attr x)) ∙ ap (λ (o : Option Member). inputs_with lists x o) (member_same attr x (slice_get groups x.sink.0)))
 
   -- buffer attributes aren't told
-  attr_told : (index : InputId) (attr : Attributes) (xs : List Input) → infos_told groups lists (change_first (has_index index) (with_attr attr) xs) ≡ infos_told groups lists xs
-  attr_told index attr [] = refl
-  attr_told index attr (x ∷ xs) = by (attr_told index attr xs) (has_index index x)
+  infos_by_attr : (index : InputId) (attr : Attributes) (xs : List Input) → listed_infos groups lists (change_first (has_index index) (with_attr attr) xs) ≡ listed_infos groups lists xs
+  infos_by_attr index attr [] = refl
+  infos_by_attr index attr (x ∷ xs) = by (infos_by_attr index attr xs) (has_index index x)
     where
-      by : infos_told groups lists (change_first (has_index index) (with_attr attr) xs) ≡ infos_told groups lists xs → (b : Bool)
-          → infos_told groups lists (cond b (with_attr attr x ∷ xs) (x ∷ change_first (has_index index) (with_attr attr) xs)) ≡ infos_told groups lists (x ∷ xs)
-      by later true = ap (λ (first : List InputInfo). first ++ infos_told groups lists xs) (told_same attr x)
-      by later false = ap (λ (rest : List InputInfo). told_of groups lists x ++ rest) later
+      by : listed_infos groups lists (change_first (has_index index) (with_attr attr) xs) ≡ listed_infos groups lists xs → (b : Bool)
+          → listed_infos groups lists (cond b (with_attr attr x ∷ xs) (x ∷ change_first (has_index index) (with_attr attr) xs)) ≡ listed_infos groups lists (x ∷ xs)
+      by later true = ap (λ (first : List InputInfo). first ++ listed_infos groups lists xs) (infos_same attr x)
+      by later false = ap (λ (rest : List InputInfo). input_info_of groups lists x ++ rest) later
 
-  message_told : {P : Type 0} (index : InputId) (m : Msg P) (xs : List Input) → infos_told groups lists (inputs_told index m xs) ≡ infos_told groups lists xs
-  message_told index (New n) xs = refl
-  message_told index (Attach input parcel feed factors) xs = refl
-  message_told index (Detach input) xs = refl
-  message_told index (Write input seek offset frames bytes) xs = refl
-  message_told index (Cork input on) xs = refl
-  message_told index (Flush input) xs = refl
-  message_told index (Trigger input) xs = refl
-  message_told index (Prebuf input) xs = refl
-  message_told index (Drain input tag) xs = refl
-  message_told index (Attr input attr) xs = attr_told index attr xs
-  message_told index (Factors each) xs = refl
-  message_told index (Query input tag) xs = refl
+  infos_by_message : {P : Type 0} (index : InputId) (m : Msg P) (xs : List Input) → listed_infos groups lists (inputs_noted index m xs) ≡ listed_infos groups lists xs
+  infos_by_message index (New n) xs = refl
+  infos_by_message index (Attach input parcel feed factors) xs = refl
+  infos_by_message index (Detach input) xs = refl
+  infos_by_message index (Write input seek offset frames bytes) xs = refl
+  infos_by_message index (Cork input on) xs = refl
+  infos_by_message index (Flush input) xs = refl
+  infos_by_message index (Trigger input) xs = refl
+  infos_by_message index (Prebuf input) xs = refl
+  infos_by_message index (Drain input tag) xs = refl
+  infos_by_message index (Attr input attr) xs = infos_by_attr index attr xs
+  infos_by_message index (Factors each) xs = refl
+  infos_by_message index (Query input tag) xs = refl
 
-  said_by_told : {P : Type 0} (standing : Standing) (x : Input) (m : Msg P) (xs : List Input) → infos_told groups lists (said_by standing x m xs) ≡ infos_told groups lists xs
-  said_by_told Settled x m xs = message_told x.index m xs
-  said_by_told (Moving to) x m xs = message_told x.index m xs
-  said_by_told Leaving x m xs = refl
+  infos_by_posted : {P : Type 0} (standing : Standing) (x : Input) (m : Msg P) (xs : List Input) → listed_infos groups lists (inputs_posted_to standing x m xs) ≡ listed_infos groups lists xs
+  infos_by_posted Settled x m xs = infos_by_message x.index m xs
+  infos_by_posted (Moving to) x m xs = infos_by_message x.index m xs
+  infos_by_posted Leaving x m xs = refl
 
-  said_told : {P : Type 0} (o : Option Input) (m : Msg P) (xs : List Input) → infos_told groups lists (said_of o m xs) ≡ infos_told groups lists xs
-  said_told None m xs = refl
-  said_told (Some x) m xs = said_by_told x.standing x m xs
+  infos_posted : {P : Type 0} (o : Option Input) (m : Msg P) (xs : List Input) → listed_infos groups lists (inputs_posted_if_there o m xs) ≡ listed_infos groups lists xs
+  infos_posted None m xs = refl
+  infos_posted (Some x) m xs = infos_by_posted x.standing x m xs
 
 module _ (sinks : List SinkSpec) where
-  quiet_change : {P : Type 0} (s : Scene) (c : Change (Msg P) FlatGroup) → is_quiet c ≡ true → telling_of sinks (scene_changed s c) ≡ telling_of sinks s
+  quiet_change : {P : Type 0} (s : Scene) (c : Change (Msg P) FlatGroup) → is_quiet c ≡ true → info_lists_of sinks (scene_changed s c) ≡ info_lists_of sinks s
   quiet_change s (Authed conn version) e = refl
   quiet_change s (Named conn list) e = absurd (false≢true e)
   quiet_change s (Masked conn mask) e = absurd (false≢true e)
@@ -85,7 +85,7 @@ module _ (sinks : List SinkSpec) where
   quiet_change s (Moves index to) e = absurd (false≢true e)
   quiet_change s (Arrives index m) e = absurd (false≢true e)
   quiet_change s (Released index) e = refl
-  quiet_change s (Said index m) e = ap (λ inputs. record (telling_of sinks s) { inputs = inputs }) (said_told s.groups s.lists (input_of s.inputs index) m s.inputs)
+  quiet_change s (Posted index m) e = ap (λ inputs. record (info_lists_of sinks s) { inputs = inputs }) (infos_posted s.groups s.lists (input_of s.inputs index) m s.inputs)
   quiet_change s (Regrouped sink group m) e = absurd (false≢true e)
   quiet_change s (Asked w) e = refl
   quiet_change s (Answered w) e = refl
@@ -101,16 +101,16 @@ module _ (sinks : List SinkSpec) where
   second_true true b e = e
   second_true false b e = absurd (false≢true e)
 
-  quiet_changes : {P : Type 0} (s : Scene) (changes : List (Change (Msg P) FlatGroup)) → are_quiet changes ≡ true → telling_of sinks (scene_after s changes) ≡ telling_of sinks s
+  quiet_changes : {P : Type 0} (s : Scene) (changes : List (Change (Msg P) FlatGroup)) → are_quiet changes ≡ true → info_lists_of sinks (scene_after s changes) ≡ info_lists_of sinks s
   quiet_changes s [] e = refl
   quiet_changes s (c ∷ changes) e =
       quiet_changes (scene_changed s c) changes (second_true (is_quiet c) (are_quiet changes) e) ∙ quiet_change s c (first_true (is_quiet c) (are_quiet changes) e)
 
   -- where the same is told as before nobody is told anything
-  pub none_since : (clients_made : ℕ) (before : Telling) (s : Scene) → telling_of sinks s ≡ before → told_since sinks clients_made before s ≡ []
+  pub none_since : (clients_made : ℕ) (before : InfoLists) (s : Scene) → info_lists_of sinks s ≡ before → notified_since sinks clients_made before s ≡ []
   none_since clients_made before s e =
-      ap (λ t. told_since sinks clients_made t s) (sym e)
-      ∙ ap (λ events. announced_all (subscribers_of s) events) (none_between (given_in sinks clients_made s) (infos_in (telling_of sinks s)))
+      ap (λ t. notified_since sinks clients_made t s) (sym e)
+      ∙ ap (λ events. announced_all (subscribers_of s) events) (none_between (given_in sinks clients_made s) (infos_in (info_lists_of sinks s)))
 
-  pub quiet_tells_nothing : {P : Type 0} (clients_made : ℕ) (s : Scene) (changes : List (Change (Msg P) FlatGroup)) → are_quiet changes ≡ true → told_between sinks clients_made s (scene_after s changes) ≡ []
-  quiet_tells_nothing clients_made s changes e = none_since clients_made (telling_of sinks s) (scene_after s changes) (quiet_changes s changes e)
+  pub quiet_notifies_nobody : {P : Type 0} (clients_made : ℕ) (s : Scene) (changes : List (Change (Msg P) FlatGroup)) → are_quiet changes ≡ true → notified_between sinks clients_made s (scene_after s changes) ≡ []
+  quiet_notifies_nobody clients_made s changes e = none_since clients_made (info_lists_of sinks s) (scene_after s changes) (quiet_changes s changes e)

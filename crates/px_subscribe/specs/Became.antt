@@ -17,21 +17,21 @@ NO_INDEX = 0xFFFFFFFF
 
 -- what became of an object: it has come, gone, or changed where the bytes differ in which it is told
 abbrev pub became : {A : Type 0} → (A → List ℕ) → Option A → Option A → Option Kind
-became told None None = None
-became told None (Some after) = Some New
-became told (Some before) None = Some Remove
-became told (Some before) (Some after) = cond (bytes_eq (told before) (told after)) None (Some Change)
+became info_bytes None None = None
+became info_bytes None (Some after) = Some New
+became info_bytes (Some before) None = Some Remove
+became info_bytes (Some before) (Some after) = cond (bytes_eq (info_bytes before) (info_bytes after)) None (Some Change)
 
 abbrev pub event : Facility → ℕ → Kind → Event
 event facility index kind = record { facility = facility; kind = kind; index = index }
 
 -- the event of one object, where there is one
 abbrev pub events_at : {A : Type 0} → Facility → (A → List ℕ) → (ℕ → Option A) → (ℕ → Option A) → ℕ → List Event
-events_at facility told before after index = option_to_list (option_map (event facility index) (became told (before index) (after index)))
+events_at facility info_bytes before after index = option_to_list (option_map (event facility index) (became info_bytes (before index) (after index)))
 
 -- those of all objects of a facility, in rising index
 abbrev pub events_of : {A : Type 0} → Facility → (A → List ℕ) → (ℕ → Option A) → (ℕ → Option A) → ℕ → List Event
-events_of facility told before after given = flat_map (events_at facility told before after) (range_with_len 0 given)
+events_of facility info_bytes before after given = flat_map (events_at facility info_bytes before after) (range_with_len 0 given)
 
 abbrev pub server_events : Infos → Infos → List Event
 server_events before after = option_to_list (option_map (event Server NO_INDEX) (became (server_reply 0) before.server after.server))
@@ -53,7 +53,7 @@ abbrev pub about : Facility → ℕ → List Event → List Event
 about facility index events = filter (is_about facility index) events
 
 -- the events about an object are the one that says what became of it, or none
-pub record TellWhatBecame (given : Given) (before after : Infos) : Type 0 where
+pub record SayWhatBecame (given : Given) (before after : Infos) : Type 0 where
   pub sinks : (i : ℕ) → i < given.sinks → about Sink i (events_between given before after) ≡ events_at Sink (with_sink (reply_to 0)) before.sinks after.sinks i
   pub inputs : (i : ℕ) → i < given.inputs → about Input i (events_between given before after) ≡ events_at Input (with_input (reply_to 0)) before.inputs after.inputs i
   pub clients : (i : ℕ) → i < given.clients → about Client i (events_between given before after) ≡ events_at Client (with_client (reply_to 0)) before.clients after.clients i

@@ -12,7 +12,7 @@ use Rattle.px_subscribe.specs.declared.event.Facility.{Facility}
 use Rattle.px_subscribe.specs.declared.event.Facility.TheVariants.{Sink, Input, Client}
 use Rattle.px_subscribe.specs.declared.event.Event.{Event}
 use Rattle.px_subscribe.specs.declared.between.Counts.{Counts}
-use Rattle.px_subscribe.specs.declared.info_bytes.Told.{Told}
+use Rattle.px_subscribe.specs.declared.info_bytes.InfoBytes.{InfoBytes}
 use Rattle.px_subscribe.specs.Became.{events_at, events_of}
 use Rattle.px_subscribe.specs.Infos.{Infos, Given}
 
@@ -29,39 +29,39 @@ client_at infos i = find (λ c. nat_eq (ClientInfo.index c) i) infos
 
 -- ---- what a packet can say: names without a zero byte, and up to 32 channels
 
-abbrev pub IsSinkTold : SinkInfo → Type 0
-IsSinkTold info = IsTrue (is_text info.name) × (info.spec.channels ≤ 32)
+abbrev pub IsWritableSink : SinkInfo → Type 0
+IsWritableSink info = IsTrue (is_text info.name) × (info.spec.channels ≤ 32)
 
-abbrev pub IsInputTold : InputInfo → Type 0
-IsInputTold info = IsText info.name × (info.spec.channels ≤ 32)
+abbrev pub IsWritableInput : InputInfo → Type 0
+IsWritableInput info = IsText info.name × (info.spec.channels ≤ 32)
 
-abbrev pub IsClientTold : ClientInfo → Type 0
-IsClientTold info = IsText info.name
+abbrev pub IsWritableClient : ClientInfo → Type 0
+IsWritableClient info = IsText info.name
 
-abbrev pub IsServerTold : ServerInfo → Type 0
-IsServerTold info = IsTrue (is_text info.name) × (info.spec.channels ≤ 32)
+abbrev pub IsWritableServer : ServerInfo → Type 0
+IsWritableServer info = IsTrue (is_text info.name) × (info.spec.channels ≤ 32)
 
 -- ---- all that is told at one moment
 
-pub record Telling : Type 0 where
+pub record InfoLists : Type 0 where
   pub sinks : List SinkInfo
   pub inputs : List InputInfo
   pub clients : List ClientInfo
   pub server : Option ServerInfo
 
-abbrev pub infos_in : Telling → Infos
-infos_in told = record {
-  sinks = sink_at told.sinks;
-  inputs = input_at told.inputs;
-  clients = client_at told.clients;
-  server = told.server;
+abbrev pub infos_in : InfoLists → Infos
+infos_in infos = record {
+  sinks = sink_at infos.sinks;
+  inputs = input_at infos.inputs;
+  clients = client_at infos.clients;
+  server = infos.server;
 }
 
-pub record IsTelling (told : Telling) : Type 0 where
-  pub sinks : All IsSinkTold told.sinks
-  pub inputs : All IsInputTold told.inputs
-  pub clients : All IsClientTold told.clients
-  pub server : IfSome told.server IsServerTold
+pub record AreWritable (infos : InfoLists) : Type 0 where
+  pub sinks : All IsWritableSink infos.sinks
+  pub inputs : All IsWritableInput infos.inputs
+  pub clients : All IsWritableClient infos.clients
+  pub server : IfSome infos.server IsWritableServer
 
 -- how many indices were given
 abbrev pub given_by : Counts → Given
@@ -79,30 +79,30 @@ clients_events before after given = events_of Client (with_client (reply_to 0)) 
 
 -- ---- each as an index and bytes
 
-abbrev pub sink_told : SinkInfo → Told
-sink_told info = record { index = info.index; bytes = with_sink (reply_to 0) info }
+abbrev pub sink_info_bytes : SinkInfo → InfoBytes
+sink_info_bytes info = record { index = info.index; bytes = with_sink (reply_to 0) info }
 
-abbrev pub input_told : InputInfo → Told
-input_told info = record { index = info.index; bytes = with_input (reply_to 0) info }
+abbrev pub input_info_bytes : InputInfo → InfoBytes
+input_info_bytes info = record { index = info.index; bytes = with_input (reply_to 0) info }
 
-abbrev pub client_told : ClientInfo → Told
-client_told info = record { index = info.index; bytes = with_client (reply_to 0) info }
+abbrev pub client_info_bytes : ClientInfo → InfoBytes
+client_info_bytes info = record { index = info.index; bytes = with_client (reply_to 0) info }
 
-abbrev pub is_at : ℕ → Told → Bool
+abbrev pub is_at : ℕ → InfoBytes → Bool
 is_at i t = nat_eq t.index i
 
-abbrev pub bytes_at : List Told → ℕ → Option (List ℕ)
-bytes_at told i = option_map (λ t. t.bytes) (find (is_at i) told)
+abbrev pub bytes_at : List InfoBytes → ℕ → Option (List ℕ)
+bytes_at infos i = option_map (λ t. t.bytes) (find (is_at i) infos)
 
 -- the events of the objects of a facility
-abbrev pub told_events : Facility → List Told → List Told → ℕ → List Event
-told_events facility before after given = events_of facility (λ bytes. bytes) (bytes_at before) (bytes_at after) given
+abbrev pub events_in_bytes : Facility → List InfoBytes → List InfoBytes → ℕ → List Event
+events_in_bytes facility before after given = events_of facility (λ bytes. bytes) (bytes_at before) (bytes_at after) given
 
 -- ---- the least index from one on, or the end where none lies below it
 
-abbrev pub nearer : ℕ → Told → ℕ → ℕ
+abbrev pub nearer : ℕ → InfoBytes → ℕ → ℕ
 nearer from t end = cond (nat_le from t.index && nat_lt t.index end) t.index end
 
-abbrev pub next_in : List Told → ℕ → ℕ → ℕ
+abbrev pub next_in : List InfoBytes → ℕ → ℕ → ℕ
 next_in [] from end = end
-next_in (t ∷ told) from end = next_in told from (nearer from t end)
+next_in (t ∷ infos) from end = next_in infos from (nearer from t end)

@@ -12,13 +12,13 @@ use Rattle.px_names.specs.InputLists.{with_list_of, without_list_of}
 use Rattle.px_flat.specs.FlatVolume.{FlatGroup}
 use Rattle.px_msg.specs.declared.message.Msg.{Msg}
 use Rattle.px_msg.specs.declared.message.Msg.TheVariants.{New, Attach, Detach, Write, Cork, Flush, Trigger, Prebuf, Drain, Attr, Factors, Query}
-use Rattle.px_plan.specs.declared.input.Connection.{Connection}
-use Rattle.px_plan.specs.declared.input.Input.{Input}
-use Rattle.px_plan.specs.declared.input.Standing.{Standing}
-use Rattle.px_plan.specs.declared.input.Standing.TheVariants.{Settled, Moving, Leaving}
-use Rattle.px_plan.specs.declared.change.Change.{Change}
-use Rattle.px_plan.specs.declared.change.Change.TheVariants.{Authed, Named, Masked, Defaulted, Made, Described, Leaves, Moves, Arrives, Released, Said, Regrouped, Asked, Answered, Gone, Ended, Forgotten}
-use Rattle.px_plan.specs.Input.{has_number, has_index, input_of}
+use Rattle.px_outcome.specs.declared.input.Connection.{Connection}
+use Rattle.px_outcome.specs.declared.input.Input.{Input}
+use Rattle.px_outcome.specs.declared.input.Standing.{Standing}
+use Rattle.px_outcome.specs.declared.input.Standing.TheVariants.{Settled, Moving, Leaving}
+use Rattle.px_outcome.specs.declared.change.Change.{Change}
+use Rattle.px_outcome.specs.declared.change.Change.TheVariants.{Authed, Named, Masked, Defaulted, Made, Described, Leaves, Moves, Arrives, Released, Posted, Regrouped, Asked, Answered, Gone, Ended, Forgotten}
+use Rattle.px_outcome.specs.Input.{has_number, has_index, input_of}
 use Rattle.px_input_table.specs.Lists.{change_first, drop_first}
 use Rattle.px_input_table.specs.Inputs.{leaving, with_attr, moving_to, arrived_at}
 use Rattle.px_input_table.specs.Connections.{authed, marked, with_streams}
@@ -73,28 +73,28 @@ come_of None inputs = inputs
 come_of (Some x) inputs = come_by x.standing x inputs
 
 -- new buffer attributes that an input is told of are its own
-abbrev pub inputs_told : {P : Type 0} → InputId → Msg P → List Input → List Input
-inputs_told index (New n) inputs = inputs
-inputs_told index (Attach input parcel feed factors) inputs = inputs
-inputs_told index (Detach input) inputs = inputs
-inputs_told index (Write input seek offset frames bytes) inputs = inputs
-inputs_told index (Cork input on) inputs = inputs
-inputs_told index (Flush input) inputs = inputs
-inputs_told index (Trigger input) inputs = inputs
-inputs_told index (Prebuf input) inputs = inputs
-inputs_told index (Drain input tag) inputs = inputs
-inputs_told index (Attr input attr) inputs = change_first (has_index index) (with_attr attr) inputs
-inputs_told index (Factors each) inputs = inputs
-inputs_told index (Query input tag) inputs = inputs
+abbrev pub inputs_noted : {P : Type 0} → InputId → Msg P → List Input → List Input
+inputs_noted index (New n) inputs = inputs
+inputs_noted index (Attach input parcel feed factors) inputs = inputs
+inputs_noted index (Detach input) inputs = inputs
+inputs_noted index (Write input seek offset frames bytes) inputs = inputs
+inputs_noted index (Cork input on) inputs = inputs
+inputs_noted index (Flush input) inputs = inputs
+inputs_noted index (Trigger input) inputs = inputs
+inputs_noted index (Prebuf input) inputs = inputs
+inputs_noted index (Drain input tag) inputs = inputs
+inputs_noted index (Attr input attr) inputs = change_first (has_index index) (with_attr attr) inputs
+inputs_noted index (Factors each) inputs = inputs
+inputs_noted index (Query input tag) inputs = inputs
 
-abbrev pub said_by : {P : Type 0} → Standing → Input → Msg P → List Input → List Input
-said_by Settled x m inputs = inputs_told x.index m inputs
-said_by (Moving to) x m inputs = inputs_told x.index m inputs
-said_by Leaving x m inputs = inputs
+abbrev pub inputs_posted_to : {P : Type 0} → Standing → Input → Msg P → List Input → List Input
+inputs_posted_to Settled x m inputs = inputs_noted x.index m inputs
+inputs_posted_to (Moving to) x m inputs = inputs_noted x.index m inputs
+inputs_posted_to Leaving x m inputs = inputs
 
-abbrev pub said_of : {P : Type 0} → Option Input → Msg P → List Input → List Input
-said_of None m inputs = inputs
-said_of (Some x) m inputs = said_by x.standing x m inputs
+abbrev pub inputs_posted_if_there : {P : Type 0} → Option Input → Msg P → List Input → List Input
+inputs_posted_if_there None m inputs = inputs
+inputs_posted_if_there (Some x) m inputs = inputs_posted_to x.standing x m inputs
 
 -- ---- the scene after a change
 
@@ -116,7 +116,7 @@ scene_changed s (Leaves index) = record s { inputs = left_of (input_of s.inputs 
 scene_changed s (Moves index to) = record s { inputs = sent_of to (input_of s.inputs index) s.inputs }
 scene_changed s (Arrives index m) = scene_arrived index s
 scene_changed s (Released index) = s
-scene_changed s (Said index m) = record s { inputs = said_of (input_of s.inputs index) m s.inputs }
+scene_changed s (Posted index m) = record s { inputs = inputs_posted_if_there (input_of s.inputs index) m s.inputs }
 scene_changed s (Regrouped sink group m) = record s { groups = set s.groups sink.0 group }
 scene_changed s (Asked w) = s
 scene_changed s (Answered w) = s
@@ -160,7 +160,7 @@ is_quiet (Leaves index) = false
 is_quiet (Moves index to) = false
 is_quiet (Arrives index m) = false
 is_quiet (Released index) = true
-is_quiet (Said index m) = true
+is_quiet (Posted index m) = true
 is_quiet (Regrouped sink group m) = false
 is_quiet (Asked w) = true
 is_quiet (Answered w) = true

@@ -6,7 +6,7 @@ ghost use Rattle.px_subscribe.specs.declared.event.Event.{Event};
 ghost use Rattle.px_subscribe.specs.Announce.{announced, announced_all};
 
 use crate::event::{Event, hears};
-use px_plan::Sending;
+use px_outcome::Sending;
 use px_types::{ConnId, Mem};
 use std::alloc::Global;
 
@@ -18,7 +18,7 @@ pub struct Subscriber {
 }
 
 // Notifies one subscriber, where its mask has the facility of `event`.
-fn tell_one(alloc: Global, sendings: &mut Vec<Sending>, one: &Subscriber, event: Event) -> Mem<()>
+fn notify_one(alloc: Global, sendings: &mut Vec<Sending>, one: &Subscriber, event: Event) -> Mem<()>
     ensures { OnOk result ((more : List Subscriber) → sendings.new.items ++ announced more event ≡ sendings.old.items ++ announced (one.now ∷ more) event) }
 {
     if hears(one.mask, event.facility) {
@@ -41,7 +41,7 @@ fn announce(
     ensures { OnOk result (sendings.new.items ≡ sendings.old.items ++ announced subscribers.now event) }
 {
     for one in subscribers {
-        tell_one(alloc, sendings, one, event)?;
+        notify_one(alloc, sendings, one, event)?;
     }
     Ok(())
 }

@@ -7,10 +7,12 @@ ghost use Rattle.px_subscribe.specs.declared.event.Facility.TheVariants.{Sink, I
 ghost use Rattle.std.specs.Option.{option_map};
 ghost use Rattle.px_subscribe.specs.Infos.{Given};
 ghost use Rattle.px_subscribe.specs.Became.{NO_INDEX, became, event, events_at, events_of, events_between};
-ghost use Rattle.px_subscribe.specs.InfoBytes.{IsSinkTold, IsInputTold, IsClientTold, IsServerTold, IsTelling, infos_in, given_by, sinks_events, inputs_events, clients_events, bytes_at, told_events};
+ghost use Rattle.px_subscribe.specs.InfoBytes.{IsWritableSink, IsWritableInput, IsWritableClient, IsWritableServer, AreWritable, infos_in, given_by, sinks_events, inputs_events, clients_events, bytes_at, events_in_bytes};
 
 use crate::event::{Event, Facility, Kind};
-use crate::info_bytes::{Told, bytes_at, clients_told, inputs_told, next_in, sinks_told};
+use crate::info_bytes::{
+    InfoBytes, bytes_at, clients_in_bytes, inputs_in_bytes, next_in, sinks_in_bytes,
+};
 use px_reply::{ClientInfo, InputInfo, ServerInfo, SinkInfo};
 use px_tag::Packet;
 use px_types::limits::{NO_INDEX, PROTOCOL_VERSION};
@@ -28,9 +30,9 @@ pub struct Moment {
 }
 
 impl Model for Moment {
-    ghost use Rattle.px_subscribe.specs.InfoBytes.{Telling};
+    ghost use Rattle.px_subscribe.specs.InfoBytes.{InfoLists};
 
-    ghost Value = { Telling };
+    ghost Value = { InfoLists };
 
     ghost view = { λ m. record { sinks = m.sinks.items; inputs = m.inputs.items; clients = m.clients.items; server = m.server } };
 }
@@ -69,8 +71,8 @@ fn became(before: Option<&[u8]>, after: Option<&[u8]>) -> Option<Kind>
 fn add_at(
     events: &mut Vec<Event>,
     facility: Facility,
-    before: &[Told],
-    after: &[Told],
+    before: &[InfoBytes],
+    after: &[InfoBytes],
     index: u32,
 ) -> Mem<()>
     ensures { OnOk result (events.new.items ≡ events.old.items ++ events_at facility (λ bytes. bytes) (bytes_at before.now) (bytes_at after.now) index) }
@@ -89,11 +91,11 @@ fn add_at(
 fn add_all(
     events: &mut Vec<Event>,
     facility: Facility,
-    before: &[Told],
-    after: &[Told],
+    before: &[InfoBytes],
+    after: &[InfoBytes],
     given: u32,
 ) -> Mem<()>
-    ensures { OnOk result (events.new.items ≡ events.old.items ++ told_events facility before.now after.now given) }
+    ensures { OnOk result (events.new.items ≡ events.old.items ++ events_in_bytes facility before.now after.now given) }
 {
     let mut from = 0;
     while from < given {
@@ -108,9 +110,9 @@ fn add_all(
 }
 
 // The bytes of the server's info, in a reply.
-fn server_told(alloc: Global, info: &Option<ServerInfo>) -> Mem<Option<Packet>>
-    requires { IfSome info.now IsServerTold }
-    ensures { IfOk result (λ told. told ≡ option_map (server_reply 0) info.now) }
+fn server_in_bytes(alloc: Global, info: &Option<ServerInfo>) -> Mem<Option<Packet>>
+    requires { IfSome info.now IsWritableServer }
+    ensures { IfOk result (λ bytes. bytes ≡ option_map (server_reply 0) info.now) }
 {
     match info {
         None => Ok(None),
@@ -138,12 +140,12 @@ fn add_server(
     before: &Option<ServerInfo>,
     after: &Option<ServerInfo>,
 ) -> Mem<()>
-    requires before { IfSome before.now IsServerTold }
-    requires after { IfSome after.now IsServerTold }
+    requires before { IfSome before.now IsWritableServer }
+    requires after { IfSome after.now IsWritableServer }
     ensures { OnOk result (events.new.items ≡ events.old.items ++ option_to_list (option_map (event Server NO_INDEX) (became (server_reply 0) before.now after.now))) }
 {
-    let before = server_told(alloc, before)?;
-    let after = server_told(alloc, after)?;
+    let before = server_in_bytes(alloc, before)?;
+    let after = server_in_bytes(alloc, after)?;
     if let Some(kind) = became(slice_of(&before), slice_of(&after)) {
         events.push(Event {
             facility: Facility::Server,
@@ -155,7 +157,7 @@ fn add_server(
 }
 
 // Those of all sinks.
-#[tactic(auto, using(crate::proofs::Nearest::sinks_told_so))]
+#[tactic(auto, using(crate::proofs::Nearest::sinks_in_bytes_so))]
 fn add_sinks(
     alloc: Global,
     events: &mut Vec<Event>,
@@ -163,18 +165,18 @@ fn add_sinks(
     after: &[SinkInfo],
     given: u32,
 ) -> Mem<()>
-    requires before { All IsSinkTold before.now }
-    requires after { All IsSinkTold after.now }
+    requires before { All IsWritableSink before.now }
+    requires after { All IsWritableSink after.now }
     ensures { OnOk result (events.new.items ≡ events.old.items ++ sinks_events before.now after.now given) }
 {
-    let before = sinks_told(alloc, before)?;
-    let after = sinks_told(alloc, after)?;
+    let before = sinks_in_bytes(alloc, before)?;
+    let after = sinks_in_bytes(alloc, after)?;
     add_all(events, Facility::Sink, &before, &after, given)?;
     Ok(())
 }
 
 // Those of all inputs.
-#[tactic(auto, using(crate::proofs::Nearest::inputs_told_so))]
+#[tactic(auto, using(crate::proofs::Nearest::inputs_in_bytes_so))]
 fn add_inputs(
     alloc: Global,
     events: &mut Vec<Event>,
@@ -182,18 +184,18 @@ fn add_inputs(
     after: &[InputInfo],
     given: u32,
 ) -> Mem<()>
-    requires before { All IsInputTold before.now }
-    requires after { All IsInputTold after.now }
+    requires before { All IsWritableInput before.now }
+    requires after { All IsWritableInput after.now }
     ensures { OnOk result (events.new.items ≡ events.old.items ++ inputs_events before.now after.now given) }
 {
-    let before = inputs_told(alloc, before)?;
-    let after = inputs_told(alloc, after)?;
+    let before = inputs_in_bytes(alloc, before)?;
+    let after = inputs_in_bytes(alloc, after)?;
     add_all(events, Facility::Input, &before, &after, given)?;
     Ok(())
 }
 
 // Those of all clients.
-#[tactic(auto, using(crate::proofs::Nearest::clients_told_so))]
+#[tactic(auto, using(crate::proofs::Nearest::clients_in_bytes_so))]
 fn add_clients(
     alloc: Global,
     events: &mut Vec<Event>,
@@ -201,12 +203,12 @@ fn add_clients(
     after: &[ClientInfo],
     given: u32,
 ) -> Mem<()>
-    requires before { All IsClientTold before.now }
-    requires after { All IsClientTold after.now }
+    requires before { All IsWritableClient before.now }
+    requires after { All IsWritableClient after.now }
     ensures { OnOk result (events.new.items ≡ events.old.items ++ clients_events before.now after.now given) }
 {
-    let before = clients_told(alloc, before)?;
-    let after = clients_told(alloc, after)?;
+    let before = clients_in_bytes(alloc, before)?;
+    let after = clients_in_bytes(alloc, after)?;
     add_all(events, Facility::Client, &before, &after, given)?;
     Ok(())
 }
@@ -220,8 +222,8 @@ pub fn events_between(
     before: &Moment,
     after: &Moment,
 ) -> Mem<Vec<Event>>
-    requires before { IsTelling before.now }
-    requires after { IsTelling after.now }
+    requires before { AreWritable before.now }
+    requires after { AreWritable after.now }
     ensures { IfOk result (λ events. events.items ≡ events_between (given_by given) (infos_in before.now) (infos_in after.now)) }
 {
     let mut events = Vec::new(alloc);

@@ -3,7 +3,7 @@ ghost use Rattle.std.specs.Prelude.{◌≡◌, ◌++◌, ◌∷◌, [], IfOk, On
 
 use px_flat::Group;
 use px_names::{Client, InputLists};
-use px_plan::{Connection, Input};
+use px_outcome::{Connection, Input};
 use px_tag::PropList;
 use px_types::{Mem, NoMemory};
 use std::alloc::Global;

@@ -5,7 +5,7 @@ ghost use Rattle.std.specs.Option.{option_map};
 ghost use Rattle.px_reply.specs.declared.info.SinkInfo.{SinkInfo};
 ghost use Rattle.px_reply.specs.declared.info.InputInfo.{InputInfo};
 ghost use Rattle.px_reply.specs.declared.info.ClientInfo.{ClientInfo};
-ghost use Rattle.px_subscribe.specs.InfoBytes.{IsSinkTold, IsInputTold, IsClientTold, sink_told, input_told, client_told, bytes_at, next_in};
+ghost use Rattle.px_subscribe.specs.InfoBytes.{IsWritableSink, IsWritableInput, IsWritableClient, sink_info_bytes, input_info_bytes, client_info_bytes, bytes_at, next_in};
 
 use px_reply::{ClientInfo, InputInfo, SinkInfo};
 use px_tag::Packet;
@@ -15,18 +15,18 @@ use std::alloc::Global;
 
 /// An object's index, and the bytes of its info.
 #[derive(Drop)]
-pub(crate) struct Told {
+pub(crate) struct InfoBytes {
     pub(crate) index: u32,
     pub(crate) bytes: Packet,
 }
 
 // A sink.
-fn sink_told(alloc: Global, info: &SinkInfo) -> Mem<Told>
-    requires { IsSinkTold info.now }
-    ensures { IfOk result (λ told. told ≡ sink_told info.now) }
+fn sink_info_bytes(alloc: Global, info: &SinkInfo) -> Mem<InfoBytes>
+    requires { IsWritableSink info.now }
+    ensures { IfOk result (λ infos. infos ≡ sink_info_bytes info.now) }
 {
     match px_reply::sink_info(alloc, 0, PROTOCOL_VERSION, info) {
-        Ok(bytes) => Ok(Told {
+        Ok(bytes) => Ok(InfoBytes {
             index: info.index,
             bytes,
         }),
@@ -35,12 +35,12 @@ fn sink_told(alloc: Global, info: &SinkInfo) -> Mem<Told>
 }
 
 // An input.
-fn input_told(alloc: Global, info: &InputInfo) -> Mem<Told>
-    requires { IsInputTold info.now }
-    ensures { IfOk result (λ told. told ≡ input_told info.now) }
+fn input_info_bytes(alloc: Global, info: &InputInfo) -> Mem<InfoBytes>
+    requires { IsWritableInput info.now }
+    ensures { IfOk result (λ infos. infos ≡ input_info_bytes info.now) }
 {
     match px_reply::input_info(alloc, 0, info) {
-        Ok(bytes) => Ok(Told {
+        Ok(bytes) => Ok(InfoBytes {
             index: info.index,
             bytes,
         }),
@@ -49,12 +49,12 @@ fn input_told(alloc: Global, info: &InputInfo) -> Mem<Told>
 }
 
 // A client.
-fn client_told(alloc: Global, info: &ClientInfo) -> Mem<Told>
-    requires { IsClientTold info.now }
-    ensures { IfOk result (λ told. told ≡ client_told info.now) }
+fn client_info_bytes(alloc: Global, info: &ClientInfo) -> Mem<InfoBytes>
+    requires { IsWritableClient info.now }
+    ensures { IfOk result (λ infos. infos ≡ client_info_bytes info.now) }
 {
     match px_reply::client_info(alloc, 0, info) {
-        Ok(bytes) => Ok(Told {
+        Ok(bytes) => Ok(InfoBytes {
             index: info.index,
             bytes,
         }),
@@ -63,18 +63,18 @@ fn client_told(alloc: Global, info: &ClientInfo) -> Mem<Told>
 }
 
 // One more sink.
-fn add_sink(alloc: Global, all: &mut Vec<Told>, info: &SinkInfo) -> Mem<()>
-    requires { IsSinkTold info.now }
-    ensures { OnOk result ((more : List SinkInfo) → all.new.items ++ map sink_told more ≡ all.old.items ++ map sink_told (info.now ∷ more)) }
+fn add_sink(alloc: Global, all: &mut Vec<InfoBytes>, info: &SinkInfo) -> Mem<()>
+    requires { IsWritableSink info.now }
+    ensures { OnOk result ((more : List SinkInfo) → all.new.items ++ map sink_info_bytes more ≡ all.old.items ++ map sink_info_bytes (info.now ∷ more)) }
 {
-    all.push(sink_told(alloc, info)?)?;
+    all.push(sink_info_bytes(alloc, info)?)?;
     Ok(())
 }
 
 /// Sinks, in their order.
-pub(crate) fn sinks_told(alloc: Global, infos: &[SinkInfo]) -> Mem<Vec<Told>>
-    requires { All IsSinkTold infos.now }
-    ensures { IfOk result (λ all. all.items ≡ map sink_told infos.now) }
+pub(crate) fn sinks_in_bytes(alloc: Global, infos: &[SinkInfo]) -> Mem<Vec<InfoBytes>>
+    requires { All IsWritableSink infos.now }
+    ensures { IfOk result (λ all. all.items ≡ map sink_info_bytes infos.now) }
 {
     let mut all = Vec::new(alloc);
     for info in infos {
@@ -84,18 +84,18 @@ pub(crate) fn sinks_told(alloc: Global, infos: &[SinkInfo]) -> Mem<Vec<Told>>
 }
 
 // One more input.
-fn add_input(alloc: Global, all: &mut Vec<Told>, info: &InputInfo) -> Mem<()>
-    requires { IsInputTold info.now }
-    ensures { OnOk result ((more : List InputInfo) → all.new.items ++ map input_told more ≡ all.old.items ++ map input_told (info.now ∷ more)) }
+fn add_input(alloc: Global, all: &mut Vec<InfoBytes>, info: &InputInfo) -> Mem<()>
+    requires { IsWritableInput info.now }
+    ensures { OnOk result ((more : List InputInfo) → all.new.items ++ map input_info_bytes more ≡ all.old.items ++ map input_info_bytes (info.now ∷ more)) }
 {
-    all.push(input_told(alloc, info)?)?;
+    all.push(input_info_bytes(alloc, info)?)?;
     Ok(())
 }
 
 /// Inputs, in their order.
-pub(crate) fn inputs_told(alloc: Global, infos: &[InputInfo]) -> Mem<Vec<Told>>
-    requires { All IsInputTold infos.now }
-    ensures { IfOk result (λ all. all.items ≡ map input_told infos.now) }
+pub(crate) fn inputs_in_bytes(alloc: Global, infos: &[InputInfo]) -> Mem<Vec<InfoBytes>>
+    requires { All IsWritableInput infos.now }
+    ensures { IfOk result (λ all. all.items ≡ map input_info_bytes infos.now) }
 {
     let mut all = Vec::new(alloc);
     for info in infos {
@@ -105,18 +105,18 @@ pub(crate) fn inputs_told(alloc: Global, infos: &[InputInfo]) -> Mem<Vec<Told>>
 }
 
 // One more client.
-fn add_client(alloc: Global, all: &mut Vec<Told>, info: &ClientInfo) -> Mem<()>
-    requires { IsClientTold info.now }
-    ensures { OnOk result ((more : List ClientInfo) → all.new.items ++ map client_told more ≡ all.old.items ++ map client_told (info.now ∷ more)) }
+fn add_client(alloc: Global, all: &mut Vec<InfoBytes>, info: &ClientInfo) -> Mem<()>
+    requires { IsWritableClient info.now }
+    ensures { OnOk result ((more : List ClientInfo) → all.new.items ++ map client_info_bytes more ≡ all.old.items ++ map client_info_bytes (info.now ∷ more)) }
 {
-    all.push(client_told(alloc, info)?)?;
+    all.push(client_info_bytes(alloc, info)?)?;
     Ok(())
 }
 
 /// Clients, in their order.
-pub(crate) fn clients_told(alloc: Global, infos: &[ClientInfo]) -> Mem<Vec<Told>>
-    requires { All IsClientTold infos.now }
-    ensures { IfOk result (λ all. all.items ≡ map client_told infos.now) }
+pub(crate) fn clients_in_bytes(alloc: Global, infos: &[ClientInfo]) -> Mem<Vec<InfoBytes>>
+    requires { All IsWritableClient infos.now }
+    ensures { IfOk result (λ all. all.items ≡ map client_info_bytes infos.now) }
 {
     let mut all = Vec::new(alloc);
     for info in infos {
@@ -126,21 +126,21 @@ pub(crate) fn clients_told(alloc: Global, infos: &[ClientInfo]) -> Mem<Vec<Told>
 }
 
 /// The bytes of the object with an index. Takes no memory.
-pub(crate) fn bytes_at(told: &[Told], index: u32) -> Option<&[u8]>
-    ensures { option_map (λ bytes. bytes.now) result ≡ bytes_at told.now index }
+pub(crate) fn bytes_at(infos: &[InfoBytes], index: u32) -> Option<&[u8]>
+    ensures { option_map (λ bytes. bytes.now) result ≡ bytes_at infos.now index }
 {
-    match told.iter().find(|t| t.index == index) {
+    match infos.iter().find(|t| t.index == index) {
         None => None,
         Some(t) => Some(t.bytes.as_slice()),
     }
 }
 
 /// The least index from `from` on among these, or `end` where none lies below it. Takes no memory.
-pub(crate) fn next_in(told: &[Told], from: u32, end: u32) -> u32
-    ensures { result ≡ next_in told.now from end }
+pub(crate) fn next_in(infos: &[InfoBytes], from: u32, end: u32) -> u32
+    ensures { result ≡ next_in infos.now from end }
 {
     let mut next = end;
-    for t in told {
+    for t in infos {
         if from <= t.index && t.index < next {
             next = t.index;
         }

@@ -16,8 +16,8 @@ mod scene;
 pub use announce::{Subscriber, announce_all};
 pub use between::{Counts, Moment, events_between};
 pub use event::{Event, Facility, Kind, hears};
-pub use laws::events_tell_what_became;
+pub use laws::events_say_what_became;
 pub use quiet::{
-    are_deaf, are_quiet, nobody_hears, quiet_changes_tell_nothing, the_deaf_are_told_nothing,
+    are_deaf, are_quiet, nobody_hears, quiet_changes_notify_nobody, the_deaf_are_not_notified,
 };
 pub use scene::Scene;

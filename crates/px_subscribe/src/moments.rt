@@ -2,25 +2,25 @@
 
 ghost use Rattle.std.specs.Prelude.{◌≡◌, ◌≤◌, ◌++◌, ◌∷◌, [], List, All, true, IfOk, IfSome, OnOk, option_map, length};
 ghost use Rattle.px_names.specs.declared.client.Client.{Client};
-ghost use Rattle.px_plan.specs.declared.input.Connection.{Connection};
-ghost use Rattle.px_plan.specs.declared.input.Input.{Input};
+ghost use Rattle.px_outcome.specs.declared.input.Connection.{Connection};
+ghost use Rattle.px_outcome.specs.declared.input.Input.{Input};
 ghost use Rattle.px_header.specs.HeaderRules.{AreSinks};
 ghost use Rattle.px_names.specs.Clients.{client_on, mask_of};
 ghost use Rattle.px_ctl_info.specs.Sinks.{server_of};
 ghost use Rattle.px_sinks.specs.Sinks.{target_at};
-ghost use Rattle.px_subscribe.specs.InfoBytes.{IsTelling, IsServerTold};
+ghost use Rattle.px_subscribe.specs.InfoBytes.{AreWritable, IsWritableServer};
 ghost use Rattle.px_subscribe.specs.Scene.{scene_after, scene_arrived, scene_joined};
-ghost use Rattle.px_subscribe.specs.Moments.{telling_of, subscriber_of, subscribers_in, subscribers_of, told_since, told_between};
+ghost use Rattle.px_subscribe.specs.Moments.{info_lists_of, subscriber_of, subscribers_in, subscribers_of, notified_since, notified_between};
 
 use crate::announce::{Subscriber, announce_all};
 use crate::between::{Counts, Moment, events_between};
 use crate::scene::Scene;
-use px_ctl_info::{clients_told, inputs_told, server_of, sinks_told};
+use px_ctl_info::{client_info_list, input_info_list, server_of, sink_info_list};
 use px_flat::Group;
 use px_header::SinkSpec;
 use px_msg::Msg;
 use px_names::Client;
-use px_plan::{Change, Connection, Input, Sending};
+use px_outcome::{Change, Connection, Input, Sending};
 use px_reply::ServerInfo;
 use px_sinks::{target_at, targets_of};
 use px_types::limits::MAX_CHANNELS;
@@ -45,10 +45,10 @@ fn are_few(inputs: &[Input]) -> bool
 }
 
 // The info of the server.
-fn server_told(alloc: Global, sinks: &[SinkSpec], fallback: SinkId) -> Mem<Option<ServerInfo>>
+fn server_info(alloc: Global, sinks: &[SinkSpec], fallback: SinkId) -> Mem<Option<ServerInfo>>
     requires { AreSinks [] sinks.now }
     ensures value { IfOk result (λ info. info ≡ option_map server_of (target_at sinks.now fallback)) }
-    ensures told { IfOk result (λ info. IfSome info IsServerTold) }
+    ensures writable { IfOk result (λ info. IfSome info IsWritableServer) }
 {
     match target_at(alloc, sinks, fallback)? {
         None => Ok(None),
@@ -106,18 +106,18 @@ impl Scene {
     /// no sink plays, has no info: then there is no answer, as for want of memory.
     pub fn moment(&self, alloc: Global, sinks: &[SinkSpec]) -> Mem<Moment>
         requires { AreSinks [] sinks.now }
-        ensures value { IfOk result (λ told. told ≡ telling_of sinks.now self.now) }
-        ensures told { IfOk result IsTelling }
+        ensures value { IfOk result (λ notified. notified ≡ info_lists_of sinks.now self.now) }
+        ensures writable { IfOk result AreWritable }
     {
         if !are_few(&self.inputs) {
             return Err(NoMemory);
         }
         let targets = targets_of(alloc, sinks)?;
         Ok(Moment {
-            sinks: sinks_told(alloc, &targets, &self.groups)?,
-            inputs: inputs_told(alloc, &self.inputs, &self.groups, &self.lists)?,
-            clients: clients_told(alloc, &self.clients)?,
-            server: server_told(alloc, sinks, self.fallback)?,
+            sinks: sink_info_list(alloc, &targets, &self.groups)?,
+            inputs: input_info_list(alloc, &self.inputs, &self.groups, &self.lists)?,
+            clients: client_info_list(alloc, &self.clients)?,
+            server: server_info(alloc, sinks, self.fallback)?,
         })
     }
 
@@ -129,7 +129,7 @@ impl Scene {
     }
 
     // The subscription events between the moment `before` and this scene, to those who subscribe in it.
-    fn told_since(
+    fn notified_since(
         &self,
         alloc: Global,
         sinks: &[SinkSpec],
@@ -137,8 +137,8 @@ impl Scene {
         before: &Moment,
     ) -> Mem<Vec<Sending>>
         requires sinks { AreSinks [] sinks.now }
-        requires before { IsTelling before.now }
-        ensures { IfOk result (λ told. told.items ≡ told_since sinks.now clients_made before.now self.now) }
+        requires before { AreWritable before.now }
+        ensures { IfOk result (λ notified. notified.items ≡ notified_since sinks.now clients_made before.now self.now) }
     {
         let after = self.moment(alloc, sinks)?;
         let given = Counts {
@@ -152,7 +152,7 @@ impl Scene {
     }
 
     // Makes the changes, and answers the subscription events since the moment `before`.
-    fn make_and_tell<P>(
+    fn make_and_notify<P>(
         &mut self,
         alloc: Global,
         sinks: &[SinkSpec],
@@ -161,15 +161,15 @@ impl Scene {
         before: &Moment,
     ) -> Mem<Vec<Sending>>
         requires sinks { AreSinks [] sinks.now }
-        requires before { IsTelling before.now }
-        ensures { IfOk result (λ told. told.items ≡ told_since sinks.now clients_made before.now (scene_after self.old changes.now)) }
+        requires before { AreWritable before.now }
+        ensures { IfOk result (λ notified. notified.items ≡ notified_since sinks.now clients_made before.now (scene_after self.old changes.now)) }
     {
         self.make(alloc, changes)?;
-        self.told_since(alloc, sinks, clients_made, before)
+        self.notified_since(alloc, sinks, clients_made, before)
     }
 
     // Makes the changes, and answers the subscription events that they cause.
-    fn change_and_tell<P>(
+    fn change_and_notify<P>(
         &mut self,
         alloc: Global,
         sinks: &[SinkSpec],
@@ -177,14 +177,14 @@ impl Scene {
         changes: &[Change<Msg<P>, Group>],
     ) -> Mem<Vec<Sending>>
         requires { AreSinks [] sinks.now }
-        ensures { IfOk result (λ told. told.items ≡ told_between sinks.now clients_made self.old (scene_after self.old changes.now)) }
+        ensures { IfOk result (λ notified. notified.items ≡ notified_between sinks.now clients_made self.old (scene_after self.old changes.now)) }
     {
         let before = self.moment(alloc, sinks)?;
-        self.make_and_tell(alloc, sinks, clients_made, changes, &before)
+        self.make_and_notify(alloc, sinks, clients_made, changes, &before)
     }
 
     // Lets an input that moves arrive, makes the changes `later`, and answers the subscription events of both.
-    fn arrive_and_tell<P>(
+    fn arrive_and_notify<P>(
         &mut self,
         alloc: Global,
         sinks: &[SinkSpec],
@@ -193,15 +193,15 @@ impl Scene {
         later: &[Change<Msg<P>, Group>],
     ) -> Mem<Vec<Sending>>
         requires { AreSinks [] sinks.now }
-        ensures { IfOk result (λ told. told.items ≡ told_between sinks.now clients_made self.old (scene_after (scene_arrived input self.old) later.now)) }
+        ensures { IfOk result (λ notified. notified.items ≡ notified_between sinks.now clients_made self.old (scene_after (scene_arrived input self.old) later.now)) }
     {
         let before = self.moment(alloc, sinks)?;
         self.arrive(input);
-        self.make_and_tell(alloc, sinks, clients_made, later, &before)
+        self.make_and_notify(alloc, sinks, clients_made, later, &before)
     }
 
     // Admits a client, and answers the subscription events since the moment `before`.
-    fn join_and_tell(
+    fn join_and_notify(
         &mut self,
         alloc: Global,
         sinks: &[SinkSpec],
@@ -211,15 +211,15 @@ impl Scene {
         before: &Moment,
     ) -> Mem<Vec<Sending>>
         requires sinks { AreSinks [] sinks.now }
-        requires before { IsTelling before.now }
-        ensures { IfOk result (λ told. told.items ≡ told_since sinks.now clients_made before.now (scene_joined conn client self.old)) }
+        requires before { AreWritable before.now }
+        ensures { IfOk result (λ notified. notified.items ≡ notified_since sinks.now clients_made before.now (scene_joined conn client self.old)) }
     {
         self.join(alloc, conn, client)?;
-        self.told_since(alloc, sinks, clients_made, before)
+        self.notified_since(alloc, sinks, clients_made, before)
     }
 
     /// Subscription events caused by `changes`, to those who subscribe once they are made. `clients_made` is the number of clients ever made.
-    pub fn told_of<P>(
+    pub fn notified_of<P>(
         mut self,
         alloc: Global,
         sinks: &[SinkSpec],
@@ -227,13 +227,13 @@ impl Scene {
         changes: &[Change<Msg<P>, Group>],
     ) -> Mem<Vec<Sending>>
         requires { AreSinks [] sinks.now }
-        ensures { IfOk result (λ told. told.items ≡ told_between sinks.now clients_made self (scene_after self changes.now)) }
+        ensures { IfOk result (λ notified. notified.items ≡ notified_between sinks.now clients_made self (scene_after self changes.now)) }
     {
-        self.change_and_tell(alloc, sinks, clients_made, changes)
+        self.change_and_notify(alloc, sinks, clients_made, changes)
     }
 
     /// Subscription events caused by the arrival of a moving `input` at its new sink, and by the changes `later`.
-    pub fn told_arrived<P>(
+    pub fn notified_arrived<P>(
         mut self,
         alloc: Global,
         sinks: &[SinkSpec],
@@ -242,13 +242,13 @@ impl Scene {
         later: &[Change<Msg<P>, Group>],
     ) -> Mem<Vec<Sending>>
         requires { AreSinks [] sinks.now }
-        ensures { IfOk result (λ told. told.items ≡ told_between sinks.now clients_made self (scene_after (scene_arrived input self) later.now)) }
+        ensures { IfOk result (λ notified. notified.items ≡ notified_between sinks.now clients_made self (scene_after (scene_arrived input self) later.now)) }
     {
-        self.arrive_and_tell(alloc, sinks, clients_made, input, later)
+        self.arrive_and_notify(alloc, sinks, clients_made, input, later)
     }
 
     /// Subscription events caused by a client that connects, the last of the `clients_made` ever made.
-    pub fn told_joined(
+    pub fn notified_joined(
         mut self,
         alloc: Global,
         sinks: &[SinkSpec],
@@ -257,9 +257,9 @@ impl Scene {
         client: u32,
     ) -> Mem<Vec<Sending>>
         requires { AreSinks [] sinks.now }
-        ensures { IfOk result (λ told. told.items ≡ told_between sinks.now clients_made self (scene_joined conn client self)) }
+        ensures { IfOk result (λ notified. notified.items ≡ notified_between sinks.now clients_made self (scene_joined conn client self)) }
     {
         let before = self.moment(alloc, sinks)?;
-        self.join_and_tell(alloc, sinks, clients_made, conn, client, &before)
+        self.join_and_notify(alloc, sinks, clients_made, conn, client, &before)
     }
 }

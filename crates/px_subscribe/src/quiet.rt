@@ -5,15 +5,15 @@ ghost use Rattle.std.specs.List.{list_all};
 ghost use Rattle.px_header.specs.declared.header.SinkSpec.{SinkSpec};
 ghost use Rattle.px_flat.specs.FlatVolume.{FlatGroup};
 ghost use Rattle.px_msg.specs.declared.message.Msg.{Msg};
-ghost use Rattle.px_plan.specs.declared.change.Change.{Change};
+ghost use Rattle.px_outcome.specs.declared.change.Change.{Change};
 ghost use Rattle.px_subscribe.specs.Scene.{Scene, scene_after, scene_joined, is_quiet, are_quiet, is_maskless, are_deaf, nobody_hears};
 ghost use Rattle.px_types.specs.declared.ids.ConnId.{ConnId};
-ghost use Rattle.px_subscribe.specs.Moments.{told_between};
+ghost use Rattle.px_subscribe.specs.Moments.{notified_between};
 
 use px_flat::Group;
 use px_msg::Msg;
 use px_names::Client;
-use px_plan::Change;
+use px_outcome::Change;
 
 // Whether a change is one of nothing that an info shows.
 fn is_quiet<P>(change: &Change<Msg<P>, Group>) -> bool
@@ -22,7 +22,7 @@ fn is_quiet<P>(change: &Change<Msg<P>, Group>) -> bool
     match change {
         Change::Authed(..)
         | Change::Released(_)
-        | Change::Said(..)
+        | Change::Posted(..)
         | Change::Asked(_)
         | Change::Answered(_)
         | Change::Ended { .. } => true,
@@ -77,16 +77,16 @@ pub fn nobody_hears<P>(clients: &[Client], changes: &[Change<Msg<P>, Group>]) ->
 }
 
 /// Where no client subscribes to anything, nobody is notified. It does nothing: its contract is the law. Source: own.
-pub fn the_deaf_are_told_nothing<P>()
+pub fn the_deaf_are_not_notified<P>()
     ensures changes { (sinks : List SinkSpec) (clients_made : ℕ) (s : Scene) (changes : List (Change (Msg P) FlatGroup)) → nobody_hears s.clients changes ≡ true
-        → told_between sinks clients_made s (scene_after s changes) ≡ [] }
+        → notified_between sinks clients_made s (scene_after s changes) ≡ [] }
     ensures joined { (sinks : List SinkSpec) (clients_made : ℕ) (s : Scene) (conn : ConnId) (client : ℕ) → are_deaf s.clients ≡ true
-        → told_between sinks clients_made s (scene_joined conn client s) ≡ [] }
+        → notified_between sinks clients_made s (scene_joined conn client s) ≡ [] }
 {}
 
 /// Of changes that no info shows nobody is notified. It does nothing: its contract is the law. Source: own.
-pub fn quiet_changes_tell_nothing<P>()
+pub fn quiet_changes_notify_nobody<P>()
     ensures quiet { (sinks : List SinkSpec) (clients_made : ℕ) (s : Scene) (changes : List (Change (Msg P) FlatGroup)) → are_quiet changes ≡ true
-        → told_between sinks clients_made s (scene_after s changes) ≡ [] }
-    ensures same { (sinks : List SinkSpec) (clients_made : ℕ) (s : Scene) → told_between sinks clients_made s s ≡ [] }
+        → notified_between sinks clients_made s (scene_after s changes) ≡ [] }
+    ensures same { (sinks : List SinkSpec) (clients_made : ℕ) (s : Scene) → notified_between sinks clients_made s s ≡ [] }
 {}

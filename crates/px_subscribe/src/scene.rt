@@ -2,14 +2,14 @@
 
 ghost use Rattle.std.specs.Prelude.{◌≡◌, ◌++◌, ◌∷◌, [], List, IfOk, OnOk, cond, nat_lt, set, length};
 ghost use Rattle.px_names.specs.Clients.{is_on, change_first as change_client, without_first as without_client, with_list};
-ghost use Rattle.px_plan.specs.declared.change.Change.{Change};
+ghost use Rattle.px_outcome.specs.declared.change.Change.{Change};
 ghost use Rattle.px_msg.specs.declared.message.Msg.{Msg};
 ghost use Rattle.px_names.specs.InputLists.{with_list_of, without_list_of};
 ghost use Rattle.px_flat.specs.FlatVolume.{FlatGroup};
-ghost use Rattle.px_plan.specs.Input.{has_index, has_number, input_of};
+ghost use Rattle.px_outcome.specs.Input.{has_index, has_number, input_of};
 ghost use Rattle.px_input_table.specs.Connections.{with_streams};
 ghost use Rattle.px_input_table.specs.Lists.{change_first, drop_first};
-ghost use Rattle.px_subscribe.specs.Scene.{scene_at, left_of, sent_of, come_of, inputs_told, said_of, scene_changed, clients_changed, inputs_changed, scene_after, scene_arrived, scene_joined};
+ghost use Rattle.px_subscribe.specs.Scene.{scene_at, left_of, sent_of, come_of, inputs_noted, inputs_posted_if_there, scene_changed, clients_changed, inputs_changed, scene_after, scene_arrived, scene_joined};
 
 use crate::copies::{
     copy_clients, copy_connections, copy_groups, copy_inputs, copy_list, copy_lists,
@@ -18,7 +18,7 @@ use px_flat::Group;
 use px_input_table::{arrive, depart, input_of, leave, set_attr};
 use px_msg::Msg;
 use px_names::{Client, InputLists, Names};
-use px_plan::{Change, Connection, Input, Standing};
+use px_outcome::{Change, Connection, Input, Standing};
 use px_sinks::set_group;
 use px_tag::PropList;
 use px_types::{ConnId, InputId, Mem, NoMemory, SinkId};
@@ -135,7 +135,7 @@ fn bring(inputs: &mut Vec<Input>, index: InputId)
 }
 
 fn note<P>(inputs: &mut Vec<Input>, index: InputId, msg: &Msg<P>)
-    ensures { inputs.new.items ≡ inputs_told index msg.now inputs.old.items }
+    ensures { inputs.new.items ≡ inputs_noted index msg.now inputs.old.items }
 {
     match msg {
         Msg::Attr { attr, .. } => set_attr(inputs, index, *attr),
@@ -143,8 +143,8 @@ fn note<P>(inputs: &mut Vec<Input>, index: InputId, msg: &Msg<P>)
     }
 }
 
-fn say<P>(inputs: &mut Vec<Input>, index: InputId, msg: &Msg<P>)
-    ensures { inputs.new.items ≡ said_of (input_of inputs.old.items index) msg.now inputs.old.items }
+fn note_by_index<P>(inputs: &mut Vec<Input>, index: InputId, msg: &Msg<P>)
+    ensures { inputs.new.items ≡ inputs_posted_if_there (input_of inputs.old.items index) msg.now inputs.old.items }
 {
     match found(inputs.as_slice(), index) {
         None => {}
@@ -155,7 +155,7 @@ fn say<P>(inputs: &mut Vec<Input>, index: InputId, msg: &Msg<P>)
     }
 }
 
-fn give_up(inputs: &mut Vec<Input>, lists: &mut InputLists, index: InputId)
+fn remove_input(inputs: &mut Vec<Input>, lists: &mut InputLists, index: InputId)
     ensures inputs { inputs.new.items ≡ drop_first (has_index index) inputs.old.items }
     ensures lists { lists.new.items ≡ without_list_of index lists.old.items }
 {
@@ -198,7 +198,7 @@ impl Scene {
     }
 
     // Adds an input, the last of the `inputs` ever made, whose connection then has `streams` streams.
-    fn take_in(&mut self, input: Input, streams: u32, inputs: u32) -> Mem<()>
+    fn insert_input(&mut self, input: Input, streams: u32, inputs: u32) -> Mem<()>
         ensures { OnOk result (self.new ≡ record self.old { connections = change_first (has_number input.conn) (with_streams streams) self.old.connections; inputs = self.old.inputs ++ input ∷ []; inputs_made = inputs }) }
     {
         let conn = input.conn;
@@ -244,16 +244,16 @@ impl Scene {
                 streams,
                 inputs,
                 ..
-            } => self.take_in(*input, *streams, *inputs)?,
+            } => self.insert_input(*input, *streams, *inputs)?,
             Change::Described(index, list) => describe(&mut self.lists, *index, list)?,
             Change::Leaves(index) => end(&mut self.inputs, *index),
             Change::Moves(index, to) => send(&mut self.inputs, *index, *to),
             Change::Arrives(index, _) => self.arrive(*index),
-            Change::Said(index, msg) => say(&mut self.inputs, *index, msg),
+            Change::Posted(index, msg) => note_by_index(&mut self.inputs, *index, msg),
             Change::Regrouped(sink, group, _) => {
                 regroup(alloc, &mut self.groups, *sink, group)?;
             }
-            Change::Gone(index) => give_up(&mut self.inputs, &mut self.lists, *index),
+            Change::Gone(index) => remove_input(&mut self.inputs, &mut self.lists, *index),
             _ => {}
         }
         Ok(())

@@ -212,24 +212,24 @@ meaning_rules written rules = with_all_rules [] written refl rules
 
 -- ---- one property after another, as a loop reads them
 
-abbrev pub keep : List Property → Result (List Property × Place) TagFault → Result (List Property × Place) TagFault
-keep list (Ok others) = Ok (with_all list others.0, others.1)
-keep list (Err fault) = Err fault
+abbrev pub with_earlier : List Property → Result (List Property × Place) TagFault → Result (List Property × Place) TagFault
+with_earlier list (Ok others) = Ok (with_all list others.0, others.1)
+with_earlier list (Err fault) = Err fault
 
-keep_next : (list : List Property) (p : Property) (read : Result (List Property × Place) TagFault) → keep list (read >>= λ others. Ok (p ∷ others.0, others.1)) ≡ keep (with_value list p.0 p.1) read
-keep_next list p (Ok others) = refl
-keep_next list p (Err fault) = refl
+with_earlier_next : (list : List Property) (p : Property) (read : Result (List Property × Place) TagFault) → with_earlier list (read >>= λ others. Ok (p ∷ others.0, others.1)) ≡ with_earlier (with_value list p.0 p.1) read
+with_earlier_next list p (Ok others) = refl
+with_earlier_next list p (Err fault) = refl
 
-keep_meaning : (read : Result (List Property × Place) TagFault) → (read >>= λ written. Ok (meaning written.0, written.1)) ≡ keep [] read
-keep_meaning (Ok written) = refl
-keep_meaning (Err fault) = refl
+with_earlier_meaning : (read : Result (List Property × Place) TagFault) → (read >>= λ written. Ok (meaning written.0, written.1)) ≡ with_earlier [] read
+with_earlier_meaning (Ok written) = refl
+with_earlier_meaning (Err fault) = refl
 
 empty_fails : (size : ℕ) (rest : List ℕ) → length rest ≤ 0 → property_at (record { size = size; rest = rest }) ≡ Err (Short size)
 unfolding property_at text_at next_at
 empty_fails size [] le = refl
 empty_fails size (b ∷ rest) le = absurd (omega arith)
 
-pub list_ends : (most : ℕ) (place : Place) (list : List Property) (behind : Place) → length behind.rest < length place.rest → length place.rest ≤ most → property_at place ≡ Ok (None, behind) → keep list (properties_at most place) ≡ Ok (list, behind)
+pub list_ends : (most : ℕ) (place : Place) (list : List Property) (behind : Place) → length behind.rest < length place.rest → length place.rest ≤ most → property_at place ≡ Ok (None, behind) → with_earlier list (properties_at most place) ≡ Ok (list, behind)
 unfolding properties_at
 list_ends zero place list behind less room e = absurd (omega arith)
 list_ends (suc most) place list behind less room e = rw e refl
@@ -237,19 +237,19 @@ list_ends (suc most) place list behind less room e = rw e refl
 fault_is : (f g : TagFault) → (let r : Result (Option Property × Place) TagFault = Err f in r) ≡ Err g → f ≡ g
 fault_is f g e = cc
 
-pub list_fails : (most : ℕ) (place : Place) (list : List Property) (fault : TagFault) → length place.rest ≤ most → property_at place ≡ Err fault → keep list (properties_at most place) ≡ Err fault
+pub list_fails : (most : ℕ) (place : Place) (list : List Property) (fault : TagFault) → length place.rest ≤ most → property_at place ≡ Err fault → with_earlier list (properties_at most place) ≡ Err fault
 unfolding properties_at
 list_fails zero place list fault room e = ap (λ (f : TagFault). Err f) (fault_is (Short place.size) fault (sym (empty_fails place.size place.rest room) ∙ e))
 list_fails (suc most) place list fault room e = rw e refl
 
 pub list_goes_on : (most : ℕ) (place : Place) (list : List Property) (p : Property) (behind : Place) → length behind.rest < length place.rest → length place.rest ≤ most → property_at place ≡ Ok (Some p, behind)
-    → (fewer : ℕ) × (length behind.rest ≤ fewer) × (keep list (properties_at most place) ≡ keep (with_value list p.0 p.1) (properties_at fewer behind))
+    → (fewer : ℕ) × (length behind.rest ≤ fewer) × (with_earlier list (properties_at most place) ≡ with_earlier (with_value list p.0 p.1) (properties_at fewer behind))
 unfolding properties_at
 list_goes_on zero place list p behind less room e = absurd (omega arith)
-list_goes_on (suc most) place list p behind less room e = (most, omega arith, rw e (keep_next list p (properties_at most behind)))
+list_goes_on (suc most) place list p behind less room e = (most, omega arith, rw e (with_earlier_next list p (properties_at most behind)))
 
-pub listed_is : (place : Place) → listed_at place ≡ keep [] (properties_at (length place.rest) place)
-listed_is place = keep_meaning (properties_at (length place.rest) place)
+pub listed_is : (place : Place) → listed_at place ≡ with_earlier [] (properties_at (length place.rest) place)
+listed_is place = with_earlier_meaning (properties_at (length place.rest) place)
 
 pub list_is : (place field : Place) → tagged_at 0x50 place ≡ Ok field → proplist_at place ≡ listed_at field
 unfolding proplist_at written_at

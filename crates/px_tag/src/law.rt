@@ -25,7 +25,7 @@ pub fn one_spelling()
     ensures times { HasOneSpelling IsTime time time_at }
     ensures proplists { HasOneSpelling AreProperties proplist written_at }
     // A property list that the code holds is read again as it was.
-    ensures kept { (list : List Property) (size : ℕ) (behind : List ℕ) → IsPropList list → proplist_at (record { size = size; rest = proplist list ++ behind }) ≡ Ok (list, record { size = size; rest = behind }) }
+    ensures stays { (list : List Property) (size : ℕ) (behind : List ℕ) → IsPropList list → proplist_at (record { size = size; rest = proplist list ++ behind }) ≡ Ok (list, record { size = size; rest = behind }) }
     // What a written list means is one that the code may hold.
     ensures meanings { (written : List Property) → AreProperties written → IsPropList (meaning written) }
 {}

@@ -50,7 +50,7 @@ fn append(bytes: &mut Vec<u8>, head: &[u8], body: &[u8], tail: &[u8]) -> Mem<()>
 // Appends each number in four bytes. Where memory runs out some of them may be appended.
 fn append_fields(bytes: &mut Vec<u8>, fields: &[u32]) -> Mem<()>
     ensures appended { OnOk result (bytes.new.items ≡ bytes.old.items ++ flat_map (to_be_bytes w32) fields.now) }
-    ensures kept { take (length bytes.old.items) bytes.new.items ≡ bytes.old.items }
+    ensures stays { take (length bytes.old.items) bytes.new.items ≡ bytes.old.items }
 {
     for field in fields {
         bytes.extend_from_slice(&field.to_be_bytes())?;
@@ -219,7 +219,7 @@ impl TagWriter {
         requires key { IsTrue (is_key key.now) }
         requires value { IsTrue (is_value value.now) }
         ensures appended { OnOk result (self.new ≡ self.old ++ property (key.now, value.now)) }
-        ensures kept { take (length self.old) self.new ≡ self.old }
+        ensures stays { take (length self.old) self.new ≡ self.old }
     {
         self.text(Some(key))?;
         self.number(value.len() as u32)?;
@@ -229,7 +229,7 @@ impl TagWriter {
     // Appends each property of a list. Where memory runs out some bytes may be appended.
     fn properties(&mut self, list: &PropList) -> Mem<()>
         ensures appended { OnOk result (self.new ≡ self.old ++ flat_map property list.now) }
-        ensures kept { take (length self.old) self.new ≡ self.old }
+        ensures stays { take (length self.old) self.new ≡ self.old }
     {
         for i in 0..list.len() {
             let (key, value) = list.property(i);
@@ -256,7 +256,7 @@ impl TagWriter {
     #[tactic(auto, unfolding(crate::specs::Item::proplist, crate::specs::Item::text))]
     fn whole_proplist(&mut self, v: &PropList) -> Mem<()>
         ensures appended { OnOk result (self.new ≡ self.old ++ proplist v.now) }
-        ensures kept { take (length self.old) self.new ≡ self.old }
+        ensures stays { take (length self.old) self.new ≡ self.old }
     {
         append(&mut self.bytes, &[tag::PROPLIST], &[], &[])?;
         self.properties(v)?;

@@ -1,7 +1,7 @@
 //! Lists of events that a session can have.
 ghost use Rattle.std.specs.Prelude.{◌≡◌, ◌++◌, ◌∷◌, [], length, IfOk, OnOk, OnErr};
 ghost use Rattle.std.specs.List.{flat_map, AllByRecursion};
-ghost use Rattle.px_ends.specs.Told.{after_adding};
+ghost use Rattle.px_ends.specs.Visible.{after_adding};
 ghost use Rattle.px_ends.specs.Whole.{AddsFront};
 ghost use Rattle.px_session.specs.EventRules.{IsEvent};
 ghost use Rattle.px_header.specs.HeaderRules.{IsHeader};
@@ -28,9 +28,9 @@ impl Model for Events {
     ghost use Rattle.std.specs.Prelude.{List};
     ghost use Rattle.std.specs.List.{AllByRecursion};
     ghost use Rattle.px_session.specs.EventRules.{IsEvent};
-    ghost use Rattle.px_session.specs.declared.event.Event.{Event as Kept};
+    ghost use Rattle.px_session.specs.declared.event.Event.{Event as SessionEvent};
 
-    ghost Value = { List Kept };
+    ghost Value = { List SessionEvent };
 
     ghost view = { λ e. e.events.items };
 

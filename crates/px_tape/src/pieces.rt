@@ -1,7 +1,7 @@
 //! What comes of a client, as events.
 ghost use Rattle.std.specs.Prelude.{◌≡◌, ℕ, List, ◌++◌, ◌∷◌, [], IfOk, OnOk, OnErr};
 ghost use Rattle.std.specs.List.{concat};
-ghost use Rattle.px_block.specs.Kept.{KeptBlock, contents};
+ghost use Rattle.px_block.specs.HeldBlock.{HeldBlock, contents};
 ghost use Rattle.px_frame.specs.Frame.{IsBody};
 ghost use Rattle.px_frame.specs.Reading.{IsRead, Unfinished, Broken};
 ghost use Rattle.px_tape.specs.Tape.{turns_in, all_bytes};
@@ -31,7 +31,7 @@ fn cut(alloc: Global, conn: ConnId, bytes: &[u8]) -> Mem<Events>
 
 // The bytes of one block more.
 fn copy_block(bytes: &mut Text, block: &Block) -> Mem<()>
-    ensures { OnOk result ((more : List KeptBlock) → bytes.new ++ concat (contents more) ≡ bytes.old ++ concat (contents (block.now ∷ more))) }
+    ensures { OnOk result ((more : List HeldBlock) → bytes.new ++ concat (contents more) ≡ bytes.old ++ concat (contents (block.now ∷ more))) }
 {
     bytes.extend(block.bytes())
 }

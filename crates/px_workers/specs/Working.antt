@@ -31,14 +31,14 @@ pub record IsHonest {D E : Type 0} (now : D → DeviceState) (faults fulls : E �
 
 -- where there is a tape and the recorder tells, as many turns are kept for it as the recorder has entries
 abbrev pub AreTaped : {E : Type 0} → (E → Option (List LaneEntry)) → E → Option Turns → Type 0
-AreTaped told recorder None = ⊤
-AreTaped told recorder (Some t) = IfSome (told recorder) (λ entries. length t.turns ≡ length entries)
+AreTaped visible recorder None = ⊤
+AreTaped visible recorder (Some t) = IfSome (visible recorder) (λ entries. length t.turns ≡ length entries)
 
 -- what the recorder holds after a turn: one entry more where it was made
 abbrev pub Notes : {E : Type 0} → (E → Option (List LaneEntry)) → TurnOutcome → E → E → Type 0
-Notes told (Made frames) before after = (entry : LaneEntry) × (told after ≡ noted entry (told before))
-Notes told NotYet before after = told after ≡ told before
-Notes told Ended before after = told after ≡ told before
+Notes visible (Made frames) before after = (entry : LaneEntry) × (visible after ≡ noted entry (visible before))
+Notes visible NotYet before after = visible after ≡ visible before
+Notes visible Ended before after = visible after ≡ visible before
 
 -- a sink that no worker has, with what its worker met, if it had one, and the turns that it made, where there is a tape
 pub record Unworked (D E : Type 0) : Type 0 where
@@ -68,13 +68,13 @@ abbrev pub tapes_in : {D E : Type 0} → Unworked D E → Bool
 tapes_in u = is_some u.turns
 
 -- what stays of a sink, whatever its worker does: how it began, its mailboxes, and whether its turns are kept for a tape
-pub record Kept : Type 0 where
+pub record Lasting : Type 0 where
   pub start : Start
   pub boxes : Boxes
   pub tapes : Bool
 
-abbrev pub kept_of : {D E : Type 0} → Unworked D E → Kept
-kept_of u = record { start = start_of u; boxes = mailboxes_of u; tapes = tapes_in u }
+abbrev pub lasting_of : {D E : Type 0} → Unworked D E → Lasting
+lasting_of u = record { start = start_of u; boxes = mailboxes_of u; tapes = tapes_in u }
 
 -- the work goes on: at the same sink with the same mailboxes, and with a tape where there was one
 pub record GoesOn {D E : Type 0} (before after : Unworked D E) : Type 0 where

@@ -16,16 +16,16 @@ use std::thread::{Promise, PromisedHandle, Threads};
 
 /// The promise of a job's thread: the job that it hands back keeps the one that it was given.
 #[derive(Drop)]
-pub struct Kept<J>(Snapshot<J>);
+pub struct PreservesJob<J>(Snapshot<J>);
 
-impl<J: Job> Promise<J> for Kept<J> {
+impl<J: Job> Promise<J> for PreservesJob<J> {
     ghost kept_by = { λ promise after. J.keeps promise.0.value after };
 }
 
 /// A job that a thread works at.
 #[derive(Drop)]
 pub struct Running<J: Job> {
-    handle: PromisedHandle<J, Kept<J>>,
+    handle: PromisedHandle<J, PreservesJob<J>>,
 }
 
 impl<J: Job> Running<J> {
@@ -58,7 +58,7 @@ where
     let theirs_rt = *rt;
     let started = thread::spawn_with(
         rt,
-        Kept(given),
+        PreservesJob(given),
         move || -> J
             requires { IsPassOf (arc_value mailbox).queue take.pass × IfSome (key_of take.pass) (λ key. key.value ≡ promised.value) × (taken_by take.pass ≡ []) }
             ensures { J.keeps promised.value result }

@@ -3,7 +3,7 @@ ghost use Rattle.std.specs.Prelude.{◌≡◌, ◌+◌, ◌≤◌, ◌<◌, ◌+
 ghost use Rattle.std.specs.VecDeque.{deque_len, deque_capacity};
 ghost use Rattle.px_workers.specs.Hosted.{IsLater, IsCauseOf, IsOwn};
 ghost use Rattle.px_workers.specs.Accepting.{HasRoom, Starts, Takes};
-ghost use Rattle.px_workers.specs.Working.{start_of, mailboxes_of, tapes_in, kept_of};
+ghost use Rattle.px_workers.specs.Working.{start_of, mailboxes_of, tapes_in, lasting_of};
 
 use crate::gate::Gate;
 use crate::hosting::{ask, next_link};
@@ -212,7 +212,7 @@ where
     fn join_sinks(&mut self, idle: &mut VecDeque<SinkState<H::D, H::R>>)
         requires room { length self.old.sinks.items + length idle.old.items ≤ deque_capacity idle.old }
         ensures parts { W.parts self.new.handle ≡ W.parts self.old.handle + length self.old.sinks.items }
-        ensures kept { map kept_of idle.new.items ≡ map kept_of (self.old.sinks.items ++ idle.old.items) }
+        ensures lasting { map lasting_of idle.new.items ≡ map lasting_of (self.old.sinks.items ++ idle.old.items) }
     {
         while let Some(run) = self.sinks.pop_back() {
             idle.push_front_reserved(run.join(&mut self.handle));
@@ -223,7 +223,7 @@ where
     fn join_all(&mut self, idle: &mut VecDeque<SinkState<H::D, H::R>>)
         requires room { length self.old.sinks.items + length idle.old.items ≤ deque_capacity idle.old }
         ensures parts { W.parts self.new.handle ≡ W.parts self.old.handle + length self.old.sinks.items + length self.old.clients.items }
-        ensures kept { map kept_of idle.new.items ≡ map kept_of (self.old.sinks.items ++ idle.old.items) }
+        ensures lasting { map lasting_of idle.new.items ≡ map lasting_of (self.old.sinks.items ++ idle.old.items) }
     {
         self.join_clients();
         self.handle.stop_sinks();
@@ -235,7 +235,7 @@ where
         requires parts { W.parts self.handle + length self.sinks.items + length self.clients.items ≡ 65552 }
         requires room { length self.sinks.items + length idle.old.items ≤ deque_capacity idle.old }
         ensures seats { W.parts result ≡ 65552 }
-        ensures kept { map kept_of idle.new.items ≡ map kept_of (self.sinks.items ++ idle.old.items) }
+        ensures lasting { map lasting_of idle.new.items ≡ map lasting_of (self.sinks.items ++ idle.old.items) }
     {
         self.join_all(idle);
         self.handle
@@ -247,7 +247,7 @@ where
         requires seats { W.parts self.handle ≡ 65552 }
         requires few { length idle.old.items ≤ 16 }
         ensures seats { W.parts result.0 ≡ 65552 }
-        ensures kept { map kept_of idle.new.items ≡ map kept_of idle.old.items }
+        ensures lasting { map lasting_of idle.new.items ≡ map lasting_of idle.old.items }
         ensures later { IsLater (H.now host.old) (H.now host.new) }
         ensures lent { (H.now host.new).lent ≡ (H.now host.old).lent }
         ensures cause { IsCauseOf result.1 (H.now host.old) (H.now host.new) }

@@ -50,7 +50,7 @@ where
     D: Device + Drop,
     E: Recorder<LaneEntry> + Drop,
     B: BlockSource,
-    ensures noted { Notes E.told result cell.old.recorder cell.new.recorder }
+    ensures noted { Notes E.visible result cell.old.recorder cell.new.recorder }
     ensures honest { IsHonest D.now E.faults E.fulls cell.old sink_fault.old → IsHonest D.now E.faults E.fulls cell.new sink_fault.new }
     ensures start { unturned cell.new.lane.sink ≡ unturned cell.old.lane.sink }
     ensures boxes { cell.new.ends.boxes ≡ cell.old.ends.boxes }
@@ -108,7 +108,7 @@ where
     D: Device + Drop,
     E: Recorder<LaneEntry> + Drop,
     B: BlockSource,
-    ensures taped { AreTaped E.told cell.old.recorder (Some turns.old) → AreTaped E.told cell.new.recorder (Some turns.new) }
+    ensures taped { AreTaped E.visible cell.old.recorder (Some turns.old) → AreTaped E.visible cell.new.recorder (Some turns.new) }
     ensures honest { IsHonest D.now E.faults E.fulls cell.old sink_fault.old → IsHonest D.now E.faults E.fulls cell.new sink_fault.new }
     ensures start { unturned cell.new.lane.sink ≡ unturned cell.old.lane.sink }
     ensures boxes { cell.new.ends.boxes ≡ cell.old.ends.boxes }
@@ -144,14 +144,14 @@ impl<D: Device, E: Recorder<LaneEntry>> Model for SinkState<D, E> {
 
     ghost view = { λ l. record { sink = l.sink; cell = l.cell; sink_fault = l.sink_fault; turns = l.turns } };
 
-    ghost invariant = { λ l. IsHonest D.now E.faults E.fulls l.cell l.sink_fault × AreTaped E.told l.cell.recorder l.turns };
+    ghost invariant = { λ l. IsHonest D.now E.faults E.fulls l.cell l.sink_fault × AreTaped E.visible l.cell.recorder l.turns };
 }
 
 impl<D: Device + Drop, E: Recorder<LaneEntry> + Drop> SinkState<D, E> {
     /// A sink before its worker has started.
     pub fn new(sink: SinkId, cell: LaneCell<D, E>, turns: Option<SinkTurns>) -> SinkState<D, E>
         requires honest { IsHonest D.now E.faults E.fulls cell Nothing }
-        requires taped { AreTaped E.told cell.recorder turns }
+        requires taped { AreTaped E.visible cell.recorder turns }
         ensures { result ≡ record { sink = sink; cell = cell; sink_fault = Nothing; turns = turns } }
     {
         SinkState {

@@ -22,20 +22,20 @@ use Rattle.px_world.specs.declared.playing.Playing.{Playing}
 use Rattle.px_world.specs.World.{Mixer, new_mixer, new_world}
 use Rattle.px_world.specs.Playing.{mixer_of}
 use Rattle.px_world.specs.Running.{StandsFor}
-use Rattle.px_world.specs.Keeping.{GivesStream, IsMixerOf, AreKept}
-use Rattle.px_world.specs.Doing.{Unless, loses, running_of, told_to_fail}
-use Rattle.px_world.proofs.Kept.{kept-notices}
+use Rattle.px_world.specs.Consistency.{GivesStream, IsMixerOf, AreConsistent}
+use Rattle.px_world.specs.Doing.{Unless, loses, running_of, set_to_fail}
+use Rattle.px_world.proofs.Consistent.{consistent-notices}
 use Rattle.px_world.proofs.Sounding.{seen-at}
 use Rattle.px_world.proofs.Standing.{stands-first}
 
 new-mixer-is : (header : Header) (index : ℕ) (s : SinkSpec) (m : Mixer) → slice_get header.sinks index ≡ Some s → slice_get (map new_mixer header.sinks) index ≡ Some m → IsMixerOf (new_state header) index s m
 new-mixer-is header index s m there mixer =
     let same : new_mixer s ≡ m = same_Some (new_mixer s) m (sym (slice_get-map new_mixer header.sinks index ∙ ap (option_map new_mixer) there) ∙ mixer) in
-    subst (λ x. IsMixerOf (new_state header) index s x) same (record { spec = refl; kept = empty_keeps (sample_spec s.spec) s.guard s.depth; inputs = refl; gives = tt })
+    subst (λ x. IsMixerOf (new_state header) index s x) same (record { spec = refl; consistent = empty_keeps (sample_spec s.spec) s.guard s.depth; inputs = refl; gives = tt })
 
-pub kept-first : (header : Header) → IsHeader header → AreKept (new_state header) (map new_mixer header.sinks)
-kept-first header h = record {
-  core_kept = new_keeps Stream.spec header h;
+pub consistent-first : (header : Header) → IsHeader header → AreConsistent (new_state header) (map new_mixer header.sinks)
+consistent-first header h = record {
+  core_consistent = new_keeps Stream.spec header h;
   carried = new_carry IsStream header;
   count = length-map header.sinks new_mixer;
   each = λ index s m there mixer. new-mixer-is header index s m there mixer;
@@ -46,9 +46,9 @@ pub begins : (header : Header) (core : State Stream) (doors : List Door) (mixers
     → StandsFor (running_of core doors mixers) (new_world header)
 begins header core doors mixers c d m = stands-first header (running_of core doors mixers) c d m
 
-pub kept_begins : (header : Header) (core : State Stream) (mixers : List Playing) → IsHeader header → core ≡ new_state header → map mixer_of mixers ≡ map new_mixer header.sinks
-    → AreKept core (map mixer_of mixers)
-kept_begins header core mixers h c m = subst (λ t. AreKept t (map mixer_of mixers)) (sym c) (subst (AreKept (new_state header)) (sym m) (kept-first header h))
+pub consistent_begins : (header : Header) (core : State Stream) (mixers : List Playing) → IsHeader header → core ≡ new_state header → map mixer_of mixers ≡ map new_mixer header.sinks
+    → AreConsistent core (map mixer_of mixers)
+consistent_begins header core mixers h c m = subst (λ t. AreConsistent t (map mixer_of mixers)) (sym c) (subst (AreConsistent (new_state header)) (sym m) (consistent-first header h))
 
 -- one mixer more
 pub each-push : {X : Type 0} (P : X → Type 0) (xs : List X) (x : X) → AllByRecursion P xs → P x → AllByRecursion P (xs ++ x ∷ [])
@@ -77,9 +77,9 @@ unless-lost NoMemory A a going = absurd cc
 
 -- ---- a mixer whose device alone changes
 
-pub fail-notices : (m : Mixer) → (told_to_fail m).notices ≡ m.notices
+pub fail-notices : (m : Mixer) → (set_to_fail m).notices ≡ m.notices
 fail-notices m = cond_both m.sink.stopped m (record m { failing = true }) (λ x. Mixer.notices x ≡ m.notices) (λ e. refl) (λ e. refl)
 
-pub kept-device : {X : Type 0} (v : X → Mixer) (xs : List X) (k : ℕ) (d next : X) (core : State Stream) → k < length xs → (v next).sink ≡ (v (get_or xs k d)).sink → (v next).notices ≡ (v (get_or xs k d)).notices → AreKept core (map v xs) → AreKept core (map v (set xs k next))
-kept-device v xs k d next core within same notices h =
-    subst (AreKept core) (sym (map-set v xs k next)) (kept-notices core (map v xs) k (v (get_or xs k d)) (v next) h (seen-at v xs k d within) same (subst (AllByRecursion GivesStream) (sym notices)))
+pub consistent-device : {X : Type 0} (v : X → Mixer) (xs : List X) (k : ℕ) (d next : X) (core : State Stream) → k < length xs → (v next).sink ≡ (v (get_or xs k d)).sink → (v next).notices ≡ (v (get_or xs k d)).notices → AreConsistent core (map v xs) → AreConsistent core (map v (set xs k next))
+consistent-device v xs k d next core within same notices h =
+    subst (AreConsistent core) (sym (map-set v xs k next)) (consistent-notices core (map v xs) k (v (get_or xs k d)) (v next) h (seen-at v xs k d within) same (subst (AllByRecursion GivesStream) (sym notices)))

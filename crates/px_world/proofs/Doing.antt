@@ -14,11 +14,11 @@ use Rattle.px_frame.specs.Progress.{GivesBodies}
 use Rattle.px_model.specs.Stream.{Stream, IsStream}
 use Rattle.px_model.specs.Frame.{SampleSpec}
 use Rattle.px_state.specs.declared.effect.Effect.{Effect}
-use Rattle.px_plan.specs.declared.input.Connection.{Connection}
+use Rattle.px_outcome.specs.declared.input.Connection.{Connection}
 use Rattle.px_state.specs.State.{State}
-use Rattle.px_state.specs.Plan.{plan_effects}
+use Rattle.px_state.specs.Outcome.{outcome_effects}
 use Rattle.px_core.specs.Connecting.{going_on, ended}
-use Rattle.px_core.specs.Keeps.{IsStep, Spares}
+use Rattle.px_core.specs.Consistency.{IsStep, Spares}
 use Rattle.px_core.specs.Parcels.{Takes}
 use Rattle.px_core.specs.Step.{Step, frame, broken, close, sweep, stepped, effects_of, stepped_by, effects_by}
 use Rattle.px_world.specs.declared.doors.Door.{Door}
@@ -26,10 +26,10 @@ use Rattle.px_world.specs.declared.fault.WorldFault.TheVariants.{Live}
 use Rattle.px_world.specs.World.{Link, Mixer, link_of}
 use Rattle.px_world.specs.Admission.{if_new, if_named}
 use Rattle.px_world.specs.Running.{is_door, Open, steps_given}
-use Rattle.px_world.specs.Keeping.{AreKept}
+use Rattle.px_world.specs.Consistency.{AreConsistent}
 use Rattle.px_world.proofs.Openings.{refused-there}
 use Rattle.px_world.proofs.Going.{all-first, all-rest}
-use Rattle.px_world.proofs.Kept.{kept-steps}
+use Rattle.px_world.proofs.Consistent.{consistent-steps}
 
 -- ---- one step and the sweep
 
@@ -37,15 +37,15 @@ module _ {P : Type 0} (spec_of : P → SampleSpec) (state next : State P) (s : S
   pub one-swept : (last : State P) → next ≡ stepped spec_of state s → last ≡ stepped_by spec_of next (sweep ∷ []) → last ≡ stepped_by spec_of state (s ∷ sweep ∷ [])
   one-swept last e l = l ∙ ap (λ t. stepped_by spec_of t (sweep ∷ [])) e
 
-  pub one-swept-told : (before all : List Effect) → next ≡ stepped spec_of state s → before ≡ effects_of spec_of state s → all ≡ before ++ effects_by spec_of next (sweep ∷ [])
+  pub one-swept-caused : (before all : List Effect) → next ≡ stepped spec_of state s → before ≡ effects_of spec_of state s → all ≡ before ++ effects_by spec_of next (sweep ∷ [])
       → all ≡ effects_by spec_of state (s ∷ sweep ∷ [])
-  one-swept-told before all e b a =
+  one-swept-caused before all e b a =
       a ∙ ap (λ l. l ++ effects_by spec_of next (sweep ∷ [])) b ∙ ap (λ t. effects_of spec_of state s ++ effects_by spec_of t (sweep ∷ [])) e
 
 pub close-silent : {P : Type 0} (spec_of : P → SampleSpec) (state : State P) (conn : ConnId) → effects_of spec_of state (close conn) ≡ []
 close-silent {P} spec_of state conn = go (going_on state.connections conn)
   where
-    go : (o : Option Connection) → plan_effects (Some conn) (ended {P = P} o None 0 0) ≡ []
+    go : (o : Option Connection) → outcome_effects (Some conn) (ended {P = P} o None 0 0) ≡ []
     go None = refl
     go (Some c) = refl
 
@@ -99,15 +99,15 @@ given-spare sink conn (Err NoMemory) = tt
 
 -- so what is kept stays kept
 
-module _ (core next last : State Stream) (mixers : List Mixer) (h : AreKept core mixers) where
-  pub kept-one : (s : Step Stream) → IsStep s → Takes IsStream s → ((sink : SinkId) → Spares sink s) → next ≡ stepped Stream.spec core s → last ≡ stepped_by Stream.spec next (sweep ∷ []) → AreKept last mixers
-  kept-one s is takes spares e l =
-      subst (λ t. AreKept t mixers) (sym (one-swept Stream.spec core next s last e l))
-      (kept-steps core mixers (s ∷ sweep ∷ []) h (is, (tt, tt)) (takes, (tt, tt)) (λ sink. (spares sink, (tt, tt))))
+module _ (core next last : State Stream) (mixers : List Mixer) (h : AreConsistent core mixers) where
+  pub consistent-one : (s : Step Stream) → IsStep s → Takes IsStream s → ((sink : SinkId) → Spares sink s) → next ≡ stepped Stream.spec core s → last ≡ stepped_by Stream.spec next (sweep ∷ []) → AreConsistent last mixers
+  consistent-one s is takes spares e l =
+      subst (λ t. AreConsistent t mixers) (sym (one-swept Stream.spec core next s last e l))
+      (consistent-steps core mixers (s ∷ sweep ∷ []) h (is, (tt, tt)) (takes, (tt, tt)) (λ sink. (spares sink, (tt, tt))))
 
-  pub kept-given : (conn : ConnId) (given : Result (List Frame) FrameError) → GivesBodies given → next ≡ stepped_by Stream.spec core (steps_given conn given)
-      → last ≡ stepped_by Stream.spec next (sweep ∷ []) → AreKept last mixers
-  kept-given conn given bodies e l =
-      let first : AreKept next mixers =
-      subst (λ t. AreKept t mixers) (sym e) (kept-steps core mixers (steps_given conn given) h (given-are conn given bodies) (given-take conn given) (λ sink. given-spare sink conn given)) in
-      subst (λ t. AreKept t mixers) (sym l) (kept-steps next mixers (sweep ∷ []) first (tt, tt) (tt, tt) (λ sink. (tt, tt)))
+  pub consistent-given : (conn : ConnId) (given : Result (List Frame) FrameError) → GivesBodies given → next ≡ stepped_by Stream.spec core (steps_given conn given)
+      → last ≡ stepped_by Stream.spec next (sweep ∷ []) → AreConsistent last mixers
+  consistent-given conn given bodies e l =
+      let first : AreConsistent next mixers =
+      subst (λ t. AreConsistent t mixers) (sym e) (consistent-steps core mixers (steps_given conn given) h (given-are conn given bodies) (given-take conn given) (λ sink. given-spare sink conn given)) in
+      subst (λ t. AreConsistent t mixers) (sym l) (consistent-steps next mixers (sweep ∷ []) first (tt, tt) (tt, tt) (λ sink. (tt, tt)))

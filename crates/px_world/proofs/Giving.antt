@@ -16,9 +16,9 @@ use Rattle.px_model.specs.Orderly.{Inputs, IsOrderly, Fits, inputs_left}
 use Rattle.px_model.specs.Sink.{Sink, Input, IsSink, IsStreamOf, specs_of, stream_at, with_change}
 use Rattle.px_model.specs.Turn.{AreFor, BringsStream, inputs_with, with_each_factors, refusal_of, notices_from, message_notices, all_message_notices, with_messages, notices_of_messages, going_notices, has_started, has_run_out, asked_notices, has_ended, missing_of, next_horizon, settled, halted, turn_notices, stopped_notices}
 use Rattle.px_model.proofs.Streams.{after_keeps}
-use Rattle.px_model.proofs.Kept.{written_keeps, new_keeps, attached_keeps, corked_keeps, triggered_keeps, prebuffered_keeps, flushed_keeps, drained_keeps, attr_keeps, factors_keep}
+use Rattle.px_model.proofs.Preserved.{written_keeps, new_keeps, attached_keeps, corked_keeps, triggered_keeps, prebuffered_keeps, flushed_keeps, drained_keeps, attr_keeps, factors_keep}
 use Rattle.px_model.proofs.Inputs.{AreInputs, each_keeps, change_keeps, without_keeps, with_keeps}
-use Rattle.px_world.specs.Keeping.{GivesStream}
+use Rattle.px_world.specs.Consistency.{GivesStream}
 
 -- notices that give up no parcel but such a stream
 abbrev AllGive : List (Notice Stream) → Type 0
@@ -124,14 +124,14 @@ messages_give sink there mixed buffered (m ∷ messages) o b inputs h =
 
 -- ---- a turn
 
-streams_kept : (sink : SampleSpec) (inputs : List Input) → AllByRecursion (λ x. IsStreamOf sink (Input.stream x)) inputs → AllByRecursion (λ x. IsStream (Input.stream x)) inputs
-streams_kept sink [] h = tt
-streams_kept sink (x ∷ inputs) h = (h.0.kept, streams_kept sink inputs h.1)
+streams_hold : (sink : SampleSpec) (inputs : List Input) → AllByRecursion (λ x. IsStreamOf sink (Input.stream x)) inputs → AllByRecursion (λ x. IsStream (Input.stream x)) inputs
+streams_hold sink [] h = tt
+streams_hold sink (x ∷ inputs) h = (h.0.holds, streams_hold sink inputs h.1)
 
 settled_streams : (sink : Sink) → IsSink sink → (n : ℕ) → AreStreams (settled sink n).inputs
 settled_streams sink keeps n =
     each_keeps IsStream (λ s. after s (next_horizon sink n - sink.horizon)) (λ s k. after_keeps s k (next_horizon sink n - sink.horizon)) sink.inputs
-    (record { rising = keeps.rising; streams = streams_kept sink.spec sink.inputs keeps.streams })
+    (record { rising = keeps.rising; streams = streams_hold sink.spec sink.inputs keeps.streams })
 
 pub turn_gives : (samples : Samples) (sink : Sink) → IsSink sink → (n : ℕ) (messages : List (Message Stream)) → AreFor sink messages → AllGive (turn_notices samples sink n messages)
 turn_gives samples sink keeps n messages a =

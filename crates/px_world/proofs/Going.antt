@@ -49,9 +49,9 @@ module _ {P : Type 0} (spec_of : P → SampleSpec) where
       ∙ sym (effects-join spec_of state earlier later)
 
   -- one step behind others
-  pub pushed-told : (state next : State P) (steps : List (Step P)) (s : Step P) (start before more all : List Effect) → next ≡ stepped_by spec_of state steps
+  pub pushed-caused : (state next : State P) (steps : List (Step P)) (s : Step P) (start before more all : List Effect) → next ≡ stepped_by spec_of state steps
       → before ≡ start ++ effects_by spec_of state steps → more ≡ effects_of spec_of next s → all ≡ before ++ more → all ≡ start ++ effects_by spec_of state (steps ++ s ∷ [])
-  pushed-told state next steps s start before more all e b m a =
+  pushed-caused state next steps s start before more all e b m a =
       a ∙ ap (λ l. l ++ more) b ∙ append_assoc start (effects_by spec_of state steps) more
       ∙ ap (λ l. start ++ (effects_by spec_of state steps ++ l)) (m ∙ ap (λ t. effects_of spec_of t s) e)
       ∙ ap (λ l. start ++ l) (sym (effects-push spec_of state steps s))

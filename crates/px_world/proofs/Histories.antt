@@ -49,11 +49,11 @@ module _ (mixers : List Mixer) (sink k : ℕ) (m : Mixer) (there : slice_get mix
 
   -- it is another
   changed-elsewhere : nat_eq sink k ≡ false → slice_get (change_at mixers sink (slice_get mixers sink) change) k ≡ Some m
-  changed-elsewhere e = kept (slice_get mixers sink)
+  changed-elsewhere e = consistent (slice_get mixers sink)
     where
-      kept : (o : Option Mixer) → slice_get (change_at mixers sink o change) k ≡ Some m
-      kept None = there
-      kept (Some other) = get-set_other mixers sink k (change other) (eqb-false sink k e) ∙ there
+      consistent : (o : Option Mixer) → slice_get (change_at mixers sink o change) k ≡ Some m
+      consistent None = there
+      consistent (Some other) = get-set_other mixers sink k (change other) (eqb-false sink k e) ∙ there
 
 -- ---- a turn that is admitted can be
 

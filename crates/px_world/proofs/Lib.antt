@@ -8,7 +8,7 @@ pub mod Openings
 pub mod Standing
 pub mod Computed
 pub mod Giving
-pub mod Kept
+pub mod Consistent
 pub mod Played
 pub mod Shapes
 pub mod Going

@@ -44,22 +44,22 @@ absent-close : (conn : ConnId) (links : List Link) → link_of links conn ≡ No
 absent-close conn [] none = refl
 absent-close conn (link ∷ links) none =
     let rest = absent-rest conn link links none in
-    let kept : not (is_of conn link) ≡ true = ap not rest.0 in
-    cond-true (not (is_of conn link)) (link ∷ filter (λ x. not (is_of conn x)) links) (filter (λ x. not (is_of conn x)) links) kept
+    let consistent : not (is_of conn link) ≡ true = ap not rest.0 in
+    cond-true (not (is_of conn link)) (link ∷ filter (λ x. not (is_of conn x)) links) (filter (λ x. not (is_of conn x)) links) consistent
     ∙ ap (λ ls. link ∷ ls) (absent-close conn links rest.1)
 
 -- ---- numbers stay distinct
 
 -- more bytes leave a link its number
-kept-number : (conn other : ConnId) (bytes : List ℕ) (link : Link) → is_of other (with_bytes conn bytes link) ≡ is_of other link
-kept-number conn other bytes link =
+consistent-number : (conn other : ConnId) (bytes : List ℕ) (link : Link) → is_of other (with_bytes conn bytes link) ≡ is_of other link
+consistent-number conn other bytes link =
     cond_both (is_of conn link) (record link { received = link.received ++ bytes }) link (λ (x : Link). is_of other x ≡ is_of other link) (λ e. refl) (λ e. refl)
 
 link-bytes : (conn other : ConnId) (bytes : List ℕ) (links : List Link) → link_of links other ≡ None → link_of (map (with_bytes conn bytes) links) other ≡ None
 link-bytes conn other bytes [] none = refl
 link-bytes conn other bytes (link ∷ links) none =
     let rest = absent-rest other link links none in
-    cond-false (is_of other (with_bytes conn bytes link)) (Some (with_bytes conn bytes link)) (find (is_of other) (map (with_bytes conn bytes) links)) (kept-number conn other bytes link ∙ rest.0)
+    cond-false (is_of other (with_bytes conn bytes link)) (Some (with_bytes conn bytes link)) (find (is_of other) (map (with_bytes conn bytes) links)) (consistent-number conn other bytes link ∙ rest.0)
     ∙ link-bytes conn other bytes links rest.1
 
 link-close : (conn other : ConnId) (links : List Link) → link_of links other ≡ None → link_of (filter (λ link. not (is_of conn link)) links) other ≡ None
@@ -68,7 +68,7 @@ link-close conn other (link ∷ links) none =
     let rest = absent-rest other link links none in
     let behind : link_of (filter (λ x. not (is_of conn x)) links) other ≡ None = link-close conn other links rest.1 in
     cond_both (not (is_of conn link)) (link ∷ filter (λ x. not (is_of conn x)) links) (filter (λ x. not (is_of conn x)) links) (λ (l : List Link). link_of l other ≡ None)
-    (λ kept. cond-false (is_of other link) (Some link) (find (is_of other) (filter (λ x. not (is_of conn x)) links)) rest.0 ∙ behind)
+    (λ consistent. cond-false (is_of other link) (Some link) (find (is_of other) (filter (λ x. not (is_of conn x)) links)) rest.0 ∙ behind)
     (λ gone. behind)
 
 link-connect : (conn other : ConnId) (links : List Link) → nat_eq conn.0 other.0 ≡ false → link_of links other ≡ None → link_of (links ++ record { conn = conn; received = [] } ∷ []) other ≡ None
@@ -98,7 +98,7 @@ distinct-close : (conn : ConnId) (links : List Link) → AreDistinct links → A
 distinct-close conn [] distinct = tt
 distinct-close conn (link ∷ links) distinct =
     cond_both (not (is_of conn link)) (link ∷ filter (λ x. not (is_of conn x)) links) (filter (λ x. not (is_of conn x)) links) AreDistinct
-    (λ kept. (link-close conn link.conn links distinct.0, distinct-close conn links distinct.1))
+    (λ consistent. (link-close conn link.conn links distinct.0, distinct-close conn links distinct.1))
     (λ gone. distinct-close conn links distinct.1)
 
 -- a Connect that is admitted has a number that no link has
@@ -203,7 +203,7 @@ module _ (conn : ConnId) (d : Door) where
       subst (Open doors) (sym gone) opened.1
   closed-at (door ∷ doors) (link ∷ links) (suc i) opened distinct within is before =
       let test : is_of conn link ≡ false = same-test conn door link opened.0 ∙ before 0 (omega arith) in
-      let kept : filter (λ x. not (is_of conn x)) (link ∷ links) ≡ link ∷ filter (λ x. not (is_of conn x)) links =
+      let consistent : filter (λ x. not (is_of conn x)) (link ∷ links) ≡ link ∷ filter (λ x. not (is_of conn x)) links =
       cond-true (not (is_of conn link)) (link ∷ filter (λ x. not (is_of conn x)) links) (filter (λ x. not (is_of conn x)) links) (ap not test) in
-      subst (Open (door ∷ remove doors i)) (sym kept)
+      subst (Open (door ∷ remove doors i)) (sym consistent)
       (opened.0, closed-at doors links i opened.1 distinct.1 (omega arith) is (λ k below. before (suc k) (omega arith)))

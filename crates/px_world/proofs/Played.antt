@@ -50,15 +50,15 @@ pub leaves : (sink sink' : Sink) (d d' : MemoryDevice) (frames consumed n before
     → (IsFalse sink.stopped → IsAttached (state_of d) sink)
     → Plays state_of (record { sink = sink; device = record d { armed = Some (min frames d.depth) }; faults = before }) (record { sink = sink'; device = d'; faults = after }) messages consumed n
     → Leaves sink d d' frames n
-leaves sink sink' d d' frames consumed n before after messages kept there taken attached plays =
-    let told = consumes (d.stopping || d.failed) (min frames d.depth) (sink.filled - sink.consumed) n plays.told in
+leaves sink sink' d d' frames consumed n before after messages consistent there taken attached plays =
+    let visible = consumes (d.stopping || d.failed) (min frames d.depth) (sink.filled - sink.consumed) n plays.visible in
     let at = attached plays.going in
-    let count : n ≡ frames = omega (arith, told.1, there, kept.filled_bounded, at.depth) in
+    let count : n ≡ frames = omega (arith, visible.1, there, consistent.filled_bounded, at.depth) in
     record {
-      going = neither sink.stopped (d.stopping || d.failed) plays.going told.0;
+      going = neither sink.stopped (d.stopping || d.failed) plays.going visible.0;
       count = count;
       bytes = same_some d'.played (d.played ++ concat (played_by sink n)) plays.played ∙ ap (λ bytes. bytes ++ concat (played_by sink n)) taken ∙ ap (λ k. concat (played_by sink k)) count;
-      quiet = sym (failing (d'.stopping || d'.failed) (set_of d'.armed d'.each d'.left)) ∙ plays.steady ∙ failing (d.stopping || d.failed) (min frames d.depth) ∙ told.0;
+      quiet = sym (failing (d'.stopping || d'.failed) (set_of d'.armed d'.each d'.left)) ∙ plays.steady ∙ failing (d.stopping || d.failed) (min frames d.depth) ∙ visible.0;
     }
 
 pub mixer-same : (m : Mixer) (frames : ℕ) (messages : List (Message Stream)) (sink : Sink) (notices : List (Notice Stream)) (fails : Bool) → is_to_stop m ≡ false → sink ≡ turned samples m.sink frames messages
@@ -74,4 +74,4 @@ pub played-same : (m : Mixer) (frames : ℕ) → is_to_stop m ≡ false → play
 played-same m frames going = cond-false (is_to_stop m) [] (played_by m.sink frames) going
 
 pub played-count : (sink : Sink) (frames : ℕ) → IsSink sink → frames ≤ sink.filled - sink.consumed → length (played_by sink frames) ≡ frames
-played-count sink frames kept there = length-take-le frames sink.buffer (omega (arith, there, kept.buffer_full))
+played-count sink frames consistent there = length-take-le frames sink.buffer (omega (arith, there, consistent.buffer_full))

@@ -14,7 +14,7 @@ use Rattle.px_model.specs.Sink.{IsSink}
 use Rattle.px_msg.specs.View.{message_of, notice_for}
 use Rattle.px_state.specs.State.{State}
 use Rattle.px_state.specs.Out.{waiting_for}
-use Rattle.px_core.specs.Keeps.{IsStep, Spares}
+use Rattle.px_core.specs.Consistency.{IsStep, Spares}
 use Rattle.px_core.specs.Parcels.{Takes}
 use Rattle.px_core.specs.Step.{notice, out, sweep, stepped_by, effects_by}
 use Rattle.px_world.specs.declared.fault.WorldFault.{WorldFault}
@@ -24,9 +24,9 @@ use Rattle.px_world.specs.World.{World, Mixer}
 use Rattle.px_world.specs.Admission.{LAST_FILLED, too_many, or_else, refusal_of, turn_refusal, collect_refusal}
 use Rattle.px_world.specs.Event.{notices_of, change_at, mixer_turned, mixer_collected, played_of}
 use Rattle.px_world.specs.Doing.{Unless, Plays}
-use Rattle.px_world.specs.Keeping.{GivesStream, AreKept}
+use Rattle.px_world.specs.Consistency.{GivesStream, AreConsistent}
 use Rattle.px_world.proofs.Giving.{take_gives, drop_gives}
-use Rattle.px_world.proofs.Kept.{kept-steps, kept-turn, kept-notices, turn-messages}
+use Rattle.px_world.proofs.Consistent.{consistent-steps, consistent-turn, consistent-notices, turn-messages}
 
 -- ---- a mixer among the others, each seen as one of the definitions
 
@@ -149,11 +149,11 @@ module _ (w : World) (core : State Stream) (ms : List Mixer) (same_core : w.core
         → mixers ≡ change_at ms k (slice_get ms k) (λ x. mixer_collected x count)
         → outcome.effects ≡ effects_by Stream.spec core (map (λ (n : Notice Stream). notice (record { 0 = k }) (notice_for n)) (take count m.notices) ++ sweep ∷ [])
         → outcome.frames ≡ 0 → outcome.played ≡ [] → Plays core after mixers w (Collect k count) outcome
-    collects after mixers count outcome few e mixed told counted bytes = record {
+    collects after mixers count outcome few e mixed caused counted bytes = record {
       admitted = ap (λ o. collect_refusal o count) here ∙ enough count (length m.notices) few;
       core = e ∙ ap (λ o. stepped_by Stream.spec core (map (λ (n : Notice Stream). notice (record { 0 = k }) (notice_for n)) (take count (notices_of o)) ++ sweep ∷ [])) (sym here);
       mixed = mixed ∙ ap (λ l. change_at l k (slice_get l k) (λ x. mixer_collected x count)) (sym same_mixers);
-      told = told ∙ ap (λ o. effects_by Stream.spec core (map (λ (n : Notice Stream). notice (record { 0 = k }) (notice_for n)) (take count (notices_of o)) ++ sweep ∷ [])) (sym here);
+      caused = caused ∙ ap (λ o. effects_by Stream.spec core (map (λ (n : Notice Stream). notice (record { 0 = k }) (notice_for n)) (take count (notices_of o)) ++ sweep ∷ [])) (sym here);
       counted = counted;
       bytes = bytes;
     }
@@ -164,13 +164,13 @@ module _ (w : World) (core : State Stream) (ms : List Mixer) (same_core : w.core
         → mixers ≡ change_at ms k (slice_get ms k) (λ x. mixer_turned x frames (map (message_of (λ p. p)) (take count (waiting_for core (record { 0 = k })))))
         → outcome.effects ≡ effects_by Stream.spec core (replicate count (out (record { 0 = k })) ++ sweep ∷ [])
         → outcome.frames ≡ length (played_of (Some m) frames) → outcome.played ≡ concat (played_of (Some m) frames) → Plays core after mixers w (Turn k frames count) outcome
-    plays after mixers frames count outcome goes e mixed told counted bytes = record {
+    plays after mixers frames count outcome goes e mixed caused counted bytes = record {
       admitted = turn-refusal frames count ∙ goes;
       core = e;
       mixed = mixed
           ∙ ap (λ l. change_at l k (slice_get l k) (λ x. mixer_turned x frames (map (message_of (λ p. p)) (take count (waiting_for core (record { 0 = k })))))) (sym same_mixers)
           ∙ ap (λ s. change_at w.mixers k (slice_get w.mixers k) (λ x. mixer_turned x frames (map (message_of (λ p. p)) (take count (waiting_for s (record { 0 = k })))))) (sym same_core);
-      told = told;
+      caused = caused;
       counted = counted ∙ ap (λ o. length (played_of o frames)) (sym here);
       bytes = bytes ∙ ap (λ o. concat (played_of o frames)) (sym here);
     }
@@ -194,11 +194,11 @@ sink-there [] k h = absurd (omega (arith, h))
 sink-there (x ∷ xs) zero h = (x, refl)
 sink-there (x ∷ xs) (suc k) h = sink-there xs k (omega (arith, h))
 
-module _ {X : Type 0} (v : X → Mixer) (xs : List X) (k : ℕ) (d : X) (within : k < length xs) (core : State Stream) (h : AreKept core (map v xs)) where
-  pub sink-kept : IsSink (v (get_or xs k d)).sink
-  sink-kept =
+module _ {X : Type 0} (v : X → Mixer) (xs : List X) (k : ℕ) (d : X) (within : k < length xs) (core : State Stream) (h : AreConsistent core (map v xs)) where
+  pub sink-consistent : IsSink (v (get_or xs k d)).sink
+  sink-consistent =
       let sinks = sink-there core.sinks k (omega (arith, within, h.count, length-map xs v)) in
-      (h.each k sinks.0 (v (get_or xs k d)) sinks.1 (seen-at v xs k d within)).kept
+      (h.each k sinks.0 (v (get_or xs k d)) sinks.1 (seen-at v xs k d within)).consistent
 
   -- the messages of a turn are for its sink
   pub turn-for : (count : ℕ) → AreFor (v (get_or xs k d)).sink (map (message_of (λ p. p)) (take count (waiting_for core (record { 0 = k }))))
@@ -211,22 +211,22 @@ module _ {X : Type 0} (v : X → Mixer) (xs : List X) (k : ℕ) (d : X) (within 
       let sinks = sink-there core.sinks k (omega (arith, within, h.count, length-map xs v)) in
       (h.each k sinks.0 (v (get_or xs k d)) sinks.1 (seen-at v xs k d within)).gives
 
-  pub collected-kept : (after : State Stream) (sink : SinkId) (count : ℕ) (next : X) → (v next).sink ≡ (v (get_or xs k d)).sink → (v next).notices ≡ drop count (v (get_or xs k d)).notices
-      → after ≡ stepped_by Stream.spec core (map (λ (n : Notice Stream). notice sink (notice_for n)) (take count (v (get_or xs k d)).notices) ++ sweep ∷ []) → AreKept after (map v (set xs k next))
-  collected-kept after sink count next same left e =
+  pub collected-consistent : (after : State Stream) (sink : SinkId) (count : ℕ) (next : X) → (v next).sink ≡ (v (get_or xs k d)).sink → (v next).notices ≡ drop count (v (get_or xs k d)).notices
+      → after ≡ stepped_by Stream.spec core (map (λ (n : Notice Stream). notice sink (notice_for n)) (take count (v (get_or xs k d)).notices) ++ sweep ∷ []) → AreConsistent after (map v (set xs k next))
+  collected-consistent after sink count next same left e =
       let ns : List (Notice Stream) = take count (v (get_or xs k d)).notices in
-      let steps : AreKept after (map v xs) =
-      subst (λ t. AreKept t (map v xs)) (sym e)
-      (kept-steps core (map v xs) (map (λ (n : Notice Stream). notice sink (notice_for n)) ns ++ sweep ∷ []) h (notices-are sink ns) (notices-take sink ns (take_gives count (v (get_or xs k d)).notices given-up)) (λ other. notices-spare other sink ns)) in
-      subst (AreKept after) (sym (map-set v xs k next))
-      (kept-notices after (map v xs) k (v (get_or xs k d)) (v next) steps (seen-at v xs k d within) same
+      let steps : AreConsistent after (map v xs) =
+      subst (λ t. AreConsistent t (map v xs)) (sym e)
+      (consistent-steps core (map v xs) (map (λ (n : Notice Stream). notice sink (notice_for n)) ns ++ sweep ∷ []) h (notices-are sink ns) (notices-take sink ns (take_gives count (v (get_or xs k d)).notices given-up)) (λ other. notices-spare other sink ns)) in
+      subst (AreConsistent after) (sym (map-set v xs k next))
+      (consistent-notices after (map v xs) k (v (get_or xs k d)) (v next) steps (seen-at v xs k d within) same
       (λ given. subst (AllByRecursion GivesStream) (sym left) (drop_gives count (v (get_or xs k d)).notices given)))
 
-  pub turned-kept : (after : State Stream) (frames count : ℕ) (next : X) → frames ≤ (v (get_or xs k d)).sink.filled - (v (get_or xs k d)).sink.consumed
+  pub turned-consistent : (after : State Stream) (frames count : ℕ) (next : X) → frames ≤ (v (get_or xs k d)).sink.filled - (v (get_or xs k d)).sink.consumed
       → v next ≡ mixer_turned (v (get_or xs k d)) frames (map (message_of (λ p. p)) (take count (waiting_for core (record { 0 = k }))))
-      → after ≡ stepped_by Stream.spec core (replicate count (out (record { 0 = k })) ++ sweep ∷ []) → AreKept after (map v (set xs k next))
-  turned-kept after frames count next few turned e =
+      → after ≡ stepped_by Stream.spec core (replicate count (out (record { 0 = k })) ++ sweep ∷ []) → AreConsistent after (map v (set xs k next))
+  turned-consistent after frames count next few turned e =
       let sinks = sink-there core.sinks k (omega (arith, within, h.count, length-map xs v)) in
-      subst (AreKept after) (sym (map-set v xs k next ∙ ap (set (map v xs) k) turned))
-      (subst (λ t. AreKept t (set (map v xs) k (mixer_turned (v (get_or xs k d)) frames (map (message_of (λ p. p)) (take count (waiting_for core (record { 0 = k }))))))) (sym e)
-      (kept-turn core (map v xs) k sinks.0 (v (get_or xs k d)) frames count h sinks.1 (seen-at v xs k d within) few))
+      subst (AreConsistent after) (sym (map-set v xs k next ∙ ap (set (map v xs) k) turned))
+      (subst (λ t. AreConsistent t (set (map v xs) k (mixer_turned (v (get_or xs k d)) frames (map (message_of (λ p. p)) (take count (waiting_for core (record { 0 = k }))))))) (sym e)
+      (consistent-turn core (map v xs) k sinks.0 (v (get_or xs k d)) frames count h sinks.1 (seen-at v xs k d within) few))

@@ -15,8 +15,8 @@ use Rattle.px_world.specs.World.{World, Mixer}
 use Rattle.px_world.specs.Admission.{refusal_of}
 use Rattle.px_world.specs.Event.{all_steps, links_after, mixers_after, change_at, frames_played}
 use Rattle.px_world.specs.Running.{Running, Open, StandsFor}
-use Rattle.px_world.specs.Doing.{Unless, Does, Plays, HasNoSound, IsSilent, Runs, Answered, IsRefused, told_to_fail, world_stopping}
-use Rattle.px_world.specs.Keeping.{AreKept}
+use Rattle.px_world.specs.Doing.{Unless, Does, Plays, HasNoSound, IsSilent, Runs, Answered, IsRefused, set_to_fail, world_stopping}
+use Rattle.px_world.specs.Consistency.{AreConsistent}
 use Rattle.px_world.proofs.Standing.{stands-after}
 
 module _ (before after : Running) (w : World) (e : Event) (s : StandsFor before w) where
@@ -25,7 +25,7 @@ module _ (before after : Running) (w : World) (e : Event) (s : StandsFor before 
   done-connection effects outcome silent d same unchanged soundless = record {
     done = record {
       admitted = d.admitted;
-      effects = silent.told ∙ d.told ∙ ap (λ c. effects_by Stream.spec c (all_steps w e)) s.core;
+      effects = silent.caused ∙ d.caused ∙ ap (λ c. effects_by Stream.spec c (all_steps w e)) s.core;
       frames = silent.counted ∙ sym (ap length soundless);
       played = silent.bytes ∙ sym (ap concat soundless);
     };
@@ -44,7 +44,7 @@ module _ (before after : Running) (w : World) (e : Event) (s : StandsFor before 
   done-sink outcome p same unchanged = record {
     done = record {
       admitted = p.admitted;
-      effects = p.told ∙ ap (λ c. effects_by Stream.spec c (all_steps w e)) s.core;
+      effects = p.caused ∙ ap (λ c. effects_by Stream.spec c (all_steps w e)) s.core;
       frames = p.counted;
       played = p.bytes;
     };
@@ -69,14 +69,14 @@ unless-map NoMemory A B f a = tt
 
 -- ---- what is kept where there is no sound
 
-pub kept-silent : (core after : State Stream) (doors later : List Door) (mixers : List Mixer) (given : Result (List Effect) WorldFault) (result : Result Outcome WorldFault) → IsSilent given result
-    → Answered given (λ _. Unit {0}) (λ _. (after ≡ core) × (later ≡ doors)) → OnOk given ((ms : List Mixer) → AreKept core ms → AreKept after ms) → AreKept core mixers → Answered result (λ _. AreKept after mixers) (λ _. AreKept after mixers)
-kept-silent core after doors later mixers (Ok effects) (Ok outcome) silent stays kept h = kept mixers h
-kept-silent core after doors later mixers (Ok effects) (Err fault) silent stays kept h = absurd silent
-kept-silent core after doors later mixers (Err fault) (Ok outcome) silent stays kept h = absurd silent
-kept-silent core after doors later mixers (Err fault) (Err other) silent stays kept h =
-    subst (λ f. Unless f (AreKept after mixers)) (sym silent)
-    (unless-map fault ((after ≡ core) × (later ≡ doors)) (AreKept after mixers) (λ p. subst (λ t. AreKept t mixers) (sym p.0) h) stays)
+pub consistent-silent : (core after : State Stream) (doors later : List Door) (mixers : List Mixer) (given : Result (List Effect) WorldFault) (result : Result Outcome WorldFault) → IsSilent given result
+    → Answered given (λ _. Unit {0}) (λ _. (after ≡ core) × (later ≡ doors)) → OnOk given ((ms : List Mixer) → AreConsistent core ms → AreConsistent after ms) → AreConsistent core mixers → Answered result (λ _. AreConsistent after mixers) (λ _. AreConsistent after mixers)
+consistent-silent core after doors later mixers (Ok effects) (Ok outcome) silent stays consistent h = consistent mixers h
+consistent-silent core after doors later mixers (Ok effects) (Err fault) silent stays consistent h = absurd silent
+consistent-silent core after doors later mixers (Err fault) (Ok outcome) silent stays consistent h = absurd silent
+consistent-silent core after doors later mixers (Err fault) (Err other) silent stays consistent h =
+    subst (λ f. Unless f (AreConsistent after mixers)) (sym silent)
+    (unless-map fault ((after ≡ core) × (later ≡ doors)) (AreConsistent after mixers) (λ p. subst (λ t. AreConsistent t mixers) (sym p.0) h) stays)
 
 pub keeps-it : (result : Result Outcome WorldFault) (A : Type 0) → A → Answered result (λ _. A) (λ _. A)
 keeps-it (Ok outcome) A a = a
@@ -89,10 +89,10 @@ keeps-it (Err NoMemory) A a = tt
 
 -- ---- a device that is to fail
 
-pub stops-stand : (before after : Running) (w : World) (k : ℕ) → StandsFor before w → after ≡ record before { mixers = change_at before.mixers k (slice_get before.mixers k) told_to_fail } → StandsFor after (world_stopping w k)
+pub stops-stand : (before after : Running) (w : World) (k : ℕ) → StandsFor before w → after ≡ record before { mixers = change_at before.mixers k (slice_get before.mixers k) set_to_fail } → StandsFor after (world_stopping w k)
 stops-stand before after w k s same = subst (λ (r : Running). StandsFor r (world_stopping w k)) (sym same) (record {
   core = s.core;
   doors = s.doors;
   distinct = s.distinct;
-  mixers = ap (λ (ms : List Mixer). change_at ms k (slice_get ms k) told_to_fail) s.mixers;
+  mixers = ap (λ (ms : List Mixer). change_at ms k (slice_get ms k) set_to_fail) s.mixers;
 })

@@ -56,7 +56,7 @@ pub record Does (before after : State Stream) (doors : List Door) (w : World) (e
   pub admitted : refusal_of w e ≡ None
   pub core : after ≡ stepped_by Stream.spec before (all_steps w e)
   pub opened : Open doors (links_after w.links e)
-  pub told : effects ≡ effects_by Stream.spec before (all_steps w e)
+  pub caused : effects ≡ effects_by Stream.spec before (all_steps w e)
 
 -- ---- an event of a sink
 
@@ -65,21 +65,21 @@ pub record Plays (before after : State Stream) (mixers : List Mixer) (w : World)
   pub admitted : refusal_of w e ≡ None
   pub core : after ≡ stepped_by Stream.spec before (all_steps w e)
   pub mixed : mixers ≡ mixers_after w e
-  pub told : outcome.effects ≡ effects_by Stream.spec before (all_steps w e)
+  pub caused : outcome.effects ≡ effects_by Stream.spec before (all_steps w e)
   pub counted : outcome.frames ≡ length (frames_played w e)
   pub bytes : outcome.played ≡ concat (frames_played w e)
 
 -- its device is to fail at the next turn, unless the sink is stopped
-abbrev pub told_to_fail : Mixer → Mixer
-told_to_fail m = cond m.sink.stopped m (record m { failing = true })
+abbrev pub set_to_fail : Mixer → Mixer
+set_to_fail m = cond m.sink.stopped m (record m { failing = true })
 
 abbrev pub world_stopping : World → ℕ → World
-world_stopping w sink = record w { mixers = change_at w.mixers sink (slice_get w.mixers sink) told_to_fail }
+world_stopping w sink = record w { mixers = change_at w.mixers sink (slice_get w.mixers sink) set_to_fail }
 
 -- ---- an outcome with no sound
 
 pub record HasNoSound (effects : List Effect) (outcome : Outcome) : Type 0 where
-  pub told : outcome.effects ≡ effects
+  pub caused : outcome.effects ≡ effects
   pub counted : outcome.frames ≡ 0
   pub bytes : outcome.played ≡ []
 

@@ -7,6 +7,6 @@ pub mod History
 pub mod Running
 pub mod Worked
 pub mod Outcome
-pub mod Keeping
+pub mod Consistency
 pub mod Playing
 pub mod Doing

@@ -7,7 +7,7 @@ ghost use Rattle.px_session.specs.declared.event.Event.TheVariants.{Connect, Byt
 ghost use Rattle.px_state.specs.Effect.{IsSendable};
 ghost use Rattle.px_world.specs.World.{World, Mixer};
 ghost use Rattle.px_world.specs.Running.{is_door, Open, AreDistinct};
-ghost use Rattle.px_world.specs.Keeping.{AreKept};
+ghost use Rattle.px_world.specs.Consistency.{AreConsistent};
 ghost use Rattle.px_world.specs.declared.doors.Door.{Door};
 ghost use Rattle.px_world.specs.Doing.{Does, Answered, IsRefused};
 
@@ -23,7 +23,7 @@ use std::alloc::Global;
 fn admit(core: &mut WorldCore, doors: &mut Vec<Door>, alloc: Global, conn: ConnId) -> Mem<Effects>
     requires { position (is_door conn) doors.old.items ≡ None }
     ensures done { IfOk result (λ effects. (w : World) → Open doors.old.items w.links → Does core.old.state core.new.state doors.new.items w (Connect conn) effects) }
-    ensures kept { OnOk result ((mixers : List Mixer) → AreKept core.old.state mixers → AreKept core.new.state mixers) }
+    ensures consistent { OnOk result ((mixers : List Mixer) → AreConsistent core.old.state mixers → AreConsistent core.new.state mixers) }
 {
     let first = core.admit(conn)?;
     add(doors, alloc, conn)?;
@@ -40,7 +40,7 @@ pub(crate) fn connect(
 ) -> Result<Effects, WorldFault>
     ensures done { (w : World) → Open doors.old.items w.links → Answered result (Does core.old.state core.new.state doors.new.items w (Connect conn)) (IsRefused w (Connect conn)) }
     ensures stays { Answered result (λ _. Unit {0}) (λ _. (core.new.state ≡ core.old.state) × (doors.new.items ≡ doors.old.items)) }
-    ensures kept { OnOk result ((mixers : List Mixer) → AreKept core.old.state mixers → AreKept core.new.state mixers) }
+    ensures consistent { OnOk result ((mixers : List Mixer) → AreConsistent core.old.state mixers → AreConsistent core.new.state mixers) }
 {
     match place_of(doors.as_slice(), conn) {
         Some(_) => Err(WorldFault::Live),
@@ -60,7 +60,7 @@ fn hear(
 ) -> Mem<Effects>
     requires { position (is_door conn) doors.old ≡ Some place }
     ensures done { IfOk result (λ effects. (w : World) → Open doors.old w.links → AreDistinct w.links → Does core.old.state core.new.state doors.new w (Bytes conn bytes.now) effects) }
-    ensures kept { OnOk result ((mixers : List Mixer) → AreKept core.old.state mixers → AreKept core.new.state mixers) }
+    ensures consistent { OnOk result ((mixers : List Mixer) → AreConsistent core.old.state mixers → AreConsistent core.new.state mixers) }
 {
     let given = feed(doors, place, bytes, spares);
     let first = take_given(core, alloc, conn, given)?;
@@ -79,7 +79,7 @@ fn receive(
 ) -> Result<Effects, WorldFault>
     ensures done { (w : World) → Open doors.old w.links → AreDistinct w.links → Answered result (Does core.old.state core.new.state doors.new w (Bytes conn bytes.now)) (IsRefused w (Bytes conn bytes.now)) }
     ensures stays { Answered result (λ _. Unit {0}) (λ _. (core.new.state ≡ core.old.state) × (doors.new ≡ doors.old)) }
-    ensures kept { OnOk result ((mixers : List Mixer) → AreKept core.old.state mixers → AreKept core.new.state mixers) }
+    ensures consistent { OnOk result ((mixers : List Mixer) → AreConsistent core.old.state mixers → AreConsistent core.new.state mixers) }
 {
     match place_of(doors, conn) {
         None => Err(WorldFault::NotLive),
@@ -98,10 +98,10 @@ pub(crate) fn bytes(
 ) -> Result<Effects, WorldFault>
     ensures done { (w : World) → Open doors.old w.links → AreDistinct w.links → Answered result (Does core.old.state core.new.state doors.new w (Bytes conn text)) (IsRefused w (Bytes conn text)) }
     ensures stays { Answered result (λ _. Unit {0}) (λ _. (core.new.state ≡ core.old.state) × (doors.new ≡ doors.old)) }
-    ensures kept { OnOk result ((mixers : List Mixer) → AreKept core.old.state mixers → AreKept core.new.state mixers) }
+    ensures consistent { OnOk result ((mixers : List Mixer) → AreConsistent core.old.state mixers → AreConsistent core.new.state mixers) }
 {
     let done = receive(core, doors, alloc, conn, text.as_slice(), spares);
-    spares.keep_text(text);
+    spares.reclaim_text(text);
     done
 }
 
@@ -115,7 +115,7 @@ fn leave(
 ) -> Mem<Effects>
     requires { position (is_door conn) doors.old.items ≡ Some place }
     ensures done { IfOk result (λ effects. (w : World) → Open doors.old.items w.links → AreDistinct w.links → Does core.old.state core.new.state doors.new.items w (Close conn) effects) }
-    ensures kept { OnOk result ((mixers : List Mixer) → AreKept core.old.state mixers → AreKept core.new.state mixers) }
+    ensures consistent { OnOk result ((mixers : List Mixer) → AreConsistent core.old.state mixers → AreConsistent core.new.state mixers) }
 {
     core.close(conn);
     drop_at(doors, place);
@@ -133,7 +133,7 @@ pub(crate) fn close(
 ) -> Result<Effects, WorldFault>
     ensures done { (w : World) → Open doors.old.items w.links → AreDistinct w.links → Answered result (Does core.old.state core.new.state doors.new.items w (Close conn)) (IsRefused w (Close conn)) }
     ensures stays { Answered result (λ _. Unit {0}) (λ _. (core.new.state ≡ core.old.state) × (doors.new.items ≡ doors.old.items)) }
-    ensures kept { OnOk result ((mixers : List Mixer) → AreKept core.old.state mixers → AreKept core.new.state mixers) }
+    ensures consistent { OnOk result ((mixers : List Mixer) → AreConsistent core.old.state mixers → AreConsistent core.new.state mixers) }
 {
     match place_of(doors.as_slice(), conn) {
         None => Err(WorldFault::NotLive),
@@ -155,7 +155,7 @@ fn of_option(alloc: Global, effect: Option<Effect>) -> Mem<Effects>
 // The server ends a connection that is named.
 fn cut_off(core: &mut WorldCore, alloc: Global, conn: ConnId) -> Mem<Effects>
     ensures done { IfOk result (λ effects. (doors : List Door) (place : ℕ) (w : World) → position (is_door conn) doors ≡ Some place → Open doors w.links → Does core.old.state core.new.state doors w (Cut conn) effects) }
-    ensures kept { OnOk result ((mixers : List Mixer) → AreKept core.old.state mixers → AreKept core.new.state mixers) }
+    ensures consistent { OnOk result ((mixers : List Mixer) → AreConsistent core.old.state mixers → AreConsistent core.new.state mixers) }
 {
     let effect = core.cut(conn);
     let first = of_option(alloc, effect)?;
@@ -172,7 +172,7 @@ pub(crate) fn cut(
 ) -> Result<Effects, WorldFault>
     ensures done { (w : World) → Open doors.now w.links → Answered result (Does core.old.state core.new.state doors.now w (Cut conn)) (IsRefused w (Cut conn)) }
     ensures stays { Answered result (λ _. Unit {0}) (λ _. (core.new.state ≡ core.old.state) × (doors.now ≡ doors.now)) }
-    ensures kept { OnOk result ((mixers : List Mixer) → AreKept core.old.state mixers → AreKept core.new.state mixers) }
+    ensures consistent { OnOk result ((mixers : List Mixer) → AreConsistent core.old.state mixers → AreConsistent core.new.state mixers) }
 {
     match place_of(doors, conn) {
         None => Err(WorldFault::NotLive),

@@ -10,11 +10,11 @@ ghost use Rattle.px_header.specs.declared.header.SinkSpec.{SinkSpec as Spec};
 ghost use Rattle.px_sample.specs.Format.{frame_size_of};
 ghost use Rattle.px_model.specs.Stream.{Stream as Plain};
 ghost use Rattle.px_model.specs.Orderly.{IsOrderly};
-ghost use Rattle.px_model.specs.Sink.{IsSink as IsKeptSink, specs_of};
+ghost use Rattle.px_model.specs.Sink.{IsSink as IsConsistentSink, specs_of};
 ghost use Rattle.px_world.specs.Event.{mixer_turned, played_of};
 ghost use Rattle.px_world.specs.World.{new_mixer};
 ghost use Rattle.px_world.specs.Playing.{mixer_of, IsPlaying};
-ghost use Rattle.px_world.specs.Doing.{told_to_fail};
+ghost use Rattle.px_world.specs.Doing.{set_to_fail};
 
 use crate::spares::Spares;
 use px_ends::{DeviceShape, MemDevice, Played};
@@ -104,7 +104,7 @@ impl Playing {
         messages: &mut MsgList,
         blocks: &mut Spares,
     ) -> Mem<Sound>
-        requires kept { IsKeptSink self.old.lane.sink }
+        requires consistent { IsConsistentSink self.old.lane.sink }
         requires playing { IsPlaying self.old }
         requires there { frames ≤ self.old.lane.sink.filled - self.old.lane.sink.consumed }
         requires countable { self.old.lane.sink.filled ≤ 2 ^ 60 }
@@ -138,7 +138,7 @@ impl Playing {
     /// The device fails at the next turn.
     pub fn stop(&mut self)
         ensures sink { self.new.lane.sink ≡ self.old.lane.sink }
-        ensures mixer { mixer_of self.new ≡ told_to_fail (mixer_of self.old) }
+        ensures mixer { mixer_of self.new ≡ set_to_fail (mixer_of self.old) }
         ensures playing { IsPlaying self.old → IsPlaying self.new }
     {
         self.lane.device_mut().stop_next();

@@ -5,7 +5,7 @@ ghost use Rattle.std.specs.List.{AllByRecursion};
 ghost use Rattle.px_world.specs.World.{World};
 ghost use Rattle.px_world.specs.Running.{StandsFor};
 ghost use Rattle.px_world.specs.Playing.{mixer_of, IsPlaying};
-ghost use Rattle.px_world.specs.Keeping.{AreKept};
+ghost use Rattle.px_world.specs.Consistency.{AreConsistent};
 ghost use Rattle.px_world.specs.Doing.{IsSilent, running_of, Answered, IsRefused, Runs};
 
 use crate::connections::{bytes, close, connect, cut};
@@ -42,12 +42,12 @@ pub(crate) fn run(
     alloc: Global,
     e: Event,
 ) -> Result<Outcome, WorldFault>
-    requires kept { AreKept core.old.state (map mixer_of mixers.old.items) }
+    requires consistent { AreConsistent core.old.state (map mixer_of mixers.old.items) }
     requires playing { AllByRecursion IsPlaying mixers.old.items }
     ensures done { (w : World) → StandsFor (running_of core.old.state doors.old.items mixers.old.items) w
         → Answered result (Runs (running_of core.new.state doors.new.items mixers.new.items) w e) (IsRefused w e) }
     ensures rests { Answered result (λ _. Unit {0}) (λ _. (running_of core.new.state doors.new.items mixers.new.items) ≡ (running_of core.old.state doors.old.items mixers.old.items)) }
-    ensures kept { Answered result (λ _. AreKept core.new.state (map mixer_of mixers.new.items)) (λ _. AreKept core.new.state (map mixer_of mixers.new.items)) }
+    ensures consistent { Answered result (λ _. AreConsistent core.new.state (map mixer_of mixers.new.items)) (λ _. AreConsistent core.new.state (map mixer_of mixers.new.items)) }
     ensures playing { Answered result (λ _. AllByRecursion IsPlaying mixers.new.items) (λ _. AllByRecursion IsPlaying mixers.new.items) }
 {
     match e {

@@ -4,7 +4,7 @@ ghost use Rattle.std.specs.Prelude.{◌≡◌, ◌<◌, ◌≤◌, ◌-◌, ◌^
 ghost use Rattle.std.specs.List.{concat, AllByRecursion};
 ghost use Rattle.px_session.specs.declared.event.Event.TheVariants.{Turn, Collect};
 ghost use Rattle.px_model.specs.Stream.{Stream as Plain};
-ghost use Rattle.px_model.specs.Sink.{IsSink as IsKeptSink};
+ghost use Rattle.px_model.specs.Sink.{IsSink as IsConsistentSink};
 ghost use Rattle.px_model.specs.Turn.{AreFor};
 ghost use Rattle.px_msg.specs.View.{message_of, notice_for};
 ghost use Rattle.px_state.specs.Out.{waiting_for};
@@ -13,7 +13,7 @@ ghost use Rattle.px_world.specs.World.{World};
 ghost use Rattle.px_world.specs.Admission.{turn_refusal};
 ghost use Rattle.px_world.specs.Event.{mixer_turned, played_of};
 ghost use Rattle.px_world.specs.Playing.{mixer_of, IsPlaying};
-ghost use Rattle.px_world.specs.Keeping.{AreKept};
+ghost use Rattle.px_world.specs.Consistency.{AreConsistent};
 ghost use Rattle.px_world.specs.Doing.{Answered, IsRefused, Plays};
 
 use crate::playing::Playing;
@@ -69,12 +69,12 @@ pub(crate) fn collect(
     sink: u8,
     count: u32,
 ) -> Result<Outcome, WorldFault>
-    requires kept { AreKept core.old.state (map mixer_of mixers.old) }
+    requires consistent { AreConsistent core.old.state (map mixer_of mixers.old) }
     requires playing { AllByRecursion IsPlaying mixers.old }
     ensures done { (w : World) → w.core ≡ core.old.state → w.mixers ≡ map mixer_of mixers.old
         → Answered result (Plays core.old.state core.new.state (map mixer_of mixers.new) w (Collect sink count)) (IsRefused w (Collect sink count)) }
     ensures still { Answered result (λ _. Unit {0}) (λ _. (core.new.state ≡ core.old.state) × (map mixer_of mixers.new ≡ map mixer_of mixers.old)) }
-    ensures kept { Answered result (λ _. AreKept core.new.state (map mixer_of mixers.new)) (λ _. AreKept core.new.state (map mixer_of mixers.new)) }
+    ensures consistent { Answered result (λ _. AreConsistent core.new.state (map mixer_of mixers.new)) (λ _. AreConsistent core.new.state (map mixer_of mixers.new)) }
     ensures playing { Answered result (λ _. AllByRecursion IsPlaying mixers.new) (λ _. AllByRecursion IsPlaying mixers.new) }
 {
     let place = sink as usize;
@@ -134,7 +134,7 @@ fn turn_of(
     count: u32,
     spares: &mut Spares,
 ) -> Mem<Outcome>
-    requires kept { IsKeptSink playing.old.lane.sink }
+    requires consistent { IsConsistentSink playing.old.lane.sink }
     requires playing { IsPlaying playing.old }
     requires there { frames ≤ playing.old.lane.sink.filled - playing.old.lane.sink.consumed }
     requires countable { playing.old.lane.sink.filled ≤ 2 ^ 60 }
@@ -169,12 +169,12 @@ pub(crate) fn turn(
     count: u32,
     spares: &mut Spares,
 ) -> Result<Outcome, WorldFault>
-    requires kept { AreKept core.old.state (map mixer_of mixers.old) }
+    requires consistent { AreConsistent core.old.state (map mixer_of mixers.old) }
     requires playing { AllByRecursion IsPlaying mixers.old }
     ensures done { (w : World) → w.core ≡ core.old.state → w.mixers ≡ map mixer_of mixers.old
         → Answered result (Plays core.old.state core.new.state (map mixer_of mixers.new) w (Turn sink frames count)) (IsRefused w (Turn sink frames count)) }
     ensures still { Answered result (λ _. Unit {0}) (λ _. (core.new.state ≡ core.old.state) × (map mixer_of mixers.new ≡ map mixer_of mixers.old)) }
-    ensures kept { Answered result (λ _. AreKept core.new.state (map mixer_of mixers.new)) (λ _. AreKept core.new.state (map mixer_of mixers.new)) }
+    ensures consistent { Answered result (λ _. AreConsistent core.new.state (map mixer_of mixers.new)) (λ _. AreConsistent core.new.state (map mixer_of mixers.new)) }
     ensures playing { Answered result (λ _. AllByRecursion IsPlaying mixers.new) (λ _. AllByRecursion IsPlaying mixers.new) }
 {
     let place = sink as usize;

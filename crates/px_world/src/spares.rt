@@ -28,7 +28,7 @@ impl Spares {
     }
 
     /// Keeps a text whose bytes are done with, in place of one that it kept before. Takes no memory.
-    pub(crate) fn keep_text(&mut self, text: Text)
+    pub(crate) fn reclaim_text(&mut self, text: Text)
         ensures { self.new.text ≡ Some text }
     {
         self.text = Some(text);

@@ -13,8 +13,8 @@ ghost use Rattle.px_world.specs.Running.{StandsFor};
 ghost use Rattle.px_world.specs.Playing.{mixer_of, IsPlaying};
 ghost use Rattle.px_model.specs.Stream.{Stream as Plain};
 ghost use Rattle.px_state.specs.State.{State};
-ghost use Rattle.px_world.specs.Keeping.{AreKept};
-ghost use Rattle.px_world.specs.Doing.{loses, told_to_fail, world_stopping};
+ghost use Rattle.px_world.specs.Consistency.{AreConsistent};
+ghost use Rattle.px_world.specs.Doing.{loses, set_to_fail, world_stopping};
 ghost use Rattle.px_world.specs.declared.fault.WorldFault.{WorldFault};
 ghost use Rattle.px_world.specs.declared.fault.WorldFault.TheVariants.{NoMemory};
 
@@ -50,13 +50,13 @@ impl Model for World {
     ghost use Rattle.px_world.specs.Running.{Running};
     ghost use Rattle.px_world.specs.Playing.{mixer_of, IsPlaying};
     ghost use Rattle.px_world.specs.Doing.{running_of};
-    ghost use Rattle.px_world.specs.Keeping.{AreKept};
+    ghost use Rattle.px_world.specs.Consistency.{AreConsistent};
 
     ghost Value = { Running };
 
     ghost view = { λ w. running_of w.core.state w.doors.items w.mixers.items };
 
-    ghost invariant = { λ w. IsFalse w.lost → AreKept w.core.state (map mixer_of w.mixers.items) × AllByRecursion IsPlaying w.mixers.items };
+    ghost invariant = { λ w. IsFalse w.lost → AreConsistent w.core.state (map mixer_of w.mixers.items) × AllByRecursion IsPlaying w.mixers.items };
 }
 
 // A mixer for each sink.
@@ -85,7 +85,7 @@ fn is_want(fault: WorldFault) -> bool
 
 impl World {
     /// The world before the first event.
-    #[tactic(auto, using(crate::proofs::Beginning::begins, crate::proofs::Beginning::kept_begins, crate::proofs::Beginning::all_sinks))]
+    #[tactic(auto, using(crate::proofs::Beginning::begins, crate::proofs::Beginning::consistent_begins, crate::proofs::Beginning::all_sinks))]
     pub fn new(alloc: Global, header: &Header) -> Mem<World>
         requires { IsHeader header.now }
         ensures { IfOk result (λ world. StandsFor world (new_world header.now)) }
@@ -148,7 +148,7 @@ impl World {
     // Marks the mixer of a sink whose device is to fail.
     fn mark(&mut self, sink: SinkId)
         requires { sink.0 < length self.old.mixers }
-        ensures { self.new ≡ record self.old { mixers = change_at self.old.mixers sink.0 (slice_get self.old.mixers sink.0) told_to_fail } }
+        ensures { self.new ≡ record self.old { mixers = change_at self.old.mixers sink.0 (slice_get self.old.mixers sink.0) set_to_fail } }
     {
         stop_at(&mut self.mixers, sink.0 as usize);
     }
@@ -157,7 +157,7 @@ impl World {
     /// Takes no memory.
     pub fn stop(&mut self, sink: SinkId)
         requires { sink.0 < length self.old.mixers }
-        ensures after { self.new ≡ record self.old { mixers = change_at self.old.mixers sink.0 (slice_get self.old.mixers sink.0) told_to_fail } }
+        ensures after { self.new ≡ record self.old { mixers = change_at self.old.mixers sink.0 (slice_get self.old.mixers sink.0) set_to_fail } }
         ensures stands { (w : SpecWorld) → StandsFor self.old w → StandsFor self.new (world_stopping w sink.0) }
     {
         self.mark(sink);
@@ -178,8 +178,8 @@ fn frames_at(mixers: &[Playing], place: usize) -> Option<Frames>
 // Makes the device of the mixer at a place fail at its next turn.
 fn stop_at(mixers: &mut [Playing], place: usize)
     requires { place < length mixers.old }
-    ensures after { map mixer_of mixers.new ≡ change_at (map mixer_of mixers.old) place (slice_get (map mixer_of mixers.old) place) told_to_fail }
-    ensures kept { (core : State Plain) → AreKept core (map mixer_of mixers.old) → AreKept core (map mixer_of mixers.new) }
+    ensures after { map mixer_of mixers.new ≡ change_at (map mixer_of mixers.old) place (slice_get (map mixer_of mixers.old) place) set_to_fail }
+    ensures consistent { (core : State Plain) → AreConsistent core (map mixer_of mixers.old) → AreConsistent core (map mixer_of mixers.new) }
     ensures playing { AllByRecursion IsPlaying mixers.old → AllByRecursion IsPlaying mixers.new }
 {
     mixers[place].stop();

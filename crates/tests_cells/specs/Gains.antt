@@ -2,23 +2,23 @@
 use Rattle.std.specs.Prelude.{◌≡◌, [], List, length, Option, MatchOption}
 use Rattle.std.specs.List.{AllByRecursion}
 use Rattle.px_ends.specs.MemoryDevice.{MemoryDevice, state_of}
-use Rattle.px_ends.specs.Told.{WhereTold}
+use Rattle.px_ends.specs.Visible.{WhereVisible}
 use Rattle.px_sample.specs.declared.spec.Spec.{Spec}
 use Rattle.px_msg.specs.declared.message.Msg.{Msg}
 use Rattle.px_msg.specs.declared.message.Msg.TheVariants.{Factors}
 use Rattle.px_msg.specs.declared.factors.InputFactors.{InputFactors}
-use Rattle.px_stream.specs.Kept.{KeptStream}
+use Rattle.px_stream.specs.HeldStream.{HeldStream}
 use Rattle.px_lane.specs.Lane.{Mixer, IsAttached}
 use Rattle.px_lane_cell.specs.History.{unturned}
 
 -- it has one factor for each of some inputs
-pub record IsGain (m : Msg KeptStream) : Type 0 where
+pub record IsGain (m : Msg HeldStream) : Type 0 where
   pub each : List InputFactors
   pub is : m ≡ Factors each
   pub one : AllByRecursion (λ f. length (InputFactors.factors f) ≡ 1) each
 
 -- a mono sink's inbox, and all that was posted there is such
-pub record Sends (key : Option Spec) (posted : List (Msg KeptStream)) : Type 0 where
+pub record Sends (key : Option Spec) (posted : List (Msg HeldStream)) : Type 0 where
   pub mono : MatchOption key ⊥ (λ k. k.channels ≡ 1)
   pub gains : AllByRecursion IsGain posted
 
@@ -27,4 +27,4 @@ pub record IsNew (lane : Mixer MemoryDevice) : Type 0 where
   pub begins : lane.sink ≡ unturned lane.sink
   pub mono : lane.sink.spec ≡ record { format = 3; channels = 1; rate = 48000 }
   pub attached : IsAttached (state_of lane.device) lane.sink
-  pub unplayed : WhereTold (state_of lane.device).played (λ bytes. bytes ≡ [])
+  pub unplayed : WhereVisible (state_of lane.device).played (λ bytes. bytes ≡ [])

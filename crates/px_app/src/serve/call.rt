@@ -78,7 +78,7 @@ where
     H::R: 'static,
     H::C: 'static,
     requires { IsHeader header.now }
-    ensures { IsServing H.C.told H.C.faults H.C.fulls H.D.now H.R.told H.R.faults H.R.fulls header.now taped (H.now host.old) (H.now host.new)
+    ensures { IsServing H.C.visible H.C.faults H.C.fulls H.D.now H.R.visible H.R.faults H.R.fulls header.now taped (H.now host.old) (H.now host.new)
         (out_end (K.held output.old) (K.faults output.old)) (out_end (K.held output.new) (K.faults output.new)) result }
 {
     let Served {
@@ -111,7 +111,7 @@ where
     H::D: 'static,
     H::R: 'static,
     H::C: 'static,
-    ensures { ServesWith H.C.told H.C.faults H.C.fulls H.D.now H.R.told H.R.faults H.R.fulls said.now result (H.now host.old) (H.now host.new)
+    ensures { ServesWith H.C.visible H.C.faults H.C.fulls H.D.now H.R.visible H.R.faults H.R.fulls said.now result (H.now host.old) (H.now host.new)
         (out_end (K.held output.old) (K.faults output.old)) (out_end (K.held output.new) (K.faults output.new)) }
 {
     let bytes = match host.start(alloc, &said.options) {
@@ -149,7 +149,7 @@ where
     H::D: 'static,
     H::R: 'static,
     H::C: 'static,
-    ensures { ServesBy H.C.told H.C.faults H.C.fulls H.D.now H.R.told H.R.faults H.R.fulls (map string_bytes words.now) result (H.now host.old) (H.now host.new)
+    ensures { ServesBy H.C.visible H.C.faults H.C.fulls H.D.now H.R.visible H.R.faults H.R.fulls (map string_bytes words.now) result (H.now host.old) (H.now host.new)
         (out_end (K.held output.old) (K.faults output.old)) (out_end (K.held output.new) (K.faults output.new)) }
 {
     let said = match read_serve_words(alloc, words) {

@@ -70,9 +70,9 @@ fn is_shared(shelf: &mut Shelf, block: Block) -> bool
         return false;
     };
     shelf.retain(key);
-    let kept = shelf.release(key).is_none() && shelf.bytes(key, 1, 2) == b"bc".as_slice();
+    let held = shelf.release(key).is_none() && shelf.bytes(key, 1, 2) == b"bc".as_slice();
     match shelf.release(key) {
-        Some(mut block) => kept && is_used_again(&mut block),
+        Some(mut block) => held && is_used_again(&mut block),
         None => false,
     }
 }

@@ -3,19 +3,21 @@ use px_types::Mem;
 use std::alloc::Global;
 
 // Whether a clock of these moments tells those, call by call.
-fn tells(alloc: Global, moments: &[u64], told: &[u64]) -> Mem<bool> {
+fn gives_moments(alloc: Global, moments: &[u64], wanted: &[u64]) -> Mem<bool> {
     let mut list = Vec::new(alloc);
     list.extend_from_slice(moments)?;
     let mut clock = MemClock::new(Moments::from_vec(list));
     let mut right = true;
-    for moment in told {
+    for moment in wanted {
         right = clock.now() == *moment && right;
     }
     Ok(right)
 }
 
 #[test]
-fn a_clock_tells_its_moments_and_then_the_last_again(rt: HostRuntime) {
-    let falls = tells(rt.alloc(), &[3, 3, 7, 2, 9], &[3, 3, 7, 7, 9, 9]);
-    assert!(rt; matches!(falls, Ok(true)) && matches!(tells(rt.alloc(), &[], &[0, 0]), Ok(true)));
+fn a_clock_gives_its_moments_and_then_the_last_again(rt: HostRuntime) {
+    let falls = gives_moments(rt.alloc(), &[3, 3, 7, 2, 9], &[3, 3, 7, 7, 9, 9]);
+    assert!(rt;
+        matches!(falls, Ok(true)) && matches!(gives_moments(rt.alloc(), &[], &[0, 0]), Ok(true))
+    );
 }

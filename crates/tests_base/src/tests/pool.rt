@@ -9,7 +9,7 @@ use std::thread::Threads;
 const ROUNDS: u32 = 20_000;
 
 // An empty pool makes a block. Of two that come back to a pool of one it keeps the first, which was fitted to its bytes.
-fn keeps_one<R: Wait>(seat: &mut PoolSeat<R>) -> Mem<bool> {
+fn pools_one<R: Wait>(seat: &mut PoolSeat<R>) -> Mem<bool> {
     let mut first = seat.take()?;
     let second = seat.take()?;
     let filled = seat.spare() == 0 && first.put(&[7; 40_000]) == 40_000;
@@ -32,7 +32,7 @@ fn takes_it_again<R: Wait>(seat: &mut PoolSeat<R>) -> Mem<bool> {
 fn a_full_pool_drops_and_an_empty_one_makes(rt: HostRuntime) -> Mem<()> {
     let pool = Pool::new(rt.alloc(), 1)?;
     let mut seat = Pool::seat(&rt, &pool)?;
-    let held = keeps_one(&mut seat)? && takes_it_again(&mut seat)?;
+    let held = pools_one(&mut seat)? && takes_it_again(&mut seat)?;
     assert!(rt; held);
     Ok(())
 }

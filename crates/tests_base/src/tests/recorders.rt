@@ -6,7 +6,7 @@ use px_types::{Mem, Text};
 use std::alloc::Global;
 
 // Notes a step of 64 bytes where the recorder is ready for it.
-fn keeps<R: Recorder<CoreEntry>>(recorder: &mut R) -> Result<(), RecordFault> {
+fn notes_a_step<R: Recorder<CoreEntry>>(recorder: &mut R) -> Result<(), RecordFault> {
     let step = PlainStep::Sweep;
     recorder.ready(64)?;
     recorder.note(CoreEntry { step });
@@ -16,16 +16,16 @@ fn keeps<R: Recorder<CoreEntry>>(recorder: &mut R) -> Result<(), RecordFault> {
 // A recorder with room for so many entries and bytes is full behind its last entry, or the one that passes its bytes.
 fn is_full_at(alloc: Global, room: usize, most: usize, entries: usize) -> Mem<bool> {
     let mut recorder = MemRecorder::new(alloc, room, most)?;
-    let mut kept = true;
+    let mut held = true;
     for _ in 0..entries {
-        kept = keeps(&mut recorder).is_ok() && kept;
+        held = notes_a_step(&mut recorder).is_ok() && held;
     }
     let bytes = entries.saturating_mul(64);
     let full = Err(RecordFault::Full { entries, bytes });
     let there = entries == 0 || recorder.entry(entries - 1).is_some();
     Ok(
-        kept && there
-            && keeps(&mut recorder) == full
+        held && there
+            && notes_a_step(&mut recorder) == full
             && recorder.ready(0) == full
             && recorder.len() == entries
             && recorder.entry(entries).is_none(),
@@ -44,7 +44,7 @@ const ROOMS: [(usize, usize, usize); 5] = [
 #[test]
 fn a_recorder_is_full_at_its_last_entry_or_past_its_bytes(rt: HostRuntime) {
     assert!(rt;
-        keeps(&mut NoRecorder).is_ok()
+        notes_a_step(&mut NoRecorder).is_ok()
             && ROOMS.iter().all(|(room, most, entries)| {
                 matches!(is_full_at(rt.alloc(), *room, *most, *entries), Ok(true))
             })

@@ -52,7 +52,7 @@ impl Crowded {
 impl Recorder<LaneEntry> for Crowded {
     ghost use Rattle.std.specs.Prelude.{◌<◌, Some, None, vec_len, vec_capacity};
 
-    ghost told = { λ r. Some r.entries.items };
+    ghost visible = { λ r. Some r.entries.items };
 
     ghost limit = { λ r. None };
 

@@ -37,10 +37,10 @@ fn turns_made<R: Wait>(
 // All messages stand in the history in order, each once, and none is kept.
 fn misses_nothing(cell: Cell) -> bool {
     let parts = cell.into_parts();
-    let none_kept = parts.messages.len() == 0 && parts.recorder.fulls() == 1;
+    let none_held = parts.messages.len() == 0 && parts.recorder.fulls() == 1;
     let all_noted = parts.recorder.recorded() == Some(5);
     drop(parts);
-    none_kept && all_noted
+    none_held && all_noted
 }
 
 // Five messages, a turn after each, a recorder that is full once, at so many entries, and a last turn.

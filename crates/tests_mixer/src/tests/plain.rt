@@ -89,17 +89,17 @@ fn is_mono(stream: &PlainStream) -> bool {
         && stream.factors.as_slice() == [65_536].as_slice()
 }
 
-fn is_told(alloc: Global, stream: &mut Stream) -> Mem<bool> {
+fn has_its_plain_stream(alloc: Global, stream: &mut Stream) -> Mem<bool> {
     let on = goes_on(alloc, stream)?;
     let plain = stream.plain(alloc)?;
     Ok(on && has_a_hole(&plain.queue) && plays_and_drains(&plain) && is_mono(&plain))
 }
 
 #[test]
-fn a_stream_with_a_hole_a_drain_and_a_run_is_told(rt: HostRuntime) {
-    let told = match opened(rt.alloc()) {
-        Some(mut stream) => matches!(is_told(rt.alloc(), &mut stream), Ok(true)),
+fn a_stream_with_a_hole_a_drain_and_a_run_has_its_plain_stream(rt: HostRuntime) {
+    let plain = match opened(rt.alloc()) {
+        Some(mut stream) => matches!(has_its_plain_stream(rt.alloc(), &mut stream), Ok(true)),
         None => false,
     };
-    assert!(rt; told);
+    assert!(rt; plain);
 }

@@ -80,7 +80,7 @@ fn are_silent(former: &Former, from: i64, count: u32) -> bool {
 }
 
 // Whether a peek at this place shows what the writes say, and how many frames it shows.
-fn shows(queue: &FrameQueue, former: &Former, k: u32) -> (bool, u32)
+fn agrees(queue: &FrameQueue, former: &Former, k: u32) -> (bool, u32)
     requires { queue.now.frame ≡ 1 }
 {
     let mut out = [0u8; 16];
@@ -104,7 +104,7 @@ fn agree(queue: &FrameQueue, former: &Former) -> bool
         && queue.end_index() == former.edge();
     let mut k = 0;
     for _ in 0..400 {
-        let (same, count) = shows(queue, former, k);
+        let (same, count) = agrees(queue, former, k);
         alike = alike && same;
         if count == 0 {
             return alike;

@@ -74,7 +74,7 @@ fn serves<R: Machine>(rt: &R, row: &Row) -> Mem<bool> {
 }
 
 #[test]
-fn a_server_tells_why_it_ends(rt: HostRuntime) {
+fn a_server_says_why_it_ends(rt: HostRuntime) {
     assert!(rt; ROWS.iter().all(|row| matches!(serves(&rt, row), Ok(true))));
 }
 

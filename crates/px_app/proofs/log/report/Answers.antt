@@ -1,5 +1,5 @@
 use Rattle.std.proofs.Common.{inl, refl, sym}
-use Rattle.px_ends.proofs.ToldBytes.{adding_nothing}
+use Rattle.px_ends.proofs.VisibleBytes.{adding_nothing}
 use Rattle.px_app.specs.declared.ending.Ending.TheVariants as ending
 use Rattle.px_app.proofs.log.report.Goals as goal
 

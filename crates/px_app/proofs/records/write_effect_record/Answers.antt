@@ -1,5 +1,5 @@
 use Rattle.std.proofs.Common.{◌≡◌, ℕ, List, OnOk, OnErr, subst}
-use Rattle.px_ends.specs.Told.{after_adding}
+use Rattle.px_ends.specs.Visible.{after_adding}
 use Rattle.px_ends.specs.Whole.{AddsFront}
 use Rattle.px_state.specs.Effect.{IsSendable}
 use Rattle.px_app.proofs.RecordLaws.{sent_is, closed_is, sendable_fits}

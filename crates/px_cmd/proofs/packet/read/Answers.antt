@@ -28,4 +28,4 @@ returns-clause-value c =
     let command = c.in_ok-command.command in
     let means_it = means c.args.packet.now number tag c.front.new.reader front known (fields_of command) c.fields.new.reader fields.0 in
     let fails_it = left c.args.packet.now number tag c.front.new.reader front known (fields_of command) c.fields.new.reader fields.0 in
-    closes (λ command. (number_of command, fields_of command)) (meaning c.args.packet.now) command c.fields.new.reader (λ e. rw fields.1 (means_it e)) fails_it (λ nothing same kept. search rules) c.end.result c.map.result c.map_err.result c.end.ensures c.map.ensures.cases c.map_err.ensures.cases
+    closes (λ command. (number_of command, fields_of command)) (meaning c.args.packet.now) command c.fields.new.reader (λ e. rw fields.1 (means_it e)) fails_it (λ nothing same held. search rules) c.end.result c.map.result c.map_err.result c.end.ensures c.map.ensures.cases c.map_err.ensures.cases

@@ -1,7 +1,7 @@
 use Rattle.std.proofs.Common.{sym, subst, ap, ◌∙◌}
 use Rattle.std.specs.Prelude.{slice_get, IfSome}
 use Rattle.std.proofs.lemmas.Result.{IfOk-weaker}
-use Rattle.px_plan.specs.Target.{IsTarget}
+use Rattle.px_outcome.specs.Target.{IsTarget}
 use Rattle.px_sinks.specs.Sinks.{target_at}
 use Rattle.px_state.specs.Tables.{state_of}
 use Rattle.px_core.specs.Notice.{arrival_between}

@@ -1,5 +1,5 @@
 use Rattle.std.proofs.Common.{arith, ◌≡◌, ℕ, suc, ◌+◌, ◌<◌, ◌++◌, ◌∷◌, List, length, get_or, drop, drop-cons, flat_map, ap, sym, ◌∙◌}
-use Rattle.px_plan.specs.declared.input.Connection.{Connection}
+use Rattle.px_outcome.specs.declared.input.Connection.{Connection}
 use Rattle.px_state.specs.State.{marked_of}
 use Rattle.px_state.specs.Change.{Change}
 use Rattle.px_core.specs.Connecting.{swept}

@@ -1,6 +1,6 @@
 use Rattle.std.proofs.Common.{ltb, ltb-true, ltb-false, arith, rules}
 use Rattle.std.proofs.lemmas.List.Sorted.{IsPartitionPoint-from_clause, IsPartitionedBy-ltb}
-use Rattle.px_plan.specs.declared.input.Input.{Input}
+use Rattle.px_outcome.specs.declared.input.Input.{Input}
 use Rattle.px_core.proofs.Finding.{rising_by, each_below}
 use Rattle.px_core.proofs.found.place.Goals as goal
 

@@ -1,8 +1,8 @@
-use Rattle.px_core.proofs.ParcelLaws.{all_carried, all_told}
+use Rattle.px_core.proofs.ParcelLaws.{all_carried, all_posted}
 use Rattle.px_core.proofs.laws.parcels_are_those_given_up.Goals as goal
 
 pub returns-clause-waiting : goal.returns-clause-waiting
 returns-clause-waiting g c = all_carried
 
-pub returns-clause-told : goal.returns-clause-told
-returns-clause-told g c = all_told
+pub returns-clause-posted : goal.returns-clause-posted
+returns-clause-posted g c = all_posted

@@ -1,5 +1,5 @@
 use Rattle.std.proofs.Common.{[], ◌∷◌}
-use Rattle.px_subscribe.proofs.Telling.{tell_what_became}
+use Rattle.px_subscribe.proofs.WhatBecame.{say_what_became}
 use Rattle.px_core.specs.Heard.{infos_of, given_by}
 use Rattle.px_core.specs.Step.{stepped}
 use Rattle.px_core.proofs.StepLaws as steps
@@ -15,4 +15,4 @@ returns-clause-sent g c = λ spec_of state s conn is h.
     sent_by_mask conn state (stepped spec_of state s) (steps.step_keeps spec_of state s is h).steady.distinct (hearing.steps_sinks spec_of state (s ∷ []))
 
 pub returns-clause-each : goal.returns-clause-each
-returns-clause-each g c = λ before after. tell_what_became (given_by after) (infos_of before) (infos_of after)
+returns-clause-each g c = λ before after. say_what_became (given_by after) (infos_of before) (infos_of after)

@@ -1,6 +1,6 @@
 use Rattle.std.proofs.Common.{◌≡◌, ◌++◌, drop}
 use Rattle.std.specs.List.{concat}
-use Rattle.px_block.specs.Kept.{contents}
+use Rattle.px_block.specs.HeldBlock.{contents}
 use Rattle.px_core_cell.proofs.plain.copied.Given as goal
 
 -- the bytes so far and those of the blocks that are left are all of them

@@ -1,5 +1,5 @@
 use Rattle.std.proofs.Common.{}
-use Rattle.px_plan.specs.declared.change.Change.TheVariants.{Released}
+use Rattle.px_outcome.specs.declared.change.Change.TheVariants.{Released}
 use Rattle.px_ctl_play.proofs.Joined.{one_more, no_more}
 use Rattle.px_ctl_play.proofs.arrival.release.Goals as goal
 

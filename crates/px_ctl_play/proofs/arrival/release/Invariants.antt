@@ -1,6 +1,6 @@
 use Rattle.std.proofs.Common.{◌≡◌, ◌++◌, ◌-◌}
 use Rattle.std.specs.Prelude.{replicate}
-use Rattle.px_plan.specs.declared.change.Change.TheVariants.{Released}
+use Rattle.px_outcome.specs.declared.change.Change.TheVariants.{Released}
 use Rattle.px_ctl_play.proofs.arrival.release.Given as goal
 
 -- those so far and those that are left are all of them

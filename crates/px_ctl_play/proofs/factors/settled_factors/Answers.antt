@@ -1,7 +1,7 @@
 use Rattle.std.proofs.Common.{◌++◌, List, refl, ap}
 use Rattle.px_msg.specs.declared.factors.InputFactors.{InputFactors}
-use Rattle.px_plan.specs.declared.input.Input.{Input}
-use Rattle.px_plan.specs.Input.{settled_on}
+use Rattle.px_outcome.specs.declared.input.Input.{Input}
+use Rattle.px_outcome.specs.Input.{settled_on}
 use Rattle.px_ctl_play.specs.Factors.{factor_list}
 use Rattle.px_ctl_play.proofs.Each.{next_gives, last_gave}
 use Rattle.px_ctl_play.proofs.factors.settled_factors.Goals as goal

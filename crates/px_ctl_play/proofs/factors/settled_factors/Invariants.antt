@@ -1,5 +1,5 @@
 use Rattle.std.proofs.Common.{◌≡◌, ◌++◌, drop}
-use Rattle.px_plan.specs.Input.{settled_on}
+use Rattle.px_outcome.specs.Input.{settled_on}
 use Rattle.px_ctl_play.specs.Factors.{factor_list}
 use Rattle.px_ctl_play.proofs.factors.settled_factors.Given as goal
 

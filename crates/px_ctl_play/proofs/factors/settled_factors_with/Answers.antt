@@ -1,6 +1,6 @@
 use Rattle.std.proofs.Common.{◌++◌, List, refl, ap}
 use Rattle.px_msg.specs.declared.factors.InputFactors.{InputFactors}
-use Rattle.px_plan.specs.declared.input.Input.{Input}
+use Rattle.px_outcome.specs.declared.input.Input.{Input}
 use Rattle.px_ctl_play.specs.Arrival.{settled_with}
 use Rattle.px_ctl_play.specs.Factors.{factor_list}
 use Rattle.px_ctl_play.proofs.Each.{next_gives, last_gave}

@@ -1,6 +1,6 @@
 use Rattle.std.proofs.Common.{rules, take, ap, sym, ◌∙◌}
-use Rattle.px_ends.specs.Told.{before_taking}
-use Rattle.px_ends.proofs.ToldBytes.{taking_both}
+use Rattle.px_ends.specs.Visible.{before_taking}
+use Rattle.px_ends.proofs.VisibleBytes.{taking_both}
 use Rattle.px_ends.proofs.Filling.{front_of_filled}
 use Rattle.px_ends.proofs.whole.fill.Goals as goal
 

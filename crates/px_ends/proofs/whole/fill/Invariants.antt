@@ -1,5 +1,5 @@
 use Rattle.std.proofs.Common.{length, ◌-◌, ◌≡◌, ◌≤◌, take}
-use Rattle.px_ends.specs.Told.{before_taking}
+use Rattle.px_ends.specs.Visible.{before_taking}
 use Rattle.px_ends.proofs.whole.fill.Given as goal
 
 -- what is filled so far has departed, and no read has failed

@@ -1,7 +1,7 @@
 use Rattle.std.proofs.Common.{take, drop, length, ◌-◌, ap, sym, ◌∙◌}
 use Rattle.std.proofs.lemmas.List.{take-append-drop}
-use Rattle.px_ends.specs.Told.{after_adding}
-use Rattle.px_ends.proofs.ToldBytes.{adding_both}
+use Rattle.px_ends.specs.Visible.{after_adding}
+use Rattle.px_ends.proofs.VisibleBytes.{adding_both}
 use Rattle.px_ends.proofs.Filling.{front_of_more, within_rest}
 use Rattle.px_ends.proofs.whole.write_all.Goals as goal
 

@@ -1,6 +1,6 @@
 use Rattle.std.proofs.Common.{length}
 use Rattle.px_flat.specs.Member.{IsMember, at_reference}
-use Rattle.px_flat.proofs.Kept.{all_map, at_reference_keeps}
+use Rattle.px_flat.proofs.Preserved.{all_map, at_reference_keeps}
 use Rattle.px_flat.proofs.members.each_is_set.Goals as goal
 
 pub each_follows-requires : goal.each_follows-requires

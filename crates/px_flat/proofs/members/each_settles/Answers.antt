@@ -1,7 +1,7 @@
 use Rattle.std.proofs.Common.{ℕ, sym, subst, length}
 use Rattle.std.specs.List.{AllByRecursion}
 use Rattle.px_flat.specs.Member.{IsMember, to_reference}
-use Rattle.px_flat.proofs.Kept.{all_map, to_reference_keeps}
+use Rattle.px_flat.proofs.Preserved.{all_map, to_reference_keeps}
 use Rattle.px_flat.proofs.members.each_settles.Goals as goal
 
 pub each_follows-requires : goal.each_follows-requires

@@ -2,7 +2,7 @@ use Rattle.std.proofs.Common.{◌≡◌, ◌<◌, length, arith, rules, sym, ap,
 use Rattle.px_flat.specs.Channels.{per_channel}
 use Rattle.px_flat.specs.FlatVolume.{real_at}
 use Rattle.px_flat.proofs.ByChannel.{listed}
-use Rattle.px_flat.proofs.Kept.{over_some}
+use Rattle.px_flat.proofs.Preserved.{over_some}
 use Rattle.px_flat.proofs.members.real_of.Goals as goal
 
 pub returns-clause-value : goal.returns-clause-value

@@ -1,5 +1,5 @@
 use Rattle.std.proofs.Common.{sym}
-use Rattle.px_plan.specs.Input.{has_number}
+use Rattle.px_outcome.specs.Input.{has_number}
 use Rattle.px_input_table.specs.Connections.{with_streams}
 use Rattle.px_input_table.proofs.First.{changed, unchanged}
 use Rattle.px_input_table.proofs.connections.set_streams.Goals as goal

@@ -1,6 +1,6 @@
 use Rattle.std.proofs.Common.{◌≡◌, Some, None, sym, ◌∙◌}
 use Rattle.std.specs.List.{position}
-use Rattle.px_plan.specs.Input.{has_index}
+use Rattle.px_outcome.specs.Input.{has_index}
 use Rattle.px_input_table.proofs.First.{dropped, undropped}
 use Rattle.px_input_table.proofs.inputs.remove.Goals as goal
 

@@ -1,6 +1,6 @@
 use Rattle.std.proofs.Common.{◌≡◌, Some, None, slice_set, sym, subst, ap, ◌∙◌}
 use Rattle.std.specs.List.{position}
-use Rattle.px_plan.specs.Input.{has_index}
+use Rattle.px_outcome.specs.Input.{has_index}
 use Rattle.px_input_table.specs.Inputs.{on_way}
 use Rattle.px_input_table.proofs.First.{changed, unchanged}
 use Rattle.px_input_table.proofs.inputs.set_way.Goals as goal

@@ -5,7 +5,7 @@ use Rattle.px_model.specs.Sink.{Input as Stands}
 use Rattle.px_model.specs.Applied.{applied, overflows}
 use Rattle.px_stream.specs.Messages.{message_of, room_for, blocks_with}
 use Rattle.px_lane.specs.Taking.{SuitsAt, is_overflow, overflows_at}
-use Rattle.px_lane.proofs.Places.{at_stream, at_change, gap_stream, gap_change, all_less, all_at, all_with, told_is}
+use Rattle.px_lane.proofs.Places.{at_stream, at_change, gap_stream, gap_change, all_less, all_at, all_with, overflow_is}
 use Rattle.px_lane.proofs.finding.change_at.Goals as goal
 
 pub apply-requires-clause-room : goal.apply-requires-clause-room
@@ -43,7 +43,7 @@ returns-in-Ok-clause-overflows g c =
     let s = slice_index_or c.args.inputs.now c.in-Ok.place c.index-inputs-place.result in
     c.is_overflow.ensures
     ∙ ap is_overflow c.apply.ensures.answer
-    ∙ told_is (overflows c.args.mixed (message_of c.args.change) s.stream.stream)
+    ∙ overflow_is (overflows c.args.mixed (message_of c.args.change) s.stream.stream)
     ∙ sym (ap (λ (o : Option Stream). overflows_at c.args.mixed (message_of c.args.change) o) (at_stream c.args.index.0 c.in-Ok.place c.args.inputs.now c.index-inputs-place.result c.in-Ok.ensures.ok))
 
 pub returns-in-Ok-clause-room : goal.returns-in-Ok-clause-room

@@ -7,7 +7,7 @@ abbrev pub invariant-loop-tag : goal.invariant-loop-tag
 invariant-loop-tag l = record {
   stream : drained l.input.stream.stream ≡ drained l.fn.input.stream.stream;
   index : l.input.index ≡ l.fn.input.index;
-  told : l.out.notices ++ drained_notices (input_of l.input) ≡ l.fn.out.notices ++ drained_notices (input_of l.fn.input);
+  noticed : l.out.notices ++ drained_notices (input_of l.input) ≡ l.fn.out.notices ++ drained_notices (input_of l.fn.input);
   room : l.fn.input.stream.room ≤ l.input.stream.room;
   block_room : l.fn.input.stream.block_room ≤ l.input.stream.block_room;
   capacity : l.out.capacity ≡ l.fn.out.capacity;

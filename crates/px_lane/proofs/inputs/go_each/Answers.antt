@@ -4,7 +4,7 @@ use Rattle.px_model.specs.Sink.{with_stream}
 use Rattle.px_model.specs.Turn.{going_notices}
 use Rattle.px_lane.proofs.Each.{done_more, done_fits}
 use Rattle.px_lane.specs.Inputs.{inputs_of}
-use Rattle.px_lane.proofs.Resting.{stay, tell_nothing}
+use Rattle.px_lane.proofs.Resting.{stay, notice_nothing}
 use Rattle.px_lane.proofs.inputs.go_each.Goals as goal
 
 pub go_one-requires : goal.go_one-requires
@@ -28,4 +28,4 @@ pub returns-then-frames-eq0-clause-inputs : goal.returns-then-frames-eq0-clause-
 returns-then-frames-eq0-clause-inputs g c = stay c.args.frames (inputs_of c.args.inputs.now) c.if-frames-eq0.true
 
 pub returns-then-frames-eq0-clause-notices : goal.returns-then-frames-eq0-clause-notices
-returns-then-frames-eq0-clause-notices g c = tell_nothing c.args.frames (inputs_of c.args.inputs.now) c.args.out.now.notices c.if-frames-eq0.true
+returns-then-frames-eq0-clause-notices g c = notice_nothing c.args.frames (inputs_of c.args.inputs.now) c.args.out.now.notices c.if-frames-eq0.true

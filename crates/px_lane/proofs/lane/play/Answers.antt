@@ -12,7 +12,7 @@ use Rattle.px_lane.proofs.lane.play.Goals as goal
 
 pub play-stay-requires-clause-capacity : goal.play-stay-requires-clause-capacity
 play-stay-requires-clause-capacity g c =
-    turn_room c.args.mixer.now.sink (c.args.consumed - c.consumed.result) (length c.args.out.now.notices) c.args.out.now.capacity c.args.messages.now.messages c.requires.lane.kept c.requires.capacity
+    turn_room c.args.mixer.now.sink (c.args.consumed - c.consumed.result) (length c.args.out.now.notices) c.args.out.now.capacity c.args.messages.now.messages c.requires.lane.holds c.requires.capacity
 
 pub fresh-requires-clause-within : goal.fresh-requires-clause-within
 fresh-requires-clause-within g c =
@@ -22,7 +22,7 @@ fresh-requires-clause-within g c =
     let state : c.play-stay.new.self.sink ≡ turned samples sink n messages = c.play-stay.ensures.value ∙ ap (λ (from : ℕ). turned samples sink (c.args.consumed - from) messages) c.consumed.ensures in
     let within : c.play-stay.result ≤ sink.filled - next_horizon sink n = subst (λ (from : ℕ). c.play-stay.result ≤ sink.filled - next_horizon sink (c.args.consumed - from)) c.consumed.ensures c.play-stay.ensures.within in
     subst (λ (s : Sink). c.play-stay.result ≤ s.filled - s.horizon) (sym state)
-    (omega (arith, within, c.requires.within, c.requires.forward, c.requires.lane.kept.filled_bounded))
+    (omega (arith, within, c.requires.within, c.requires.forward, c.requires.lane.holds.filled_bounded))
 
 pub put-requires : goal.put-requires
 put-requires g c =

@@ -11,11 +11,11 @@ use Rattle.px_lane.proofs.lane.run.Goals as goal
 
 pub stop-requires-clause-capacity : goal.stop-requires-clause-capacity
 stop-requires-clause-capacity g c =
-    stop_room c.args.mixer.now.sink (length c.args.out.now.notices) c.args.out.now.capacity c.args.messages.now.messages c.requires.lane.kept c.requires.capacity
+    stop_room c.args.mixer.now.sink (length c.args.out.now.notices) c.args.out.now.capacity c.args.messages.now.messages c.requires.lane.holds c.requires.capacity
 
 pub stop-requires-in-Err-clause-capacity : goal.stop-requires-in-Err-clause-capacity
 stop-requires-in-Err-clause-capacity g c =
-    stop_room c.args.mixer.now.sink (length c.args.out.now.notices) c.args.out.now.capacity c.args.messages.now.messages c.requires.lane.kept c.requires.capacity
+    stop_room c.args.mixer.now.sink (length c.args.out.now.notices) c.args.out.now.capacity c.args.messages.now.messages c.requires.lane.holds c.requires.capacity
 
 pub play-requires-clause-attached : goal.play-requires-clause-attached
 play-requires-clause-attached g c =
@@ -32,9 +32,9 @@ returns-in-Ok-clause-turns g c =
     let at : IsAttached d sink = c.requires.attached going in
     let plays = c.in-Ok.ensures.ok in
     let there : c.in-Ok.consumed - sink.consumed ≤ sink.filled - sink.consumed = omega (arith, plays.within, at.filled) in
-    let told : Consumes d.next (sink.filled - sink.consumed) (c.in-Ok.consumed - sink.consumed) =
+    let visible : Consumes d.next (sink.filled - sink.consumed) (c.in-Ok.consumed - sink.consumed) =
     subst (λ (filled : ℕ). Consumes d.next (filled - sink.consumed) (c.in-Ok.consumed - sink.consumed)) at.filled
-    (subst (λ (from : ℕ). Consumes d.next (d.filled - from) (c.in-Ok.consumed - from)) at.consumed plays.told) in
+    (subst (λ (from : ℕ). Consumes d.next (d.filled - from) (c.in-Ok.consumed - from)) at.consumed plays.visible) in
     let counted : c.in-Ok.consumed ≡ c.play.new.mixer.sink.consumed =
     omega (arith, ap (λ (s : Sink). s.consumed) c.play.ensures.value, plays.forward, at.consumed) in
     subst (λ (t : Turned). Turns g.D.Device.now (record { sink = sink; device = c.args.device.now; faults = c.args.faults.now }) (record { sink = c.play.new.mixer.sink; device = c.play.new.device; faults = c.args.faults.now })
@@ -42,7 +42,7 @@ returns-in-Ok-clause-turns g c =
       record {
         going = going;
         there = there;
-        told = told;
+        visible = visible;
         sink = c.play.ensures.value;
         counted = counted;
         attached = c.play.ensures.attached;

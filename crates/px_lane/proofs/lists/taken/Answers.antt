@@ -17,7 +17,7 @@ pub returns-clause-capacity : goal.returns-clause-capacity
 returns-clause-capacity c =
     subst (λ (here : List Input). length c.args.out.now.notices + needed here (messages_of c.args.messages.now) ≤ c.reserve.new.self.capacity) c.as_slice.ensures
     (subst (λ (n : ℕ). length c.args.out.now.notices + n ≤ c.reserve.new.self.capacity) c.in_ok-notices.ensures
-    (subst (λ (told : List (Notice Stream)). length told + c.in_ok-notices.notices ≤ c.reserve.new.self.capacity) c.in_ok-reserve.ensures.value c.in_ok-reserve.ensures.ok))
+    (subst (λ (noticed : List (Notice Stream)). length noticed + c.in_ok-notices.notices ≤ c.reserve.new.self.capacity) c.in_ok-reserve.ensures.value c.in_ok-reserve.ensures.ok))
 
 pub returns-clause-same : goal.returns-clause-same
 returns-clause-same c = c.in_ok-reserve_parcels.ensures.same

@@ -13,12 +13,12 @@ returns-in_err-reserve-clause-same c =
     let x = slice_index_or l.inputs l.input-index c.input-item.result in
     same_set input_of l.inputs l.input-index c.input-item.result _ (ap (λ (s : Stream). let v : Stands = record { index = x.index.0; stream = s } in v) c.reserve.ensures.stream) ∙ l.invariant.0
 
-pub returns-in_err-reserve-clause-kept : goal.returns-in_err-reserve-clause-kept
-returns-in_err-reserve-clause-kept c = λ old kept h.
+pub returns-in_err-reserve-clause-held : goal.returns-in_err-reserve-clause-held
+returns-in_err-reserve-clause-held c = λ old held h.
     let l = c.loop-input in
     let few : l.input-index < length l.inputs = omega (arith, c.loop-input-test.true, l.auto.inputs) in
-    let there = all_at old kept l.input-index l.inputs c.input-item.result few (l.invariant.1 old kept h) in
-    all_with old kept l.input-index l.inputs _ (omega (arith, c.reserve.ensures.room, there.0), omega (arith, c.reserve.ensures.block_room, there.1)) (l.invariant.1 old kept h)
+    let there = all_at old held l.input-index l.inputs c.input-item.result few (l.invariant.1 old held h) in
+    all_with old held l.input-index l.inputs _ (omega (arith, c.reserve.ensures.room, there.0), omega (arith, c.reserve.ensures.block_room, there.1)) (l.invariant.1 old held h)
 
 pub loop-input-preserved : goal.loop-input-preserved
 loop-input-preserved c =
@@ -26,8 +26,8 @@ loop-input-preserved c =
     let x = slice_index_or l.inputs l.input-index c.input-item.result in
     let few : l.input-index < length l.inputs = omega (arith, c.loop-input-test.true, l.auto.inputs) in (
       same_set input_of l.inputs l.input-index c.input-item.result _ (ap (λ (s : Stream). let v : Stands = record { index = x.index.0; stream = s } in v) c.reserve.ensures.stream) ∙ l.invariant.0,
-      λ old kept h.
-          let there = all_at old kept l.input-index l.inputs c.input-item.result few (l.invariant.1 old kept h) in
-          all_with old kept l.input-index l.inputs _ (omega (arith, c.reserve.ensures.room, there.0), omega (arith, c.reserve.ensures.block_room, there.1)) (l.invariant.1 old kept h),
+      λ old held h.
+          let there = all_at old held l.input-index l.inputs c.input-item.result few (l.invariant.1 old held h) in
+          all_with old held l.input-index l.inputs _ (omega (arith, c.reserve.ensures.room, there.0), omega (arith, c.reserve.ensures.block_room, there.1)) (l.invariant.1 old held h),
       all_more (HasRoom c.args.room c.args.blocks) l.inputs l.input-index _ few l.invariant.2 c.in_ok-reserve.ensures.ok,
     )

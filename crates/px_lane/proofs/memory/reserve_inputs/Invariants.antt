@@ -6,5 +6,5 @@ use Rattle.px_lane.proofs.memory.reserve_inputs.Given as goal
 abbrev pub invariant-loop-input : goal.invariant-loop-input
 invariant-loop-input l =
     (inputs_of l.inputs ≡ inputs_of l.fn.inputs)
-    × ((old kept : ℕ) → AllByRecursion (HasRoom old kept) l.fn.inputs → AllByRecursion (HasRoom old kept) l.inputs)
+    × ((old held : ℕ) → AllByRecursion (HasRoom old held) l.fn.inputs → AllByRecursion (HasRoom old held) l.inputs)
     × AllByRecursion (HasRoom l.room l.blocks) (take l.input-index l.inputs)

@@ -1,6 +1,6 @@
 use Rattle.std.proofs.Common.{◌≡◌, take}
 use Rattle.std.specs.List.{concat}
-use Rattle.px_block.specs.Kept.{contents}
+use Rattle.px_block.specs.HeldBlock.{contents}
 use Rattle.px_lane_cell.proofs.plain.bytes_of.Given as goal
 
 abbrev pub invariant-loop-block : goal.invariant-loop-block

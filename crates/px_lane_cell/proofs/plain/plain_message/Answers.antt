@@ -4,16 +4,16 @@ use Rattle.px_lane.specs.Lists.{plain_message}
 use Rattle.px_lane_cell.specs.Meaning.{message_meant}
 use Rattle.px_model.specs.Message.{Message}
 use Rattle.px_msg.specs.declared.message.Msg.{Msg}
-use Rattle.px_stream.specs.Kept.{KeptStream}
+use Rattle.px_stream.specs.HeldStream.{HeldStream}
 use Rattle.px_lane_cell.proofs.plain.plain_message.Goals as goal
 
 pub returns-in-New : goal.returns-in-New
 returns-in-New c =
-    subst (λ (m : Msg KeptStream). IfOk c.plain_new.result (λ plain. message_meant plain ≡ plain_message m)) (sym c.in-New.is) c.plain_new.ensures
+    subst (λ (m : Msg HeldStream). IfOk c.plain_new.result (λ plain. message_meant plain ≡ plain_message m)) (sym c.in-New.is) c.plain_new.ensures
 
 pub returns-in-Attach : goal.returns-in-Attach
 returns-in-Attach c =
-    subst (λ (m : Msg KeptStream). IfOk c.plain_attach.result (λ plain. message_meant plain ≡ plain_message m)) (sym c.in-Attach.is) c.plain_attach.ensures
+    subst (λ (m : Msg HeldStream). IfOk c.plain_attach.result (λ plain. message_meant plain ≡ plain_message m)) (sym c.in-Attach.is) c.plain_attach.ensures
 
 pub returns-in-Detach : goal.returns-in-Detach
 returns-in-Detach c =
@@ -45,7 +45,7 @@ returns-in-Attr c =
 
 pub returns-in-Factors : goal.returns-in-Factors
 returns-in-Factors c =
-    subst (λ (m : Msg KeptStream). IfOk c.plain_regained.result (λ plain. message_meant plain ≡ plain_message m)) (sym c.in-Factors.is) c.plain_regained.ensures
+    subst (λ (m : Msg HeldStream). IfOk c.plain_regained.result (λ plain. message_meant plain ≡ plain_message m)) (sym c.in-Factors.is) c.plain_regained.ensures
 
 pub returns-in-Query : goal.returns-in-Query
 returns-in-Query c =

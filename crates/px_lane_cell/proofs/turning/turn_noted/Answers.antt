@@ -15,7 +15,7 @@ pub returns-in-Ok-counted-clause-ok : goal.returns-in-Ok-counted-clause-ok
 returns-in-Ok-counted-clause-ok g c =
     let entry : LaneEntry = record { consumed = c.consumed_in-entry.result; messages = c.in-Ok.plain } in (
       entry,
-      c.note.ensures.told ∙ ap (noted entry) c.ready.ensures.told,
+      c.note.ensures.visible ∙ ap (noted entry) c.ready.ensures.visible,
       sym (length-map c.in-Ok.plain message_meant) ∙ ap (λ (ms : List (Message Stream)). length ms) c.in-Ok.ensures,
       c.in-Ok-counted.ensures.empty,
       is_noted g.D.Device.now c.args.lane.now c.counted.new.lane c.args.messages.now.messages c.args.notices.now.notices c.counted.new.notices.notices c.in-Ok-counted.turned entry c.consumed_in-entry.ensures c.in-Ok.ensures c.in-Ok-counted.ensures.ok,
@@ -55,7 +55,7 @@ returns-in-Err-clause-counts g c =
 
 pub returns-in-Err-clause-err : goal.returns-in-Err-clause-err
 returns-in-Err-clause-err g c =
-    (refl, c.ready.ensures.told, refl, refl)
+    (refl, c.ready.ensures.visible, refl, refl)
 
 pub returns-in-Err-clause-limit : goal.returns-in-Err-clause-limit
 returns-in-Err-clause-limit g c =
@@ -83,7 +83,7 @@ returns-in-Err-counted-clause-counts g c =
 
 pub returns-in-Err-counted-clause-err : goal.returns-in-Err-counted-clause-err
 returns-in-Err-counted-clause-err g c =
-    let err = c.in-Err-counted.ensures.err in (err.0, c.ready.ensures.told, ap (λ (m : BoundedMessages). m.messages) err.1, err.2)
+    let err = c.in-Err-counted.ensures.err in (err.0, c.ready.ensures.visible, ap (λ (m : BoundedMessages). m.messages) err.1, err.2)
 
 pub returns-in-Err-counted-clause-limit : goal.returns-in-Err-counted-clause-limit
 returns-in-Err-counted-clause-limit g c =
@@ -99,7 +99,7 @@ returns-in-Err-counted-clause-room g c =
 
 pub returns-in-Err-counted-clause-why : goal.returns-in-Err-counted-clause-why
 returns-in-Err-counted-clause-why g c =
-    c.lane_fault.ensures.why (g.R.Recorder.limit c.args.recorder.now) (option_map (sizes_by size_of_lane_entry) (g.R.Recorder.told c.args.recorder.now)) c.in_default-ready.ensures.full
+    c.lane_fault.ensures.why (g.R.Recorder.limit c.args.recorder.now) (option_map (sizes_by size_of_lane_entry) (g.R.Recorder.visible c.args.recorder.now)) c.in_default-ready.ensures.full
 
 pub returns-in-Err-counted-clause-worn : goal.returns-in-Err-counted-clause-worn
 returns-in-Err-counted-clause-worn g c =

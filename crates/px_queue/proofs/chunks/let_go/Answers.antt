@@ -2,7 +2,7 @@ use Rattle.std.proofs.Common.{ℕ, ap, ◌∙◌, Option}
 use Rattle.px_block.specs.Given.{after_giving}
 use Rattle.px_block.specs.Shelved.{references_to, blocks_on}
 use Rattle.px_block.proofs.Giving.{giving_both}
-use Rattle.px_queue.proofs.Tied.{freed_count, kept_count}
+use Rattle.px_queue.proofs.Tied.{freed_count, same_count}
 use Rattle.px_queue.proofs.chunks.let_go.Goals as goal
 
 pub returns-in-Some-clause-given : goal.returns-in-Some-clause-given
@@ -16,4 +16,4 @@ returns-in-Some-clause-given g c =
 pub returns-in_default-clause-given : goal.returns-in_default-clause-given
 returns-in_default-clause-given g c =
     ap (λ (n : ℕ). after_giving (g.B.BlockSource.given c.args.source.now) n)
-    (kept_count c.args.shelf.now c.release.new.self c.args.key c.release.ensures.slots c.in_default.ensures.block)
+    (same_count c.args.shelf.now c.release.new.self c.args.key c.release.ensures.slots c.in_default.ensures.block)

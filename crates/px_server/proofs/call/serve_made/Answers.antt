@@ -26,7 +26,7 @@ pub handle_of-requires-clause-ends : goal.handle_of-requires-clause-ends
 handle_of-requires-clause-ends g c = ends_made c.args.taped 0 c.args.header.now.sinks c.args.made.idle.items c.args.made.ends.items c.requires.made
 
 pub handle_of-requires-clause-none : goal.handle_of-requires-clause-none
-handle_of-requires-clause-none g c = c.requires.untold
+handle_of-requires-clause-none g c = c.requires.nothing_posted
 
 pub run-requires-clause-none : goal.run-requires-clause-none
 run-requires-clause-none g c κs within = c.requires.none
@@ -58,18 +58,18 @@ pub returns-in-Ok-clause-served : goal.returns-in-Ok-clause-served
 returns-in-Ok-clause-served g c =
     let before = g.H.Host.now c.args.host.now in
     let after = g.H.Host.now c.run.new.host in
-    served_is g.H.D.Device.now g.H.R.Recorder.told g.H.R.Recorder.faults g.H.R.Recorder.fulls g.H.C.Recorder.told g.H.C.Recorder.faults g.H.C.Recorder.fulls
+    served_is g.H.D.Device.now g.H.R.Recorder.visible g.H.R.Recorder.faults g.H.R.Recorder.fulls g.H.C.Recorder.visible g.H.C.Recorder.faults g.H.C.Recorder.fulls
     c.args.header.now g.L.Seats.began c.args.made.idle.items before after c.run.result.status c.run.result.lanes.items c.run.result.core
     c.requires.began (starts_made c.args.taped 0 c.args.header.now.sinks c.args.made.idle.items c.args.made.ends.items c.requires.made) c.run.ensures.later (lent_same (length c.args.made.idle.items) 1 before after c.run.ensures.lent c.requires.lent) c.run.ensures.core c.run.ensures.ends
 
 pub returns-in-Err-clause-served : goal.returns-in-Err-clause-served
 returns-in-Err-clause-served g c =
     let before = g.H.Host.now c.args.host.now in
-    unserved_is g.H.D.Device.now g.H.R.Recorder.told g.H.R.Recorder.faults g.H.R.Recorder.fulls g.H.C.Recorder.told g.H.C.Recorder.faults g.H.C.Recorder.fulls
+    unserved_is g.H.D.Device.now g.H.R.Recorder.visible g.H.R.Recorder.faults g.H.R.Recorder.fulls g.H.C.Recorder.visible g.H.C.Recorder.faults g.H.C.Recorder.fulls
     c.args.header.now c.args.made.idle.items before before Memory c.unserved.result.status c.unserved.result.lanes.items c.unserved.result.core
     (front_all c.args.header.now.sinks c.args.made.idle.items (starts_made c.args.taped 0 c.args.header.now.sinks c.args.made.idle.items c.args.made.ends.items c.requires.made)) (later_refl before) (lent_less (length c.args.made.idle.items) before c.requires.lent) tt
     c.unserved.ensures.status c.unserved.ensures.lanes c.unserved.ensures.core
 
 pub returns-in-Err-clause-tape : goal.returns-in-Err-clause-tape
 returns-in-Err-clause-tape g c =
-    untaped g.H.R.Recorder.told c.args.taped c.unserved.result.status c.unserved.result.lanes.items c.unserved.result.tape Memory c.unserved.ensures.status c.unserved.ensures.tape
+    untaped g.H.R.Recorder.visible c.args.taped c.unserved.result.status c.unserved.result.lanes.items c.unserved.result.tape Memory c.unserved.ensures.status c.unserved.ensures.tape

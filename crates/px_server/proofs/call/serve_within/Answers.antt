@@ -17,7 +17,7 @@ unserved-requires-clause-room g c κs within =
 
 pub returns-in-Ok-clause-served : goal.returns-in-Ok-clause-served
 returns-in-Ok-clause-served g c =
-    served_since g.H.D.Device.now g.H.R.Recorder.told g.H.R.Recorder.faults g.H.R.Recorder.fulls g.H.C.Recorder.told g.H.C.Recorder.faults g.H.C.Recorder.fulls
+    served_since g.H.D.Device.now g.H.R.Recorder.visible g.H.R.Recorder.faults g.H.R.Recorder.fulls g.H.C.Recorder.visible g.H.C.Recorder.faults g.H.C.Recorder.fulls
     c.args.header.now (g.H.Host.now c.args.host.now) (g.H.Host.now c.make_outside.new.host) (g.H.Host.now c.serve_made.new.host)
     c.serve_made.result.status c.serve_made.result.lanes.items c.serve_made.result.core c.make_outside.ensures.later c.serve_made.ensures.served
 
@@ -26,7 +26,7 @@ returns-in-Ok-clause-tape g c = c.serve_made.ensures.tape
 
 pub returns-in-Err-clause-served : goal.returns-in-Err-clause-served
 returns-in-Err-clause-served g c =
-    unserved_is g.H.D.Device.now g.H.R.Recorder.told g.H.R.Recorder.faults g.H.R.Recorder.fulls g.H.C.Recorder.told g.H.C.Recorder.faults g.H.C.Recorder.fulls
+    unserved_is g.H.D.Device.now g.H.R.Recorder.visible g.H.R.Recorder.faults g.H.R.Recorder.fulls g.H.C.Recorder.visible g.H.C.Recorder.faults g.H.C.Recorder.fulls
     c.args.header.now c.make_outside.new.idle.items (g.H.Host.now c.args.host.now) (g.H.Host.now c.make_outside.new.host) c.in-Err.stop
     c.unserved.result.status c.unserved.result.lanes.items c.unserved.result.core
     c.make_outside.ensures.front c.make_outside.ensures.later c.make_outside.ensures.lent c.in-Err.ensures.cause
@@ -34,4 +34,4 @@ returns-in-Err-clause-served g c =
 
 pub returns-in-Err-clause-tape : goal.returns-in-Err-clause-tape
 returns-in-Err-clause-tape g c =
-    untaped g.H.R.Recorder.told c.args.taped c.unserved.result.status c.unserved.result.lanes.items c.unserved.result.tape c.in-Err.stop c.unserved.ensures.status c.unserved.ensures.tape
+    untaped g.H.R.Recorder.visible c.args.taped c.unserved.result.status c.unserved.result.lanes.items c.unserved.result.tape c.in-Err.stop c.unserved.ensures.status c.unserved.ensures.tape

@@ -1,5 +1,5 @@
 use Rattle.px_server.proofs.Ending.{run_ends}
-use Rattle.px_server.proofs.Taping.{cause_kept, tape_is}
+use Rattle.px_server.proofs.Taping.{cause_stays, tape_is}
 use Rattle.px_server.proofs.closing.ended.Goals as goal
 
 pub close_with-core-requires-clause-seats : goal.close_with-core-requires-clause-seats
@@ -25,15 +25,15 @@ close_with-core-requires-clause-turns_room g c = c.requires.turns_room
 
 pub returns-clause-tape : goal.returns-clause-tape
 returns-clause-tape g c =
-    tape_is g.H.R.Recorder.told c.args.taped c.args.idle.items c.close_with-core.new.turns.items c.close_with-core.new.lanes.items c.woven-tape.result.0
+    tape_is g.H.R.Recorder.visible c.args.taped c.args.idle.items c.close_with-core.new.turns.items c.close_with-core.new.lanes.items c.woven-tape.result.0
     c.woven-tape.result.1 c.close_with-core.result.fault c.close_with-core.result.sink_fault c.decided.result
     c.requires.taping c.close_with-core.ensures.turns c.woven-tape.ensures.none c.woven-tape.ensures.turns c.woven-tape.ensures.whole c.decided.ensures
 
 pub returns-clause-ends : goal.returns-clause-ends
 returns-clause-ends g c = λ before after cause.
     let core = c.close_with-core.result in
-    run_ends g.H.D.Device.now g.H.R.Recorder.told g.H.R.Recorder.faults g.H.R.Recorder.fulls g.H.C.Recorder.told g.H.C.Recorder.faults g.H.C.Recorder.fulls
+    run_ends g.H.D.Device.now g.H.R.Recorder.visible g.H.R.Recorder.faults g.H.R.Recorder.fulls g.H.C.Recorder.visible g.H.C.Recorder.faults g.H.C.Recorder.fulls
     g.L.Seats.began c.args.idle.items before after
     c.woven-tape.result.1 core.fault core.sink_fault c.decided.result c.close_with-core.new.lanes.items core.recorder
     c.close_with-core.ensures.parts c.close_with-core.ensures.sink_fault
-    (cause_kept before after c.args.stop c.woven-tape.result.1 c.woven-tape.ensures.stop cause) c.close_with-core.ensures.caused c.decided.ensures
+    (cause_stays before after c.args.stop c.woven-tape.result.1 c.woven-tape.ensures.stop cause) c.close_with-core.ensures.caused c.decided.ensures

@@ -26,7 +26,7 @@ ended-requires-clause-taping g c κs within = λ on. taping_since c.args.idle.it
 
 pub returns-clause-ends : goal.returns-clause-ends
 returns-clause-ends g c =
-    ends_since g.H.D.Device.now g.H.R.Recorder.told g.H.R.Recorder.faults g.H.R.Recorder.fulls g.H.C.Recorder.told g.H.C.Recorder.faults g.H.C.Recorder.fulls
+    ends_since g.H.D.Device.now g.H.R.Recorder.visible g.H.R.Recorder.faults g.H.R.Recorder.fulls g.H.C.Recorder.visible g.H.C.Recorder.faults g.H.C.Recorder.fulls
     g.L.Seats.began (map start_of c.serve_all-handle.new.idle.items) (map start_of c.args.idle.items) (g.H.Host.now c.args.host.now) (g.H.Host.now c.serve_all-handle.new.host)
     c.ended.result.status c.ended.result.lanes.items c.ended.result.core
     c.serve_all-handle.ensures.starts (c.ended.ensures.ends (g.H.Host.now c.args.host.now) (g.H.Host.now c.serve_all-handle.new.host) c.serve_all-handle.ensures.cause)

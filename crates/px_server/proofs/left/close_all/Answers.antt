@@ -1,13 +1,13 @@
 use Rattle.std.proofs.Common.{rules, ◌≡◌, ◌∷◌, [], ◌++◌, List, IfSome}
 use Rattle.px_annals.specs.declared.entry.CoreEntry.{CoreEntry}
 use Rattle.px_core_cell.specs.Cell.{ends_of}
-use Rattle.px_core_cell.specs.History.{IsTold}
+use Rattle.px_core_cell.specs.History.{IsAgreed}
 use Rattle.px_lane_cell.specs.History.{unturned}
 use Rattle.px_server.specs.Delivered.{IsDelivered}
 use Rattle.px_server.specs.Parts.{unworked}
 use Rattle.px_workers.specs.Working.{Unworked, AreTaped}
-use Rattle.px_server.proofs.Parts.{part_told, handed_none, handed_one, handed_all, met_one, met_all}
-use Rattle.px_server.proofs.Delivering.{told_one, told_is, boxes_rest}
+use Rattle.px_server.proofs.Parts.{part_agreed, handed_none, handed_one, handed_all, met_one, met_all}
+use Rattle.px_server.proofs.Delivering.{agreed_one, entries_follow, boxes_rest}
 use Rattle.px_server.proofs.Taping.{taping_first, counted_none, counted_one}
 use Rattle.px_server.proofs.left.close_all.Goals as goal
 
@@ -17,8 +17,8 @@ loop-sink-init g c = record {
   boxes = search rules;
   sink_fault = search rules;
   turns_room = search rules;
-  turns = λ on. (on, counted_none g.E.Recorder.told c.args.lanes.now.items c.args.turns.now.items c.requires.none c.requires.no_turns);
-  parts = λ began core told. (search rules, handed_none began core g.D.Device.now g.E.Recorder.told g.E.Recorder.faults g.E.Recorder.fulls c.args.idle.now.items c.args.lanes.now.items c.requires.none);
+  turns = λ on. (on, counted_none g.E.Recorder.visible c.args.lanes.now.items c.args.turns.now.items c.requires.none c.requires.no_turns);
+  parts = λ began core visible. (search rules, handed_none began core g.D.Device.now g.E.Recorder.visible g.E.Recorder.faults g.E.Recorder.fulls c.args.idle.now.items c.args.lanes.now.items c.requires.none);
 }
 
 pub loop-sink-preserved : goal.loop-sink-preserved
@@ -38,19 +38,19 @@ loop-sink-preserved g c =
       turns = λ on.
           let so = c.loop-sink.invariant.turns on in
           let first = taping_first left rest one front so.0 in
-          let taped : AreTaped g.E.Recorder.told one.cell.recorder one.turns = search rules in (
+          let taped : AreTaped g.E.Recorder.visible one.cell.recorder one.turns = search rules in (
             first.1,
-            counted_one g.E.Recorder.told c.loop-sink.lanes.items c.push.new.self.items c.closed.result c.loop-sink.turns.items c.keep_turns.new.turns.items one.cell.recorder one.turns
-                more c.closed.ensures.recorder first.0 taped c.keep_turns.ensures.more so.1,
+            counted_one g.E.Recorder.visible c.loop-sink.lanes.items c.push.new.self.items c.closed.result c.loop-sink.turns.items c.add_turns.new.turns.items one.cell.recorder one.turns
+                more c.closed.ensures.recorder first.0 taped c.add_turns.ensures.more so.1,
           );
-      parts = λ began core told.
-          let so = c.loop-sink.invariant.parts began core told in
-          let all = told_one began core left rest one c.loop-sink.ends.items c.pop_front-in-Some.new.self.items end front next so.0 in (
+      parts = λ began core visible.
+          let so = c.loop-sink.invariant.parts began core visible in
+          let all = agreed_one began core left rest one c.loop-sink.ends.items c.pop_front-in-Some.new.self.items end front next so.0 in (
             all.1,
-            handed_one began core g.D.Device.now g.E.Recorder.told g.E.Recorder.faults g.E.Recorder.fulls c.args.idle.now.items left rest one c.loop-sink.lanes.items c.push.new.self.items c.closed.result
-                front more (part_told began core g.D.Device.now g.E.Recorder.told g.E.Recorder.faults g.E.Recorder.fulls (unworked one) c.closed.result (c.closed.ensures.part began one.sink_fault (search rules))
-                (told_is core (λ (entries : List CoreEntry). IsTold began entries one.sink.0 (ends_of end))
-                (λ (entries : List CoreEntry). IfSome (g.E.Recorder.told c.closed.result.recorder) (IsDelivered began entries one.sink (unturned one.cell.lane.sink)))
+            handed_one began core g.D.Device.now g.E.Recorder.visible g.E.Recorder.faults g.E.Recorder.fulls c.args.idle.now.items left rest one c.loop-sink.lanes.items c.push.new.self.items c.closed.result
+                front more (part_agreed began core g.D.Device.now g.E.Recorder.visible g.E.Recorder.faults g.E.Recorder.fulls (unworked one) c.closed.result (c.closed.ensures.part began one.sink_fault (search rules))
+                (entries_follow core (λ (entries : List CoreEntry). IsAgreed began entries one.sink.0 (ends_of end))
+                (λ (entries : List CoreEntry). IfSome (g.E.Recorder.visible c.closed.result.recorder) (IsDelivered began entries one.sink (unturned one.cell.lane.sink)))
                 (c.closed.ensures.delivered began) all.0)) so.1,
           );
     }
@@ -61,10 +61,10 @@ returns-clause-sink_fault g c =
     met_all c.loop-sink.first c.loop-sink.idle.items c.args.idle.now.items none c.loop-sink.invariant.sink_fault
 
 pub returns-clause-parts : goal.returns-clause-parts
-returns-clause-parts g c = λ began core told.
+returns-clause-parts g c = λ began core visible.
     let none : c.loop-sink.idle.items ≡ [] = search rules in
-    handed_all began core g.D.Device.now g.E.Recorder.told g.E.Recorder.faults g.E.Recorder.fulls c.args.idle.now.items c.loop-sink.idle.items c.loop-sink.lanes.items none
-    (c.loop-sink.invariant.parts began core told).1
+    handed_all began core g.D.Device.now g.E.Recorder.visible g.E.Recorder.faults g.E.Recorder.fulls c.args.idle.now.items c.loop-sink.idle.items c.loop-sink.lanes.items none
+    (c.loop-sink.invariant.parts began core visible).1
 
 pub returns-clause-turns : goal.returns-clause-turns
 returns-clause-turns g c = λ on. (c.loop-sink.invariant.turns on).1

@@ -8,7 +8,7 @@ use Rattle.px_server.proofs.left.hand_back.Given as goal
 abbrev pub invariant-loop-sink : goal.invariant-loop-sink
 invariant-loop-sink g l = record {
   room : vec_len l.lanes + length l.idle.items ≤ vec_capacity l.lanes;
-  parts : (began : State PlainStream) → Handed began None g.D.Device.now g.E.Recorder.told g.E.Recorder.faults g.E.Recorder.fulls l.fn.idle.items l.idle.items l.lanes.items;
+  parts : (began : State PlainStream) → Handed began None g.D.Device.now g.E.Recorder.visible g.E.Recorder.faults g.E.Recorder.fulls l.fn.idle.items l.idle.items l.lanes.items;
 }
 
 -- how many are left

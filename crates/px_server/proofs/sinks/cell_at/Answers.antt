@@ -1,5 +1,5 @@
 use Rattle.std.proofs.Common.{◌≡◌, [], sym, subst, refl}
-use Rattle.px_ends.specs.Told.{WhereTold}
+use Rattle.px_ends.specs.Visible.{WhereVisible}
 use Rattle.px_lane.specs.Lane.{Mixer, IsAttached}
 use Rattle.px_lane_cell.specs.Cell.{IsKeyOf}
 use Rattle.px_lane_cell.specs.History.{unturned}
@@ -15,7 +15,7 @@ pub new-requires-2-clause-attached : goal.new-requires-2-clause-attached
 new-requires-2-clause-attached g c = subst (λ (m : Mixer g.row.D.Denot). IsAttached (g.D.Device.now m.device) m.sink) (sym c.in_ok-lane.ensures) c.requires.fresh.attached
 
 pub new-requires-2-clause-unplayed : goal.new-requires-2-clause-unplayed
-new-requires-2-clause-unplayed g c = subst (λ (m : Mixer g.row.D.Denot). WhereTold (g.D.Device.now m.device).played (λ bytes. bytes ≡ [])) (sym c.in_ok-lane.ensures) c.requires.fresh.unplayed
+new-requires-2-clause-unplayed g c = subst (λ (m : Mixer g.row.D.Denot). WhereVisible (g.D.Device.now m.device).played (λ bytes. bytes ≡ [])) (sym c.in_ok-lane.ensures) c.requires.fresh.unplayed
 
 pub new-requires-2-clause-unnoted : goal.new-requires-2-clause-unnoted
 new-requires-2-clause-unnoted g c = c.requires.fresh.unnoted

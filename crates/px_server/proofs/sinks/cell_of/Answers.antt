@@ -9,11 +9,11 @@ returns-clause-sink g c = ap (λ (m : Mixer g.row.D.Denot). m.sink) c.in-Ok.ensu
 
 pub returns-clause-honest : goal.returns-clause-honest
 returns-clause-honest g c =
-    fresh_honest g.D.Device.now g.E.Recorder.told g.E.Recorder.faults g.E.Recorder.fulls c.args.sink.now c.args.device c.args.recorder c.in-Ok.cell
+    fresh_honest g.D.Device.now g.E.Recorder.visible g.E.Recorder.faults g.E.Recorder.fulls c.args.sink.now c.args.device c.args.recorder c.in-Ok.cell
     c.requires.fresh c.in-Ok.ensures.lane c.in-Ok.ensures.recorder
 
 pub returns-clause-unnoted : goal.returns-clause-unnoted
-returns-clause-unnoted g c = subst (λ (r : g.row.E.Denot). IfSome (g.E.Recorder.told r) (λ entries. entries ≡ [])) (sym c.in-Ok.ensures.recorder) c.requires.fresh.unnoted
+returns-clause-unnoted g c = subst (λ (r : g.row.E.Denot). IfSome (g.E.Recorder.visible r) (λ entries. entries ≡ [])) (sym c.in-Ok.ensures.recorder) c.requires.fresh.unnoted
 
 pub returns-clause-core : goal.returns-clause-core
 returns-clause-core g c = c.in_ok-ends.ensures.core

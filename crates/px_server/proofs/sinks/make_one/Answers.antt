@@ -29,7 +29,7 @@ returns-in_err-one-clause-later g c = c.new_sink_state.ensures.later
 
 pub returns-in_err-one-clause-lent : goal.returns-in_err-one-clause-lent
 returns-in_err-one-clause-lent g c = λ lent.
-    lent_as c.args.idle.now.items c.reserve_one.new.idle.items (g.H.Host.now c.new_sink_state.new.host) c.reserve_one.ensures.idle (c.in_err-one.ensures.kept _ lent)
+    lent_as c.args.idle.now.items c.reserve_one.new.idle.items (g.H.Host.now c.new_sink_state.new.host) c.reserve_one.ensures.idle (c.in_err-one.ensures.lent_stays _ lent)
 
 pub returns-in_err-one-clause-made : goal.returns-in_err-one-clause-made
 returns-in_err-one-clause-made g c = let p = err_from_is_err_and c.from_residual.result c.from_residual.ensures.1 in rw (p.1) tt

@@ -16,8 +16,8 @@ cell_of-requires-clause-fresh g c = c.in-Ok.ensures.fresh
 pub returns-in-Err-clause-later : goal.returns-in-Err-clause-later
 returns-in-Err-clause-later g c = c.outside.ensures.later
 
-pub returns-in-Err-clause-kept : goal.returns-in-Err-clause-kept
-returns-in-Err-clause-kept g c = c.in-Err.ensures.kept
+pub returns-in-Err-clause-lent_stays : goal.returns-in-Err-clause-lent_stays
+returns-in-Err-clause-lent_stays g c = c.in-Err.ensures.lent_stays
 
 pub returns-in-Err-clause-cause : goal.returns-in-Err-clause-cause
 returns-in-Err-clause-cause g c = subst (λ (s : _). IsCauseOf s (g.H.Host.now c.args.host.now) (g.H.Host.now c.outside.new.host)) (sym c.stop_by.ensures) c.in-Err.ensures.cause
@@ -25,8 +25,8 @@ returns-in-Err-clause-cause g c = subst (λ (s : _). IsCauseOf s (g.H.Host.now c
 pub returns-in_default-clause-later : goal.returns-in_default-clause-later
 returns-in_default-clause-later g c = c.outside.ensures.later
 
-pub returns-in_default-clause-kept : goal.returns-in_default-clause-kept
-returns-in_default-clause-kept g c = λ n lent. lent_fewer n (g.H.Host.now c.outside.new.host) (c.in-Ok.ensures.lent n lent)
+pub returns-in_default-clause-lent_stays : goal.returns-in_default-clause-lent_stays
+returns-in_default-clause-lent_stays g c = λ n lent. lent_fewer n (g.H.Host.now c.outside.new.host) (c.in-Ok.ensures.lent n lent)
 
 pub returns-in_default-clause-cause : goal.returns-in_default-clause-cause
 returns-in_default-clause-cause g c = tt

@@ -1,5 +1,5 @@
 use Rattle.std.proofs.Common.{◌≡◌, ℕ, List, ◌++◌, ◌+◌, ◌-◌, ◌^◌, length}
-use Rattle.px_ends.specs.Told.{before_taking}
+use Rattle.px_ends.specs.Visible.{before_taking}
 use Rattle.px_session.proofs.waiting.await_step.Given as goal
 
 -- the bytes taken so far are held behind those from before, and no read has failed

@@ -1,5 +1,5 @@
 use Rattle.std.proofs.Common.{◌≡◌, ◌++◌, All, drop}
-use Rattle.px_plan.specs.Target.{IsTarget}
+use Rattle.px_outcome.specs.Target.{IsTarget}
 use Rattle.px_sinks.specs.Sinks.{targets_from}
 use Rattle.px_sinks.proofs.targets.targets_in.Given as goal
 

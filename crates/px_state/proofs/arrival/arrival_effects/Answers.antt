@@ -8,5 +8,5 @@ pub returns : goal.returns
 returns g c =
     let made = c.made.view_is in
     arrival_answered _ (state_of c.args.tables.now) c.args.input c.args.made.now c.deref.result.now c.deref-2.result.now c.deref-3.result.now c.in_ok-effects.effects c.add_arrival_events.new.effects
-    (c.deref.ensures.value ∙ ap (λ (a : Arriving _ _). a.told) made) (c.deref-2.ensures.value ∙ ap (λ (a : Arriving _ _). a.later) made) (c.deref-3.ensures.value ∙ ap (λ (a : Arriving _ _). a.later) made)
+    (c.deref.ensures.value ∙ ap (λ (a : Arriving _ _). a.notified) made) (c.deref-2.ensures.value ∙ ap (λ (a : Arriving _ _). a.later) made) (c.deref-3.ensures.value ∙ ap (λ (a : Arriving _ _). a.later) made)
     c.in_ok-effects.ensures c.in_ok-add_arrival_events.ensures

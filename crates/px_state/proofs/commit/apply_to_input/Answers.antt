@@ -15,31 +15,31 @@ pub returns-in-Leaves-clause-room : goal.returns-in-Leaves-clause-room
 returns-in-Leaves-clause-room g c = c.leave.ensures.room
 
 pub returns-in-Moves-clause-state : goal.returns-in-Moves-clause-state
-returns-in-Moves-clause-state g c = as_found (state_of c.args.tables.now) _ c.args.change _ c.in-Moves.is c.send_off.ensures.state
+returns-in-Moves-clause-state g c = as_found (state_of c.args.tables.now) _ c.args.change _ c.in-Moves.is c.depart_by_index.ensures.state
 
 pub returns-in-Moves-clause-room : goal.returns-in-Moves-clause-room
-returns-in-Moves-clause-room g c = c.send_off.ensures.room
+returns-in-Moves-clause-room g c = c.depart_by_index.ensures.room
 
 pub returns-in-Arrives-clause-state : goal.returns-in-Arrives-clause-state
-returns-in-Arrives-clause-state g c = as_found (state_of c.args.tables.now) _ c.args.change _ c.in-Arrives.is c.take_in.ensures.state
+returns-in-Arrives-clause-state g c = as_found (state_of c.args.tables.now) _ c.args.change _ c.in-Arrives.is c.arrive_by_index.ensures.state
 
 pub returns-in-Arrives-clause-room : goal.returns-in-Arrives-clause-room
-returns-in-Arrives-clause-room g c = c.take_in.ensures.room
+returns-in-Arrives-clause-room g c = c.arrive_by_index.ensures.room
 
 pub returns-in-Released-clause-state : goal.returns-in-Released-clause-state
-returns-in-Released-clause-state g c = as_found (state_of c.args.tables.now) _ c.args.change _ c.in-Released.is c.let_on.ensures.state
+returns-in-Released-clause-state g c = as_found (state_of c.args.tables.now) _ c.args.change _ c.in-Released.is c.release_by_index.ensures.state
 
 pub returns-in-Released-clause-room : goal.returns-in-Released-clause-room
-returns-in-Released-clause-room g c = c.let_on.ensures.room
+returns-in-Released-clause-room g c = c.release_by_index.ensures.room
 
-pub returns-in-Said-clause-state : goal.returns-in-Said-clause-state
-returns-in-Said-clause-state g c = as_found (state_of c.args.tables.now) _ c.args.change _ c.in-Said.is c.say.ensures.state
+pub returns-in-Posted-clause-state : goal.returns-in-Posted-clause-state
+returns-in-Posted-clause-state g c = as_found (state_of c.args.tables.now) _ c.args.change _ c.in-Posted.is c.post_by_index.ensures.state
 
-pub returns-in-Said-clause-room : goal.returns-in-Said-clause-room
-returns-in-Said-clause-room g c = c.say.ensures.room
+pub returns-in-Posted-clause-room : goal.returns-in-Posted-clause-room
+returns-in-Posted-clause-room g c = c.post_by_index.ensures.room
 
 pub returns-in-Gone-clause-state : goal.returns-in-Gone-clause-state
-returns-in-Gone-clause-state g c = as_found (state_of c.args.tables.now) _ c.args.change _ c.in-Gone.is c.give_up.ensures.state
+returns-in-Gone-clause-state g c = as_found (state_of c.args.tables.now) _ c.args.change _ c.in-Gone.is c.remove_input.ensures.state
 
 pub returns-in-Gone-clause-room : goal.returns-in-Gone-clause-room
-returns-in-Gone-clause-room g c = c.give_up.ensures.room
+returns-in-Gone-clause-room g c = c.remove_input.ensures.room

@@ -18,12 +18,12 @@ returns-in-Settled-clause-room g c = λ n had.
     })
     (same_listed c.args.tables.now.lists c.post.new.tables.lists c.post.ensures.lists)
     (record {
-      len = omega (arith, ap (λ v. length v.items) c.post.ensures.waiting, c.give_up.ensures.len);
-      capacity = ap (λ v. vec_capacity v) c.post.ensures.waiting ∙ c.give_up.ensures.capacity;
+      len = omega (arith, ap (λ v. length v.items) c.post.ensures.waiting, c.remove_input.ensures.len);
+      capacity = ap (λ v. vec_capacity v) c.post.ensures.waiting ∙ c.remove_input.ensures.capacity;
     })
     (record {
-      len = omega (arith, ap (λ v. length v.items) c.post.ensures.delayed, c.give_up-in-Settled.ensures.len);
-      capacity = ap (λ v. vec_capacity v) c.post.ensures.delayed ∙ c.give_up-in-Settled.ensures.capacity;
+      len = omega (arith, ap (λ v. length v.items) c.post.ensures.delayed, c.remove_input-in-Settled.ensures.len);
+      capacity = ap (λ v. vec_capacity v) c.post.ensures.delayed ∙ c.remove_input-in-Settled.ensures.capacity;
     })
     (c.post.ensures.room n had.posted) had
 
@@ -33,8 +33,8 @@ returns-in-Moving-clause-room g c = λ n had.
       places = omega (arith, had.places, c.leave-in-Moving.ensures.len, c.leave-in-Moving.ensures.places);
       streams = omega (arith, had.streams, c.leave-in-Moving.ensures.streams);
       lists = omega (arith, had.lists);
-      waiting = omega (arith, had.waiting, c.give_up-in-Moving.ensures.len, c.give_up-in-Moving.ensures.capacity);
-      delayed = omega (arith, had.delayed, c.give_up-in-Moving-2.ensures.len, c.give_up-in-Moving-2.ensures.capacity);
+      waiting = omega (arith, had.waiting, c.remove_input-in-Moving.ensures.len, c.remove_input-in-Moving.ensures.capacity);
+      delayed = omega (arith, had.delayed, c.remove_input-in-Moving-2.ensures.len, c.remove_input-in-Moving-2.ensures.capacity);
       posted = fewer_places n c.args.tables.now.posted.items had.posted;
     }
 

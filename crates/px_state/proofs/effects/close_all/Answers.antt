@@ -2,7 +2,7 @@ use Rattle.std.proofs.Common.{arith, ◌≡◌, ℕ, suc, ◌+◌, ◌<◌, ◌+
 use Rattle.std.proofs.Math.Seq.{drop-cons}
 use Rattle.px_state.specs.declared.effect.Effect.{Effect}
 use Rattle.px_state.specs.Change.{Change}
-use Rattle.px_state.specs.Plan.{closed_all}
+use Rattle.px_state.specs.Outcome.{closed_all}
 use Rattle.px_state.proofs.effects.close_all.Goals as goal
 
 next : (i : ℕ) → suc i ≡ i + 1

@@ -1,5 +1,5 @@
 use Rattle.std.proofs.Common.{◌≡◌, ◌++◌, drop}
-use Rattle.px_state.specs.Plan.{closed_all}
+use Rattle.px_state.specs.Outcome.{closed_all}
 use Rattle.px_state.proofs.effects.close_all.Given as goal
 
 -- the effects so far and those of the changes that are left are all of them

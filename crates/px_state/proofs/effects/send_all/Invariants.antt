@@ -1,5 +1,5 @@
 use Rattle.std.proofs.Common.{◌≡◌, ◌++◌, drop}
-use Rattle.px_state.specs.Plan.{sent_all}
+use Rattle.px_state.specs.Outcome.{sent_all}
 use Rattle.px_state.proofs.effects.send_all.Given as goal
 
 -- the effects so far and those of the packets that are left are all of them

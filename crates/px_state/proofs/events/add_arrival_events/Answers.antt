@@ -1,5 +1,5 @@
 use Rattle.std.proofs.Common.{◌∷◌, sym, ap, ◌∙◌}
-use Rattle.px_plan.specs.declared.change.Change.TheVariants.{Arrives}
+use Rattle.px_outcome.specs.declared.change.Change.TheVariants.{Arrives}
 use Rattle.px_subscribe.specs.Scene.{nobody_hears}
 use Rattle.px_state.specs.Tables.{state_of}
 use Rattle.px_state.proofs.AddedLaws.{deaf_added, arrival_added}
@@ -13,4 +13,4 @@ returns-then-nobody_hears g c = λ m.
 pub returns : goal.returns
 returns g c =
     arrival_added _ c.args.effects.now c.send_all.new.effects (state_of c.args.tables.now) c.args.input c.args.later.now c.as_slice-sinks.result.now c.in_ok-scene.scene c.deref.result.now
-    c.as_slice-sinks.ensures c.in_ok-scene.ensures (c.deref.ensures.value ∙ c.in_ok-told.ensures) c.in_ok-send_all.ensures
+    c.as_slice-sinks.ensures c.in_ok-scene.ensures (c.deref.ensures.value ∙ c.in_ok-notified.ensures) c.in_ok-send_all.ensures

@@ -15,4 +15,4 @@ returns-then-nobody_hears g c =
 pub returns : goal.returns
 returns g c =
     changes_added _ c.args.effects.now c.send_all.new.effects (state_of c.args.tables.now) c.args.changes.now c.as_slice.result.now c.in_ok-scene.scene c.deref.result.now
-    c.as_slice.ensures c.in_ok-scene.ensures (c.deref.ensures.value ∙ c.in_ok-told.ensures) c.in_ok-send_all.ensures
+    c.as_slice.ensures c.in_ok-scene.ensures (c.deref.ensures.value ∙ c.in_ok-notified.ensures) c.in_ok-send_all.ensures

@@ -12,4 +12,4 @@ returns-then-are_deaf g c =
 pub returns : goal.returns
 returns g c =
     join_added _ c.new-effects.result c.send_all.new.effects (state_of c.args.tables.now) c.args.conn c.as_slice.result.now c.in_ok-scene.scene c.deref.result.now
-    c.new-effects.ensures c.as_slice.ensures c.in_ok-scene.ensures (c.deref.ensures.value ∙ c.in_ok-told.ensures) c.in_ok-send_all.ensures
+    c.new-effects.ensures c.as_slice.ensures c.in_ok-scene.ensures (c.deref.ensures.value ∙ c.in_ok-notified.ensures) c.in_ok-send_all.ensures

@@ -1,6 +1,6 @@
 use Rattle.std.proofs.Common.{arith, ◌≡◌, ◌∙◌, ◌≤◌, ◌++◌, List, ap, sym}
 use Rattle.px_subscribe.specs.declared.event.Event.{Event}
-use Rattle.px_subscribe.specs.InfoBytes.{told_events}
+use Rattle.px_subscribe.specs.InfoBytes.{events_in_bytes}
 use Rattle.px_subscribe.specs.Became.{events_at}
 use Rattle.px_subscribe.specs.InfoBytes.{bytes_at}
 use Rattle.px_subscribe.proofs.Nearest.{append_assoc, next_past, next_further, next_all}
@@ -22,7 +22,7 @@ loop-from-preserved c =
     let further = next_further c.args.facility c.args.before.now c.args.after.now c.loop-from.from c.args.given c.next_in.result c.next_in-next.result c.loop-from.invariant.1 c.next_in.ensures c.next_in-next.ensures in (
       c.in_ok-add_at.ensures
           ∙ ap (λ (l : List Event). l ++ events_at c.args.facility (λ bytes. bytes) (bytes_at c.args.before.now) (bytes_at c.args.after.now) c.next_in-next.result) c.loop-from.invariant.0
-          ∙ append_assoc c.args.events.now.items (told_events c.args.facility c.args.before.now c.args.after.now c.loop-from.from) (events_at c.args.facility (λ bytes. bytes) (bytes_at c.args.before.now) (bytes_at c.args.after.now) c.next_in-next.result)
+          ∙ append_assoc c.args.events.now.items (events_in_bytes c.args.facility c.args.before.now c.args.after.now c.loop-from.from) (events_at c.args.facility (λ bytes. bytes) (bytes_at c.args.before.now) (bytes_at c.args.after.now) c.next_in-next.result)
           ∙ ap (λ (l : List Event). c.args.events.now.items ++ l) (sym further),
       omega (arith, c.if-next-given.false),
     )

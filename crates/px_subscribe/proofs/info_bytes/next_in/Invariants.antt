@@ -4,4 +4,4 @@ use Rattle.px_subscribe.proofs.info_bytes.next_in.Given as goal
 
 -- those that are left give, from the nearest so far on, what all give
 abbrev pub invariant-loop-t : goal.invariant-loop-t
-invariant-loop-t l = next_in (drop l.t-index l.told) l.from l.next ≡ next_in l.told l.from l.end
+invariant-loop-t l = next_in (drop l.t-index l.infos) l.from l.next ≡ next_in l.infos l.from l.end

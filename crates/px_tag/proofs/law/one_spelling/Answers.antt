@@ -45,8 +45,8 @@ returns-clause-times c = time_law
 pub returns-clause-proplists : goal.returns-clause-proplists
 returns-clause-proplists c = written_law
 
-pub returns-clause-kept : goal.returns-clause-kept
-returns-clause-kept c = list_again
+pub returns-clause-stays : goal.returns-clause-stays
+returns-clause-stays c = list_again
 
 pub returns-clause-meanings : goal.returns-clause-meanings
 returns-clause-meanings c = meaning_rules

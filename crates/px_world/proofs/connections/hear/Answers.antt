@@ -5,7 +5,7 @@ use Rattle.px_world.specs.World.{link_of, received_of}
 use Rattle.px_world.specs.Event.{bytes_steps}
 use Rattle.px_world.specs.Running.{steps_given}
 use Rattle.px_world.proofs.Going.{steps-behind, effects-behind}
-use Rattle.px_world.proofs.Doing.{refused-found, position-within, kept-given}
+use Rattle.px_world.proofs.Doing.{refused-found, position-within, consistent-given}
 use Rattle.px_world.proofs.connections.hear.Goals as goal
 
 pub feed-given-requires : goal.feed-given-requires
@@ -20,10 +20,10 @@ returns-clause-done c = λ w opened distinct.
       core = steps-behind Stream.spec c.args.core.now.state _ _ (bytes_steps c.args.conn (received_of (link_of w.links c.args.conn)) c.args.bytes.now) (sweep ∷ [])
           (c.in_ok-first.ensures.core ∙ ap (stepped_by Stream.spec c.args.core.now.state) (sym steps)) c.in_ok-effects.ensures.core;
       opened = c.feed-given.ensures.opened c.args.conn w.links c.requires opened distinct c.in_ok-first.ensures.answered;
-      told = effects-behind Stream.spec c.args.core.now.state _ (bytes_steps c.args.conn (received_of (link_of w.links c.args.conn)) c.args.bytes.now) (sweep ∷ []) _ _
+      caused = effects-behind Stream.spec c.args.core.now.state _ (bytes_steps c.args.conn (received_of (link_of w.links c.args.conn)) c.args.bytes.now) (sweep ∷ []) _ _
           (c.in_ok-first.ensures.core ∙ ap (stepped_by Stream.spec c.args.core.now.state) (sym steps))
           (c.in_ok-first.ensures.effects ∙ ap (effects_by Stream.spec c.args.core.now.state) (sym steps)) c.in_ok-effects.ensures.effects;
     }
 
-pub returns-clause-kept : goal.returns-clause-kept
-returns-clause-kept c = λ mixers h. kept-given c.args.core.now.state _ _ mixers h c.args.conn c.feed-given.result c.feed-given.ensures.bodies c.in_ok-first.ensures.core c.in_ok-effects.ensures.core
+pub returns-clause-consistent : goal.returns-clause-consistent
+returns-clause-consistent c = λ mixers h. consistent-given c.args.core.now.state _ _ mixers h c.args.conn c.feed-given.result c.feed-given.ensures.bodies c.in_ok-first.ensures.core c.in_ok-effects.ensures.core

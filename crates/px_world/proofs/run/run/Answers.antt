@@ -8,7 +8,7 @@ use Rattle.px_world.specs.declared.playing.Playing.{Playing}
 use Rattle.px_world.specs.Playing.{mixer_of}
 use Rattle.px_world.specs.Running.{Open}
 use Rattle.px_world.specs.Doing.{running_of, Answered, IsRefused, Does, Plays, Runs}
-use Rattle.px_world.proofs.Standings.{runs-connection, runs-sink, kept-silent, keeps-it}
+use Rattle.px_world.proofs.Standings.{runs-connection, runs-sink, consistent-silent, keeps-it}
 use Rattle.px_world.proofs.run.run.Goals as goal
 
 pub returns-in-Connect-clause-done : goal.returns-in-Connect-clause-done
@@ -58,21 +58,21 @@ returns-in-Collect-clause-done c = λ w s.
     (c.collect.ensures.done w (sym s.core) (sym s.mixers ∙ ap (λ (ps : List Playing). map mixer_of ps) (sym c.deref_mut-in-Collect.ensures.value))))
     refl refl)
 
-pub returns-in-Connect-clause-kept : goal.returns-in-Connect-clause-kept
-returns-in-Connect-clause-kept c =
-    kept-silent c.args.core.now.state c.connect.new.core.state _ _ (map mixer_of c.args.mixers.now.items) c.connect.result c.silent.result c.silent.ensures c.connect.ensures.stays c.connect.ensures.kept c.requires.kept
+pub returns-in-Connect-clause-consistent : goal.returns-in-Connect-clause-consistent
+returns-in-Connect-clause-consistent c =
+    consistent-silent c.args.core.now.state c.connect.new.core.state _ _ (map mixer_of c.args.mixers.now.items) c.connect.result c.silent.result c.silent.ensures c.connect.ensures.stays c.connect.ensures.consistent c.requires.consistent
 
-pub returns-in-Bytes-clause-kept : goal.returns-in-Bytes-clause-kept
-returns-in-Bytes-clause-kept c =
-    kept-silent c.args.core.now.state c.bytes.new.core.state _ _ (map mixer_of c.args.mixers.now.items) c.bytes.result c.silent-in-Bytes.result c.silent-in-Bytes.ensures c.bytes.ensures.stays c.bytes.ensures.kept c.requires.kept
+pub returns-in-Bytes-clause-consistent : goal.returns-in-Bytes-clause-consistent
+returns-in-Bytes-clause-consistent c =
+    consistent-silent c.args.core.now.state c.bytes.new.core.state _ _ (map mixer_of c.args.mixers.now.items) c.bytes.result c.silent-in-Bytes.result c.silent-in-Bytes.ensures c.bytes.ensures.stays c.bytes.ensures.consistent c.requires.consistent
 
-pub returns-in-Close-clause-kept : goal.returns-in-Close-clause-kept
-returns-in-Close-clause-kept c =
-    kept-silent c.args.core.now.state c.close.new.core.state _ _ (map mixer_of c.args.mixers.now.items) c.close.result c.silent-in-Close.result c.silent-in-Close.ensures c.close.ensures.stays c.close.ensures.kept c.requires.kept
+pub returns-in-Close-clause-consistent : goal.returns-in-Close-clause-consistent
+returns-in-Close-clause-consistent c =
+    consistent-silent c.args.core.now.state c.close.new.core.state _ _ (map mixer_of c.args.mixers.now.items) c.close.result c.silent-in-Close.result c.silent-in-Close.ensures c.close.ensures.stays c.close.ensures.consistent c.requires.consistent
 
-pub returns-in-Cut-clause-kept : goal.returns-in-Cut-clause-kept
-returns-in-Cut-clause-kept c =
-    kept-silent c.args.core.now.state c.cut.new.core.state _ _ (map mixer_of c.args.mixers.now.items) c.cut.result c.silent-in-Cut.result c.silent-in-Cut.ensures c.cut.ensures.stays c.cut.ensures.kept c.requires.kept
+pub returns-in-Cut-clause-consistent : goal.returns-in-Cut-clause-consistent
+returns-in-Cut-clause-consistent c =
+    consistent-silent c.args.core.now.state c.cut.new.core.state _ _ (map mixer_of c.args.mixers.now.items) c.cut.result c.silent-in-Cut.result c.silent-in-Cut.ensures c.cut.ensures.stays c.cut.ensures.consistent c.requires.consistent
 
 pub returns-in-Connect-clause-playing : goal.returns-in-Connect-clause-playing
 returns-in-Connect-clause-playing c = keeps-it c.silent.result _ c.requires.playing

@@ -5,7 +5,7 @@ use Rattle.px_world.specs.declared.playing.Playing.{Playing}
 use Rattle.px_world.specs.World.{Mixer}
 use Rattle.px_world.specs.Event.{mixer_collected}
 use Rattle.px_world.specs.Playing.{mixer_of}
-use Rattle.px_world.proofs.Sounding.{seen-at, seen-alike, changed-at, collects, collected-kept}
+use Rattle.px_world.proofs.Sounding.{seen-at, seen-alike, changed-at, collects, collected-consistent}
 use Rattle.px_world.proofs.sinks.collect.Goals as goal
 
 pub returns-clause-done : goal.returns-clause-done
@@ -21,8 +21,8 @@ returns-clause-done c = λ w same_core same_mixers.
     (ap (λ (ns : List (Notice Stream)). record (mixer_of (get_or c.args.mixers.now c.args.sink c.index-mixers-place-2.result)) { notices = ns }) c.in_ok-effects.ensures.notices))
     c.in_ok-effects.ensures.effects refl c.silence.ensures
 
-pub returns-clause-kept : goal.returns-clause-kept
-returns-clause-kept c =
+pub returns-clause-consistent : goal.returns-clause-consistent
+returns-clause-consistent c =
     let within : c.args.sink < length c.args.mixers.now = omega (arith, c.if-mixers-place.false) in
-    collected-kept mixer_of c.args.mixers.now c.args.sink c.index-mixers-place-2.result within c.args.core.now.state c.requires.kept c.collect_from.new.core.state (record { 0 = c.args.sink })
+    collected-consistent mixer_of c.args.mixers.now c.args.sink c.index-mixers-place-2.result within c.args.core.now.state c.requires.consistent c.collect_from.new.core.state (record { 0 = c.args.sink })
     c.args.count _ refl c.in_ok-effects.ensures.notices c.in_ok-effects.ensures.core

@@ -4,13 +4,13 @@ use Rattle.px_state.specs.Out.{waiting_for}
 use Rattle.px_world.specs.Admission.{turn_refusal}
 use Rattle.px_world.specs.Event.{mixer_turned}
 use Rattle.px_world.specs.Playing.{mixer_of, IsPlaying}
-use Rattle.px_world.proofs.Sounding.{seen-at, changed-at, each-at, each-set, unless-it, turn-refusal, goes-on, goes-fresh, goes-there, goes-few, sink-kept, turn-for, plays, turned-kept}
+use Rattle.px_world.proofs.Sounding.{seen-at, changed-at, each-at, each-set, unless-it, turn-refusal, goes-on, goes-fresh, goes-there, goes-few, sink-consistent, turn-for, plays, turned-consistent}
 use Rattle.px_world.proofs.sinks.turn.Goals as goal
 
-pub turn_of-requires-clause-kept : goal.turn_of-requires-clause-kept
-turn_of-requires-clause-kept c =
+pub turn_of-requires-clause-consistent : goal.turn_of-requires-clause-consistent
+turn_of-requires-clause-consistent c =
     let within : c.args.sink < length c.args.mixers.now = omega (arith, c.if-mixers-place.false) in
-    sink-kept mixer_of c.args.mixers.now c.args.sink c.index-mixers-place-in-None.result within c.args.core.now.state c.requires.kept
+    sink-consistent mixer_of c.args.mixers.now c.args.sink c.index-mixers-place-in-None.result within c.args.core.now.state c.requires.consistent
 
 pub turn_of-requires-clause-playing : goal.turn_of-requires-clause-playing
 turn_of-requires-clause-playing c =
@@ -38,7 +38,7 @@ turn_of-requires-clause-few c =
 pub turn_of-requires-clause-messages : goal.turn_of-requires-clause-messages
 turn_of-requires-clause-messages c =
     let within : c.args.sink < length c.args.mixers.now = omega (arith, c.if-mixers-place.false) in
-    turn-for mixer_of c.args.mixers.now c.args.sink c.index-mixers-place-in-None.result within c.args.core.now.state c.requires.kept c.args.count
+    turn-for mixer_of c.args.mixers.now c.args.sink c.index-mixers-place-in-None.result within c.args.core.now.state c.requires.consistent c.args.count
 
 pub returns-in-Some-clause-done : goal.returns-in-Some-clause-done
 returns-in-Some-clause-done c = λ w same_core same_mixers.
@@ -63,10 +63,10 @@ returns-in_ok-outcome-in-None-clause-done c = λ w same_core same_mixers.
     (λ x. mixer_turned x c.args.frames (map (message_of (λ p. p)) (take c.args.count (waiting_for c.args.core.now.state (record { 0 = c.args.sink }))))) c.in_ok-outcome-in-None.ensures.mixer)
     c.in_ok-outcome-in-None.ensures.effects c.in_ok-outcome-in-None.ensures.frames c.in_ok-outcome-in-None.ensures.played
 
-pub returns-in_ok-outcome-in-None-clause-kept : goal.returns-in_ok-outcome-in-None-clause-kept
-returns-in_ok-outcome-in-None-clause-kept c =
+pub returns-in_ok-outcome-in-None-clause-consistent : goal.returns-in_ok-outcome-in-None-clause-consistent
+returns-in_ok-outcome-in-None-clause-consistent c =
     let within : c.args.sink < length c.args.mixers.now = omega (arith, c.if-mixers-place.false) in
-    turned-kept mixer_of c.args.mixers.now c.args.sink c.index-mixers-place-in-None.result within c.args.core.now.state c.requires.kept c.turn_of.new.core.state c.args.frames c.args.count c.turn_of.new.playing
+    turned-consistent mixer_of c.args.mixers.now c.args.sink c.index-mixers-place-in-None.result within c.args.core.now.state c.requires.consistent c.turn_of.new.core.state c.args.frames c.args.count c.turn_of.new.playing
     (goes-there (mixer_of (get_or c.args.mixers.now c.args.sink c.index-mixers-place-in-None.result)) c.args.frames c.args.count (length (waiting_for c.args.core.now.state (record { 0 = c.args.sink })))
     (goes-on mixer_of c.args.mixers.now c.args.sink c.index-mixers-place.result c.index-mixers-place-in-None.result within c.args.core.now.state c.args.frames c.args.count _ c.outgoing-waiting.ensures c.in-None.ensures))
     c.in_ok-outcome-in-None.ensures.mixer c.in_ok-outcome-in-None.ensures.core
@@ -74,8 +74,8 @@ returns-in_ok-outcome-in-None-clause-kept c =
 pub returns-in_ok-outcome-in-None-clause-playing : goal.returns-in_ok-outcome-in-None-clause-playing
 returns-in_ok-outcome-in-None-clause-playing c = each-set IsPlaying c.args.mixers.now c.args.sink c.turn_of.new.playing c.requires.playing c.in_ok-outcome-in-None.ensures.playing
 
-pub returns-in-Some-clause-kept : goal.returns-in-Some-clause-kept
-returns-in-Some-clause-kept c = unless-it c.in-Some.fault _ c.requires.kept
+pub returns-in-Some-clause-consistent : goal.returns-in-Some-clause-consistent
+returns-in-Some-clause-consistent c = unless-it c.in-Some.fault _ c.requires.consistent
 
 pub returns-in-Some-clause-playing : goal.returns-in-Some-clause-playing
 returns-in-Some-clause-playing c = unless-it c.in-Some.fault _ c.requires.playing

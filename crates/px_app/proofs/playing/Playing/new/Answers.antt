@@ -1,5 +1,5 @@
 use Rattle.std.proofs.Common.{[], refl, sym, ap, ◌∙◌}
-use Rattle.px_ends.proofs.ToldBytes.{taking_nothing}
+use Rattle.px_ends.proofs.VisibleBytes.{taking_nothing}
 use Rattle.px_app.specs.Ends.{ends_of}
 use Rattle.px_app.specs.View.{shown_of, lens_of}
 use Rattle.px_app.proofs.PlayLaws.{nothing_played, new_unread, new_unnamed, new_reached}

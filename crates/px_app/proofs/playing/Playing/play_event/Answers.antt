@@ -1,5 +1,5 @@
 use Rattle.std.proofs.Common.{ℕ, Option, inr, ap, ◌∙◌}
-use Rattle.px_ends.specs.Told.{after_adding}
+use Rattle.px_ends.specs.Visible.{after_adding}
 use Rattle.px_app.specs.Step.{shown_part}
 use Rattle.px_app.proofs.ViewLaws.{shown_is}
 use Rattle.px_app.proofs.EventPlayedLaws.{event_done, event_cut, event_barred}

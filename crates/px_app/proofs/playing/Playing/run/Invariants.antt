@@ -1,5 +1,5 @@
 use Rattle.std.proofs.Common.{◌≡◌, ℕ, ◌^◌, ◌-◌, true}
-use Rattle.px_ends.specs.Told.{after_adding}
+use Rattle.px_ends.specs.Visible.{after_adding}
 use Rattle.px_app.specs.Ends.{Ends, ends_of, Grew}
 use Rattle.px_app.specs.View.{Shown}
 use Rattle.px_app.specs.Step.{AreFew, Reached}

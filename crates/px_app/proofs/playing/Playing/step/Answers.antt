@@ -1,5 +1,5 @@
 use Rattle.std.proofs.Common.{refl}
-use Rattle.px_ends.specs.Told.{after_adding}
+use Rattle.px_ends.specs.Visible.{after_adding}
 use Rattle.px_world.specs.World.{new_world}
 use Rattle.px_world.specs.Output.{world_by}
 use Rattle.px_app.specs.Ends.{ends_of}

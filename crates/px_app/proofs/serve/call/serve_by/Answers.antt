@@ -10,7 +10,7 @@ returns-in-Err-Usage g c =
 
 pub returns-in-Ok-new : goal.returns-in-Ok-new
 returns-in-Ok-new g c =
-    served_by g.H.C.Recorder.told g.H.C.Recorder.faults g.H.C.Recorder.fulls g.H.D.Device.now g.H.R.Recorder.told g.H.R.Recorder.faults g.H.R.Recorder.fulls
+    served_by g.H.C.Recorder.visible g.H.C.Recorder.faults g.H.C.Recorder.fulls g.H.D.Device.now g.H.R.Recorder.visible g.H.R.Recorder.faults g.H.R.Recorder.fulls
     (map string_bytes c.args.words.now) c.in-Ok.said c.serve_with.result (g.H.Host.now c.args.host.now) (g.H.Host.now c.serve_with.new.host)
     (out_end (g.K.Sink.held c.args.output.now) (g.K.Sink.faults c.args.output.now)) (out_end (g.K.Sink.held c.serve_with.new.output) (g.K.Sink.faults c.serve_with.new.output))
     (record { taken = c.in-Ok.ensures.read.0; reads = c.in-Ok.ensures.read.1; plain = c.in-Ok.ensures.plain }) c.serve_with.ensures

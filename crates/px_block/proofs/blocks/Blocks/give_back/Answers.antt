@@ -2,7 +2,7 @@ use Rattle.std.proofs.Common.{◌≡◌, ℕ, List, length, arith, ap, ◌∙◌
 use Rattle.std.specs.List.{concat}
 use Rattle.std.specs.Prelude.{vec_len}
 use Rattle.px_block.specs.Given.{after_giving, blocks_for}
-use Rattle.px_block.specs.Kept.{contents}
+use Rattle.px_block.specs.HeldBlock.{contents}
 use Rattle.px_block.proofs.PackedLemmas.{packed-count, length_contents}
 use Rattle.px_block.proofs.blocks.Blocks.give_back.Goals as goal
 

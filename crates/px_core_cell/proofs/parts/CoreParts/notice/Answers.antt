@@ -9,9 +9,9 @@ use Rattle.px_core_cell.proofs.parts.CoreParts.notice.Goals as goal
 
 pub returns-then-place-len-clause-gives : goal.returns-then-place-len-clause-gives
 returns-then-place-len-clause-gives g c =
-    subst (λ (l : List SinkEnds). FreeGives g.C.Recorder.told (asked.Notice c.args.sink) (cell_of c.args.self.now) (record { logged = logged_of c.notice_step.new.core.state c.notice_step.new.log; ends = l }) c.notice_step.result)
+    subst (λ (l : List SinkEnds). FreeGives g.C.Recorder.visible (asked.Notice c.args.sink) (cell_of c.args.self.now) (record { logged = logged_of c.notice_step.new.core.state c.notice_step.new.log; ends = l }) c.notice_step.result)
     (sym (map-set ends_of c.args.self.now.ends.items c.args.sink.0 c.notice_step.new.end))
-    (notice_gives g.C.Recorder.told c.args.sink (logged_of c.args.self.now.core.state c.args.self.now.log) (logged_of c.notice_step.new.core.state c.notice_step.new.log) (map ends_of c.args.self.now.ends.items)
+    (notice_gives g.C.Recorder.visible c.args.sink (logged_of c.args.self.now.core.state c.args.self.now.log) (logged_of c.notice_step.new.core.state c.notice_step.new.log) (map ends_of c.args.self.now.ends.items)
     (ends_of c.index_mut.result.now) (ends_of c.notice_step.new.end) c.notice_step.result
     (placed_at ends_of c.args.self.now.ends.items c.args.sink.0 c.len.result c.index_mut.result.now (c.len.ensures ∙ c.args.self.now.ends.ok.0) c.if-place-len.true c.index_mut.ensures.value)
     c.notice_step.ensures.gives)

@@ -17,14 +17,14 @@ pub returns-then-place-len-clause-gives : goal.returns-then-place-len-clause-giv
 returns-then-place-len-clause-gives g c =
     let here : slice_get (map ends_of c.args.self.now.ends.items) c.args.sink.0 ≡ Some (ends_of c.index_mut.result.now) =
     placed_at ends_of c.args.self.now.ends.items c.args.sink.0 c.len.result c.index_mut.result.now (c.len.ensures ∙ c.args.self.now.ends.ok.0) c.if-place-len.true c.index_mut.ensures.value in
-    subst (λ (l : List SinkEnds). EffectsGive g.C.Recorder.told c.args.sink (cell_of c.args.self.now) (record { logged = logged_of c.out_step.new.core.state c.out_step.new.log; ends = l }) c.out_step.result)
+    subst (λ (l : List SinkEnds). EffectsGive g.C.Recorder.visible c.args.sink (cell_of c.args.self.now) (record { logged = logged_of c.out_step.new.core.state c.out_step.new.log; ends = l }) c.out_step.result)
     (sym (map-set ends_of c.args.self.now.ends.items c.args.sink.0 c.out_step.new.end))
-    (out_gives g.C.Recorder.told c.args.sink (logged_of c.args.self.now.core.state c.args.self.now.log) (logged_of c.out_step.new.core.state c.out_step.new.log) (map ends_of c.args.self.now.ends.items)
+    (out_gives g.C.Recorder.visible c.args.sink (logged_of c.args.self.now.core.state c.args.self.now.log) (logged_of c.out_step.new.core.state c.out_step.new.log) (map ends_of c.args.self.now.ends.items)
     (ends_of c.index_mut.result.now) (ends_of c.out_step.new.end) c.out_step.result here c.out_step.ensures.gives)
 
 pub returns-else-place-len-clause-gives : goal.returns-else-place-len-clause-gives
 returns-else-place-len-clause-gives g c =
-    nowhere_gives g.C.Recorder.told c.args.sink c.args.self.now.core.state c.args.self.now.log c.nowhere_step.new.log (map ends_of c.args.self.now.ends.items) c.nowhere_step.result
+    nowhere_gives g.C.Recorder.visible c.args.sink c.args.self.now.core.state c.args.self.now.log c.nowhere_step.new.log (map ends_of c.args.self.now.ends.items) c.nowhere_step.result
     (none_at ends_of c.args.self.now.ends.items c.args.sink.0 c.len.result (c.len.ensures ∙ c.args.self.now.ends.ok.0) c.if-place-len.false) c.nowhere_step.ensures.gives
 
 pub returns-then-place-len-clause-stops : goal.returns-then-place-len-clause-stops

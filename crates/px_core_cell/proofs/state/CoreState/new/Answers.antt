@@ -9,6 +9,6 @@ use Rattle.px_core_cell.proofs.state.CoreState.new.Goals as goal
 
 pub invariant_of-result : goal.invariant_of-result
 invariant_of-result g c =
-    subst (λ (s : State PlainStream). IsCell g.C.Recorder.told s (cell_of c.new.result)) (sym (ap (λ (r : Roomy PlainStream). r.state) c.of.ensures))
-    (subst (λ (cell : Cell _). IsCell g.C.Recorder.told c.args.core.state cell) (sym c.new.ensures.cell)
-    (begins g.C.Recorder.told c.args.core.state c.args.recorder (map ends_of c.args.ends.items) c.requires.begins c.requires.none))
+    subst (λ (s : State PlainStream). IsCell g.C.Recorder.visible s (cell_of c.new.result)) (sym (ap (λ (r : Roomy PlainStream). r.state) c.of.ensures))
+    (subst (λ (cell : Cell _). IsCell g.C.Recorder.visible c.args.core.state cell) (sym c.new.ensures.cell)
+    (begins g.C.Recorder.visible c.args.core.state c.args.recorder (map ends_of c.args.ends.items) c.requires.begins c.requires.none))

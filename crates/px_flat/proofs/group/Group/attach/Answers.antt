@@ -1,6 +1,6 @@
 use Rattle.std.proofs.Common.{length}
 use Rattle.px_flat.specs.Member.{IsMember}
-use Rattle.px_flat.proofs.Kept.{all_more, coming_is}
+use Rattle.px_flat.proofs.Preserved.{all_more, coming_is}
 use Rattle.px_flat.proofs.TrueTo.{settled_is}
 use Rattle.px_flat.proofs.group.Group.attach.Goals as goal
 

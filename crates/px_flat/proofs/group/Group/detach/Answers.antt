@@ -1,6 +1,6 @@
 use Rattle.std.proofs.Common.{length}
 use Rattle.px_flat.specs.Member.{IsMember, is_input}
-use Rattle.px_flat.proofs.Kept.{all_without}
+use Rattle.px_flat.proofs.Preserved.{all_without}
 use Rattle.px_flat.proofs.TrueTo.{followed_is}
 use Rattle.px_flat.proofs.group.Group.detach.Goals as goal
 

@@ -2,7 +2,7 @@ use Rattle.std.proofs.Common.{ℕ, List, sym, subst, length}
 use Rattle.px_flat.specs.FlatVolume.{FlatGroup, real_of}
 use Rattle.px_flat.specs.Member.{IsMember, is_input}
 use Rattle.px_flat.proofs.Found.{found_all}
-use Rattle.px_flat.proofs.Kept.{length_real}
+use Rattle.px_flat.proofs.Preserved.{length_real}
 use Rattle.px_flat.proofs.group.Group.factors_under.Goals as goal
 
 pub factors_under-requires : goal.factors_under-requires

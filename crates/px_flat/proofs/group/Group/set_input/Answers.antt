@@ -1,6 +1,6 @@
 use Rattle.std.proofs.Common.{length}
 use Rattle.px_flat.specs.Member.{IsMember, is_input, with_volume}
-use Rattle.px_flat.proofs.Kept.{all_change, with_volume_keeps}
+use Rattle.px_flat.proofs.Preserved.{all_change, with_volume_keeps}
 use Rattle.px_flat.proofs.TrueTo.{settled_is}
 use Rattle.px_flat.proofs.group.Group.set_input.Goals as goal
 

@@ -1,7 +1,7 @@
 use Rattle.std.proofs.Common.{◌≡◌, ℕ, ap, sym, subst, ◌∙◌, length, map}
 use Rattle.std.specs.List.{AllByRecursion}
 use Rattle.px_flat.specs.Member.{IsMember, at_reference}
-use Rattle.px_flat.proofs.Kept.{all_map, at_reference_keeps, length_widened}
+use Rattle.px_flat.proofs.Preserved.{all_map, at_reference_keeps, length_widened}
 use Rattle.px_flat.proofs.TrueTo.{followed_is}
 use Rattle.px_flat.proofs.group.Group.set_sink.Goals as goal
 

@@ -2,11 +2,11 @@ use Rattle.std.proofs.Common.{◌≡◌, true, None, Some, inr, refl, ap, sym, s
 use Rattle.std.specs.Prelude.{IfSome}
 use Rattle.std.specs.List.{find}
 use Rattle.std.specs.Option.{option_map}
-use Rattle.px_plan.specs.Input.{has_index, goes_on}
+use Rattle.px_outcome.specs.Input.{has_index, goes_on}
 use Rattle.px_input_table.specs.Lists.{change_first}
 use Rattle.px_input_table.specs.Inputs.{moving_to}
 use Rattle.px_input_table.specs.InputTable.{AreByStream, key_of}
-use Rattle.px_input_table.proofs.ByStream.{Renews, unnamed, kept-changed, none-changed, going-there}
+use Rattle.px_input_table.proofs.ByStream.{Renews, unnamed, holds-changed, none-changed, going-there}
 use Rattle.px_input_table.proofs.input_table.InputTable.depart.Goals as goal
 
 pub renew-requires : goal.renew-requires
@@ -27,7 +27,7 @@ invariant_of-self c =
     let at : option_map key_of (find is all) ≡ Some key = subst (λ xs. option_map key_of (find is xs) ≡ Some key) c.deref.ensures.value (sym c.in-Some.ensures) in
     let now : c.deref-in-Some.result.now ≡ change_first is (moving_to c.args.to) all = c.deref-in-Some.ensures.value ∙ c.depart.ensures.items in
     let renews : Renews (change_first is (moving_to c.args.to) all) key table new = subst (λ xs. Renews xs key table new) now c.renew.ensures.entries in
-    subst (λ xs. AreByStream xs new) (sym c.depart.ensures.items) (kept-changed all table c.self.invariant is key (moving_to c.args.to) (λ z. refl) at new renews)
+    subst (λ xs. AreByStream xs new) (sym c.depart.ensures.items) (holds-changed all table c.self.invariant is key (moving_to c.args.to) (λ z. refl) at new renews)
 
 pub returns-in_default-clause-items : goal.returns-in_default-clause-items
 returns-in_default-clause-items c =

@@ -1,11 +1,11 @@
 use Rattle.std.proofs.Common.{◌≡◌, None, Some, inr, refl, ap, sym, subst, ◌∙◌}
 use Rattle.std.specs.List.{find}
 use Rattle.std.specs.Option.{option_map, IsSome}
-use Rattle.px_plan.specs.Input.{has_index}
+use Rattle.px_outcome.specs.Input.{has_index}
 use Rattle.px_input_table.specs.Lists.{change_first}
 use Rattle.px_input_table.specs.Inputs.{leaving}
 use Rattle.px_input_table.specs.InputTable.{AreByStream, first_of, key_of}
-use Rattle.px_input_table.proofs.ByStream.{Renews, unnamed, kept-changed, there-changed, none-changed, ended}
+use Rattle.px_input_table.proofs.ByStream.{Renews, unnamed, holds-changed, there-changed, none-changed, ended}
 use Rattle.px_input_table.proofs.input_table.InputTable.leave.Goals as goal
 
 pub renew-requires : goal.renew-requires
@@ -26,7 +26,7 @@ invariant_of-self c =
     let at : option_map key_of (find is all) ≡ Some key = subst (λ xs. option_map key_of (find is xs) ≡ Some key) c.deref.ensures.value (sym c.in-Some.ensures) in
     let now : c.deref-in-Some.result.now ≡ change_first is leaving all = c.deref-in-Some.ensures.value ∙ c.leave.ensures.items in
     let renews : Renews (change_first is leaving all) key table new = subst (λ xs. Renews xs key table new) now c.renew.ensures.entries in
-    subst (λ xs. AreByStream xs new) (sym c.leave.ensures.items) (kept-changed all table c.self.invariant is key leaving (λ z. refl) at new renews)
+    subst (λ xs. AreByStream xs new) (sym c.leave.ensures.items) (holds-changed all table c.self.invariant is key leaving (λ z. refl) at new renews)
 
 pub returns-in_default-clause-items : goal.returns-in_default-clause-items
 returns-in_default-clause-items c =

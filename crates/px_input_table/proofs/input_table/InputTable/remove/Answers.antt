@@ -1,10 +1,10 @@
 use Rattle.std.proofs.Common.{◌≡◌, None, Some, inr, ap, sym, subst, ◌∙◌}
 use Rattle.std.specs.List.{find}
 use Rattle.std.specs.Option.{option_map, IsSome}
-use Rattle.px_plan.specs.Input.{has_index}
+use Rattle.px_outcome.specs.Input.{has_index}
 use Rattle.px_input_table.specs.Lists.{drop_first}
 use Rattle.px_input_table.specs.InputTable.{AreByStream, first_of, key_of}
-use Rattle.px_input_table.proofs.ByStream.{Renews, unnamed, kept-dropped, there-dropped, none-dropped}
+use Rattle.px_input_table.proofs.ByStream.{Renews, unnamed, holds-dropped, there-dropped, none-dropped}
 use Rattle.px_input_table.proofs.input_table.InputTable.remove.Goals as goal
 
 pub renew-requires : goal.renew-requires
@@ -25,7 +25,7 @@ invariant_of-self c =
     let at : option_map key_of (find is all) ≡ Some key = subst (λ xs. option_map key_of (find is xs) ≡ Some key) c.deref.ensures.value (sym c.in-Some.ensures) in
     let now : c.deref-in-Some.result.now ≡ drop_first is all = c.deref-in-Some.ensures.value ∙ c.remove.ensures.items in
     let renews : Renews (drop_first is all) key table new = subst (λ xs. Renews xs key table new) now c.renew.ensures.entries in
-    subst (λ xs. AreByStream xs new) (sym c.remove.ensures.items) (kept-dropped all table c.self.invariant is key at new renews)
+    subst (λ xs. AreByStream xs new) (sym c.remove.ensures.items) (holds-dropped all table c.self.invariant is key at new renews)
 
 pub returns-in_default-clause-items : goal.returns-in_default-clause-items
 returns-in_default-clause-items c =

@@ -1,11 +1,11 @@
 use Rattle.std.proofs.Common.{◌≡◌, None, Some, inr, refl, ap, sym, subst, ◌∙◌}
 use Rattle.std.specs.List.{find}
 use Rattle.std.specs.Option.{option_map, IsSome}
-use Rattle.px_plan.specs.Input.{has_index}
+use Rattle.px_outcome.specs.Input.{has_index}
 use Rattle.px_input_table.specs.Lists.{change_first}
 use Rattle.px_input_table.specs.Inputs.{with_attr}
 use Rattle.px_input_table.specs.InputTable.{AreByStream, first_of, key_of}
-use Rattle.px_input_table.proofs.ByStream.{Renews, unnamed, kept-changed, there-changed, none-changed}
+use Rattle.px_input_table.proofs.ByStream.{Renews, unnamed, holds-changed, there-changed, none-changed}
 use Rattle.px_input_table.proofs.input_table.InputTable.set_attr.Goals as goal
 
 pub renew-requires : goal.renew-requires
@@ -26,7 +26,7 @@ invariant_of-self c =
     let at : option_map key_of (find is all) ≡ Some key = subst (λ xs. option_map key_of (find is xs) ≡ Some key) c.deref.ensures.value (sym c.in-Some.ensures) in
     let now : c.deref-in-Some.result.now ≡ change_first is (with_attr c.args.attr) all = c.deref-in-Some.ensures.value ∙ c.set_attr.ensures.items in
     let renews : Renews (change_first is (with_attr c.args.attr) all) key table new = subst (λ xs. Renews xs key table new) now c.renew.ensures.entries in
-    subst (λ xs. AreByStream xs new) (sym c.set_attr.ensures.items) (kept-changed all table c.self.invariant is key (with_attr c.args.attr) (λ z. refl) at new renews)
+    subst (λ xs. AreByStream xs new) (sym c.set_attr.ensures.items) (holds-changed all table c.self.invariant is key (with_attr c.args.attr) (λ z. refl) at new renews)
 
 pub returns-in_default-clause-items : goal.returns-in_default-clause-items
 returns-in_default-clause-items c =

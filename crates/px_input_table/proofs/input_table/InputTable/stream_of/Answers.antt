@@ -1,5 +1,5 @@
 use Rattle.std.proofs.Common.{ap, ◌∙◌}
-use Rattle.px_plan.specs.Input.{stream_of}
+use Rattle.px_outcome.specs.Input.{stream_of}
 use Rattle.px_input_table.proofs.input_table.InputTable.stream_of.Goals as goal
 
 pub returns : goal.returns

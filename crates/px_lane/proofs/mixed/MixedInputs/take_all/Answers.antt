@@ -62,14 +62,14 @@ loop-message-preserved g c =
     ap (λ (ms : List (Message Stream)). sum_by blocks_of ms) n.1 ∙ sum_by-cons blocks_of m rest in
     let inputs : c.take-same.new.self.inputs ≡ inputs_with mixed m l.self.inputs =
     c.take-same.ensures.inputs ∙ ap (λ (f : ℕ). ready_inputs f c.in-Some.message l.self.inputs) l.invariant.12 ∙ n.2.inputs mixed l.self.inputs in
-    let told : c.take-same.new.out.notices ≡ l.out.notices ++ message_notices mixed buffered m l.self.inputs =
+    let noticed : c.take-same.new.out.notices ≡ l.out.notices ++ message_notices mixed buffered m l.self.inputs =
     c.take-same.ensures.notices ∙ ap (λ (f : ℕ). l.out.notices ++ ready_notices f buffered c.in-Some.message l.self.inputs) l.invariant.12 ∙ ap (λ (ns : List (Notice Stream)). l.out.notices ++ ns) (n.2.notices mixed buffered l.self.inputs) in
-    let told_cost : c.take-same.new.steps + c.args.self.now.spec.channels * (mixed - c.take-same.result) ≤ l.steps + c.args.self.now.spec.channels * cost_of mixed m l.self.inputs =
+    let posted_cost : c.take-same.new.steps + c.args.self.now.spec.channels * (mixed - c.take-same.result) ≤ l.steps + c.args.self.now.spec.channels * cost_of mixed m l.self.inputs =
     subst (λ (x : ℕ). c.take-same.new.steps + c.args.self.now.spec.channels * (mixed - c.take-same.result) ≤ l.steps + c.args.self.now.spec.channels * x) (n.2.costs mixed l.self.inputs)
     (subst (λ (f : ℕ). c.take-same.new.steps + c.args.self.now.spec.channels * (f - c.take-same.result) ≤ l.steps + c.args.self.now.spec.channels * ready_cost f c.in-Some.message l.self.inputs) l.invariant.12
     (subst (λ (s : Spec). c.take-same.new.steps + s.channels * (l.self.frames - c.take-same.result) ≤ l.steps + s.channels * ready_cost l.self.frames c.in-Some.message l.self.inputs) l.invariant.10 c.take-same.ensures.ticks)) in (
       ap (λ (xs : List Stands). inputs_with_all mixed rest xs) inputs ∙ ap (λ (ms : List (Message Stream)). inputs_with_all mixed ms l.self.inputs) (sym n.1) ∙ l.invariant.0,
-      ap (λ (ns : List (Notice Stream)). ns ++ all_message_notices mixed buffered rest c.take-same.new.self.inputs) told
+      ap (λ (ns : List (Notice Stream)). ns ++ all_message_notices mixed buffered rest c.take-same.new.self.inputs) noticed
           ∙ append_assoc l.out.notices (message_notices mixed buffered m l.self.inputs) (all_message_notices mixed buffered rest c.take-same.new.self.inputs)
           ∙ ap (λ (xs : List Stands). l.out.notices ++ (message_notices mixed buffered m l.self.inputs ++ all_message_notices mixed buffered rest xs)) inputs
           ∙ ap (λ (ms : List (Message Stream)). l.out.notices ++ all_message_notices mixed buffered ms l.self.inputs) (sym n.1)
@@ -87,7 +87,7 @@ loop-message-preserved g c =
       c.take-same.ensures.frames ∙ l.invariant.12,
       subst (λ (xs : List Stands). CanMixAll c.args.self.now.spec.channels mixed rest xs) (sym inputs) (subst (λ (ms : List (Message Stream)). CanMixAll c.args.self.now.spec.channels mixed ms l.self.inputs) n.1 l.invariant.13).1,
       next_cost c.args.self.now.spec.channels mixed l.unaltered c.take-same.result c.min-unaltered.result (cost_of mixed m l.self.inputs) (costs_of mixed rest c.take-same.new.self.inputs)
-          l.steps c.take-same.new.steps (c.args.steps.now + c.args.self.now.spec.channels * costs_of mixed c.args.messages.now.messages c.args.self.now.inputs) c.min-unaltered.ensures told_cost
+          l.steps c.take-same.new.steps (c.args.steps.now + c.args.self.now.spec.channels * costs_of mixed c.args.messages.now.messages c.args.self.now.inputs) c.min-unaltered.ensures posted_cost
           (subst (λ (xs : List Stands). l.steps + c.args.self.now.spec.channels * (mixed - l.unaltered) + c.args.self.now.spec.channels * (cost_of mixed m l.self.inputs + costs_of mixed rest xs)
           ≤ c.args.steps.now + c.args.self.now.spec.channels * costs_of mixed c.args.messages.now.messages c.args.self.now.inputs) (sym inputs)
           (subst (λ (ms : List (Message Stream)). l.steps + c.args.self.now.spec.channels * (mixed - l.unaltered) + c.args.self.now.spec.channels * costs_of mixed ms l.self.inputs

@@ -11,7 +11,7 @@ use Rattle.px_lane.specs.Needed.{blocks_of}
 use Rattle.px_lane.specs.Mixed.{CanMixAll}
 use Rattle.px_lane.proofs.Mixable.{orderly_mixes}
 use Rattle.px_lane.proofs.Orders.{orderly_taken}
-use Rattle.px_lane.proofs.Turning.{told_suit, told_few, turned_lane}
+use Rattle.px_lane.proofs.Turning.{posted_suit, posted_few, turned_lane}
 use Rattle.px_lane.specs.Costs.{costs_of, mix_cost, more_frames}
 use Rattle.px_lane.proofs.Costs.{settled_left, turned_cost}
 use Rattle.px_lane.proofs.mixer.SinkMixer.play.Goals as goal
@@ -20,13 +20,13 @@ pub take_all-requires-clause-suits : goal.take_all-requires-clause-suits
 take_all-requires-clause-suits g c =
     let sink = c.args.self.now.sink in
     subst (λ (s : Sink). CanTakeAll (s.filled - s.horizon) c.args.messages.now.messages s.inputs) (sym c.settle.ensures.value)
-    (orderly_taken sink.spec (next_horizon sink c.args.frames - sink.horizon) (sink.filled - next_horizon sink c.args.frames) c.args.messages.now.messages sink.inputs c.requires.lane.kept.rising c.requires.lane.kept.streams c.requires.messages.orderly)
+    (orderly_taken sink.spec (next_horizon sink c.args.frames - sink.horizon) (sink.filled - next_horizon sink c.args.frames) c.args.messages.now.messages sink.inputs c.requires.lane.holds.rising c.requires.lane.holds.streams c.requires.messages.orderly)
 
 pub take_all-requires-clause-mixes : goal.take_all-requires-clause-mixes
 take_all-requires-clause-mixes g c =
     let sink = c.args.self.now.sink in
     subst (λ (s : Sink). CanMixAll s.spec.channels (s.filled - s.horizon) c.args.messages.now.messages s.inputs) (sym c.settle.ensures.value)
-    (orderly_mixes sink.spec (next_horizon sink c.args.frames - sink.horizon) (sink.filled - next_horizon sink c.args.frames) c.args.messages.now.messages sink.inputs c.requires.lane.kept.rising c.requires.lane.kept.streams c.requires.lane.few c.requires.messages.orderly)
+    (orderly_mixes sink.spec (next_horizon sink c.args.frames - sink.horizon) (sink.filled - next_horizon sink c.args.frames) c.args.messages.now.messages sink.inputs c.requires.lane.holds.rising c.requires.lane.holds.streams c.requires.lane.few c.requires.messages.orderly)
 
 pub remix-stay-requires-clause-streams : goal.remix-stay-requires-clause-streams
 remix-stay-requires-clause-streams g c =
@@ -34,7 +34,7 @@ remix-stay-requires-clause-streams g c =
     let messages = c.args.messages.now.messages in
     let after : c.take_all.new.self.sink ≡ with_messages (settled sink c.args.frames) messages = c.take_all.ensures.value ∙ ap (λ (s : Sink). with_messages s messages) c.settle.ensures.value in
     subst (λ (s : Sink). AllByRecursion (λ x. IsStreamOf s.spec (Input.stream x)) s.inputs) (sym after)
-    (told_suit samples sink c.args.frames messages c.requires.lane.kept c.requires.there c.requires.messages)
+    (posted_suit samples sink c.args.frames messages c.requires.lane.holds c.requires.there c.requires.messages)
 
 pub remix-stay-requires-clause-few : goal.remix-stay-requires-clause-few
 remix-stay-requires-clause-few g c =
@@ -42,13 +42,13 @@ remix-stay-requires-clause-few g c =
     let messages = c.args.messages.now.messages in
     let after : c.take_all.new.self.sink ≡ with_messages (settled sink c.args.frames) messages = c.take_all.ensures.value ∙ ap (λ (s : Sink). with_messages s messages) c.settle.ensures.value in
     subst (λ (s : Sink). length s.inputs ≤ 256) (sym after)
-    (told_few samples sink c.args.frames messages c.requires.lane c.requires.there c.requires.messages)
+    (posted_few samples sink c.args.frames messages c.requires.lane c.requires.there c.requires.messages)
 
 pub remix-stay-requires-clause-countable : goal.remix-stay-requires-clause-countable
 remix-stay-requires-clause-countable g c =
     let sink = c.args.self.now.sink in
     let messages = c.args.messages.now.messages in
-    let keeps = c.requires.lane.kept in
+    let keeps = c.requires.lane.holds in
     let after : c.take_all.new.self.sink ≡ with_messages (settled sink c.args.frames) messages = c.take_all.ensures.value ∙ ap (λ (s : Sink). with_messages s messages) c.settle.ensures.value in
     subst (λ (s : Sink). s.consumed + s.depth ≤ 2 ^ 61) (sym after)
     (omega (arith, c.requires.there, c.requires.countable, c.requires.lane.low_depth, keeps.consumed_first, keeps.horizon_first))
@@ -81,7 +81,7 @@ returns-clause-lane g c =
 pub take_all-requires-clause-mixed : goal.take_all-requires-clause-mixed
 take_all-requires-clause-mixed g c =
     let sink = c.args.self.now.sink in
-    let keeps = c.requires.lane.kept in
+    let keeps = c.requires.lane.holds in
     c.settle.ensures.unaltered
     ∙ ap (λ (n : ℕ). n - (next_horizon sink c.args.frames - sink.horizon)) c.requires.mixed
     ∙ settled_left sink c.args.frames keeps.horizon_first keeps.horizon_near
@@ -107,7 +107,7 @@ pub settle-requires-clause-there : goal.settle-requires-clause-there
 settle-requires-clause-there g c = c.requires.there
 
 pub settle-requires-clause-streams : goal.settle-requires-clause-streams
-settle-requires-clause-streams g c = c.requires.lane.kept.streams
+settle-requires-clause-streams g c = c.requires.lane.holds.streams
 
 pub take_all-requires-clause-room : goal.take_all-requires-clause-room
 take_all-requires-clause-room g c = subst (λ (n : ℕ). length c.args.messages.now.messages ≤ n) (sym c.settle.ensures.room) c.requires.room

@@ -4,7 +4,7 @@ use Rattle.px_msg.specs.View.{sample_spec}
 use Rattle.px_model.specs.Sink.{Sink}
 use Rattle.px_lane.specs.Mixing.{RoomySink, sink_of}
 use Rattle.px_lane.specs.Costs.{costs_of}
-use Rattle.px_lane.proofs.Staying.{told_stays}
+use Rattle.px_lane.proofs.Staying.{unaltered_stays}
 use Rattle.px_lane.proofs.mixer.SinkMixer.take_all.Goals as goal
 
 pub invariant_of-self : goal.invariant_of-self
@@ -14,7 +14,7 @@ invariant_of-self g c =
       c.self.invariant.0,
       c.self.invariant.1,
       c.self.invariant.2,
-      told_stays before d.unaltered c.take_all-same.result c.min-self-inside.result c.take_all-same.new.self.inputs c.self.invariant.3 (c.take_all-same.ensures.unaltered (sample_spec d.spec))
+      unaltered_stays before d.unaltered c.take_all-same.result c.min-self-inside.result c.take_all-same.new.self.inputs c.self.invariant.3 (c.take_all-same.ensures.unaltered (sample_spec d.spec))
           (omega (arith, c.min-self-inside.ensures)) (omega (arith, c.min-self-inside.ensures)),
       c.take_all-same.ensures.spec ∙ c.self.invariant.4,
       c.take_all-same.ensures.depth ∙ c.self.invariant.5,
@@ -28,12 +28,12 @@ returns-clause-ticks g c =
     let n : d.inputs.frames ≡ d.filled - d.horizon = c.self.invariant.6 in
     let all : d.unaltered ≡ d.filled - d.horizon = subst (λ (m : RoomySink). m.unaltered ≡ m.sink.filled - m.sink.horizon) (sym c.self.view_is) c.requires.mixed in
     let left : (d.filled - d.horizon) - c.take_all-same.result ≡ (d.filled - d.horizon) - c.min-self-inside.result = omega (arith, all, c.min-self-inside.ensures) in
-    let told = subst (λ (f : ℕ). c.take_all-same.new.steps + d.spec.channels * (f - c.take_all-same.result) ≤ c.args.steps.now + d.spec.channels * costs_of f c.args.messages.now.messages d.inputs.inputs) n
+    let noticed = subst (λ (f : ℕ). c.take_all-same.new.steps + d.spec.channels * (f - c.take_all-same.result) ≤ c.args.steps.now + d.spec.channels * costs_of f c.args.messages.now.messages d.inputs.inputs) n
     (subst (λ (s : Spec). c.take_all-same.new.steps + s.channels * (d.inputs.frames - c.take_all-same.result) ≤ c.args.steps.now + s.channels * costs_of d.inputs.frames c.args.messages.now.messages d.inputs.inputs)
     c.self.invariant.4 c.take_all-same.ensures.ticks) in
     subst (λ (m : RoomySink). c.take_all-same.new.steps + m.sink.spec.channels * ((m.sink.filled - m.sink.horizon) - c.min-self-inside.result)
     ≤ c.args.steps.now + m.sink.spec.channels * costs_of (m.sink.filled - m.sink.horizon) c.args.messages.now.messages m.sink.inputs) c.self.view_is
-    (subst (λ (x : ℕ). c.take_all-same.new.steps + d.spec.channels * x ≤ c.args.steps.now + d.spec.channels * costs_of (d.filled - d.horizon) c.args.messages.now.messages d.inputs.inputs) left told)
+    (subst (λ (x : ℕ). c.take_all-same.new.steps + d.spec.channels * x ≤ c.args.steps.now + d.spec.channels * costs_of (d.filled - d.horizon) c.args.messages.now.messages d.inputs.inputs) left noticed)
 
 pub returns-clause-less : goal.returns-clause-less
 returns-clause-less g c = subst (λ (m : RoomySink). c.min-self-inside.result ≤ m.unaltered) c.self.view_is (omega (arith, c.min-self-inside.ensures))

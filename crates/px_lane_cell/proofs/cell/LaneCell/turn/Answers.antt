@@ -13,7 +13,7 @@ use Rattle.px_lane_cell.specs.History.{unturned}
 use Rattle.px_lane_cell.specs.Meaning.{entry_meant}
 use Rattle.px_lane_cell.proofs.Replayed.{same_start}
 use Rattle.px_lane_cell.proofs.Sent.{for_turn, left_took}
-use Rattle.px_lane_cell.proofs.Whole.{made, kept}
+use Rattle.px_lane_cell.proofs.Whole.{made, held}
 use Rattle.px_lane_cell.proofs.cell.LaneCell.turn.Given.{Over}
 use Rattle.px_lane_cell.proofs.cell.LaneCell.turn.Goals as goal
 
@@ -67,7 +67,7 @@ made_cell g c = record {
   given = c.deliver.result;
 }
 
-makes : (g : Over) (c : goal.After-deliver g) → Makes g.D.Device.now g.R.Recorder.told (before_made g c) (made_cell g c) c.in_ok-turned.turned
+makes : (g : Over) (c : goal.After-deliver g) → Makes g.D.Device.now g.R.Recorder.visible (before_made g c) (made_cell g c) c.in_ok-turned.turned
 makes g c =
     let t = c.gather-count in
     let p = c.deliver in
@@ -82,7 +82,7 @@ makes g c =
       recorded = ok.1;
       counted = t.ensures.count ∙ sym ok.2;
       given = p.ensures.count;
-      none_kept = ok.3;
+      none_held = ok.3;
       posts = rw (← t.ensures.post) p.ensures.posts;
       gone = rw (← t.ensures.post) p.ensures.gone;
     }
@@ -91,11 +91,11 @@ pub invariant_of-self-2 : goal.invariant_of-self-2
 invariant_of-self-2 g c =
     let t = c.gather-count in
     let p = c.deliver in
-    made g.D.Device.now g.R.Recorder.told (before_made g c) (made_cell g c) c.in_ok-turned.turned c.self.invariant (makes g c) p.ensures.ends (rw p.ensures.take t.ensures.key) (rw p.ensures.take t.ensures.lawful)
+    made g.D.Device.now g.R.Recorder.visible (before_made g c) (made_cell g c) c.in_ok-turned.turned c.self.invariant (makes g c) p.ensures.ends (rw p.ensures.take t.ensures.key) (rw p.ensures.take t.ensures.lawful)
     (omega (arith, c.self.invariant.room, t.ensures.room, c.turn_noted.ensures.room))
 
 pub returns-clause-ok : goal.returns-clause-ok
-returns-clause-ok g c = subst (λ (cell : Cell g.row.D.Denot g.row.R.Denot). Makes g.D.Device.now g.R.Recorder.told cell (made_cell g c) c.in_ok-turned.turned) c.self.view_is (makes g c)
+returns-clause-ok g c = subst (λ (cell : Cell g.row.D.Denot g.row.R.Denot). Makes g.D.Device.now g.R.Recorder.visible cell (made_cell g c) c.in_ok-turned.turned) c.self.view_is (makes g c)
 
 pub returns-clause-err : goal.returns-clause-err
 returns-clause-err g c =
@@ -127,13 +127,13 @@ returns-clause-counts g c =
 
 -- ---- where there was none
 
-abbrev before_kept : (g : Over) → goal.After-from_residual g → Cell g.row.D.Denot g.row.R.Denot
-before_kept g c =
+abbrev before_failed : (g : Over) → goal.After-from_residual g → Cell g.row.D.Denot g.row.R.Denot
+before_failed g c =
     let i = c.self.inside in
     record { lane = i.lane; recorder = i.recorder; ends = i.ends; messages = i.messages; notices = i.notices; taken = i.taken; given = i.given }
 
-abbrev kept_cell : (g : Over) → goal.After-from_residual g → Cell g.row.D.Denot g.row.R.Denot
-kept_cell g c = record {
+abbrev failed_cell : (g : Over) → goal.After-from_residual g → Cell g.row.D.Denot g.row.R.Denot
+failed_cell g c = record {
   lane = c.turn_noted.new.lane;
   recorder = c.turn_noted.new.recorder;
   ends = c.gather-count.new.ends;
@@ -143,7 +143,7 @@ kept_cell g c = record {
   given = c.self.inside.given;
 }
 
-keeps : (g : Over) (c : goal.After-from_residual g) → Keeps g.R.Recorder.told (before_kept g c) (kept_cell g c)
+keeps : (g : Over) (c : goal.After-from_residual g) → Keeps g.R.Recorder.visible (before_failed g c) (failed_cell g c)
 keeps g c =
     let i = c.self.inside in
     let t = c.gather-count in
@@ -161,7 +161,7 @@ keeps g c =
 pub invariant_of-self : goal.invariant_of-self
 invariant_of-self g c =
     let t = c.gather-count in
-    kept g.D.Device.now g.R.Recorder.told (before_kept g c) (kept_cell g c) c.self.invariant (keeps g c) t.ensures.ends t.ensures.key t.ensures.lawful
+    held g.D.Device.now g.R.Recorder.visible (before_failed g c) (failed_cell g c) c.self.invariant (keeps g c) t.ensures.ends t.ensures.key t.ensures.lawful
     (subst (λ (l : List (Message Stream)). length l ≤ 256) (sym c.in_err-turned.ensures.err.2) t.ensures.few)
     (omega (arith, c.self.invariant.room, t.ensures.room, c.turn_noted.ensures.room))
 
@@ -173,7 +173,7 @@ returns-in_err-turned-clause-ok g c =
 pub returns-in_err-turned-clause-err : goal.returns-in_err-turned-clause-err
 returns-in_err-turned-clause-err g c =
     let p = err_from_is_err_and c.from_residual.result c.from_residual.ensures.1 in
-    rw p.1 (subst (λ (cell : Cell g.row.D.Denot g.row.R.Denot). Keeps g.R.Recorder.told cell (kept_cell g c)) c.self.view_is (keeps g c))
+    rw p.1 (subst (λ (cell : Cell g.row.D.Denot g.row.R.Denot). Keeps g.R.Recorder.visible cell (failed_cell g c)) c.self.view_is (keeps g c))
 
 pub returns-in_err-turned-clause-boxes : goal.returns-in_err-turned-clause-boxes
 returns-in_err-turned-clause-boxes g c =

@@ -3,7 +3,7 @@ use Rattle.std.specs.Option.{unwrap_or}
 use Rattle.std.proofs.lemmas.Result.{err_from_is_err_and}
 use Rattle.px_types.specs.Faults.{Rose}
 use Rattle.px_ends.specs.Whole.{AddsFront}
-use Rattle.px_ends.specs.Told.{after_adding}
+use Rattle.px_ends.specs.Visible.{after_adding}
 use Rattle.px_ends.proofs.Frames.{frames_inside}
 use Rattle.px_paced.specs.Paced.{Paced, frames_of, bytes_at}
 use Rattle.px_paced.proofs.paced.PacedSink.play_due.Goals as goal
@@ -73,20 +73,20 @@ overflow_add-self g c = omega (arith, c.due-due.ensures.fits)
 pub returns-clause-out : goal.returns-clause-out
 returns-clause-out g c =
     let d = c.self.inside in
-    let due : c.due-due.result ≡ frames_of d.rate (g.C.Clock.told c.now-moment.new.self - unwrap_or d.began (g.C.Clock.told c.now-moment.new.self)) - d.skipped - d.consumed =
+    let due : c.due-due.result ≡ frames_of d.rate (g.C.Clock.latest c.now-moment.new.self - unwrap_or d.began (g.C.Clock.latest c.now-moment.new.self)) - d.skipped - d.consumed =
     subst (λ (m : ℕ). c.due-due.result ≡ frames_of d.rate (m - unwrap_or d.began m) - d.skipped - d.consumed) c.now-moment.ensures.value
     (c.due-due.ensures.value ∙ ap (λ (n : ℕ). frames_of d.rate n - d.skipped - d.consumed) (c.saturating_sub.ensures ∙ ap (λ (b : ℕ). c.now-moment.result - b) c.unwrap_or-began.ensures)) in
     let bytes = ap (λ (n : ℕ). take n d.ring.items) (c.bytes_of-bytes.ensures ∙ ap (λ (n : ℕ). n * d.frame) (c.min-frames.ensures ∙ ap (λ (n : ℕ). min n (d.filled - d.consumed)) due)) in
-    subst (λ (d : Paced g.row.K.Denot g.row.C.Denot). g.K.Sink.held c.write_front.new.out ≡ after_adding (g.K.Sink.held d.out) (bytes_at (g.C.Clock.told c.now-moment.new.self) d)) c.self.view_is
+    subst (λ (d : Paced g.row.K.Denot g.row.C.Denot). g.K.Sink.held c.write_front.new.out ≡ after_adding (g.K.Sink.held d.out) (bytes_at (g.C.Clock.latest c.now-moment.new.self) d)) c.self.view_is
     (c.in_ok-write_front.ensures.ok ∙ ap (λ (l : List ℕ). after_adding (g.K.Sink.held d.out) l) bytes)
 
 pub returns-in_err-write_front-clause-front : goal.returns-in_err-write_front-clause-front
 returns-in_err-write_front-clause-front g c =
     let d = c.self.inside in
-    let due : c.due-due.result ≡ frames_of d.rate (g.C.Clock.told c.now-moment.new.self - unwrap_or d.began (g.C.Clock.told c.now-moment.new.self)) - d.skipped - d.consumed =
+    let due : c.due-due.result ≡ frames_of d.rate (g.C.Clock.latest c.now-moment.new.self - unwrap_or d.began (g.C.Clock.latest c.now-moment.new.self)) - d.skipped - d.consumed =
     subst (λ (m : ℕ). c.due-due.result ≡ frames_of d.rate (m - unwrap_or d.began m) - d.skipped - d.consumed) c.now-moment.ensures.value
     (c.due-due.ensures.value ∙ ap (λ (n : ℕ). frames_of d.rate n - d.skipped - d.consumed) (c.saturating_sub.ensures ∙ ap (λ (b : ℕ). c.now-moment.result - b) c.unwrap_or-began.ensures)) in
     let bytes = ap (λ (n : ℕ). take n d.ring.items) (c.bytes_of-bytes.ensures ∙ ap (λ (n : ℕ). n * d.frame) (c.min-frames.ensures ∙ ap (λ (n : ℕ). min n (d.filled - d.consumed)) due)) in
     let p = err_from_is_err_and c.from_residual.result c.from_residual.ensures.1 in rw p.1
-    (subst (λ (d : Paced g.row.K.Denot g.row.C.Denot). AddsFront (bytes_at (g.C.Clock.told c.now-moment.new.self) d) (g.K.Sink.held d.out) (g.K.Sink.held c.write_front.new.out)) c.self.view_is
+    (subst (λ (d : Paced g.row.K.Denot g.row.C.Denot). AddsFront (bytes_at (g.C.Clock.latest c.now-moment.new.self) d) (g.K.Sink.held d.out) (g.K.Sink.held c.write_front.new.out)) c.self.view_is
     (subst (λ (l : List ℕ). AddsFront l (g.K.Sink.held d.out) (g.K.Sink.held c.write_front.new.out)) bytes c.in_err-write_front.ensures.err))

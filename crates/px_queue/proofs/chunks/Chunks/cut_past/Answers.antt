@@ -1,7 +1,7 @@
 use Rattle.std.proofs.Common.{◌<◌, ◌≤◌, ap, sym, subst, ◌∙◌, List, [], length}
 use Rattle.px_queue.specs.Laid.{TOP}
 use Rattle.px_queue.specs.Pieces.{Piece, Rise, byte_at, end_of}
-use Rattle.px_queue.proofs.Dropping.{kept_rise, cut_first_rise, cut_first_bytes}
+use Rattle.px_queue.proofs.Dropping.{held_rise, cut_first_rise, cut_first_bytes}
 use Rattle.std.specs.Prelude.{slice_index_or}
 use Rattle.px_queue.proofs.chunks.Chunks.cut_past.Goals as goal
 
@@ -26,4 +26,4 @@ returns-then-begins_below-clause-bytes c =
 pub returns-else-begins_below-clause-rising : goal.returns-else-begins_below-clause-rising
 returns-else-begins_below-clause-rising c =
     let d : Piece = record { at = 0; bytes = [] } in
-    kept_rise TOP c.args.self.now.before c.args.from d c.requires.top c.requires.rising (c.begins_below.ensures.no c.if-begins_below.false d)
+    held_rise TOP c.args.self.now.before c.args.from d c.requires.top c.requires.rising (c.begins_below.ensures.no c.if-begins_below.false d)

@@ -1,6 +1,6 @@
 use Rattle.std.proofs.Common.{◌≡◌, ◌+◌, ℕ, ap, sym, subst, ◌∙◌, List, ◌∷◌, [], ◌++◌, Some, None, arith, length, length-append}
 use Rattle.std.specs.Prelude.{Result, IfOk}
-use Rattle.px_block.specs.Kept.{KeptBlock}
+use Rattle.px_block.specs.HeldBlock.{HeldBlock}
 use Rattle.px_block.specs.Shelved.{Shelves, under, SetsOnly}
 use Rattle.px_queue.specs.Laid.{Laid, Chunked, IsTied, pieces_of, piece_of}
 use Rattle.px_queue.specs.Pieces.{Piece}
@@ -21,9 +21,9 @@ invariant_of-self c =
     let d : Laid = c.new.result in
     let bytes : List ℕ = c.args.block.bytes in
     let key : d.key ≡ c.unwrap-key.result = ap (λ (x : Laid). x.key) c.new.ensures in
-    let free : under s d.key ≡ None = subst (λ (k : ℕ). under s k ≡ None) (sym key) (subst (λ (r : Result ℕ KeptBlock). IfOk r (λ k. under s k ≡ None)) c.unwrap-key.ensures c.put.ensures.free) in
+    let free : under s d.key ≡ None = subst (λ (k : ℕ). under s k ≡ None) (sym key) (subst (λ (r : Result ℕ HeldBlock). IfOk r (λ k. under s k ≡ None)) c.unwrap-key.ensures c.put.ensures.free) in
     let set : SetsOnly s t d.key (Some (record { bytes = bytes; references = 1 })) = subst (λ (k : ℕ). SetsOnly s t k (Some (record { bytes = bytes; references = 1 }))) (sym key)
-    (subst (λ (r : Result ℕ KeptBlock). IfOk r (λ k. SetsOnly s t k (Some (record { bytes = bytes; references = 1 })))) c.unwrap-key.ensures c.put.ensures.ok) in
+    (subst (λ (r : Result ℕ HeldBlock). IfOk r (λ k. SetsOnly s t k (Some (record { bytes = bytes; references = 1 })))) c.unwrap-key.ensures c.put.ensures.ok) in
     let len : d.len ≡ length bytes = ap (λ (x : Laid). x.len) c.new.ensures ∙ ap length c.bytes.ensures.bytes in
     let whole : (d.place ≡ 0) × (d.len ≡ length bytes) = (ap (λ (x : Laid). x.place) c.new.ensures, len) in
     let tied : IsTied t (items ++ d ∷ ys) = tied_laid s t items ys d bytes c.self.invariant.0 free set whole in (
@@ -44,9 +44,9 @@ returns-clause-before c =
     let d : Laid = c.new.result in
     let bytes : List ℕ = c.args.block.bytes in
     let key : d.key ≡ c.unwrap-key.result = ap (λ (x : Laid). x.key) c.new.ensures in
-    let free : under s d.key ≡ None = subst (λ (k : ℕ). under s k ≡ None) (sym key) (subst (λ (r : Result ℕ KeptBlock). IfOk r (λ k. under s k ≡ None)) c.unwrap-key.ensures c.put.ensures.free) in
+    let free : under s d.key ≡ None = subst (λ (k : ℕ). under s k ≡ None) (sym key) (subst (λ (r : Result ℕ HeldBlock). IfOk r (λ k. under s k ≡ None)) c.unwrap-key.ensures c.put.ensures.free) in
     let set : SetsOnly s t d.key (Some (record { bytes = bytes; references = 1 })) = subst (λ (k : ℕ). SetsOnly s t k (Some (record { bytes = bytes; references = 1 }))) (sym key)
-    (subst (λ (r : Result ℕ KeptBlock). IfOk r (λ k. SetsOnly s t k (Some (record { bytes = bytes; references = 1 })))) c.unwrap-key.ensures c.put.ensures.ok) in
+    (subst (λ (r : Result ℕ HeldBlock). IfOk r (λ k. SetsOnly s t k (Some (record { bytes = bytes; references = 1 })))) c.unwrap-key.ensures c.put.ensures.ok) in
     let len : d.len ≡ length bytes = ap (λ (x : Laid). x.len) c.new.ensures ∙ ap length c.bytes.ensures.bytes in
     let whole : (d.place ≡ 0) × (d.len ≡ length bytes) = (ap (λ (x : Laid). x.place) c.new.ensures, len) in
     more_map t c.push_back_reserved.new.self.items items d c.push_back_reserved.ensures.items
@@ -66,9 +66,9 @@ returns-clause-behind c =
     let d : Laid = c.new.result in
     let bytes : List ℕ = c.args.block.bytes in
     let key : d.key ≡ c.unwrap-key.result = ap (λ (x : Laid). x.key) c.new.ensures in
-    let free : under s d.key ≡ None = subst (λ (k : ℕ). under s k ≡ None) (sym key) (subst (λ (r : Result ℕ KeptBlock). IfOk r (λ k. under s k ≡ None)) c.unwrap-key.ensures c.put.ensures.free) in
+    let free : under s d.key ≡ None = subst (λ (k : ℕ). under s k ≡ None) (sym key) (subst (λ (r : Result ℕ HeldBlock). IfOk r (λ k. under s k ≡ None)) c.unwrap-key.ensures c.put.ensures.free) in
     let set : SetsOnly s t d.key (Some (record { bytes = bytes; references = 1 })) = subst (λ (k : ℕ). SetsOnly s t k (Some (record { bytes = bytes; references = 1 }))) (sym key)
-    (subst (λ (r : Result ℕ KeptBlock). IfOk r (λ k. SetsOnly s t k (Some (record { bytes = bytes; references = 1 })))) c.unwrap-key.ensures c.put.ensures.ok) in
+    (subst (λ (r : Result ℕ HeldBlock). IfOk r (λ k. SetsOnly s t k (Some (record { bytes = bytes; references = 1 })))) c.unwrap-key.ensures c.put.ensures.ok) in
     let len : d.len ≡ length bytes = ap (λ (x : Laid). x.len) c.new.ensures ∙ ap length c.bytes.ensures.bytes in
     let whole : (d.place ≡ 0) × (d.len ≡ length bytes) = (ap (λ (x : Laid). x.place) c.new.ensures, len) in
     laid_right s t items ys d bytes c.self.invariant.0 free set whole ∙ rest
@@ -86,9 +86,9 @@ returns-clause-blocks c =
     let d : Laid = c.new.result in
     let bytes : List ℕ = c.args.block.bytes in
     let key : d.key ≡ c.unwrap-key.result = ap (λ (x : Laid). x.key) c.new.ensures in
-    let free : under s d.key ≡ None = subst (λ (k : ℕ). under s k ≡ None) (sym key) (subst (λ (r : Result ℕ KeptBlock). IfOk r (λ k. under s k ≡ None)) c.unwrap-key.ensures c.put.ensures.free) in
+    let free : under s d.key ≡ None = subst (λ (k : ℕ). under s k ≡ None) (sym key) (subst (λ (r : Result ℕ HeldBlock). IfOk r (λ k. under s k ≡ None)) c.unwrap-key.ensures c.put.ensures.free) in
     let set : SetsOnly s t d.key (Some (record { bytes = bytes; references = 1 })) = subst (λ (k : ℕ). SetsOnly s t k (Some (record { bytes = bytes; references = 1 }))) (sym key)
-    (subst (λ (r : Result ℕ KeptBlock). IfOk r (λ k. SetsOnly s t k (Some (record { bytes = bytes; references = 1 })))) c.unwrap-key.ensures c.put.ensures.ok) in
+    (subst (λ (r : Result ℕ HeldBlock). IfOk r (λ k. SetsOnly s t k (Some (record { bytes = bytes; references = 1 })))) c.unwrap-key.ensures c.put.ensures.ok) in
     let len : d.len ≡ length bytes = ap (λ (x : Laid). x.len) c.new.ensures ∙ ap length c.bytes.ensures.bytes in
     let whole : (d.place ≡ 0) × (d.len ≡ length bytes) = (ap (λ (x : Laid). x.place) c.new.ensures, len) in
     laid_count s t items ys d bytes c.self.invariant.0 free set whole ∙ ap (λ (k : Chunked). k.blocks + 1) c.self.view_is

@@ -1,6 +1,6 @@
 use Rattle.std.proofs.Common.{◌≡◌, ◌≤◌, ℕ, ◌+◌, ◌-◌, length, take, drop}
 use Rattle.std.specs.List.{concat}
-use Rattle.px_block.specs.Kept.{contents}
+use Rattle.px_block.specs.HeldBlock.{contents}
 use Rattle.px_queue.specs.Pieces.{Rise, byte_at, byte_in, first_of}
 use Rattle.px_queue.proofs.chunks.Chunks.lay_blocks.Given as goal
 

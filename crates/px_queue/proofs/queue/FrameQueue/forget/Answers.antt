@@ -1,7 +1,7 @@
 use Rattle.std.proofs.Common.{◌≡◌, ◌≤◌, ℕ, ap, sym, subst, ◌∙◌, List, Option, arith}
 use Rattle.px_model.specs.Frame.{Frame}
 use Rattle.px_model.specs.Queue.{Queue, IsQueue}
-use Rattle.px_queue.specs.Kept.{KeptQueue}
+use Rattle.px_queue.specs.HeldQueue.{HeldQueue}
 use Rattle.px_queue.specs.Laid.{TOP}
 use Rattle.px_queue.specs.Pieces.{Piece, byte_at}
 use Rattle.px_queue.specs.Framed.{byte_index, held_from, queue_of}
@@ -40,4 +40,4 @@ returns-clause-queue g c =
     let law : (j : ℕ) → byte_index d.frame d.read ≤ j → byte_at qs j ≡ byte_at ps j = λ j from. c.forget.ensures.bytes j (subst (λ (m : ℕ). m ≤ j) (sym c.byte_index.ensures.value) from) in
     let same : held_from d.frame qs d.read d.held ≡ held_from d.frame ps d.read d.held = same_held d.frame qs ps d.read d.held law in
     let made = λ (h : List (Option Frame)). let q : Queue = record { held = h; read = d.read; write = d.write; hold = d.hold; prebuf = d.prebuf } in q in
-    ap made same ∙ ap (λ (v : KeptQueue). v.queue) c.self.view_is
+    ap made same ∙ ap (λ (v : HeldQueue). v.queue) c.self.view_is

@@ -1,6 +1,6 @@
 use Rattle.std.proofs.Common.{ℕ, List, Option, ◌-◌, ◌≤◌, ◌∙◌, ◌++◌, ◌≡◌, length, take, ap, sym, subst, refl, arith, length-take}
 use Rattle.std.proofs.lemmas.Result.{err_from_is_err_and}
-use Rattle.px_ends.specs.Told.{IsAtEnd}
+use Rattle.px_ends.specs.Visible.{IsAtEnd}
 use Rattle.px_session.proofs.Buffer.{stays, came, vec_whole, whole_length, fits_behind, none_came}
 use Rattle.px_session.proofs.held.Held.more.Goals as goal
 
@@ -14,14 +14,14 @@ returns-in-Bytes-clause-gives g c =
     let departs = c.in-Bytes.ensures.bytes in
     let moved = c.move_to_front.new.buffer in
     let moved_length : length moved ≡ length inside.buffer.items = c.move_to_front.auto.buffer ∙ ap (length {A = ℕ}) c.deref_mut.ensures.value in
-    let kept : take k buffer ≡ c.args.self.now =
+    let held_bytes : take k buffer ≡ c.args.self.now =
     stays k inside.from inside.buffer.len buffer c.make_room.new.buffer.items moved c.deref_mut.result.now inside.buffer.items c.args.self.now moved_length inside.buffer.ok.0 c.deref_mut-2.ensures.value c.in_ok-make_room.ensures.same c.move_to_front.ensures c.deref_mut.ensures.value c.self.view_is in
     let fits : k ≤ length buffer = omega (arith, c.in_ok-make_room.ensures.size, ap (length {A = ℕ}) c.deref_mut-2.ensures.value) in
     record {
       bytes = take n part;
       some = omega (arith, departs.some, departs.fit, length-take n part);
       held = came k n c.make_room.new.buffer.len c.make_room.new.buffer.items buffer part fits departs.fit c.read.auto.buffer c.deref_mut-2.ensures.value c.make_room.new.buffer.ok.0
-          ∙ ap (λ (bytes : List ℕ). bytes ++ take n part) kept;
+          ∙ ap (λ (bytes : List ℕ). bytes ++ take n part) held_bytes;
       departed = departs.left;
     }
 
@@ -32,10 +32,10 @@ returns-in-End-clause-gives g c =
     let buffer = c.deref_mut-2.result.now in
     let moved = c.move_to_front.new.buffer in
     let moved_length : length moved ≡ length inside.buffer.items = c.move_to_front.auto.buffer ∙ ap (length {A = ℕ}) c.deref_mut.ensures.value in
-    let kept : take k buffer ≡ c.args.self.now =
+    let held_bytes : take k buffer ≡ c.args.self.now =
     stays k inside.from inside.buffer.len buffer c.make_room.new.buffer.items moved c.deref_mut.result.now inside.buffer.items c.args.self.now moved_length inside.buffer.ok.0 c.deref_mut-2.ensures.value c.in_ok-make_room.ensures.same c.move_to_front.ensures c.deref_mut.ensures.value c.self.view_is in
     let fits : k ≤ length buffer = omega (arith, c.in_ok-make_room.ensures.size, ap (length {A = ℕ}) c.deref_mut-2.ensures.value) in
-    let held = none_came k c.make_room.new.buffer.len c.make_room.new.buffer.items buffer c.read.new.buffer c.args.self.now fits c.read.auto.buffer c.deref_mut-2.ensures.value c.make_room.new.buffer.ok.0 kept in
+    let held = none_came k c.make_room.new.buffer.len c.make_room.new.buffer.items buffer c.read.new.buffer c.args.self.now fits c.read.auto.buffer c.deref_mut-2.ensures.value c.make_room.new.buffer.ok.0 held_bytes in
     (record { held = held; left = c.in-End.ensures.bytes.1 }, subst (λ (left : Option (List ℕ)). IsAtEnd left) (sym c.in-End.ensures.bytes.1) c.in-End.ensures.bytes.0)
 
 pub returns-in-Failed-clause-gives : goal.returns-in-Failed-clause-gives
@@ -45,10 +45,10 @@ returns-in-Failed-clause-gives g c =
     let buffer = c.deref_mut-2.result.now in
     let moved = c.move_to_front.new.buffer in
     let moved_length : length moved ≡ length inside.buffer.items = c.move_to_front.auto.buffer ∙ ap (length {A = ℕ}) c.deref_mut.ensures.value in
-    let kept : take k buffer ≡ c.args.self.now =
+    let held_bytes : take k buffer ≡ c.args.self.now =
     stays k inside.from inside.buffer.len buffer c.make_room.new.buffer.items moved c.deref_mut.result.now inside.buffer.items c.args.self.now moved_length inside.buffer.ok.0 c.deref_mut-2.ensures.value c.in_ok-make_room.ensures.same c.move_to_front.ensures c.deref_mut.ensures.value c.self.view_is in
     let fits : k ≤ length buffer = omega (arith, c.in_ok-make_room.ensures.size, ap (length {A = ℕ}) c.deref_mut-2.ensures.value) in
-    let held = none_came k c.make_room.new.buffer.len c.make_room.new.buffer.items buffer c.read.new.buffer c.args.self.now fits c.read.auto.buffer c.deref_mut-2.ensures.value c.make_room.new.buffer.ok.0 kept in
+    let held = none_came k c.make_room.new.buffer.len c.make_room.new.buffer.items buffer c.read.new.buffer c.args.self.now fits c.read.auto.buffer c.deref_mut-2.ensures.value c.make_room.new.buffer.ok.0 held_bytes in
     record { held = held; left = c.in-Failed.ensures.bytes }
 
 pub invariant_of-self-in-End : goal.invariant_of-self-in-End
@@ -92,7 +92,7 @@ returns-in_err-make_room-clause-gives g c =
     let moved = c.move_to_front.new.buffer in
     let moved_length : length moved ≡ length inside.buffer.items = c.move_to_front.auto.buffer ∙ ap (length {A = ℕ}) c.deref_mut.ensures.value in
     let count : k - 0 ≡ k = omega arith in
-    let kept : take k made ≡ c.args.self.now =
+    let held_bytes : take k made ≡ c.args.self.now =
     stays k inside.from inside.buffer.len made made moved c.deref_mut.result.now inside.buffer.items c.args.self.now moved_length inside.buffer.ok.0 refl c.in_err-make_room.ensures.same c.move_to_front.ensures c.deref_mut.ensures.value c.self.view_is in
     let p = err_from_is_err_and c.from_residual.result c.from_residual.ensures.1 in
-    rw (p.1) (record { held = ap (λ (m : ℕ). take m made) count ∙ kept; left = refl })
+    rw (p.1) (record { held = ap (λ (m : ℕ). take m made) count ∙ held_bytes; left = refl })

@@ -2,7 +2,7 @@ use Rattle.std.proofs.Common.{◌≡◌, ◌≢◌, ℕ, ◌+◌, ◌-◌, ◌*�
 use Rattle.std.proofs.lemmas.Bool.{cases_lt}
 use Rattle.px_model.specs.Queue.{nothing}
 use Rattle.px_model.specs.Stream.{frame_at}
-use Rattle.px_stream.specs.Kept.{KeptStream}
+use Rattle.px_stream.specs.HeldStream.{HeldStream}
 use Rattle.px_stream.specs.Values.{value_at, GivesValues}
 use Rattle.px_stream.proofs.Runs.{run_is}
 use Rattle.px_stream.proofs.state.StreamState.give_values.Goals as goal
@@ -10,8 +10,8 @@ use Rattle.px_stream.proofs.state.StreamState.give_values.Goals as goal
 pub put_values-given-requires-clause-runs : goal.put_values-given-requires-clause-runs
 put_values-given-requires-clause-runs c =
     let feed = c.args.self.now.stream.feed in
-    let same : c.channels.result.now ≡ feed = c.channels.ensures.value ∙ ap (λ (v : KeptStream). v.stream.feed) c.self.view_is in
-    let some : 0 < length feed = omega (arith, c.channels.ensures.valid.some, ap (λ (v : KeptStream). length v.stream.feed) c.self.view_is) in
+    let same : c.channels.result.now ≡ feed = c.channels.ensures.value ∙ ap (λ (v : HeldStream). v.stream.feed) c.self.view_is in
+    let some : 0 < length feed = omega (arith, c.channels.ensures.valid.some, ap (λ (v : HeldStream). length v.stream.feed) c.self.view_is) in
     let run : c.run_of-run.result ≡ c.requires.0 =
     c.run_of-run.ensures ∙ ap (λ (xs : List ℕ). length c.args.out.now / length xs) same ∙ run_is (length c.args.out.now) c.requires.0 (length feed) some c.requires.1 in
     c.loop-count.auto.out ∙ c.requires.1 ∙ ap (λ (n : ℕ). n * length feed) (sym run)
@@ -50,8 +50,8 @@ returns-then-given-eq0-clause-values c =
     let s = c.args.self.now.stream in
     let feed = s.feed in
     let run = c.run_of-run.result in
-    let same : c.channels.result.now ≡ feed = c.channels.ensures.value ∙ ap (λ (v : KeptStream). v.stream.feed) c.self.view_is in
-    let some : 0 < length feed = omega (arith, c.channels.ensures.valid.some, ap (λ (v : KeptStream). length v.stream.feed) c.self.view_is) in
+    let same : c.channels.result.now ≡ feed = c.channels.ensures.value ∙ ap (λ (v : HeldStream). v.stream.feed) c.self.view_is in
+    let some : 0 < length feed = omega (arith, c.channels.ensures.valid.some, ap (λ (v : HeldStream). length v.stream.feed) c.self.view_is) in
     let h = c.loop-count.invariant in
     let put = c.put_values-given.ensures in
     let zero : c.put_values-given.result ≡ 0 = omega (arith, c.if-given-eq0.true) in
@@ -72,8 +72,8 @@ returns-else-count-from-clause-values c =
     let s = c.args.self.now.stream in
     let feed = s.feed in
     let run = c.run_of-run.result in
-    let same : c.channels.result.now ≡ feed = c.channels.ensures.value ∙ ap (λ (v : KeptStream). v.stream.feed) c.self.view_is in
-    let some : 0 < length feed = omega (arith, c.channels.ensures.valid.some, ap (λ (v : KeptStream). length v.stream.feed) c.self.view_is) in
+    let same : c.channels.result.now ≡ feed = c.channels.ensures.value ∙ ap (λ (v : HeldStream). v.stream.feed) c.self.view_is in
+    let some : 0 < length feed = omega (arith, c.channels.ensures.valid.some, ap (λ (v : HeldStream). length v.stream.feed) c.self.view_is) in
     let h = c.loop-count.invariant in
     let made : GivesValues c.args.width s c.args.from run c.loop-count.count c.args.out.now c.loop-count.out = record {
       few = h.few;
@@ -92,8 +92,8 @@ returns-after-loop-count-clause-values c =
     let s = c.args.self.now.stream in
     let feed = s.feed in
     let run = c.run_of-run.result in
-    let same : c.channels.result.now ≡ feed = c.channels.ensures.value ∙ ap (λ (v : KeptStream). v.stream.feed) c.self.view_is in
-    let some : 0 < length feed = omega (arith, c.channels.ensures.valid.some, ap (λ (v : KeptStream). length v.stream.feed) c.self.view_is) in
+    let same : c.channels.result.now ≡ feed = c.channels.ensures.value ∙ ap (λ (v : HeldStream). v.stream.feed) c.self.view_is in
+    let some : 0 < length feed = omega (arith, c.channels.ensures.valid.some, ap (λ (v : HeldStream). length v.stream.feed) c.self.view_is) in
     let h = c.loop-count.invariant in
     let made : GivesValues c.args.width s c.args.from run c.loop-count.count c.args.out.now c.loop-count.out = record {
       few = h.few;

@@ -5,7 +5,7 @@ use Rattle.px_model.specs.Queue.{Queue}
 use Rattle.px_model.specs.Stream.{Stream, IsStream}
 use Rattle.px_model.specs.Going.{queue_after, run_after}
 use Rattle.px_model.proofs.Streams.{after_open, after_keeps}
-use Rattle.px_stream.specs.Kept.{stream_of}
+use Rattle.px_stream.specs.HeldStream.{stream_of}
 use Rattle.px_stream.proofs.Keeping.{mixable_as, after_prebuf}
 use Rattle.px_stream.proofs.state.StreamState.go.Goals as goal
 
@@ -19,7 +19,7 @@ invariant_of-self g c =
     ∙ ap (λ (r : Run). made (queue_after d.queue.queue c.args.frames) r) (sym run)
     ∙ ap (λ (q : Queue). made q c.run_after-self-inside.result) (sym c.settle.ensures.queue) in (
       mixable_as (made d.queue.queue d.run) (made c.settle.new.self.queue c.run_after-self-inside.result) c.self.invariant.0
-          (subst (λ (s : Stream). IsStream s) same (after_keeps (made d.queue.queue d.run) c.self.invariant.0.kept c.args.frames)) refl refl refl,
+          (subst (λ (s : Stream). IsStream s) same (after_keeps (made d.queue.queue d.run) c.self.invariant.0.holds c.args.frames)) refl refl refl,
       c.settle.ensures.frame ∙ c.self.invariant.1,
       ap (λ (q : Queue). q.prebuf) c.settle.ensures.queue ∙ after_prebuf d.queue.queue c.args.frames ∙ c.self.invariant.2,
     )

@@ -7,7 +7,7 @@ use Rattle.px_sample.specs.declared.format.Width.TheVariants.{W16}
 use Rattle.px_sample.specs.Format.{size_of, frame_size_of}
 use Rattle.px_model.specs.Queue.{FrameAhead, sound}
 use Rattle.px_model.specs.Stream.{Stream, frame_at}
-use Rattle.px_stream.specs.Kept.{KeptStream, stream_of}
+use Rattle.px_stream.specs.HeldStream.{HeldStream, stream_of}
 use Rattle.px_stream.specs.Values.{value_at}
 use Rattle.px_stream.specs.Lent.{LendsValues}
 use Rattle.px_stream.proofs.Reading.{frame_open, not_nothing}
@@ -26,7 +26,7 @@ returns c =
     let to : c.args.width ≡ W16 = c.is_value.ensures.width c.if-not-is_value.false in
     let heard : (j : ℕ) → j < n → frame_at s (c.args.k + j) ≡ sound (take (frame_size_of d.spec) (drop (j * frame_size_of d.spec) bytes)) =
     λ j less. frame_open s (c.args.k + j) c.if-self.false ∙ lent.frames j less ∙ ap (λ (m : ℕ). sound (take m (drop (j * m) bytes))) width in
-    subst (λ (v : KeptStream). (x : ℕ) × LendsValues c.args.width v.stream c.args.k c.args.most x bytes) c.self.view_is (
+    subst (λ (v : HeldStream). (x : ℕ) × LendsValues c.args.width v.stream c.args.k c.args.most x bytes) c.self.view_is (
       n,
       record {
         few = omega (arith, lent.few, c.min.ensures);

@@ -1,6 +1,6 @@
 use Rattle.std.proofs.Common.{◌≡◌, ℕ, ◌*◌, ◌+◌, ◌<◌, ◌≤◌, List, length, get_or, pos, replicate, w32, SFits, ap, sym, ◌∙◌, subst, arith, All}
 use Rattle.std.specs.Prelude.{slice_index}
-use Rattle.px_stream.specs.Kept.{KeptStream}
+use Rattle.px_stream.specs.HeldStream.{HeldStream}
 use Rattle.std.proofs.Math.Nat.{mul-le-mul_right}
 use Rattle.std.proofs.Math.Facts.{sfits_lit}
 use Rattle.std.proofs.lemmas.List.{length-take-le}
@@ -18,12 +18,12 @@ pub nonzero_div-channels : goal.nonzero_div-channels
 nonzero_div-channels c = c.self.invariant.0.playable.some_channels
 
 pub read_values-given-requires-clause-few : goal.read_values-given-requires-clause-few
-read_values-given-requires-clause-few c = subst (λ (v : KeptStream). c.min-frames.result * v.stream.spec.channels ≤ 256) c.self.view_is (frames_fit c.min-frames.result c.args.most 256 c.self.inside.spec.channels c.min-frames.ensures)
+read_values-given-requires-clause-few c = subst (λ (v : HeldStream). c.min-frames.result * v.stream.spec.channels ≤ 256) c.self.view_is (frames_fit c.min-frames.result c.args.most 256 c.self.inside.spec.channels c.min-frames.ensures)
 
 pub read_values-given-requires-clause-places : goal.read_values-given-requires-clause-places
 read_values-given-requires-clause-places c =
     length-take-le (c.min-frames.result * c.self.inside.spec.channels) _ (frames_fit c.min-frames.result c.args.most 256 c.self.inside.spec.channels c.min-frames.ensures)
-    ∙ ap (λ (v : KeptStream). c.min-frames.result * v.stream.spec.channels) c.self.view_is
+    ∙ ap (λ (v : HeldStream). c.min-frames.result * v.stream.spec.channels) c.self.view_is
 
 pub returns-clause-few : goal.returns-clause-few
 returns-clause-few c = omega (arith, c.read_values-given.ensures.few, c.min-frames.ensures)
@@ -39,18 +39,18 @@ returns-clause-there c = c.read_values-given.ensures.there
 
 pub returns-clause-before : goal.returns-clause-before
 returns-clause-before c =
-    let feed : c.channels.result.now ≡ c.args.self.now.stream.feed = c.channels.ensures.value ∙ ap (λ (v : KeptStream). v.stream.feed) c.self.view_is in
+    let feed : c.channels.result.now ≡ c.args.self.now.stream.feed = c.channels.ensures.value ∙ ap (λ (v : HeldStream). v.stream.feed) c.self.view_is in
     λ k i fed. c.scatter.ensures.before k i (omega (arith, fed, ap (λ (xs : List ℕ). length xs) feed))
 
 pub returns-clause-after : goal.returns-clause-after
 returns-clause-after c =
-    let feed : c.channels.result.now ≡ c.args.self.now.stream.feed = c.channels.ensures.value ∙ ap (λ (v : KeptStream). v.stream.feed) c.self.view_is in
+    let feed : c.channels.result.now ≡ c.args.self.now.stream.feed = c.channels.ensures.value ∙ ap (λ (v : HeldStream). v.stream.feed) c.self.view_is in
     λ k i fed. c.scatter.ensures.after k i (omega (arith, fed, ap (λ (xs : List ℕ). length xs) feed))
 
 pub returns-clause-values : goal.returns-clause-values
 returns-clause-values c =
-    let feed : c.channels.result.now ≡ c.args.self.now.stream.feed = c.channels.ensures.value ∙ ap (λ (v : KeptStream). v.stream.feed) c.self.view_is in
-    let channels : c.self.inside.spec.channels ≡ c.args.self.now.stream.spec.channels = ap (λ (v : KeptStream). v.stream.spec.channels) c.self.view_is in
+    let feed : c.channels.result.now ≡ c.args.self.now.stream.feed = c.channels.ensures.value ∙ ap (λ (v : HeldStream). v.stream.feed) c.self.view_is in
+    let channels : c.self.inside.spec.channels ≡ c.args.self.now.stream.spec.channels = ap (λ (v : HeldStream). v.stream.spec.channels) c.self.view_is in
     λ k j fed less.
     c.scatter.ensures.values k j (omega (arith, fed, ap (λ (xs : List ℕ). length xs) feed)) less
     ∙ ap (λ (xs : List ℕ). get_or c.read_values-given.new.values (j * c.self.inside.spec.channels + slice_index xs k) (pos 0)) feed
@@ -65,7 +65,7 @@ scatter-requires-clause-inside c = omega (arith, c.read_values-given.ensures.few
 
 pub scatter-requires-clause-runs : goal.scatter-requires-clause-runs
 scatter-requires-clause-runs c =
-    let feed : c.channels.result.now ≡ c.args.self.now.stream.feed = c.channels.ensures.value ∙ ap (λ (v : KeptStream). v.stream.feed) c.self.view_is in
+    let feed : c.channels.result.now ≡ c.args.self.now.stream.feed = c.channels.ensures.value ∙ ap (λ (v : HeldStream). v.stream.feed) c.self.view_is in
     c.requires.runs ∙ ap (λ (xs : List ℕ). c.args.run * length xs) (sym feed)
 
 pub scatter-requires-clause-whole : goal.scatter-requires-clause-whole

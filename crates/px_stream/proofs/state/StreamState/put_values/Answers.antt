@@ -1,6 +1,6 @@
 use Rattle.std.proofs.Common.{◌≡◌, ℕ, ◌+◌, ◌*◌, ◌<◌, List, length, ap, sym, ◌∙◌, subst, arith, All}
 use Rattle.std.specs.Prelude.{slice_index}
-use Rattle.px_stream.specs.Kept.{KeptStream}
+use Rattle.px_stream.specs.HeldStream.{HeldStream}
 use Rattle.px_stream.specs.Lent.{sample_at}
 use Rattle.px_stream.proofs.Runs.{frames_are}
 use Rattle.px_stream.proofs.state.StreamState.put_values.Goals as goal
@@ -10,7 +10,7 @@ scatter_samples-requires-clause-whole c =
     let d = c.self.inside in
     let n : ℕ = c.lent-bytes.ensures.0 in
     let lent = c.lent-bytes.ensures.1 in
-    let size : length c.lent-bytes.result.now ≡ 2 * (n * d.spec.channels) = lent.size ∙ ap (λ (v : KeptStream). 2 * (n * v.stream.spec.channels)) (sym c.self.view_is) in
+    let size : length c.lent-bytes.result.now ≡ 2 * (n * d.spec.channels) = lent.size ∙ ap (λ (v : HeldStream). 2 * (n * v.stream.spec.channels)) (sym c.self.view_is) in
     let count : c.frames_in-frames.result ≡ n = c.frames_in-frames.ensures ∙ frames_are (length c.lent-bytes.result.now) n d.spec.channels c.self.invariant.0.playable.some_channels size in
     size ∙ ap (λ (m : ℕ). 2 * (m * d.spec.channels)) (sym count)
 
@@ -19,7 +19,7 @@ returns-clause-few c =
     let d = c.self.inside in
     let n : ℕ = c.lent-bytes.ensures.0 in
     let lent = c.lent-bytes.ensures.1 in
-    let size : length c.lent-bytes.result.now ≡ 2 * (n * d.spec.channels) = lent.size ∙ ap (λ (v : KeptStream). 2 * (n * v.stream.spec.channels)) (sym c.self.view_is) in
+    let size : length c.lent-bytes.result.now ≡ 2 * (n * d.spec.channels) = lent.size ∙ ap (λ (v : HeldStream). 2 * (n * v.stream.spec.channels)) (sym c.self.view_is) in
     let count : c.frames_in-frames.result ≡ n = c.frames_in-frames.ensures ∙ frames_are (length c.lent-bytes.result.now) n d.spec.channels c.self.invariant.0.playable.some_channels size in
     omega (arith, count, lent.few)
 
@@ -28,7 +28,7 @@ returns-clause-there c =
     let d = c.self.inside in
     let n : ℕ = c.lent-bytes.ensures.0 in
     let lent = c.lent-bytes.ensures.1 in
-    let size : length c.lent-bytes.result.now ≡ 2 * (n * d.spec.channels) = lent.size ∙ ap (λ (v : KeptStream). 2 * (n * v.stream.spec.channels)) (sym c.self.view_is) in
+    let size : length c.lent-bytes.result.now ≡ 2 * (n * d.spec.channels) = lent.size ∙ ap (λ (v : HeldStream). 2 * (n * v.stream.spec.channels)) (sym c.self.view_is) in
     let count : c.frames_in-frames.result ≡ n = c.frames_in-frames.ensures ∙ frames_are (length c.lent-bytes.result.now) n d.spec.channels c.self.invariant.0.playable.some_channels size in
     λ j less. lent.there j (omega (arith, less, count))
 
@@ -37,10 +37,10 @@ returns-clause-values c =
     let d = c.self.inside in
     let n : ℕ = c.lent-bytes.ensures.0 in
     let lent = c.lent-bytes.ensures.1 in
-    let size : length c.lent-bytes.result.now ≡ 2 * (n * d.spec.channels) = lent.size ∙ ap (λ (v : KeptStream). 2 * (n * v.stream.spec.channels)) (sym c.self.view_is) in
+    let size : length c.lent-bytes.result.now ≡ 2 * (n * d.spec.channels) = lent.size ∙ ap (λ (v : HeldStream). 2 * (n * v.stream.spec.channels)) (sym c.self.view_is) in
     let count : c.frames_in-frames.result ≡ n = c.frames_in-frames.ensures ∙ frames_are (length c.lent-bytes.result.now) n d.spec.channels c.self.invariant.0.playable.some_channels size in
-    let feed : c.channels-feed.result.now ≡ c.args.self.now.stream.feed = c.channels-feed.ensures.value ∙ ap (λ (v : KeptStream). v.stream.feed) c.self.view_is in
-    let channels : d.spec.channels ≡ c.args.self.now.stream.spec.channels = ap (λ (v : KeptStream). v.stream.spec.channels) c.self.view_is in
+    let feed : c.channels-feed.result.now ≡ c.args.self.now.stream.feed = c.channels-feed.ensures.value ∙ ap (λ (v : HeldStream). v.stream.feed) c.self.view_is in
+    let channels : d.spec.channels ≡ c.args.self.now.stream.spec.channels = ap (λ (v : HeldStream). v.stream.spec.channels) c.self.view_is in
     λ k j fed less.
     c.scatter_samples.ensures.values k j (omega (arith, fed, ap (λ (xs : List ℕ). length xs) feed)) less
     ∙ ap (λ (xs : List ℕ). sample_at c.lent-bytes.result.now (j * d.spec.channels + slice_index xs k)) feed
@@ -70,12 +70,12 @@ put_read-requires-clause-some c = c.requires.some
 
 pub returns-clause-after : goal.returns-clause-after
 returns-clause-after c =
-    let feed : c.channels-feed.result.now ≡ c.args.self.now.stream.feed = c.channels-feed.ensures.value ∙ ap (λ (v : KeptStream). v.stream.feed) c.self.view_is in
+    let feed : c.channels-feed.result.now ≡ c.args.self.now.stream.feed = c.channels-feed.ensures.value ∙ ap (λ (v : HeldStream). v.stream.feed) c.self.view_is in
     λ k i fed. c.scatter_samples.ensures.after k i (omega (arith, fed, ap (λ (xs : List ℕ). length xs) feed))
 
 pub returns-clause-before : goal.returns-clause-before
 returns-clause-before c =
-    let feed : c.channels-feed.result.now ≡ c.args.self.now.stream.feed = c.channels-feed.ensures.value ∙ ap (λ (v : KeptStream). v.stream.feed) c.self.view_is in
+    let feed : c.channels-feed.result.now ≡ c.args.self.now.stream.feed = c.channels-feed.ensures.value ∙ ap (λ (v : HeldStream). v.stream.feed) c.self.view_is in
     λ k i fed. c.scatter_samples.ensures.before k i (omega (arith, fed, ap (λ (xs : List ℕ). length xs) feed))
 
 pub returns-clause-fit : goal.returns-clause-fit
@@ -110,11 +110,11 @@ scatter_samples-requires-clause-inside c =
     let d = c.self.inside in
     let n : ℕ = c.lent-bytes.ensures.0 in
     let lent = c.lent-bytes.ensures.1 in
-    let size : length c.lent-bytes.result.now ≡ 2 * (n * d.spec.channels) = lent.size ∙ ap (λ (v : KeptStream). 2 * (n * v.stream.spec.channels)) (sym c.self.view_is) in
+    let size : length c.lent-bytes.result.now ≡ 2 * (n * d.spec.channels) = lent.size ∙ ap (λ (v : HeldStream). 2 * (n * v.stream.spec.channels)) (sym c.self.view_is) in
     let count : c.frames_in-frames.result ≡ n = c.frames_in-frames.ensures ∙ frames_are (length c.lent-bytes.result.now) n d.spec.channels c.self.invariant.0.playable.some_channels size in
     omega (arith, count, lent.few, c.requires.inside)
 
 pub scatter_samples-requires-clause-runs : goal.scatter_samples-requires-clause-runs
 scatter_samples-requires-clause-runs c =
-    let feed : c.channels-feed.result.now ≡ c.args.self.now.stream.feed = c.channels-feed.ensures.value ∙ ap (λ (v : KeptStream). v.stream.feed) c.self.view_is in
+    let feed : c.channels-feed.result.now ≡ c.args.self.now.stream.feed = c.channels-feed.ensures.value ∙ ap (λ (v : HeldStream). v.stream.feed) c.self.view_is in
     c.requires.runs ∙ ap (λ (xs : List ℕ). c.args.run * length xs) (sym feed)

@@ -8,7 +8,7 @@ use Rattle.px_msg.specs.View.{sample_spec}
 use Rattle.px_sample.specs.Format.{size_of, frame_size_of}
 use Rattle.px_model.specs.Queue.{FrameAhead, nothing, silence, sound, queue_frame}
 use Rattle.px_model.specs.Stream.{Stream, frame_at}
-use Rattle.px_stream.specs.Kept.{KeptStream, stream_of}
+use Rattle.px_stream.specs.HeldStream.{HeldStream, stream_of}
 use Rattle.px_stream.specs.Values.{value_at}
 use Rattle.px_stream.proofs.Reading.{frame_open, not_nothing, peeked_few, then_is}
 use Rattle.px_stream.proofs.Runs.{place_inside}
@@ -26,7 +26,7 @@ peek-requires-clause-whole c =
 pub read_samples-requires-clause-size : goal.read_samples-requires-clause-size
 read_samples-requires-clause-size c =
     let d = c.self.inside in
-    let long : length c.args.values.now ≡ c.args.frames * d.spec.channels = c.requires.places ∙ sym (ap (λ (v : KeptStream). c.args.frames * v.stream.spec.channels) c.self.view_is) in
+    let long : length c.args.values.now ≡ c.args.frames * d.spec.channels = c.requires.places ∙ sym (ap (λ (v : HeldStream). c.args.frames * v.stream.spec.channels) c.self.view_is) in
     then_is c.bytes_of-end.result (size_of d.spec.format * length c.args.values.now) (length c.peek.new.out) (c.bytes_of-end.ensures.samples ∙ ap (λ (n : ℕ). size_of d.spec.format * n) (sym long)) (search rules)
 
 pub returns-in-Silence-clause-few : goal.returns-in-Silence-clause-few
@@ -43,14 +43,14 @@ pub returns-in-Silence-clause-values : goal.returns-in-Silence-clause-values
 returns-in-Silence-clause-values c =
     let d = c.self.inside in
     let s : Stream = stream_of d.queue.queue d.corked d.maxlength d.tlength d.minreq d.requested d.draining.items d.run (sample_spec d.spec) d.feed d.factors in
-    let long : length c.args.values.now ≡ c.args.frames * d.spec.channels = c.requires.places ∙ sym (ap (λ (v : KeptStream). c.args.frames * v.stream.spec.channels) c.self.view_is) in
+    let long : length c.args.values.now ≡ c.args.frames * d.spec.channels = c.requires.places ∙ sym (ap (λ (v : HeldStream). c.args.frames * v.stream.spec.channels) c.self.view_is) in
     let width : d.queue.frame ≡ frame_size_of d.spec = c.self.invariant.1 ∙ same_frame_size d.spec in
     let end : c.bytes_of-end.result ≡ c.args.frames * d.queue.frame = c.bytes_of-end.ensures.value ∙ ap (λ (n : ℕ). c.args.frames * n) (sym width) in
     let whole : length c.peek.new.out ≡ c.args.frames * d.queue.frame = then_is c.bytes_of-end.result (c.args.frames * d.queue.frame) (length c.peek.new.out) end (search rules) in
     let some : 0 < d.queue.frame = subst (λ (n : ℕ). 1 ≤ n) (sym width) (frame_some d.spec c.self.invariant.0.playable.some_channels) in
     let few : c.in-Silence.given ≤ c.args.frames = peeked_few c.in-Silence.given _ d.queue.frame c.args.frames c.in-Silence.ensures.fit (ap (λ (xs : List ℕ). length xs) (sym c.in-Silence.ensures.same) ∙ whole) some in
     let zeros : c.fill.new.self ≡ replicate (length c.args.values.now) (pos 0) = c.fill.ensures.after (λ y e. e) in
-    subst (λ (v : KeptStream). (k j : ℕ) → k < length v.stream.feed → j < c.in-Silence.given → get_or c.fill.new.self (j * v.stream.spec.channels + slice_index v.stream.feed k) (pos 0) ≡ value_at c.args.width v.stream k (frame_at v.stream (c.args.k + j))) c.self.view_is
+    subst (λ (v : HeldStream). (k j : ℕ) → k < length v.stream.feed → j < c.in-Silence.given → get_or c.fill.new.self (j * v.stream.spec.channels + slice_index v.stream.feed k) (pos 0) ≡ value_at c.args.width v.stream k (frame_at v.stream (c.args.k + j))) c.self.view_is
     (λ k j fed less.
     let at : frame_at s (c.args.k + j) ≡ silence = frame_open s (c.args.k + j) c.if-self.false ∙ c.in-Silence.ensures.silent j less in
     let here : j < c.args.frames = omega (arith, less, few) in
@@ -74,7 +74,7 @@ pub returns-in-Frames-clause-values : goal.returns-in-Frames-clause-values
 returns-in-Frames-clause-values c =
     let d = c.self.inside in
     let s : Stream = stream_of d.queue.queue d.corked d.maxlength d.tlength d.minreq d.requested d.draining.items d.run (sample_spec d.spec) d.feed d.factors in
-    let long : length c.args.values.now ≡ c.args.frames * d.spec.channels = c.requires.places ∙ sym (ap (λ (v : KeptStream). c.args.frames * v.stream.spec.channels) c.self.view_is) in
+    let long : length c.args.values.now ≡ c.args.frames * d.spec.channels = c.requires.places ∙ sym (ap (λ (v : HeldStream). c.args.frames * v.stream.spec.channels) c.self.view_is) in
     let width : d.queue.frame ≡ frame_size_of d.spec = c.self.invariant.1 ∙ same_frame_size d.spec in
     let end : c.bytes_of-end.result ≡ c.args.frames * d.queue.frame = c.bytes_of-end.ensures.value ∙ ap (λ (n : ℕ). c.args.frames * n) (sym width) in
     let whole : length c.peek.new.out ≡ c.args.frames * d.queue.frame = then_is c.bytes_of-end.result (c.args.frames * d.queue.frame) (length c.peek.new.out) end (search rules) in
@@ -82,7 +82,7 @@ returns-in-Frames-clause-values c =
     let few : c.in-Frames.given ≤ c.args.frames = peeked_few c.in-Frames.given _ d.queue.frame c.args.frames c.in-Frames.ensures.fit (sym c.in-Frames.ensures.size ∙ whole) some in
     let size : length c.peek.new.out ≡ size_of d.spec.format * length c.args.values.now =
     whole ∙ sym end ∙ c.bytes_of-end.ensures.samples ∙ ap (λ (n : ℕ). size_of d.spec.format * n) (sym long) in
-    subst (λ (v : KeptStream). (k j : ℕ) → k < length v.stream.feed → j < c.in-Frames.given → get_or c.read_samples.new.values (j * v.stream.spec.channels + slice_index v.stream.feed k) (pos 0) ≡ value_at c.args.width v.stream k (frame_at v.stream (c.args.k + j))) c.self.view_is
+    subst (λ (v : HeldStream). (k j : ℕ) → k < length v.stream.feed → j < c.in-Frames.given → get_or c.read_samples.new.values (j * v.stream.spec.channels + slice_index v.stream.feed k) (pos 0) ≡ value_at c.args.width v.stream k (frame_at v.stream (c.args.k + j))) c.self.view_is
     (λ k j fed less.
     let at : frame_at s (c.args.k + j) ≡ sound (take (frame_size_of d.spec) (drop (j * frame_size_of d.spec) c.peek.new.out)) =
     frame_open s (c.args.k + j) c.if-self.false ∙ c.in-Frames.ensures.frames j less ∙ ap (λ (n : ℕ). sound (take n (drop (j * n) c.peek.new.out))) width in
@@ -94,7 +94,7 @@ returns-in-Frames-clause-values c =
     ∙ sym (ap (λ (a : FrameAhead). value_at c.args.width s k a) at))
 
 pub bytes_of-end-requires : goal.bytes_of-end-requires
-bytes_of-end-requires c = subst (λ (v : KeptStream). c.args.frames * v.stream.spec.channels ≤ 256) (sym c.self.view_is) c.requires.few
+bytes_of-end-requires c = subst (λ (v : HeldStream). c.args.frames * v.stream.spec.channels ≤ 256) (sym c.self.view_is) c.requires.few
 
 pub fill-requires : goal.fill-requires
 fill-requires c = tt
@@ -113,7 +113,7 @@ pub returns-in-Frames-clause-there : goal.returns-in-Frames-clause-there
 returns-in-Frames-clause-there c =
     let d = c.self.inside in
     let s : Stream = stream_of d.queue.queue d.corked d.maxlength d.tlength d.minreq d.requested d.draining.items d.run (sample_spec d.spec) d.feed d.factors in
-    subst (λ (v : KeptStream). (j : ℕ) → j < c.in-Frames.given → frame_at v.stream (c.args.k + j) ≢ nothing) c.self.view_is
+    subst (λ (v : HeldStream). (j : ℕ) → j < c.in-Frames.given → frame_at v.stream (c.args.k + j) ≢ nothing) c.self.view_is
     (λ j less. not_nothing _ _ (frame_open s (c.args.k + j) c.if-self.false ∙ c.in-Frames.ensures.frames j less) refl)
 
 pub returns-in-Frames-clause-words : goal.returns-in-Frames-clause-words
@@ -126,7 +126,7 @@ pub returns-in-Nothing-clause-none : goal.returns-in-Nothing-clause-none
 returns-in-Nothing-clause-none c =
     let d = c.self.inside in
     let s : Stream = stream_of d.queue.queue d.corked d.maxlength d.tlength d.minreq d.requested d.draining.items d.run (sample_spec d.spec) d.feed d.factors in
-    λ e. subst (λ (v : KeptStream). frame_at v.stream c.args.k ≡ nothing) c.self.view_is (frame_open s c.args.k c.if-self.false ∙ c.in-Nothing.ensures.0)
+    λ e. subst (λ (v : HeldStream). frame_at v.stream c.args.k ≡ nothing) c.self.view_is (frame_open s c.args.k c.if-self.false ∙ c.in-Nothing.ensures.0)
 
 pub returns-in-Nothing-clause-there : goal.returns-in-Nothing-clause-there
 returns-in-Nothing-clause-there c = λ j less. absurd (omega (arith, less))
@@ -144,7 +144,7 @@ pub returns-in-Silence-clause-there : goal.returns-in-Silence-clause-there
 returns-in-Silence-clause-there c =
     let d = c.self.inside in
     let s : Stream = stream_of d.queue.queue d.corked d.maxlength d.tlength d.minreq d.requested d.draining.items d.run (sample_spec d.spec) d.feed d.factors in
-    subst (λ (v : KeptStream). (j : ℕ) → j < c.in-Silence.given → frame_at v.stream (c.args.k + j) ≢ nothing) c.self.view_is
+    subst (λ (v : HeldStream). (j : ℕ) → j < c.in-Silence.given → frame_at v.stream (c.args.k + j) ≢ nothing) c.self.view_is
     (λ j less. not_nothing _ _ (frame_open s (c.args.k + j) c.if-self.false ∙ c.in-Silence.ensures.silent j less) refl)
 
 pub returns-then-self-clause-few : goal.returns-then-self-clause-few
@@ -153,7 +153,7 @@ returns-then-self-clause-few c = omega (arith)
 pub returns-then-self-clause-none : goal.returns-then-self-clause-none
 returns-then-self-clause-none c =
     let d = c.self.inside in
-    λ e. subst (λ (v : KeptStream). frame_at v.stream c.args.k ≡ nothing) c.self.view_is (cond-true d.corked nothing (queue_frame d.queue.queue c.args.k) c.if-self.true)
+    λ e. subst (λ (v : HeldStream). frame_at v.stream c.args.k ≡ nothing) c.self.view_is (cond-true d.corked nothing (queue_frame d.queue.queue c.args.k) c.if-self.true)
 
 pub returns-then-self-clause-there : goal.returns-then-self-clause-there
 returns-then-self-clause-there c = λ j less. absurd (omega (arith, less))

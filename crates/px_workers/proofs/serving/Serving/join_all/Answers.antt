@@ -1,8 +1,8 @@
 use Rattle.std.proofs.Common.{◌∙◌, ◌++◌, ap, map, List}
-use Rattle.px_workers.specs.Working.{Unworked, kept_of}
+use Rattle.px_workers.specs.Working.{Unworked, lasting_of}
 use Rattle.px_workers.proofs.serving.Serving.join_all.Goals as goal
 
-pub returns-clause-kept : goal.returns-clause-kept
-returns-clause-kept g c =
+pub returns-clause-lasting : goal.returns-clause-lasting
+returns-clause-lasting g c =
     let same = ap (λ (s : _). s.items) c.join_clients.ensures.sinks in
-    c.join_sinks.ensures.kept ∙ ap (λ (l : List (Unworked g.row.H-D.Denot g.row.H-R.Denot)). map kept_of (l ++ c.args.idle.now.items)) same
+    c.join_sinks.ensures.lasting ∙ ap (λ (l : List (Unworked g.row.H-D.Denot g.row.H-R.Denot)). map lasting_of (l ++ c.args.idle.now.items)) same

@@ -1,6 +1,6 @@
 use Rattle.std.proofs.Common.{rules, ◌≡◌, ◌∙◌, ◌++◌, ◌∷◌, []}
-use Rattle.px_workers.specs.Working.{kept_of}
-use Rattle.px_workers.proofs.Joining.{joined_one, kept_on}
+use Rattle.px_workers.specs.Working.{lasting_of}
+use Rattle.px_workers.proofs.Joining.{joined_one, lasting_on}
 use Rattle.px_workers.proofs.serving.Serving.join_sinks.Goals as goal
 
 pub loop-run-preserved : goal.loop-run-preserved
@@ -12,6 +12,6 @@ loop-run-preserved g c =
     record {
       parts = search rules;
       room = search rules;
-      kept = joined_one kept_of c.loop-run.self.sinks.items c.pop_back.new.self.items c.loop-run.idle.items c.push_front_reserved.new.self.items given back behind front
-          (kept_on given back c.join.ensures.goes) ∙ c.loop-run.invariant.kept;
+      lasting = joined_one lasting_of c.loop-run.self.sinks.items c.pop_back.new.self.items c.loop-run.idle.items c.push_front_reserved.new.self.items given back behind front
+          (lasting_on given back c.join.ensures.goes) ∙ c.loop-run.invariant.lasting;
     }

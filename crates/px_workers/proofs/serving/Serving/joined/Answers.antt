@@ -1,4 +1,4 @@
 use Rattle.px_workers.proofs.serving.Serving.joined.Goals as goal
 
-pub returns-clause-kept : goal.returns-clause-kept
-returns-clause-kept g c = c.join_all.ensures.kept
+pub returns-clause-lasting : goal.returns-clause-lasting
+returns-clause-lasting g c = c.join_all.ensures.lasting

@@ -1,6 +1,6 @@
 use Rattle.std.proofs.Common.{rules, ◌≤◌, ◌∙◌, ap, length, map}
 use Rattle.std.specs.VecDeque.{deque_capacity}
-use Rattle.px_workers.specs.Working.{kept_of}
+use Rattle.px_workers.specs.Working.{lasting_of}
 use Rattle.px_workers.proofs.Accepting.{room_left}
 use Rattle.px_workers.proofs.serving.Serving.worked.Goals as goal
 
@@ -25,8 +25,8 @@ joined-requires-clause-room g c κs within =
 pub returns-clause-seats : goal.returns-clause-seats
 returns-clause-seats g c = c.joined.ensures.seats
 
-pub returns-clause-kept : goal.returns-clause-kept
-returns-clause-kept g c = c.joined.ensures.kept ∙ ap (map kept_of) c.work-stop.ensures.all
+pub returns-clause-lasting : goal.returns-clause-lasting
+returns-clause-lasting g c = c.joined.ensures.lasting ∙ ap (map lasting_of) c.work-stop.ensures.all
 
 pub returns-clause-later : goal.returns-clause-later
 returns-clause-later g c = c.work-stop.ensures.later

@@ -24,7 +24,7 @@ turns c =
 left : (c : goal.In-Played) → Leaves c.args.self.now.lane.sink c.args.self.now.lane.device c.counted.new.lane.device c.args.frames c.in-Played.frames
 left c =
     leaves c.args.self.now.lane.sink c.counted.new.lane.sink c.args.self.now.lane.device c.counted.new.lane.device c.args.frames c.in-Played.consumed c.in-Played.frames c.args.self.now.lane.faults c.counted.new.lane.faults c.args.messages.now.messages
-    c.requires.kept c.requires.there c.requires.playing.taken c.requires.playing.attached (turns c).0
+    c.requires.consistent c.requires.there c.requires.playing.taken c.requires.playing.attached (turns c).0
 
 pub returns-in-Played-clause-mixer : goal.returns-in-Played-clause-mixer
 returns-in-Played-clause-mixer c =
@@ -41,7 +41,7 @@ returns-in-Played-clause-mixer c =
 pub returns-in-Played-clause-frames : goal.returns-in-Played-clause-frames
 returns-in-Played-clause-frames c =
     let it = left c in
-    it.count ∙ (sym (played-count c.args.self.now.lane.sink c.args.frames c.requires.kept c.requires.there) ∙ ap (length {A = List ℕ}) (sym (played-same (mixer_of c.args.self.now) c.args.frames it.going)))
+    it.count ∙ (sym (played-count c.args.self.now.lane.sink c.args.frames c.requires.consistent c.requires.there) ∙ ap (length {A = List ℕ}) (sym (played-same (mixer_of c.args.self.now) c.args.frames it.going)))
 
 pub returns-in-Played-clause-bytes : goal.returns-in-Played-clause-bytes
 returns-in-Played-clause-bytes c =

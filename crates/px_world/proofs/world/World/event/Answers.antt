@@ -7,4 +7,4 @@ use Rattle.px_world.proofs.world.World.event.Goals as goal
 pub invariant_of-self-in-Err : goal.invariant_of-self-in-Err
 invariant_of-self-in-Err c = λ going.
     let memory : IsFalse (loses c.in-Err.fault) = subst (λ (b : Bool). IsFalse b) c.is_want-self-inside.ensures going in
-    (unless-lost c.in-Err.fault _ c.in-Err.ensures.kept memory, unless-lost c.in-Err.fault _ c.in-Err.ensures.playing memory)
+    (unless-lost c.in-Err.fault _ c.in-Err.ensures.consistent memory, unless-lost c.in-Err.fault _ c.in-Err.ensures.playing memory)

@@ -1,0 +1,66 @@
+//! What a sink tells of a stream that goes on (PulseAudio: `sink_input_process_msg` and the callbacks of
+//! `pulsecore/protocol-native.c`; which notices fit is own).
+
+ghost use Rattle.std.specs.Prelude.{◌≡◌, IfOk};
+ghost use Rattle.px_ctl_play.specs.Notified.{bytes_asked, message_of, notified};
+
+use crate::data::frame_size;
+use crate::refusals::goes_on;
+use px_flat::Group;
+use px_msg::Msg;
+use px_outcome::{Connection, Input, StepOutcome};
+use px_tag::Packet;
+use px_types::{Mem, NoMemory};
+use std::alloc::Global;
+
+/// What a sink tells of a stream.
+#[derive(Clone, Copy, Debug, PartialEq, Eq)]
+pub enum News {
+    /// It asks for so many frames.
+    Request(u32),
+    /// What was sent on it didn't fit.
+    Overflow,
+    /// It has run out of frames.
+    Underflow,
+    /// It plays.
+    Started,
+}
+
+/// The bytes of so many frames, or the last number of 32 bits where they are more. Takes no memory.
+pub(crate) fn bytes_asked(x: &Input, frames: u32) -> u32
+    ensures { result ≡ bytes_asked x.now frames }
+{
+    let bytes = u64::from(frames) * frame_size(x.spec) as u64;
+    bytes.min(0xFFFF_FFFF) as u32
+}
+
+// The message of this to the client.
+fn message_of(alloc: Global, news: News, x: &Input) -> px_tag::Mem<Packet>
+    ensures { IfOk result (λ packet. packet ≡ message_of news x.now) }
+{
+    match news {
+        News::Request(frames) => px_reply::request(alloc, x.stream, bytes_asked(x, frames)),
+        News::Overflow => px_reply::overflow(alloc, x.stream),
+        News::Underflow => px_reply::underflow(alloc, x.stream),
+        News::Started => px_reply::started(alloc, x.stream),
+    }
+}
+
+/// A sink tells something of the input that it has, if it has that one: the connection of the input, where that goes on, is
+/// sent the message, unless the input has ended.
+pub fn notify<P: Drop>(
+    alloc: Global,
+    input: Option<Input>,
+    owner: Option<Connection>,
+    news: News,
+) -> Mem<StepOutcome<Msg<P>, Group>>
+    ensures { IfOk result (λ outcome. outcome ≡ notified input owner news) }
+{
+    match (input, owner) {
+        (Some(x), Some(owner)) if goes_on(&x) => match message_of(alloc, news, &x) {
+            Ok(packet) => StepOutcome::notifying(alloc, owner.conn, packet),
+            Err(_) => Err(NoMemory),
+        },
+        _ => Ok(StepOutcome::idle(alloc)),
+    }
+}

@@ -1,0 +1,5 @@
+pub mod Input
+pub mod Target
+pub mod Outcome
+pub mod Handled
+pub mod Waiting

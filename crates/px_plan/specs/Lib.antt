@@ -1,5 +1,0 @@
-pub mod Input
-pub mod Target
-pub mod Plan
-pub mod Row
-pub mod Waiting
