@@ -39,7 +39,7 @@ use std::thread::Threads;
 // One part for each of 65,535 links, one for each of 16 sinks, and one for the serving call.
 const PARTS: u64 = 65_552;
 
-// How many used blocks wait at most to be used again.
+// The most used blocks that wait to be used again.
 const SPARE_BLOCKS: usize = 1_024;
 
 // What the host makes before the core is there, with the core's ends of the sinks' mailboxes, and room for the sinks' turns.
@@ -51,7 +51,7 @@ struct Made<H: Host> {
     turns: Vec<SinkTurns>,
 }
 
-// A serving call that has made no core.
+// The result of a serving call that has made no core.
 fn unserved<H: Host>(
     mut lanes: Vec<LanePart<H::D, H::R>>,
     mut idle: VecDeque<SinkState<H::D, H::R>>,
@@ -73,7 +73,7 @@ fn unserved<H: Host>(
     }
 }
 
-// Room for what is left of `count` sinks, and for their turns.
+// Takes the room for what is left of `count` sinks, and for their turns.
 fn make_room<D: Drop, E: Drop>(
     count: usize,
     lanes: &mut Vec<LanePart<D, E>>,
@@ -88,7 +88,7 @@ fn make_room<D: Drop, E: Drop>(
     Ok(())
 }
 
-// All that the host makes: the sinks of a header, in order, and the core's recorder.
+// Has the host make its parts: for the sinks of a header, in order, and the core's recorder.
 fn make_outside<H: Host>(
     alloc: Global,
     taped: bool,
@@ -114,7 +114,7 @@ fn make_outside<H: Host>(
     }
 }
 
-// A pool of used blocks.
+// A pool for used blocks.
 fn pool_of(alloc: Global) -> Mem<Arc<Pool>> {
     match Pool::new(alloc, SPARE_BLOCKS) {
         Ok(pool) => Ok(pool),
@@ -276,9 +276,9 @@ where
     }
 }
 
-/// Serves the clients that the host hands out, on the sinks of a header, until the host says that no more come and all have gone, or
-/// until something fails. What the host made comes back with it, and with `taped` the tape: what the server did, as the events of a session.
-/// (PulseAudio: `main` of daemon/main.c with its threads.)
+/// Serves the clients that the host hands out, on the sinks of a header, until the host says that no more come and all have gone, or until something
+/// fails. Hands back what the host made, and with `taped` the tape: what the server did, as the events of a session. (PulseAudio: `main` of
+/// daemon/main.c with its threads.)
 pub fn serve<R, H, G>(
     rt: &R,
     alloc: Global,

@@ -48,7 +48,7 @@ fn shape_of(sink: &SinkSpec) -> DeviceShape
     }
 }
 
-// A sink's mailboxes, through which nothing has gone: its worker's ends, and the core's.
+// The new mailboxes of a sink: its worker's ends, and the core's.
 fn mailboxes(alloc: Global, sink: &SinkSpec) -> Mem<(LaneEnds, CoreEnd)>
     ensures ends { IfOk result (λ made. AreEnds made.0 × IsKeyOf made.0 (sink_for sink.now)) }
     ensures unmoved { IfOk result (λ made. (taken_in made.0 ≡ []) × (posted_in made.0 ≡ [])) }
@@ -128,7 +128,7 @@ fn cell_of<D: Device + Drop, E: Recorder<LaneEntry> + Drop>(
     Ok((cell, core))
 }
 
-// The turns of a sink that has made none, where there is a tape.
+// No turns of a sink yet, where there is a tape.
 fn turns_of(alloc: Global, sink: SinkId, taped: bool) -> Option<SinkTurns>
     ensures tapes { is_some result ≡ taped }
     ensures none { IfSome result (λ turns. turns.turns ≡ []) }
@@ -140,7 +140,7 @@ fn turns_of(alloc: Global, sink: SinkId, taped: bool) -> Option<SinkTurns>
     }
 }
 
-// A sink that no worker has had yet, with the core's ends of its mailboxes.
+// A sink not owned by a worker yet, with the core's ends of its mailboxes.
 fn new_sink_state<H: Host>(
     alloc: Global,
     taped: bool,
@@ -166,7 +166,7 @@ fn new_sink_state<H: Host>(
     Ok((idle, core))
 }
 
-// Room for one sink more.
+// Reserves room for one more sink.
 fn reserve_one<D: Device + Drop, E: Recorder<LaneEntry> + Drop>(
     idle: &mut VecDeque<SinkState<D, E>>,
     ends: &mut CoreEnds,
@@ -181,7 +181,7 @@ fn reserve_one<D: Device + Drop, E: Recorder<LaneEntry> + Drop>(
     Ok(())
 }
 
-// One sink more, for which there is room.
+// Appends one more sink, for which there is room.
 fn add_one<D: Device + Drop, E: Recorder<LaneEntry> + Drop>(
     idle: &mut VecDeque<SinkState<D, E>>,
     ends: &mut CoreEnds,
@@ -197,7 +197,7 @@ fn add_one<D: Device + Drop, E: Recorder<LaneEntry> + Drop>(
     ends.push_reserved(core);
 }
 
-// One sink. Where it can't be made, those that are there stay.
+// Makes one sink. On a fault the earlier ones stay.
 fn make_one<H: Host>(
     alloc: Global,
     taped: bool,
@@ -222,7 +222,7 @@ fn make_one<H: Host>(
     Ok(())
 }
 
-// The sinks of these entries, in order, where the first has this index. Where one can't be made, those before it are there.
+// Makes the sinks of these entries, in order, the first of which has index `index`. On a fault the sinks before it stay.
 fn make_from<H: Host>(
     alloc: Global,
     taped: bool,
@@ -249,7 +249,7 @@ fn make_from<H: Host>(
     }
 }
 
-/// The sinks of a header, in order. Where one can't be made, those before it are there.
+/// Makes the sinks of a header, in order. On a fault the sinks before it stay.
 pub(crate) fn make_all<H: Host>(
     alloc: Global,
     taped: bool,

@@ -62,7 +62,7 @@ impl<O: Outlet + Drop> PendingSend<O> {
     }
 }
 
-// Sends `bytes` as far as the link is ready. Answers how many were sent.
+// Sends `bytes` as far as the link is ready, and returns how many were sent.
 fn sent_of<O: Outlet>(outlet: &mut O, bytes: &[u8]) -> usize {
     if bytes.is_empty() {
         return 0;
@@ -214,7 +214,7 @@ impl<O: Outlet + Drop> OutQueues<O> {
         }
     }
 
-    /// A client in whose queue a packet found no memory; each is answered once. Takes no memory.
+    /// A client in whose queue a packet found no memory; each is returned once. Takes no memory.
     pub(crate) fn take_out_of_memory(&mut self) -> Option<ConnId> {
         let queue = self.queues.iter_mut().find(|queue| queue.out_of_memory)?;
         queue.out_of_memory = false;

@@ -5,7 +5,7 @@ use Rattle.px_ends.specs.Host.{HostState}
 use Rattle.px_workers.specs.declared.stop.Stop.{Stop}
 use Rattle.px_workers.specs.declared.stop.Stop.TheVariants.{Over, Memory, Host, Unrecorded}
 
--- a stop whose cause isn't the host's
+-- the cause of this stop isn't the host
 abbrev pub IsOwn : Stop → Type 0
 IsOwn Over = ⊥
 IsOwn Memory = ⊤
@@ -13,7 +13,7 @@ IsOwn Host = ⊥
 IsOwn (Unrecorded fault) = ⊤
 
 module _ {D R C : Type 0} where
-  -- no count has fallen, and all but the counts of calls is what it was
+  -- no count has fallen, and all but the counts of calls is unchanged
   pub record IsLater (before after : HostState D R C) : Type 0 where
     pub faults : before.faults ≤ after.faults
     pub overs : before.overs ≤ after.overs

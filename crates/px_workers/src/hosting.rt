@@ -19,7 +19,7 @@ pub(crate) fn ask<H: Host>(host: &mut H) -> Result<(), Stop>
     }
 }
 
-/// The next client's link with the half of it that sends, where the host lets its worker start, or why there is none.
+/// The next client's link and its sending half, where the host lets its worker start, or why there is none.
 pub(crate) fn next_link<H: Host>(alloc: Global, host: &mut H) -> Result<(H::L, Option<H::O>), Stop>
     ensures links { OnOk result (((H.now host.old).links < 65535) × ((H.now host.new).links ≡ (H.now host.old).links + 1)) }
     ensures later { IsLater (H.now host.old) (H.now host.new) }
