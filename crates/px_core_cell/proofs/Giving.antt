@@ -104,7 +104,7 @@ module _ {C : Type 0} (visible : C → Option (List CoreEntry)) where
   nowhere_gives sink state before after ends (Ok effects) none gives = record {
     entry = plain.Out sink.0 0;
     entry_for = (0, refl);
-    does = apart visible (Some (plain.Out sink.0 0)) (logged_of state before) (logged_of state after) ends (gives.0 state) (λ index. record { visible = refl; noticed = refl });
+    does = apart visible (Some (plain.Out sink.0 0)) (logged_of state before) (logged_of state after) ends (gives.0 state) (λ index. record { none_posted = refl; noticed = refl });
     effects_are = gives.1;
     finishes = λ e is. absurd (none e is);
     fault = gives.2;
