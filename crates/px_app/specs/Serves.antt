@@ -1,5 +1,5 @@
 -- What the words of `serve` do.
-use Rattle.std.specs.Prelude.{◌≡◌, ◌⊎◌, ℕ, Bool, List, [], Option, Ok, Err}
+use Rattle.std.specs.Prelude.{◌≡◌, ◌⊎◌, ℕ, Bool, List, [], length, Option, IsSome, Ok, Err}
 use Rattle.clap.specs.Words.{fault_of}
 use Rattle.px_types.specs.declared.status.Status.{Status}
 use Rattle.px_types.specs.declared.status.Status.TheVariants as status
@@ -16,6 +16,7 @@ use Rattle.px_app.specs.declared.serve_words.words.ServeWords.{ServeWords}
 use Rattle.px_app.specs.ServeCommand.{serve_command, rows, Reads, Refused as Denied}
 use Rattle.px_app.specs.ServePlain.{Plain}
 use Rattle.px_server.specs.declared.served.LanePart.{LanePart}
+use Rattle.px_server.specs.Hosted.{Lends}
 use Rattle.px_server.specs.Serving.{IsServed}
 use Rattle.px_server.specs.Taped.{HasTape}
 use Rattle.px_app.specs.declared.serve.call.ServeEnd.{ServeEnd}
@@ -44,6 +45,8 @@ module _ {D R C : Type 0} (core_visible : C → Option (List CoreEntry)) (core_f
     pub ended : Status
     pub tape : Option (List Event)
     pub served : IsServed core_visible core_faults core_fulls now visible faults fulls header before served_state ended parts core
+    -- where the core's recorder came back, the host had made just these devices and recorders
+    pub exact : IsSome core → Lends (length parts) 1 before served_state
     pub recorded : HasTape visible taped ended parts tape
     pub written : WritesTape header tape out_before out_after ended answered
     pub parts_back : TakesParts now faults fulls parts served_state parts_state

@@ -14,6 +14,7 @@ ghost use Rattle.px_app.specs.Ending.{status_of, line_of, IsRunStatus};
 ghost use Rattle.px_app.specs.Report.{Says};
 ghost use Rattle.px_app.specs.View.{Shown};
 ghost use Rattle.px_app.specs.Replay.{WasRefused, WasUnnamed, InputCounted};
+ghost use Rattle.px_app.specs.Fine.{IsFine};
 ghost use Rattle.px_app.specs.Serving.{is_serve, Served};
 ghost use Rattle.px_app.specs.Tape.{out_end};
 ghost use Rattle.px_app.specs.Words.{Meaning, Replay, Means, AreOther, Ran, DoneWhole, DoneFront, DoneCompletes};
@@ -142,6 +143,8 @@ where
         (log_end (L.held log.old) (L.faults log.old)) (log_end (L.held log.new) (L.faults log.new)) }
     ensures serve_alone { is_serve (map string_bytes words.now) ≡ true
         → (S.left input.new ≡ S.left input.old) × (S.faults input.new ≡ S.faults input.old) }
+    // Where that ends with Ok, no link comes any more, and nothing of the host failed.
+    ensures serve_ok { is_serve (map string_bytes words.now) ≡ true → result ≡ Answered.Ok → IsFine (H.now host.old) (H.now host.new) }
     // By all other words the host isn't called.
     ensures unserved { is_serve (map string_bytes words.now) ≡ false → H.now host.new ≡ H.now host.old }
     // What was read and written, which calls failed, and what was reported; the clauses after it follow from it.

@@ -9,10 +9,11 @@ use Rattle.px_annals.specs.declared.recorder.RecordFault.TheVariants.{Full, Fail
 use Rattle.px_core_cell.specs.declared.step.StepFault.{StepFault}
 use Rattle.px_core_cell.specs.declared.step.StepFault.TheVariants.{NoMemory, Worn, Recorder, Owed}
 
--- it found itself full, or failed, at least once
+-- it found itself full, or failed, at least once, as its first fault says; and where it had no fault, it never was full and never failed
 pub record IsCaused (fault : Option RecordFault) (faults fulls : ℕ) : Type 0 where
   pub full : (entries bytes : ℕ) → fault ≡ Some (Full entries bytes) → 1 ≤ fulls
   pub failed : fault ≡ Some Failed → 1 ≤ faults
+  pub none : fault ≡ None → (faults ≡ 0) × (fulls ≡ 0)
 
 -- it isn't ready for a step; its first fault stays
 abbrev pub ReadyFails : StepFault → Option RecordFault → Option RecordFault → Type 0

@@ -121,6 +121,7 @@ impl<C: Recorder<CoreEntry> + Drop, L: Seats> CoreCell<C, L> {
         requires begins { Begins core.state (map ends_of ends.items) }
         requires boxes { map boxes_of ends.items ≡ L.boxes }
         requires none { IfSome (C.visible recorder) (λ entries. entries ≡ []) }
+        requires unfailed { (C.faults recorder ≡ 0) × (C.fulls recorder ≡ 0) }
         ensures { result.1 ≡ record { parts = L.all; steps = 0 } }
     {
         let (book, share) = blank.open::<L>();

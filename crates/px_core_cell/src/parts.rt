@@ -147,8 +147,9 @@ fn nowhere_step<C: Recorder<CoreEntry>>(
 }
 
 impl<C: Recorder<CoreEntry>> CoreParts<C> {
-    /// The parts of a core before its first step. Takes no memory.
+    /// Those of a core before its first step, with a recorder that never failed and never was full. Takes no memory.
     pub(crate) fn new(core: CellCore, recorder: C, ends: CoreEnds) -> CoreParts<C>
+        requires { (C.faults recorder ≡ 0) × (C.fulls recorder ≡ 0) }
         ensures cell { cell_of result ≡ first_cell core.state recorder (map ends_of ends.items) }
         ensures ends { result.ends ≡ ends }
     {

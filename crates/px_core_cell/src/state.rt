@@ -44,6 +44,7 @@ impl<C: Recorder<CoreEntry>> CoreState<C> {
     pub fn new(core: CellCore, recorder: C, ends: CoreEnds) -> CoreState<C>
         requires begins { Begins core.state (map ends_of ends.items) }
         requires none { IfSome (C.visible recorder) (λ entries. entries ≡ []) }
+        requires unfailed { (C.faults recorder ≡ 0) × (C.fulls recorder ≡ 0) }
         ensures { result ≡ record { began = core.state; cell = first_cell core.state recorder (map ends_of ends.items); calls = map calls_of ends.items } }
     {
         CoreState {

@@ -46,10 +46,19 @@ fn path(text: &Text) -> Option<&str> {
     str::from_utf8(text.as_slice()).ok()
 }
 
-// Whether a socket is at the path, and nobody listens at it.
+// Whether a connection to the socket at `path` is refused: nobody listens there. Any other failure, as for want of a right or of
+// descriptors, says nothing of who listens.
+fn is_refused<R: Net>(rt: &R, path: &str) -> bool {
+    match UnixStream::connect(rt, path) {
+        Ok(_) => false,
+        Err(error) => error.kind() == ErrorKind::ConnectionRefused,
+    }
+}
+
+// Whether a socket is at `path` at which nobody listens.
 fn is_stale<R: Files + Net>(rt: &R, path: &str) -> bool {
     match fs::symlink_metadata(rt, path) {
-        Ok(found) => found.file_type().is_socket() && UnixStream::connect(rt, path).is_err(),
+        Ok(found) => found.file_type().is_socket() && is_refused(rt, path),
         Err(_) => false,
     }
 }

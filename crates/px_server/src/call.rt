@@ -1,13 +1,13 @@
 //! The serving call.
-ghost use Rattle.std.specs.Prelude.{◌≡◌, ◌+◌, ◌≤◌, [], length, map, IfOk, IfErr, OnOk, IfSome, None, vec_capacity};
+ghost use Rattle.std.specs.Prelude.{◌≡◌, ◌+◌, ◌≤◌, [], length, map, IfOk, IfErr, OnOk, IsSome, IfSome, None, vec_capacity};
 ghost use Rattle.px_annals.specs.declared.stream.PlainStream.{PlainStream};
 ghost use Rattle.px_header.specs.HeaderRules.{IsHeader};
 ghost use Rattle.px_state.specs.State.{State, new_state};
 ghost use Rattle.px_core_cell.specs.Boxes.{boxes_of};
 ghost use Rattle.px_core_cell.specs.Cell.{ends_of};
 ghost use Rattle.px_core_cell.specs.History.{fresh_ends};
-ghost use Rattle.px_workers.specs.Hosted.{IsLater, IsCauseOf};
-ghost use Rattle.px_server.specs.Hosted.{HasLent};
+ghost use Rattle.px_workers.specs.Hosted.{IsLater, IsCalm, IsCauseOf};
+ghost use Rattle.px_server.specs.Hosted.{HasLent, Lends};
 ghost use Rattle.px_workers.specs.Working.{start_of};
 ghost use Rattle.px_server.specs.Parts.{starts_of, unworked, AreParts, IsFrontOf};
 ghost use Rattle.px_server.specs.Serving.{IsServed};
@@ -100,12 +100,15 @@ fn make_outside<H: Host>(
     requires header { IsHeader header.now }
     requires none { (idle.old.items ≡ []) × (ends.old.items ≡ []) }
     ensures later { IsLater (H.now host.old) (H.now host.new) }
+    ensures lends { OnOk result (Lends (length header.now.sinks) 1 (H.now host.old) (H.now host.new)) }
+    ensures calm { OnOk result (IsCalm (H.now host.old) (H.now host.new)) }
     ensures lent { HasLent (length idle.new.items) 0 (H.now host.new) }
     ensures core_lent { OnOk result (HasLent (length idle.new.items) 1 (H.now host.new)) }
     ensures cause { IfErr result (λ stop. IsCauseOf stop (H.now host.old) (H.now host.new)) }
     ensures made { OnOk result (AreMade taped 0 header.now.sinks idle.new.items ends.new.items) }
     ensures front { IsFrontOf (map start_of idle.new.items) (starts_of header.now.sinks) }
     ensures none { IfOk result (λ recorder. IfSome (H.C.visible recorder) (λ entries. entries ≡ [])) }
+    ensures unfailed { IfOk result (λ recorder. (H.C.faults recorder ≡ 0) × (H.C.fulls recorder ≡ 0)) }
 {
     make_all(alloc, taped, header, host, idle, ends)?;
     match host.core_recorder(alloc) {
@@ -140,6 +143,7 @@ where
     requires boxes { map boxes_of ends.items ≡ L.boxes }
     requires ends { map ends_of ends.items ≡ map fresh_ends header.now.sinks }
     requires none { IfSome (C.visible recorder) (λ entries. entries ≡ []) }
+    requires unfailed { (C.faults recorder ≡ 0) × (C.fulls recorder ≡ 0) }
     ensures { IfOk result (λ made. made.1.parts ≡ 65552) }
 {
     let core = Core::new(alloc, header)?;
@@ -168,6 +172,7 @@ where
     requires boxes { map boxes_of ends.items ≡ L.boxes }
     requires ends { map ends_of ends.items ≡ map fresh_ends header.now.sinks }
     requires none { IfSome (C.visible recorder) (λ entries. entries ≡ []) }
+    requires unfailed { (C.faults recorder ≡ 0) × (C.fulls recorder ≡ 0) }
     ensures { IfOk result (λ handle. handle.seat.parts ≡ 65552) }
 {
     let pool = pool_of(alloc)?;
@@ -211,12 +216,15 @@ where
     requires boxes { map boxes_of made.ends.items ≡ L.boxes }
     requires made { AreMade taped 0 header.now.sinks made.idle.items made.ends.items }
     requires nothing_posted { IfSome (H.C.visible made.recorder) (λ entries. entries ≡ []) }
+    requires unfailed { (H.C.faults made.recorder ≡ 0) × (H.C.fulls made.recorder ≡ 0) }
     requires none { lanes.items ≡ [] }
     requires room { length made.idle.items ≤ vec_capacity lanes }
     requires no_turns { made.turns.items ≡ [] }
     requires turns_room { length made.idle.items ≤ vec_capacity made.turns }
     requires lent { HasLent (length made.idle.items) 1 (H.now host.old) }
     ensures served { IsServed H.C.visible H.C.faults H.C.fulls H.D.now H.R.visible H.R.faults H.R.fulls header.now (H.now host.old) (H.now host.new) result.status result.lanes.items result.core }
+    ensures lent { (H.now host.new).lent ≡ (H.now host.old).lent }
+    ensures count { IsSome result.core → length result.lanes.items ≡ length header.now.sinks }
     ensures tape { HasTape H.R.visible taped result.status result.lanes.items result.tape }
 {
     let Made {
@@ -257,6 +265,7 @@ where
     requires no_turns { turns.items ≡ [] }
     requires turns_room { length header.now.sinks ≤ vec_capacity turns }
     ensures served { IsServed H.C.visible H.C.faults H.C.fulls H.D.now H.R.visible H.R.faults H.R.fulls header.now (H.now host.old) (H.now host.new) result.status result.lanes.items result.core }
+    ensures exact { IsSome result.core → Lends (length result.lanes.items) 1 (H.now host.old) (H.now host.new) }
     ensures tape { HasTape H.R.visible taped result.status result.lanes.items result.tape }
 {
     let mut idle = VecDeque::new(alloc);
@@ -298,6 +307,7 @@ where
     G: Gate + Drop + Send + Sync + 'static,
     requires { IsHeader header.now }
     ensures served { IsServed H.C.visible H.C.faults H.C.fulls H.D.now H.R.visible H.R.faults H.R.fulls header.now (H.now host.old) (H.now host.new) result.status result.lanes.items result.core }
+    ensures exact { IsSome result.core → Lends (length result.lanes.items) 1 (H.now host.old) (H.now host.new) }
     ensures tape { HasTape H.R.visible taped result.status result.lanes.items result.tape }
 {
     let mut lanes = Vec::new(alloc);

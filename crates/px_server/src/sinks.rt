@@ -10,8 +10,8 @@ ghost use Rattle.px_lane_cell.specs.Cell.{AreEnds, IsKeyOf, taken_in, posted_in}
 ghost use Rattle.px_core_cell.specs.Boxes.{boxes_of};
 ghost use Rattle.px_core_cell.specs.Cell.{ends_of};
 ghost use Rattle.px_core_cell.specs.History.{fresh_ends};
-ghost use Rattle.px_workers.specs.Hosted.{IsLater, IsCauseOf};
-ghost use Rattle.px_server.specs.Hosted.{stop_by, HasLent};
+ghost use Rattle.px_workers.specs.Hosted.{IsLater, IsCalm, IsCauseOf};
+ghost use Rattle.px_server.specs.Hosted.{stop_by, HasLent, Lends};
 ghost use Rattle.px_workers.specs.declared.sink_state.SinkFault.TheVariants.{Nothing};
 ghost use Rattle.px_workers.specs.Working.{start_of, IsHonest};
 ghost use Rattle.px_server.specs.Parts.{sink_for, starts_of, starts_from, IsFrontOf, Adds};
@@ -75,6 +75,8 @@ fn mailboxes(alloc: Global, sink: &SinkSpec) -> Mem<(LaneEnds, CoreEnd)>
 fn outside<H: Host>(alloc: Global, sink: &SinkSpec, host: &mut H) -> Result<(H::D, H::R), HostFault>
     requires { (earlier : List Spec) × IsSink earlier sink.now }
     ensures later { IsLater (H.now host.old) (H.now host.new) }
+    ensures lends { OnOk result (Lends 1 0 (H.now host.old) (H.now host.new)) }
+    ensures calm { OnOk result (IsCalm (H.now host.old) (H.now host.new)) }
     ensures lent { OnOk result ((n : ℕ) → HasLent n 0 (H.now host.old) → HasLent (n + 1) 0 (H.now host.new)) }
     ensures lent_stays { OnErr result ((n : ℕ) → HasLent n 0 (H.now host.old) → HasLent n 0 (H.now host.new)) }
     ensures cause { IfErr result (λ fault. IsCauseOf (stop_by fault) (H.now host.old) (H.now host.new)) }
@@ -150,6 +152,8 @@ fn new_sink_state<H: Host>(
 ) -> Result<(SinkState<H::D, H::R>, CoreEnd), Stop>
     requires { (earlier : List Spec) × IsSink earlier sink.now }
     ensures later { IsLater (H.now host.old) (H.now host.new) }
+    ensures lends { OnOk result (Lends 1 0 (H.now host.old) (H.now host.new)) }
+    ensures calm { OnOk result (IsCalm (H.now host.old) (H.now host.new)) }
     ensures lent { OnOk result ((n : ℕ) → HasLent n 0 (H.now host.old) → HasLent (n + 1) 0 (H.now host.new)) }
     ensures lent_stays { OnErr result ((n : ℕ) → HasLent n 0 (H.now host.old) → HasLent n 0 (H.now host.new)) }
     ensures cause { IfErr result (λ stop. IsCauseOf stop (H.now host.old) (H.now host.new)) }
@@ -209,6 +213,8 @@ fn make_one<H: Host>(
 ) -> Result<(), Stop>
     requires { (earlier : List Spec) × IsSink earlier sink.now }
     ensures later { IsLater (H.now host.old) (H.now host.new) }
+    ensures lends { OnOk result (Lends 1 0 (H.now host.old) (H.now host.new)) }
+    ensures calm { OnOk result (IsCalm (H.now host.old) (H.now host.new)) }
     ensures lent { HasLent (length idle.old.items) 0 (H.now host.old) → HasLent (length idle.new.items) 0 (H.now host.new) }
     ensures cause { IfErr result (λ stop. IsCauseOf stop (H.now host.old) (H.now host.new)) }
     ensures made { OnOk result (AddsOne taped (record { 0 = index }) sink.now idle.old.items ends.old.items idle.new.items ends.new.items) }
@@ -235,6 +241,8 @@ fn make_from<H: Host>(
     requires sinks { (earlier : List Spec) × AreSinks earlier sinks.now }
     requires few { index + length sinks.now ≤ 16 }
     ensures later { IsLater (H.now host.old) (H.now host.new) }
+    ensures lends { OnOk result (Lends (length sinks.now) 0 (H.now host.old) (H.now host.new)) }
+    ensures calm { OnOk result (IsCalm (H.now host.old) (H.now host.new)) }
     ensures lent { HasLent (length idle.old.items) 0 (H.now host.old) → HasLent (length idle.new.items) 0 (H.now host.new) }
     ensures cause { IfErr result (λ stop. IsCauseOf stop (H.now host.old) (H.now host.new)) }
     ensures made { OnOk result (AddsAll taped index sinks.now idle.old.items ends.old.items idle.new.items ends.new.items) }
@@ -261,6 +269,8 @@ pub(crate) fn make_all<H: Host>(
     requires header { IsHeader header.now }
     requires none { (idle.old.items ≡ []) × (ends.old.items ≡ []) }
     ensures later { IsLater (H.now host.old) (H.now host.new) }
+    ensures lends { OnOk result (Lends (length header.now.sinks) 0 (H.now host.old) (H.now host.new)) }
+    ensures calm { OnOk result (IsCalm (H.now host.old) (H.now host.new)) }
     ensures lent { HasLent 0 0 (H.now host.old) → HasLent (length idle.new.items) 0 (H.now host.new) }
     ensures cause { IfErr result (λ stop. IsCauseOf stop (H.now host.old) (H.now host.new)) }
     ensures made { OnOk result (AreMade taped 0 header.now.sinks idle.new.items ends.new.items) }

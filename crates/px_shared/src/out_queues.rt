@@ -201,6 +201,14 @@ impl<O: Outlet + Drop> OutQueues<O> {
         }
     }
 
+    /// The number of clients whose own worker has to send what waits for them. Takes no memory.
+    pub(crate) fn worker_senders(&self) -> usize {
+        self.queues
+            .iter()
+            .filter(|queue| matches!(&queue.sender, Sender::Own(_)))
+            .count()
+    }
+
     /// Whether the client `conn` has a queue. Takes no memory.
     pub(crate) fn has(&self, conn: ConnId) -> bool {
         self.queues.iter().any(|queue| queue.conn == conn)

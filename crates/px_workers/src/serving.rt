@@ -1,7 +1,7 @@
 //! What a serving call has under way: its workers, from their start to their end.
 ghost use Rattle.std.specs.Prelude.{◌≡◌, ◌+◌, ◌≤◌, ◌<◌, ◌++◌, [], length, map, IfErr, OnOk};
 ghost use Rattle.std.specs.VecDeque.{deque_len, deque_capacity};
-ghost use Rattle.px_workers.specs.Hosted.{IsLater, IsCauseOf, IsOwn};
+ghost use Rattle.px_workers.specs.Hosted.{IsLater, IsCalm, IsCauseOf, IsOwn};
 ghost use Rattle.px_workers.specs.Accepting.{HasRoom, Starts, Takes};
 ghost use Rattle.px_workers.specs.Working.{start_of, mailboxes_of, tapes_in, lasting_of};
 
@@ -135,6 +135,7 @@ where
         requires room { HasRoom (record { parts = W.parts self.old.handle; clients = length self.old.clients.items; sinks = self.old.sinks; host = H.now host.old }) }
         ensures takes { Takes (record { parts = W.parts self.old.handle; clients = length self.old.clients.items; sinks = self.old.sinks; host = H.now host.old }) (record { parts = W.parts self.new.handle; clients = length self.new.clients.items; sinks = self.new.sinks; host = H.now host.new }) }
         ensures links { OnOk result (((H.now host.old).links < 65535) × ((H.now host.new).links ≡ (H.now host.old).links + 1)) }
+        ensures calm { OnOk result (IsCalm (H.now host.old) (H.now host.new)) }
         ensures cause { IfErr result (λ stop. IsCauseOf stop (H.now host.old) (H.now host.new)) }
     {
         self.reap();
@@ -165,6 +166,7 @@ where
         requires some { 0 < length idle.old.items }
         ensures starts { Starts (record { parts = W.parts self.old.handle; clients = self.old.clients; sinks = self.old.sinks.items; idle = idle.old.items; capacity = deque_capacity idle.old; host = H.now host.old }) (record { parts = W.parts self.new.handle; clients = self.new.clients; sinks = self.new.sinks.items; idle = idle.new.items; capacity = deque_capacity idle.new; host = H.now host.new }) }
         ensures fewer { OnOk result (length idle.new.items < length idle.old.items) }
+        ensures calm { OnOk result (IsCalm (H.now host.old) (H.now host.new)) }
         ensures cause { IfErr result (λ stop. IsCauseOf stop (H.now host.old) (H.now host.new)) }
     {
         ask(host)?;
@@ -182,6 +184,7 @@ where
     ) -> Result<(), Stop>
         requires { length idle.old.items < W.parts self.old.handle }
         ensures starts { Starts (record { parts = W.parts self.old.handle; clients = self.old.clients; sinks = self.old.sinks.items; idle = idle.old.items; capacity = deque_capacity idle.old; host = H.now host.old }) (record { parts = W.parts self.new.handle; clients = self.new.clients; sinks = self.new.sinks.items; idle = idle.new.items; capacity = deque_capacity idle.new; host = H.now host.new }) }
+        ensures calm { OnOk result (IsCalm (H.now host.old) (H.now host.new)) }
         ensures cause { IfErr result (λ stop. IsCauseOf stop (H.now host.old) (H.now host.new)) }
     {
         while !idle.is_empty() {

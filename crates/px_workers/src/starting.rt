@@ -111,7 +111,15 @@ where
 {
     let rt = worker.handle.rt();
     let alloc = worker.handle.alloc();
-    match start(&rt, alloc, LinkWork { worker, conn, link }) {
+    match start(
+        &rt,
+        alloc,
+        LinkWork {
+            worker,
+            conn,
+            link: Some(link),
+        },
+    ) {
         Ok(running) => Ok(Client { conn, running }),
         Err(job) => Err(job.into_handle()),
     }
