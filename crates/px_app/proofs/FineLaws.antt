@@ -109,6 +109,7 @@ reported_not_ok : (end : Ending) (answered : Status) (before after : Log) → Re
 reported_not_ok end answered before after (said, says, inl logged) ok = step says where
   done : said ≡ ending.Done
   done = done_is said (sym logged.answer ∙ ok)
+
   step : Says end said → end ≡ ending.Done
   step (inl same) = sym same ∙ done
   step (inr memory) = absurd (let e : ending.Memory ≡ ending.Done = sym memory.1 ∙ done in cc)
@@ -200,7 +201,6 @@ module _ {D R C : Type 0} (core_visible : C → Option (List CoreEntry)) (core_f
   serving_fine header taped before after out_before out_after answered s ok = by s.core refl s.core_back where
     ended_ok : s.ended ≡ status.Ok
     ended_ok = tape_ok header s.tape out_before out_after s.ended answered s.written ok
-
     d = s.served.ends.decided
 
     decides : Decides d.stop d.fault s.served.ends.works
