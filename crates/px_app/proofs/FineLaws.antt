@@ -22,7 +22,7 @@ use Rattle.px_workers.specs.declared.stop.Stop.TheVariants as stop
 use Rattle.px_workers.specs.declared.sink_state.SinkFault.{SinkFault}
 use Rattle.px_workers.specs.declared.sink_state.SinkFault.TheVariants as sink_fault
 use Rattle.px_workers.specs.Working.{IsFaultOf}
-use Rattle.px_workers.specs.Hosted.{IsCauseOf}
+use Rattle.px_workers.specs.Hosted.{IsLater, IsCauseOf}
 use Rattle.px_server.specs.declared.served.LanePart.{LanePart}
 use Rattle.px_server.specs.Causes.{status_of_record, status_of_fault, met_or_fine, recorded_or_met, recorded, decided}
 use Rattle.px_server.specs.Parts.{Worked, AreParts}
@@ -62,10 +62,10 @@ fault_none (sink_fault.Unrecorded why) e = absurd cc
 
 first_not_ok : (works : List Worked) → first_met works ≡ Some status.Ok → ⊥
 first_not_ok [] e = cc
-first_not_ok (work ∷ works) e = step (status_of_fault work.sink_fault) refl e where
-  step : (o : Option Status) → status_of_fault work.sink_fault ≡ o → option_or o (first_met works) ≡ Some status.Ok → ⊥
-  step None same is = first_not_ok works is
-  step (Some answered) same is = fault_not_ok work.sink_fault (same ∙ is)
+first_not_ok (work ∷ works) e = step (status_of_fault work.sink_fault) refl (first_not_ok works) e where
+  step : (o : Option Status) → status_of_fault work.sink_fault ≡ o → (first_met works ≡ Some status.Ok → ⊥) → option_or o (first_met works) ≡ Some status.Ok → ⊥
+  step None same rest is = rest is
+  step (Some answered) same rest is = fault_not_ok work.sink_fault (same ∙ is)
 
 met_ok : (works : List Worked) → met_or_fine (first_met works) ≡ status.Ok → first_met works ≡ None
 met_ok works e = step (first_met works) refl e where
@@ -121,6 +121,12 @@ usage_not_ok answered before after r ok = (let e = reported_not_ok ending.Usage 
 refused_not_ok : (refusal : Refusal) (answered : Status) (before after : Log) → Reported (ending.Refused refusal) answered before after → answered ≡ status.Ok → ⊥
 refused_not_ok refusal answered before after r ok = (let e = reported_not_ok (ending.Refused refusal) answered before after r ok in cc)
 
+nothing_first : (work : Worked) (works : List Worked) → first_met (work ∷ works) ≡ None → (work.sink_fault ≡ sink_fault.Nothing) × (first_met works ≡ None)
+nothing_first work works e = step (status_of_fault work.sink_fault) refl e where
+  step : (o : Option Status) → status_of_fault work.sink_fault ≡ o → option_or o (first_met works) ≡ None → (work.sink_fault ≡ sink_fault.Nothing) × (first_met works ≡ None)
+  step None same is = (fault_none work.sink_fault same, is)
+  step (Some answered) same is = absurd cc
+
 -- ---- the parts
 
 module _ {D R C : Type 0} where
@@ -172,12 +178,6 @@ module _ {D R C : Type 0} where
   }
 
   module _ (began : State PlainStream) (core : Option (List CoreEntry)) (now : D → DeviceState) (visible : R → Option (List LaneEntry)) (faults fulls : R → ℕ) where
-    nothing_first : (work : Worked) (works : List Worked) → first_met (work ∷ works) ≡ None → (work.sink_fault ≡ sink_fault.Nothing) × (first_met works ≡ None)
-    nothing_first work works e = step (status_of_fault work.sink_fault) refl e where
-      step : (o : Option Status) → status_of_fault work.sink_fault ≡ o → option_or o (first_met works) ≡ None → (work.sink_fault ≡ sink_fault.Nothing) × (first_met works ≡ None)
-      step None same is = (fault_none work.sink_fault same, is)
-      step (Some answered) same is = absurd cc
-
     -- where no worker came upon anything, what is taken back leaves the counts
     pub parts_same : (works : List Worked) (parts : List (LanePart D R)) (before after : HostState D R C) → first_met works ≡ None
         → AreParts began core now visible faults fulls works parts → TakesParts now faults fulls parts before after → AreSame before after
@@ -195,40 +195,33 @@ module _ {D R C : Type 0} where
 -- ---- the call
 
 module _ {D R C : Type 0} (core_visible : C → Option (List CoreEntry)) (core_faults core_fulls : C → ℕ) (now : D → DeviceState) (visible : R → Option (List LaneEntry)) (faults fulls : R → ℕ) where
+  cores_same : (fault : Option RecordFault) (core : Option C) (before after : HostState D R C) → fault ≡ None → MatchOption core (fault ≡ None) (λ r. IsCaused fault (core_faults r) (core_fulls r))
+      → TakesCores core_faults core_fulls core before after → AreSame before after
+  cores_same fault None before after none back takes = same_refl before after takes
+  cores_same fault (Some recorder) before after none caused takes = core_same core_faults core_fulls recorder before after (caused.none none).0 (caused.none none).1 takes
+
+  -- what failed where the counts are what they were once all was taken back
+  fine_by : (before mid after : HostState D R C) → IsLater before mid → IsCauseOf stop.Over before mid → AreSame mid after → IsFine before after
+  fine_by before mid after later cause same = record {
+    over = subst (λ (n : ℕ). Rose before.overs n) (sym same.overs) cause.0;
+    faults = same.faults ∙ cause.1;
+    device_faults = same.device_faults ∙ later.device_faults;
+    recorder_faults = same.recorder_faults ∙ later.recorder_faults;
+    fulls = same.fulls ∙ later.fulls;
+  }
+
   -- a serving call that ended with Ok, after which all was taken back
   serving_fine : (header : Header) (taped : Bool) (before after : HostState D R C) (out_before out_after : Output) (answered : Status)
       → IsServing core_visible core_faults core_fulls now visible faults fulls header taped before after out_before out_after answered → answered ≡ status.Ok → IsFine before after
-  serving_fine header taped before after out_before out_after answered s ok = by s.core refl s.core_back where
-    ended_ok : s.ended ≡ status.Ok
-    ended_ok = tape_ok header s.tape out_before out_after s.ended answered s.written ok
-    d = s.served.ends.decided
-
-    decides : Decides d.stop d.fault s.served.ends.works
-    decides = decided_ok d.stop d.fault s.served.ends.works (sym d.status ∙ ended_ok)
-
-    cause : IsCauseOf stop.Over before s.served_state
-    cause = subst (λ (why : Stop). IsCauseOf why before s.served_state) decides.over d.cause
-
-    fine : AreSame s.served_state after → IsFine before after
-    fine same = record {
-      over = subst (λ (n : ℕ). Rose before.overs n) (sym same.overs) cause.0;
-      faults = same.faults ∙ cause.1;
-      device_faults = same.device_faults ∙ s.served.later.device_faults;
-      recorder_faults = same.recorder_faults ∙ s.served.later.recorder_faults;
-      fulls = same.fulls ∙ s.served.later.fulls;
-    }
-
-    parts : AreSame s.served_state s.parts_state
-    parts = parts_same _ _ now visible faults fulls s.served.ends.works s.parts s.served_state s.parts_state decides.nothing s.served.ends.lanes s.parts_back
-
-    by : (core : Option C) → s.core ≡ core → TakesCores core_faults core_fulls s.core s.parts_state after → IsFine before after
-    by None same takes = fine (same_then s.served_state s.parts_state after parts (same_refl s.parts_state after (subst (λ (o : Option C). TakesCores core_faults core_fulls o s.parts_state after) same takes)))
-    by (Some recorder) same takes =
-        let caused : IsCaused d.fault (core_faults recorder) (core_fulls recorder) =
-        subst (λ (o : Option C). MatchOption o (d.fault ≡ None) (λ r. IsCaused d.fault (core_faults r) (core_fulls r))) same d.recorder_back in
-        let counts = caused.none decides.none in
-        fine (same_then s.served_state s.parts_state after parts
-        (core_same core_faults core_fulls recorder s.parts_state after counts.0 counts.1 (subst (λ (o : Option C). TakesCores core_faults core_fulls o s.parts_state after) same takes)))
+  serving_fine header taped before after out_before out_after answered s ok =
+      let d = s.served.ends.decided in
+      let ended_ok : s.ended ≡ status.Ok = tape_ok header s.tape out_before out_after s.ended answered s.written ok in
+      let decides : Decides d.stop d.fault s.served.ends.works = decided_ok d.stop d.fault s.served.ends.works (sym d.status ∙ ended_ok) in
+      let cause : IsCauseOf stop.Over before s.served_state = subst (λ (why : Stop). IsCauseOf why before s.served_state) decides.over d.cause in
+      let parts : AreSame s.served_state s.parts_state =
+      parts_same _ _ now visible faults fulls s.served.ends.works s.parts s.served_state s.parts_state decides.nothing s.served.ends.lanes s.parts_back in
+      let cores : AreSame s.parts_state after = cores_same d.fault s.core s.parts_state after decides.none d.recorder_back s.core_back in
+      fine_by before s.served_state after s.served.later cause (same_then s.served_state s.parts_state after parts cores)
 
   early_not_ok : (options : ServeOptions) (before after : HostState D R C) → IsEarly core_visible core_faults core_fulls now visible faults fulls options status.Ok before after → ⊥
   early_not_ok options before after (inl memory) = (let e = memory.0 in cc)
