@@ -14,7 +14,7 @@ use px_session::{Reader, Step};
 use px_types::{ConnId, Mem, NoMemory, SinkId, Text};
 use std::alloc::Global;
 
-// The sinks of the core, and the inputs on each at most.
+// The sinks of the core, and the most inputs on each.
 const SINKS: u8 = 4;
 
 const ON_SINK: u32 = 250;
@@ -22,7 +22,7 @@ const ON_SINK: u32 = 250;
 /// The client with the streams.
 pub(crate) const CLIENT: ConnId = ConnId(1);
 
-// And the connections of those that only listen, which are up to 63.
+// The first connection of the listeners, of which there are up to 63.
 const FIRST_LISTENER: u32 = 2;
 
 const LISTENERS: u32 = 63;
@@ -33,7 +33,7 @@ const AUTH: &[u8] = b"L\x00\x00\x00\x08L\x00\x00\x00\x01L\x00\x00\x00\x0Dx\x00\x
 // SUBSCRIBE to all facilities.
 const SUBSCRIBE: &[u8] = b"L\x00\x00\x00\x23L\x00\x00\x00\x03L\x00\x00\x02\xFF";
 
-// CREATE_PLAYBACK_STREAM of S16LE, mono, up to the index of its sink, and what stands behind that.
+// CREATE_PLAYBACK_STREAM of S16LE, mono, up to the index of its sink, and the fields after that.
 const CREATE: &[u8] =
     b"L\x00\x00\x00\x03L\x00\x00\x00\x02a\x03\x01\x00\x00\xBB\x80m\x01\x00L\x00\x00\x00";
 
@@ -67,7 +67,7 @@ fn header_bytes(alloc: Global) -> Mem<Text> {
     Ok(Text::from_vec(bytes))
 }
 
-// It, read.
+// That header, read.
 fn header(alloc: Global, reader: &mut Reader) -> Mem<Header>
     ensures { IfOk result IsHeader }
 {
@@ -85,7 +85,7 @@ pub(crate) fn new_core(alloc: Global) -> Mem<Core<Stub>> {
     Core::new(alloc, &header)
 }
 
-/// A client asks by a control packet.
+/// A client sends a control packet.
 pub(crate) fn ask(core: &mut Core<Stub>, conn: ConnId, packet: Vec<u8>) -> Mem<()> {
     if packet.is_empty() || packet.len() > 400 {
         return Err(NoMemory);
@@ -97,7 +97,7 @@ pub(crate) fn ask(core: &mut Core<Stub>, conn: ConnId, packet: Vec<u8>) -> Mem<(
     }
 }
 
-// A client is let in.
+// A client authenticates.
 fn enter(alloc: Global, core: &mut Core<Stub>, conn: ConnId) -> Mem<()> {
     core.admit(conn)?;
     let mut packet = Vec::from_slice(alloc, AUTH)?;
@@ -105,14 +105,14 @@ fn enter(alloc: Global, core: &mut Core<Stub>, conn: ConnId) -> Mem<()> {
     ask(core, conn, packet)
 }
 
-// One that listens comes, and hears of everything.
+// A listener connects, and subscribes to all events.
 fn listen(alloc: Global, core: &mut Core<Stub>, conn: ConnId) -> Mem<()> {
     enter(alloc, core, conn)?;
     let packet = Vec::from_slice(alloc, SUBSCRIBE)?;
     ask(core, conn, packet)
 }
 
-// A stream on a sink.
+// Creates a stream on a sink.
 fn create(alloc: Global, core: &mut Core<Stub>, sink: u8) -> Mem<()> {
     let mut packet = Vec::from_slice(alloc, CREATE)?;
     packet.push(sink)?;
@@ -120,7 +120,7 @@ fn create(alloc: Global, core: &mut Core<Stub>, sink: u8) -> Mem<()> {
     ask(core, CLIENT, packet)
 }
 
-/// The client comes to a core and makes its streams, and so many come that listen, up to 63.
+/// Fills a core: its client creates `streams` streams, and `listeners` listeners connect, up to 63.
 pub(crate) fn fill(alloc: Global, core: &mut Core<Stub>, streams: u32, listeners: u32) -> Mem<()> {
     enter(alloc, core, CLIENT)?;
     for stream in 0..streams {
@@ -133,7 +133,7 @@ pub(crate) fn fill(alloc: Global, core: &mut Core<Stub>, streams: u32, listeners
     Ok(())
 }
 
-// Four bytes.
+// Four bytes, in a block.
 fn blocks(alloc: Global) -> Mem<Blocks>
     ensures some { IfOk result (λ made. 0 < length made) }
     ensures few { IfOk result (λ made. length made ≤ 65536) }
@@ -162,7 +162,7 @@ fn write(alloc: Global, core: &mut Core<Stub>, stream: u32) -> Mem<()> {
     }
 }
 
-// The sink takes all messages that wait for it: how many.
+// The sink takes all messages that wait for it; returns their number.
 fn take_all(core: &mut Core<Stub>, sink: SinkId) -> u64 {
     let waiting = core.outgoing(sink);
     let mut taken = 0_u64;
@@ -174,7 +174,7 @@ fn take_all(core: &mut Core<Stub>, sink: SinkId) -> u64 {
     taken
 }
 
-/// All sinks take their messages: how many.
+/// All sinks take their messages; returns the number of these.
 pub(crate) fn deliver(core: &mut Core<Stub>) -> u64 {
     let mut taken = 0_u64;
     for sink in 0..SINKS {
@@ -183,7 +183,7 @@ pub(crate) fn deliver(core: &mut Core<Stub>) -> u64 {
     taken
 }
 
-// The messages of so many streams and listeners, and of so many data frames, each to the next stream.
+// Fills a core, and sends `frames` data frames, each to the next stream; returns the number of messages to the sinks.
 fn send(
     alloc: Global,
     core: &mut Core<Stub>,
@@ -208,8 +208,8 @@ fn sent(alloc: Global, streams: u32, listeners: u32, frames: u32) -> Mem<u64> {
     messages
 }
 
-/// Sends so many data frames through a core that has so many inputs, each frame to the next stream, while so many clients listen to
-/// all that is told, and says how many messages waited for the sinks. Takes memory.
+/// Sends `frames` data frames through a core with `inputs` inputs, each frame to the next stream, while `listeners` clients are subscribed to all
+/// events; the line has the number of messages to the sinks. Takes memory.
 pub fn core_line(alloc: Global, inputs: u32, frames: u32, listeners: u32) -> Mem<String> {
     let messages = sent(alloc, inputs, listeners, frames)?;
     Ok(format!(in alloc;

@@ -23,7 +23,7 @@ fn stream(alloc: Global) -> Mem<Vec<u8>> {
     Ok(bytes)
 }
 
-// How many frames there are, and how many bytes they have.
+// A number of frames, and of their bytes.
 #[derive(Clone, Copy)]
 struct Count {
     frames: u64,
@@ -48,7 +48,7 @@ fn counted(before: Count, frames: &Frames) -> Count {
     count
 }
 
-// So many rounds through one decoder.
+// Decodes `rounds` rounds with one decoder.
 fn decoded(alloc: Global, rounds: u32, piece: usize, stream: &[u8]) -> Mem<Count> {
     let mut source = Fresh::new(alloc);
     let mut decoder = Decoder::new(alloc);
@@ -67,7 +67,7 @@ fn decoded(alloc: Global, rounds: u32, piece: usize, stream: &[u8]) -> Mem<Count
     Ok(all)
 }
 
-/// Decodes frames of 64 KiB, 16 a round, in pieces of so many bytes, and says how many frames and bytes there were. Takes memory.
+/// Decodes frames of 64 KiB, 16 a round, in pieces of `piece` bytes; the line has the numbers of frames and bytes. Takes memory.
 pub fn frame_line(alloc: Global, rounds: u32, piece: u32) -> Mem<String> {
     let bytes = stream(alloc)?;
     let all = decoded(alloc, rounds, piece as usize, &bytes)?;

@@ -1,8 +1,7 @@
-//! What the scripts of bench/ time. Words: what to do (`sound`, `mix`, `frame`, `wire`, `session`, `core`, `volumes` or `queue`), how often,
-//! and for `frame` the bytes of a piece, for `sound` and `mix` the code of a format; for `core` and `volumes` how many inputs there are, then
-//! how often, and how many clients listen to all that is told; for `queue` how many turns, the frames of a write, and how many wait. `wire`
-//! reads a packet from standard input. It prints a line on what it did, so that no work is left out and a plain program can be compared.
-//! Without words each is done once.
+//! What the scripts of bench/ time. Words: the work (`sound`, `mix`, `frame`, `wire`, `session`, `core`, `volumes` or `queue`), the number of rounds,
+//! and for `frame` the bytes of a piece, for `sound` and `mix` the code of a format; for `core` and `volumes` the number of inputs, then of rounds,
+//! and of subscribed clients; for `queue` the number of turns, the frames of a write, and of those that wait. `wire` reads a packet from standard
+//! input. It prints a line on what it did, so that no work is left out and a plain program can be compared. Without words each is done once.
 #![tactic(auto)]
 
 mod data;
@@ -27,7 +26,7 @@ use std::{env, io};
 use volumes::volumes_line;
 use wire::wire_line;
 
-// What is to be done.
+// The work to be done.
 #[derive(Clone, Copy)]
 enum Work {
     Sound,
@@ -65,7 +64,7 @@ fn work_of(word: &str) -> Option<Work> {
     }
 }
 
-// The line of a work that is done so often.
+// The line of a work that is done with these counts.
 fn line(alloc: Global, work: Work, counts: [Option<u32>; 3], packet: &[u8]) -> Mem<String> {
     let [first, second, third] = counts;
     let first = first.unwrap_or(1);
@@ -88,7 +87,7 @@ fn print(rt: &HostRuntime, line: Mem<String>) -> io::Result<()> {
     }
 }
 
-// The lines of all works, each done once or as often as the counts say.
+// Prints the lines of all works, each done once or by the counts given.
 fn print_all(rt: &HostRuntime, counts: [Option<u32>; 3], packet: &[u8]) -> io::Result<()> {
     for work in ALL {
         print(rt, line(rt.alloc(), work, counts, packet))?;

@@ -15,7 +15,7 @@ use std::sync::ledger::{Blank, Ledger};
 
 const SAMPLES: usize = 4096;
 
-// Adds what the values give to sums of nothing, clips the sums, and takes it away again.
+// Adds the terms of `values` to zero sums, clips the sums, and subtracts the terms again.
 fn round<T: Ledger>(
     width: Width,
     factor: u32,
@@ -37,7 +37,7 @@ fn round<T: Ledger>(
     sub_scaled(sums, values, factor, steps);
 }
 
-// So many rounds with the values of these samples, each with another factor.
+// Runs `rounds` rounds with the values of these samples, each with another factor.
 fn mix<T: Ledger>(
     blank: Blank,
     format: Format,
@@ -74,8 +74,8 @@ fn sum(values: &[i32]) -> u32 {
     sum
 }
 
-/// Adds 4,096 values to sums, clips these and takes the values away again, so many times, and says a sum over what was clipped last. The values
-/// and the width are those of the format with a code, S16LE where that has no whole numbers. Takes memory.
+/// Adds 4,096 values to sums, clips these and subtracts the values again, `rounds` times; the line has a sum over what was clipped last. The values
+/// and the width are those of the format with code `code`, S16LE where that has no whole numbers. Takes memory.
 pub fn mix_line(alloc: Global, rounds: u32, code: u32) -> Mem<String> {
     let format = whole_format(code);
     let mut bytes = vec![in alloc; 0u8; format.size() * SAMPLES]?;

@@ -30,7 +30,7 @@ fn fitted(alloc: Global, source: &mut Fresh, bytes: &[u8]) -> px_block::Mem<Bloc
     Ok(blocks)
 }
 
-// One write more.
+// Pushes one more write.
 fn push(
     alloc: Global,
     queue: &mut FrameQueue,
@@ -52,7 +52,7 @@ fn push(
     Ok(())
 }
 
-// The sum of a turn's bytes, which are read and go.
+// Reads and drops a turn's bytes, and returns their sum.
 fn turn(queue: &mut FrameQueue, source: &mut Fresh, out: &mut [u8]) -> u64
     requires frame { queue.old.frame ≡ 4 }
     requires size { length out.old ≡ 1_920 }
@@ -68,7 +68,7 @@ fn turn(queue: &mut FrameQueue, source: &mut Fresh, out: &mut [u8]) -> u64
     sum
 }
 
-// Writes until so many frames wait, and answers how many writes there were by then.
+// Pushes writes until `waiting` frames wait, and returns the number of writes so far.
 fn fill(
     alloc: Global,
     queue: &mut FrameQueue,
@@ -101,8 +101,8 @@ fn fill(
     Ok(writes)
 }
 
-/// So many turns of 480 frames, each behind writes of so many frames until so many wait, and says how many writes there were and the sum
-/// of all bytes that were read. Takes memory.
+/// Reads `turns` turns of 480 frames, each after writes of `frames` frames until `waiting` wait; the line has the number of writes and the sum of all
+/// bytes that were read. Takes memory.
 pub fn queue_line(alloc: Global, turns: u32, frames: u32, waiting: u32) -> Mem<String> {
     let mut bytes = vec![in alloc; 0u8; 66_048]?;
     sound(bytes.as_mut_slice());

@@ -7,7 +7,7 @@ use std::alloc::Global;
 // The bytes of an event.
 const PAYLOAD: usize = 65_536;
 
-// A header, a connection that sends so many events, and the end byte.
+// A header, a connection that sends `events` events, and the end byte.
 fn session(alloc: Global, events: u32) -> Mem<Vec<u8>> {
     let payload = vec![in alloc; 7u8; PAYLOAD]?;
     let mut bytes = Vec::new(alloc);
@@ -25,14 +25,14 @@ fn session(alloc: Global, events: u32) -> Mem<Vec<u8>> {
     Ok(bytes)
 }
 
-// How many events there are, and how many bytes they have.
+// A number of events, and of their bytes.
 #[derive(Clone, Copy)]
 struct Count {
     events: u64,
     bytes: u64,
 }
 
-// The count with an event.
+// The count with one more event.
 fn counted(before: Count, event: &Event) -> Count {
     let mut count = before;
     count.events = count.events.wrapping_add(1);
@@ -42,7 +42,7 @@ fn counted(before: Count, event: &Event) -> Count {
     count
 }
 
-// What is read of the session, up to its end.
+// Reads the session to its end, and counts.
 fn read<S: Source>(alloc: Global, source: &mut S) -> Result<Count, ReadError> {
     let mut reader = Reader::new(alloc)?;
     let mut count = Count {
@@ -59,7 +59,7 @@ fn read<S: Source>(alloc: Global, source: &mut S) -> Result<Count, ReadError> {
     Ok(count)
 }
 
-// What is read of a session of so many events.
+// The counts of a session of `events` events.
 fn counts(alloc: Global, events: u32) -> Mem<Count> {
     let session = session(alloc, events)?;
     let mut source = MemSource::new(Text::from_vec(session), Calls::none(alloc));
@@ -69,7 +69,7 @@ fn counts(alloc: Global, events: u32) -> Mem<Count> {
     }
 }
 
-/// Reads a session of so many Bytes events of 64 KiB, made in memory, and says how many events and bytes there were. Takes memory.
+/// Reads a session of `events` Bytes events of 64 KiB, made in memory; the line has the numbers of events and bytes. Takes memory.
 pub fn session_line(alloc: Global, events: u32) -> Mem<String> {
     let count = counts(alloc, events)?;
     Ok(format!(in alloc; "{} events, {} bytes", count.events, count.bytes)?)

@@ -17,7 +17,7 @@ pub fn fill(bytes: &mut [u8], seed: u32) {
     }
 }
 
-// So many times there, and back where the format is written.
+// Converts the bytes to work values `rounds` times, and back where the format is written.
 fn carry(format: Format, rounds: u32, bytes: &mut [u8], values: &mut [i32])
     requires whole { IsWhole format }
     requires size { length bytes.old ≡ size_of format * length values.old }
@@ -55,8 +55,8 @@ pub fn whole_format(code: u32) -> Format
     }
 }
 
-/// Carries samples of the format with a code, S16LE where that has no whole numbers, to 32-bit work values, and back where the
-/// format is written, so many times 4,096 of them, and says a sum over them. Takes memory.
+/// Converts 4,096 samples of the format with code `code`, S16LE where that has no whole numbers, to 32-bit work values, and back where the format is
+/// written, `rounds` times; the line has a sum over them. Takes memory.
 pub fn sound_line(alloc: Global, rounds: u32, code: u32) -> Mem<String> {
     let format = whole_format(code);
     let mut bytes = vec![in alloc; 0u8; format.size() * SAMPLES]?;

@@ -8,7 +8,7 @@ use std::alloc::Global;
 // SET_SINK_INPUT_VOLUME, up to the index of its input.
 const SET: &[u8] = b"L\x00\x00\x00\x25L\x00\x00\x00\x03L";
 
-// An input of a mono stream has a volume, in 256ths of the one that leaves its sound as it is.
+// Sets the volume of a mono stream's input, in 256ths of the norm volume.
 fn set_volume(alloc: Global, core: &mut Core<Stub>, input: u32, volume: u8) -> Mem<()> {
     let mut packet = Vec::from_slice(alloc, SET)?;
     packet.extend_from_slice(&[0, 0, (input / 256 % 256) as u8, (input % 256) as u8])?;
@@ -17,7 +17,7 @@ fn set_volume(alloc: Global, core: &mut Core<Stub>, input: u32, volume: u8) -> M
     ask(core, CLIENT, packet)
 }
 
-// The messages of so many inputs and listeners, and of so many volumes, each of the next input.
+// Fills a core with inputs and listeners, and sets `commands` volumes, each of the next input; returns the number of messages to the sinks.
 fn set_volumes(
     alloc: Global,
     core: &mut Core<Stub>,
@@ -35,7 +35,7 @@ fn set_volumes(
     Ok(messages)
 }
 
-// The same, of a new core.
+// The same, on a new core.
 fn notified(alloc: Global, inputs: u32, listeners: u32, commands: u32) -> Mem<u64> {
     let mut core = new_core(alloc)?;
     let messages = set_volumes(alloc, &mut core, inputs, listeners, commands);
@@ -43,8 +43,8 @@ fn notified(alloc: Global, inputs: u32, listeners: u32, commands: u32) -> Mem<u6
     messages
 }
 
-/// Sets a volume of a core's inputs so often, each time of the next input, while so many clients listen to all that is told, and says
-/// how many messages waited for the sinks. Takes memory.
+/// Sets the volume of a core's inputs `commands` times, each time of the next input, while `listeners` clients are subscribed to all events; the line
+/// has the number of messages to the sinks. Takes memory.
 pub fn volumes_line(alloc: Global, inputs: u32, commands: u32, listeners: u32) -> Mem<String> {
     let messages = notified(alloc, inputs, listeners, commands)?;
     Ok(format!(in alloc;

@@ -6,7 +6,7 @@ use px_types::limits::PROTOCOL_VERSION;
 use px_types::{Mem, Text};
 use std::alloc::Global;
 
-// Whether the packet is the command that is wanted.
+// Whether the packet is a CREATE_PLAYBACK_STREAM.
 fn is_create(alloc: Global, packet: &[u8]) -> bool {
     let read = read_command(alloc, packet, PROTOCOL_VERSION);
     let is_create = matches!(&read, Ok(Command::Create(_)));
@@ -14,7 +14,7 @@ fn is_create(alloc: Global, packet: &[u8]) -> bool {
     is_create
 }
 
-// How often it is, of so many times that it is read.
+// Reads the packet `rounds` times, and counts how often it is that command.
 fn commands(alloc: Global, rounds: u32, packet: &[u8]) -> u64 {
     let mut found = 0u64;
     for _ in 0..rounds {
@@ -25,7 +25,7 @@ fn commands(alloc: Global, rounds: u32, packet: &[u8]) -> u64 {
     found
 }
 
-// How many bytes the replies have.
+// Writes `rounds` replies, and counts their bytes.
 fn replies(alloc: Global, rounds: u32) -> Mem<u64> {
     let name = Text::copied(alloc, b"out")?;
     let fields = Created {
@@ -51,8 +51,8 @@ fn replies(alloc: Global, rounds: u32) -> Mem<u64> {
     Ok(bytes)
 }
 
-/// Reads a packet as a command and writes the reply to a CREATE_PLAYBACK_STREAM, so many times, and says how often the packet was
-/// one and how many bytes the replies had. Takes memory.
+/// Reads a packet as a command and writes the reply to a CREATE_PLAYBACK_STREAM, `rounds` times; the line has how often the packet was one and how
+/// many bytes the replies had. Takes memory.
 pub fn wire_line(alloc: Global, rounds: u32, packet: &[u8]) -> Mem<String> {
     let found = commands(alloc, rounds, packet);
     let bytes = replies(alloc, rounds)?;

@@ -61,7 +61,7 @@ bytes_of_step (steps.Out sink count) = 0
 
 -- ---- entries
 
--- a number of bytes, or the last number of 64 bits where they are more
+-- a number of bytes, at most 2 ^ 64 - 1
 abbrev pub at_most : ℕ → ℕ
 at_most bytes = min bytes (2 ^ 64 - 1)
 

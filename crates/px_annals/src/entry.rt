@@ -11,8 +11,7 @@ use crate::recorder::Entry;
 use crate::step::{PlainBody, PlainStep};
 use crate::stream::{PlainFrame, PlainStream};
 
-/// A turn of a sink's mixer: how many frames its device had consumed meanwhile, `None` where the device is stopped, and the messages that it
-/// took.
+/// A turn of a sink's mixer: how many frames its sync consumed, `None` where the device is stopped, and the messages that it took.
 #[derive(Debug, Drop)]
 pub struct LaneEntry {
     pub consumed: Option<u32>,
@@ -25,7 +24,7 @@ pub struct CoreEntry {
     pub step: PlainStep,
 }
 
-// The bytes of one frame more.
+// Adds the bytes of one frame to `bytes`.
 #[tactic(auto, using(crate::proofs::Size::more_frames))]
 fn with_frame(bytes: usize, frame: &PlainFrame) -> usize
     ensures { (more : List PlainFrame) → at_most (result + bytes_of_frames more) ≡ at_most (bytes + bytes_of_frames (frame.now ∷ more)) }
@@ -71,7 +70,7 @@ fn bytes_of_message(message: &PlainMsg) -> usize
     }
 }
 
-// What one message more counts.
+// Adds the size of one message to `bytes`.
 #[tactic(auto, using(crate::proofs::Size::more_messages))]
 fn with_message(bytes: usize, message: &PlainMsg) -> usize
     ensures { (more : List PlainMsg) → at_most (result + size_of_messages more) ≡ at_most (bytes + size_of_messages (message.now ∷ more)) }
@@ -81,7 +80,7 @@ fn with_message(bytes: usize, message: &PlainMsg) -> usize
         .saturating_add(bytes_of_message(message))
 }
 
-// What messages count.
+// The size of all messages.
 fn size_of_messages(messages: &[PlainMsg]) -> usize
     ensures { result ≡ at_most (size_of_messages messages.now) }
 {

@@ -1,6 +1,6 @@
-//! Histories of the server's threads: what a recorder keeps of each turn and each step, as plain numbers and bytes. `recorder` says what
-//! a recorder is, `memory` has the one that keeps its entries in memory and the one that keeps none; `stream`, `message`, `notice` and
-//! `step` have the plain forms of what the threads work on, and `entry` the entries made of them.
+//! Histories of the server's threads: what a recorder holds of each turn and each step, as plain numbers and bytes. `recorder` defines
+//! recorders, `memory` has the one that holds its entries in memory and the one that holds none; `stream`, `message`, `notice` and `step`
+//! have the plain forms of what the threads work on, and `entry` the entries made of them.
 #![tactic(auto)]
 
 mod entry;

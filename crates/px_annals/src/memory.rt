@@ -1,4 +1,4 @@
-//! The recorder in memory, and the one that keeps nothing.
+//! The recorder in memory, and the one that holds nothing.
 
 ghost use Rattle.std.specs.Prelude.{◌≡◌, [], length, slice_get, IfOk, IsOk};
 ghost use Rattle.std.specs.Option.{option_map};
@@ -9,7 +9,7 @@ use px_types::{Mem, NoMemory};
 use std::alloc::Global;
 use std::marker::Model;
 
-/// A recorder that keeps its entries in memory, up to two limits, and tells them.
+/// A recorder that holds its entries in memory, up to two limits; its entries are visible.
 #[derive(Debug, Drop)]
 pub struct MemRecorder<E: Entry> {
     entries: Vec<E>,
@@ -37,8 +37,8 @@ impl<E: Entry> Model for MemRecorder<E> {
 }
 
 impl<E: Entry + Drop> MemRecorder<E> {
-    /// A recorder that holds nothing, and may hold so many entries, or so many bytes in all: its last entry may pass the second limit. It has
-    /// room for a first entry.
+    /// An empty recorder that may hold `entries` entries, and `bytes` bytes in all: its last entry may pass the second limit. It has room
+    /// for a first entry.
     pub fn new(alloc: Global, entries: usize, bytes: usize) -> Mem<MemRecorder<E>>
         ensures held { IfOk result (λ r. r.held ≡ []) }
         ensures limit { IfOk result (λ r. r.limit ≡ record { entries = entries; bytes = bytes }) }
@@ -67,7 +67,7 @@ impl<E: Entry + Drop> MemRecorder<E> {
         self.fulls
     }
 
-    /// The entry at a place, from 0; `None` exactly where there are no more than that.
+    /// The entry at place `at`, from 0; `None` exactly where there are no more than that.
     pub fn entry(&self, at: usize) -> Option<&E>
         ensures { option_map (λ entry. entry.now) result ≡ slice_get self.now.held at }
     {
@@ -110,7 +110,7 @@ impl<E: Entry + Drop> Recorder<E> for MemRecorder<E> {
     ghost takes_less = { λ r more less below can. can };
 }
 
-/// A recorder of either kind of entry that keeps nothing, tells nothing and never fails.
+/// A recorder of either kind of entry that holds nothing, shows nothing and never fails.
 #[derive(Clone, Copy, Debug)]
 pub struct NoRecorder;
 

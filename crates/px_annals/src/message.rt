@@ -14,8 +14,8 @@ pub struct PlainFactors {
 /// The factors of several inputs.
 pub type PlainFactorList = Items<PlainFactors>;
 
-/// A message to a sink, about the input of an index. `attr` is maxlength, tlength, prebuf and minreq, in frames; `seek` and `offset` say
-/// where frames are written, in frames.
+/// A message to a sink about the input with an index. `attr` is maxlength, tlength, prebuf and minreq, in frames; `seek` and `offset` give
+/// the place where frames are written, in frames.
 #[derive(Debug, Drop)]
 pub enum PlainMsg {
     New {

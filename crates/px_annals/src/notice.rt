@@ -2,7 +2,7 @@
 
 use crate::stream::{PlainRun, PlainStream};
 
-/// What a sink tells of the input of an index. `write` and `read` are indices, in frames, and `buffered` is frames.
+/// A notice from a sink about the input with an index. `write` and `read` are indices, in frames, and `buffered` is frames.
 #[derive(Debug, Drop)]
 pub enum PlainNotice {
     Request {

@@ -17,8 +17,8 @@ pub enum PlainBody {
     },
 }
 
-/// A step of the core. `at` is an offset in a connection's bytes; `Broken` has the number of the rule that they break; `Out` hands so many
-/// messages out to a sink.
+/// A step of the core. `at` is an offset in a connection's bytes; `Broken` has the number of the rule that they break; `Out` hands a number
+/// of messages out to a sink.
 #[derive(Debug, Drop)]
 pub enum PlainStep {
     Connect { conn: u32 },

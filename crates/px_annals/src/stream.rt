@@ -15,8 +15,8 @@ pub struct PlainFrame {
 /// Frames of a queue, in rising index.
 pub type PlainFrames = Items<PlainFrame>;
 
-/// The frames of a stream that wait to be played (`pa_memblockq`): those that are held, the read and write index, whether it waits for
-/// prebuf frames, and how many these are.
+/// A stream's queue of frames to be played (`pa_memblockq`): the frames held, the read and write index, whether it waits for prebuf, and
+/// prebuf in frames.
 #[derive(Debug, Drop)]
 pub struct PlainQueue {
     pub frames: PlainFrames,
@@ -26,7 +26,7 @@ pub struct PlainQueue {
     pub prebuf: u32,
 }
 
-/// For how many frames a stream has played or been silent (`playing_for` and `underrun_for` of `pa_sink_input`).
+/// How many frames a stream has played or been silent (`playing_for` and `underrun_for` of `pa_sink_input`).
 #[derive(Clone, Copy, Debug, PartialEq, Eq)]
 pub enum PlainRun {
     /// It has been silent.
@@ -35,8 +35,8 @@ pub enum PlainRun {
     Playing(u64),
 }
 
-/// A stream: its queue, whether it is corked, its attributes in frames, how many frames its client was asked for, the tags of drains that
-/// wait, its run, its sample spec, and the stream channel that feeds each channel of its sink with that channel's factor in 16.16.
+/// A stream: its queue, whether it is corked, its attributes in frames, how many frames were requested of its client, the tags of pending
+/// drains, its run, its sample spec, and the stream channel that feeds each channel of its sink with that channel's factor in 16.16.
 #[derive(Debug, Drop)]
 pub struct PlainStream {
     pub queue: PlainQueue,

@@ -27,3 +27,4 @@ pub mod Plainly
 pub mod Required
 pub mod Texts
 pub mod ServeReading
+pub mod FineLaws

@@ -1,11 +1,11 @@
--- What was made for a serving call goes back to its host.
+-- What was made for a serving call is handed back to its host.
 use Rattle.std.specs.Prelude.{◌≡◌, ℕ, List, [], ◌∷◌, Option, None, Some}
 use Rattle.px_ends.specs.Device.{DeviceState}
 use Rattle.px_ends.specs.Host.{HostState, TakesPart, TakesCore}
 use Rattle.px_server.specs.declared.served.LanePart.{LanePart}
 
 module _ {D R C : Type 0} where
-  -- the host takes back what is left of each sink, in their order
+  -- the host takes back what is left of each sink, in the sinks' order
   abbrev pub TakesParts : (D → DeviceState) → (R → ℕ) → (R → ℕ) → List (LanePart D R) → HostState D R C → HostState D R C → Type 0
   TakesParts now faults fulls [] before after = after ≡ before
   TakesParts now faults fulls (p ∷ parts) before after =

@@ -1,4 +1,4 @@
--- A header file: its bytes are a header, and nothing else.
+-- A header file: its bytes are a header, and nothing after it.
 use Rattle.std.specs.Prelude.{◌≡◌, ℕ, List, length, Result, Ok, Err, ◌==◌, if◌then◌else◌}
 use Rattle.px_header.specs.declared.header.Header.{Header}
 use Rattle.px_session.specs.declared.fault.Cause.TheVariants.{Trailing}
@@ -7,7 +7,7 @@ use Rattle.px_session.specs.declared.fault.ReadError.TheVariants.{Refused, Faile
 use Rattle.px_session.specs.Place.{Place, Refusal, start_of}
 use Rattle.px_session.specs.HeaderReading.{header_at}
 
--- what was read is all of so many bytes, or bytes trail
+-- what was read ends at `size`, the end of the file, or trailing bytes are refused
 abbrev pub whole : ℕ → Result (Header × Place) Refusal → Result Header Refusal
 whole size (Ok read) = if read.1.at == size then Ok read.0 else Err (record { at = read.1.at; cause = Trailing })
 whole size (Err refusal) = Err refusal
@@ -22,7 +22,7 @@ HeaderGives (Err (Refused at cause)) bytes = header_of bytes ≡ Err (record { a
 HeaderGives (Err Failed) bytes = ⊥
 HeaderGives (Err NoMemory) bytes = Unit {0}
 
--- the header that stands first in the bytes, and ends there, or the first rule that they break
+-- the header at the front of the bytes, which ends at `end`, or the first rule that they break
 abbrev pub FirstGives : Result Header ReadError → List ℕ → ℕ → Type 0
 FirstGives (Ok header) bytes end = (place : Place) × (header_at (start_of bytes) ≡ Ok (header, place)) × (place.at ≡ end)
 FirstGives (Err (Refused at cause)) bytes end = header_at (start_of bytes) ≡ Err (record { at = at; cause = cause })

@@ -15,3 +15,4 @@ pub mod Tape
 pub mod Serves
 pub mod ServeCommand
 pub mod ServePlain
+pub mod Fine

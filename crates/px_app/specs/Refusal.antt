@@ -17,7 +17,7 @@ use Rattle.px_app.specs.declared.refusal.Why.TheVariants as why
 abbrev pub of_bytes : Broken → Refusal
 of_bytes broken = record { at = broken.at; why = why.Session broken.cause }
 
--- the number that an event names, of a connection or of a sink
+-- the number of the event's connection, or of its sink
 abbrev pub number_of : Event → ℕ
 number_of (Connect conn) = conn.0
 number_of (Bytes conn bytes) = conn.0
@@ -26,7 +26,7 @@ number_of (Cut conn) = conn.0
 number_of (Turn sink frames messages) = sink
 number_of (Collect sink notices) = sink
 
--- the world doesn't admit the event whose kind byte is at an offset
+-- the refusal of an event that the world doesn't admit, whose kind byte is at offset `at`
 abbrev pub of_event : ℕ → Event → WorldFault → Refusal
 of_event at e fault = record { at = at; why = why.World fault (number_of e) }
 

@@ -21,7 +21,8 @@ use Rattle.px_app.specs.Ends.{Ends, Log, AreQuiet, SameOrRose}
 use Rattle.px_app.specs.Report.{Reported}
 use Rattle.px_app.specs.Session.{IsPlayed, Begins, Before, IsRefused, HasHeader}
 
--- The source was read to its end, its bytes are a session that is played, and the output gained exactly what is shown of it. Each frame that a sink played is the mix of its streams as the deciding turn left them.
+-- The source was read to its end, its bytes are a session that is played, and the output gained exactly what is shown of it. Each frame that a sink
+-- played is the mix of its streams after the deciding turn.
 pub record PlayedWhole (shown : Shown) (before after : Ends) : Type 0 where
   pub bytes : List ℕ
   pub header : Header
@@ -39,7 +40,8 @@ abbrev pub GivenBefore : Shown → Before → List ℕ → Type 0
 GivenBefore shown None given = given ≡ []
 GivenBefore shown (Some x) given = (lens : Lens) × (lens_of shown x.0.sinks ≡ Some lens) × (given ≡ parts_by lens (new_world x.0) x.1)
 
--- The bytes that were read are refused, whatever follows them, and so are all that the source had, where it tells. The output gained what is shown of the events before, and nothing behind that.
+-- The bytes that were read are refused, whatever follows them, and so are all that the source had, where they are visible. The output gained what is
+-- shown of the events before the refusal, and nothing after that.
 pub record WasRefused (shown : Shown) (refusal : Refusal) (before after : Ends) : Type 0 where
   pub bytes : List ℕ
   pub behind : Before
@@ -47,12 +49,12 @@ pub record WasRefused (shown : Shown) (refusal : Refusal) (before after : Ends) 
   pub refused : IsRefused bytes refusal behind
   pub gives : GivenBefore shown behind given
   pub departed : before.left ≡ before_taking bytes after.left
-  -- an early end is told only where the source has ended
+  -- an early end is a refusal only where the source has ended
   pub at_end : refusal.why ≡ why.Session Truncated → IsAtEnd after.left
   pub whole : WhereVisible before.left (λ all. IsRefused all refusal behind)
   pub gained : after.held ≡ after_adding before.held given
 
--- A header was read, none of whose sinks has the name that was asked for, and no event. The output gained nothing.
+-- A header was read, none of whose sinks has the requested name, and no event. The output gained nothing.
 pub record WasUnnamed (shown : Shown) (before after : Ends) : Type 0 where
   pub bytes : List ℕ
   pub header : Header
@@ -62,14 +64,14 @@ pub record WasUnnamed (shown : Shown) (before after : Ends) : Type 0 where
   pub whole : WhereVisible before.left (λ all. HasHeader all header)
   pub gained : after.held ≡ before.held
 
--- what bytes give: nothing before a header, then what is shown of the events that were read, and all of it where the source has ended
+-- what is shown of the bytes read: nothing before a header, then the events that were read, and the whole session where the source has ended
 abbrev pub Gives : Shown → List ℕ → Option (List ℕ) → List ℕ → Type 0
 Gives shown bytes left given =
     (given ≡ [])
     ⊎ ((header : Header) × (events : List Event) × (here : Place) × (lens : Lens) × Begins bytes header events here × (lens_of shown header.sinks ≡ Some lens) × (given ≡ parts_by lens (new_world header) events))
     ⊎ ((header : Header) × (events : List Event) × (lens : Lens) × IsPlayed bytes header events × IsAtEnd left × (lens_of shown header.sinks ≡ Some lens) × (given ≡ output_by lens header events))
 
--- The output gained a front of what the bytes that were read give.
+-- The output gained a front of what is shown of the bytes that were read.
 pub record PlayedFront (shown : Shown) (before after : Ends) : Type 0 where
   pub bytes : List ℕ
   pub given : List ℕ
@@ -87,13 +89,13 @@ InputPlayed shown ending.WriteFault before after = PlayedFront shown before afte
 InputPlayed shown ending.NoSuchSink before after = WasUnnamed shown before after
 InputPlayed shown ending.Usage before after = ⊥
 
--- Of the input and the output the end whose call failed has counted it. Behind a read that failed the write of what still waited may have failed too.
+-- A failed call of the input or the output is counted at that end. After a failed read the write of the pending output may have failed too.
 abbrev pub InputCounted : Ending → Ends → Ends → Type 0
 InputCounted ending.ReadFault before after = Rose before.read_faults after.read_faults × SameOrRose before.write_faults after.write_faults
 InputCounted ending.WriteFault before after = (after.read_faults ≡ before.read_faults) × Rose before.write_faults after.write_faults
 InputCounted other before after = AreQuiet before after
 
--- A replay answered this status: it ended so, and that was reported.
+-- A replay returned this status: it ended so, and that was reported.
 pub record Replayed (shown : Shown) (answered : Status) (before after : Ends) (log_before log_after : Log) : Type 0 where
   pub ended : Ending
   pub played : InputPlayed shown ended before after
@@ -104,7 +106,7 @@ pub record Replayed (shown : Shown) (answered : Status) (before after : Ends) (l
 abbrev pub IsNotPlayed : List ℕ → Type 0
 IsNotPlayed bytes = (header : Header) (events : List Event) → ¬ IsPlayed bytes header events
 
--- they begin with a header none of whose sinks has the name that is asked for
+-- they begin with a header none of whose sinks has the requested name
 abbrev pub IsUnnamed : Shown → List ℕ → Type 0
 IsUnnamed shown bytes = (header : Header) × HasHeader bytes header × (lens_of shown header.sinks ≡ None)
 

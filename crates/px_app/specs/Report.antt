@@ -1,4 +1,4 @@
--- What the log gains of how a run ended.
+-- What the log gains at the end of a run.
 use Rattle.std.specs.Prelude.{◌≡◌, ◌≢◌, ◌⊎◌}
 use Rattle.px_types.specs.declared.status.Status.{Status}
 use Rattle.px_types.specs.declared.status.Status.TheVariants as status
@@ -10,7 +10,7 @@ use Rattle.px_app.specs.declared.ending.Ending.TheVariants as ending
 use Rattle.px_app.specs.Ends.{Log}
 use Rattle.px_app.specs.Ending.{status_of, line_of, IsRefusal}
 
--- the log gained the line, no write of it failed, and the status is the ending's
+-- the log gained the whole line, no write of it failed, and the status is the ending's
 pub record Logged (said : Ending) (answered : Status) (before after : Log) : Type 0 where
   pub answer : answered ≡ status_of said
   pub line : after.held ≡ after_adding before.held (line_of said)
@@ -23,7 +23,7 @@ pub record LogFailed (said : Ending) (answered : Status) (before after : Log) : 
   pub front : AddsFront (line_of said) before.held after.held
   pub rose : Rose before.faults after.faults
 
--- what is said of an ending: itself, or that there was no memory for the line of a refusal
+-- the ending that is reported: the run's own, or `Memory` where there was no memory for the line of a refusal
 abbrev pub Says : Ending → Ending → Type 0
 Says ended said = (said ≡ ended) ⊎ (IsRefusal ended × (said ≡ ending.Memory))
 

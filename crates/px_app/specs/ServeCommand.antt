@@ -1,4 +1,4 @@
--- The command `serve` as clap reads it, and what its matches say. Own.
+-- The command `serve` as clap reads it, and the options that its matches give. Own.
 use Rattle.std.specs.Prelude.{◌≡◌, ◌≢◌, ◌⊎◌, ◌≤◌, ℕ, Bool, pos, true, false, List, [], ◌∷◌, Option, Some, None, IsSome, option_map, codes, if◌then◌else◌}
 use Rattle.std.specs.Str.{bytes_eq}
 use Rattle.std.specs.Str.Parse.{IsNumeral, digits_value, without_leading_plus}
@@ -16,11 +16,11 @@ option_rule name = record (new_rule name) { long = Some name; action = Some Set 
 abbrev pub path_rule : List ℕ → Rule
 path_rule name = record (option_rule name) { required = true; parser = Some NonEmptyString }
 
--- how many links are taken, 1 to 65,535
+-- the number of links to accept, 1 to 65,535
 abbrev pub accept_rule : Rule
 accept_rule = record (option_rule (codes "accept")) { required = true; parser = Some (Signed (pos 1) (pos 65535)) }
 
--- a tape is asked for
+-- whether a tape is recorded
 abbrev pub tape_rule : Rule
 tape_rule = record (new_rule (codes "tape")) { long = Some (codes "tape"); action = Some SetTrue }
 
@@ -39,21 +39,21 @@ serve_command = record {
 abbrev pub rows : List (List ℕ) → List Row
 rows words = matches_of serve_command words
 
--- the number that digits write, behind a sign or none
+-- the number that digits write, after a plus sign or none
 abbrev pub number : List ℕ → ℕ
 number text = digits_value 10 (without_leading_plus text)
 
--- whether histories are kept in memory, by the value of the option; without one they aren't
+-- whether histories are stored in memory, by the value of the option; without one they aren't
 abbrev pub history_of : Option (List ℕ) → Option Bool
 history_of None = Some false
 history_of (Some word) = if bytes_eq word (codes "none") then Some false else (if bytes_eq word (codes "memory") then Some true else None)
 
--- an option without a value stands, by the text that it leaves
+-- whether an option without a value is set, by the text that it leaves
 abbrev pub is_set : Option (List ℕ) → Bool
 is_set None = false
 is_set (Some word) = bytes_eq word (codes "true")
 
--- the matches say this
+-- the matches give these options
 pub record Reads (rows : List Row) (said : ServeWords) : Type 0 where
   pub header : first_of (codes "header") rows ≡ Some said.options.header
   pub socket : first_of (codes "socket") rows ≡ Some said.options.socket
@@ -62,17 +62,17 @@ pub record Reads (rows : List Row) (said : ServeWords) : Type 0 where
   pub history : history_of (first_of (codes "history") rows) ≡ Some said.options.memory
   pub tape : said.tape ≡ is_set (first_of (codes "tape") rows)
 
--- digits that say how many links are taken
+-- digits of a number of links, 1 to 65,535
 abbrev pub IsLinks : List ℕ → Type 0
 IsLinks text = IsNumeral 10 (without_leading_plus text) × (1 ≤ number text) × (number text ≤ 65535)
 
--- the options that must be there are there, with a number of links
+-- the required options are set, with a number of links
 pub record HasOptions (rows : List Row) : Type 0 where
   pub header : IsSome (first_of (codes "header") rows)
   pub socket : IsSome (first_of (codes "socket") rows)
   pub out : IsSome (first_of (codes "out") rows)
   pub accept : (text : List ℕ) × (one_of (codes "accept") rows ≡ Some text) × IsLinks text
 
--- clap refuses the words, or the history that they name is none
+-- clap refuses the words, or the history that they name isn't one
 abbrev pub Refused : List (List ℕ) → Type 0
 Refused words = (fault_of serve_command words ≢ []) ⊎ (history_of (first_of (codes "history") (rows words)) ≡ None)

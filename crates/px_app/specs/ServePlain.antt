@@ -1,11 +1,11 @@
--- Plain words of `serve`: `serve`, and behind it its settings in any order. Own.
+-- Plain words of `serve`: `serve`, followed by its settings in any order. Own.
 use Rattle.std.specs.Prelude.{◌≡◌, ◌≢◌, ◌≤◌, ◌+◌, ⊤, ℕ, Bool, true, false, List, [], ◌∷◌, codes, decimal, if◌then◌else◌}
 use Rattle.std.specs.List.{All, flat_map}
 use Rattle.std.specs.Str.{bytes_eq}
 use Rattle.px_app.specs.declared.serve_words.words.ServeWords.{ServeWords}
 
--- one setting: the paths of the header file, the socket and the folder for what is played, how many links are taken,
--- whether histories are kept in memory, and that a tape is recorded
+-- one setting: the paths of the header file, the socket and the folder for what is played, the number of links to accept, whether histories are
+-- stored in memory, and that a tape is recorded
 pub data Setting : Type 0 where
   Header : List ℕ → Setting
   Socket : List ℕ → Setting
@@ -47,7 +47,7 @@ IsPlain (Out path) = IsValue path
 IsPlain (Accept links) = (1 ≤ links) × (links ≤ 65535)
 IsPlain _ = ⊤
 
--- the setting is what was said
+-- the options have this setting
 abbrev pub Says : ServeWords → Setting → Type 0
 Says said (Header path) = said.options.header ≡ path
 Says said (Socket path) = said.options.socket ≡ path
@@ -56,13 +56,12 @@ Says said (Accept links) = said.options.accept ≡ links
 Says said (History memory) = said.options.memory ≡ memory
 Says said Tape = said.tape ≡ true
 
--- how often an option stands among settings
+-- the number of settings with this option
 abbrev pub times : List ℕ → List Setting → ℕ
 times name [] = 0
 times name (setting ∷ rest) = (if bytes_eq (option_of setting) name then 1 else 0) + times name rest
 
--- The words are plain, and this is what they say: each of the four options that must be there stands once, and each of the other
--- two once or not at all.
+-- The words are plain, and give these options: each of the four required options stands once, and each of the other two once or not at all.
 pub record Plain (words : List (List ℕ)) (said : ServeWords) : Type 0 where
   pub settings : List Setting
   pub spelled : words ≡ codes "serve" ∷ flat_map spelling settings

@@ -32,19 +32,19 @@ line_of_status status.HistoryFull = codes "pulse_rw: history full\n"
 line_of_status status.WriteFault = codes "pulse_rw: write failed\n"
 line_of_status other = []
 
--- the log gained the line of a status; or a write of it failed, behind a front of the line
+-- the log gained the line of a status; or a write of it failed, after a front of the line
 abbrev pub StatusReported : Status → Status → Log → Log → Type 0
 StatusReported ended answered before after =
     ((answered ≡ ended) × (after.held ≡ after_adding before.held (line_of_status ended)) × (after.faults ≡ before.faults))
     ⊎ ((answered ≡ status.WriteFault) × AddsFront (line_of_status ended) before.held after.held × Rose before.faults after.faults)
 
--- how serving ended, as the log has it
+-- how serving ended, as the log reports it
 abbrev pub EndReported : ServeEnd → Status → Log → Log → Type 0
 EndReported serve.Usage answered before after = Reported ending.Usage answered before after
 EndReported (serve.Refused at cause) answered before after = Reported (ending.Refused (record { at = at; why = why.Session cause })) answered before after
 EndReported (serve.Ended ended) answered before after = StatusReported ended answered before after
 
--- it was served by these words, with a tape where they ask for one, and that was reported
+-- `serve` ran by these words, with a tape where they ask for one, and its end was reported
 pub record Served {D R C : Type 0} (core_visible : C → Option (List CoreEntry)) (core_faults core_fulls : C → ℕ) (now : D → DeviceState) (visible : R → Option (List LaneEntry)) (faults fulls : R → ℕ)
     (texts : List (List ℕ)) (answered : Status) (before after : HostState D R C) (out_before out_after : Output) (log_before log_after : Log) : Type 0 where
   pub end : ServeEnd

@@ -1,4 +1,4 @@
--- What the bytes of a session are for a replay: they are played whole, or refused, behind the events before.
+-- What the bytes of a session are for a replay: they are played whole, or refused after some events.
 use Rattle.std.specs.Prelude.{◌≡◌, ℕ, List, Ok, Err, Option, None, Some, ◌⊎◌}
 use Rattle.px_header.specs.declared.header.Header.{Header}
 use Rattle.px_session.specs.declared.event.Event.{Event}
@@ -20,37 +20,37 @@ pub record IsPlayed (bytes : List ℕ) (header : Header) (events : List Event) :
   pub session : IsSession bytes (Events header events Ended)
   pub admitted : AreAdmitted (new_world header) events
 
--- a header stands first in the bytes, and then these events, which the world admits; the place behind them
+-- the bytes start with a header and then these events, which the world admits; `here` is the place after them
 pub record Begins (bytes : List ℕ) (header : Header) (events : List Event) (here : Place) : Type 0 where
   pub start : Place
   pub head : header_at (start_of bytes) ≡ Ok (header, start)
   pub lead : Lead events start here
   pub admitted : AreAdmitted (new_world header) events
 
--- no header stands first
+-- the bytes don't start with a header
 abbrev pub NoneBegins : List ℕ → Refusal → Type 0
 NoneBegins bytes refusal = (broken : Broken) × (header_at (start_of bytes) ≡ Err broken) × (refusal ≡ of_bytes broken)
 
--- no event stands here, or it is one that the world doesn't admit; then its kind byte is here
+-- no event stands at `here`, or one that the world doesn't admit, whose kind byte is at `here`
 abbrev pub StopsIn : World → Place → Refusal → Type 0
 StopsIn w here refusal =
     ((broken : Broken) × (event_at here ≡ Err broken) × (refusal ≡ of_bytes broken))
     ⊎ ((e : Event) × (after : Place) × (fault : WorldFault) × (event_at here ≡ Ok (step.Event e, after)) × (refusal_of w e ≡ Some fault) × (refusal ≡ of_event here.at e fault))
 
--- so it is in the world after these events
+-- the same, in the world after the events `before`
 abbrev pub StopsHere : Header → List Event → Place → Refusal → Type 0
 StopsHere header before here refusal = StopsIn (world_by (new_world header) before) here refusal
 
--- what stands before a refusal: nothing, or a header and events that were played
+-- what comes before a refusal: nothing, or a header and events that were played
 abbrev pub Before : Type 0
 Before = Option (Header × List Event)
 
--- the bytes are refused so, behind these events
+-- the bytes are refused so, after these events
 abbrev pub IsRefused : List ℕ → Refusal → Before → Type 0
 IsRefused bytes refusal before =
     (NoneBegins bytes refusal × (before ≡ None))
     ⊎ ((header : Header) × (events : List Event) × (here : Place) × Begins bytes header events here × StopsHere header events here refusal × (before ≡ Some (header, events)))
 
--- a header stands first in the bytes
+-- the bytes start with a header
 abbrev pub HasHeader : List ℕ → Header → Type 0
 HasHeader bytes header = (start : Place) × (header_at (start_of bytes) ≡ Ok (header, start))

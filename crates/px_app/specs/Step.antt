@@ -1,4 +1,4 @@
--- How far a replay has come, and what reading and playing an event leaves.
+-- The progress of a replay, and what reading and playing an event leaves.
 use Rattle.std.specs.Prelude.{◌≡◌, ◌⊎◌, ℕ, ◌≤◌, ◌*◌, ◌^◌, cond, nat_eq, Bool, true, false, List, [], ◌++◌, Option, None, Some, Result, Ok, Err, ⊤}
 use Rattle.std.specs.List.{flat_map}
 use Rattle.px_ends.specs.Visible.{before_taking, after_adding}
@@ -37,7 +37,7 @@ use Rattle.px_app.specs.Replay.{InputPlayed}
 
 -- ---- reading
 
--- what a reader gave before the header was read, and after that
+-- what a reader returned, before the header was read and after it
 abbrev pub header_step : Result Header ReadError → Result Step ReadError
 header_step (Ok header) = Ok (step.Header header)
 header_step (Err e) = Err e
@@ -47,13 +47,13 @@ event_step (Ok (Some e)) = Ok (step.Event e)
 event_step (Ok None) = Ok step.End
 event_step (Err e) = Err e
 
--- how a run ends where nothing more is read
+-- how a run ends where the reader returns an error
 abbrev pub unread : ReadError → Ending
 unread (error.Refused at cause) = ending.Refused (of_bytes (record { at = at; cause = cause }))
 unread error.Failed = ending.ReadFault
 unread error.NoMemory = ending.Memory
 
--- how the reads were counted where a replay ends; no write has failed by then
+-- whether a read has failed where a replay ends; no write has failed by then
 abbrev pub EndReads : Ending → ℕ → ℕ → Type 0
 EndReads ending.ReadFault before now = Rose before now
 EndReads ending.WriteFault before now = ⊥
@@ -65,7 +65,7 @@ StepReads (Err ended) before now = EndReads ended before now
 
 -- ---- writing
 
--- the last part of the output was added, or a front of it
+-- the last part of the output was appended, or a front of it
 abbrev pub Closes : Ending → List ℕ → Option (List ℕ) → Option (List ℕ) → Type 0
 Closes ending.Done part before now = now ≡ after_adding before part
 Closes ending.Memory part before now = AddsFront part before now
@@ -76,17 +76,17 @@ abbrev pub turn_sink : Event → Option ℕ
 turn_sink (Turn sink frames messages) = Some sink
 turn_sink other = None
 
--- the record of so many frames that a turn consumed, if there are any
+-- the record of the `frames` frames that a turn consumed, if there are any
 abbrev pub played_part : Option ℕ → ℕ → List ℕ → List ℕ
 played_part None frames bytes = []
 played_part (Some sink) frames bytes = cond (nat_eq frames 0) [] (played_record sink frames bytes)
 
--- the bytes that a turn of the sink with an index consumed
+-- the bytes that a turn of sink `k` consumed
 abbrev pub raw_part : Option ℕ → ℕ → List ℕ → List ℕ
 raw_part None k bytes = []
 raw_part (Some sink) k bytes = cond (nat_eq sink k) bytes []
 
--- what is shown of an event that did this
+-- what is shown of an event with these effects and this sound
 abbrev pub shown_part : Lens → Option ℕ → List Effect → ℕ → List ℕ → List ℕ
 shown_part lens.Records sink effects frames played = flat_map effect_record effects ++ played_part sink frames played
 shown_part (lens.Raw k) sink effects frames played = raw_part sink k played
@@ -94,13 +94,13 @@ shown_part lens.Summary sink effects frames played = []
 
 -- ---- an event
 
--- the world admits it, and has done it, and what is shown of it was added
+-- the world admits the event, and has done it, and what is shown of it was appended
 pub record EventDone (l : Lens) (w : World) (e : Event) (world : Running) (before now : Option (List ℕ)) : Type 0 where
   pub admitted : refusal_of w e ≡ None
   pub stands : StandsFor world (world_after w e)
   pub gained : now ≡ after_adding before (part_of l w e)
 
--- the world admits it, and a front of what is shown of it was added
+-- the world admits the event, and a front of what is shown of it was appended
 pub record EventCut (l : Lens) (w : World) (e : Event) (before now : Option (List ℕ)) : Type 0 where
   pub admitted : refusal_of w e ≡ None
   pub gained : AddsFront (part_of l w e) before now
@@ -110,7 +110,7 @@ abbrev pub barred : ℕ → ℕ → WorldFault → Ending
 barred at number NoMemory = ending.Memory
 barred at number fault = ending.Refused (record { at = at; why = why.World fault number })
 
--- why the event, whose kind byte is at an offset, ends the run
+-- why the event, whose kind byte is at offset `at`, ends the run
 abbrev pub EventEnds : Ending → ℕ → Lens → World → Event → Option (List ℕ) → Option (List ℕ) → Type 0
 EventEnds (ending.Refused refusal) at l w e before now = (fault : WorldFault) × (refusal_of w e ≡ Some fault) × (refusal ≡ of_event at e fault) × (now ≡ before)
 EventEnds ending.Memory at l w e before now = (now ≡ before) ⊎ EventCut l w e before now
@@ -120,7 +120,7 @@ abbrev pub EventPlayed : Result Unit Ending → ℕ → Lens → World → Event
 EventPlayed (Ok done) at l w e world before now = EventDone l w e world before now
 EventPlayed (Err ended) at l w e world before now = EventEnds ended at l w e before now
 
--- an event ends a replay only where it is refused, or there is no memory
+-- an event ends a replay only where it is refused, or memory ran out
 abbrev pub IsEventEnd : Ending → Type 0
 IsEventEnd (ending.Refused refusal) = ⊤
 IsEventEnd ending.Memory = ⊤
@@ -128,19 +128,20 @@ IsEventEnd other = ⊥
 
 -- ---- a replay
 
--- how it ends where its last piece is written, or isn't: the first cause decides
+-- how a replay ends once its last piece is written, or isn't: the first cause decides
 abbrev pub ending_with : Ending → Bool → Ending
 ending_with ending.ReadFault written = ending.ReadFault
 ending_with other true = other
 ending_with other false = ending.WriteFault
 
--- The counts leave room for one more of each for each byte of a session.
+-- The counts are bounded by the bytes read: at most one event a byte, and 2^64 frames and connections an event.
 pub record AreFew (t : Tally) (at : ℕ) : Type 0 where
   pub events : t.events ≤ at
   pub sent : t.sent ≤ t.events * 2 ^ 64
   pub closed : t.closed ≤ t.events * 2 ^ 64
 
--- The bytes that were read so far begin with a header and with events that were played: the reader stands behind them, the world is the one that they left, they are counted, and the output gained what is shown of them, once what waits is written.
+-- The bytes that were read so far begin with a header and with events that were played: the reader stands after them, the world is the one after
+-- them, they are counted, and the output gained what is shown of them, once what waits is written.
 pub record Reached (shown : Shown) (playing : Playing) (first now : Ends) : Type 0 where
   pub bytes : List ℕ
   pub events : List Event
@@ -157,7 +158,7 @@ abbrev pub Begun : Shown → Result Playing Ending → Ends → Ends → Type 0
 Begun shown (Ok playing) first now = Reached shown playing first now
 Begun shown (Err ended) first now = InputPlayed shown ended first now
 
--- a step of a replay: it has come further, or has ended
+-- a step of a replay: it has advanced, or has ended
 abbrev pub Stepped : Shown → Result Unit Ending → Playing → Ends → Ends → Type 0
 Stepped shown (Ok done) playing first now = Reached shown playing first now
 Stepped shown (Err ended) playing first now = InputPlayed shown ended first now

@@ -1,4 +1,4 @@
--- The summary of a session: how many events it has, what was sent and closed, and how far each sink came.
+-- The summary of a session: the number of its events, of frames sent and connections closed, and the frame counts of each sink.
 use Rattle.std.specs.Prelude.{ℕ, suc, ◌+◌, Bool, true, false, List, [], ◌∷◌, ◌++◌, length, codes, decimal, Option, None, Some}
 use Rattle.std.specs.List.{slice_get, count_by}
 use Rattle.px_header.specs.declared.header.SinkSpec.{SinkSpec}
@@ -25,7 +25,7 @@ sent_in effects = count_by is_sent effects
 abbrev pub closed_in : List Effect → ℕ
 closed_in effects = count_by is_closed effects
 
--- all that the events do to the outside
+-- all effects of the events
 abbrev pub effects_by_run : World → List Event → List Effect
 effects_by_run w [] = []
 effects_by_run w (e ∷ events) = effects_after w e ++ effects_by_run (world_after w e) events
@@ -34,7 +34,7 @@ effects_by_run w (e ∷ events) = effects_after w e ++ effects_by_run (world_aft
 abbrev pub tally_by : World → List Event → Tally
 tally_by w events = record { events = length events; sent = sent_in (effects_by_run w events); closed = closed_in (effects_by_run w events) }
 
--- with one event more, which has these effects
+-- the counts after one more event, which has these effects
 abbrev pub tallied : Tally → List Effect → Tally
 tallied t effects = record { events = t.events + 1; sent = t.sent + sent_in effects; closed = t.closed + closed_in effects }
 
@@ -50,7 +50,7 @@ abbrev pub line_for : SinkSpec → Option Mixer → List ℕ
 line_for s None = []
 line_for s (Some m) = sink_line s.name m.sink.consumed m.sink.filled
 
--- one for each of these sinks, whose indices begin with this one
+-- one line for each of these sinks, the first of which has index `k`
 abbrev pub sink_lines : ℕ → List SinkSpec → List Mixer → List ℕ
 sink_lines k [] mixers = []
 sink_lines k (s ∷ sinks) mixers = line_for s (slice_get mixers k) ++ sink_lines (suc k) sinks mixers

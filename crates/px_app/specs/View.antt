@@ -15,7 +15,7 @@ use Rattle.px_app.specs.declared.view.Lens.TheVariants as lens
 use Rattle.px_app.specs.declared.tally.Tally.{Tally}
 use Rattle.px_app.specs.Summary.{tally_by, tally_lines, sink_lines}
 
--- what is asked for: a sink by its name
+-- what is asked for, with a sink by its name
 pub data Shown : Type 0 where
   Records : Shown
   Raw : List ℕ → Shown
@@ -26,7 +26,7 @@ shown_of view.Records = Records
 shown_of (view.Raw name) = Raw name.now
 shown_of view.Summary = Summary
 
--- what it is of a session with these sinks: a sink by its index; nothing where no sink has the name
+-- the lens of a request on a session with these sinks: a sink by its index; none where no sink has the name
 abbrev pub lens_of : Shown → List SinkSpec → Option Lens
 lens_of Records sinks = Some lens.Records
 lens_of (Raw name) sinks = option_map lens.Raw (position (λ s. bytes_eq s.name name) sinks)
@@ -44,7 +44,7 @@ parts_by lens.Records w events = records_by w events
 parts_by (lens.Raw k) w events = concat (played_by_run w events k)
 parts_by lens.Summary w events = []
 
--- what stands behind the last event: the end byte of records, or the summary
+-- what is shown after the last event: the end byte of records, or the summary
 abbrev pub ending_of : Lens → Tally → List SinkSpec → List Mixer → List ℕ
 ending_of lens.Records tally sinks mixers = end_byte ∷ []
 ending_of (lens.Raw k) tally sinks mixers = []

@@ -19,12 +19,12 @@ use Rattle.px_app.specs.Replay.{PlayedWhole, PlayedFront, InputCounted, Replayed
 abbrev pub is_digit : ℕ → Bool
 is_digit c = nat_le 0x30 c && nat_le c 0x39
 
--- the number of decimal digits, behind those that gave this number so far
+-- the number of decimal digits that follow those read so far, whose number is the first argument
 abbrev pub digits_behind : ℕ → List ℕ → Option ℕ
 digits_behind n [] = Some n
 digits_behind n (c ∷ rest) = cond (is_digit c) (digits_behind (n * 10 + (c - 0x30)) rest) None
 
--- the number that a word says: digits alone, one at least
+-- the number that a word writes: decimal digits alone, at least one
 abbrev pub number_in : List ℕ → Option ℕ
 number_in [] = None
 number_in (c ∷ rest) = digits_behind 0 (c ∷ rest)
@@ -35,7 +35,7 @@ in_64_bits (Some n) = cond (nat_lt n (2 ^ 64)) (Some n) None
 
 -- ---- meanings
 
--- a replay that shows this; a session that is made of a number and a count
+-- a replay that shows this; a session generated from a number and a count
 pub data Meaning : Type 0 where
   Replay : Shown → Meaning
   Gen : ℕ → ℕ → Meaning
@@ -82,12 +82,12 @@ AreOther texts = meaning_in texts ≡ None
 abbrev pub IsUnread : Ends → Ends → Type 0
 IsUnread before after = after.left ≡ before.left
 
--- it was written whole
+-- the session was written whole
 pub record MadeWhole (number count : ℕ) (before after : Ends) : Type 0 where
   pub unread : IsUnread before after
   pub gained : after.held ≡ after_adding before.held (generated number count)
 
--- or a front of it
+-- a front of it was written
 pub record MadeFront (number count : ℕ) (before after : Ends) : Type 0 where
   pub unread : IsUnread before after
   pub gained : AddsFront (generated number count) before.held after.held
@@ -98,14 +98,14 @@ Makes ending.Memory number count before after = MadeFront number count before af
 Makes ending.WriteFault number count before after = MadeFront number count before after
 Makes other number count before after = ⊥
 
--- making one answered this status: it ended so, and that was reported
+-- generating a session returned this status: it ended so, and that was reported
 pub record Made (number count : ℕ) (answered : Status) (before after : Ends) (log_before log_after : Log) : Type 0 where
   pub ended : Ending
   pub makes : Makes ended number count before after
   pub counted : InputCounted ended before after
   pub reported : Reported ended answered log_before log_after
 
--- how it ends by the generator's status
+-- how generating ends, by the generator's status
 abbrev pub made_by : Status → Ending
 made_by status.Ok = ending.Done
 made_by status.Memory = ending.Memory
@@ -113,18 +113,18 @@ made_by other = ending.WriteFault
 
 -- ---- a run
 
--- what is done by a meaning
+-- what a meaning does
 abbrev pub Does : Meaning → Status → Ends → Ends → Log → Log → Type 0
 Does (Replay shown) answered before after log_before log_after = Replayed shown answered before after log_before log_after
 Does (Gen number count) answered before after log_before log_after = Made number count answered before after log_before log_after
 
--- By words that have a meaning that was done; by others nothing was read or written, and the usage was reported.
+-- Words that have a meaning were carried out; for others nothing was read or written, and the usage was reported.
 abbrev pub Ran : List (List ℕ) → Status → Ends → Ends → Log → Log → Type 0
 Ran texts answered before after log_before log_after =
     ((meaning : Meaning) × Means texts meaning × Does meaning answered before after log_before log_after)
     ⊎ (AreOther texts × (after ≡ before) × Reported ending.Usage answered log_before log_after)
 
--- it was done to its end
+-- it was carried out to its end
 abbrev pub DoneWhole : Meaning → Ends → Ends → Type 0
 DoneWhole (Replay shown) before after = PlayedWhole shown before after
 DoneWhole (Gen number count) before after = MadeWhole number count before after

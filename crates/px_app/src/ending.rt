@@ -6,7 +6,7 @@ ghost use Rattle.px_app.specs.Ending.{status_of};
 use crate::refusal::Refusal;
 use px_types::Status;
 
-/// How a run of the program ends, with what the log says of it.
+/// How a run of the program ends, for its status and the log's line.
 #[derive(Clone, Copy, Debug, PartialEq, Eq)]
 pub enum Ending {
     /// All was read and written.
@@ -15,7 +15,7 @@ pub enum Ending {
     Refused(Refusal),
     /// The words of the command line aren't those of the usage text.
     Usage,
-    /// Want of memory.
+    /// Memory ran out.
     Memory,
     /// A read of the input failed.
     ReadFault,
@@ -26,7 +26,7 @@ pub enum Ending {
 }
 
 impl Ending {
-    /// The status that a run which ends so has.
+    /// The exit status of a run that ends so.
     pub fn status(self) -> Status
         ensures { result ≡ status_of self }
     {

@@ -8,8 +8,7 @@ ghost use Rattle.px_app.specs.declared.refusal.Refusal.{Refusal};
 ghost use Rattle.px_app.specs.declared.refusal.Why.TheVariants as why;
 ghost use Rattle.px_app.specs.Session.{IsPlayed, Before, IsRefused};
 
-/// Each list of bytes is a session that is played, in one way, or is refused, and not both. It does nothing: its contract is
-/// the law.
+/// Each list of bytes is a session that is played, in one way, or is refused, and not both. It does nothing: its contract is the law.
 pub fn inputs_are_played_or_refused()
     ensures either { (bytes : List ℕ) → ((header : Header) × (events : List Event) × IsPlayed bytes header events)
         ⊎ ((refusal : Refusal) × (before : Before) × IsRefused bytes refusal before) }
@@ -19,8 +18,8 @@ pub fn inputs_are_played_or_refused()
         → IsPlayed bytes header events → IsPlayed bytes other others → (header ≡ other) × (events ≡ others) }
 {}
 
-/// What is refused is so at one place, for one cause and behind the same events, and for a cause other than an early end it is
-/// so whatever follows. It does nothing: its contract is the law.
+/// A refusal's offset, cause and preceding events are unique, and unless its cause is an early end they stay the same whatever bytes follow. It does
+/// nothing: its contract is the law.
 pub fn refusals_are_final()
     ensures one { (bytes : List ℕ) (refusal other : Refusal) (before others : Before) → IsRefused bytes refusal before
         → IsRefused bytes other others → (refusal ≡ other) × (before ≡ others) }

@@ -1,4 +1,4 @@
-//! The line that the log gains of how a run ended.
+//! The line that the log gains at the end of a run.
 
 ghost use Rattle.std.specs.Prelude.{◌≡◌, ◌≢◌, ◌⊎◌};
 ghost use Rattle.px_app.specs.Ending.{line_of, IsRefusal};
@@ -12,7 +12,7 @@ use px_ends::{Sink, write_all};
 use px_types::Status;
 use std::alloc::Global;
 
-// The line of an ending other than a refusal, with its line end. Nothing where all went well.
+// The line of an ending other than a refusal, with its line end. Empty for `Done`.
 fn fixed_line(ended: Ending) -> &'static [u8]
     requires { IsRefusal ended → ⊥ }
     ensures { result.now ≡ line_of ended }
@@ -42,8 +42,8 @@ fn write_line<L: Sink>(ended: Ending, line: &[u8], log: &mut L) -> Status
     }
 }
 
-/// Writes the line of how a run ended to the log, if it has one, and answers the run's status. A refusal's line takes memory:
-/// where there is none, the run has ended for want of memory. Where the log can't be written, the status is `WriteFault`.
+/// Writes the log's line of how a run ended, if there is one, and returns the run's status. A refusal's line takes memory: where memory runs out, the
+/// run ends with `Memory`. Where the log can't be written, the status is `WriteFault`.
 pub fn report<L: Sink>(alloc: Global, ended: Ending, log: &mut L) -> Status
     ensures { Reported ended result (log_end (L.held log.old) (L.faults log.old)) (log_end (L.held log.new) (L.faults log.new)) }
 {

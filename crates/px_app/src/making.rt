@@ -1,4 +1,4 @@
-//! A session that is made of a number.
+//! A session that is generated from a number.
 
 ghost use Rattle.std.specs.Prelude.{◌≡◌, ℕ, List, Option};
 ghost use Rattle.px_app.specs.Ends.{ends_of, log_end};
@@ -11,7 +11,7 @@ use px_gen::generate;
 use px_types::Status;
 use std::alloc::Global;
 
-// How making a session ends, by the status of the generator.
+// How generating a session ends, by the status of the generator.
 fn made_by(status: Status) -> Ending
     ensures { result ≡ made_by status }
 {
@@ -22,7 +22,7 @@ fn made_by(status: Status) -> Ending
     }
 }
 
-/// Writes the session that a number and a count give, and reports how that ended.
+/// Writes the session generated from `number` and `count`, and reports how that ended.
 pub(crate) fn make<K: Sink, L: Sink>(
     alloc: Global,
     number: u64,

@@ -24,7 +24,7 @@ use px_session::{Event, Reader, write_end};
 use px_world::{World, WorldFault};
 use std::alloc::Global;
 
-/// A replay under way.
+/// The state of a replay.
 #[derive(Drop)]
 pub(crate) struct Playing {
     reader: Reader,
@@ -32,7 +32,7 @@ pub(crate) struct Playing {
     lens: Lens,
     world: World,
     tally: Tally,
-    // What is shown and not written yet.
+    // Output that isn't written yet.
     pieces: Pieces,
 }
 
@@ -46,7 +46,7 @@ fn turn_sink(e: &Event) -> Option<u8>
     }
 }
 
-// How a fault of the world ends the run: at an event whose kind byte is at this offset, and which names this number.
+// How a fault of the world at an event ends the run: its kind byte is at offset `at`, and `number` is that of its connection or sink.
 fn barred(at: u64, number: u32, fault: WorldFault) -> Ending
     ensures { result ≡ barred at number fault }
 {
@@ -59,7 +59,7 @@ fn barred(at: u64, number: u32, fault: WorldFault) -> Ending
     }
 }
 
-// Writes what is shown of a session behind its last event.
+// Writes what is shown of a session after its last event.
 fn close<K: Sink>(
     alloc: Global,
     lens: Lens,
@@ -85,7 +85,7 @@ fn close<K: Sink>(
     }
 }
 
-// How a replay ends whose last piece was written, or wasn't. The first cause that was met decides.
+// How a replay ends once its last piece was written, or wasn't. The first cause that was met decides.
 fn ending_with(ended: Ending, is_written: bool) -> Ending
     ensures { result ≡ ending_with ended is_written }
 {
@@ -129,7 +129,7 @@ impl Playing {
         })
     }
 
-    // Plays an event whose kind byte is at this offset, and gathers what is shown of it.
+    // Plays an event whose kind byte is at offset `at`, and gathers what is shown of it.
     fn play_event(&mut self, alloc: Global, at: u64, e: Event) -> Result<(), Ending>
         requires { AreFew self.old.tally (2 ^ 40 - 1) }
         ensures played { (w : SpecWorld) → StandsFor self.old.world w → (held : Option (List ℕ))
@@ -154,7 +154,7 @@ impl Playing {
         }
     }
 
-    // Reads and plays the next event, or ends behind the last one.
+    // Reads and plays the next event, or ends after the last one.
     fn step<S: Source>(&mut self, alloc: Global, input: &mut S) -> Result<(), Ending>
         requires begun { self.old.reader.begun ≡ true }
         requires few { AreFew self.old.tally self.old.reader.at }
@@ -181,7 +181,7 @@ impl Playing {
         }
     }
 
-    // Gives the reader the text of an event back whose bytes the world is done with.
+    // Gives an event's text back to the reader once the world is done with its bytes.
     fn hand_back(&mut self)
         ensures { self.new ≡ self.old }
     {
@@ -190,7 +190,7 @@ impl Playing {
         }
     }
 
-    // Writes what waits, where the replay ends so.
+    // Writes the output that waits, and returns how the replay ends.
     fn finish<K: Sink>(&mut self, ended: Ending, output: &mut K) -> Ending
         ensures played { (shown : Shown) (first : Ends) (left : Option (List ℕ)) (read written : ℕ)
             → InputPlayed shown ended first (ends_of left read (after_adding (K.held output.old) self.old.pieces.bytes) written)
@@ -227,7 +227,7 @@ impl Playing {
     }
 }
 
-/// Plays an input: reads its session, and writes what is shown of its events and behind them.
+/// Plays an input: reads its session, and writes what is shown of its events and after them.
 pub(crate) fn play<S: Source, K: Sink>(
     alloc: Global,
     view: View<'_>,
@@ -244,7 +244,7 @@ pub(crate) fn play<S: Source, K: Sink>(
     match Playing::new(alloc, view, input) {
         Ok(mut playing) => {
             let ended = playing.run(alloc, input, output);
-            // By a call, so that its fields are dropped by functions of their own.
+            // Passed to a function, so that its fields are dropped by functions of their own.
             drop(playing);
             ended
         }

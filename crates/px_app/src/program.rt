@@ -1,4 +1,4 @@
-//! All that the program does.
+//! The whole program.
 
 ghost use Rattle.std.specs.Prelude.{◌≡◌, ◌⊎◌, ◌≢◌, true, false, map, string_bytes};
 ghost use Rattle.px_types.specs.declared.status.Status.{Status as Answered};
@@ -14,6 +14,7 @@ ghost use Rattle.px_app.specs.Ending.{status_of, line_of, IsRunStatus};
 ghost use Rattle.px_app.specs.Report.{Says};
 ghost use Rattle.px_app.specs.View.{Shown};
 ghost use Rattle.px_app.specs.Replay.{WasRefused, WasUnnamed, InputCounted};
+ghost use Rattle.px_app.specs.Fine.{IsFine};
 ghost use Rattle.px_app.specs.Serving.{is_serve, Served};
 ghost use Rattle.px_app.specs.Tape.{out_end};
 ghost use Rattle.px_app.specs.Words.{Meaning, Replay, Means, AreOther, Ran, DoneWhole, DoneFront, DoneCompletes};
@@ -51,7 +52,7 @@ fn run_by<S: Source, K: Sink, L: Sink>(
     }
 }
 
-// Does what the words mean that need no server.
+// Does what the words mean, where they aren't those of `serve`.
 fn run_alone<S: Source, K: Sink, L: Sink>(
     alloc: Global,
     words: &[String],
@@ -59,7 +60,7 @@ fn run_alone<S: Source, K: Sink, L: Sink>(
     output: &mut K,
     log: &mut L,
 ) -> Status
-    // What was read and written, which calls failed, and what was reported; the clauses behind it follow from it.
+    // What was read and written, which calls failed, and what was reported; the clauses after it follow from it.
     ensures exact { Ran (map string_bytes words.now) result
         (ends_of (S.left input.old) (S.faults input.old) (K.held output.old) (K.faults output.old))
         (ends_of (S.left input.new) (S.faults input.new) (K.held output.new) (K.faults output.new))
@@ -86,7 +87,7 @@ fn run_alone<S: Source, K: Sink, L: Sink>(
         × Rose (S.faults input.old) (S.faults input.new) × SameOrRose (K.faults output.old) (K.faults output.new) × (L.faults log.new ≡ L.faults log.old) }
     ensures line { result ≢ Answered.WriteFault → (ended : Ended) × (result ≡ status_of ended)
         × (L.held log.new ≡ after_adding (L.held log.old) (line_of ended)) }
-    // A write of the output failed and the log has the line of it, or one of the log did, behind a front of the line of how it ended.
+    // A write of the output failed and the log has its line, or one of the log failed after a front of the line of how the run ended.
     ensures write_fault { result ≡ Answered.WriteFault
         → ((S.faults input.new ≡ S.faults input.old) × Rose (K.faults output.old) (K.faults output.new) × (L.faults log.new ≡ L.faults log.old)
         × (L.held log.new ≡ after_adding (L.held log.old) (line_of ending.WriteFault)))
@@ -108,13 +109,13 @@ fn run_alone<S: Source, K: Sink, L: Sink>(
     run_by(alloc, words, input, output, log)
 }
 
-/// Does all that the program does, by the words of its command line, and answers its status.
+/// Runs the program by the words of its command line, and returns its status.
 ///
-/// `replay`, `replay --raw SINK` and `summary` replay the session that `input` has: see [`crate::replay`] and [`crate::View`].
-/// `gen NUMBER COUNT` writes the session that a number of 64 bits and a count up to 1,000,000 give, both in decimal digits
-/// alone: see [`px_gen::generate`]. `serve` with its options serves live clients on the sinks of the header that the host reads, and
-/// waits for them: see [`serve_by`] and [`px_server::serve`]; with `--tape` the output then gets a session of what was done. Other words are `Usage`, and then nothing is read or written but
-/// the log's line. Where the log's line can't be written, the status is `WriteFault`.
+/// `replay`, `replay --raw SINK` and `summary` replay the session in `input`: see [`crate::replay`] and [`crate::View`]. `gen NUMBER COUNT` writes
+/// the session generated from a number of 64 bits and a count up to 1,000,000, both in decimal digits alone: see [`px_gen::generate`]. `serve` with
+/// its options serves live clients on the sinks of the header that the host reads, and waits for them: see [`serve_by`] and [`px_server::serve`];
+/// with `--tape` the output then gets a session of what was done. Other words are `Usage`, and then nothing is read, and only the log's line written.
+/// Where the log's line can't be written, the status is `WriteFault`.
 pub fn run<R, S, K, L, H>(
     rt: &R,
     words: &[String],
@@ -142,9 +143,11 @@ where
         (log_end (L.held log.old) (L.faults log.old)) (log_end (L.held log.new) (L.faults log.new)) }
     ensures serve_alone { is_serve (map string_bytes words.now) ≡ true
         → (S.left input.new ≡ S.left input.old) × (S.faults input.new ≡ S.faults input.old) }
+    // Where that ends with Ok, no link comes any more, and nothing of the host failed.
+    ensures serve_ok { is_serve (map string_bytes words.now) ≡ true → result ≡ Answered.Ok → IsFine (H.now host.old) (H.now host.new) }
     // By all other words the host isn't called.
     ensures unserved { is_serve (map string_bytes words.now) ≡ false → H.now host.new ≡ H.now host.old }
-    // What was read and written, which calls failed, and what was reported; the clauses behind it follow from it.
+    // What was read and written, which calls failed, and what was reported; the clauses after it follow from it.
     ensures exact { is_serve (map string_bytes words.now) ≡ false → Ran (map string_bytes words.now) result
         (ends_of (S.left input.old) (S.faults input.old) (K.held output.old) (K.faults output.old))
         (ends_of (S.left input.new) (S.faults input.new) (K.held output.new) (K.faults output.new))
@@ -171,7 +174,7 @@ where
         × Rose (S.faults input.old) (S.faults input.new) × SameOrRose (K.faults output.old) (K.faults output.new) × (L.faults log.new ≡ L.faults log.old) }
     ensures line { is_serve (map string_bytes words.now) ≡ false → result ≢ Answered.WriteFault → (ended : Ended) × (result ≡ status_of ended)
         × (L.held log.new ≡ after_adding (L.held log.old) (line_of ended)) }
-    // A write of the output failed and the log has the line of it, or one of the log did, behind a front of the line of how it ended.
+    // A write of the output failed and the log has its line, or one of the log failed after a front of the line of how the run ended.
     ensures write_fault { is_serve (map string_bytes words.now) ≡ false → result ≡ Answered.WriteFault
         → ((S.faults input.new ≡ S.faults input.old) × Rose (K.faults output.old) (K.faults output.new) × (L.faults log.new ≡ L.faults log.old)
         × (L.held log.new ≡ after_adding (L.held log.old) (line_of ending.WriteFault)))

@@ -1,4 +1,4 @@
-//! What stands next in a session: its header, and then its events.
+//! Reads the next item of a session: its header, and then its events.
 
 ghost use Rattle.std.specs.Prelude.{◌≡◌, ◌<◌, ◌≤◌, ◌^◌, true, false, IfOk, OnOk, IfSome};
 ghost use Rattle.px_session.specs.Reader.{Takes};
@@ -13,7 +13,7 @@ use px_ends::Source;
 use px_header::Header;
 use px_session::{Event, ReadError, Reader, Step};
 
-/// The header.
+/// Reads the header.
 pub(crate) fn next_header<S: Source>(
     reader: &mut Reader,
     input: &mut S,
@@ -31,7 +31,7 @@ pub(crate) fn next_header<S: Source>(
     }
 }
 
-/// The next event behind the header, or `None` at the end.
+/// Reads the next event after the header; `None` at the end.
 pub(crate) fn next_event<S: Source>(
     reader: &mut Reader,
     input: &mut S,
@@ -50,7 +50,7 @@ pub(crate) fn next_event<S: Source>(
     }
 }
 
-/// How a run ends where nothing more is read.
+/// How a run ends where the reader returns an error.
 pub(crate) fn unread(e: ReadError) -> Ending
     ensures { result ≡ unread e }
 {

@@ -14,7 +14,7 @@ use px_ends::{Sink, write_all};
 use px_session::{OutRecord, WriteError, write_effect};
 use px_world::Outcome;
 
-// A frame that a client was sent is short enough for its record.
+// Writes the record of an effect. A frame that a client was sent is short enough for its record.
 fn write_effect_record<K: Sink>(output: &mut K, effect: &Effect) -> Result<(), WriteError>
     requires { IsSendable effect.now }
     ensures ok { OnOk result (K.held output.new ≡ after_adding (K.held output.old) (effect_record effect.now)) }
@@ -91,7 +91,7 @@ fn write_records<K: Sink>(
     write_played(output, sink, outcome.frames, outcome.played.as_slice())
 }
 
-// Writes the bytes that a turn of the sink with an index consumed.
+// Writes the bytes that a turn of sink `of` consumed.
 fn write_raw<K: Sink>(
     output: &mut K,
     sink: Option<u8>,
@@ -110,7 +110,7 @@ fn write_raw<K: Sink>(
     }
 }
 
-/// Writes what is shown of an event that did this; of a turn, the sink is given. Takes no memory.
+/// Writes what is shown of an event with this outcome; of a turn, `sink` is its sink. Takes no memory.
 pub(crate) fn write_outcome<K: Sink>(
     output: &mut K,
     lens: Lens,

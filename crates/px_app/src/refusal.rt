@@ -23,13 +23,13 @@ pub enum Why {
 /// Why a recorded session is refused, and where.
 #[derive(Clone, Copy, Debug, PartialEq, Eq)]
 pub struct Refusal {
-    /// The offset from the session's first byte. Of an event that the world doesn't admit it is the kind byte's.
+    /// The offset from the session's first byte. For an event that the world doesn't admit it is that of the kind byte.
     pub at: u64,
     /// The first cause that was met.
     pub why: Why,
 }
 
-/// The number that an event names, of a connection or of a sink.
+/// The number of the event's connection, or of its sink.
 pub(crate) fn number_of(e: &Event) -> u32
     ensures { result ≡ number_of e.now }
 {
@@ -77,7 +77,7 @@ fn why_text(alloc: Global, why: Why) -> Result<String, AllocError>
     }
 }
 
-/// The line of the log that says a refusal, with its line end.
+/// The log's line of a refusal, with its line end.
 pub(crate) fn refusal_line(alloc: Global, refusal: Refusal) -> Result<String, AllocError>
     ensures { IfOk result (λ line. string_bytes line ≡ refusal_line refusal) }
 {

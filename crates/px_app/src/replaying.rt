@@ -43,9 +43,9 @@ pub(crate) fn replay_by<S: Source, K: Sink, L: Sink>(
 /// writes to `output` a record for each effect and for the frames of each turn, in order, and then the end byte. A status other
 /// than `Ok` has its line in `log`; where that line can't be written, the status is `WriteFault`.
 ///
-/// `Refused` is the first rule of sessions that the bytes break, or the first event that names a state which the world
-/// hasn't; the log has the offset and the cause, and the output the records of the events before.
-/// After `Memory`, `ReadFault` and `WriteFault` the output gained a front of what the bytes that were read give.
+/// `Refused` is the first rule of sessions that the bytes break, or the first event that names a state which the world hasn't; the log has the offset
+/// and the cause, and the output the records of the events before. After `Memory`, `ReadFault` and `WriteFault` the output gained a front of what is
+/// shown of the bytes that were read.
 pub fn replay<S: Source, K: Sink, L: Sink>(
     alloc: Global,
     view: View<'_>,
@@ -53,7 +53,7 @@ pub fn replay<S: Source, K: Sink, L: Sink>(
     output: &mut K,
     log: &mut L,
 ) -> Status
-    // What was read and written, which calls failed, and what was reported; the clauses behind it follow from it.
+    // What was read and written, which calls failed, and what was reported; the clauses after it follow from it.
     ensures exact { Replayed (shown_of view.entry) result
         (ends_of (S.left input.old) (S.faults input.old) (K.held output.old) (K.faults output.old))
         (ends_of (S.left input.new) (S.faults input.new) (K.held output.new) (K.faults output.new))
@@ -68,7 +68,7 @@ pub fn replay<S: Source, K: Sink, L: Sink>(
     ensures no_such_sink { result ≡ Answered.NoSuchSink → WasUnnamed (shown_of view.entry)
         (ends_of (S.left input.old) (S.faults input.old) (K.held output.old) (K.faults output.old))
         (ends_of (S.left input.new) (S.faults input.new) (K.held output.new) (K.faults output.new)) }
-    // With every other status the output gained a front of what the bytes that were read give.
+    // With every other status the output gained a front of what is shown of the bytes that were read.
     ensures front { PlayedFront (shown_of view.entry)
         (ends_of (S.left input.old) (S.faults input.old) (K.held output.old) (K.faults output.old))
         (ends_of (S.left input.new) (S.faults input.new) (K.held output.new) (K.faults output.new)) }
@@ -79,7 +79,7 @@ pub fn replay<S: Source, K: Sink, L: Sink>(
         → Rose (S.faults input.old) (S.faults input.new) × SameOrRose (K.faults output.old) (K.faults output.new) × (L.faults log.new ≡ L.faults log.old) }
     ensures line { result ≢ Answered.WriteFault → (ended : Ended) × (result ≡ status_of ended)
         × (L.held log.new ≡ after_adding (L.held log.old) (line_of ended)) }
-    // A write of the output failed and the log has the line of it, or one of the log did, behind a front of the line of how it ended.
+    // A write of the output failed and the log has its line, or one of the log failed after a front of the line of how the run ended.
     ensures write_fault { result ≡ Answered.WriteFault
         → ((S.faults input.new ≡ S.faults input.old) × Rose (K.faults output.old) (K.faults output.new) × (L.faults log.new ≡ L.faults log.old)
         × (L.held log.new ≡ after_adding (L.held log.old) (line_of ending.WriteFault)))

@@ -1,5 +1,5 @@
-//! What the words of `serve` do: the host is started with their options, the header that it reads is served, and all that the host
-//! made goes back to it. `source` has the bytes of the header file, `header` reads them, `back` hands back, and `call` is the one call.
+//! The command `serve`: the host is started with its options, the header that it reads is served, and all that the host made goes back to it.
+//! `source` has the bytes of the header file, `header` reads them, `back` hands back, and `call` is the one call.
 
 mod back;
 mod call;

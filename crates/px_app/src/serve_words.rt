@@ -1,5 +1,5 @@
-//! The words of `serve`, read with clap: the options that its command line gives. `read` has the one call, `command` the command as
-//! clap knows it, `options` what its matches say, and `words` the answers.
+//! The words of `serve`, read with clap: the options on its command line. `read` has the one call, `command` the command as clap knows it, `options`
+//! the options of its matches, and `words` the results.
 
 mod command;
 mod options;

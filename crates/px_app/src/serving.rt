@@ -1,4 +1,4 @@
-//! What the words of `serve` do, and what the log gains of it.
+//! The command `serve`, and what the log gains of it.
 
 ghost use Rattle.std.specs.Prelude.{◌≡◌, map, string_bytes};
 ghost use Rattle.px_app.specs.Ends.{log_end};
@@ -16,7 +16,7 @@ use std::rt::Clock;
 use std::sync::Wait;
 use std::thread::Threads;
 
-/// Whether words are those of `serve`: they begin with it.
+/// Whether the words are those of `serve`: the first one is `serve`.
 pub(crate) fn is_serve(words: &[String]) -> bool
     ensures { result ≡ is_serve (map string_bytes words.now) }
 {
@@ -26,7 +26,7 @@ pub(crate) fn is_serve(words: &[String]) -> bool
     }
 }
 
-// The line of a server's status, with its line end. Nothing where all went well.
+// The line of a server's status, with its line end. Empty for `Ok`.
 fn line_of_status(status: Status) -> &'static [u8]
     ensures { result.now ≡ line_of_status status }
 {
@@ -50,7 +50,7 @@ fn report_status<L: Sink>(status: Status, log: &mut L) -> Status
     }
 }
 
-/// Serves by words, and reports how that ended.
+/// Carries out the command `serve`, and reports how that ended.
 pub(crate) fn serve_reported<R, K, L, H>(
     rt: &R,
     alloc: Global,

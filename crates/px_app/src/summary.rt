@@ -18,7 +18,7 @@ fn tally_lines(alloc: Global, tally: Tally) -> Result<String, AllocError>
     format!(in alloc; "events {events}\nsent {sent}\nclosed {closed}\n")
 }
 
-// The line of a sink, added to a text.
+// Appends the line of a sink to a text.
 fn add_line(alloc: Global, text: &mut Text, name: &[u8], consumed: u64, filled: u64) -> Mem<()>
     ensures { OnOk result (text.new ≡ text.old ++ sink_line name.now consumed filled) }
 {
@@ -28,7 +28,7 @@ fn add_line(alloc: Global, text: &mut Text, name: &[u8], consumed: u64, filled: 
     text.extend(behind.as_bytes())
 }
 
-/// The summary of a run: its counts, and how far each sink came.
+/// The summary of a run: its counts, and the frame counts of each sink.
 pub(crate) fn summary(alloc: Global, tally: Tally, sinks: &[SinkSpec], world: &World) -> Mem<Text>
     ensures { IfOk result (λ text. text ≡ tally_lines tally ++ sink_lines 0 sinks.now world.now.mixers) }
 {

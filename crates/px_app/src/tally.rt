@@ -1,4 +1,4 @@
-//! What a run has done, in counts.
+//! The counts of a run.
 
 ghost use Rattle.std.specs.Prelude.{◌≡◌, ◌+◌, ◌-◌, ◌^◌};
 ghost use Rattle.px_app.specs.Step.{AreFew};
@@ -6,7 +6,7 @@ ghost use Rattle.px_app.specs.Summary.{is_sent, is_closed, sent_in, closed_in, t
 
 use px_core::Effect;
 
-/// How many events were played, and what they did to the outside.
+/// The number of events that were played, and of their effects.
 #[derive(Clone, Copy, Debug)]
 pub(crate) struct Tally {
     pub events: u64,
@@ -34,7 +34,7 @@ fn is_closed(effect: &Effect) -> bool
     }
 }
 
-// How many frames of packets these effects send.
+// The number of frames of packets that these effects send.
 fn sent_in(effects: &[Effect]) -> u64
     ensures { result ≡ sent_in effects.now }
 {
@@ -47,7 +47,7 @@ fn sent_in(effects: &[Effect]) -> u64
     count
 }
 
-// How many connections they end.
+// The number of connections that these effects end.
 fn closed_in(effects: &[Effect]) -> u64
     ensures { result ≡ closed_in effects.now }
 {
@@ -61,7 +61,7 @@ fn closed_in(effects: &[Effect]) -> u64
 }
 
 impl Tally {
-    /// Nothing is counted.
+    /// A tally with all counts 0.
     pub(crate) fn new() -> Tally
         ensures { result ≡ record { events = 0; sent = 0; closed = 0 } }
     {
@@ -72,7 +72,7 @@ impl Tally {
         }
     }
 
-    /// One event more, which has these effects.
+    /// Counts one more event, which has these effects.
     pub(crate) fn add(&mut self, effects: &[Effect])
         requires { AreFew self.old (2 ^ 40 - 1) }
         ensures value { self.new ≡ tallied self.old effects.now }

@@ -13,12 +13,12 @@ pub enum View<'a> {
     Records,
     /// The bytes that the sink with this name has played, and nothing else.
     Raw(&'a str),
-    /// Lines of text behind the last event: how many events there were, how many frames of packets were sent and how many
-    /// connections closed, and how far each sink came.
+    /// Lines of text after the last event: the number of events, of frames of packets sent and of connections closed, and the frame counts of each
+    /// sink.
     Summary,
 }
 
-/// What that is of a session whose sinks are known.
+/// A view of a session whose sinks are known.
 #[derive(Clone, Copy, Debug)]
 pub(crate) enum Lens {
     /// All records.
@@ -36,7 +36,7 @@ fn place_of(sinks: &[SinkSpec], name: &[u8]) -> Option<usize>
     sinks.iter().position(|s| s.name.as_slice() == name)
 }
 
-/// What a view is of a session with these sinks, or `None` where no sink has the view's name. Takes no memory.
+/// The lens for a view of a session with these sinks, or `None` where no sink has the view's name. Takes no memory.
 pub(crate) fn lens_of(view: View<'_>, sinks: &[SinkSpec]) -> Option<Lens>
     ensures { result ≡ lens_of (shown_of view.entry) sinks.now }
 {

@@ -5,7 +5,7 @@ ghost use Rattle.px_app.specs.Words.{number_in, in_64_bits, gen_of, of_one, of_t
 
 use crate::view::View;
 
-/// The greatest count of steps of a session that is made.
+/// The greatest count of steps of a generated session.
 const MOST_STEPS: u64 = 1_000_000;
 
 /// What the words of the command line mean.
@@ -13,11 +13,11 @@ const MOST_STEPS: u64 = 1_000_000;
 pub(crate) enum Words<'a> {
     /// A session is replayed.
     Replay(View<'a>),
-    /// A session is made.
+    /// A session is generated.
     Gen { number: u64, count: u32 },
 }
 
-// The number of 64 bits that decimal digits alone say, of which there is one at least.
+// The number of 64 bits that a word of decimal digits, at least one, writes.
 fn number(word: &[u8]) -> Option<u64>
     ensures { result ≡ in_64_bits (number_in word.now) }
 {
@@ -76,7 +76,7 @@ fn three<'a>(first: &str, second: &str, third: &'a str) -> Option<Words<'a>>
     }
 }
 
-/// What the words mean, or `None` where they mean nothing. Takes no memory.
+/// The meaning of the words, or `None` where they have none. Takes no memory.
 pub(crate) fn meaning(words: &[String]) -> Option<Words<'_>>
     ensures { option_map meaning_of result ≡ meaning_in (map string_bytes words.now) }
 {

@@ -5,11 +5,11 @@ ghost use Rattle.std.specs.Prelude.{◌≡◌, ◌+◌, ◌-◌, ◌≤◌, ◌+
 use std::alloc::{AllocError, AllocFailed, Global};
 use std::marker::Model;
 
-/// There was no memory. Nothing else answers so.
+/// There was no memory. No other failure is answered so.
 #[derive(Clone, Copy, Debug, PartialEq, Eq)]
 pub struct NoMemory;
 
-/// The answer of a call that takes memory and has no other way to fail.
+/// The answer of a call that can fail only for want of memory.
 pub type Mem<T> = Result<T, NoMemory>;
 
 impl From<AllocError> for NoMemory {
@@ -27,8 +27,8 @@ impl<T: Drop> From<AllocFailed<T>> for NoMemory {
 /// The most bytes that one block has, as `PA_MEMPOOL_SLOT_SIZE` in `pulsecore/memblock.c`.
 pub const BLOCK_SIZE: usize = 65_536;
 
-/// A block of bytes (`pa_memblock`): what was put into it since it was taken, at most `BLOCK_SIZE` bytes.
-/// Its room is taken when it is made; `fit` gives back what it doesn't use, and `open` takes it again.
+/// A block of bytes (`pa_memblock`): the bytes put since it was taken, at most `BLOCK_SIZE`. Its room is taken when it is made; `fit` gives
+/// back the unused part, and `open` takes it again.
 #[derive(Debug, Drop)]
 pub struct Block {
     bytes: Vec<u8>,
@@ -47,7 +47,7 @@ impl Model for Block {
 }
 
 impl Block {
-    /// A block with no bytes. Takes the memory for all that it can have.
+    /// An empty block. Takes the memory for `BLOCK_SIZE` bytes.
     pub fn new(alloc: Global) -> Mem<Block>
         ensures { IfOk result (λ block. block ≡ record { bytes = []; room = BLOCK_SIZE }) }
     {
@@ -56,7 +56,7 @@ impl Block {
         })
     }
 
-    /// A block with no bytes, and the memory for so many, at most for all that it can have.
+    /// An empty block with the memory for `bytes` bytes, at most `BLOCK_SIZE`.
     pub fn with_room(alloc: Global, bytes: usize) -> Mem<Block>
         ensures bytes { IfOk result (λ block. block.bytes ≡ []) }
         ensures room { IfOk result (λ block. min bytes BLOCK_SIZE ≤ block.room) }
@@ -66,8 +66,7 @@ impl Block {
         })
     }
 
-    /// Appends the first of these bytes, and answers how many went in: all of them, or as many as there was
-    /// room for. Takes no memory.
+    /// Appends the first of these bytes, and answers how many went in: all of them, or the part that there was room for. Takes no memory.
     pub fn put(&mut self, bytes: &[u8]) -> usize
         ensures count { result ≡ min (length bytes.now) self.old.room }
         ensures bytes { self.new.bytes ≡ self.old.bytes ++ take result bytes.now }
@@ -94,7 +93,7 @@ impl Block {
         self.bytes.as_slice()
     }
 
-    /// Takes all bytes out, so that the block can be used again. Its room stays, and it takes no memory.
+    /// Removes all bytes, so that the block can be used again. Its room stays, and it takes no memory.
     pub fn clear(&mut self)
         ensures bytes { self.new.bytes ≡ [] }
         ensures room { self.new.room ≡ length self.old.bytes + self.old.room }
@@ -102,7 +101,7 @@ impl Block {
         self.bytes.clear();
     }
 
-    /// Gives back the memory that its bytes don't use. It has less room then, and takes no memory.
+    /// Gives back the unused memory. Its room becomes smaller. Takes no memory.
     pub fn fit(&mut self)
         ensures bytes { self.new.bytes ≡ self.old.bytes }
         ensures room { self.new.room ≤ self.old.room }
@@ -110,7 +109,7 @@ impl Block {
         self.bytes.shrink_to_fit();
     }
 
-    /// Takes the room for so many bytes more, at most for all that it can have. Without memory nothing changes.
+    /// Takes the room for `bytes` more bytes, up to `BLOCK_SIZE` in all. Without memory nothing changes.
     pub fn reserve(&mut self, bytes: usize) -> Mem<()>
         ensures bytes { self.new.bytes ≡ self.old.bytes }
         ensures ok { OnOk result (min bytes (BLOCK_SIZE - length self.new.bytes) ≤ self.new.room) }
@@ -120,7 +119,7 @@ impl Block {
         Ok(())
     }
 
-    /// Takes the room for all that it can have. Without memory nothing changes.
+    /// Takes the room for `BLOCK_SIZE` bytes in all. Without memory nothing changes.
     pub fn open(&mut self) -> Mem<()>
         ensures bytes { self.new.bytes ≡ self.old.bytes }
         ensures ok { OnOk result (length self.new.bytes + self.new.room ≡ BLOCK_SIZE) }

@@ -1,4 +1,4 @@
-// A run of bytes that lies in blocks.
+// A run of bytes stored in blocks.
 
 ghost use Rattle.std.specs.Prelude.{◌≡◌, ℕ, ◌+◌, ◌*◌, ◌-◌, ◌%◌, ◌^◌, ◌<◌, ◌≤◌, ◌++◌, [], ◌∷◌, length, take, drop, min, vec_len, vec_capacity, IfOk, IfSome, OnOk, OnErr, OnSome, MatchOption};
 ghost use Rattle.std.specs.List.{concat};
@@ -11,7 +11,7 @@ use crate::source::BlockSource;
 use std::alloc::Global;
 use std::marker::Model;
 
-// The most first bytes that wait in a block of their size, until more come.
+// The most first bytes that are put into a small block until more come.
 const FEW: usize = BLOCK_SIZE / 4;
 
 /// Bytes in blocks, one block after the other (`pa_memchunk`s of one write): each block but the last is
@@ -44,8 +44,8 @@ impl Blocks {
         }
     }
 
-    /// Appends the first of these bytes to the last block, or to one that it takes where that is full, and
-    /// answers how many went in: none only where there are none. After an `Err` nothing has changed.
+    /// Appends the first of these bytes to the last block, or to a new one from `source` where that is full, and answers how many went in:
+    /// 0 only where `bytes` is empty. After an `Err` nothing has changed.
     pub fn put<B: BlockSource>(&mut self, source: &mut B, bytes: &[u8]) -> Mem<usize>
         ensures count { IfOk result (λ count.
             count ≡ min (length bytes.now) (BLOCK_SIZE - length self.old % BLOCK_SIZE)) }
@@ -65,7 +65,7 @@ impl Blocks {
         Ok(count)
     }
 
-    /// Gives back the memory that the last block doesn't use, once no more bytes are expected. Takes no memory.
+    /// Gives back the unused memory of the last block, once no more bytes are expected. Takes no memory.
     pub fn fit(&mut self)
         ensures { self.new ≡ self.old }
     {
@@ -95,7 +95,7 @@ impl Blocks {
         self.blocks.as_slice()
     }
 
-    /// Gives each block to a source. Takes no memory.
+    /// Gives each block back to `source`. Takes no memory.
     pub fn give_back<B: BlockSource>(self, source: &mut B)
         ensures { B.given source.new ≡ after_giving (B.given source.old) (blocks_for (length self)) }
     {
@@ -141,7 +141,7 @@ fn fit_last(blocks: &mut Vec<Block>)
     }
 }
 
-// Puts the first bytes, which are few, into a block with room for them. After an `Err` there is still none.
+// Puts the first bytes, which are few, into a block with room for them. After an `Err` there is still no block.
 fn put_first<B: BlockSource>(blocks: &mut Vec<Block>, source: &mut B, bytes: &[u8]) -> Mem<()>
     requires none { vec_len blocks.old ≡ 0 }
     requires few { length bytes.now ≤ BLOCK_SIZE }
@@ -155,7 +155,7 @@ fn put_first<B: BlockSource>(blocks: &mut Vec<Block>, source: &mut B, bytes: &[u
     Ok(())
 }
 
-// Takes the last block out where it isn't full, so that only full ones are left.
+// Removes and answers the last block if it isn't full, so that only full ones are left.
 fn take_partial(blocks: &mut Vec<Block>) -> Option<Block>
     requires { IsPacked (contents blocks.old.items) }
     ensures items { MatchOption result (blocks.new.items ≡ blocks.old.items) (λ last. blocks.old.items ≡ blocks.new.items ++ last ∷ []) }
@@ -174,8 +174,8 @@ fn take_partial(blocks: &mut Vec<Block>) -> Option<Block>
     None
 }
 
-// Takes the last block out where it isn't full, else a new one from the source, so that only full ones are left
-// and there is room to push it. It has room for all that a block can have. After an `Err` no bytes have changed.
+// Removes the last block if it isn't full, else takes a new one from `source`; only full blocks are left, with room to push it. It has room
+// for `BLOCK_SIZE` bytes in all. After an `Err` no bytes have changed.
 fn take_open<B: BlockSource>(blocks: &mut Vec<Block>, source: &mut B) -> Mem<Block>
     requires { IsPacked (contents blocks.old.items) }
     ensures bytes { IfOk result (λ last. concat (contents blocks.new.items) ++ last.bytes ≡ concat (contents blocks.old.items)) }

@@ -1,5 +1,5 @@
-//! Blocks of bytes, of one size each, and the sources that hand them out and take them back.
-//! A stream's written bytes lie in blocks from the moment they come off the wire until they are mixed.
+//! Blocks of bytes, all of one size, and the sources that hand them out and take them back. A stream's written bytes lie in blocks from the
+//! moment they come off the wire until they are mixed.
 #![tactic(auto)]
 
 mod block;

@@ -1,4 +1,4 @@
-// Blocks that are shared by count.
+// Blocks shared by reference count.
 
 ghost use Rattle.std.specs.Prelude.{◌≡◌, ◌+◌, ◌-◌, ◌^◌, ◌<◌, ◌≤◌, ◌==◌, ◌++◌, [], if◌then◌else◌, length, take, drop, Some, None, IfOk, IfErr, IsOk, OnOk, OnErr, OnSome, MatchOption};
 ghost use Rattle.px_block.specs.Shelved.{under, references_to, bytes_of, retained, released, appended, SetsOnly};
@@ -8,7 +8,7 @@ use slab::Slab;
 use std::alloc::Global;
 use std::marker::Model;
 
-// A block with the number of its references, at least one.
+// A block with its count of references, at least one.
 #[derive(Debug, Drop)]
 struct Counted {
     block: Block,
@@ -93,8 +93,8 @@ impl Counted {
     }
 }
 
-/// Blocks that are shared by count (`pa_memblock_ref` and `pa_memblock_unref`): each stands under a key that the shelf picks, until the
-/// last reference to it is released. Put, it has one; `retain` adds one, and `release` takes one away.
+/// Blocks shared by reference count (`pa_memblock_ref` and `pa_memblock_unref`): each is stored under a key that the shelf picks, until its
+/// last reference is released. `put` gives it one; `retain` adds one, and `release` takes one away.
 #[derive(Debug, Drop)]
 pub struct Shelf {
     blocks: Slab<Counted>,
@@ -120,7 +120,7 @@ impl Shelf {
         }
     }
 
-    /// Takes room for so many more blocks. Without memory nothing changes.
+    /// Takes room for `more` more blocks. Without memory nothing changes.
     pub fn reserve(&mut self, more: usize) -> Mem<()>
         ensures ok { OnOk result (more ≤ self.new.room) }
         ensures slots { self.new.slots ≡ self.old.slots }
@@ -130,8 +130,8 @@ impl Shelf {
         Ok(())
     }
 
-    /// Puts a block under a free key, with one reference, and answers the key. Without memory it hands the block back and nothing changes;
-    /// where there is room it takes no memory, and can't fail.
+    /// Stores a block under a free key, with one reference, and answers the key. Without memory it hands the block back and nothing
+    /// changes; where there is room it takes no memory, and can't fail.
     pub fn put(&mut self, block: Block) -> Result<usize, Block>
         ensures free { IfOk result (λ key. under self.old key ≡ None) }
         ensures ok { IfOk result (λ key. SetsOnly self.old self.new key (Some (record { bytes = block.bytes; references = 1 }))) }
@@ -146,7 +146,7 @@ impl Shelf {
         }
     }
 
-    /// One reference more to the block under a key, which is there and has fewer than 2^64 - 1. Takes no memory.
+    /// Adds a reference to the block under `key`, which is there and has fewer than 2^64 - 1. Takes no memory.
     pub fn retain(&mut self, key: usize)
         requires there { 1 ≤ references_to (under self.old key) }
         requires countable { references_to (under self.old key) < 2 ^ 64 - 1 }
@@ -156,7 +156,7 @@ impl Shelf {
         self.blocks[key].retain();
     }
 
-    /// One reference less to the block under a key, which is there. With the last one the block is handed out, and the key is free; else
+    /// Releases a reference to the block under `key`, which is there. With the last one the block is handed out, and the key is free; else
     /// the answer is `None`. Takes no memory.
     pub fn release(&mut self, key: usize) -> Option<Block>
         requires { 1 ≤ references_to (under self.old key) }
@@ -172,7 +172,7 @@ impl Shelf {
         None
     }
 
-    /// So many bytes of the block under a key, which is there, from place `from` on; the block has them. Takes no memory.
+    /// The `len` bytes from place `from` on of the block under `key`, which is there and has them. Takes no memory.
     pub fn bytes(&self, key: usize, from: usize, len: usize) -> &[u8]
         requires there { 1 ≤ references_to (under self.now key) }
         requires inside { from + len ≤ length (bytes_of (under self.now key)) }
@@ -182,7 +182,7 @@ impl Shelf {
         &bytes[from..from + len]
     }
 
-    /// How many bytes the block under a key has, which is there. Takes no memory.
+    /// How many bytes the block under `key` has, which is there. Takes no memory.
     pub fn len_of(&self, key: usize) -> usize
         requires { 1 ≤ references_to (under self.now key) }
         ensures value { result ≡ length (bytes_of (under self.now key)) }
@@ -191,8 +191,8 @@ impl Shelf {
         self.blocks[key].bytes().len()
     }
 
-    /// Appends bytes to the block under a key, which is there, where it has the room for all of them, and answers whether it has. Takes no
-    /// memory.
+    /// Appends bytes to the block under `key`, which is there, and answers whether it had room for all of them; else nothing is appended.
+    /// Takes no memory.
     pub fn append(&mut self, key: usize, bytes: &[u8]) -> bool
         requires { 1 ≤ references_to (under self.old key) }
         ensures slots { SetsOnly self.old self.new key (appended (under self.old key) (if result then bytes.now else [])) }
@@ -201,7 +201,7 @@ impl Shelf {
         self.blocks[key].append(bytes)
     }
 
-    /// Takes room in the block under a key, which is there, for all that it can have, if there is memory.
+    /// Takes the room for `BLOCK_SIZE` bytes in the block under `key`, which is there, if there is memory.
     pub fn open(&mut self, key: usize)
         requires { 1 ≤ references_to (under self.old key) }
         ensures slots { SetsOnly self.old self.new key (under self.old key) }
@@ -210,7 +210,7 @@ impl Shelf {
         self.blocks[key].open();
     }
 
-    /// Gives back the memory that the bytes of the block under a key don't use, where one is there. Takes no memory.
+    /// Gives back the unused memory of the block under `key`, where one is there. Takes no memory.
     pub fn fit(&mut self, key: usize)
         ensures slots { SetsOnly self.old self.new key (under self.old key) }
         ensures room { self.new.room ≡ self.old.room }

@@ -1,4 +1,4 @@
-// Where blocks come from, and where they go when they were used.
+// Where blocks come from, and where used ones go.
 
 ghost use Rattle.std.specs.Prelude.{◌≡◌, ◌≤◌, ℕ, [], Option, None, min, IfOk};
 ghost use Rattle.px_block.specs.declared.block.TheConstants.{BLOCK_SIZE};
@@ -9,16 +9,16 @@ use std::alloc::Global;
 
 /// Hands out blocks and takes them back, as a memory pool does (`pa_mempool`).
 pub trait BlockSource {
-    /// How many blocks it was given back, where it tells.
+    /// How many blocks it was given back, where that is visible.
     ghost given: { Self → Option ℕ };
 
-    /// A block that shows no bytes, whatever its memory held before, and has room for all that a block can have.
+    /// An empty block with room for `BLOCK_SIZE` bytes, whatever its memory held before.
     fn take(&mut self) -> Mem<Block>
         ensures block { IfOk result (λ block. block ≡ record { bytes = []; room = BLOCK_SIZE }) }
         ensures given { given self.new ≡ given self.old };
 
-    /// A block that shows no bytes either, and has room for so many at least, at most for all that a block can have. Where few bytes are
-    /// to wait in it, a source may make a small one.
+    /// An empty block too, with room for at least `bytes` bytes, at most `BLOCK_SIZE`. Where few bytes are to wait in it, a source may make
+    /// a small one.
     fn take_for(&mut self, bytes: usize) -> Mem<Block>
         ensures bytes { IfOk result (λ block. block.bytes ≡ []) }
         ensures room { IfOk result (λ block. min bytes BLOCK_SIZE ≤ block.room) }
@@ -32,7 +32,7 @@ pub trait BlockSource {
         ensures { given self.new ≡ after_giving (given self.old) 1 };
 }
 
-/// The source that makes each block anew and drops each one that comes back. It doesn't tell how many came back.
+/// The source that makes each block anew and drops each one that comes back. How many came back isn't visible.
 #[derive(Clone, Copy, Debug)]
 pub struct Fresh {
     alloc: Global,

@@ -1,7 +1,7 @@
--- Up to 32 numbers that are held in place.
+-- Up to 32 numbers, stored in an array.
 use Rattle.std.specs.Prelude.{ℕ, List, ◌≡◌, ◌-◌, ◌++◌, ◌≤◌, length, take, replicate}
 
--- the list with zeros after it, up to 32 numbers
+-- the list padded with zeros to 32 numbers
 abbrev pub padded : List ℕ → List ℕ
 padded numbers = numbers ++ replicate (32 - length numbers) 0
 

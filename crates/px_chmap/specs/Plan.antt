@@ -1,4 +1,4 @@
--- The plan by which the channels of a stream feed those of a sink.
+-- The channel plan: which channel of a stream feeds each channel of a sink.
 use Rattle.std.specs.Prelude.{ℕ, ◌<◌, ◌≤◌, ◌≡◌, ◌==◌, Bool, true, ◌&&◌, not, List, [], ◌∷◌, length, map, position, unwrap_or, replicate, bytes_eq, All, Contains, if◌then◌else◌}
 use Rattle.std.specs.declared.option.Option.{Option}
 use Rattle.std.specs.declared.option.Option.TheVariants.{Some, None}
@@ -8,7 +8,7 @@ use Rattle.std.specs.List.{list_any, list_all, range_with_len}
 abbrev pub has_position : List ℕ → ℕ → Bool
 has_position positions p = list_any (λ q. q == p) positions
 
--- whether no position comes twice
+-- whether no position is repeated
 abbrev pub is_distinct : List ℕ → Bool
 is_distinct [] = true
 is_distinct (p ∷ rest) = not (has_position rest p) && is_distinct rest
@@ -22,7 +22,7 @@ is_rearranged from to =
 abbrev pub channel_at : List ℕ → ℕ → ℕ
 channel_at positions p = unwrap_or (position (λ q. q == p) positions) 0
 
--- so many channels, each fed by the one of its index
+-- a list of n channels, each fed by the one with its index
 abbrev pub by_index : ℕ → List ℕ
 by_index count = range_with_len 0 count
 
@@ -30,8 +30,7 @@ by_index count = range_with_len 0 count
 abbrev pub by_position : List ℕ → List ℕ → List ℕ
 by_position from to = map (channel_at from) to
 
--- the plan from a stream's map to a sink's, as a stream channel for each sink channel: the first of
--- these that applies, if any does
+-- the channel plan from a stream's map to a sink's, as a stream channel for each sink channel: the first of these that applies, if any does
 abbrev pub plan_of : List ℕ → List ℕ → Bool → Bool → Option (List ℕ)
 plan_of from to no_remap no_remix =
     if bytes_eq from to then Some (by_index (length to)) else

@@ -1,6 +1,5 @@
-//! Channel maps, and the plan by which the channels of a stream feed those of a sink.
-//! `map` has the speaker positions of a stream or a sink, `planner` finds the plan, and `feed` is what a
-//! plan is: a stream channel for each sink channel. `held` keeps up to 32 numbers in place.
+//! Channel maps, and the channel plan from a stream to a sink. `map` has the speaker positions of a stream or a sink, `planner` finds the
+//! plan, and `feed` is its form: a stream channel for each sink channel. `held` stores up to 32 numbers in an array.
 #![tactic(auto)]
 
 mod feed;

@@ -105,12 +105,10 @@ fn first_plan(from: &[u8], to: &[u8], no_remap: bool, no_remix: bool) -> Option<
     }
 }
 
-/// The plan by which the channels of a stream with the map `from` feed those of a sink with the map
-/// `to`: the first of these that applies. Equal maps, by index; with `no_remap`, equal counts, by index;
-/// distinct positions on both sides and the same set of them, by position; without `no_remix`, a stream
-/// of one channel, which feeds all. `None` exactly where none applies (own: PulseAudio mixes channels
-/// there). Takes no memory. Source: the flags are `PA_STREAM_NO_REMAP_CHANNELS` and
-/// `PA_STREAM_NO_REMIX_CHANNELS` of PulseAudio's `pulse/def.h`.
+/// The channel plan from a stream with the map `from` to a sink with the map `to`: the first of these that applies. Equal maps, by index;
+/// with `no_remap`, equal counts, by index; distinct positions on both sides and the same set of them, by position; without `no_remix`, a
+/// stream of one channel, which feeds all. `None` exactly where none applies (own: PulseAudio mixes channels there). Takes no memory.
+/// Source: the flags are `PA_STREAM_NO_REMAP_CHANNELS` and `PA_STREAM_NO_REMIX_CHANNELS` of PulseAudio's `pulse/def.h`.
 #[tactic(auto, using(crate::proofs::PlanLemmas::plan_fits))]
 pub fn plan(from: &Map, to: &Map, no_remap: bool, no_remix: bool) -> Option<Feed>
     ensures value { result ≡ plan_of from.now to.now no_remap no_remix }

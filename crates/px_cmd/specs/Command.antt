@@ -6,7 +6,7 @@ use Rattle.px_cmd.specs.declared.command.Command.{Command}
 use Rattle.px_cmd.specs.declared.command.Command.TheVariants as commands
 use Rattle.px_cmd.specs.Field.{Field, Number, Flag, String, Cookie, SampleSpec, Positions, Volumes, TimeValue, Properties, Keys}
 
--- a field that the connection's version has, or not
+-- a field that depends on the connection's version, if it is there
 abbrev pub optional : Option Bool → List Field
 optional None = []
 optional (Some b) = Flag b ∷ []
@@ -96,11 +96,11 @@ number_of (commands.UpdateClient mode list) = 82
 number_of (commands.RemoveStream stream keys) = 84
 number_of (commands.RemoveClient keys) = 85
 
--- the commands of lists that are always empty
+-- the commands whose lists are always empty
 abbrev pub is_empty_list : ℕ → Bool
 is_empty_list number = nat_eq number 24 || nat_eq number 26 || nat_eq number 32 || nat_eq number 34 || nat_eq number 89
 
--- the commands that share a variant are these alone
+-- EmptyList has the number of one of these commands
 abbrev pub IsNumbered : Command → Type 0
 IsNumbered (commands.EmptyList number) = IsTrue (is_empty_list number)
 IsNumbered _ = Unit {0}

@@ -1,4 +1,4 @@
--- The fields of a command's packet: their kinds, what each has, its spelling and its reading.
+-- The fields of a command's packet: their kinds, values, spelling and reading.
 use Rattle.std.specs.Prelude.{ℕ, zero, suc, Bool, List, [], ◌∷◌, ◌++◌, length, Option, None, Some, Result, Ok, Err}
 use Rattle.std.specs.List.{flat_map}
 use Rattle.px_tag.specs.declared.fault.TagFault.{TagFault}
@@ -46,7 +46,7 @@ abbrev pub key_then : Option (List ℕ) → Place → Result (List (List ℕ) ×
 key_then None place others = Ok ([], place)
 key_then (Some key) place others = others >>= λ list. Ok (key ∷ list.0, list.1)
 
--- each key has a byte at least, so there are no more of them than bytes
+-- each key has at least one byte, so the number of bytes bounds the number of keys
 unfoldable pub keys_at : ℕ → Reading (List (List ℕ))
 keys_at zero place = Err (Short place.size)
 keys_at (suc most) place = do
@@ -65,7 +65,7 @@ spelling (TimeValue t) = time t
 spelling (Properties list) = proplist list
 spelling (Keys list) = keys_spelling list
 
--- the field of a kind that stands at a place
+-- the field of this kind at a place
 abbrev pub field_at : Kind → Reading Field
 field_at u32 place = number_at place >>= λ x. Ok (Number x.0, x.1)
 field_at bool place = flag_at place >>= λ x. Ok (Flag x.0, x.1)
@@ -78,7 +78,7 @@ field_at time_value place = time_at place >>= λ x. Ok (TimeValue x.0, x.1)
 field_at properties place = proplist_at place >>= λ x. Ok (Properties x.0, x.1)
 field_at keys place = keys_at (length place.rest) place >>= λ x. Ok (Keys x.0, x.1)
 
--- fields of these kinds, one behind the other
+-- fields of these kinds, one after the other
 abbrev pub fields_at : List Kind → Reading (List Field)
 fields_at [] place = Ok ([], place)
 fields_at (kind ∷ kinds) place = field_at kind place >>= λ first. fields_at kinds first.1 >>= λ others. Ok (first.0 ∷ others.0, others.1)

@@ -1,4 +1,4 @@
--- What a field of a kind may be, so that it has a spelling.
+-- The values of a field of a kind that have a spelling.
 use Rattle.std.specs.Prelude.{◌≡◌, ℕ, ◌<◌, ◌≤◌, ◌^◌, List, [], ◌∷◌, ◌++◌, map, Some}
 use Rattle.std.specs.List.{flat_map, AllByRecursion}
 use Rattle.px_tag.specs.PropList.{Property, meaning as properties_meant}
@@ -41,8 +41,7 @@ pub record IsCommand (command tag : ℕ) (fields : List Field) : Type 0 where
 abbrev pub packet_of : ℕ → ℕ → List Field → List ℕ
 packet_of command tag fields = number command ++ number tag ++ flat_map spelling fields
 
--- The bytes spell the field. A property list may be spelled with a key twice: then it has the last value at the
--- first place.
+-- The bytes spell the field. A property list may be spelled with a key twice: it then means the last value at the first place.
 abbrev pub IsSpelledAs : Field → List ℕ → Type 0
 IsSpelledAs (Number n) bytes = bytes ≡ spelling (Number n)
 IsSpelledAs (Flag b) bytes = bytes ≡ spelling (Flag b)
@@ -55,12 +54,12 @@ IsSpelledAs (TimeValue t) bytes = bytes ≡ spelling (TimeValue t)
 IsSpelledAs (Properties list) bytes = (written : List Property) × AreProperties written × (list ≡ properties_meant written) × (bytes ≡ proplist written)
 IsSpelledAs (Keys list) bytes = bytes ≡ spelling (Keys list)
 
--- the bytes spell the fields, one behind the other
+-- the bytes spell the fields, one after the other
 abbrev pub AreSpelledAs : List Field → List ℕ → Type 0
 AreSpelledAs [] bytes = bytes ≡ []
 AreSpelledAs (field ∷ fields) bytes = (front : List ℕ) × (rest : List ℕ) × IsSpelledAs field front × AreSpelledAs fields rest × (bytes ≡ front ++ rest)
 
--- the packet is a command's number, a tag and fields of the kinds that the table gives the command, and nothing more
+-- the packet is exactly a command's number, a tag and fields of the kinds that the table gives the command
 pub record IsPacketOf (packet : List ℕ) (command : ℕ) (fields : List Field) : Type 0 where
   pub tag : ℕ
   pub cells : List ℕ

@@ -11,7 +11,7 @@ use Rattle.px_cmd.specs.declared.fault.CmdFault.TheVariants.{Unsupported}
 use Rattle.px_cmd.specs.Field.{Field, Number, Flag, String, Cookie, SampleSpec, Positions, Volumes, TimeValue, Properties, Keys}
 use Rattle.px_cmd.specs.Packet.{meaning}
 
--- ---- the command with these fields, where they are of its kinds
+-- ---- the command with these fields, where they have its kinds
 
 abbrev pub of_nothing : Command → List Field → Option Command
 of_nothing command [] = Some command
@@ -182,7 +182,7 @@ command_by (Err fault) = Err fault
 unfoldable pub meant : List ℕ → Result Command CmdFault
 meant packet = command_by (meaning packet)
 
--- ---- what a packet of version 13 can mean: four numbers are asked, and the flags of later versions aren't there
+-- ---- what a packet of version 13 can mean: it has four buffer attributes, and not the flags of later versions
 
 pub record AreFields (c : CreateFields) : Type 0 where
   pub asked : length c.asked ≡ 4

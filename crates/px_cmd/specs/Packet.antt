@@ -17,7 +17,7 @@ head_at place = do
   tag ← number_at command.1
   Ok ((command.0, tag.0), tag.1)
 
--- fields of these kinds, and nothing more
+-- exactly fields of these kinds, up to the packet's end
 abbrev pub all_fields : List Kind → Place → Result (List Field) TagFault
 all_fields kinds place = fields_at kinds place >>= λ fields. end_at fields.1 >>= λ nothing. Ok fields.0
 
@@ -25,7 +25,7 @@ abbrev pub protocol : {A : Type 0} → Result A TagFault → Result A CmdFault
 protocol (Ok x) = Ok x
 protocol (Err fault) = Err (Protocol fault)
 
--- the fields of the command with this number, that are all that is left
+-- the fields of the command with this number, which take all that is left
 abbrev pub fields_or : Option (List Kind) → ℕ → Place → Result (List Field) CmdFault
 fields_or None command place = Err (Unsupported command)
 fields_or (Some kinds) command place = protocol (all_fields kinds place)
@@ -41,20 +41,20 @@ abbrev pub meant_behind : Result ((ℕ × ℕ) × Place) TagFault → Result (�
 meant_behind (Err fault) = Err (Protocol fault)
 meant_behind (Ok head) = with_number head.0.0 (command_at head.0.0 head.1)
 
--- the number and the fields that a packet is
+-- the command number and the fields of a packet
 unfoldable pub meaning : List ℕ → Result (ℕ × List Field) CmdFault
 meaning packet = meant_behind (head_at (start_of packet))
 
--- ---- what the calls answer
+-- ---- the answers of the calls
 
--- where memory runs out nothing is said; no part of a packet is found unknown or unsupported
+-- NoMemory leaves the reading open; no part of a packet is found unknown or unsupported
 abbrev pub Fails : {Y : Type 0} → CmdFault → Result Y TagFault → Type 0
 Fails (Protocol fault) read = read ≡ Err fault
 Fails (Unknown command) read = ⊥
 Fails (Unsupported command) read = ⊥
 Fails NoMemory read = Unit {0}
 
--- A call of a part answered what is read there, and the reader is behind it; or its fault.
+-- A call for a part of a packet answered what is read there, and the reader is past it; or it answered the fault.
 abbrev pub Takes : {X Y : Type 0} → (X → Y) → Result X CmdFault → Place → Result (Y × Place) TagFault → Type 0
 Takes view (Ok x) after read = read ≡ Ok (view x, after)
 Takes view (Err fault) after read = Fails fault read

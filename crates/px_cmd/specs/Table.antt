@@ -53,7 +53,7 @@ table =
     ∷ (89, no_fields)  -- GET_CARD_INFO_LIST
     ∷ []
 
--- the kinds of a command's fields, or none where the table hasn't the command
+-- the kinds of a command's fields, or none where the command isn't in the table
 abbrev pub kinds_of : ℕ → Option (List Kind)
 kinds_of number = lookup (nat_eq number) table
 

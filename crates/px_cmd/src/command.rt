@@ -10,8 +10,8 @@ pub struct SinkRef {
     pub name: Option<Text>,
 }
 
-/// The fields of CREATE_PLAYBACK_STREAM. `asked` is maxlength, tlength, prebuf and minreq, in bytes. An
-/// `Option<bool>` is `None` exactly where the connection's version hasn't the field.
+/// The fields of CREATE_PLAYBACK_STREAM. `asked` is maxlength, tlength, prebuf and minreq, in bytes. An `Option<bool>` is `None` exactly
+/// where the connection's version doesn't have the field.
 #[derive(Drop)]
 pub struct CreateFields {
     pub spec: RawSpec,
@@ -40,8 +40,8 @@ pub struct CreateFields {
     pub passthrough: Option<bool>,
 }
 
-/// A command of a client (`pulsecore/native-common.h`), with its fields as the packet has them: none is
-/// checked beyond the rules of items. The five commands of lists that are always empty share `EmptyList`.
+/// A command of a client (`pulsecore/native-common.h`), with its fields as the packet has them, checked only by the rules of items. The
+/// five commands whose lists are always empty share `EmptyList`.
 #[derive(Drop)]
 pub enum Command {
     Auth {

@@ -14,7 +14,7 @@ use crate::fields::{properties, sink};
 use px_tag::{PropList, RawMap, RawSpec, RawVolume, TagReader};
 use std::alloc::Global;
 
-// What the stream is to be, and where.
+// The stream's format, and the sink asked for.
 #[derive(Drop)]
 struct Shape {
     spec: RawSpec,
@@ -22,7 +22,7 @@ struct Shape {
     sink: SinkRef,
 }
 
-// How it is buffered, and how loud it is.
+// How it is buffered and corked, its sync id and volume.
 #[derive(Drop)]
 struct Buffering {
     asked: [u32; 4],

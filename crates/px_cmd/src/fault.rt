@@ -5,17 +5,16 @@ ghost use Rattle.px_cmd.specs.declared.fault.CmdFault.TheVariants.{Protocol, NoM
 
 use px_tag::{NoMemory, TagFault};
 
-/// Why a packet means no command, by the first of these that holds. Own: PulseAudio ends the connection or
-/// answers without naming the byte.
+/// Why a packet means no command: the first of these that holds. Own: PulseAudio ends the connection or answers without naming the byte.
 #[derive(Clone, Copy, Debug, PartialEq, Eq)]
 pub enum CmdFault {
     /// A field can't be read, or bytes are left; with the offset.
     Protocol(TagFault),
     /// The command's number, above 104.
     Unknown(u32),
-    /// The command's number, which the server hasn't.
+    /// The command's number, which the server doesn't support.
     Unsupported(u32),
-    /// Memory ran out for what the command keeps.
+    /// Memory ran out for what the command holds.
     NoMemory,
 }
 

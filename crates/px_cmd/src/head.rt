@@ -23,7 +23,7 @@ pub(crate) fn front(reader: &mut TagReader) -> Result<Head, TagFault>
     Ok(Head { command, tag })
 }
 
-/// The front of a packet, or the first fault in it. What stands behind isn't read. Takes no memory.
+/// The front of a packet, or the first fault in it. What follows isn't read. Takes no memory.
 pub fn read_head(packet: &[u8]) -> Result<Head, TagFault>
     ensures { FrontGives (λ head. (head.command, head.tag)) result (head_at (start_of packet.now)) }
 {

@@ -1,4 +1,4 @@
-//! That packets are a language of commands.
+//! The law that packets are a language of commands.
 
 ghost use Rattle.std.specs.Prelude.{◌≡◌, ℕ, List, Ok};
 ghost use Rattle.px_tag.specs.Law.{AreBytes};
@@ -6,9 +6,9 @@ ghost use Rattle.px_cmd.specs.Field.{Field};
 ghost use Rattle.px_cmd.specs.Law.{IsCommand, IsPacketOf, packet_of};
 ghost use Rattle.px_cmd.specs.Packet.{meaning};
 
-/// A packet that spells a command of the table, with fields of its kinds, means that command and those
-/// fields, whatever its tag. A packet means a command exactly where it is spelled so, and nothing more: a
-/// property list may be spelled with a key twice. The function does nothing: its contract is the law.
+/// A packet that spells a command of the table, with fields of its kinds, means that command and those fields, whatever its tag. A packet
+/// means a command exactly where it is such a spelling, and nothing more; a property list may be spelled with a key twice. The function
+/// does nothing: its contract is the law.
 pub fn spelled_commands()
     ensures again { (command tag : ℕ) (fields : List Field) → IsCommand command tag fields → meaning (packet_of command tag fields) ≡ Ok (command, fields) }
     ensures spelled { (packet : List ℕ) (command : ℕ) (fields : List Field) → IsPacketOf packet command fields → meaning packet ≡ Ok (command, fields) }

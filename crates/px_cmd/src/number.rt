@@ -1,4 +1,4 @@
-//! The numbers of the commands that are read, by their names in `pulsecore/native-common.h` less `PA_COMMAND_`.
+//! The numbers of the supported commands, by their names in `pulsecore/native-common.h` without `PA_COMMAND_`.
 
 ghost use Rattle.std.specs.Prelude.{◌≡◌, is_some};
 ghost use Rattle.px_cmd.specs.Table.{kinds_of};
@@ -79,7 +79,7 @@ pub const REMOVE_CLIENT_PROPLIST: u32 = 85;
 
 pub const GET_CARD_INFO_LIST: u32 = 89;
 
-/// Whether the table has a command of this number. Takes no memory.
+/// Whether a command with this number is in the table. Takes no memory.
 pub fn is_command(number: u32) -> bool
     ensures { result ≡ is_some (kinds_of number) }
 {

@@ -1,5 +1,6 @@
 //! Commands, read from packets. The readers of their fields are a ladder by the commands' numbers: each reads a few commands and hands the
-//! others on. A `match` is proved case by case, and each clause of its function in each case anew, so one of all 38 would take too long.
+//! others on. A `match` is proved case by case, and each clause of its function anew in each case, so one `match` of all 38 would take too
+//! long.
 
 ghost use Rattle.std.specs.Prelude.{◌≡◌, ◌≤◌, IfOk};
 ghost use Rattle.px_cmd.specs.Command.{fields_of, number_of, IsNumbered};
@@ -39,7 +40,7 @@ fn attributes(reader: &mut TagReader) -> Result<Command, CmdFault>
     })
 }
 
-// The fields of the commands from 84 on: those that remove properties, and the last of the lists that are empty.
+// The fields of the commands from 84 on: those that remove properties, and the last of the empty lists.
 fn removal_fields(alloc: Global, number: u32, reader: &mut TagReader) -> Result<Command, CmdFault>
     requires { 84 ≤ number }
     ensures value { Reaches result number reader.new (taken (kinds_of number) number reader.old) }
@@ -235,7 +236,7 @@ fn volume_fields(alloc: Global, number: u32, reader: &mut TagReader) -> Result<C
     }
 }
 
-// The fields of the commands from 27 on: first those that ask for clients and inputs, and SUBSCRIBE.
+// The fields of the commands from 27 on: first those about clients and inputs, and SUBSCRIBE.
 fn client_info_fields(
     alloc: Global,
     number: u32,
@@ -269,7 +270,7 @@ fn client_info_fields(
     }
 }
 
-// The fields of the commands from 12 on: first DRAIN and latency, and those that ask for the server and its sinks.
+// The fields of the commands from 12 on: first DRAIN and latency, and those about the server and its sinks.
 fn server_info_fields(
     alloc: Global,
     number: u32,
@@ -350,7 +351,7 @@ fn fields(alloc: Global, number: u32, reader: &mut TagReader) -> Result<Command,
     }
 }
 
-// The command that a packet means, by its number and its fields.
+// The command that a packet means, by its number and fields.
 fn read(alloc: Global, packet: &[u8]) -> Result<Command, CmdFault>
     ensures value { Answers (λ command. (number_of command, fields_of command)) result (meaning packet.now) }
     ensures numbered { IfOk result IsNumbered }
@@ -365,8 +366,8 @@ fn read(alloc: Global, packet: &[u8]) -> Result<Command, CmdFault>
     reader.end().map(|()| command).map_err(CmdFault::Protocol)
 }
 
-/// The command that a packet means, with its fields by the connection's version; every version is read as
-/// 13. Takes memory for what the command keeps: names, keys, a cookie, property lists.
+/// The command that a packet means, with its fields by the connection's version; every version is read as 13. Takes memory for what the
+/// command holds: names, keys, a cookie, property lists.
 #[tactic(auto, using(crate::proofs::Meant::means_too))]
 pub fn read_command(alloc: Global, packet: &[u8], _version: u16) -> Result<Command, CmdFault>
     ensures command { Answers (λ command. command) result (meant packet.now) }

@@ -1,4 +1,4 @@
-//! Bytes and keys that a command keeps.
+//! Bytes and keys that a command holds.
 
 ghost use Rattle.std.specs.Prelude.{◌≡◌, ◌++◌, ◌∷◌, [], length, slice_get, IfOk, OnOk, OnErr};
 ghost use Rattle.std.specs.Option.{option_map};
@@ -7,7 +7,7 @@ use px_tag::{Mem, NoMemory};
 use std::alloc::Global;
 use std::marker::Model;
 
-/// Bytes, as of a name or a cookie. A contract sees the list.
+/// Bytes, such as a name or a cookie. A contract sees the list.
 #[derive(Debug, Drop)]
 pub struct Text {
     bytes: Vec<u8>,
@@ -63,7 +63,7 @@ impl Keys {
         }
     }
 
-    /// Adds a key at the end. Where memory runs out, none is added.
+    /// Adds a key at the end. Without memory nothing is added.
     pub fn push(&mut self, key: Text) -> Mem<()>
         ensures added { OnOk result (self.new ≡ self.old ++ key ∷ []) }
         ensures unchanged { OnErr result (self.new ≡ self.old) }
@@ -79,7 +79,7 @@ impl Keys {
         self.keys.len()
     }
 
-    /// The key at a place in the order, or `None` past the last. Takes no memory.
+    /// The key at place `index`, or `None` past the last. Takes no memory.
     pub fn get(&self, index: usize) -> Option<&[u8]>
         ensures { option_map (λ key. key.now) result ≡ slice_get self.now index }
     {

@@ -1,4 +1,5 @@
--- What a control packet is answered, and in which order it is refused (PulseAudio: `pa_pdispatch_run` and the handlers of pulsecore/protocol-native.c; the order is own).
+-- The outcome of a control packet, and the order in which it is refused (PulseAudio: `pa_pdispatch_run` and the handlers of
+-- pulsecore/protocol-native.c; the order is own).
 use Rattle.std.specs.Prelude.{ℕ, Bool, true, false, not, cond, ◌&&◌, nat_eq, List, is_some, Option, None, Result, Ok, Err, ⊤}
 use Rattle.px_types.specs.declared.error_code.ErrorCode.TheVariants.{Access, Command as UnknownCommand, NotSupported}
 use Rattle.px_tag.specs.declared.fault.TagFault.{TagFault}
@@ -50,7 +51,7 @@ new_attributes state stream asked tag = attributes stream (depth_of (sink_of sta
 abbrev pub default_sink : {P : Type 0} → State P → Named
 default_sink state = named_as state.sinks (sink_named state.names NO_INDEX None true)
 
--- an input ends, whose connection is told so where that goes on
+-- an input ends, and its connection is notified where it is live
 abbrev pub killed_input : {P : Type 0} → State P → Option Input → ℕ → Handled (CoreOutcome P)
 killed_input state input tag = kill_input input (owner_of state.connections input) state.waiting tag
 
@@ -72,7 +73,7 @@ input_volume state input volume tag = set_input_volume input (group_under state.
 abbrev pub input_mute : {P : Type 0} → State P → Option Input → Bool → ℕ → Handled (CoreOutcome P)
 input_mute state input on tag = set_input_mute input (group_under state.groups input) state.inputs on tag
 
--- a command's handler: what it gives on the parts of the state that it reads
+-- a command's handler: its outcome, from the parts of the state that it reads
 abbrev pub handle : {P : Type 0} → State P → Connection → ℕ → Command → Handled (CoreOutcome P)
 handle state me tag (commands.Auth version cookie) = auth state.names me tag version cookie
 handle state me tag (commands.SetClientName list) = set_client_name (client_on state.names.clients me.conn) me tag list
@@ -109,7 +110,7 @@ handle state me tag (commands.UpdateClient mode list) = update_client (client_on
 handle state me tag (commands.RemoveStream stream keys) = remove_stream (stream_of state.inputs me.conn stream) state.lists tag keys
 handle state me tag (commands.RemoveClient keys) = remove_client (client_on state.names.clients me.conn) me tag keys
 
--- ---- the families of commands: on what plays in a stream of the connection's own
+-- ---- the families of commands: on the playback of one of the connection's own streams
 
 abbrev pub IsOnPlaying : Command → Type 0
 IsOnPlaying (commands.Drain stream) = ⊤
@@ -120,14 +121,14 @@ IsOnPlaying (commands.Trigger stream) = ⊤
 IsOnPlaying (commands.Prebuf stream) = ⊤
 IsOnPlaying _ = ⊥
 
--- that make or end a stream of the connection's own, or change its buffer
+-- that create or end one of the connection's own streams, or change its buffer
 abbrev pub IsOnStream : Command → Type 0
 IsOnStream (commands.Create fields) = ⊤
 IsOnStream (commands.Delete stream) = ⊤
 IsOnStream (commands.Attributes stream asked adjust_latency early_requests) = ⊤
 IsOnStream _ = ⊥
 
--- on the properties of a stream of the connection's own
+-- on the properties of one of the connection's own streams
 abbrev pub IsOnProperties : Command → Type 0
 IsOnProperties (commands.StreamName stream name) = ⊤
 IsOnProperties (commands.UpdateStream stream mode list) = ⊤
@@ -161,7 +162,7 @@ IsOnSinks (commands.SinkVolume sink volume) = ⊤
 IsOnSinks (commands.SinkMute sink on) = ⊤
 IsOnSinks _ = ⊥
 
--- on inputs, whosever they are
+-- on inputs of any client
 abbrev pub IsOnInputs : Command → Type 0
 IsOnInputs (commands.InputInfo input) = ⊤
 IsOnInputs commands.InputInfoList = ⊤
@@ -171,14 +172,15 @@ IsOnInputs (commands.InputMute input on) = ⊤
 IsOnInputs (commands.Move input sink) = ⊤
 IsOnInputs _ = ⊥
 
--- those that are only read: SET_CLIENT_NAME gives its list away
+-- those whose fields are taken by reference: SET_CLIENT_NAME consumes its list
 abbrev pub IsRead : Command → Type 0
 IsRead (commands.SetClientName list) = ⊥
 IsRead _ = ⊤
 
 -- ---- the order of refusals
 
--- a packet as it was read: a number above the last one is unknown, one that the table hasn't isn't supported, and a fault in its fields ends the connection
+-- a packet as it was read: a number above the last one is unknown, one that isn't in the table isn't supported, and a fault in its fields ends the
+-- connection
 abbrev pub read_answer : {P : Type 0} → State P → Connection → ℕ → ℕ → Result Command CmdFault → CoreOutcome P
 read_answer state c at tag (Ok command) = requested tag (handle state c tag command)
 read_answer state c at tag (Err (Protocol fault)) = broken_off c.conn at fault

@@ -1,4 +1,5 @@
--- Connections begin and end (PulseAudio: `pa_native_protocol_connect` and `native_connection_unlink` of pulsecore/protocol-native.c; that an ended connection is swept away in a step of its own is own).
+-- Connections begin and end (PulseAudio: `pa_native_protocol_connect` and `native_connection_unlink` of pulsecore/protocol-native.c; that an ended
+-- connection is removed in a step of its own is own).
 use Rattle.std.specs.Prelude.{ℕ, Bool, cond, ◌||◌, nat_le, List, [], ◌∷◌, ◌++◌, filter, length, flat_map, Option, None, Some}
 use Rattle.px_types.specs.declared.ids.ConnId.{ConnId}
 use Rattle.px_outcome.specs.declared.change.Change.TheVariants.{Leaves, Forgotten}
@@ -26,7 +27,7 @@ LAST_CLIENT = 0xFFFFFFFF
 abbrev pub is_full : {P : Type 0} → State P → Bool
 is_full state = nat_le MOST_CONNECTIONS (length state.connections) || nat_le LAST_CLIENT state.clients_made
 
--- one that is there already changes nothing; where there is no room for more the server ends it
+-- a number in use already changes nothing; where there is no room for more the server ends the new one
 abbrev pub connected : {P : Type 0} → Option Connection → ConnId → State P → State P
 connected (Some c) conn state = state
 connected None conn state = cond (is_full state) state (joined conn state)
@@ -37,7 +38,7 @@ connect_effects None conn state = cond (is_full state) (closed_for conn Limit �
 
 -- ---- it ends: it is marked, once
 
--- the connection with a number, where it goes on
+-- the connection with a number, where it is live
 abbrev pub unmarked : Option Connection → Option Connection
 unmarked None = None
 unmarked (Some c) = cond c.marked None (Some c)
@@ -45,12 +46,12 @@ unmarked (Some c) = cond c.marked None (Some c)
 abbrev pub going_on : List Connection → ConnId → Option Connection
 going_on connections conn = unmarked (connection_of connections conn)
 
--- where it goes on it ends: by the server for a reason, or by the client
+-- a live one ends: by the server for a reason, or by the client
 abbrev pub ended : {P : Type 0} → Option Connection → Option Reason → ℕ → ℕ → CoreOutcome P
 ended None reason fault at = idle
 ended (Some c) reason fault at = ended_by c.conn reason fault at
 
--- ---- it is swept away: its streams end, in their order, and its client goes
+-- ---- it is removed: its streams end, in their order, and its client goes
 
 -- an input ends
 abbrev pub ends : {P : Type 0} → Input → List (Change P)

@@ -1,4 +1,4 @@
--- What the state of the core keeps from step to step.
+-- The invariants of the core's state, preserved by every step.
 use Rattle.std.specs.Prelude.{◌≡◌, ℕ, zero, suc, ◌<◌, ◌≤◌, ◌≢◌, Bool, true, false, cond, ◌&&◌, nat_eq, List, [], ◌∷◌, ◌++◌, map, filter, length, flat_map, slice_get, get_or, Some, IsSome, MatchOption, ⊤}
 use Rattle.std.specs.List.{AllByRecursion}
 use Rattle.std.specs.Option.{option_to_list}
@@ -44,11 +44,11 @@ abbrev pub IsRising : List Input → Type 0
 IsRising [] = ⊤
 IsRising (x ∷ inputs) = AllAbove x.index.0 inputs × IsRising inputs
 
--- a plan feeds a sink's channels from the input's
+-- a channel plan feeds a sink's channels from the input's
 abbrev pub IsFedAt : Input → SinkSpec → Type 0
 IsFedAt x s = IsSome (feed_to x s.map)
 
--- where an input moves to a sink, that is there and another than the one that it is on, and there is a plan for it
+-- where an input moves to a sink, that exists and is another than the one that it is on, and there is a channel plan for it
 pub record GoesTo (sinks : List SinkSpec) (on : SinkId) (IsFed : SinkSpec → Type 0) (to : SinkId) : Type 0 where
   pub there : to.0 < length sinks
   pub apart : to.0 ≢ on.0
@@ -59,7 +59,7 @@ GoesThere sinks on IsFed Settled = ⊤
 GoesThere sinks on IsFed (Moving to) = GoesTo sinks on IsFed to
 GoesThere sinks on IsFed Leaving = ⊤
 
--- an input: its index is one of those that were given, its sinks are there, and a sink can play it
+-- an input: its index is one of those that were given, its sinks exist, and a sink can play it
 pub record IsInput (sinks : List SinkSpec) (made : ℕ) (x : Input) : Type 0 where
   pub given : x.index.0 < made
   pub sink_there : x.sink.0 < length sinks
@@ -68,7 +68,7 @@ pub record IsInput (sinks : List SinkSpec) (made : ℕ) (x : Input) : Type 0 whe
   pub map : length x.map ≡ x.spec.channels
   pub repaired : IsRepaired x.attr
 
--- the input with an index is there and goes on
+-- the input with an index exists and is live
 abbrev pub IsGoing : List Input → InputId → Type 0
 IsGoing inputs index = MatchOption (input_of inputs index) ⊥ (λ x. goes_on x ≡ true)
 
@@ -76,7 +76,7 @@ IsGoing inputs index = MatchOption (input_of inputs index) ⊥ (λ x. goes_on x 
 abbrev pub IsAwaiting : List Input → Waiting → Type 0
 IsAwaiting inputs w = IsGoing inputs w.input
 
--- ---- what a sink has, what waits for it, and what is settled on it
+-- ---- the inputs on a sink, the messages queued for it, and the inputs settled on it
 
 abbrev pub is_coming : Way → Bool
 is_coming Coming = true
@@ -106,13 +106,13 @@ abbrev pub IsIncreasing : List ℕ → Type 0
 IsIncreasing [] = ⊤
 IsIncreasing (i ∷ indices) = AllByRecursion (λ j. i < j) indices × IsIncreasing indices
 
--- what the core posts: factors name their inputs in rising index, each once
+-- a message that the core posts: factors name their inputs in rising index, each once
 abbrev pub IsPosted : {P : Type 0} → Msg P → Type 0
 IsPosted (Factors each) = IsIncreasing (map (λ f. (InputFactors.input f).0) each)
 IsPosted _ = ⊤
 
--- the messages that wait for a sink are orderly from the inputs that it has, and leave there exactly those that are settled on it; they
--- bring each input that is on its way to it, once, and no other; and no more are bound for it than a sink can have
+-- the messages queued for a sink are orderly from the inputs that it has, and leave there exactly those that are settled on it; they bring each input
+-- whose stream is still to come, once, and no other; and no more are bound for it than a sink can have
 pub record AreInStep {P : Type 0} (spec_of : P → SampleSpec) (sink : SinkId) (s : SinkSpec) (inputs : List Input) (waiting : List (Msg P)) : Type 0 where
   pub orderly : IsOrderly spec_of (sample_spec s.spec) (specs_of (filter (is_held_by sink) inputs)) (map (message_of (λ p. p)) waiting)
   pub leaves : inputs_left_by spec_of (specs_of (filter (is_held_by sink) inputs)) (map (message_of (λ p. p)) waiting) ≡ specs_of (settled_on inputs sink)
@@ -127,24 +127,24 @@ AreAllInStep spec_of sinks inputs posted =
 
 -- ---- the state
 
--- what every change keeps
+-- what every change preserves
 pub record IsSteady {P : Type 0} (spec_of : P → SampleSpec) (state : State P) : Type 0 where
   pub sinks : AreSinks [] state.sinks
   pub distinct : AreDistinct state.connections
   pub rising : IsRising state.inputs
   pub inputs : AllByRecursion (IsInput state.sinks state.inputs_made) state.inputs
   pub waiting : AllByRecursion (IsAwaiting state.inputs) state.waiting
-  -- one list of messages a sink
+  -- one queue of messages a sink
   pub lists : length state.posted ≡ length state.sinks
   pub in_step : AreAllInStep spec_of state.sinks state.inputs state.posted
 
--- and what all changes of a step keep together: the groups have followed the inputs, and messages wait of those alone that move
+-- and those that all changes of a step preserve together: the groups match the inputs, and messages are held for moving inputs alone
 pub record IsConsistent {P : Type 0} (spec_of : P → SampleSpec) (state : State P) : Type 0 where
   pub steady : IsSteady spec_of state
   pub grouped : AreGrouped [] state.sinks state.inputs state.groups
   pub still : AllByRecursion (IsDelayed state.inputs) state.delayed
 
--- a step that can be: a frame says what a frame can say
+-- a valid step: a frame has a valid body
 abbrev pub IsStep : {P : Type 0} → Step P → Type 0
 IsStep (connect conn) = ⊤
 IsStep (frame conn f) = IsBody f.body
@@ -166,13 +166,13 @@ Spares sink sweep = ⊤
 Spares sink (notice from n) = ⊤
 Spares sink (out to) = to.0 ≢ sink.0
 
--- ---- so many messages handed out to a sink, one after the other
+-- ---- `n` messages handed to a sink, one after the other
 
 abbrev pub handed_out_by : {P : Type 0} → ℕ → SinkId → State P → State P
 handed_out_by zero sink state = state
 handed_out_by (suc n) sink state = handed_out_by n sink (handed_out sink state)
 
--- these messages, in order; none where none waits any more
+-- these messages, in order; none once the queue is empty
 abbrev pub messages_out : {P : Type 0} → ℕ → SinkId → State P → List (Msg P)
 messages_out zero sink state = []
 messages_out (suc n) sink state = option_to_list (next_for state sink) ++ messages_out n sink (handed_out sink state)

@@ -1,4 +1,4 @@
--- How often the server ends a connection, and how often it begins.
+-- The number of times that the server ends a connection, and that it begins.
 use Rattle.std.specs.Prelude.{ℕ, Bool, false, cond, nat_eq, ◌+◌, List, [], ◌∷◌, filter, length, is_some, Option, Some, None}
 use Rattle.px_types.specs.declared.ids.ConnId.{ConnId}
 use Rattle.px_state.specs.declared.effect.Effect.{Effect}
@@ -17,11 +17,11 @@ is_end_of conn (Closed ended reason fault at) = nat_eq ended.0 conn.0
 abbrev pub ends_of : ConnId → List Effect → ℕ
 ends_of conn effects = length (filter (is_end_of conn) effects)
 
--- 1 where it is there and goes on
+-- 1 where it exists and is live
 abbrev pub goes_on : List Connection → ConnId → ℕ
 goes_on connections conn = cond (is_some (going_on connections conn)) 1 0
 
--- 1 where a client connects with its number, and none was there with it
+-- 1 where a client connects with its number, and that wasn't in use
 abbrev pub begins_with : Option Connection → ConnId → ConnId → ℕ
 begins_with (Some c) from conn = 0
 begins_with None from conn = cond (nat_eq from.0 conn.0) 1 0

@@ -1,4 +1,4 @@
--- The group of each sink: every input on the sink is a member of it, until the sink has given up its stream, and no other is.
+-- The group of each sink: every input on the sink is a member of it, until the sink has detached its stream, and no other is.
 use Rattle.std.specs.Prelude.{◌≡◌, ℕ, Bool, false, not, nat_eq, List, map, filter, length, slice_get, Some}
 use Rattle.std.specs.List.{list_any}
 use Rattle.px_types.specs.declared.ids.InputId.{InputId}
@@ -9,7 +9,7 @@ use Rattle.px_flat.specs.FlatVolume.{FlatGroup}
 use Rattle.px_outcome.specs.declared.input.Input.{Input}
 use Rattle.px_core.specs.Notice.{is_on}
 
--- for each input with an index that is on a sink, how many channels it has
+-- the number of channels of each input with an index that is on a sink
 abbrev pub channels_there : List Input → SinkId → InputId → List ℕ
 channels_there inputs sink index = map (λ x. (Input.spec x).channels) (filter (is_on sink index) inputs)
 
@@ -18,18 +18,18 @@ pub record IsGroupOf (sink : SinkId) (s : SinkSpec) (inputs : List Input) (group
   pub channels : length group.reference ≡ s.spec.channels
   pub members : (index : InputId) → channels_in group.members index ≡ channels_there inputs sink index
 
--- ---- the sinks whose groups are still to follow their inputs, while the changes of one step are made
+-- ---- the sinks whose groups don't match their inputs yet, while the changes of one step are made
 
 abbrev pub is_owed : ℕ → List SinkId → Bool
 is_owed index owed = list_any (λ (sink : SinkId). nat_eq sink.0 index) owed
 
--- the group of a sink follows
+-- the group of a sink matches again
 abbrev pub paid : SinkId → List SinkId → List SinkId
 paid sink owed = filter (λ (other : SinkId). not (nat_eq other.0 sink.0)) owed
 
 -- ---- all groups
 
--- one a sink, and of each but those that are owed
+-- one a sink, each matching its inputs but for sinks in `owed`
 pub record AreGrouped (owed : List SinkId) (sinks : List SinkSpec) (inputs : List Input) (groups : List FlatGroup) : Type 0 where
   pub count : length groups ≡ length sinks
   pub each : (index : ℕ) (s : SinkSpec) (group : FlatGroup) → slice_get sinks index ≡ Some s → slice_get groups index ≡ Some group → is_owed index owed ≡ false

@@ -1,4 +1,4 @@
--- What became of all that is told over a step, and who is sent which of these events.
+-- The changes of all infos over a step, and which connections are sent which of these events.
 use Rattle.std.specs.Prelude.{ℕ, Bool, false, nat_eq, List, [], map, filter, Option, None, Some}
 use Rattle.px_types.specs.declared.ids.ConnId.{ConnId}
 use Rattle.px_model.specs.Frame.{SampleSpec}
@@ -20,22 +20,22 @@ use Rattle.px_core.specs.Connecting.{connect_effects, going_on}
 use Rattle.px_state.specs.Events.{scene_of}
 use Rattle.px_core.specs.Step.{Step, connect, frame, broken, close, cut, sweep, notice, out, answer_of}
 
--- ---- what became
+-- ---- what changed
 
--- all that is told of a state
+-- all infos of a state
 abbrev pub infos_of : {P : Type 0} → State P → Infos
 infos_of state = infos_in (info_lists_of state.sinks (scene_of state))
 
--- how many indices were given by then
+-- the number of indices given by then
 abbrev pub given_by : {P : Type 0} → State P → Given
 given_by state = given_in state.sinks state.clients_made (scene_of state)
 
 abbrev pub events_of : {P : Type 0} → State P → State P → List Event
 events_of before after = events_between (given_by after) (infos_of before) (infos_of after)
 
--- ---- who hears of it
+-- ---- who is notified
 
--- the mask of a connection that goes on; one that has ended, or isn't there, hears of nothing
+-- the mask of a live connection; one that has ended, or doesn't exist, is notified of nothing
 abbrev pub mask_by : Option Connection → List Client → ℕ
 mask_by None clients = 0
 mask_by (Some c) clients = mask_of (client_on clients c.conn)
@@ -47,11 +47,11 @@ mask_on state conn = mask_by (going_on state.connections conn) state.names.clien
 abbrev pub heard : ℕ → List Event → List Event
 heard mask events = filter (λ e. hears mask (Event.facility e)) events
 
--- a connection is sent a message for each
+-- a connection is sent a message for each event
 abbrev pub sent_events : ConnId → List Event → List Effect
 sent_events conn events = map (λ e. sent conn (message_of e)) events
 
--- ---- the effects of which this is said
+-- ---- the effects concerned
 
 -- those that go to a connection
 abbrev pub goes_to : ConnId → Effect → Bool
@@ -61,7 +61,7 @@ goes_to conn (Closed ended reason fault at) = false
 abbrev pub sent_to : ConnId → List Effect → List Effect
 sent_to conn effects = filter (goes_to conn) effects
 
--- those of a step but for events
+-- a step's effects other than events
 abbrev pub own_effects : {P : Type 0} → (P → SampleSpec) → State P → Step P → List Effect
 own_effects spec_of state (connect conn) = connect_effects (connection_of state.connections conn) conn state
 own_effects spec_of state (frame conn f) = outcome_effects (Some conn) (answer_of spec_of state (frame conn f))

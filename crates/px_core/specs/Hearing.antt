@@ -1,4 +1,4 @@
--- What a sink is told by all steps together.
+-- The messages that a sink is handed by all steps together.
 use Rattle.std.specs.Prelude.{cond, nat_eq, List, [], ◌∷◌, ◌++◌}
 use Rattle.std.specs.Option.{option_to_list}
 use Rattle.px_types.specs.declared.ids.SinkId.{SinkId}
@@ -8,7 +8,7 @@ use Rattle.px_state.specs.State.{State}
 use Rattle.px_state.specs.Out.{next_for}
 use Rattle.px_core.specs.Step.{Step, connect, frame, broken, close, cut, sweep, notice, out, stepped}
 
--- the message that a step hands out to a sink, if it does
+-- the message that a step hands to a sink, if any
 abbrev pub posted_by_step : {P : Type 0} → SinkId → State P → Step P → List (Msg P)
 posted_by_step sink state (connect conn) = []
 posted_by_step sink state (frame conn f) = []

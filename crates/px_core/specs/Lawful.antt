@@ -1,4 +1,4 @@
--- What a change asks of the state, so that it keeps what the state keeps.
+-- The conditions on a change, so that it preserves the state's invariants.
 use Rattle.std.specs.Prelude.{◌≡◌, ◌+◌, ◌<◌, List, [], ◌∷◌, map, length, slice_get, Option, Some, None, IfSome, IsSome, ⊤}
 use Rattle.std.specs.List.{AllByRecursion, find}
 use Rattle.px_types.specs.declared.ids.InputId.{InputId}
@@ -64,23 +64,23 @@ AreFor s (Factors each) =
     AllByRecursion (λ f. AreFactors (sample_spec s.spec) (Gains.factors f)) (map gains each) × IsIncreasing (map (λ f. (InputFactors.input f).0) each)
 AreFor s (Query input tag) = ⊥
 
--- an input has ended, and its sink was told so
+-- an input has ended, and its sink got the message to detach it
 pub record HasLeft (x : Input) : Type 0 where
   pub standing : x.standing ≡ Leaving
   pub way : x.way ≡ Left
 
--- the sink is there, the group is that of the inputs on it, and the factors are for it
+-- the sink exists, the group is that of the inputs on it, and the factors are for it
 pub record IsRegrouped {P : Type 0} (state : State P) (sink : SinkId) (group : FlatGroup) (m : Msg P) : Type 0 where
   pub there : sink.0 < length state.sinks
   pub follows : (s : SinkSpec) → slice_get state.sinks sink.0 ≡ Some s → IsGroupOf sink s state.inputs group
   pub factors : (s : SinkSpec) → slice_get state.sinks sink.0 ≡ Some s → AreFor s m
 
--- an input may move to a sink: that has room for it
+-- an input may move to a sink: it has room for the input
 pub record MayMove {P : Type 0} (state : State P) (index : InputId) (to : SinkId) : Type 0 where
   pub goes : IfSome (input_of state.inputs index) (λ x. GoesTo state.sinks x.sink (IsFedAt x) to)
   pub room : length (bound_for state.inputs to) < MOST_ON_SINK
 
--- a message that waited suits an input that is settled now
+-- a held message suits an input that is settled now
 pub record IsReleased {P : Type 0} (x : Input) (d : Delayed P) : Type 0 where
   pub standing : x.standing ≡ Settled
   pub suits : Suits x d.message
@@ -107,7 +107,7 @@ Lawful state (Gone index) = IfSome (input_of state.inputs index) HasLeft
 Lawful state (Ended conn reason fault at) = IsSome (going_on state.connections conn)
 Lawful state (Forgotten conn) = ⊤
 
--- ---- the sinks whose groups are still to follow, after a change
+-- ---- the sinks whose groups don't match their inputs, after a change
 
 -- those that the end of an input leaves
 abbrev pub owed_for : Option Input → List SinkId → List SinkId
@@ -127,7 +127,7 @@ IsPaid (sink ∷ owed) = ⊥
 
 -- ---- changes
 
--- each is lawful in the state that those before it leave, and in the end the groups have followed the inputs
+-- each is lawful in the state that those before it leave, and in the end the groups match the inputs
 abbrev pub AreLawfulOwing : {P : Type 0} → List SinkId → State P → List (Change P) → Type 0
 AreLawfulOwing owed state [] = IsPaid owed
 AreLawfulOwing owed state (c ∷ changes) = Lawful state c × AreLawfulOwing (owed_after state c owed) (changed state c) changes

@@ -1,4 +1,4 @@
--- What a sink's notice is answered (PulseAudio: `sink_input_process_msg` of pulsecore/protocol-native.c; which notices fit is own).
+-- The outcome of a sink's notice (PulseAudio: `sink_input_process_msg` of pulsecore/protocol-native.c; which notices fit is own).
 use Rattle.std.specs.Prelude.{ℕ, Bool, cond, ◌&&◌, nat_eq, List, length, slice_get, Option, None, Some, ⊤}
 use Rattle.std.specs.List.{find}
 use Rattle.px_types.specs.declared.ids.InputId.{InputId}
@@ -34,12 +34,12 @@ is_on sink index x = nat_eq x.index.0 index.0 && nat_eq x.sink.0 sink.0
 abbrev pub input_on : List Input → SinkId → InputId → Option Input
 input_on inputs sink index = find (is_on sink index) inputs
 
--- the connection of an input, where both are there and it goes on
+-- the connection of an input, where both exist and it is live
 abbrev pub owner_of : List Connection → Option Input → Option Connection
 owner_of connections None = None
 owner_of connections (Some x) = going_on connections x.conn
 
--- news of an input that is on the sink
+-- a notice about an input that is on the sink
 abbrev pub notified_of : {P : Type 0} → State P → Option Input → News → CoreOutcome P
 notified_of state input news = notified input (owner_of state.connections input) news
 
@@ -50,9 +50,9 @@ drained_of state input tag = drained input (owner_of state.connections input) st
 abbrev pub measured_of : {P : Type 0} → State P → Option Input → SinkId → ℕ → Progress → CoreOutcome P
 measured_of state input sink tag progress = measured input (owner_of state.connections input) state.waiting (rate_on state.sinks sink) tag progress
 
--- ---- a sink has given up a stream
+-- ---- a sink has detached a stream
 
--- where the sink and both groups are there: the input is on the sink that it moves to
+-- where the sink and both groups exist: the input is settled on the sink that it moves to
 abbrev pub arrival_between : {P : Type 0} → State P → Input → Option Target → Option FlatGroup → Option FlatGroup → Option (Arriving (Msg P) FlatGroup)
 arrival_between state x None from group = None
 arrival_between state x (Some sink) None group = None
@@ -67,11 +67,11 @@ abbrev pub arrived_with : {P : Type 0} → InputId → P → Option (Arriving (M
 arrived_with index parcel None = idle
 arrived_with index parcel (Some arrival) = arriving_with index parcel arrival
 
--- an input that has ended goes; where the stream wasn't to be given up nothing happens
+-- an input that has ended is removed; where the stream wasn't to be detached nothing happens
 abbrev pub left_of : {P : Type 0} → (P → SampleSpec) → State P → SinkId → Option Input → P → CoreOutcome P
 left_of spec_of state sink input parcel = left input (slice_get state.groups sink.0) (spec_of parcel) state.inputs
 
--- and one that moves is on the sink that it moves to
+-- and one that moves is settled on the sink that it moves to
 abbrev pub given_up_by : {P : Type 0} → (P → SampleSpec) → State P → SinkId → Input → P → Standing → CoreOutcome P
 given_up_by spec_of state sink x parcel Settled = left_of spec_of state sink (Some x) parcel
 given_up_by spec_of state sink x parcel (Moving to) =
@@ -82,12 +82,12 @@ abbrev pub given_up : {P : Type 0} → (P → SampleSpec) → State P → SinkId
 given_up spec_of state sink None parcel = idle
 given_up spec_of state sink (Some x) parcel = given_up_by spec_of state sink x parcel x.standing
 
--- it tells of a stream that the sink has
+-- it is about a stream that stays on the sink
 abbrev pub IsNews : {P : Type 0} → Notice P → Type 0
 IsNews (Detached input parcel) = ⊥
 IsNews _ = ⊤
 
--- what a notice is answered, by the input that is on the sink
+-- the outcome of a notice, by the input that is on the sink
 abbrev pub notice_answer : {P : Type 0} → (P → SampleSpec) → State P → SinkId → Notice P → CoreOutcome P
 notice_answer spec_of state sink (Request input frames) = notified_of state (input_on state.inputs sink input) (news.Request frames)
 notice_answer spec_of state sink (Overflow input) = notified_of state (input_on state.inputs sink input) news.Overflow

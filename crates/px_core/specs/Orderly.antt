@@ -1,4 +1,4 @@
--- What waits for a sink is orderly from what the core knows to be there.
+-- The queue of a sink is orderly from the inputs that the core knows to be there.
 use Rattle.std.specs.Prelude.{◌≡◌, ℕ, Bool, true, false, cond, ◌&&◌, nat_eq, List, [], ◌∷◌, map, filter, slice_get, Option, None, Some}
 use Rattle.std.specs.FinMap as finite
 use Rattle.px_types.specs.declared.ids.SinkId.{SinkId}
@@ -33,11 +33,11 @@ spec_in p i (x ∷ xs) = cond (nat_eq x.index.0 i) (cond (p x) (Some (sample_spe
 abbrev pub specs_of : List Input → Inputs
 specs_of inputs = finite.from_entries (map entry_of inputs)
 
--- the inputs that the messages handed out to a sink have left there
+-- the inputs that the messages handed to a sink have left there
 abbrev pub inputs_there : {P : Type 0} → State P → SinkId → Inputs
 inputs_there state sink = specs_of (filter (is_held_by sink) state.inputs)
 
--- the messages that wait for a sink are orderly from them, where spec_of reads a parcel's sample spec
+-- the messages queued for a sink are orderly from them, where spec_of reads a parcel's sample spec
 abbrev pub IsOrderlyFor : {P : Type 0} → (P → SampleSpec) → State P → SinkId → SinkSpec → Type 0
 IsOrderlyFor spec_of state sink s =
     IsOrderly spec_of (sample_spec s.spec) (inputs_there state sink) (map (message_of (λ p. p)) (waiting_for state sink))

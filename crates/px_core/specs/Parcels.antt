@@ -1,4 +1,4 @@
--- The parcels that messages carry and notices give up: streams on their way from one sink to another.
+-- The parcels that messages carry and notices bring: streams that move from one sink to another.
 use Rattle.std.specs.Prelude.{◌≡◌, ◌⊎◌, List, [], ◌∷◌}
 use Rattle.std.specs.List.{AllByRecursion}
 use Rattle.px_msg.specs.declared.message.Msg.{Msg}
@@ -8,7 +8,7 @@ use Rattle.px_msg.specs.declared.notice.Notice.TheVariants.{Request, Overflow, U
 use Rattle.px_state.specs.State.{State}
 use Rattle.px_core.specs.Step.{Step, connect, frame, broken, close, cut, sweep, notice, out}
 
--- the parcel that a message carries, if it does
+-- the parcel that a message carries, if any
 abbrev pub carried_by : {P : Type 0} → Msg P → List P
 carried_by (New n) = []
 carried_by (Attach input parcel feed factors) = parcel ∷ []
@@ -23,7 +23,7 @@ carried_by (Attr input attr) = []
 carried_by (Factors each) = []
 carried_by (Query input tag) = []
 
--- the parcel that a notice gives up, if it does
+-- the parcel that a notice brings, if any
 abbrev pub given_by : {P : Type 0} → Notice P → List P
 given_by (Request input frames) = []
 given_by (Overflow input) = []
@@ -46,11 +46,11 @@ given_in (out sink) = []
 
 -- ---- parcels of which something holds
 
--- a message carries no other
+-- a message carries no other parcel
 abbrev pub Carries : {P : Type 0} → (P → Type 0) → Msg P → Type 0
 Carries holds m = AllByRecursion holds (carried_by m)
 
--- nor does any that waits for a sink
+-- nor does any that is queued for a sink
 abbrev pub AllCarry : {P : Type 0} → (P → Type 0) → State P → Type 0
 AllCarry holds state = AllByRecursion (AllByRecursion (Carries holds)) state.posted
 

@@ -1,4 +1,4 @@
--- Where an index stands in inputs of rising index.
+-- The place of an index in inputs of rising index.
 use Rattle.std.specs.Prelude.{ℕ, zero, suc, ◌<◌, List, [], ◌∷◌, ⊤}
 use Rattle.px_outcome.specs.declared.input.Input.{Input}
 

@@ -24,7 +24,7 @@ use Rattle.px_core.specs.Connecting.{connected, connect_effects, going_on, ended
 use Rattle.px_core.specs.Notice.{notice_answer}
 use Rattle.px_state.specs.Out.{handed_out}
 
--- one frame of a connection that goes on
+-- one frame of a live connection
 abbrev pub body_answer : {P : Type 0} → State P → Connection → ℕ → Body → CoreOutcome P
 body_answer state c at (Control packet) = packet_answer state c at packet
 body_answer state c at (Write stream offset seek bytes) = data_for (stream_of state.inputs c.conn stream) offset seek bytes
@@ -33,7 +33,7 @@ abbrev pub frame_of : {P : Type 0} → State P → Option Connection → Frame �
 frame_of state None frame = idle
 frame_of state (Some c) frame = body_answer state c frame.at frame.body
 
--- a frame; those of a connection that isn't there, or has ended, are ignored
+-- a frame; ignored where its connection doesn't exist, or has ended
 abbrev pub frame_answer : {P : Type 0} → State P → ConnId → Frame → CoreOutcome P
 frame_answer state conn frame = frame_of state (going_on state.connections conn) frame
 
@@ -46,16 +46,17 @@ pub data Step (P : Type 0) : Type 0 where
   broken : ConnId → FrameFault → ℕ → Step P
   -- a client has closed its connection
   close : ConnId → Step P
-  -- the server ends a connection for want of memory
+  -- the server ends a connection for lack of memory
   cut : ConnId → Step P
-  -- the connections that have ended are swept away
+  -- the connections that have ended are removed
   sweep : Step P
   -- a notice of a sink
   notice : SinkId → Notice P → Step P
-  -- the first message that waits for a sink is handed out
+  -- the first message queued for a sink is handed to it
   out : SinkId → Step P
 
--- what a step is answered, where spec_of reads a parcel's sample spec; a client that connects and a message that is handed out have no answer of this kind
+-- the outcome of a step, where spec_of reads a parcel's sample spec; a client that connects and a message that is handed out have no outcome of this
+-- kind
 abbrev pub answer_of : {P : Type 0} → (P → SampleSpec) → State P → Step P → CoreOutcome P
 answer_of spec_of state (connect conn) = idle
 answer_of spec_of state (frame conn f) = frame_answer state conn f
@@ -77,7 +78,7 @@ stepped spec_of state sweep = answered state (answer_of spec_of state sweep)
 stepped spec_of state (notice sink n) = answered state (answer_of spec_of state (notice sink n))
 stepped spec_of state (out sink) = handed_out sink state
 
--- the connection that a step is of, where it is of one that is there already
+-- the connection that a step is of, where it is of an existing one
 abbrev pub sender_of : {P : Type 0} → Step P → Option ConnId
 sender_of (connect conn) = None
 sender_of (frame conn f) = Some conn
@@ -88,11 +89,11 @@ sender_of sweep = None
 sender_of (notice sink n) = None
 sender_of (out sink) = None
 
--- the effects of a client that connects; where no more are taken it is ended without an outcome
+-- the effects of a client that connects; where no more are accepted it is ended without an outcome
 abbrev pub admitted_effects : {P : Type 0} → Option Connection → ConnId → State P → List Effect
 admitted_effects c conn state = connect_effects c conn state ++ step_events state (connected c conn state)
 
--- its effects, in order; a connection that is only marked, and a message that is handed out, change nothing that is told
+-- its effects, in order; a connection that is only marked, and a message that is handed out, change no info
 abbrev pub effects_of : {P : Type 0} → (P → SampleSpec) → State P → Step P → List Effect
 effects_of spec_of state (connect conn) = admitted_effects (connection_of state.connections conn) conn state
 effects_of spec_of state (frame conn f) = answer_effects (Some conn) state (answer_of spec_of state (frame conn f))

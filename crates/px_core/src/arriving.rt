@@ -1,4 +1,4 @@
-//! A sink has given up the stream of an input that moves: the input is on the sink that it moves to.
+//! A sink has detached the stream of a moving input: the input is settled on the sink that it moves to.
 
 ghost use Rattle.std.specs.Prelude.{◌≡◌, IfOk, IfErr, OnOk, OnErr, None, Some, slice_get};
 ghost use Rattle.px_outcome.specs.declared.input.Standing.TheVariants.{Moving};
@@ -20,7 +20,7 @@ use px_state::{Effects, Tables, delayed_count, finish_arrival};
 use px_types::{Mem, SinkId};
 use std::alloc::Global;
 
-// What it does that an input is on this sink, but for its parcel.
+// The outcome of an input's arrival on this sink, but for its parcel.
 fn arrival_on<P: Parcel + Drop>(
     alloc: Global,
     tables: &Tables<P>,
@@ -55,7 +55,7 @@ fn arrival_on<P: Parcel + Drop>(
     )
 }
 
-// What it does that an input is on the sink with an index, but for its parcel.
+// The outcome of an input's arrival on the sink with an index, but for its parcel.
 fn arrival_at<P: Parcel + Drop>(
     alloc: Global,
     tables: &Tables<P>,
@@ -75,8 +75,8 @@ fn arrival_at<P: Parcel + Drop>(
     made
 }
 
-/// An input that moves to a sink is there with this parcel. Where there is no memory for it the parcel is handed back, and nothing has
-/// changed.
+/// Settles an input on the sink that it moves to, with this parcel. Where there is no memory for it the parcel is handed
+/// back, and nothing has changed.
 pub(crate) fn arrive_with<P: Parcel + Drop>(
     alloc: Global,
     tables: &mut Tables<P>,

@@ -1,4 +1,4 @@
-//! What a control packet is answered, and in which order it is refused (PulseAudio: `pa_pdispatch_run` and the handlers of
+//! The outcome of a control packet, and the order in which it is refused (PulseAudio: `pa_pdispatch_run` and the handlers of
 //! `pulsecore/protocol-native.c`; the order is own).
 
 ghost use Rattle.std.specs.Prelude.{◌≡◌, [], IfOk};
@@ -21,14 +21,14 @@ use px_types::limits::PROTOCOL_VERSION;
 use px_types::{ErrorCode, Mem, NoMemory};
 use std::alloc::Global;
 
-// Whether the connection hasn't been let in yet, and the command isn't AUTH.
+// Whether the connection hasn't authenticated yet, and the command isn't AUTH.
 fn is_barred(c: &Connection, command: u32) -> bool
     ensures { result ≡ is_barred c.now command }
 {
     c.version.is_none() && command != AUTH
 }
 
-// What a packet is answered that no rule before its fields refuses.
+// The outcome of a packet that no rule before its fields refuses.
 fn read_answer<P: Drop>(
     alloc: Global,
     tables: &Tables<P>,
@@ -51,7 +51,7 @@ fn read_answer<P: Drop>(
     }
 }
 
-// What a packet with this front is answered.
+// The outcome of a packet whose front was read.
 fn command_answer<P: Drop>(
     alloc: Global,
     tables: &Tables<P>,
@@ -72,10 +72,10 @@ fn command_answer<P: Drop>(
     read_answer(alloc, tables, c, at, tag, packet)
 }
 
-/// What a connection's control packet is answered whose first byte has the offset `at`. Refused, by the first of these that
+/// The outcome of a connection's control packet whose first byte has the offset `at`. Refused, by the first of these that
 /// holds: a fault in its front ends the connection; `Access` before a successful AUTH for any other command; `Command` for a
-/// number above the last; `NotSupported` for one that the table hasn't; a fault in its fields ends the connection; then as the
-/// command's handler says; and `TooLarge` where no frame can carry the reply.
+/// number above the last; `NotSupported` for one that isn't in the table; a fault in its fields ends the connection; then as
+/// the command's handler says; and `TooLarge` where no frame can carry the reply.
 pub(crate) fn packet_answer<P: Drop>(
     alloc: Global,
     tables: &Tables<P>,

@@ -1,5 +1,5 @@
 //! Connections begin and end (PulseAudio: `pa_native_protocol_connect` and `native_connection_unlink` of
-//! `pulsecore/protocol-native.c`; that an ended connection is swept away in a step of its own is own).
+//! `pulsecore/protocol-native.c`; that an ended connection is removed in a step of its own is own).
 
 ghost use Rattle.std.specs.Prelude.{◌≡◌, ◌++◌, ◌∷◌, [], ℕ, List, Option, None, Some, false, filter, flat_map, IsFalse, IfOk, OnOk, OnErr};
 ghost use Rattle.std.specs.Option.{option_map};
@@ -32,14 +32,14 @@ use px_types::limits::{MAX_CONNECTIONS, NO_INDEX};
 use px_types::{ConnId, Mem};
 use std::alloc::Global;
 
-// Whether no more connections are taken: the most are there, or no index is left that no client had.
+// Whether no more connections are accepted: the most are there, or no unused client index is left.
 fn is_full<P>(tables: &Tables<P>) -> bool
     ensures { result ≡ is_full (state_of tables.now) }
 {
     tables.connections.len() >= MAX_CONNECTIONS || tables.clients_made == NO_INDEX
 }
 
-/// A connection ends where it goes on: it is marked, and its number is given. Takes no memory.
+/// Ends a live connection: marks it, and returns its number. Takes no memory.
 pub(crate) fn end<P>(tables: &mut Tables<P>, conn: ConnId) -> Option<ConnId>
     ensures conn { result ≡ option_map (λ c. c.conn) (going_on tables.old.connections.items conn) }
     ensures after { (reason : Option Reason) (fault at : ℕ) →
@@ -54,7 +54,7 @@ pub(crate) fn end<P>(tables: &mut Tables<P>, conn: ConnId) -> Option<ConnId>
     }
 }
 
-// The changes of one more input, where it is the connection's and goes on.
+// Adds the changes of one more input, where it is the connection's and live.
 fn add_ends<P: Drop>(changes: &mut Vec<CoreChange<P>>, conn: ConnId, input: &Input) -> Mem<()>
     ensures { OnOk result ((more : List Input) →
         changes.new.items ++ flat_map ends (filter (is_from conn) more) ≡ changes.old.items ++ flat_map ends (filter (is_from conn) (input.now ∷ more))) }
@@ -65,7 +65,7 @@ fn add_ends<P: Drop>(changes: &mut Vec<CoreChange<P>>, conn: ConnId, input: &Inp
     Ok(())
 }
 
-// The changes that end all streams of a connection.
+// Adds the changes that end all streams of a connection.
 fn add_streams<P: Drop>(changes: &mut Vec<CoreChange<P>>, conn: ConnId, inputs: &[Input]) -> Mem<()>
     ensures { OnOk result (changes.new.items ≡ changes.old.items ++ flat_map ends (filter (is_from conn) inputs.now)) }
 {
@@ -75,7 +75,7 @@ fn add_streams<P: Drop>(changes: &mut Vec<CoreChange<P>>, conn: ConnId, inputs: 
     Ok(())
 }
 
-// The changes that sweep one connection away: the ends of its streams, and its client goes.
+// Adds the changes that remove one connection: the ends of its streams, and the removal of its client.
 fn add_forgotten<P: Drop>(
     changes: &mut Vec<CoreChange<P>>,
     inputs: &[Input],
@@ -88,7 +88,7 @@ fn add_forgotten<P: Drop>(
     Ok(())
 }
 
-// The changes of one more connection, where it has ended. The others, which are nearly all, cost a look.
+// Adds the changes of one more connection, where it has ended. The others, which are nearly all, cost a look.
 fn add_swept<P: Drop>(changes: &mut Vec<CoreChange<P>>, inputs: &[Input], c: &Connection) -> Mem<()>
     ensures { OnOk result ((more : List Connection) →
         changes.new.items ++ flat_map (swept inputs.now) (marked_of more) ≡ changes.old.items ++ flat_map (swept inputs.now) (marked_of (c.now ∷ more))) }
@@ -99,7 +99,7 @@ fn add_swept<P: Drop>(changes: &mut Vec<CoreChange<P>>, inputs: &[Input], c: &Co
     Ok(())
 }
 
-// The changes that sweep the connections away that have ended: the streams of each end, in order, and its client goes.
+// The changes that remove the connections that have ended: the streams of each end, in order, and its client is removed.
 fn swept_changes<P: Drop>(
     alloc: Global,
     connections: &[Connection],
@@ -114,7 +114,7 @@ fn swept_changes<P: Drop>(
     Ok(changes)
 }
 
-// What sweeps them away.
+// The outcome that removes them.
 fn sweep<P: Drop>(
     alloc: Global,
     connections: &[Connection],
@@ -138,8 +138,8 @@ fn has_marked(connections: &[Connection]) -> bool
     false
 }
 
-/// The connections that have ended are swept away. Where there is no memory for it nothing has changed. Most sweeps find none, and end
-/// with that look.
+/// Removes the connections that have ended. Where there is no memory for it nothing has changed. Most sweeps find none, and
+/// end with that look.
 pub(crate) fn sweep_away<P: Drop>(alloc: Global, tables: &mut Tables<P>) -> Mem<Effects>
     requires { AreSinks [] tables.old.sinks }
     ensures effects { IfOk result (λ effects. effects ≡ answer_effects None (state_of tables.old) (sweep_of (state_of tables.old))) }
@@ -153,7 +153,7 @@ pub(crate) fn sweep_away<P: Drop>(alloc: Global, tables: &mut Tables<P>) -> Mem<
     finish(alloc, tables, None, outcome)
 }
 
-// A client is taken. Where there is no memory for it nothing has changed.
+// Accepts a client. Where there is no memory for it nothing has changed.
 fn admit<P>(alloc: Global, tables: &mut Tables<P>, conn: ConnId) -> Mem<Effects>
     requires sinks { AreSinks [] tables.old.sinks }
     requires room { is_full (state_of tables.old) ≡ false }
@@ -171,8 +171,8 @@ fn admit<P>(alloc: Global, tables: &mut Tables<P>, conn: ConnId) -> Mem<Effects>
     }
 }
 
-/// A client connects. One that is there already changes nothing; where no more are taken the server ends it. Where there is no
-/// memory for it nothing has changed.
+/// A client connects. A number in use already changes nothing; where no more are accepted the server ends the new one. Where
+/// there is no memory for it nothing has changed.
 pub(crate) fn connect<P>(alloc: Global, tables: &mut Tables<P>, conn: ConnId) -> Mem<Effects>
     requires { AreSinks [] tables.old.sinks }
     ensures effects { IfOk result (λ effects. effects ≡ admitted_effects (connection_of tables.old.connections.items conn) conn (state_of tables.old)) }
@@ -188,7 +188,7 @@ pub(crate) fn connect<P>(alloc: Global, tables: &mut Tables<P>, conn: ConnId) ->
     admit(alloc, tables, conn)
 }
 
-// A connection is ended for breaking a rule of the protocol, at an offset of its bytes.
+// The end of a connection for breaking a rule of the protocol, at an offset of its bytes.
 fn closed_at(conn: ConnId, fault: u8, at: u64) -> Effect
     ensures value { result ≡ closed_at conn fault at }
     ensures sendable { IsSendable result }
@@ -201,8 +201,8 @@ fn closed_at(conn: ConnId, fault: u8, at: u64) -> Effect
     }
 }
 
-/// A fault in a connection's frames, at an offset of its bytes: it ends, where it goes on. Where there is no memory for the
-/// effect nothing has changed.
+/// A fault in a connection's frames, at an offset of its bytes: a live one ends. Where there is no memory for the effect
+/// nothing has changed.
 pub(crate) fn break_off<P>(
     alloc: Global,
     tables: &mut Tables<P>,

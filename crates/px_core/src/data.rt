@@ -13,7 +13,7 @@ use px_outcome::Input;
 use px_state::{Tables, post_frames};
 use px_types::ConnId;
 
-// Bytes for a stream that is there.
+// Writes bytes to an existing stream.
 fn write_to<P: Drop>(
     tables: &mut Tables<P>,
     input: Input,
@@ -33,9 +33,9 @@ fn write_to<P: Drop>(
     }
 }
 
-/// Bytes that a client writes to a stream, at an offset of so many that counts from where the seek mode says. They wait for the
-/// stream's sink; where the connection has no such stream, or they aren't whole frames, they are ignored. Where there is no
-/// memory they are handed back, and nothing has changed. The stream is found without a walk over the inputs.
+/// Bytes that a client writes to a stream, at byte `offset`, which is relative to what the seek mode says. They are posted
+/// to the stream's sink; where the connection has no such stream, or they aren't whole frames, they are ignored. Where there
+/// is no memory they are handed back, and nothing has changed. The stream is found without a walk over the inputs.
 pub(crate) fn write<P: Drop>(
     tables: &mut Tables<P>,
     conn: ConnId,

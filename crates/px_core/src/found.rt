@@ -19,7 +19,7 @@ pub(crate) fn connection_of(connections: &[Connection], conn: ConnId) -> Option<
     connections.iter().find(|c| c.conn.0 == conn.0)
 }
 
-/// The connection with a number, where it goes on. Takes no memory.
+/// The connection with a number, where it is live. Takes no memory.
 pub(crate) fn going_on(connections: &[Connection], conn: ConnId) -> Option<Connection>
     ensures { result ≡ going_on connections.now conn }
 {
@@ -30,7 +30,8 @@ pub(crate) fn going_on(connections: &[Connection], conn: ConnId) -> Option<Conne
     }
 }
 
-// How many of the first indices lie below this one, by halves: a sink tells of its inputs at every turn, and there may be 1,024.
+// The number of inputs with an index below `index`, by binary search: a sink sends notices about its inputs every turn, and
+// there may be 1,024.
 fn place(inputs: &[Input], index: InputId) -> usize
     requires { IsRising inputs.now }
     ensures below { AreBelow index.0 result inputs.now }
@@ -63,7 +64,7 @@ pub(crate) fn input_on(inputs: &[Input], sink: SinkId, index: InputId) -> Option
     None
 }
 
-/// The input itself, where one was found. Takes no memory.
+/// A copy of the input, where one was found. Takes no memory.
 pub(crate) fn copied(x: Option<&Input>) -> Option<Input>
     ensures { result ≡ option_map (λ x. x.now) x.entry }
 {

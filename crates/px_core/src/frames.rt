@@ -1,4 +1,4 @@
-//! What a frame of a connection is answered.
+//! The outcome of a frame of a connection.
 
 ghost use Rattle.std.specs.Prelude.{◌≡◌, [], Some, IfOk, IfErr, OnOk, OnErr};
 ghost use Rattle.std.specs.List.{AllByRecursion};
@@ -19,7 +19,7 @@ use px_state::{Effects, Tables, finish};
 use px_types::{ConnId, Mem};
 use std::alloc::Global;
 
-// A control packet of a connection that goes on.
+// A control packet of a live connection.
 fn control<P: Drop>(
     alloc: Global,
     tables: &mut Tables<P>,
@@ -39,8 +39,7 @@ fn control<P: Drop>(
     finish(alloc, tables, Some(conn), outcome)
 }
 
-// The body of a frame of a connection that goes on, which is the one with this number. Where there is no memory for it, it is
-// handed back.
+// The body of a frame of a live connection, the one with this number. Where there is no memory for it, it is handed back.
 #[tactic(auto, using(crate::proofs::Silent::data_notifies_nobody))]
 fn body<P: Drop>(
     alloc: Global,
@@ -82,8 +81,8 @@ fn body<P: Drop>(
     }
 }
 
-/// A frame of a connection. One of a connection that isn't there, or has ended, is ignored. Where there is no memory for it, it
-/// is handed back, and nothing has changed.
+/// Takes in a frame of a connection. Ignored where the connection doesn't exist, or has ended. Where there is no memory for
+/// it, it is handed back, and nothing has changed.
 pub(crate) fn take<P: Drop>(
     alloc: Global,
     tables: &mut Tables<P>,

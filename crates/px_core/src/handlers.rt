@@ -93,7 +93,7 @@ fn create_named<P: Drop>(
     create_by(alloc, tables, me, tag, named, fields)
 }
 
-// New buffer attributes of a stream, with the latency of its sink.
+// SET_PLAYBACK_STREAM_BUFFER_ATTR of a stream, with the latency of its sink.
 fn new_attributes<P: Drop>(
     alloc: Global,
     tables: &Tables<P>,
@@ -109,7 +109,7 @@ fn new_attributes<P: Drop>(
     attributes(alloc, stream, depth_of(sink), rate_of(sink), asked, tag)
 }
 
-// The handler of a command on what plays in a stream of the connection's own.
+// The handler of a command on the playback of one of the connection's own streams.
 fn handle_playing<P: Drop>(
     alloc: Global,
     tables: &Tables<P>,
@@ -137,7 +137,7 @@ fn handle_playing<P: Drop>(
     }
 }
 
-// The handler of a command that makes or ends a stream of the connection's own, or changes its buffer.
+// The handler of a command that creates or ends one of the connection's own streams, or changes its buffer.
 fn handle_stream<P: Drop>(
     alloc: Global,
     tables: &Tables<P>,
@@ -165,7 +165,7 @@ fn handle_stream<P: Drop>(
     }
 }
 
-// The handler of a command on the properties of a stream of the connection's own.
+// The handler of a command on the properties of one of the connection's own streams.
 fn handle_properties<P: Drop>(
     alloc: Global,
     tables: &Tables<P>,
@@ -194,7 +194,7 @@ fn handle_properties<P: Drop>(
     }
 }
 
-// The handler of a command on clients that is only read.
+// The handler of a command on clients that takes its fields by reference.
 fn handle_client<P: Drop>(
     alloc: Global,
     tables: &Tables<P>,
@@ -249,7 +249,7 @@ fn handle_server<P: Drop>(
     }
 }
 
-// The handler of a command that is only read.
+// The handler of a command that takes its fields by reference.
 fn handle_read<P: Drop>(
     alloc: Global,
     tables: &Tables<P>,
@@ -300,7 +300,7 @@ fn handle_read<P: Drop>(
     }
 }
 
-// The handler of a command that goes once it is read.
+// The handler of a command that consumes its fields.
 fn handle_spent<P: Drop>(
     alloc: Global,
     tables: &Tables<P>,
@@ -333,7 +333,7 @@ fn handle_client_name<P: Drop>(
     set_client_name(alloc, client, me, tag, list)
 }
 
-/// A command's handler: what it gives on the parts of the state that it reads.
+/// A command's handler: its outcome, from the parts of the state that it reads.
 pub(crate) fn handle<P: Drop>(
     alloc: Global,
     tables: &Tables<P>,

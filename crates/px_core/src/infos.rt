@@ -1,4 +1,4 @@
-//! The commands that ask about sinks, inputs and the server, each on the parts of the state that it reads.
+//! The commands that ask for infos of sinks, inputs and the server, each on the parts of the state that it reads.
 
 ghost use Rattle.std.specs.Prelude.{◌≡◌, ◌≤◌, [], false, All, IfSome};
 ghost use Rattle.std.specs.List.{AllByRecursion};
@@ -23,7 +23,7 @@ use px_state::Tables;
 use px_types::limits::PROTOCOL_VERSION;
 use std::alloc::Global;
 
-/// The sink that is named.
+/// The named sink.
 pub(crate) fn handle_sink_info<P: Drop>(
     alloc: Global,
     tables: &Tables<P>,
@@ -50,7 +50,7 @@ pub(crate) fn handle_sink_infos<P: Drop>(
     sink_infos(alloc, &sinks, &tables.groups, tag)
 }
 
-// The input with an index, where it goes on.
+// The input with an index, where it is live.
 #[tactic(auto, using(crate::proofs::StreamLaws::few_channels))]
 fn input_there<P>(tables: &Tables<P>, index: u32) -> Option<Input>
     requires { AllByRecursion (IsInput tables.now.sinks tables.now.inputs_made) tables.now.inputs.items }
@@ -60,7 +60,7 @@ fn input_there<P>(tables: &Tables<P>, index: u32) -> Option<Input>
     tables.inputs.input_named(index)
 }
 
-/// The input with an index, where it goes on.
+/// The input with an index, where it is live.
 pub(crate) fn handle_input_info<P: Drop>(
     alloc: Global,
     tables: &Tables<P>,
@@ -84,7 +84,7 @@ fn all_inputs<P>(tables: &Tables<P>) -> &[Input]
     tables.inputs.as_slice()
 }
 
-/// All inputs that go on.
+/// All live inputs.
 pub(crate) fn handle_input_infos<P: Drop>(
     alloc: Global,
     tables: &Tables<P>,
@@ -102,7 +102,7 @@ pub(crate) fn handle_input_infos<P: Drop>(
     )
 }
 
-/// What the server is.
+/// The server's info.
 pub(crate) fn server<P: Drop>(
     alloc: Global,
     tables: &Tables<P>,

@@ -1,4 +1,4 @@
-//! Laws of the core's definitions: what its state keeps, and what a sink is handed out.
+//! Laws of the core's definitions: the invariants of its state, and the messages that are handed to a sink.
 ghost use Rattle.std.specs.Prelude.{◌≡◌, ℕ, ◌+◌, ◌<◌, ◌≤◌, List, [], ◌∷◌, ◌++◌, None, Some, map, flat_map, take, drop, replicate, slice_get};
 ghost use Rattle.std.specs.List.{AllByRecursion};
 ghost use Rattle.px_types.specs.declared.ids.ConnId.{ConnId};
@@ -26,8 +26,9 @@ ghost use Rattle.px_state.specs.Events.{step_events};
 ghost use Rattle.px_core.specs.Heard.{infos_of, given_by, events_of, mask_on, heard, sent_events, sent_to, own_effects};
 ghost use Rattle.px_core.specs.Ending.{ends_of, goes_on, begins_of, begins_by};
 
-/// What the state keeps, a new one has, and it keeps under every step; `spec_of` reads a parcel's sample spec. So the messages
-/// that wait for a sink are always orderly from the inputs that it has. It does nothing: its contract is the law. Source: own.
+/// A new state has the core's invariants, and every step preserves them; `spec_of` reads a parcel's sample spec. So the
+/// messages queued for a sink are always orderly from the inputs that it has. It does nothing: its contract is the law.
+/// Source: own.
 pub fn states_are_consistent<P>()
     ensures new { (spec_of : P → SampleSpec) (header : Header) → IsHeader header → IsConsistent spec_of (new_state header) }
     ensures step { (spec_of : P → SampleSpec) (state : State P) (s : Step P) → IsStep s → IsConsistent spec_of state
@@ -39,9 +40,9 @@ pub fn states_are_consistent<P>()
         → next_for state sink ≡ Some m → IsConsistent spec_of (put_back sink m (handed_out sink state)) }
 {}
 
-/// A sink has the inputs that the messages handed out to it leave there. Of those that wait, in order, the first are handed
-/// out, the others go on waiting, and nothing else changes what the sink has. It does nothing: its contract is the law.
-/// Source: own.
+/// A sink has the inputs that the messages handed to it leave there. Of its queue, the first messages are handed to it, in
+/// order, the others stay queued, and nothing else changes which inputs the sink has. It does nothing: its contract is the
+/// law. Source: own.
 pub fn sinks_have_what_was_posted<P>()
     ensures messages { (spec_of : P → SampleSpec) (state : State P) (sink : SinkId) (n : ℕ) → IsConsistent spec_of state
         → messages_out n sink state ≡ take n (waiting_for state sink) }
@@ -60,9 +61,9 @@ pub fn sinks_have_what_was_posted<P>()
         → unsent_by sink (messages_out n sink core.state) (sent_by n sink core) ≡ core }
 {}
 
-/// All that a sink is handed out over any steps, in order, is orderly from the inputs that it had, and leaves there those that
-/// the core knows to be there; from a new state it is orderly from none. No step changes the sinks. It does nothing: its
-/// contract is the law. Source: own.
+/// All messages that a sink is handed over any steps, in order, are orderly from the inputs that it had, and leave there
+/// those that the core knows to be there; from a new state they are orderly from none. No step changes the sinks. It does
+/// nothing: its contract is the law. Source: own.
 pub fn sinks_hear_what_is_orderly<P>()
     ensures orderly { (spec_of : P → SampleSpec) (state : State P) (steps : List (Step P)) (sink : SinkId) (s : SinkSpec)
         → slice_get state.sinks sink.0 ≡ Some s → AllByRecursion IsStep steps → IsConsistent spec_of state
@@ -83,8 +84,8 @@ pub fn sinks_hear_what_is_orderly<P>()
         → (stepped_by spec_of state steps).sinks ≡ state.sinks }
 {}
 
-/// No parcel waits for a sink, and none is handed out to it, but those that notices gave up. It does nothing: its contract is the
-/// law. Source: own.
+/// No parcel is queued for a sink, and none is handed to it, but those that came with notices. It does nothing: its contract
+/// is the law. Source: own.
 pub fn parcels_are_those_given_up<P>()
     ensures waiting { (spec_of : P → SampleSpec) (header : Header) (steps : List (Step P)) → IsHeader header
         → AllByRecursion IsStep steps
@@ -94,8 +95,8 @@ pub fn parcels_are_those_given_up<P>()
         → AllByRecursion (Carries (IsAmong (flat_map given_in steps))) (posted_by_steps spec_of sink (new_state header) steps) }
 {}
 
-/// What a sink is handed out by some steps and others after them; by steps that hand out nothing to it; and by those that
-/// only do that. It does nothing: its contract is the law. Source: own.
+/// The messages that a sink is handed by some steps followed by others; by steps that hand it nothing; and by those that do
+/// nothing else. It does nothing: its contract is the law. Source: own.
 pub fn sinks_hear_step_by_step<P>()
     ensures joined { (spec_of : P → SampleSpec) (state : State P) (earlier later : List (Step P)) (sink : SinkId)
         → posted_by_steps spec_of sink state (earlier ++ later)
@@ -108,8 +109,9 @@ pub fn sinks_hear_step_by_step<P>()
         → stepped_by spec_of state (replicate n (out sink)) ≡ handed_out_by n sink state }
 {}
 
-/// The server ends a connection only where it went on and goes on no more, or where it isn't taken as it connects: so at the
-/// most once each time that a client connects whose number isn't there. It does nothing: its contract is the law. Source: own.
+/// The server ends a connection only where it was live and no longer is, or where it isn't accepted as it connects: so at
+/// most once each time that a client connects whose number isn't in use. It does nothing: its contract is the law. Source:
+/// own.
 pub fn connections_end_once<P>()
     ensures step { (spec_of : P → SampleSpec) (state : State P) (s : Step P) (conn : ConnId) → IsConsistent spec_of state
         → ends_of conn (effects_of spec_of state s) + goes_on (stepped spec_of state s).connections conn
@@ -120,9 +122,9 @@ pub fn connections_end_once<P>()
         ≤ goes_on state.connections conn + begins_by spec_of conn state steps }
 {}
 
-/// What a connection sends that isn't there, or has ended, has no effect and changes nothing; nor does anything that is
-/// answered by an error. One that breaks a rule of the protocol marks its own connection, and changes nothing else. It does
-/// nothing: its contract is the law. Source: own.
+/// Whatever is sent by a connection that doesn't exist, or has ended, has no effect and changes nothing; nor does any
+/// request change anything that is answered by an error alone. One that breaks a rule of the protocol marks its own
+/// connection, and changes nothing else. It does nothing: its contract is the law. Source: own.
 pub fn refusals_change_nothing<P>()
     ensures ended { (spec_of : P → SampleSpec) (state : State P) (s : Step P) (conn : ConnId) → sender_of s ≡ Some conn
         → going_on state.connections conn ≡ None
@@ -133,10 +135,10 @@ pub fn refusals_change_nothing<P>()
         → effects_of spec_of state s ≡ closed_at conn fault at ∷ [] → stepped spec_of state s ≡ with_connection conn marked state }
 {}
 
-/// Behind what a step does else, each connection that goes on is sent, in order, the events of its mask, as it is after the step,
-/// and no other is sent any: those between what infos told before the step and what they tell after it. About a sink, an input or a
-/// client that has come, has gone, or of which something else is told there is the one event that says so, and about others none. It
-/// does nothing: its contract is the law. Source: own.
+/// After the other effects of a step, each live connection is sent, in order, the subscription events of its mask, as it is
+/// after the step, and no other connection is sent any: those between the infos before the step and the infos after it.
+/// About a sink, an input or a client that has come, has gone, or whose info differs there is the one event that says so,
+/// and about others none. It does nothing: its contract is the law. Source: own.
 pub fn subscribers_hear_what_became<P>()
     ensures effects { (spec_of : P → SampleSpec) (state : State P) (s : Step P)
         → effects_of spec_of state s ≡ own_effects spec_of state s ++ step_events state (stepped spec_of state s) }

@@ -21,9 +21,9 @@ use px_types::{ConnId, Mem, SinkId};
 use std::alloc::Global;
 use std::marker::Model;
 
-/// The control side of the server: connections, their streams, and the messages that wait for each sink (`pa_core`, and
-/// `pulsecore/protocol-native.c`). Each call is one step of the definitions, with its effects. `P` is the type of a parcel: a
-/// stream on its way from one sink to another.
+/// The control side of the server: connections, their streams, and the messages queued for each sink (`pa_core`, and
+/// `pulsecore/protocol-native.c`). Each call is one step of the definitions, with its effects. `P` is the type of a parcel:
+/// a stream that moves from one sink to another.
 #[derive(Drop)]
 pub struct Core<P: Parcel> {
     alloc: Global,
@@ -54,8 +54,8 @@ impl<P: Parcel + Drop> Core<P> {
         })
     }
 
-    /// A client connects. One that is there already changes nothing; where 64 are there the server ends it. Where there is no
-    /// memory for it nothing has changed.
+    /// A client connects. A number in use already changes nothing; where there are 64 connections the server ends the new
+    /// one. Where there is no memory for it nothing has changed.
     pub fn admit(&mut self, conn: ConnId) -> Mem<Effects>
         ensures effects { IfOk result (λ effects. effects ≡ effects_of P.spec_of self.old.state (Step.connect conn)) }
         ensures after { OnOk result (self.new.state ≡ stepped P.spec_of self.old.state (Step.connect conn)) }
@@ -64,8 +64,8 @@ impl<P: Parcel + Drop> Core<P> {
         connect(self.alloc, &mut self.tables, conn)
     }
 
-    /// A frame of a connection; one that isn't there or has ended has none. Where there is no memory for it, it is handed back,
-    /// and nothing has changed.
+    /// Takes in a frame of a connection; ignored where the connection doesn't exist or has ended. Where there is no memory
+    /// for it, it is handed back, and nothing has changed.
     pub fn frame(&mut self, conn: ConnId, frame: Frame) -> Result<Effects, Frame>
         requires { IsBody frame.body }
         ensures effects { IfOk result (λ effects. effects ≡ effects_of P.spec_of self.old.state (Step.frame conn frame)) }
@@ -92,7 +92,7 @@ impl<P: Parcel + Drop> Core<P> {
         end(&mut self.tables, conn);
     }
 
-    /// The server ends a connection for want of memory. Takes no memory.
+    /// The server ends a connection for lack of memory. Takes no memory.
     pub fn cut(&mut self, conn: ConnId) -> Option<Effect>
         ensures effect { option_to_list result ≡ effects_of P.spec_of self.old.state (Step.cut conn) }
         ensures sendable { IfSome result IsSendable }
@@ -104,7 +104,7 @@ impl<P: Parcel + Drop> Core<P> {
         }
     }
 
-    /// The connections that have ended are swept away: the streams of each end, and its client goes. Where there is no memory
+    /// Removes the connections that have ended: the streams of each end, and its client is removed. Where there is no memory
     /// for it nothing has changed.
     pub fn sweep(&mut self) -> Mem<Effects>
         ensures effects { IfOk result (λ effects. effects ≡ effects_of P.spec_of self.old.state Step.sweep) }
@@ -114,7 +114,7 @@ impl<P: Parcel + Drop> Core<P> {
         sweep_away(self.alloc, &mut self.tables)
     }
 
-    /// A sink's notice. Where there is no memory for it, it is handed back, and nothing has changed.
+    /// Takes in a sink's notice. Where there is no memory for it, it is handed back, and nothing has changed.
     pub fn notice(&mut self, sink: SinkId, notice: Notice<P>) -> Result<Effects, Notice<P>>
         ensures effects { IfOk result (λ effects. effects ≡ effects_of P.spec_of self.old.state (Step.notice sink notice)) }
         ensures after { OnOk result (self.new.state ≡ stepped P.spec_of self.old.state (Step.notice sink notice)) }
@@ -124,15 +124,15 @@ impl<P: Parcel + Drop> Core<P> {
         notice::take(self.alloc, &mut self.tables, sink, notice)
     }
 
-    /// How many messages wait for a sink; 0 for one that isn't there. Takes no memory.
+    /// The number of messages queued for a sink; 0 for an unknown one. Takes no memory.
     pub fn outgoing(&self, sink: SinkId) -> usize
         ensures { result ≡ length (waiting_for self.now.state sink) }
     {
         outgoing(&self.tables, sink)
     }
 
-    /// The first message that waits for a sink, handed out. There is room to put it back, and put back it leaves the very core
-    /// that was. Takes no memory.
+    /// Removes and returns the first message queued for a sink. There is room to put it back, and putting it back restores
+    /// exactly the core before. Takes no memory.
     pub fn sent(&mut self, sink: SinkId) -> Option<Msg<P>>
         ensures next { result ≡ next_for self.old.state sink }
         ensures after { self.new ≡ sent sink self.old }
@@ -143,8 +143,9 @@ impl<P: Parcel + Drop> Core<P> {
         hand_out(&mut self.tables, sink)
     }
 
-    /// A message that was handed out waits again, before the others. Where several were, the last one is put back first, and
-    /// the core is as it was once all are back: each `sent` says of its message that it can be put back then. Takes no memory.
+    /// Puts a message that was handed out back at the front of its sink's queue. Where several were handed out, the last one
+    /// is put back first, and the core is as it was once all are back: each `sent` states that its message can be put back
+    /// then. Takes no memory.
     pub fn unsent(&mut self, sink: SinkId, msg: Msg<P>)
         requires room { 0 < room_for sink self.old.room }
         requires consistent { IsConsistent P.spec_of (put_back sink msg self.old.state) }

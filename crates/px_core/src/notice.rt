@@ -1,5 +1,5 @@
-//! What a sink's notice is answered (PulseAudio: `sink_input_process_msg` of `pulsecore/protocol-native.c`; which notices fit is
-//! own).
+//! The outcome of a sink's notice (PulseAudio: `sink_input_process_msg` of `pulsecore/protocol-native.c`; which notices fit
+//! is own).
 
 ghost use Rattle.std.specs.Prelude.{◌≡◌, [], None, Some, slice_get, IfOk, IfErr, OnOk, OnErr};
 ghost use Rattle.px_header.specs.HeaderRules.{AreSinks};
@@ -21,7 +21,7 @@ use px_state::{Effects, Tables, finish};
 use px_types::{InputId, Mem, SinkId};
 use std::alloc::Global;
 
-/// The connection of an input, where both are there and it goes on. Takes no memory.
+/// The connection of an input, where both exist and it is live. Takes no memory.
 pub(crate) fn owner_of(connections: &[Connection], input: &Option<Input>) -> Option<Connection>
     ensures { result ≡ owner_of connections.now input.now }
 {
@@ -31,7 +31,7 @@ pub(crate) fn owner_of(connections: &[Connection], input: &Option<Input>) -> Opt
     }
 }
 
-// News of an input that is on the sink.
+// The outcome of a notice about an input on the sink.
 fn notified_of<P: Drop>(
     alloc: Global,
     tables: &Tables<P>,
@@ -44,7 +44,7 @@ fn notified_of<P: Drop>(
     notify(alloc, input, owner, news)
 }
 
-// All of an input that is on the sink was played: the drain under the tag is answered.
+// An input on the sink has drained: the DRAIN under the tag is answered.
 fn drained_of<P: Drop>(
     alloc: Global,
     tables: &Tables<P>,
@@ -57,7 +57,7 @@ fn drained_of<P: Drop>(
     drained(alloc, input, owner, &tables.waiting, tag)
 }
 
-// An input that is on the sink is so far: the question under the tag is answered.
+// The sink reports the indices of an input on it: the latency request under the tag is answered.
 fn measured_of<P: Drop>(
     alloc: Global,
     tables: &Tables<P>,
@@ -74,8 +74,8 @@ fn measured_of<P: Drop>(
     measured(alloc, input, owner, &tables.waiting, rate, tag, progress)
 }
 
-// What news of a stream is answered. What doesn't fit is ignored: of an input that isn't on the sink, of one that ends, and an answer to
-// a request that doesn't wait.
+// The outcome of a notice about a stream. One that doesn't fit is ignored: of an input that isn't on the sink, of one that
+// has ended, and an answer to a request that doesn't wait.
 fn notice_answer<P: Parcel + Drop>(
     alloc: Global,
     tables: &Tables<P>,
@@ -132,7 +132,7 @@ fn notice_answer<P: Parcel + Drop>(
     }
 }
 
-// News of a stream. Where there is no memory for it, it is handed back, and nothing has changed.
+// Takes in a notice about a stream. Where there is no memory for it, it is handed back, and nothing has changed.
 fn take_news<P: Parcel + Drop>(
     alloc: Global,
     tables: &mut Tables<P>,
@@ -156,7 +156,7 @@ fn take_news<P: Parcel + Drop>(
     }
 }
 
-// A sink has given up the stream of an input that has ended, or of one that isn't to be given up.
+// A sink has detached the stream of an input that has ended, or of one that wasn't to be detached.
 fn take_left<P: Parcel + Drop>(
     alloc: Global,
     tables: &mut Tables<P>,
@@ -188,8 +188,9 @@ fn take_left<P: Parcel + Drop>(
     }
 }
 
-// A sink has given up the stream of an input that is on it: one that moves is on the sink that it moves to, and one that has ended goes.
-// What doesn't fit is ignored: of one that the sink wasn't told to give up, and a stream with another spec.
+// A sink has detached the stream of an input that is on it: one that moves is settled on the sink that it moves to, and one
+// that has ended is removed. A notice that doesn't fit is ignored: of an input that the sink got no message to detach, and a
+// stream with another spec.
 fn leave_with<P: Parcel + Drop>(
     alloc: Global,
     tables: &mut Tables<P>,
@@ -217,7 +218,7 @@ fn leave_with<P: Parcel + Drop>(
     }
 }
 
-// And of an input that may not be on it, which is ignored then.
+// The same for an input that may not be on the sink, in which case the notice is ignored.
 #[tactic(auto, using(crate::proofs::EntryLaws::found_by_index))]
 fn detach<P: Parcel + Drop>(
     alloc: Global,
@@ -238,7 +239,7 @@ fn detach<P: Parcel + Drop>(
     }
 }
 
-/// A sink's notice. Where there is no memory for it, it is handed back, and nothing has changed.
+/// Takes in a sink's notice. Where there is no memory for it, it is handed back, and nothing has changed.
 pub(crate) fn take<P: Parcel + Drop>(
     alloc: Global,
     tables: &mut Tables<P>,

@@ -1,4 +1,4 @@
-//! The handlers of the commands on sinks and inputs, whosever they are.
+//! The handlers of the commands on sinks and on inputs of any client.
 
 ghost use Rattle.std.specs.Prelude.{[], false};
 ghost use Rattle.std.specs.List.{AllByRecursion};
@@ -24,7 +24,7 @@ use px_sinks::named_by;
 use px_state::Tables;
 use std::alloc::Global;
 
-// An input is to be on the sink that is named.
+// MOVE_SINK_INPUT of an input to the named sink.
 fn moved<P: Drop>(
     alloc: Global,
     tables: &Tables<P>,
@@ -40,7 +40,7 @@ fn moved<P: Drop>(
     move_input(alloc, x, named, tables.inputs.as_slice(), tag)
 }
 
-// An input ends, whose connection is told so where that goes on.
+// Ends an input, and notifies its connection where that is live.
 fn killed_input<P: Drop>(
     alloc: Global,
     tables: &Tables<P>,
@@ -73,7 +73,7 @@ pub(crate) fn handle_on_sinks<P: Drop>(
     }
 }
 
-/// The handler of a command on inputs, whosever they are.
+/// The handler of a command on inputs of any client.
 pub(crate) fn handle_on_inputs<P: Drop>(
     alloc: Global,
     tables: &Tables<P>,

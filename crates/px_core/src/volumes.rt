@@ -18,7 +18,7 @@ use px_state::Tables;
 use px_tag::RawVolume;
 use std::alloc::Global;
 
-/// The volume of the sink that is named.
+/// The volume of the named sink.
 pub(crate) fn sink_volume<P: Drop>(
     alloc: Global,
     tables: &Tables<P>,
@@ -34,7 +34,7 @@ pub(crate) fn sink_volume<P: Drop>(
     set_sink_volume(alloc, named, group, tables.inputs.as_slice(), volume, tag)
 }
 
-/// Its mute.
+/// The sink's mute.
 pub(crate) fn sink_mute<P: Drop>(
     alloc: Global,
     tables: &Tables<P>,
@@ -65,7 +65,7 @@ pub(crate) fn input_volume<P: Drop>(
     set_input_volume(alloc, x, group, tables.inputs.as_slice(), volume, tag)
 }
 
-/// Its mute.
+/// The input's mute.
 pub(crate) fn input_mute<P: Drop>(
     alloc: Global,
     tables: &Tables<P>,

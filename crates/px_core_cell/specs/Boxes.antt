@@ -1,4 +1,4 @@
--- Which mailboxes the core's ends are of.
+-- The mailboxes that the core's ends are of.
 use Rattle.std.specs.Prelude.{Option}
 use Rattle.std.specs.Arc.{arc_value}
 use Rattle.atomic_table.specs.Seated.{TableId}
@@ -15,6 +15,6 @@ pub record Boxes : Type 0 where
   pub inbox : TableId
   pub outbox : TableId
 
--- those that the core's ends are of
+-- the mailboxes that the core's ends are of
 abbrev pub boxes_of : CoreEnd → Boxes
 boxes_of e = record { inbox = name_of (arc_value e.inbox).queue; outbox = name_of (arc_value e.outbox).queue }

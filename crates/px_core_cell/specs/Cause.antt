@@ -1,4 +1,4 @@
--- Why a recorder isn't ready for a step: what it says of itself, and its first fault, which has its cause in its own counts.
+-- Why a recorder isn't ready for a step: its answer, and its first fault, which has its cause in its own counts.
 use Rattle.std.specs.Prelude.{◌≡◌, ℕ, ◌≤◌, List, Option, None, Some, Result, Ok, Err, ⊤}
 use Rattle.std.specs.Option.{option_or, option_map}
 use Rattle.px_annals.specs.History.{Limit, sizes_by, SaysFull, ReadyCounts}
@@ -9,12 +9,13 @@ use Rattle.px_annals.specs.declared.recorder.RecordFault.TheVariants.{Full, Fail
 use Rattle.px_core_cell.specs.declared.step.StepFault.{StepFault}
 use Rattle.px_core_cell.specs.declared.step.StepFault.TheVariants.{NoMemory, Worn, Recorder, Owed}
 
--- it found itself full, or failed, at least once
+-- it found itself full, or failed, at least once, as its first fault says; and where it had no fault, it never was full and never failed
 pub record IsCaused (fault : Option RecordFault) (faults fulls : ℕ) : Type 0 where
   pub full : (entries bytes : ℕ) → fault ≡ Some (Full entries bytes) → 1 ≤ fulls
   pub failed : fault ≡ Some Failed → 1 ≤ faults
+  pub none : fault ≡ None → (faults ≡ 0) × (fulls ≡ 0)
 
--- it isn't ready for a step; its first fault is kept
+-- it isn't ready for a step; its first fault stays
 abbrev pub ReadyFails : StepFault → Option RecordFault → Option RecordFault → Type 0
 ReadyFails e before after = (why : RecordFault) × (e ≡ Recorder why) × (after ≡ option_or before (Some why))
 
@@ -25,10 +26,10 @@ Unnoted Worn before after = ⊥
 Unnoted (Recorder why) before after = after ≡ option_or before (Some why)
 Unnoted (Owed back) before after = ⊥
 
--- ---- what it said when it was asked, by what is answered
+-- ---- its answer when it was asked, by the result of the step
 
 module _ {C : Type 0} (limit : C → Option Limit) (visible : C → Option (List CoreEntry)) (faults fulls : C → ℕ) where
-  -- the answer is what it says of itself, and is counted
+  -- the answer is right by its limit and content, and is counted
   abbrev pub Answered : Result ⊤ RecordFault → C → C → Type 0
   Answered answer before after =
       SaysFull answer (limit before) (option_map (sizes_by size_of_core_entry) (visible before))
@@ -39,7 +40,7 @@ module _ {C : Type 0} (limit : C → Option Limit) (visible : C → Option (List
   abbrev pub IsCalm : C → C → Type 0
   IsCalm before after = (limit after ≡ limit before) × (faults after ≡ faults before) × (fulls after ≡ fulls before)
 
-  -- it was ready for what was done, and is the cause where it is said to be
+  -- it was ready for the step that was done, and is the cause where the result says so
   abbrev pub Says : {A : Type 0} → Result A StepFault → C → C → Type 0
   Says (Ok answer) before after = Answered (Ok tt) before after
   Says (Err NoMemory) before after = IsCalm before after

@@ -1,4 +1,4 @@
--- What lies under the core's lock.
+-- The content of the core's lock.
 use Rattle.std.specs.Prelude.{ℕ, Bool, List, map, Option}
 use Rattle.px_annals.specs.declared.entry.CoreEntry.{CoreEntry}
 use Rattle.px_annals.specs.declared.recorder.RecordFault.{RecordFault}
@@ -14,21 +14,20 @@ use Rattle.px_core_cell.specs.declared.log.StepLog.{StepLog}
 use Rattle.px_core_cell.specs.declared.parts.CoreParts.{CoreParts}
 use Rattle.px_core_cell.specs.Parcel.{seen_message, seen_notice}
 
--- the core's ends of a sink's mailboxes: the inbox's key, what was posted to it, what was taken from the outbox, and the notice of these that no step
--- has had yet
+-- the core's ends of a sink's mailboxes: the inbox's key, the messages posted to it, the notices taken from the outbox, and the notice among these
+-- that is held: no step has had it yet
 pub record SinkEnds : Type 0 where
   pub key : Option Spec
   pub posted : List (Msg PlainStream)
   pub taken : List (Notice PlainStream)
   pub held : Option (Notice PlainStream)
 
--- what its passes have written down there: of each post to the inbox whether the message was stored, and of each take from the outbox whether it found
--- a notice
+-- the record of its passes: for each post to the inbox whether the message was stored, and for each take from the outbox whether it found a notice
 pub record Calls : Type 0 where
   pub stored : List Bool
   pub found : List Bool
 
--- the core, its recorder with the first fault of that, how many steps were done, and whether a sweep is owed
+-- the core, its recorder with the recorder's first fault, the number of steps done, and whether a sweep is owed
 pub record Logged (C : Type 0) : Type 0 where
   pub state : State PlainStream
   pub recorder : C

@@ -1,4 +1,4 @@
--- The history of a core: what its entries mean, and what a core under its lock keeps.
+-- The history of a core: the meaning of its entries, and the invariants of a core under its lock.
 use Rattle.std.specs.Prelude.{◌≡◌, ℕ, Bool, true, false, cond, nat_eq, List, [], ◌∷◌, ◌++◌, map, flat_map, length, slice_get, Option, None, Some, IfSome}
 use Rattle.std.specs.List.{fold}
 use Rattle.std.specs.Option.{option_to_list}
@@ -25,13 +25,13 @@ use Rattle.px_core_cell.specs.Plain.{notice_for, steps_of}
 abbrev pub sink_at : ℕ → SinkId
 sink_at index = record { 0 = index }
 
--- ---- what entries mean
+-- ---- the meaning of entries
 
 -- the steps of the core
 abbrev pub steps_in : List CoreEntry → List (Step PlainStream)
 steps_in entries = flat_map (λ e. steps_of (CoreEntry.step e)) entries
 
--- the state that they leave
+-- the state after these steps
 abbrev pub replayed : State PlainStream → List CoreEntry → State PlainStream
 replayed began entries = stepped_by spec_of began (steps_in entries)
 
@@ -46,7 +46,7 @@ noticed_in index steps.Sweep = []
 noticed_in index (steps.Notice sink notice) = cond (nat_eq sink index) (notice_for notice ∷ []) []
 noticed_in index (steps.Out sink count) = []
 
--- those in all of them
+-- the notices in all entries
 abbrev pub noticed_by : ℕ → List CoreEntry → List (Notice PlainStream)
 noticed_by index entries = flat_map (λ e. noticed_in index (CoreEntry.step e)) entries
 
@@ -65,22 +65,24 @@ owes owed (steps.Out sink count) = owed
 abbrev pub owed_by : List CoreEntry → Bool
 owed_by entries = fold (λ owed e. owes owed (CoreEntry.step e)) false entries
 
--- ---- what a core under its lock keeps
+-- ---- the invariants of a core under its lock
 
--- a sink's inbox is for its sample spec; all that was posted there is lawful, and the inputs that it has left are those that the core knows to be there
+-- a sink's inbox is for its sample spec; all messages posted there are lawful, and the inputs that they leave are those that the core knows to be
+-- there
 pub record IsHeard (state : State PlainStream) (index : ℕ) (s : SinkSpec) (e : SinkEnds) : Type 0 where
   pub key : e.key ≡ Some s.spec
   pub lawful : AreLawful spec_of (sample_spec s.spec) e.posted
   pub inputs : inputs_there state (sink_at index) ≡ inputs_after spec_of e.posted
 
--- whether the recorder tells or not
+-- whether the recorder's content is visible or not
 pub record IsSound {C : Type 0} (cell : Cell C) : Type 0 where
   pub core : IsConsistent spec_of cell.logged.state
   pub count : length cell.ends ≡ length cell.logged.state.sinks
   pub heard : (index : ℕ) (s : SinkSpec) (e : SinkEnds) → slice_get cell.logged.state.sinks index ≡ Some s → slice_get cell.ends index ≡ Some e
       → IsHeard cell.logged.state index s e
 
--- a sink was posted what the entries hand out to it, in order, and was taken from it what they have of it, and then the notice that is kept
+-- the messages posted to a sink are those that the entries hand to it, in order, and the notices taken from it are those in the entries, then the
+-- held one
 pub record IsAgreed (began : State PlainStream) (entries : List CoreEntry) (index : ℕ) (e : SinkEnds) : Type 0 where
   pub posted : e.posted ≡ posted_by_steps spec_of (sink_at index) began (steps_in entries)
   pub taken : e.taken ≡ noticed_by index entries ++ option_to_list e.held
@@ -92,14 +94,14 @@ pub record IsReplay {C : Type 0} (began : State PlainStream) (cell : Cell C) (en
   pub owed : cell.logged.owed ≡ owed_by entries
   pub agreed : (index : ℕ) (e : SinkEnds) → slice_get cell.ends index ≡ Some e → IsAgreed began entries index e
 
--- all of it: told gives the entries of a recorder that tells
+-- all of it: `visible` gives the entries of a recorder whose content is visible
 pub record IsCell {C : Type 0} (visible : C → Option (List CoreEntry)) (began : State PlainStream) (cell : Cell C) : Type 0 where
   pub sound : IsSound cell
   pub replay : IfSome (visible cell.logged.recorder) (IsReplay began cell)
 
--- ---- how one begins
+-- ---- the beginning
 
--- what is known of a core's state at its beginning, how it stands, and what its passes have written down for each sink
+-- a core's state at its beginning, its present state, and what its passes have written down for each sink
 pub record Course (C : Type 0) : Type 0 where
   pub began : State PlainStream
   pub cell : Cell C

@@ -1,4 +1,4 @@
--- Streams on their way from one sink to another as a history has them: plain numbers and bytes.
+-- Streams that move from one sink to another, as a history has them: plain numbers and bytes.
 use Rattle.px_annals.specs.declared.stream.PlainStream.{PlainStream}
 use Rattle.px_model.specs.Frame.{SampleSpec}
 use Rattle.px_msg.specs.declared.message.Msg.{Msg}

@@ -38,7 +38,7 @@ abbrev pub plain_body : Body → PlainBody
 plain_body (Control bytes) = bodies.Control bytes
 plain_body (Write stream offset seek bytes) = bodies.Write stream offset seek bytes
 
--- ---- what plain forms mean
+-- ---- the meaning of plain forms
 
 abbrev pub run_for : PlainRun → Run
 run_for (runs.Quiet frames) = Quiet frames
@@ -67,7 +67,7 @@ fault_for (suc (suc (suc zero))) = PacketFlags
 fault_for (suc (suc (suc (suc zero)))) = SharedMemory
 fault_for (suc (suc (suc (suc (suc n))))) = SeekMode
 
--- a step of a history: one step of the core, or as many as messages were handed out
+-- a step of a history: one step of the core, or one for each message that was handed out
 abbrev pub steps_of : PlainStep → List (Step PlainStream)
 steps_of (steps.Connect conn) = Step.connect (record { 0 = conn }) ∷ []
 steps_of (steps.Frame conn at body) = Step.frame (record { 0 = conn }) (record { at = at; body = body_for body }) ∷ []

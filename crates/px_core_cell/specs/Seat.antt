@@ -1,7 +1,7 @@
 -- A seat at a core.
 use Rattle.std.specs.Prelude.{◌≡◌, ℕ, ◌+◌, Option, None, Some, Result, Ok, Err}
 
--- its parts, of all that there are, and how many steps were done through it
+-- its parts, of all that there are, and the number of steps done through it
 pub record Seat : Type 0 where
   pub parts : ℕ
   pub steps : ℕ

@@ -1,4 +1,4 @@
--- What a step under the core's lock does, and what it answers.
+-- The effect and the result of a step under the core's lock.
 use Rattle.std.specs.Prelude.{◌≡◌, ℕ, ◌+◌, ◌-◌, ◌^◌, ◌<◌, ◌⊎◌, Bool, true, false, ◌&&◌, List, [], ◌∷◌, ◌++◌, length, replicate, slice_get, Option, None, Some, Result, Ok, Err, ⊤}
 use Rattle.std.specs.Option.{option_to_list, option_or}
 use Rattle.crossbeam_queue.specs.Fifo.{Held}
@@ -29,9 +29,9 @@ use Rattle.px_core_cell.specs.History.{sink_at, noticed_in, owes}
 use Rattle.px_core_cell.specs.Parcel.{spec_of}
 use Rattle.px_core_cell.specs.Plain.{plain_notice, plain_body, steps_of}
 
--- ---- what is asked
+-- ---- the step asked for
 
--- a frame says what a frame can say
+-- a frame has a valid body
 abbrev pub IsAsked : CoreStep → Type 0
 IsAsked (asked.Connect conn) = ⊤
 IsAsked (asked.Frame conn f) = IsBody f.body
@@ -42,7 +42,7 @@ IsAsked asked.Sweep = ⊤
 IsAsked (asked.Notice sink) = ⊤
 IsAsked (asked.Out sink) = ⊤
 
--- a step that waits for a sweep that is owed
+-- a step that waits for an owed sweep
 abbrev pub waits : CoreStep → Bool
 waits (asked.Connect conn) = true
 waits (asked.Frame conn f) = true
@@ -53,7 +53,7 @@ waits asked.Sweep = false
 waits (asked.Notice sink) = true
 waits (asked.Out sink) = false
 
--- a step in which no sink has a part
+-- a step without a sink
 abbrev pub is_own : CoreStep → Bool
 is_own (asked.Connect conn) = true
 is_own (asked.Frame conn f) = true
@@ -64,7 +64,7 @@ is_own asked.Sweep = true
 is_own (asked.Notice sink) = false
 is_own (asked.Out sink) = false
 
--- the entry of a step that was asked for: a sink's notice is the one that was taken, and so many messages are those that could be posted
+-- the entry of a step that was asked for: a sink's notice is the one that was taken, and the count of messages is that of those that could be posted
 abbrev pub IsEntryFor : CoreStep → PlainStep → Type 0
 IsEntryFor (asked.Connect conn) d = d ≡ plain.Connect conn.0
 IsEntryFor (asked.Frame conn f) d = d ≡ plain.Frame conn.0 f.at (plain_body f.body)
@@ -75,7 +75,7 @@ IsEntryFor asked.Sweep d = d ≡ plain.Sweep
 IsEntryFor (asked.Notice sink) d = (n : Notice PlainStream) × (d ≡ plain.Notice sink.0 (plain_notice n))
 IsEntryFor (asked.Out sink) d = (count : ℕ) × (d ≡ plain.Out sink.0 count)
 
--- ---- what is done: a step of a history, or none
+-- ---- the step done: a step of a history, or none
 
 abbrev pub steps_done : Option PlainStep → List (Step PlainStream)
 steps_done None = []
@@ -93,8 +93,8 @@ abbrev pub owed_after : Option PlainStep → Bool → Bool
 owed_after None owed = owed
 owed_after (Some d) owed = owes owed d
 
--- the ends at a sink: its inbox was posted what the step hands out to it; what was kept and what was taken now is what the step has of the sink, and then
--- what is kept
+-- the ends at a sink: the messages that the step hands to it were posted to its inbox; the held and the newly taken notice are the step's notice of
+-- the sink, and then the one held afterwards
 pub record IsEndAfter (done : Option PlainStep) (state : State PlainStream) (index : ℕ) (e f : SinkEnds) : Type 0 where
   pub key : f.key ≡ e.key
   pub posted : f.posted ≡ e.posted ++ posted_by_steps spec_of (sink_at index) state (steps_done done)
@@ -102,7 +102,7 @@ pub record IsEndAfter (done : Option PlainStep) (state : State PlainStream) (ind
   pub taken : f.taken ≡ e.taken ++ took
   pub held : option_to_list e.held ++ took ≡ noticed_done index done ++ option_to_list f.held
 
--- the core goes on by the step, its recorder notes it, and it is counted
+-- the core makes the step, its recorder notes it, and it is counted
 pub record LoggedDoes {C : Type 0} (visible : C → Option (List CoreEntry)) (done : Option PlainStep) (before after : Logged C) : Type 0 where
   pub state : after.state ≡ stepped_by spec_of before.state (steps_done done)
   pub visible_new : visible after.recorder ≡ entered done (visible before.recorder)
@@ -121,9 +121,9 @@ pub record DoesAt {C : Type 0} (visible : C → Option (List CoreEntry)) (done :
   pub logged : LoggedDoes visible done before after
   pub end : IsEndAfter done before.state index e f
 
--- ---- what is answered
+-- ---- the results
 
--- messages were handed out until none waited, or the inbox held 256
+-- messages were handed out until the queue was empty, or the inbox held 256
 abbrev pub Finishes : {C : Type 0} → CoreStep → Cell C → Type 0
 Finishes (asked.Connect conn) after = ⊤
 Finishes (asked.Frame conn f) after = ⊤
@@ -135,7 +135,7 @@ Finishes (asked.Notice sink) after = ⊤
 Finishes (asked.Out sink) after =
     (e : SinkEnds) → slice_get after.ends sink.0 ≡ Some e → (waiting_for after.logged.state sink ≡ []) ⊎ Held 256 (IsHeldOf e.posted)
 
--- no notice of the sink was kept
+-- no notice of the sink was held
 abbrev pub Lacks : {C : Type 0} → CoreStep → Cell C → Type 0
 Lacks (asked.Connect conn) before = ⊥
 Lacks (asked.Frame conn f) before = ⊥
@@ -160,7 +160,7 @@ pub record IsFree {C : Type 0} (step : CoreStep) (before : Cell C) : Type 0 wher
   pub paid : before.logged.owed && waits step ≡ false
   pub countable : before.logged.steps < 2 ^ 64 - 1
 
--- what such a step answers
+-- the result of such a step
 abbrev pub FreeGives : {C : Type 0} → (C → Option (List CoreEntry)) → CoreStep → Cell C → Cell C → Result (Option (List Effect)) StepFault → Type 0
 FreeGives visible step before after (Ok (Some effects)) = IsDone visible step before after effects
 FreeGives visible step before after (Ok None) = Lacks step before × (after ≡ before)
@@ -169,7 +169,7 @@ FreeGives visible step before after (Err Worn) = ⊥
 FreeGives visible step before after (Err (Recorder why)) = Does visible None before after × (after.logged.fault ≡ option_or before.logged.fault (Some why))
 FreeGives visible step before after (Err (Owed back)) = ⊥
 
--- what any step answers
+-- the result of any step
 abbrev pub StepGives : {C : Type 0} → (C → Option (List CoreEntry)) → CoreStep → Cell C → Cell C → Result (Option (List Effect)) StepFault → Type 0
 StepGives visible step before after (Ok o) = IsFree step before × FreeGives visible step before after (Ok o)
 StepGives visible step before after (Err NoMemory) = IsFree step before × FreeGives visible step before after (Err NoMemory)
@@ -179,11 +179,11 @@ StepGives visible step before after (Err (Owed back)) = (before.logged.owed && w
 
 -- ---- where a step stops
 
--- nothing waits for a sink, or the last post of this call found its inbox full
+-- the queue of a sink is empty, or the last post of this call found its inbox full
 abbrev pub HandsOut : SinkId → State PlainStream → Calls → Calls → Type 0
 HandsOut sink state before after = (waiting_for state sink ≡ []) ⊎ LastFails before.stored after.stored
 
--- messages were handed out until none waited, or the inbox was found full
+-- messages were handed out until the queue was empty, or the inbox was found full
 abbrev pub StopsAt : CoreStep → State PlainStream → List Calls → List Calls → Type 0
 StopsAt (asked.Connect conn) state before after = ⊤
 StopsAt (asked.Frame conn f) state before after = ⊤
@@ -207,13 +207,13 @@ FindsNone (asked.Notice sink) before after =
     (b c : Calls) → slice_get before sink.0 ≡ Some b → slice_get after sink.0 ≡ Some c → LastFails b.found c.found
 FindsNone (asked.Out sink) before after = ⊥
 
--- by what is answered: the core's state after the step, and what its passes have written down before it and after it
+-- by the result: the core's state after the step, and what its passes have written down before it and after it
 abbrev pub Stops : CoreStep → State PlainStream → List Calls → List Calls → Result (Option (List Effect)) StepFault → Type 0
 Stops step state before after (Ok (Some effects)) = StopsAt step state before after
 Stops step state before after (Ok None) = FindsNone step before after
 Stops step state before after (Err fault) = ⊤
 
--- a step that is handed back is the very step that was asked for
+-- a step that is handed back is exactly the one asked for
 abbrev pub HandsBack : {A : Type 0} → CoreStep → Result A StepFault → Type 0
 HandsBack step (Ok answer) = ⊤
 HandsBack step (Err NoMemory) = ⊤
@@ -221,15 +221,15 @@ HandsBack step (Err Worn) = ⊤
 HandsBack step (Err (Recorder why)) = ⊤
 HandsBack step (Err (Owed back)) = back ≡ step
 
--- there is nothing to do only for a sink's notice, the one step that a sink has a part in and that waits for a sweep
+-- there is nothing to do only for a sink's notice, the one step with a sink that waits for a sweep
 abbrev pub IsNothing : {A : Type 0} → CoreStep → Result (Option A) StepFault → Type 0
 IsNothing step (Ok None) = (is_own step ≡ false) × (waits step ≡ true)
 IsNothing step (Ok (Some answer)) = ⊤
 IsNothing step (Err fault) = ⊤
 
--- ---- what its parts answer
+-- ---- the results of its parts
 
--- a step in which no sink has a part, where its core is stepped; none stands for the two others
+-- a step without a sink, by the step of the core; none stands for the two others
 abbrev pub step_for : CoreStep → Step PlainStream
 step_for (asked.Connect conn) = Step.connect conn
 step_for (asked.Frame conn f) = Step.frame conn f
@@ -240,7 +240,7 @@ step_for asked.Sweep = Step.sweep
 step_for (asked.Notice sink) = Step.out sink
 step_for (asked.Out sink) = Step.out sink
 
--- a step that no sink has a part in
+-- a step without a sink
 abbrev pub OwnGives : {C : Type 0} → (C → Option (List CoreEntry)) → CoreStep → Logged C → Logged C → Result (List Effect) StepFault → Type 0
 OwnGives visible step before after (Ok effects) =
     (d : PlainStep) × IsEntryFor step d × LoggedDoes visible (Some d) before after × (effects ≡ effects_by spec_of before.state (steps_of d)) × (after.fault ≡ before.fault)
@@ -260,7 +260,7 @@ NoticeGives visible index before after e f (Err Worn) = ⊥
 NoticeGives visible index before after e f (Err (Recorder why)) = DoesAt visible None index before after e f × (after.fault ≡ option_or before.fault (Some why))
 NoticeGives visible index before after e f (Err (Owed back)) = ⊥
 
--- nothing waits for a sink, or its inbox held 256 of those that were posted
+-- the queue of a sink is empty, or its inbox held 256 of the messages posted
 abbrev pub HandsAll : SinkId → State PlainStream → SinkEnds → Type 0
 HandsAll sink state e = (waiting_for state sink ≡ []) ⊎ Held 256 (IsHeldOf e.posted)
 
@@ -274,7 +274,7 @@ NoticeStops before after (Ok (Some effects)) = ⊤
 NoticeStops before after (Ok None) = LastFails before.found after.found
 NoticeStops before after (Err fault) = ⊤
 
--- a notice that wasn't kept is taken, and kept then, if the outbox has one
+-- where no notice is held, one is taken from the outbox and held, if it has one
 pub record Fetches (e f : SinkEnds) : Type 0 where
   pub key : f.key ≡ e.key
   pub posted : f.posted ≡ e.posted
@@ -283,14 +283,14 @@ pub record Fetches (e f : SinkEnds) : Type 0 where
   pub held : option_to_list e.held ++ took ≡ option_to_list f.held
   pub none : f.held ≡ None → f ≡ e
 
--- the first message that waits for a sink is posted
+-- the first message queued for a sink is posted
 pub record PostsOne (sink : SinkId) (before after : State PlainStream) (e f : SinkEnds) : Type 0 where
   pub message : Msg PlainStream
   pub next : next_for before sink ≡ Some message
   pub state : after ≡ handed_out sink before
   pub ends : f ≡ record e { posted = e.posted ++ message ∷ [] }
 
--- and so many of them
+-- and `count` of them
 pub record PostsMany (sink : SinkId) (count : ℕ) (before after : State PlainStream) (e f : SinkEnds) : Type 0 where
   pub state : after ≡ stepped_by spec_of before (replicate count (Step.out sink))
   pub ends : f ≡ record e { posted = e.posted ++ posted_by_steps spec_of sink before (replicate count (Step.out sink)) }
@@ -304,7 +304,7 @@ OutGives visible sink before after e f (Err Worn) = ⊥
 OutGives visible sink before after e f (Err (Recorder why)) = DoesAt visible None sink.0 before after e f × (after.fault ≡ option_or before.fault (Some why))
 OutGives visible sink before after e f (Err (Owed back)) = ⊥
 
--- no messages, to a sink that isn't there
+-- no messages, to a sink that doesn't exist
 abbrev pub NowhereGives : {C : Type 0} {R : Ghosts C CoreEntry} → (C → Option (List CoreEntry)) → ℕ → StepLog C R → StepLog C R → Result (List Effect) StepFault → Type 0
 NowhereGives visible index before after (Ok effects) =
     ((state : State PlainStream) → LoggedDoes visible (Some (plain.Out index 0)) (logged_of state before) (logged_of state after)) × (effects ≡ []) × (after.fault ≡ before.fault)

@@ -1,4 +1,4 @@
-//! The steps of the core that no sink has a part in.
+//! The steps of the core without a sink.
 
 ghost use Rattle.std.specs.Prelude.{◌≡◌, true, IfOk, OnOk, OnErr};
 ghost use Rattle.px_core.specs.Step.{stepped, effects_of};
@@ -13,7 +13,7 @@ use px_core::{EffectRoom, Effects};
 use px_types::{Mem, NoMemory};
 use std::alloc::Global;
 
-/// The plain form of a step that no sink has a part in.
+/// The plain form of a step without a sink.
 pub(crate) fn plain_step(alloc: Global, step: &CoreStep) -> Mem<PlainStep>
     requires { is_own step.now ≡ true }
     ensures { IfOk result (λ plain. IsEntryFor step.now plain) }
@@ -37,7 +37,7 @@ pub(crate) fn plain_step(alloc: Global, step: &CoreStep) -> Mem<PlainStep>
     }
 }
 
-/// Such a step of the core. Without memory for it nothing has changed.
+/// Does such a step of the core. Without memory for it nothing has changed.
 pub(crate) fn act(alloc: Global, core: &mut CellCore, step: CoreStep) -> Mem<Effects>
     requires own { is_own step ≡ true }
     requires asked { IsAsked step }

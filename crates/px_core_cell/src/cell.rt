@@ -58,7 +58,7 @@ impl<L: Seats> Model for Whole<L> {
 }
 
 impl<C: Recorder<CoreEntry>, L: Seats> Live<C, L> {
-    // One step, counted in the seat where it is done.
+    // Does one step, and counts it in the seat where it is done.
     fn step<R: Wait>(
         &mut self,
         rt: &R,
@@ -86,7 +86,7 @@ impl<C: Recorder<CoreEntry>, L: Seats> Live<C, L> {
     }
 }
 
-// No seat and all parts are there at once.
+// A seat and all parts can't exist at once.
 fn meet<L: Seats>(seat: &mut CoreSeat<L>, whole: &mut Whole<L>)
     ensures { ⊥ }
 {
@@ -100,15 +100,15 @@ enum Slot<C: Recorder<CoreEntry>, L: Seats> {
     Taken(Whole<L>),
 }
 
-/// The core under its lock (PulseAudio runs `pa_core` in one thread, its main loop; own). Whenever the lock is free, what lies under it keeps
-/// its history.
+/// The core under its lock (PulseAudio runs `pa_core` in one thread, its main loop; own). Whenever the lock is free, its
+/// content agrees with its history.
 #[derive(Drop)]
 pub struct CoreCell<C: Recorder<CoreEntry>, L: Seats> {
     slot: Mutex<Slot<C, L>>,
 }
 
 impl<C: Recorder<CoreEntry> + Drop, L: Seats> CoreCell<C, L> {
-    /// A core before its first step under a lock, as `CoreState::new` has it, and a seat with all parts. Takes no memory.
+    /// A core before its first step under a lock, as by `CoreState::new`, and a seat with all parts. Takes no memory.
     pub fn new(
         blank: Blank,
         core: CellCore,
@@ -121,6 +121,7 @@ impl<C: Recorder<CoreEntry> + Drop, L: Seats> CoreCell<C, L> {
         requires begins { Begins core.state (map ends_of ends.items) }
         requires boxes { map boxes_of ends.items ≡ L.boxes }
         requires none { IfSome (C.visible recorder) (λ entries. entries ≡ []) }
+        requires unfailed { (C.faults recorder ≡ 0) × (C.fulls recorder ≡ 0) }
         ensures { result.1 ≡ record { parts = L.all; steps = 0 } }
     {
         let (book, share) = blank.open::<L>();
@@ -133,8 +134,8 @@ impl<C: Recorder<CoreEntry> + Drop, L: Seats> CoreCell<C, L> {
         )
     }
 
-    /// Takes the lock and does one step, as `CoreState::step` says. The seat counts one more exactly where the answer is `Ok(Some)`. `Owed`
-    /// hands the very step back. `None` is answered for the notice of a sink alone.
+    /// Takes the lock and does one step, as `CoreState::step` states. The seat counts one more exactly where the answer is
+    /// `Ok(Some)`. `Owed` hands back exactly the step given. `None` is returned for the notice of a sink alone.
     pub fn step<R: Wait>(
         &self,
         rt: &R,
@@ -157,7 +158,8 @@ impl<C: Recorder<CoreEntry> + Drop, L: Seats> CoreCell<C, L> {
         }
     }
 
-    /// Takes the lock and hands out what lies under it, by the seat with all parts. At least as many steps were done as the seat counts.
+    /// Takes the lock and hands out its content, for the seat with all parts. At least as many steps were done as the seat
+    /// counts.
     pub fn take_parts<R: Wait>(&self, rt: &R, seat: CoreSeat<L>) -> CoreParts<C>
         requires { seat.parts ≡ L.all }
         ensures history { IsCell C.visible L.began (cell_of result) }

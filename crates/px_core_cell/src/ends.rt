@@ -10,7 +10,7 @@ use px_msg::{Msg, Notice};
 use px_stream::Stream;
 use std::sync::Arc;
 
-/// The core's ends of one sink's mailboxes, with the notice that was taken and isn't used yet, if there is one.
+/// The core's ends of one sink's mailboxes, with the notice that was taken and not yet passed to the core, if any.
 #[derive(Drop)]
 pub struct CoreEnd {
     pub inbox: Arc<Mailbox<Msg<Stream>>>,
@@ -22,11 +22,11 @@ pub struct CoreEnd {
     pub ghost takes: { IsPassOf (arc_value outbox).queue take.pass },
 }
 
-/// Those of all sinks, in the order of the sinks.
+/// The ends at all sinks, in the order of the sinks.
 pub type CoreEnds = Vec<CoreEnd>;
 
 impl CoreEnd {
-    /// The ends of a sink's mailboxes by these passes, with no notice kept. Takes no memory.
+    /// The ends of a sink's mailboxes by these passes, with no notice held. Takes no memory.
     pub fn new(
         inbox: Arc<Mailbox<Msg<Stream>>>,
         outbox: Arc<Mailbox<Notice<Stream>>>,

@@ -1,4 +1,4 @@
-//! The entries of the core's steps, for which the recorder took room.
+//! The entries of the core's steps, for which the recorder has reserved room.
 
 ghost use Rattle.std.specs.Prelude.{◌≡◌, true, IfOk, MatchResult};
 ghost use Rattle.px_annals.specs.Size.{size_of_core_entry};
@@ -35,7 +35,7 @@ fn ready_entry<C: Recorder<CoreEntry>>(
     Ok(entry)
 }
 
-/// The entry of a step that no sink has a part in.
+/// The entry of a step without a sink.
 pub(crate) fn own_entry<C: Recorder<CoreEntry>>(
     alloc: Global,
     log: &mut StepLog<C>,

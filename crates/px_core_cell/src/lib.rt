@@ -1,6 +1,8 @@
-//! The core under a lock, with the history of its steps: what a live server's threads share. `parcel` has a stream on its way from one
-//! sink to another as histories see it, `plain` the plain forms of steps, `step` the steps and their faults, `entry` the entries of steps, `ends` the mailboxes at one
-//! sink with `posting` what goes through them, `parts` what lies under the lock, `state` that with what it keeps, `seat` what each thread holds, and `cell` the lock.
+//! The core under a lock, with the history of its steps: the part that a live server's threads share. `parcel` has a stream
+//! that moves from one sink to another as histories see it, `plain` the plain forms of steps, `step` the steps and their
+//! faults, `entry` the entries of steps, `ends` the mailboxes at one sink with `posting` for the messages and notices
+//! through them, `parts` the content of the lock, `state` that with its invariants, `seat` the share of each thread, and
+//! `cell` the lock.
 #![tactic(auto)]
 
 mod act;

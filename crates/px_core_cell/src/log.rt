@@ -1,4 +1,4 @@
-//! The steps that were done under the core's lock, counted and recorded.
+//! The log of the steps done under the core's lock: their count and their record.
 
 ghost use Rattle.std.specs.Prelude.{◌≡◌, ◌+◌, ◌-◌, ◌^◌, ◌<◌, OnOk, MatchResult};
 ghost use Rattle.std.proofs.Props.{props};
@@ -9,8 +9,8 @@ ghost use Rattle.px_core_cell.specs.Cause.{IsCaused, ReadyFails, Says, IsCalm};
 use crate::step::StepFault;
 use px_annals::{CoreEntry, RecordFault, Recorder};
 
-/// The recorder of the core's history with its first fault, how many steps were done, and whether a sweep is owed: one is from each step that
-/// is neither a sweep nor the handing out of messages to the next sweep.
+/// The recorder of the core's history with its first fault, the number of steps done, and whether a sweep is owed: each step
+/// that is neither a sweep nor the handing out of messages owes one, until the next sweep.
 #[derive(Drop)]
 pub struct StepLog<C: Recorder<CoreEntry>> {
     pub recorder: C,
@@ -21,7 +21,7 @@ pub struct StepLog<C: Recorder<CoreEntry>> {
 }
 
 impl<C: Recorder<CoreEntry>> StepLog<C> {
-    /// The recorder takes room for an entry of `bytes` bytes. Its first fault is noted.
+    /// Reserves room in the recorder for an entry of `bytes` bytes. Its first fault is noted.
     pub(crate) fn ready(&mut self, bytes: usize) -> Result<(), StepFault>
         ensures takes { OnOk result (C.takes self.new.recorder bytes) }
         ensures visible { C.visible self.new.recorder ≡ C.visible self.old.recorder }
@@ -39,7 +39,7 @@ impl<C: Recorder<CoreEntry>> StepLog<C> {
         }
     }
 
-    /// Notes a step that was done, and whether a sweep is owed now. Takes no memory.
+    /// Notes a step that was done, and sets whether a sweep is owed. Takes no memory.
     pub(crate) fn note(&mut self, entry: CoreEntry, owed: bool)
         requires takes { C.takes self.old.recorder (size_of_core_entry entry) }
         requires steps { self.old.steps < 2 ^ 64 - 1 }

@@ -1,4 +1,4 @@
-//! A stream on its way from one sink to another, as the core under the lock carries it.
+//! A stream that moves from one sink to another, as the core under the lock carries it.
 
 ghost use Rattle.std.specs.Prelude.{◌≡◌, IfOk};
 ghost use Rattle.px_core_cell.specs.Parcel.{seen_message, seen_notice};
@@ -42,7 +42,7 @@ impl Parcel for Carried {
 }
 
 impl Carried {
-    /// All that it is, as plain numbers and bytes.
+    /// The whole stream, as plain numbers and bytes.
     pub(crate) fn plain(&self, alloc: Global) -> Mem<PlainStream>
         ensures { IfOk result (λ plain. plain ≡ self.now) }
     {
@@ -50,21 +50,21 @@ impl Carried {
     }
 }
 
-/// A message of the core as its sink's mixer takes it: a stream that comes is a stream again. Takes no memory.
+/// A message of the core in the form for its sink's mixer: the parcel becomes a stream again. Takes no memory.
 pub(crate) fn taken_over(message: Msg<Carried>) -> Msg<Stream>
     ensures { seen_message result ≡ message }
 {
     message.with_parcel(|carried| carried.stream)
 }
 
-/// A message that a full mailbox handed back, as the core has it. Takes no memory.
+/// A message that a full mailbox handed back, in the core's form. Takes no memory.
 pub(crate) fn taken_back(message: Msg<Stream>) -> Msg<Carried>
     ensures { result ≡ seen_message message }
 {
     message.with_parcel(|stream| Carried { stream })
 }
 
-/// A notice of a sink's mixer as the core takes it: a stream that leaves is carried. Takes no memory.
+/// A notice of a sink's mixer in the core's form: a detached stream becomes a parcel. Takes no memory.
 pub(crate) fn handed_over(notice: Notice<Stream>) -> Notice<Carried>
     ensures { result ≡ seen_notice notice }
 {

@@ -1,4 +1,4 @@
-//! What lies under the core's lock, and its steps.
+//! The content of the core's lock, and its steps.
 
 ghost use Rattle.std.specs.Prelude.{◌≡◌, ◌-◌, ◌^◌, ◌<◌, Some, true, slice_get, Ok, Err, IfOk, MatchResult, map};
 ghost use Rattle.px_header.specs.declared.header.SinkSpec.{SinkSpec};
@@ -31,7 +31,7 @@ pub struct CoreParts<C: Recorder<CoreEntry>> {
     pub ends: CoreEnds,
 }
 
-// A step that no sink has a part in.
+// Does a step without a sink.
 fn own_step<C: Recorder<CoreEntry>>(
     alloc: Global,
     core: &mut CellCore,
@@ -58,7 +58,7 @@ fn own_step<C: Recorder<CoreEntry>>(
     }
 }
 
-// The next notice of a sink, if there is one.
+// Does the step of a sink's next notice, if there is one.
 fn notice_step<C: Recorder<CoreEntry>, R: Wait>(
     rt: &R,
     alloc: Global,
@@ -90,7 +90,7 @@ fn notice_step<C: Recorder<CoreEntry>, R: Wait>(
     }
 }
 
-// The messages that wait for a sink, to its inbox.
+// Posts the messages queued for a sink to its inbox.
 fn out_step<C: Recorder<CoreEntry>, R: Wait>(
     rt: &R,
     alloc: Global,
@@ -122,7 +122,7 @@ fn out_step<C: Recorder<CoreEntry>, R: Wait>(
     Ok(Effects::new(alloc))
 }
 
-// No messages, to a sink that isn't there.
+// The step that posts nothing, to a sink that doesn't exist.
 fn nowhere_step<C: Recorder<CoreEntry>>(
     alloc: Global,
     log: &mut StepLog<C>,
@@ -147,8 +147,9 @@ fn nowhere_step<C: Recorder<CoreEntry>>(
 }
 
 impl<C: Recorder<CoreEntry>> CoreParts<C> {
-    /// Those of a core before its first step. Takes no memory.
+    /// Those of a core before its first step, with a recorder that never failed and never was full. Takes no memory.
     pub(crate) fn new(core: CellCore, recorder: C, ends: CoreEnds) -> CoreParts<C>
+        requires { (C.faults recorder ≡ 0) × (C.fulls recorder ≡ 0) }
         ensures cell { cell_of result ≡ first_cell core.state recorder (map ends_of ends.items) }
         ensures ends { result.ends ≡ ends }
     {
@@ -164,7 +165,7 @@ impl<C: Recorder<CoreEntry>> CoreParts<C> {
         }
     }
 
-    // A sink's notice, where more steps can be counted.
+    // Does the step of a sink's notice, where more steps can be counted.
     fn notice<R: Wait>(
         &mut self,
         rt: &R,
@@ -186,7 +187,7 @@ impl<C: Recorder<CoreEntry>> CoreParts<C> {
         }
     }
 
-    // The messages that wait for a sink, where more steps can be counted.
+    // Does the step that posts the messages queued for a sink, where more steps can be counted.
     fn out<R: Wait>(&mut self, rt: &R, alloc: Global, sink: SinkId) -> Result<Effects, StepFault>
         requires countable { self.old.log.steps < 2 ^ 64 - 1 }
         requires sound { IsSound (cell_of self.old) }
@@ -204,7 +205,7 @@ impl<C: Recorder<CoreEntry>> CoreParts<C> {
         }
     }
 
-    // A step that no sink has a part in, where more steps can be counted.
+    // Does a step without a sink, where more steps can be counted.
     fn own(&mut self, alloc: Global, step: CoreStep) -> Result<Effects, StepFault>
         requires own { is_own step ≡ true }
         requires asked { IsAsked step }
@@ -217,7 +218,7 @@ impl<C: Recorder<CoreEntry>> CoreParts<C> {
         own_step(alloc, core, log, step)
     }
 
-    // A step for which no sweep is owed, where more steps can be counted.
+    // Does a step for which no sweep is owed, where more steps can be counted.
     fn free_step<R: Wait>(
         &mut self,
         rt: &R,
@@ -246,7 +247,7 @@ impl<C: Recorder<CoreEntry>> CoreParts<C> {
         }
     }
 
-    /// Does a step, as `CoreState::step` says.
+    /// Does a step, as `CoreState::step` states.
     pub(crate) fn step<R: Wait>(
         &mut self,
         rt: &R,
@@ -271,7 +272,7 @@ impl<C: Recorder<CoreEntry>> CoreParts<C> {
     }
 }
 
-// Whether a step waits for a sweep that is owed.
+// Whether a step waits for an owed sweep.
 fn waits(step: &CoreStep) -> bool
     ensures { result ≡ waits step.now }
 {

@@ -13,7 +13,7 @@ use px_msg::{Notice, Run};
 use px_types::{Mem, Text};
 use std::alloc::Global;
 
-// How long a stream has played or been silent.
+// The number of frames that a stream has played or been silent.
 fn plain_run(run: Run) -> PlainRun
     ensures { result ≡ plain_run run }
 {
@@ -23,7 +23,7 @@ fn plain_run(run: Run) -> PlainRun
     }
 }
 
-// The bytes of one block more.
+// Appends the bytes of one block.
 fn copy_block(bytes: &mut Text, block: &Block) -> Mem<()>
     ensures { OnOk result ((more : List HeldBlock) → bytes.new ++ concat (contents more) ≡ bytes.old ++ concat (contents (block.now ∷ more))) }
 {
@@ -41,7 +41,7 @@ fn copied(alloc: Global, blocks: &[Block]) -> Mem<Text>
     Ok(bytes)
 }
 
-/// What a frame of a connection says, copied.
+/// A copy of a frame's body in plain form.
 pub(crate) fn plain_body(alloc: Global, body: &Body) -> Mem<PlainBody>
     ensures { IfOk result (λ plain. plain ≡ plain_body body.now) }
 {

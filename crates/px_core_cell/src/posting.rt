@@ -1,4 +1,4 @@
-//! What goes through the core's ends of a sink's mailboxes.
+//! The messages and notices that go through the core's ends of a sink's mailboxes.
 
 ghost use Rattle.std.specs.Prelude.{◌≡◌, ◌⊎◌, ◌++◌, [], ◌∷◌, None, Some, true, false, slice_get, IsSome, IfSome, IfOk, OnOk, OnErr};
 ghost use Rattle.px_mail.specs.Mailbox.{stored_by, found_by};
@@ -20,7 +20,7 @@ use px_types::{Mem, NoMemory, SinkId};
 use std::sync::Wait;
 
 impl CoreEnd {
-    /// Where no notice is kept, the sink's next one is taken from its outbox and kept.
+    /// Takes the sink's next notice from its outbox and holds it, unless one is held already.
     pub(crate) fn fetch<R: Wait>(&mut self, rt: &R)
         ensures fetches { Fetches (ends_of self.old) (ends_of self.new) }
         ensures looks { self.new.held ≡ None → found_by self.new.take.pass ≡ found_by self.old.take.pass ++ false ∷ [] }
@@ -34,7 +34,7 @@ impl CoreEnd {
         }
     }
 
-    /// The kept notice goes to the core. Without memory for it, it stays kept and nothing has changed.
+    /// Passes the held notice to the core. Without memory for it, it stays held and nothing has changed.
     pub(crate) fn collect(&mut self, core: &mut CellCore, sink: SinkId) -> Mem<Effects>
         requires { IsSome self.old.held }
         ensures done { IfOk result (λ effects. IfSome self.old.held (λ n. (core.new.state ≡ stepped spec_of core.old.state (Step.notice sink n)) × (effects ≡ effects_of spec_of core.old.state (Step.notice sink n)))) }
@@ -54,7 +54,7 @@ impl CoreEnd {
         }
     }
 
-    // The first message that waits for the sink is posted, if the inbox isn't full.
+    // Posts the first message queued for the sink, if the inbox isn't full.
     fn post_one<R: Wait>(&mut self, rt: &R, core: &mut CellCore, sink: SinkId) -> bool
         requires consistent { IsConsistent spec_of core.old.state }
         requires heard { (s : SinkSpec) × (slice_get core.old.state.sinks sink.0 ≡ Some s) × IsHeard core.old.state sink.0 s (ends_of self.old) }
@@ -76,7 +76,8 @@ impl CoreEnd {
         }
     }
 
-    /// The messages that wait for the sink are posted, in order, until none waits or the inbox is full. Answers how many were.
+    /// Posts the messages queued for the sink, in order, until none is left or the inbox is full. Returns how many were
+    /// posted.
     pub(crate) fn post_waiting<R: Wait>(&mut self, rt: &R, core: &mut CellCore, sink: SinkId) -> u64
         requires consistent { IsConsistent spec_of core.old.state }
         requires heard { (s : SinkSpec) × (slice_get core.old.state.sinks sink.0 ≡ Some s) × IsHeard core.old.state sink.0 s (ends_of self.old) }

@@ -1,11 +1,11 @@
-//! What each thread that steps the core holds.
+//! The share of each thread that steps the core.
 
 ghost use Rattle.std.specs.Prelude.{◌≡◌, ◌+◌, ◌<◌};
 
 use std::marker::{Brand, Model};
 use std::sync::ledger::{Ledger, Share};
 
-/// The seats of one core: what they are shares of, the state that the core began with, and the mailboxes of its sinks.
+/// The seats of one core: their ledger, the state that the core began with, and the mailboxes of its sinks.
 pub trait Seats: Ledger {
     ghost use Rattle.std.specs.Prelude.{ℕ, List};
     ghost use Rattle.px_annals.specs.declared.stream.PlainStream.{PlainStream};
@@ -22,7 +22,7 @@ pub trait Seats: Ledger {
     ghost boxes: { List Boxes };
 }
 
-/// A share in the steps of a core. Contracts see how many parts it has, and how many steps were done through it.
+/// A share in the steps of a core. Contracts see its number of parts, and the number of steps done through it.
 #[derive(Drop)]
 pub struct CoreSeat<L: Seats> {
     pub(crate) share: Share<L>,
@@ -40,7 +40,7 @@ impl<L: Seats> Model for CoreSeat<L> {
 }
 
 impl<L: Seats> CoreSeat<L> {
-    /// A seat of one part and no steps, cut off this one. Takes no memory.
+    /// Splits off a seat of one part and no steps. Takes no memory.
     pub fn split(&mut self) -> CoreSeat<L>
         requires { 1 < self.old.parts }
         ensures split { result ≡ record { parts = 1; steps = 0 } }
@@ -52,7 +52,7 @@ impl<L: Seats> CoreSeat<L> {
         }
     }
 
-    /// Takes in another seat of the same core. Takes no memory.
+    /// Merges another seat of the same core into this one. Takes no memory.
     pub fn merge(&mut self, other: CoreSeat<L>)
         ensures parts { self.new.parts ≡ self.old.parts + other.parts }
         ensures steps { self.new.steps ≡ self.old.steps + other.steps }

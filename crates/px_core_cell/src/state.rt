@@ -1,4 +1,4 @@
-//! What lies under the core's lock, with what it keeps.
+//! The content of the core's lock, with its invariants.
 
 ghost use Rattle.std.specs.Prelude.{◌≡◌, [], map, IfSome};
 ghost use Rattle.px_core_cell.specs.Cause.{StepSays};
@@ -17,10 +17,10 @@ use std::marker::Model;
 use std::snapshot::Snapshot;
 use std::sync::Wait;
 
-/// The core that keeps its history (PulseAudio's `pa_core` keeps none; own). Contracts see the state that it began with and where it stands:
-/// its state, its recorder, how many steps were done, what went through each sink's mailboxes, and of each call at these whether it found room
-/// or a notice. Where the recorder tells, the state is the
-/// replay of the entries from the beginning, one entry a step.
+/// The core with its history (PulseAudio's `pa_core` has none; own). Contracts see the state that it began with and where it
+/// stands: its state, its recorder, the number of steps done, the messages and notices that went through each sink's
+/// mailboxes, and for each call at these whether it found room or a notice. Where the recorder's content is visible, the
+/// state is the replay of the entries from the beginning, one entry a step.
 #[derive(Drop)]
 pub struct CoreState<C: Recorder<CoreEntry>> {
     began: Snapshot<CellCore>,
@@ -39,11 +39,12 @@ impl<C: Recorder<CoreEntry>> Model for CoreState<C> {
 }
 
 impl<C: Recorder<CoreEntry>> CoreState<C> {
-    /// A core before its first step, with a recorder that holds nothing where its content is visible, and mailboxes that have moved nothing, each inbox for its
-    /// sink's sample spec. Takes no memory.
+    /// A core before its first step, with a recorder that holds nothing where its content is visible, and mailboxes that
+    /// have moved nothing, each inbox for its sink's sample spec. Takes no memory.
     pub fn new(core: CellCore, recorder: C, ends: CoreEnds) -> CoreState<C>
         requires begins { Begins core.state (map ends_of ends.items) }
         requires none { IfSome (C.visible recorder) (λ entries. entries ≡ []) }
+        requires unfailed { (C.faults recorder ≡ 0) × (C.fulls recorder ≡ 0) }
         ensures { result ≡ record { began = core.state; cell = first_cell core.state recorder (map ends_of ends.items); calls = map calls_of ends.items } }
     {
         CoreState {
@@ -52,9 +53,10 @@ impl<C: Recorder<CoreEntry>> CoreState<C> {
         }
     }
 
-    /// Does one step. A step that is neither a sweep nor the handing out of messages is handed back while a sweep is owed; 2^64 - 1 steps can be
-    /// counted. `None` for the notice of a sink that isn't there, or that has none kept and whose outbox was found empty. Messages are handed
-    /// out until none waits or the inbox is found full. A step that is done is noted by one entry, and answered by the core's effects.
+    /// Does one step. A step that is neither a sweep nor the handing out of messages is handed back while a sweep is owed;
+    /// at most 2^64 - 1 steps can be counted. `None` for the notice of a sink that doesn't exist, or that holds no notice
+    /// and whose outbox was found empty. Messages are handed out until the queue is empty or the inbox is found full. A step
+    /// that is done is noted by one entry, and answered by the core's effects.
     pub fn step<R: Wait>(
         &mut self,
         rt: &R,
@@ -71,14 +73,14 @@ impl<C: Recorder<CoreEntry>> CoreState<C> {
         self.parts.step(rt, alloc, step)
     }
 
-    /// How many steps were done. Takes no memory.
+    /// The number of steps done. Takes no memory.
     pub fn steps(&self) -> u64
         ensures { result ≡ self.now.cell.logged.steps }
     {
         self.parts.log.steps
     }
 
-    /// All that it is made of. Takes no memory.
+    /// All its parts. Takes no memory.
     pub fn into_parts(self) -> CoreParts<C>
         ensures parts { cell_of result ≡ self.cell }
         ensures history { IsCell C.visible self.began (cell_of result) }

@@ -1,4 +1,4 @@
-//! The steps of the core under the lock, and why one isn't done.
+//! The steps of the core under the lock, and the reasons why one isn't done.
 
 use px_annals::RecordFault;
 use px_frame::{Frame, FrameFault};
@@ -15,23 +15,23 @@ pub enum CoreStep {
     Broken(ConnId, FrameFault, u64),
     /// A client has closed its connection.
     Close(ConnId),
-    /// The server ends a connection for want of memory.
+    /// The server ends a connection for lack of memory.
     Cut(ConnId),
-    /// The connections that have ended are swept away.
+    /// The connections that have ended are removed.
     Sweep,
     /// A sink's next notice is taken from its outbox.
     Notice(SinkId),
-    /// The messages that wait for a sink are posted to its inbox.
+    /// The messages queued for a sink are posted to its inbox.
     Out(SinkId),
 }
 
-/// Why a step wasn't done. But for `Owed` the step is given up; the core is what it was, nothing was noted, and a notice that was taken is
-/// kept for the next step of its kind.
+/// Why a step wasn't done. But for `Owed` the step is dropped; the core is unchanged, nothing was noted, and a notice that
+/// was taken is held for the next step of its kind.
 #[derive(Debug, Drop)]
 pub enum StepFault {
-    /// Want of memory.
+    /// Lack of memory.
     NoMemory,
-    /// So many steps were done as a number of 64 bits counts.
+    /// The count of steps has reached 2^64 - 1.
     Worn,
     /// The recorder wasn't ready.
     Recorder(RecordFault),

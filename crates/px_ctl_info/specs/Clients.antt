@@ -1,4 +1,5 @@
--- The commands on clients (PulseAudio: `command_auth`, `command_set_client_name`, `command_get_info`, `command_get_info_list`, `command_subscribe` and `command_kill` of pulsecore/protocol-native.c).
+-- The commands on clients (PulseAudio: `command_auth`, `command_set_client_name`, `command_get_info`, `command_get_info_list`, `command_subscribe`
+-- and `command_kill` of pulsecore/protocol-native.c).
 use Rattle.std.specs.Prelude.{ℕ, ◌/◌, ◌%◌, ◌^◌, Bool, not, cond, ◌||◌, nat_eq, nat_le, List, [], ◌∷◌, ◌++◌, codes, map, is_some, Option, None, Some, Ok}
 use Rattle.std.specs.List.{find}
 use Rattle.px_types.specs.declared.error_code.ErrorCode.TheVariants.{Access, BadState, Invalid, NoEntity, Version}
@@ -18,7 +19,7 @@ use Rattle.px_outcome.specs.Outcome.{OutcomeParts, replied}
 use Rattle.px_outcome.specs.Handled.{Handled, ◌>>=◌, check, present}
 use Rattle.px_ctl_info.specs.Properties.{text_under}
 
--- ---- a client is let in, and says what it is
+-- ---- a client authenticates, and names itself
 
 -- the version that the server speaks
 abbrev pub SERVER_VERSION : ℕ
@@ -28,7 +29,7 @@ SERVER_VERSION = 13
 abbrev pub version_in : ℕ → ℕ
 version_in version = version % 2 ^ 16
 
--- a connection is let in
+-- a connection's AUTH is accepted
 abbrev pub let_in : {M G : Type 0} → Connection → ℕ → OutcomeParts M G
 let_in me tag = replied (reply_to tag ++ number SERVER_VERSION) (Authed me.conn SERVER_VERSION ∷ [])
 
@@ -40,18 +41,18 @@ auth names me tag version cookie = do
   known ← check (same_text cookie names.cookie) Access
   Ok (let_in me tag)
 
--- a client's list once each key of another list is set
+-- a client's list with each key of another list set
 abbrev pub list_with : Option Client → List Property → List Property
 list_with None list = list
 list_with (Some client) list = updated Replace client.list list
 
--- SET_CLIENT_NAME: each key of the list is set, and the client's index is told
+-- SET_CLIENT_NAME: each key of the list is set, and the reply gives the client's index
 abbrev pub set_client_name : {M G : Type 0} → Option Client → Connection → ℕ → List Property → Handled (OutcomeParts M G)
 set_client_name client me tag list = Ok (replied (reply_to tag ++ number me.client) (Named me.conn (list_with client list) ∷ []))
 
--- ---- what clients there are
+-- ---- the infos of clients
 
--- the key under which a client says its name
+-- the key of a client's name
 abbrev pub NAME : List ℕ
 NAME = codes "application.name"
 
@@ -68,9 +69,9 @@ client_info client tag = do
 abbrev pub client_infos : {M G : Type 0} → List Client → ℕ → Handled (OutcomeParts M G)
 client_infos clients tag = Ok (replied (clients_reply tag (map info_of clients)) [])
 
--- ---- what a client hears of
+-- ---- subscriptions
 
--- bits for facilities that there are: 1 to 128, and 512
+-- bits of existing facilities: 1 to 128, and 512
 abbrev pub is_mask : ℕ → Bool
 is_mask mask = nat_eq (mask / 256) 0 || nat_eq (mask / 256) 2
 
@@ -89,7 +90,7 @@ is_of client c = nat_eq c.client client
 abbrev pub connection_with : List Connection → ℕ → Option Connection
 connection_with connections client = find (is_of client) connections
 
--- its connection ends, where it goes on
+-- its connection ends, where it is live
 abbrev pub killed : {M G : Type 0} → Connection → List (Change M G)
 killed c = cond c.marked [] (Ended c.conn (Some Killed) 0 0 ∷ [])
 

@@ -1,4 +1,5 @@
--- What is told of sinks and of sink inputs (PulseAudio: `sink_fill_tagstruct`, `sink_input_fill_tagstruct`, `command_get_info` and `command_get_info_list` of pulsecore/protocol-native.c).
+-- The infos of sinks and of sink inputs (PulseAudio: `sink_fill_tagstruct`, `sink_input_fill_tagstruct`, `command_get_info` and
+-- `command_get_info_list` of pulsecore/protocol-native.c).
 use Rattle.std.specs.Prelude.{ℕ, ◌≤◌, cond, List, [], ◌∷◌, flat_map, slice_get, Option, None, Some, Ok, IsTrue}
 use Rattle.px_types.specs.declared.error_code.ErrorCode.TheVariants.{Invalid, NoEntity}
 use Rattle.px_tag.specs.Item.{IsText, is_text}
@@ -20,7 +21,7 @@ use Rattle.px_outcome.specs.Handled.{Handled, ◌>>=◌, check, present}
 use Rattle.px_outcome.specs.Target.{is_clear, target_of, raw_of}
 use Rattle.px_ctl_info.specs.Properties.{STREAM_NAME, text_under}
 
--- ---- what a packet can say: a name without a zero byte, and up to 32 channels
+-- ---- the limits of a packet: a name without a zero byte, and up to 32 channels
 
 abbrev pub IsSinkInfo : SinkInfo → Type 0
 IsSinkInfo info = IsTrue (is_text info.name) × (info.spec.channels ≤ 32)
@@ -44,7 +45,7 @@ sink_of sink group = record {
 abbrev pub group_on : List FlatGroup → Target → Option FlatGroup
 group_on groups sink = slice_get groups sink.index.0
 
--- GET_SINK_INFO, of the sink that is named
+-- GET_SINK_INFO of the named sink
 abbrev pub sink_info : {M G : Type 0} → Named → List FlatGroup → ℕ → Handled (OutcomeParts M G)
 sink_info named groups tag = do
   clear ← check (is_clear named) Invalid
@@ -52,7 +53,7 @@ sink_info named groups tag = do
   group ← present (group_on groups sink) NoEntity
   Ok (replied (with_sink (reply_to tag) (sink_of sink group)) [])
 
--- a sink, where its group is there
+-- a sink, where it has a group
 abbrev pub sinks_with : Target → Option FlatGroup → List SinkInfo
 sinks_with sink None = []
 sinks_with sink (Some group) = sink_of sink group ∷ []
@@ -70,7 +71,7 @@ abbrev pub member_with : Option FlatGroup → Input → Option Member
 member_with None x = None
 member_with (Some group) x = member_of group.members x.index
 
--- an input that moves is on the sink that it comes from
+-- a moving input is on the sink that it comes from
 abbrev pub member_on : List FlatGroup → Input → Option Member
 member_on groups x = member_with (slice_get groups x.sink.0) x
 
@@ -87,14 +88,14 @@ input_of x m list = record {
   list = list;
 }
 
--- GET_SINK_INPUT_INFO, of this input
+-- GET_SINK_INPUT_INFO of this input
 abbrev pub input_info : {M G : Type 0} → Option Input → List FlatGroup → List InputList → ℕ → Handled (OutcomeParts M G)
 input_info input groups lists tag = do
   x ← present input NoEntity
   m ← present (member_on groups x) NoEntity
   Ok (replied (with_input (reply_to tag) (input_of x m (list_of lists (Input.index x)))) [])
 
--- an input that goes on, where it is a member
+-- a live input, where it is a member
 abbrev pub inputs_with : List InputList → Input → Option Member → List InputInfo
 inputs_with lists x None = []
 inputs_with lists x (Some m) = input_of x m (list_of lists x.index) ∷ []
@@ -105,6 +106,6 @@ input_info_of groups lists x = cond (goes_on x) (inputs_with lists x (member_on 
 abbrev pub input_info_list : List FlatGroup → List InputList → List Input → List InputInfo
 input_info_list groups lists inputs = flat_map (input_info_of groups lists) inputs
 
--- GET_SINK_INPUT_INFO_LIST: those that have ended aren't told
+-- GET_SINK_INPUT_INFO_LIST: ended inputs are left out
 abbrev pub input_infos : {M G : Type 0} → List Input → List FlatGroup → List InputList → ℕ → Handled (OutcomeParts M G)
 input_infos inputs groups lists tag = Ok (replied (inputs_reply tag (input_info_list groups lists inputs)) [])

@@ -1,4 +1,5 @@
--- The property lists of clients and of sink inputs (PulseAudio: `command_update_proplist`, `command_remove_proplist` and `command_set_stream_name` of pulsecore/protocol-native.c; that a key which isn't there refuses the whole removal, and the most bytes of a name, are own).
+-- The property lists of clients and of sink inputs (PulseAudio: `command_update_proplist`, `command_remove_proplist` and `command_set_stream_name` of
+-- pulsecore/protocol-native.c; that a missing key refuses the whole removal, and the greatest length of a name, are own).
 use Rattle.std.specs.Prelude.{ℕ, ◌-◌, Bool, cond, ◌&&◌, nat_eq, nat_lt, nat_le, List, [], ◌∷◌, ◌++◌, codes, fold, length, slice_index, take, Option, None, Some, Ok}
 use Rattle.std.specs.List.{list_all}
 use Rattle.px_types.specs.declared.error_code.ErrorCode.TheVariants.{Invalid, NoEntity}
@@ -16,9 +17,9 @@ use Rattle.px_outcome.specs.declared.input.Input.{Input}
 use Rattle.px_outcome.specs.Outcome.{OutcomeParts, replied}
 use Rattle.px_outcome.specs.Handled.{Handled, ◌>>=◌, check, present}
 
--- ---- what a list says of its object's name
+-- ---- the name in an object's list
 
--- bytes that are a text and a zero byte behind it, of which there is no other: the text
+-- the text before the zero byte, where that is the last byte and the only zero
 abbrev pub text_in : List ℕ → Option (List ℕ)
 text_in bytes = cond
     (nat_lt 0 (length bytes) && nat_eq (slice_index bytes (length bytes - 1)) 0 && is_text (take (length bytes - 1) bytes))
@@ -29,11 +30,11 @@ abbrev pub text_of : Option (List ℕ) → Option (List ℕ)
 text_of None = None
 text_of (Some bytes) = text_in bytes
 
--- the text of a key, where its value is one
+-- the text under a key, where its value is one
 abbrev pub text_under : List Property → List ℕ → Option (List ℕ)
 text_under list key = text_of (value_of list key)
 
--- ---- how a list changes
+-- ---- changes of a list
 
 -- a client's list
 abbrev pub list_of : Option Client → List Property
@@ -44,11 +45,11 @@ list_of (Some client) = client.list
 abbrev pub mode_of : ℕ → Option Mode
 mode_of number = cond (nat_eq number 0) (Some Set) (cond (nat_eq number 1) (Some Merge) (cond (nat_eq number 2) (Some Replace) None))
 
--- each of these keys is there
+-- the list has each of these keys
 abbrev pub has_keys : List Property → List (List ℕ) → Bool
 has_keys list keys = list_all (has_key list) keys
 
--- none of them is there any more
+-- the list without these keys
 abbrev pub without_keys : List Property → List (List ℕ) → List Property
 without_keys list keys = fold without list keys
 
@@ -66,7 +67,7 @@ remove_client client me tag keys = do
   there ← check (has_keys (list_of client) keys) NoEntity
   Ok (replied (reply_to tag) (Named me.conn (without_keys (list_of client) keys) ∷ []))
 
--- ---- and those on a connection's stream, whose input is there and has a list among these
+-- ---- the commands on a connection's stream, whose input exists and has a list among these
 
 -- UPDATE_PLAYBACK_STREAM_PROPLIST
 abbrev pub update_stream : {M G : Type 0} → Option Input → List InputList → ℕ → ℕ → List Property → Handled (OutcomeParts M G)
@@ -82,19 +83,19 @@ remove_stream stream lists tag keys = do
   there ← check (has_keys (list_of_input lists (Input.index x)) keys) NoEntity
   Ok (replied (reply_to tag) (Described (Input.index x) (without_keys (list_of_input lists (Input.index x)) keys) ∷ []))
 
--- the key under which a stream says its name, and the most bytes of a name
+-- the key of a stream's name, and the greatest length of a name in bytes
 abbrev pub STREAM_NAME : List ℕ
 STREAM_NAME = codes "media.name"
 
 abbrev pub MOST_NAME : ℕ
 MOST_NAME = 65535
 
--- a name that a stream can have
+-- the name, where a stream can have it
 abbrev pub name_in : Option (List ℕ) → Option (List ℕ)
 name_in None = None
 name_in (Some name) = cond (nat_le (length name) MOST_NAME) (Some name) None
 
--- the list with this name: its text, and a zero byte behind it
+-- the list with this name: its text, followed by a zero byte
 abbrev pub with_name : List Property → List ℕ → List Property
 with_name list name = with_value list STREAM_NAME (name ++ 0 ∷ [])
 

@@ -1,4 +1,5 @@
--- The commands on sinks and their names (PulseAudio: `command_lookup`, `command_set_default_sink_or_source` and `command_get_server_info` of pulsecore/protocol-native.c).
+-- The commands on sinks and their names (PulseAudio: `command_lookup`, `command_set_default_sink_or_source` and `command_get_server_info` of
+-- pulsecore/protocol-native.c).
 use Rattle.std.specs.Prelude.{ℕ, false, List, [], ◌∷◌, ◌++◌, Option, Result, Ok, Err}
 use Rattle.px_types.specs.declared.error_code.ErrorCode.{ErrorCode}
 use Rattle.px_types.specs.declared.error_code.ErrorCode.TheVariants.{NoEntity}
@@ -16,7 +17,7 @@ use Rattle.px_outcome.specs.Outcome.{OutcomeParts, replied}
 use Rattle.px_outcome.specs.Handled.{Handled, ◌>>=◌, present}
 use Rattle.px_outcome.specs.Target.{raw_of, target_of}
 
--- what is found, or the error that it isn't
+-- the value found, or the refusal with the error
 abbrev pub found : {A : Type 0} → Result A ErrorCode → Handled A
 found (Ok x) = Ok x
 found (Err code) = Err (Code code)
@@ -31,17 +32,17 @@ lookup_sink names tag name = do
   sink ← sink_called names name
   Ok (replied (reply_to tag ++ number sink.0) [])
 
--- SET_DEFAULT_SINK: the sink is the default sink
+-- SET_DEFAULT_SINK: the sink becomes the default sink
 abbrev pub set_default_sink : {M G : Type 0} → Naming → ℕ → Option (List ℕ) → Handled (OutcomeParts M G)
 set_default_sink names tag name = do
   sink ← sink_called names name
   Ok (replied (reply_to tag) (Defaulted sink ∷ []))
 
--- what the server is, where this is its default sink
+-- the server's info, where this is its default sink
 abbrev pub server_of : Target → ServerInfo
 server_of sink = record { spec = raw_of sink.spec; name = sink.name; map = sink.map }
 
--- GET_SERVER_INFO, where this names the default sink
+-- GET_SERVER_INFO, where `named` is the default sink
 abbrev pub server_info : {M G : Type 0} → Named → ℕ → Handled (OutcomeParts M G)
 server_info named tag = do
   sink ← present (target_of named) NoEntity

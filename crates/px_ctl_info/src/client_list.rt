@@ -1,4 +1,4 @@
-//! What clients there are (PulseAudio: `command_get_info` and `command_get_info_list` of `pulsecore/protocol-native.c`).
+//! The infos of clients (PulseAudio: `command_get_info` and `command_get_info_list` of `pulsecore/protocol-native.c`).
 
 ghost use Rattle.std.specs.Prelude.{◌≡◌, List, ◌∷◌, ◌++◌, [], All, IfOk, OnOk, Ok, map};
 ghost use Rattle.std.specs.Option.{option_map};
@@ -20,7 +20,7 @@ use px_tag::{Packet, PropList};
 use px_types::{ErrorCode, Mem, NoMemory, Text};
 use std::alloc::Global;
 
-// The name that a client's list says.
+// The name in a client's property list.
 fn name_of(alloc: Global, list: &PropList) -> Mem<Option<Text>>
     ensures value { IfOk result (λ name. name ≡ text_under list.now NAME) }
     ensures text { IfOk result IsText }
@@ -31,7 +31,7 @@ fn name_of(alloc: Global, list: &PropList) -> Mem<Option<Text>>
     }
 }
 
-// What is told of a client.
+// The info of a client.
 fn info_of(alloc: Global, client: &Client) -> Mem<ClientInfo>
     ensures value { IfOk result (λ info. info ≡ info_of client.now) }
     ensures text { IfOk result (λ info. IsText info.name) }
@@ -47,7 +47,7 @@ fn info_of(alloc: Global, client: &Client) -> Mem<ClientInfo>
     }
 }
 
-// What is told of one more.
+// Adds the info of one more client.
 #[tactic(auto, using(crate::proofs::Named::one_more))]
 fn add(alloc: Global, infos: &mut Vec<ClientInfo>, client: &Client) -> Mem<()>
     ensures value { OnOk result ((more : List Client) → infos.new.items ++ map info_of more ≡ infos.old.items ++ map info_of (client.now ∷ more)) }
@@ -57,7 +57,7 @@ fn add(alloc: Global, infos: &mut Vec<ClientInfo>, client: &Client) -> Mem<()>
     Ok(())
 }
 
-/// What is told of each of these clients, in their order.
+/// The infos of these clients, in their order.
 pub fn client_info_list(alloc: Global, clients: &[Client]) -> Mem<Vec<ClientInfo>>
     ensures value { IfOk result (λ infos. infos.items ≡ map info_of clients.now) }
     ensures text { IfOk result (λ infos. All (λ info. IsText info.name) infos.items) }
@@ -69,7 +69,7 @@ pub fn client_info_list(alloc: Global, clients: &[Client]) -> Mem<Vec<ClientInfo
     Ok(infos)
 }
 
-// The packet that tells of a client.
+// The packet with the info of a client.
 fn client_packet(alloc: Global, client: &Client, tag: u32) -> Result<Packet, Refusal>
     ensures { HandledAs result (Ok (with_client (reply_to tag) (info_of client.now))) }
 {
@@ -78,7 +78,7 @@ fn client_packet(alloc: Global, client: &Client, tag: u32) -> Result<Packet, Ref
     Ok(packet)
 }
 
-// The reply that tells of a client.
+// The reply with the info of a client.
 fn client_reply<M: Drop, G: Drop>(
     alloc: Global,
     client: &Client,

@@ -23,7 +23,7 @@ fn is_spoken(version: u32) -> bool
     version % 0x1_0000 >= u32::from(PROTOCOL_VERSION)
 }
 
-// A connection is let in.
+// Accepts a connection's AUTH.
 fn let_in<M: Drop, G: Drop>(
     alloc: Global,
     me: &Connection,
@@ -37,8 +37,8 @@ fn let_in<M: Drop, G: Drop>(
     Ok(StepOutcome::replied(alloc, reply, changes))
 }
 
-/// AUTH of a client that speaks a version (the lower half of the number) and shows a cookie. Refused, by the first of these
-/// that holds: `BadState` after a successful one, `Version` below 13, `Access` for another cookie than the server's.
+/// AUTH of a client that gives its version (the lower half of the number) and a cookie. Refused, by the first of these that
+/// holds: `BadState` after a successful one, `Version` below 13, `Access` for another cookie than the server's.
 pub fn auth<M: Drop, G: Drop>(
     alloc: Global,
     names: &Names,
@@ -55,7 +55,7 @@ pub fn auth<M: Drop, G: Drop>(
     let_in(alloc, me, tag)
 }
 
-// A copy of a list, once each key of another list is set.
+// A copy of `list` with each key of `by` set.
 fn updated(list: &PropList, by: &PropList) -> px_tag::Mem<PropList>
     ensures { IfOk result (λ made. made ≡ updated Replace list.now by.now) }
 {
@@ -64,7 +64,7 @@ fn updated(list: &PropList, by: &PropList) -> px_tag::Mem<PropList>
     Ok(made)
 }
 
-// A client's list once each key of another list is set.
+// A copy of the client's list with each key of `list` set.
 fn list_with(client: Option<&Client>, list: PropList) -> px_tag::Mem<PropList>
     ensures { IfOk result (λ made. made ≡ list_with (option_map (λ client. client.now) client.entry) list) }
 {
@@ -74,7 +74,7 @@ fn list_with(client: Option<&Client>, list: PropList) -> px_tag::Mem<PropList>
     }
 }
 
-// The connection's client has its list once each key of another list is set.
+// Sets each key of another list in the list of the connection's client.
 fn named<M: Drop, G: Drop>(
     alloc: Global,
     client: Option<&Client>,
@@ -89,8 +89,8 @@ fn named<M: Drop, G: Drop>(
     Ok(changes)
 }
 
-/// SET_CLIENT_NAME of a connection with this client: each key of the list is set in the client's, and the client's index is
-/// told.
+/// SET_CLIENT_NAME of a connection with this client: each key of the list is set in the client's, and the reply gives the
+/// client's index.
 pub fn set_client_name<M: Drop, G: Drop>(
     alloc: Global,
     client: Option<&Client>,
@@ -105,15 +105,15 @@ pub fn set_client_name<M: Drop, G: Drop>(
     Ok(StepOutcome::replied(alloc, reply, changes))
 }
 
-// Whether these bits are for facilities that there are.
+// Whether these bits are for existing facilities.
 fn is_mask(mask: u32) -> bool
     ensures { result ≡ is_mask mask }
 {
     matches!(mask / 256, 0 | 2)
 }
 
-/// SUBSCRIBE: the client hears of these facilities from now on, a bit each (`pa_subscription_mask_t`). Refused: `Invalid` for a
-/// bit of none.
+/// SUBSCRIBE: the client is notified of events of these facilities from now on, a bit each (`pa_subscription_mask_t`).
+/// Refused: `Invalid` for a bit of no facility.
 pub fn subscribe<M: Drop, G: Drop>(
     alloc: Global,
     me: &Connection,

@@ -1,4 +1,4 @@
-//! What is told of sinks and of sink inputs (PulseAudio: `sink_fill_tagstruct`, `sink_input_fill_tagstruct`, `command_get_info`
+//! The infos of sinks and of sink inputs (PulseAudio: `sink_fill_tagstruct`, `sink_input_fill_tagstruct`, `command_get_info`
 //! and `command_get_info_list` of `pulsecore/protocol-native.c`).
 
 ghost use Rattle.std.specs.Prelude.{◌≡◌, ◌≤◌, ◌++◌, ◌∷◌, [], List, All, IfOk, IfSome, OnOk, Ok};
@@ -29,7 +29,7 @@ use std::alloc::Global;
 
 // ---- sinks
 
-// What is told of a sink.
+// The info of a sink.
 fn sink_of(alloc: Global, sink: &Target, group: &Group) -> Mem<SinkInfo>
     requires { IsTarget sink.now }
     ensures value { IfOk result (λ info. info ≡ sink_of sink.now group.now) }
@@ -52,7 +52,7 @@ fn group_on<'a>(groups: &'a [Group], sink: &Target) -> Option<&'a Group>
     groups.get(usize::from(sink.index.0))
 }
 
-// The reply that tells of a sink with its group.
+// The reply with the info of a sink with its group.
 fn sink_reply<M: Drop, G: Drop>(
     alloc: Global,
     sink: &Target,
@@ -67,8 +67,8 @@ fn sink_reply<M: Drop, G: Drop>(
     Ok(StepOutcome::replied(alloc, reply, Vec::new(alloc)))
 }
 
-/// GET_SINK_INFO of the sink that is named, where each sink has the group of its index. Refused: `Invalid` where it isn't clear
-/// which sink is meant, then `NoEntity` where that isn't there.
+/// GET_SINK_INFO of the named sink, where each sink has the group of its index. Refused: `Invalid` where index and name
+/// don't select one sink, then `NoEntity` where it doesn't exist.
 pub fn sink_info<M: Drop, G: Drop>(
     alloc: Global,
     named: Named,
@@ -86,7 +86,7 @@ pub fn sink_info<M: Drop, G: Drop>(
     sink_reply(alloc, &sink, group, tag)
 }
 
-// What is told of one more.
+// Adds the info of one more sink.
 #[tactic(auto, using(crate::proofs::Sayable::one_more_sink))]
 fn add_sink(alloc: Global, infos: &mut Vec<SinkInfo>, sink: &Target, groups: &[Group]) -> Mem<()>
     requires { IsTarget sink.now }
@@ -99,7 +99,7 @@ fn add_sink(alloc: Global, infos: &mut Vec<SinkInfo>, sink: &Target, groups: &[G
     Ok(())
 }
 
-/// What is told of each of these sinks that has a group, in their order.
+/// The infos of those of these sinks that have a group, in their order.
 pub fn sink_info_list(alloc: Global, sinks: &[Target], groups: &[Group]) -> Mem<Vec<SinkInfo>>
     requires { All IsTarget sinks.now }
     ensures value { IfOk result (λ infos. infos.items ≡ sink_info_list groups.now sinks.now) }
@@ -146,7 +146,7 @@ fn member_on<'a>(groups: &'a [Group], x: &Input) -> Option<&'a Member>
     }
 }
 
-// The name that a stream's list says.
+// The name in a stream's property list.
 fn name_of(alloc: Global, list: &PropList) -> Mem<Option<Text>>
     ensures value { IfOk result (λ name. name ≡ text_under list.now STREAM_NAME) }
     ensures text { IfOk result IsText }
@@ -157,7 +157,7 @@ fn name_of(alloc: Global, list: &PropList) -> Mem<Option<Text>>
     }
 }
 
-// What is told of an input with this list.
+// The info of an input with this property list.
 fn input_of(alloc: Global, x: &Input, m: &Member, list: PropList) -> Mem<InputInfo>
     requires { x.now.spec.channels ≤ 32 }
     ensures value { IfOk result (λ info. info ≡ input_of x.now m.now list) }
@@ -176,7 +176,7 @@ fn input_of(alloc: Global, x: &Input, m: &Member, list: PropList) -> Mem<InputIn
     })
 }
 
-// What is told of an input that is a member.
+// The info of an input that is a member.
 fn input_info_of(alloc: Global, x: &Input, m: &Member, lists: &InputLists) -> Mem<InputInfo>
     requires { x.now.spec.channels ≤ 32 }
     ensures value { IfOk result (λ info. info ≡ input_of x.now m.now (list_of lists.now.items x.now.index)) }
@@ -188,7 +188,7 @@ fn input_info_of(alloc: Global, x: &Input, m: &Member, lists: &InputLists) -> Me
     }
 }
 
-// The reply that tells of an input that is a member.
+// The reply with the info of an input that is a member.
 fn input_reply<M: Drop, G: Drop>(
     alloc: Global,
     x: &Input,
@@ -204,8 +204,8 @@ fn input_reply<M: Drop, G: Drop>(
     Ok(StepOutcome::replied(alloc, reply, Vec::new(alloc)))
 }
 
-/// GET_SINK_INPUT_INFO of this input, of at most 32 channels, where each sink has the group of its index. Refused: `NoEntity`
-/// where there is no such input.
+/// GET_SINK_INPUT_INFO of this input, of at most 32 channels, where each sink has the group of its index. Refused:
+/// `NoEntity` where there is no such input.
 pub fn input_info<M: Drop, G: Drop>(
     alloc: Global,
     input: Option<Input>,
@@ -223,14 +223,14 @@ pub fn input_info<M: Drop, G: Drop>(
     input_reply(alloc, &x, m, lists, tag)
 }
 
-// Whether an input goes on: it hasn't ended.
+// Whether an input is live: it hasn't ended.
 fn goes_on(x: &Input) -> bool
     ensures { result ≡ goes_on x.now }
 {
     !matches!(x.standing, Standing::Leaving)
 }
 
-// What is told of one more, where it goes on.
+// Adds the info of one more input, where it is live.
 #[tactic(auto, using(crate::proofs::Sayable::one_more_input))]
 fn add_input(
     alloc: Global,
@@ -252,7 +252,7 @@ fn add_input(
     Ok(())
 }
 
-/// What is told of each of these inputs that goes on and is a member of its sink's group, in their order.
+/// The infos of those of these inputs that are live and members of their sinks' groups, in their order.
 pub fn input_info_list(
     alloc: Global,
     inputs: &[Input],
@@ -270,8 +270,8 @@ pub fn input_info_list(
     Ok(infos)
 }
 
-/// GET_SINK_INPUT_INFO_LIST: those of these inputs, each of at most 32 channels, that haven't ended, in their order. Each sink has
-/// the group of its index.
+/// GET_SINK_INPUT_INFO_LIST: the live ones of these inputs, each of at most 32 channels, in their order. Each sink has the
+/// group of its index.
 pub fn input_infos<M: Drop, G: Drop>(
     alloc: Global,
     inputs: &[Input],

@@ -9,7 +9,7 @@ use px_outcome::{Change, Connection, Reason, Refusal, StepOutcome, present};
 use px_types::{ErrorCode, Mem};
 use std::alloc::Global;
 
-// The connection of the client with an index, as the table has it.
+// The connection of the client with an index, in the table.
 fn found_with(connections: &[Connection], client: u32) -> Option<&Connection>
     ensures { option_map (λ c. c.now) result ≡ connection_with connections.now client }
 {
@@ -26,7 +26,7 @@ pub fn connection_with(connections: &[Connection], client: u32) -> Option<Connec
     }
 }
 
-// A connection ends, where it goes on.
+// A connection ends, where it is live.
 fn killed<M: Drop, G: Drop>(alloc: Global, c: Connection) -> Mem<Vec<Change<M, G>>>
     ensures { IfOk result (λ changes. changes.items ≡ killed c) }
 {
@@ -42,8 +42,8 @@ fn killed<M: Drop, G: Drop>(alloc: Global, c: Connection) -> Mem<Vec<Change<M, G
     Ok(changes)
 }
 
-/// KILL_CLIENT, where this is the connection of the client: it ends. The client that asks is answered first, its own
-/// connection too. Refused: `NoEntity` where there is no such client.
+/// KILL_CLIENT, where this is the connection of the client: it ends. The client that asks is answered first, even where it
+/// ends itself. Refused: `NoEntity` where there is no such client.
 pub fn kill_client<M: Drop, G: Drop>(
     alloc: Global,
     client: Option<Connection>,

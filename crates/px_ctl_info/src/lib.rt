@@ -1,5 +1,5 @@
-//! The commands on clients, names, property lists and lists: each reads the parts of the state that its rule names, and gives a
-//! outcome or the reason why it is refused. It exports a call a command.
+//! The commands on clients, names, property lists and lists: each reads the parts of the state that its handler names, and
+//! gives an outcome or the reason why it is refused. It exports a call a command.
 #![tactic(auto)]
 
 mod client_list;

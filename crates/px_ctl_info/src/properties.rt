@@ -1,5 +1,5 @@
 //! The property lists of clients (PulseAudio: `command_update_proplist` and `command_remove_proplist` of
-//! `pulsecore/protocol-native.c`; that a key which isn't there refuses the whole removal is own).
+//! `pulsecore/protocol-native.c`; that a missing key refuses the whole removal is own).
 
 ghost use Rattle.std.specs.Prelude.{◌≡◌, ◌<◌, ◌≤◌, ◌∷◌, [], IfOk, OnOk, Ok, length, take, drop, fold, Some, slice_get};
 ghost use Rattle.std.specs.List.{list_all};
@@ -26,7 +26,7 @@ fn is_text(bytes: &[u8]) -> bool
     bytes.iter().all(|b| *b != 0)
 }
 
-// The text that stands before a zero byte, where that is the last and there is no other.
+// The text before the zero byte, where that is the last byte and the only zero.
 fn text_in(bytes: &[u8]) -> Option<&[u8]>
     ensures { option_map (λ text. text.now) result ≡ text_in bytes.now }
 {
@@ -38,7 +38,7 @@ fn text_in(bytes: &[u8]) -> Option<&[u8]>
     }
 }
 
-/// The text of a key of a list, where its value is a text with a zero byte behind it. Takes no memory.
+/// The text under a key of a list, where its value is a text followed by a zero byte. Takes no memory.
 pub(crate) fn text_under<'a>(list: &'a PropList, key: &[u8]) -> Option<&'a [u8]>
     ensures { option_map (λ text. text.now) result ≡ text_under list.now key.now }
 {
@@ -70,7 +70,7 @@ pub(crate) fn mode_of(number: u32) -> Option<Mode>
     }
 }
 
-/// Whether each key of a command is there. Takes no memory.
+/// Whether the list has each key of a command. Takes no memory.
 pub(crate) fn has_keys(list: &PropList, keys: &Keys) -> bool
     ensures { result ≡ has_keys list.now keys.now }
 {
@@ -79,7 +79,7 @@ pub(crate) fn has_keys(list: &PropList, keys: &Keys) -> bool
         .all(|key| list.contains(key.as_slice()))
 }
 
-/// None of these keys is there any more. Takes no memory.
+/// Removes these keys from the list. Takes no memory.
 pub(crate) fn remove_all(list: &mut PropList, keys: &Keys)
     ensures { list.new ≡ without_keys list.old keys.now }
 {
@@ -88,7 +88,7 @@ pub(crate) fn remove_all(list: &mut PropList, keys: &Keys)
     }
 }
 
-/// A list that is updated by another.
+/// `list`, updated by `other` in a mode.
 pub(crate) fn updated(mut list: PropList, mode: Mode, other: &PropList) -> px_tag::Mem<PropList>
     ensures { IfOk result (λ made. made ≡ updated mode list other.now) }
 {
@@ -96,7 +96,7 @@ pub(crate) fn updated(mut list: PropList, mode: Mode, other: &PropList) -> px_ta
     Ok(list)
 }
 
-// A plain reply: the list of a connection's client is this one.
+// A plain reply, and a new list of a connection's client.
 fn named<M: Drop, G: Drop>(
     alloc: Global,
     me: &Connection,
@@ -111,8 +111,8 @@ fn named<M: Drop, G: Drop>(
     Ok(StepOutcome::replied(alloc, reply, changes))
 }
 
-/// UPDATE_CLIENT_PROPLIST of a connection with this client, by the mode with a number. Refused: `Invalid` for another number
-/// than 0, 1 or 2.
+/// UPDATE_CLIENT_PROPLIST of a connection with this client, in the mode with this number. Refused: `Invalid` for another
+/// number than 0, 1 or 2.
 pub fn update_client<M: Drop, G: Drop>(
     alloc: Global,
     client: Option<&Client>,
@@ -128,7 +128,7 @@ pub fn update_client<M: Drop, G: Drop>(
     named(alloc, me, tag, made)
 }
 
-/// REMOVE_CLIENT_PROPLIST of a connection with this client. Refused: `NoEntity` where one of the keys isn't there; then none
+/// REMOVE_CLIENT_PROPLIST of a connection with this client. Refused: `NoEntity` where one of the keys is missing; then none
 /// is removed.
 pub fn remove_client<M: Drop, G: Drop>(
     alloc: Global,

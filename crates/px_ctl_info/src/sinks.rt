@@ -16,7 +16,7 @@ use px_types::limits::NO_INDEX;
 use px_types::{ErrorCode, Mem, SinkId, Text};
 use std::alloc::Global;
 
-// What is found, or the error that it isn't.
+// The value found, or the refusal with the error.
 fn found<A>(answer: Result<A, ErrorCode>) -> Result<A, Refusal>
     ensures { result ≡ found answer }
 {
@@ -33,7 +33,7 @@ fn sink_called(names: &Names, name: Option<&[u8]>) -> Result<SinkId, Refusal>
     found(names.sink(NO_INDEX, name, false))
 }
 
-/// LOOKUP_SINK: the sink's index is told. Refused: `Invalid` without a name, `NoEntity` where no sink has it.
+/// LOOKUP_SINK: the reply gives the sink's index. Refused: `Invalid` without a name, `NoEntity` where no sink has it.
 pub fn lookup_sink<M: Drop, G: Drop>(
     alloc: Global,
     names: &Names,
@@ -47,7 +47,7 @@ pub fn lookup_sink<M: Drop, G: Drop>(
     Ok(StepOutcome::replied(alloc, reply, Vec::new(alloc)))
 }
 
-/// SET_DEFAULT_SINK: the sink with the name is the default sink. Refused as LOOKUP_SINK is.
+/// SET_DEFAULT_SINK: the sink with the name becomes the default sink. Refused as LOOKUP_SINK is.
 pub fn set_default_sink<M: Drop, G: Drop>(
     alloc: Global,
     names: &Names,
@@ -63,7 +63,7 @@ pub fn set_default_sink<M: Drop, G: Drop>(
     Ok(StepOutcome::replied(alloc, reply, changes))
 }
 
-/// What the server is, where this is its default sink.
+/// The server's info, where this is its default sink.
 pub fn server_of(alloc: Global, sink: &Target) -> Mem<ServerInfo>
     requires { IsTarget sink.now }
     ensures value { IfOk result (λ info. info ≡ server_of sink.now) }
@@ -76,7 +76,7 @@ pub fn server_of(alloc: Global, sink: &Target) -> Mem<ServerInfo>
     })
 }
 
-/// GET_SERVER_INFO, where this names the default sink. Refused: `NoEntity` where there is none.
+/// GET_SERVER_INFO, where `named` is the default sink. Refused: `NoEntity` where there is none.
 pub fn server_info<M: Drop, G: Drop>(
     alloc: Global,
     named: Named,

@@ -1,6 +1,6 @@
 //! The names and property lists of playback streams (PulseAudio: `command_update_proplist`, `command_remove_proplist` and
-//! `command_set_stream_name` of `pulsecore/protocol-native.c`; that a key which isn't there refuses the whole removal, and the
-//! most bytes of a name, are own).
+//! `command_set_stream_name` of `pulsecore/protocol-native.c`; that a missing key refuses the whole removal, and the
+//! greatest length of a name, are own).
 
 ghost use Rattle.std.specs.Prelude.{◌≡◌, ◌≤◌, ◌++◌, ◌∷◌, [], IsTrue, IfOk, IfSome, OnOk, Ok, length};
 ghost use Rattle.std.specs.Option.{option_map};
@@ -20,10 +20,10 @@ use px_tag::PropList;
 use px_types::{ErrorCode, InputId};
 use std::alloc::Global;
 
-/// The most bytes of a stream's name.
+/// The greatest length of a stream's name, in bytes.
 const MOST_NAME: usize = 65_535;
 
-// A plain reply: the property list of an input is this one.
+// A plain reply, and a new property list of an input.
 fn described<M: Drop, G: Drop>(
     alloc: Global,
     tag: u32,
@@ -38,7 +38,7 @@ fn described<M: Drop, G: Drop>(
     Ok(StepOutcome::replied(alloc, reply, changes))
 }
 
-/// UPDATE_PLAYBACK_STREAM_PROPLIST of a stream with this input, by the mode with a number. Refused: `NoEntity` where the
+/// UPDATE_PLAYBACK_STREAM_PROPLIST of a stream with this input, in the mode with this number. Refused: `NoEntity` where the
 /// connection has no such stream, then `Invalid` for another number than 0, 1 or 2.
 pub fn update_stream<M: Drop, G: Drop>(
     alloc: Global,
@@ -56,8 +56,8 @@ pub fn update_stream<M: Drop, G: Drop>(
     described(alloc, tag, x.index, made)
 }
 
-/// REMOVE_PLAYBACK_STREAM_PROPLIST of a stream with this input. Refused: `NoEntity` where the connection has no such stream, and
-/// where one of the keys isn't there; then none is removed.
+/// REMOVE_PLAYBACK_STREAM_PROPLIST of a stream with this input. Refused: `NoEntity` where the connection has no such stream,
+/// and where one of the keys is missing; then none is removed.
 pub fn remove_stream<M: Drop, G: Drop>(
     alloc: Global,
     stream: Option<Input>,
@@ -74,7 +74,7 @@ pub fn remove_stream<M: Drop, G: Drop>(
     described(alloc, tag, x.index, made)
 }
 
-// The name that a stream is given, where it can have it.
+// The stream's new name, where it is given and short enough.
 fn name_in(name: Option<&[u8]>) -> Option<&[u8]>
     ensures value { option_map (λ text. text.now) result ≡ name_in (option_map (λ text. text.now) name.entry) }
     ensures few { IfSome result (λ text. length text.now ≤ 65535) }
@@ -85,7 +85,7 @@ fn name_in(name: Option<&[u8]>) -> Option<&[u8]>
     }
 }
 
-// A text and a zero byte behind it.
+// A text followed by a zero byte.
 fn ended(alloc: Global, name: &[u8]) -> px_tag::Mem<Vec<u8>>
     ensures { IfOk result (λ bytes. bytes.items ≡ name.now ++ 0 ∷ []) }
 {
@@ -95,7 +95,7 @@ fn ended(alloc: Global, name: &[u8]) -> px_tag::Mem<Vec<u8>>
     Ok(bytes)
 }
 
-// The list says this name.
+// Sets the name in the list.
 fn put_name(list: &mut PropList, name: &[u8]) -> px_tag::Mem<()>
     requires { length name.now ≤ 65536 }
     ensures { OnOk result (list.new ≡ with_value list.old STREAM_NAME name.now) }
@@ -103,7 +103,7 @@ fn put_name(list: &mut PropList, name: &[u8]) -> px_tag::Mem<()>
     list.set(b"media.name", name)
 }
 
-// The list of an input once more, with this name.
+// A copy of an input's list, with this name.
 fn list_with_name(
     alloc: Global,
     lists: &InputLists,

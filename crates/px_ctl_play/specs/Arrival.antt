@@ -1,4 +1,5 @@
--- The sink that an input was on has given up its stream: the input leaves the group of that sink and is on the sink that it moves to, in whose group it keeps its ratios (PulseAudio: `pa_sink_input_finish_move` of pulsecore/sink-input.c; that messages wait meanwhile is own).
+-- The sink that an input was on has detached its stream: the input leaves the group of that sink and is on the sink that it moves to, in whose group
+-- its ratios stay (PulseAudio: `pa_sink_input_finish_move` of pulsecore/sink-input.c; that messages wait meanwhile is own).
 use Rattle.std.specs.Prelude.{◌≡◌, ◌≤◌, ℕ, Bool, ◌&&◌, ◌||◌, List, [], ◌∷◌, filter, length, replicate, Option, None, Some, IfSome}
 use Rattle.px_types.specs.declared.ids.InputId.{InputId}
 use Rattle.px_types.specs.declared.ids.SinkId.{SinkId}
@@ -25,11 +26,11 @@ use Rattle.px_ctl_play.specs.Factors.{own_factors, regrouped}
 use Rattle.px_ctl_play.specs.Move.{feed_to}
 use Rattle.px_ctl_play.specs.Notified.{bytes_asked, has_left, same_spec}
 
--- a stream with this spec is what a sink hands over for an input: the sink was told to, and the stream is the input's
+-- a stream with this spec is what a sink hands over for an input: the sink got the message to do so, and the spec is the input's
 abbrev pub hands_over : SampleSpec → Input → Bool
 hands_over spec x = has_left x.way && same_spec spec (sample_spec x.spec)
 
--- ---- what the client is told: the sink, the attributes of its stream in bytes, and how long a frame waits at the most
+-- ---- the message to the client: the sink, the attributes of its stream in bytes, and the longest time that a frame waits
 
 abbrev pub attributes_in_bytes : Input → List ℕ
 attributes_in_bytes x =
@@ -40,7 +41,7 @@ arrived_message x sink = moved_message x.stream sink.index.0 sink.name (attribut
 
 -- ---- the groups
 
--- that of the new sink: the input keeps both ratios, and its mute
+-- that of the new sink: the input retains both ratios, and its mute
 abbrev pub joined_by : InputId → Member → List ℕ → FlatGroup → FlatGroup
 joined_by index m feed group = attached index m.volume (Kept m.ratios) m.muted feed group
 
@@ -51,23 +52,24 @@ is_settled_with sink index x = is_settled sink x || has_index index x
 abbrev pub settled_with : List Input → SinkId → InputId → List Input
 settled_with inputs sink index = filter (is_settled_with sink index) inputs
 
--- ---- the plan, but for the message that brings the stream to the new sink, which its parcel makes
+-- ---- the outcome, but for the message that brings the stream to the new sink, which its parcel makes
 
 pub record Arriving (M G : Type 0) : Type 0 where
   -- the stream channel that feeds each channel of the new sink, and the factor of each
   pub feed : List ℕ
   pub factors : List ℕ
-  -- the messages to clients
+  -- the packets to clients
   pub notified : List Sending
-  -- the changes behind the arrival
+  -- the changes after the arrival
   pub later : List (Change M G)
 
--- both sinks have these groups
+-- the groups of both sinks are set
 abbrev pub both_regrouped : {P : Type 0} → Input → FlatGroup → SinkId → FlatGroup → List Input → List (Change (Msg P) FlatGroup)
 both_regrouped x from sink group inputs =
     regrouped x.sink from (settled_on inputs x.sink) ∷ regrouped sink group (settled_with inputs sink x.index) ∷ []
 
--- the old sink has this group and is told the factors of the inputs that stay; the new one, behind the stream, those of all that are settled there then, and what waited of the input
+-- the old sink has this group and gets the factors of the inputs that stay; the new one, after the stream, those of all that are settled there then,
+-- and the input's held messages
 abbrev pub later : {P : Type 0} → Input → FlatGroup → SinkId → FlatGroup → List Input → ℕ → List (Change (Msg P) FlatGroup)
 later x from sink group inputs waited =
     regrouped x.sink from (settled_on inputs x.sink) ∷ regrouped sink group (settled_with inputs sink x.index) ∷ replicate waited (Released x.index)
@@ -80,18 +82,18 @@ arrival_of x m feed from group sink owner inputs waited = record {
   later = later x (detached x.index from) sink.index (joined_by x.index m feed group) inputs waited;
 }
 
--- where it is in the group of its old sink, and there is a plan for its channels
+-- where it is in the group of its old sink, and there is a channel plan
 abbrev pub arrival_by : {P : Type 0} → Input → Option Member → Option (List ℕ) → FlatGroup → FlatGroup → Target → Option Connection → List Input → ℕ → Option (Arriving (Msg P) FlatGroup)
 arrival_by x None feed from group sink owner inputs waited = None
 arrival_by x (Some m) None from group sink owner inputs waited = None
 arrival_by x (Some m) (Some feed) from group sink owner inputs waited = Some (arrival_of x m feed from group sink owner inputs waited)
 
--- from a sink with the first of these groups to this one with the second
+-- from a sink with the group `from` to this one with `group`
 abbrev pub arrive : {P : Type 0} → Input → FlatGroup → FlatGroup → Target → Option Connection → List Input → ℕ → Option (Arriving (Msg P) FlatGroup)
 arrive x from group sink owner inputs waited =
     arrival_by x (member_of from.members x.index) (feed_to x sink.map) from group sink owner inputs waited
 
--- ---- the whole plan
+-- ---- the whole outcome
 
 abbrev pub arriving_with : {P : Type 0} → InputId → P → Arriving (Msg P) FlatGroup → OutcomeParts (Msg P) FlatGroup
 arriving_with index parcel a = record {
@@ -101,9 +103,9 @@ arriving_with index parcel a = record {
   changes = Arrives index (Attach index parcel a.feed a.factors) ∷ a.later;
 }
 
--- ---- what the groups of both sinks are
+-- ---- the groups of both sinks
 
--- the group of the old sink has a channel, and the input there as many as its map says
+-- the group of the old sink has a channel, and the input there as many as its map
 pub record HasChannels (x : Input) (from : FlatGroup) : Type 0 where
   pub some : 1 ≤ length from.reference
   pub own : IfSome (member_of from.members x.index) (λ m. channels_of (Member.feed m) ≡ length x.map)

@@ -13,12 +13,12 @@ use Rattle.px_outcome.specs.Outcome.{OutcomeParts, replied}
 use Rattle.px_outcome.specs.Handled.{Handled, ◌>>=◌, present}
 use Rattle.px_ctl_play.specs.Time.{microseconds}
 
--- an input's sink, of a depth and a rate, is told these attributes, and the client has them in bytes, with the sink's latency
+-- these attributes are posted to the input's sink, of `depth` and `rate`, and the reply gives them in bytes, with the sink's latency
 abbrev pub attributed : {P : Type 0} → ℕ → ℕ → Input → Attr → ℕ → OutcomeParts (Msg P) FlatGroup
 attributed depth rate x attr tag =
     replied (attributes_reply tag (bytes_of x.spec attr) (microseconds rate depth)) (Posted x.index (NewAttr x.index attr) ∷ [])
 
--- the connection's stream, where it is there, gets what is asked, as it is repaired
+-- the connection's stream, where it exists, gets the attributes asked for, repaired
 abbrev pub attributes : {P : Type 0} → Option Input → ℕ → ℕ → List ℕ → ℕ → Handled (OutcomeParts (Msg P) FlatGroup)
 attributes stream depth rate asked tag = do
   x ← present stream NoEntity

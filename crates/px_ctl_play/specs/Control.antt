@@ -1,4 +1,5 @@
--- Commands that tell a stream's sink what to do, and are answered at once (PulseAudio: `command_cork_playback_stream` and `command_trigger_or_flush_or_prebuf_playback_stream` of pulsecore/protocol-native.c).
+-- Commands that are posted to a stream's sink and answered at once (PulseAudio: `command_cork_playback_stream` and
+-- `command_trigger_or_flush_or_prebuf_playback_stream` of pulsecore/protocol-native.c).
 use Rattle.std.specs.Prelude.{ℕ, Bool, [], ◌∷◌, Option, Ok}
 use Rattle.px_types.specs.declared.error_code.ErrorCode.TheVariants.{NoEntity}
 use Rattle.px_flat.specs.FlatVolume.{FlatGroup}
@@ -10,11 +11,11 @@ use Rattle.px_outcome.specs.declared.input.Input.{Input}
 use Rattle.px_outcome.specs.Outcome.{OutcomeParts, replied}
 use Rattle.px_outcome.specs.Handled.{Handled, ◌>>=◌, present}
 
--- an input's sink is told this, and the client has a reply without fields
+-- the message is posted to an input's sink, and the client has a reply without fields
 abbrev pub post_and_reply : {P : Type 0} → Input → Msg P → ℕ → OutcomeParts (Msg P) FlatGroup
 post_and_reply x message tag = replied (reply_to tag) (Posted x.index message ∷ [])
 
--- each is of a stream of the connection, where it is there
+-- each is of a stream of the connection, where it exists
 
 abbrev pub cork : {P : Type 0} → Option Input → Bool → ℕ → Handled (OutcomeParts (Msg P) FlatGroup)
 cork stream on tag = do

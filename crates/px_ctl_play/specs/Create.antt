@@ -44,7 +44,7 @@ input_made made me sink a = record {
   standing = Settled;
 }
 
--- the message that brings it to its sink, where these of its channels feed the sink's and this is the sink's group
+-- the message that brings `x` to its sink; `feed` is the stream channel that feeds each of the sink's, `group` the sink's group
 abbrev pub new_of : {P : Type 0} → CreateFields → FlatGroup → List ℕ → Input → Msg P
 new_of a group feed x = New (record {
   input = x.index;
@@ -55,9 +55,9 @@ new_of a group feed x = New (record {
   corked = a.corked;
 })
 
--- ---- what the client is told of it
+-- ---- the reply to the client
 
--- how long a frame waits at the most before the sink plays it, in microseconds
+-- the longest time that a frame waits before the sink plays it, in microseconds
 abbrev pub latency_of : Target → ℕ
 latency_of sink = microseconds sink.spec.rate sink.depth
 
@@ -75,7 +75,7 @@ created_of sink a x = record {
 
 -- ---- the command
 
--- the input is there, its sink gets its stream, and then this group, with the factors of all inputs on it; and it has the list that the client gave it
+-- the input is added, its sink gets its stream, and then this group, with the factors of all inputs on it; and the list that the client gave is set
 abbrev pub changes_of : {P : Type 0} → List Input → ℕ → Connection → CreateFields → FlatGroup → List ℕ → Input → List (Change (Msg P) FlatGroup)
 changes_of inputs made me a group feed x =
     Made x (new_of a group feed x) (me.streams + 1) (made + 1) ∷ regrouped x.sink group (settled_on inputs x.sink ++ x ∷ []) ∷ Described x.index a.list ∷ []
@@ -89,7 +89,7 @@ abbrev pub created : {P : Type 0} → List Input → ℕ → Connection → ℕ 
 created inputs made me tag sink group a feed x =
     replied (created_reply tag (created_of sink a x)) (changes_of inputs made me a (joined group sink a feed x) feed x)
 
--- the stream is made on this sink, which has this group, where the sink can play it and there is room for it
+-- creates the stream on this sink, which has this group, where the sink can play it and there is room for it
 abbrev pub create_on : {P : Type 0} → List Input → ℕ → Connection → ℕ → Target → FlatGroup → CreateFields → Handled (OutcomeParts (Msg P) FlatGroup)
 create_on inputs made me tag sink group a = do
   supported ← check (is_supported sink a) NotSupported
@@ -97,7 +97,7 @@ create_on inputs made me tag sink group a = do
   room ← check (has_room inputs made me sink.index) TooLarge
   Ok (created inputs made me tag sink group a feed (input_made made me sink a))
 
--- a connection asks for a stream, where these inputs are there, so many were ever made, and the sink that is named has this group
+-- a connection asks for a stream, where `inputs` are all inputs, `made` were ever made, and the named sink has this group
 abbrev pub create : {P : Type 0} → List Input → ℕ → Connection → ℕ → Named → Option FlatGroup → CreateFields → Handled (OutcomeParts (Msg P) FlatGroup)
 create inputs made me tag named group a = do
   lawful ← check (is_lawful a) Invalid

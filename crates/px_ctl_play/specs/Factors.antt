@@ -15,14 +15,14 @@ abbrev pub gains_of : InputId → Option (List ℕ) → List InputFactors
 gains_of input None = []
 gains_of input (Some factors) = record { input = input; factors = factors } ∷ []
 
--- those that a group gives inputs, in their order; one that isn't in the group has none
+-- the factors that a group gives inputs, in their order; one that isn't in the group has none
 abbrev pub factor_list : FlatGroup → List Input → List InputFactors
 factor_list group inputs = flat_map (λ x. gains_of (Input.index x) (factors_for group (Input.index x))) inputs
 
--- those of an input that is in the group
+-- the factors of an input that is in the group
 abbrev pub own_factors : FlatGroup → InputId → List ℕ
 own_factors group input = unwrap_or (factors_for group input) []
 
--- a sink has this group, and is told the factors of these inputs
+-- the sink's group is set, and the factors of these inputs are posted to it
 abbrev pub regrouped : {P : Type 0} → SinkId → FlatGroup → List Input → Change (Msg P) FlatGroup
 regrouped sink group inputs = Regrouped sink group (Factors (factor_list group inputs))

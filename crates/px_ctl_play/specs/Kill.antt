@@ -1,4 +1,5 @@
--- The end of a stream at another client's will: KILL_SINK_INPUT (PulseAudio: `command_kill` and `sink_input_kill_cb` of pulsecore/protocol-native.c; that requests which wait are told so is own).
+-- The end of a stream by another client's request: KILL_SINK_INPUT (PulseAudio: `command_kill` and `sink_input_kill_cb` of
+-- pulsecore/protocol-native.c; that waiting requests get an error is own).
 use Rattle.std.specs.Prelude.{ℕ, List, [], ◌∷◌, ◌++◌, Option, None, Some, Ok}
 use Rattle.px_types.specs.declared.error_code.ErrorCode.TheVariants.{NoEntity}
 use Rattle.px_tag.specs.Item.{number}
@@ -13,7 +14,7 @@ use Rattle.px_outcome.specs.Handled.{Handled, ◌>>=◌, present}
 use Rattle.px_ctl_play.specs.Answer.{sent_to}
 use Rattle.px_ctl_play.specs.Delete.{errors_for}
 
--- where its connection goes on, an error for each request that waits of it
+-- where its connection is live, an error for each waiting request of the input
 abbrev pub errors_to : Option Connection → Input → List Waiting → List Sending
 errors_to None x waiting = []
 errors_to (Some c) x waiting = errors_for x waiting
@@ -22,7 +23,7 @@ errors_to (Some c) x waiting = errors_for x waiting
 abbrev pub killed_message : Input → List ℕ
 killed_message x = message 64 ++ number x.stream
 
--- an input ends: who asked has a reply, and its own client the errors and then the message
+-- an input ends: the client that made the request has a reply, and the input's own client the errors and then the message
 abbrev pub killed : {M G : Type 0} → Input → Option Connection → List Waiting → ℕ → OutcomeParts M G
 killed x owner waiting tag = record {
   reply = Some (reply_to tag);
@@ -31,7 +32,7 @@ killed x owner waiting tag = record {
   changes = Leaves x.index ∷ [];
 }
 
--- KILL_SINK_INPUT of this input, whose connection is there where it goes on
+-- KILL_SINK_INPUT of `input`, whose connection is `owner` where it is live
 abbrev pub kill_input : {M G : Type 0} → Option Input → Option Connection → List Waiting → ℕ → Handled (OutcomeParts M G)
 kill_input input owner waiting tag = do
   x ← present input NoEntity

@@ -1,4 +1,5 @@
--- How far a stream is: GET_PLAYBACK_LATENCY, and the sink's answer to it (PulseAudio: `command_get_playback_latency` of pulsecore/protocol-native.c; that the server tells the client's own time twice, and which notices fit, is own).
+-- A stream's indices and latency: GET_PLAYBACK_LATENCY, and the sink's notice (PulseAudio: `command_get_playback_latency` of
+-- pulsecore/protocol-native.c; that the reply gives the client's own time twice, and which notices fit, is own).
 use Rattle.std.specs.Prelude.{ℕ, ◌-◌, ◌*◌, ◌^◌, min, ℤ, pos, ◌*ℤ◌, cond, List, Option, None, Some, Ok}
 use Rattle.std.specs.Int.{w64, saturate_signed}
 use Rattle.px_types.specs.declared.error_code.ErrorCode.TheVariants.{NoEntity}
@@ -25,7 +26,7 @@ use Rattle.px_ctl_play.specs.declared.timing.Progress.{Progress}
 use Rattle.px_ctl_play.specs.Answer.{asked, answered}
 use Rattle.px_ctl_play.specs.Time.{microseconds}
 
--- the sink of the connection's stream, where it is there, is asked how far it is; the time that the client gives waits with the request
+-- the sink of the connection's stream, where it exists, is asked for its indices; the time that the client gives waits with the request
 abbrev pub latency : {P : Type 0} → Option Input → TimeVal → ℕ → Handled (OutcomeParts (Msg P) FlatGroup)
 latency stream time tag = do
   x ← present stream NoEntity
@@ -33,14 +34,14 @@ latency stream time tag = do
 
 -- ---- the reply
 
--- an index in bytes, and a count of frames in bytes; each that its field can't hold is the nearest end of the field
+-- an index in bytes, and a count of frames in bytes, each saturated to its field
 abbrev pub index_in_bytes : Spec → ℤ → ℤ
 index_in_bytes spec index = saturate_signed w64 (index *ℤ pos (frame_size_of spec))
 
 abbrev pub count_in_bytes : Spec → ℕ → ℕ
 count_in_bytes spec frames = min (frames * frame_size_of spec) (2 ^ 64 - 1)
 
--- for how many frames it has been silent, and has played; one of them is none
+-- the frames that it has been silent for, and played for; one of them is 0
 abbrev pub silent_for : Run → ℕ
 silent_for (Quiet frames) = frames
 silent_for (Playing frames) = 0
@@ -54,7 +55,7 @@ abbrev pub time_given : Awaited → TimeVal
 time_given Drained = record { seconds = 0; micros = 0 }
 time_given (Latency time) = time
 
--- what the client of an input on a sink of a rate is told, that gave this time
+-- the fields of the reply to the client that gave `time`, for an input on a sink of `rate`
 abbrev pub fields_of : ℕ → Input → Progress → TimeVal → LatencyFields
 fields_of rate x progress time = record {
   usec = microseconds rate progress.buffered;
@@ -66,14 +67,14 @@ fields_of rate x progress time = record {
   played = count_in_bytes x.spec (playing_for progress.run);
 }
 
--- ---- the sink's answer
+-- ---- the sink's notice
 
--- the request has its reply, where it waits
+-- a reply to the request, where it waits
 abbrev pub latency_answered : {P : Type 0} → ℕ → Input → Option Connection → Option Waiting → Progress → OutcomeParts (Msg P) FlatGroup
 latency_answered rate x owner None progress = idle
 latency_answered rate x owner (Some w) progress = answered owner w (latency_reply w.tag (fields_of rate x progress (time_given w.awaited)))
 
--- an input on a sink of a rate is so far: the first question under the tag that waits of it is answered, where it is there and goes on
+-- the sink of `rate` reports `progress`: the first waiting latency request of the input under `tag` is answered, where it exists and is live
 abbrev pub measured : {P : Type 0} → Option Input → Option Connection → List Waiting → ℕ → ℕ → Progress → OutcomeParts (Msg P) FlatGroup
 measured None owner waiting rate tag progress = idle
 measured (Some x) owner waiting rate tag progress =

@@ -1,4 +1,5 @@
--- What a sink tells of a stream (PulseAudio: `sink_input_process_msg` and the callbacks of pulsecore/protocol-native.c; which notices fit is own).
+-- Notices from a sink about a stream (PulseAudio: `sink_input_process_msg` and the callbacks of pulsecore/protocol-native.c; which notices fit is
+-- own).
 use Rattle.std.specs.Prelude.{ℕ, ◌-◌, ◌*◌, ◌^◌, min, Bool, true, false, cond, ◌&&◌, nat_eq, List, [], ◌∷◌, ◌++◌, Option, None, Some, IsSome, ⊤}
 use Rattle.px_tag.specs.Item.{number}
 use Rattle.px_sample.specs.Format.{frame_size_of}
@@ -18,9 +19,9 @@ use Rattle.px_ctl_play.specs.declared.notified.News.{News}
 use Rattle.px_ctl_play.specs.declared.notified.News.TheVariants.{Request, Overflow, Underflow, Started}
 use Rattle.px_ctl_play.specs.Factors.{regrouped}
 
--- ---- news of a stream: a message to the client, where both go on
+-- ---- a notice about a stream: a message to the client, where both are live
 
--- the bytes of so many frames, or the last number of 32 bits where they are more
+-- the size of `frames` frames in bytes, saturated to 32 bits
 abbrev pub bytes_asked : Input → ℕ → ℕ
 bytes_asked x frames = min (frames * frame_size_of x.spec) (2 ^ 32 - 1)
 
@@ -30,13 +31,13 @@ message_of Overflow x = message 62 ++ number x.stream
 message_of Underflow x = message 63 ++ number x.stream
 message_of Started x = message 86 ++ number x.stream
 
--- the input is the one on the sink that the notice names, and the connection is the input's, each where it is there and goes on
+-- the input is the one on the sink that the notice names, and the connection is the input's, each where it exists and is live
 abbrev pub notified : {P : Type 0} → Option Input → Option Connection → News → OutcomeParts (Msg P) FlatGroup
 notified None owner news = idle
 notified (Some x) None news = idle
 notified (Some x) (Some c) news = cond (goes_on x) (notifying c.conn (message_of news x)) idle
 
--- ---- a sink has given up a stream
+-- ---- a sink has detached a stream
 
 abbrev pub has_left : Way → Bool
 has_left Coming = false
@@ -46,21 +47,21 @@ has_left Left = true
 abbrev pub same_spec : SampleSpec → SampleSpec → Bool
 same_spec a b = nat_eq a.format b.format && nat_eq a.channels b.channels && nat_eq a.rate b.rate
 
--- it fits where the sink was told to, and the parcel is of the input
+-- it fits where the sink got the message to detach it, and the parcel is of the input
 abbrev pub gives_up : SampleSpec → Input → Bool
 gives_up spec x = is_leaving x.standing && has_left x.way && same_spec spec (sample_spec x.spec)
 
--- an ended input goes and leaves the group of its sink, which is told the factors of those that stay there
+-- an ended input is removed and leaves the group of its sink, to which the factors of those that stay are posted
 abbrev pub gone : {P : Type 0} → Input → Option FlatGroup → List Input → OutcomeParts (Msg P) FlatGroup
 gone x None inputs = idle
 gone x (Some group) inputs = changing (Gone x.index ∷ regrouped x.sink (detached x.index group) (settled_on inputs x.sink) ∷ [])
 
--- its sink has this group
+-- `group` is its sink's
 abbrev pub left : {P : Type 0} → Option Input → Option FlatGroup → SampleSpec → List Input → OutcomeParts (Msg P) FlatGroup
 left None group spec inputs = idle
 left (Some x) group spec inputs = cond (gives_up spec x) (gone x group inputs) idle
 
--- the input is in its sink's group, where both are there
+-- the input is in its sink's group, where both exist
 abbrev pub IsMemberIn : Option FlatGroup → Input → Type 0
 IsMemberIn None x = ⊤
 IsMemberIn (Some group) x = IsSome (member_of group.members x.index)

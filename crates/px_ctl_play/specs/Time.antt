@@ -1,6 +1,6 @@
 -- Frames in microseconds.
 use Rattle.std.specs.Prelude.{ℕ, ◌*◌, ◌/◌}
 
--- so many frames at a rate
+-- `frames` frames at `rate`
 abbrev pub microseconds : ℕ → ℕ → ℕ
 microseconds rate frames = frames * 1000000 / rate

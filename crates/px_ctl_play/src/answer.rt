@@ -1,4 +1,4 @@
-//! Requests that are answered later, once a stream's sink has told what they ask for.
+//! Requests that are answered later, once the notice of the stream's sink has come.
 
 ghost use Rattle.std.specs.Prelude.{◌≡◌, IfOk, Ok};
 ghost use Rattle.px_outcome.specs.Handled.{HandledAs};
@@ -11,7 +11,7 @@ use px_tag::Packet;
 use px_types::Mem;
 use std::alloc::Global;
 
-/// An input's sink is asked, and the request waits.
+/// Posts the question to an input's sink; the request waits.
 pub(crate) fn asked<P: Drop>(
     alloc: Global,
     x: &Input,
@@ -31,7 +31,7 @@ pub(crate) fn asked<P: Drop>(
     Ok(StepOutcome::changing(alloc, changes))
 }
 
-/// A packet for a connection, where that is there.
+/// A packet for the connection `owner`, where it is live.
 pub(crate) fn sent_to(alloc: Global, owner: Option<Connection>, packet: Packet) -> Mem<Vec<Sending>>
     ensures { IfOk result (λ sent. sent.items ≡ sent_to owner packet) }
 {
@@ -48,7 +48,7 @@ pub(crate) fn sent_to(alloc: Global, owner: Option<Connection>, packet: Packet) 
     }
 }
 
-/// A request waits no more, and its connection, where that is there, has the reply.
+/// Removes a waiting request, and sends the reply to its connection `owner`, where that is live.
 pub(crate) fn answered<P: Drop>(
     alloc: Global,
     owner: Option<Connection>,

@@ -1,4 +1,4 @@
-//! An input is on the sink that it moves to, once the sink that it was on has given up its stream (PulseAudio:
+//! An input arrives at the sink that it moves to, once the sink that it was on has detached its stream (PulseAudio:
 //! `pa_sink_input_finish_move` of `pulsecore/sink-input.c`; that messages wait meanwhile is own).
 
 ghost use Rattle.std.specs.Prelude.{◌≡◌, ◌≤◌, ◌++◌, length, replicate, IsSome, IfSome, IfOk, OnOk};
@@ -30,15 +30,15 @@ use px_vol::Factors;
 use std::alloc::Global;
 use std::marker::Model;
 
-/// What an input's arrival at a sink does, but for the parcel of its stream.
+/// The outcome of an input's arrival at a sink, but for the parcel of its stream.
 #[derive(Drop)]
 pub struct Arrival<M, G> {
     /// The stream channel that feeds each channel of the sink, and the factor of each, in 16.16.
     pub feed: Feed,
     pub factors: Factors,
-    /// The messages to clients.
+    /// The packets to clients.
     pub notified: Vec<Sending>,
-    /// The changes behind the arrival, in order.
+    /// The changes after the arrival, in order.
     pub later: Vec<Change<M, G>>,
 }
 
@@ -50,15 +50,15 @@ impl<M, G> Model for Arrival<M, G> {
     ghost view = { λ a. record { feed = a.feed; factors = a.factors; notified = a.notified.items; later = a.later.items } };
 }
 
-/// Whether a stream with this spec is what a sink hands over for an input: the sink was told to, and the stream is the input's. Takes no
-/// memory.
+/// Whether a stream with this spec is what a sink hands over for an input: the sink got the message to do so, and the spec
+/// is the input's. Takes no memory.
 pub fn hands_over(spec: Spec, x: &Input) -> bool
     ensures { result ≡ hands_over (sample_spec spec) x.now }
 {
     x.way == Way::Left && same_spec(spec, x.spec)
 }
 
-// The attributes of its stream, in bytes.
+// The buffer attributes of its stream, in bytes.
 fn attributes_in_bytes(x: &Input) -> [u32; 4]
     ensures { result ≡ attributes_in_bytes x.now }
 {
@@ -85,7 +85,7 @@ fn arrived_message(alloc: Global, x: &Input, sink: &Target) -> px_tag::Mem<Packe
     )
 }
 
-// To the connection of the input, where that goes on.
+// The message to the connection `owner` of the input, where it is live.
 fn notified(alloc: Global, x: &Input, sink: &Target, owner: Option<Connection>) -> Mem<Vec<Sending>>
     requires { IsTarget sink.now }
     ensures { IfOk result (λ sent. sent.items ≡ sent_to owner (arrived_message x.now sink.now)) }
@@ -96,14 +96,14 @@ fn notified(alloc: Global, x: &Input, sink: &Target, owner: Option<Connection>) 
     }
 }
 
-// The member of a list that is an input, where it is there.
+// The member of a list for the input `index`, where there is one.
 fn found(members: &[Member], index: InputId) -> Option<&Member>
     ensures { option_map (λ m. m.now) result ≡ member_of members.now index }
 {
     members.iter().find(|member| member.input.0 == index.0)
 }
 
-// An input as a member of a group.
+// The input `index` as a member of a group.
 fn member_of(group: &Group, index: InputId) -> Option<Member>
     ensures value { result ≡ member_of group.now.members index }
     ensures is { IfSome result (IsMember (length group.now.reference)) }
@@ -114,7 +114,7 @@ fn member_of(group: &Group, index: InputId) -> Option<Member>
     }
 }
 
-// The group of the sink that it comes to: it keeps both ratios, and its mute.
+// The group of the new sink with the input, which retains both ratios and its mute.
 fn joined_by(
     alloc: Global,
     x: &Input,
@@ -137,7 +137,7 @@ fn joined_by(
     Ok(made)
 }
 
-// So many messages that waited of an input wait for its sink.
+// Releases the held messages of an input to its sink's queue, one change each.
 fn release<M: Drop, G: Drop>(
     changes: &mut Vec<Change<M, G>>,
     index: InputId,
@@ -151,7 +151,7 @@ fn release<M: Drop, G: Drop>(
     Ok(())
 }
 
-// Both sinks have these groups.
+// Sets the groups of both sinks.
 fn both_regrouped<P: Drop>(
     alloc: Global,
     x: &Input,
@@ -172,7 +172,7 @@ fn both_regrouped<P: Drop>(
     }
 }
 
-// The changes behind the arrival.
+// The changes after the arrival.
 fn later<P: Drop>(
     alloc: Global,
     x: &Input,
@@ -189,7 +189,7 @@ fn later<P: Drop>(
     Ok(changes)
 }
 
-// The arrival of an input that is this member of the group of its old sink, and so fed on the new one.
+// The arrival of an input that is member `m` of its old sink's group, fed by `feed` on the new one.
 fn arrival_of<P: Drop>(
     alloc: Global,
     x: &Input,
@@ -224,11 +224,12 @@ fn arrival_of<P: Drop>(
     })
 }
 
-/// What it does that an input is on the sink that it moves to, but for the parcel of its stream: from a sink with the first of these
-/// groups to one with the second. So many messages of it waited. The input leaves the first group and joins the second, where it keeps
-/// its ratios and its mute; the old sink is told the factors of the inputs that stay, and the new one those of all that are settled
-/// there then, and behind them the messages that waited; the client is told the new sink, where `owner`, the connection of the input, goes
-/// on. `None` where it isn't in the first group, and where no plan feeds the sink's channels from its own.
+/// The outcome of an input's arrival at the sink that it moves to, but for the parcel of its stream: from a sink with the
+/// group `from` to one with `group`. `waited` of its messages are held. The input leaves the first group and joins the
+/// second, where its ratios and its mute stay; the factors of the inputs that stay are posted to the old sink, and to the
+/// new one those of all that are settled there then, followed by the held messages; the client is notified of the new sink,
+/// where `owner`, the connection of the input, is live. `None` where it isn't in the first group, and where no channel plan
+/// feeds the sink's channels from its own.
 pub fn arrive<P: Drop>(
     alloc: Global,
     x: &Input,

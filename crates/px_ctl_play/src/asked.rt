@@ -1,4 +1,4 @@
-//! What a stream is that a client asks for, and what it becomes on its sink.
+//! The stream that a client asks for, and its sample spec, map and attributes on its sink.
 
 ghost use Rattle.std.specs.Prelude.{◌≡◌, ◌≤◌, ◌⊎◌, true, nat_le, length, All, IfSome};
 ghost use Rattle.std.specs.List.{list_all};
@@ -33,7 +33,7 @@ fn is_spec(spec: RawSpec) -> bool
         && spec.rate <= MAX_RATE
 }
 
-// Positions, of the 51 that there are.
+// Positions, each one of the 51 known.
 fn are_positions(positions: &[u8]) -> bool
     ensures value { result ≡ list_all (λ p. nat_le p 50) positions.now }
     ensures known { result ≡ true → All (λ p. p ≤ 50) positions.now }
@@ -50,7 +50,7 @@ fn is_map(spec: RawSpec, positions: &[u8]) -> bool
     positions.len() == spec.channels as usize && are_positions(positions)
 }
 
-// Volumes, none above the greatest.
+// Volumes, none above the maximum.
 fn are_in_range(volumes: &[u32]) -> bool
     ensures value { result ≡ list_all (λ v. nat_le v greatest) volumes.now }
     ensures bounded { result ≡ true → All (λ v. v ≤ greatest) volumes.now }
@@ -58,7 +58,7 @@ fn are_in_range(volumes: &[u32]) -> bool
     volumes.iter().all(|v| *v <= MAX)
 }
 
-// Volumes of all channels, or one for all of them.
+// One volume for each channel, or one for all of them.
 fn are_volumes(spec: RawSpec, volumes: &[u32]) -> bool
     ensures value { result ≡ are_volumes spec volumes.now }
     ensures bounded { result ≡ true → All (λ v. v ≤ greatest) volumes.now }
@@ -67,8 +67,8 @@ fn are_volumes(spec: RawSpec, volumes: &[u32]) -> bool
     (volumes.len() == 1 || volumes.len() == spec.channels as usize) && are_in_range(volumes)
 }
 
-/// Whether such a stream can be at all: its spec, its map of as many channels, and its volumes, one for each channel or one
-/// for all. Takes no memory.
+/// Whether the request is lawful: its spec, its map with a position for each channel, and its volumes, one for each channel
+/// or one for all. Takes no memory.
 pub(crate) fn is_lawful(a: &CreateFields) -> bool
     ensures value { result ≡ is_lawful a.now }
     ensures some { result ≡ true → 1 ≤ a.now.spec.channels }
@@ -102,7 +102,7 @@ pub(crate) fn rate_on(sink: &Target, a: &CreateFields) -> u32
     }
 }
 
-/// How many channels it has on a sink: as many as the sink where the client says so. Takes no memory.
+/// The number of its channels on a sink: the sink's where the client says so. Takes no memory.
 pub(crate) fn channels_on(sink: &Target, a: &CreateFields) -> u8
     ensures { result ≡ channels_on sink.now a.now }
 {
@@ -137,8 +137,8 @@ pub(crate) fn map_on(sink: &Target, a: &CreateFields) -> Map
     }
 }
 
-/// The stream channel that feeds each of the sink's channels, by its channel map there. `None` exactly where there is no plan
-/// (own: PulseAudio mixes channels there). Takes no memory.
+/// The stream channel that feeds each of the sink's channels, by its channel map there. `None` exactly where there is no
+/// channel plan (own: PulseAudio mixes channels there). Takes no memory.
 pub(crate) fn feed_on(sink: &Target, a: &CreateFields) -> Option<Feed>
     requires { IsChannelMap a.now.map }
     ensures value { result ≡ feed_on sink.now a.now }

@@ -13,7 +13,7 @@ use px_outcome::{Change, Input, Refusal, StepOutcome, present};
 use px_types::ErrorCode;
 use std::alloc::Global;
 
-// A stream gets the attributes that are asked for, repaired.
+// Repairs the attributes that the client asks for, and posts them to the stream's sink.
 fn attributed<P: Drop>(
     alloc: Global,
     depth: u32,
@@ -39,9 +39,9 @@ fn attributed<P: Drop>(
 }
 
 /// SET_PLAYBACK_STREAM_BUFFER_ATTR, which asks for maxlength, tlength, prebuf and minreq in bytes: `NoEntity` where the
-/// connection has no stream of this number, else its sink is told them as they are repaired, and the client too, in bytes and
-/// with the sink's latency. `depth` is in frames and `rate` in frames a second, both of the sink that the stream is on; a
-/// stream has a channel.
+/// connection has no stream of this number, else the repaired attributes are posted to its sink, and the reply gives them to
+/// the client, in bytes and with the sink's latency. `depth` is in frames and `rate` in frames a second, both of the sink
+/// that the stream is on; a stream has a channel.
 pub fn attributes<P: Drop>(
     alloc: Global,
     stream: Option<Input>,

@@ -6,7 +6,7 @@ use px_outcome::Change;
 use px_types::Mem;
 use std::alloc::Global;
 
-/// These changes, and one more behind them.
+/// These changes, followed by one more.
 pub(crate) fn and_then<M: Drop, G: Drop>(
     changes: Vec<Change<M, G>>,
     next: Change<M, G>,

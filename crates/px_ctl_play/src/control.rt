@@ -1,4 +1,4 @@
-//! Commands that tell a stream's sink what to do, and are answered at once (PulseAudio: `command_cork_playback_stream` and
+//! Commands that are posted to a stream's sink and answered at once (PulseAudio: `command_cork_playback_stream` and
 //! `command_trigger_or_flush_or_prebuf_playback_stream` of `pulsecore/protocol-native.c`).
 
 ghost use Rattle.std.specs.Prelude.{◌≡◌, Ok};
@@ -11,7 +11,7 @@ use px_outcome::{Change, Input, Refusal, StepOutcome, present};
 use px_types::ErrorCode;
 use std::alloc::Global;
 
-// An input's sink is told this, and the client has a reply without fields.
+// Posts the message to an input's sink, and replies to the client without fields.
 fn post_and_reply<P: Drop>(
     alloc: Global,
     x: &Input,
@@ -26,8 +26,8 @@ fn post_and_reply<P: Drop>(
     Ok(StepOutcome::replied(alloc, reply, changes))
 }
 
-/// CORK_PLAYBACK_STREAM: `NoEntity` where the connection has no stream of this number, else its sink is told to cork it, or to
-/// let it go on.
+/// CORK_PLAYBACK_STREAM: `NoEntity` where the connection has no stream of this number, else its sink is to cork it, or to
+/// uncork it.
 pub fn cork<P: Drop>(
     alloc: Global,
     stream: Option<Input>,
@@ -40,8 +40,8 @@ pub fn cork<P: Drop>(
     post_and_reply(alloc, &x, Msg::Cork { input: x.index, on }, tag)
 }
 
-/// FLUSH_PLAYBACK_STREAM: `NoEntity` where the connection has no stream of this number, else its sink is told to drop what
-/// the stream holds.
+/// FLUSH_PLAYBACK_STREAM: `NoEntity` where the connection has no stream of this number, else its sink is to drop the
+/// stream's frames.
 pub fn flush<P: Drop>(
     alloc: Global,
     stream: Option<Input>,
@@ -53,8 +53,8 @@ pub fn flush<P: Drop>(
     post_and_reply(alloc, &x, Msg::Flush { input: x.index }, tag)
 }
 
-/// TRIGGER_PLAYBACK_STREAM: `NoEntity` where the connection has no stream of this number, else its sink is told to play it
-/// without waiting.
+/// TRIGGER_PLAYBACK_STREAM: `NoEntity` where the connection has no stream of this number, else its sink is to play it
+/// without waiting for prebuf.
 pub fn trigger<P: Drop>(
     alloc: Global,
     stream: Option<Input>,
@@ -66,8 +66,8 @@ pub fn trigger<P: Drop>(
     post_and_reply(alloc, &x, Msg::Trigger { input: x.index }, tag)
 }
 
-/// PREBUF_PLAYBACK_STREAM: `NoEntity` where the connection has no stream of this number, else its sink is told to let it wait
-/// for prebuf frames again.
+/// PREBUF_PLAYBACK_STREAM: `NoEntity` where the connection has no stream of this number, else its sink is to let it wait for
+/// prebuf frames again.
 pub fn prebuf<P: Drop>(
     alloc: Global,
     stream: Option<Input>,

@@ -1,4 +1,4 @@
-//! What is told of a new stream: to its sink, and to the client that made it.
+//! The message and the reply that announce a new stream: to its sink, and to the client that created it.
 
 ghost use Rattle.std.specs.Prelude.{◌≡◌, ◌≤◌, IsSome, IfOk};
 ghost use Rattle.px_flat.specs.FlatVolume.{member_of};
@@ -20,8 +20,8 @@ use px_reply::Created;
 use px_tag::{Packet, RawMap};
 use std::alloc::Global;
 
-/// The message that brings a stream to its sink, where these of its channels feed the sink's and this is the sink's group, in
-/// which it is. Takes no memory.
+/// The message that brings the stream of `x`, a member of the sink's group `group`, to its sink; `feed` is the stream
+/// channel that feeds each of the sink's channels. Takes no memory.
 pub(crate) fn new_of<P>(a: &CreateFields, group: &Group, feed: Feed, x: &Input) -> Msg<P>
     requires { IsSome (member_of group.now.members x.now.index) }
     ensures { result ≡ new_of a.now group.now feed x.now }
@@ -36,7 +36,7 @@ pub(crate) fn new_of<P>(a: &CreateFields, group: &Group, feed: Feed, x: &Input) 
     })
 }
 
-/// How long a frame waits at the most before the sink plays it, in microseconds. Takes no memory.
+/// The longest time that a frame waits before the sink plays it, in microseconds. Takes no memory.
 pub(crate) fn latency_of(sink: &Target) -> u64
     requires { IsTarget sink.now }
     ensures { result ≡ latency_of sink.now }
@@ -44,7 +44,7 @@ pub(crate) fn latency_of(sink: &Target) -> u64
     microseconds(sink.spec.rate, sink.depth)
 }
 
-// What the client is told of the stream that it asked for. The stream has a channel and repaired attributes.
+// The fields of the reply to the client that created the stream. The stream has a channel and repaired attributes.
 fn created_of(sink: Target, a: &CreateFields, x: &Input) -> Created
     requires sink { IsTarget sink }
     requires channels { 1 ≤ x.now.spec.channels }
@@ -64,7 +64,7 @@ fn created_of(sink: Target, a: &CreateFields, x: &Input) -> Created
     }
 }
 
-/// The packet of the reply to the client that asked for a stream, of 1 to 32 channels and with repaired attributes.
+/// The reply packet to the client that created a stream of 1 to 32 channels with repaired attributes.
 pub(crate) fn reply_of(
     alloc: Global,
     tag: u32,

@@ -31,7 +31,7 @@ use px_outcome::{
 use px_types::{ErrorCode, InputId, Mem, NoMemory};
 use std::alloc::Global;
 
-// The input that a connection makes on a sink.
+// The input that a connection creates on a sink.
 fn input_made(made: u32, me: &Connection, sink: &Target, a: &CreateFields) -> Input
     requires sink { IsTarget sink.now }
     requires some { 1 ≤ a.now.spec.channels }
@@ -60,7 +60,7 @@ fn input_made(made: u32, me: &Connection, sink: &Target, a: &CreateFields) -> In
     }
 }
 
-// The input has the property list that the client gave it.
+// Sets the property list that the client gave the input.
 fn described<M: Drop, G: Drop>(input: InputId, a: &CreateFields) -> Mem<Change<M, G>>
     ensures { IfOk result (λ change. change ≡ Described input a.now.list) }
 {
@@ -70,7 +70,7 @@ fn described<M: Drop, G: Drop>(input: InputId, a: &CreateFields) -> Mem<Change<M
     }
 }
 
-// The first change that a new stream makes: its input is there, and its sink gets the stream.
+// The first change of a new stream: its input is added, and the stream is posted to its sink.
 fn made_on<P: Drop>(
     alloc: Global,
     made: u32,
@@ -94,7 +94,7 @@ fn made_on<P: Drop>(
     one(alloc, change)
 }
 
-// The first changes that a new stream makes: its sink gets the stream, and this group, in which its input is.
+// The first changes of a new stream: the stream is posted to its sink, and the sink gets this group, in which the input is.
 fn begun<P: Drop>(
     alloc: Global,
     inputs: &[Input],
@@ -120,7 +120,7 @@ fn begun<P: Drop>(
     }
 }
 
-// The changes that a new stream makes, whose input is in this group of its sink.
+// The changes of a new stream whose input is in this group of its sink.
 fn changes_of<P: Drop>(
     alloc: Global,
     inputs: &[Input],
@@ -146,7 +146,7 @@ fn changes_of<P: Drop>(
     }
 }
 
-// The stream is made.
+// Creates the stream.
 fn created<P: Drop>(
     alloc: Global,
     inputs: &[Input],
@@ -181,7 +181,7 @@ fn created<P: Drop>(
     }
 }
 
-// The stream is made on this sink, which has this group, where the sink can play it and there is room for it.
+// Creates the stream on this sink, which has this group, where the sink can play it and there is room for it.
 fn create_on<P: Drop>(
     alloc: Global,
     inputs: &[Input],
@@ -207,12 +207,13 @@ fn create_on<P: Drop>(
     created(alloc, inputs, made, me, tag, sink, group, a, feed)
 }
 
-/// CREATE_PLAYBACK_STREAM of a connection, where these inputs are there, so many were ever made, and the sink that is named has
-/// this group, which can take one more: a stream is made on the sink, in its group at the very volume that is given. Refused, by the first of these that holds: `Invalid` for a spec, a map or volumes that
-/// can't be, and where a sink is named twice over; `NoEntity` where no sink is there; `NotSupported` for floating point, a
-/// variable rate or another rate than the sink's, and where no plan feeds the sink's channels from the stream's; `TooLarge` where 256
-/// inputs are bound for the sink, or 1,024 go on in all, or no number is left. Format,
-/// rate and channel map are the sink's where the client says so. Own: PulseAudio resamples and mixes channels, and has no such limits.
+/// CREATE_PLAYBACK_STREAM of a connection, where `inputs` are all inputs, `made` were ever made, and the named sink has this
+/// group, which can take one more: a stream is created on the sink, in its group at exactly the volume given. Refused, by
+/// the first of these that holds: `Invalid` for an unlawful spec, map or volumes, and where a sink is named by both index
+/// and name; `NoEntity` where no such sink exists; `NotSupported` for floating point, a variable rate or another rate than the
+/// sink's, and where no channel plan feeds the sink's channels from the stream's; `TooLarge` where 256 inputs are bound for
+/// the sink, or 1,024 are live in all, or no number is left. Format, rate and channel map are the sink's where the client
+/// says so. Own: PulseAudio resamples and mixes channels, and has no such limits.
 pub fn create<P: Drop>(
     alloc: Global,
     inputs: &[Input],

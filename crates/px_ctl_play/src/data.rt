@@ -11,14 +11,14 @@ use px_msg::Msg;
 use px_outcome::Input;
 use px_sample::Spec;
 
-/// Frames of a stream: the offset of the first, and how many.
+/// Frames of a stream: the offset of the first, and their count.
 #[derive(Clone, Copy, Debug, PartialEq, Eq)]
 pub struct Frames {
     pub offset: i64,
     pub count: u32,
 }
 
-/// The bytes of a frame, at most 1,020. Takes no memory.
+/// The size of a frame in bytes, at most 1,020. Takes no memory.
 #[tactic(auto, using(px_msg::proofs::Sizes::size_few))]
 pub(crate) fn frame_size(spec: Spec) -> usize
     ensures value { result ≡ frame_size_of spec }
@@ -27,7 +27,7 @@ pub(crate) fn frame_size(spec: Spec) -> usize
     spec.format.size() * spec.channels as usize
 }
 
-// Whether so many bytes at an offset are whole frames of a size, and stand at a frame.
+// Whether `bytes` bytes at byte `offset` are whole frames of `size` bytes and begin at a frame.
 fn are_frames(size: usize, offset: i64, bytes: usize) -> bool
     requires { size ≤ 1020 }
     ensures { result ≡ are_frames size offset bytes }
@@ -35,7 +35,7 @@ fn are_frames(size: usize, offset: i64, bytes: usize) -> bool
     size > 0 && bytes % size == 0 && offset.rem_euclid(size as i64) == 0
 }
 
-// The frame at an offset of so many bytes.
+// The frame at byte `offset`, with frames of `size` bytes.
 fn frame_at(size: usize, offset: i64) -> i64
     requires some { 0 < size }
     requires few { size ≤ 1020 }
@@ -44,7 +44,7 @@ fn frame_at(size: usize, offset: i64) -> i64
     offset.div_euclid(size as i64)
 }
 
-// The frames of a size that so many bytes at an offset are, where they are whole.
+// The frames of `size` bytes that `bytes` bytes at byte `offset` are, where they are whole.
 fn frames_in(size: usize, offset: i64, bytes: usize) -> Option<Frames>
     requires size { size ≤ 1020 }
     requires bytes { bytes ≤ 16777216 }
@@ -59,8 +59,8 @@ fn frames_in(size: usize, offset: i64, bytes: usize) -> Option<Frames>
     })
 }
 
-/// The frames of a stream that so many bytes, at most 16,777,216, at an offset of so many are. `None` where they aren't whole
-/// frames, which are ignored. Takes no memory.
+/// The frames of a stream in `bytes` bytes, at most 16,777,216, at byte `offset`. `None` where they aren't whole frames,
+/// which are ignored. Takes no memory.
 pub fn frames_of(x: &Input, offset: i64, bytes: usize) -> Option<Frames>
     requires { bytes ≤ 16777216 }
     ensures { result ≡ frames_of x.now offset bytes }
@@ -68,7 +68,8 @@ pub fn frames_of(x: &Input, offset: i64, bytes: usize) -> Option<Frames>
     frames_in(frame_size(x.spec), offset, bytes)
 }
 
-/// The message of these frames to a stream's sink. Their offset counts from where the seek mode says, 0 to 3. Takes no memory.
+/// The message that posts these frames to a stream's sink. Their offset is relative to what `seek` says, 0 to 3. Takes no
+/// memory.
 pub fn write<P>(x: &Input, frames: Frames, seek: u8, bytes: Blocks) -> Msg<P>
     ensures { result ≡ write x.now frames seek bytes }
 {

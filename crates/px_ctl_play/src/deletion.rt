@@ -1,5 +1,5 @@
 //! The end of a stream: DELETE_PLAYBACK_STREAM (PulseAudio: `command_delete_stream` of `pulsecore/protocol-native.c`; that
-//! requests which wait are told so is own).
+//! waiting requests get an error is own).
 
 ghost use Rattle.std.specs.Prelude.{◌≡◌, ◌++◌, ◌∷◌, List, IfOk, OnOk, Ok};
 ghost use Rattle.px_outcome.specs.declared.waiting.Waiting.{Waiting};
@@ -14,7 +14,7 @@ use px_tag::Mem;
 use px_types::ErrorCode;
 use std::alloc::Global;
 
-// One error more, where the request is about the input.
+// Adds the error for a request, where it is about the input.
 fn add_error(alloc: Global, errors: &mut Vec<Sending>, x: &Input, w: &Waiting) -> Mem<()>
     ensures { OnOk result ((more : List Waiting) →
         errors.new.items ++ errors_for x.now more ≡ errors.old.items ++ errors_for x.now (w.now ∷ more)) }
@@ -28,7 +28,7 @@ fn add_error(alloc: Global, errors: &mut Vec<Sending>, x: &Input, w: &Waiting) -
     Ok(())
 }
 
-/// The errors for all requests that wait of an input, in the order in which they were asked.
+/// The errors for all waiting requests of an input, in the order of the requests.
 pub(crate) fn errors_for(alloc: Global, x: &Input, waiting: &[Waiting]) -> Mem<Vec<Sending>>
     ensures { IfOk result (λ errors. errors.items ≡ errors_for x.now waiting.now) }
 {
@@ -39,7 +39,7 @@ pub(crate) fn errors_for(alloc: Global, x: &Input, waiting: &[Waiting]) -> Mem<V
     Ok(errors)
 }
 
-/// An input ends: who asked has a reply, and behind it go these errors and these messages.
+/// An input ends: the client has its reply, followed by these errors and these messages.
 pub(crate) fn ended<M: Drop, G: Drop>(
     alloc: Global,
     x: &Input,
@@ -59,9 +59,9 @@ pub(crate) fn ended<M: Drop, G: Drop>(
     })
 }
 
-/// DELETE_PLAYBACK_STREAM, where so many requests wait: `NoEntity` where the connection has no stream of this number, else
-/// the stream ends. Behind the plain reply each request that waits of it is answered by the error `NoEntity`, in the order in
-/// which they were asked.
+/// DELETE_PLAYBACK_STREAM, where the requests `waiting` wait: `NoEntity` where the connection has no stream of this number,
+/// else the stream ends. After the plain reply each waiting request of the stream is answered by the error `NoEntity`, in
+/// the order of the requests.
 pub fn delete<P: Drop>(
     alloc: Global,
     stream: Option<Input>,

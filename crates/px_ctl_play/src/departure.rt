@@ -1,4 +1,4 @@
-//! A sink has given up a stream (PulseAudio: `pa_sink_input_unlink`; that the input stays until then is own).
+//! A sink has detached an ended stream (PulseAudio: `pa_sink_input_unlink`; that the input stays until then is own).
 
 ghost use Rattle.std.specs.Prelude.{◌≡◌, IfOk, IfSome, IsSome};
 ghost use Rattle.std.specs.Option.{option_map};
@@ -22,14 +22,15 @@ pub(crate) fn same_spec(a: Spec, b: Spec) -> bool
     a.format.code() == b.format.code() && a.channels == b.channels && a.rate == b.rate
 }
 
-// Whether a stream with this spec is what a sink gives up for an input: the input ends, and the sink was told.
+// Whether a stream with this spec is what a sink detaches for an input: the input ends, and its sink got the message to
+// detach it.
 fn gives_up(spec: Spec, x: &Input) -> bool
     ensures { result ≡ gives_up (sample_spec spec) x.now }
 {
     matches!(x.standing, Standing::Leaving) && x.way == Way::Left && same_spec(spec, x.spec)
 }
 
-/// The group without an input that is in it.
+/// The group without `input`, which is in it.
 pub(crate) fn without(alloc: Global, group: &Group, input: InputId) -> Mem<Group>
     requires { IsSome (member_of group.now.members input) }
     ensures { IfOk result (λ made. made ≡ detached input group.now) }
@@ -39,7 +40,7 @@ pub(crate) fn without(alloc: Global, group: &Group, input: InputId) -> Mem<Group
     Ok(made)
 }
 
-// An ended input goes and leaves the group of its sink, which is told the factors of those that stay.
+// Removes an ended input and takes it out of the group of its sink, to which the factors of the remaining inputs are posted.
 fn gone<P: Drop>(
     alloc: Global,
     x: &Input,
@@ -58,10 +59,10 @@ fn gone<P: Drop>(
     Ok(StepOutcome::changing(alloc, changes))
 }
 
-/// A sink with this group has given up a stream with this spec, for the input that it has, if it has that one, which is in the
-/// group: an ended input goes and leaves the group, and the sink is told the factors of those that stay. What doesn't fit is
-/// ignored: of an input that isn't there or goes on, of one whose sink wasn't told to give it up, and of a stream with another
-/// spec.
+/// A sink with this group has detached a stream with this spec, for an input of its own, which is in the group: an ended
+/// input is removed and leaves the group, and the factors of those that stay are posted to the sink. A notice that doesn't
+/// fit is ignored: of an input that doesn't exist or is live, of one whose sink got no message to detach it, and of a stream
+/// with another spec.
 pub fn left<P: Drop>(
     alloc: Global,
     input: Option<Input>,

@@ -1,6 +1,5 @@
-//! The end of what was written: DRAIN_PLAYBACK_STREAM, and the sink's answer to it (PulseAudio:
-//! `command_drain_playback_stream` and PLAYBACK_STREAM_MESSAGE_DRAIN_ACK of `pulsecore/protocol-native.c`; which notices fit is
-//! own).
+//! Playing a stream to its end: DRAIN_PLAYBACK_STREAM, and the sink's notice (PulseAudio: `command_drain_playback_stream`
+//! and PLAYBACK_STREAM_MESSAGE_DRAIN_ACK of `pulsecore/protocol-native.c`; which notices fit is own).
 
 ghost use Rattle.std.specs.Prelude.{◌≡◌, IfOk};
 ghost use Rattle.std.specs.Option.{option_map};
@@ -17,7 +16,7 @@ use px_types::{ErrorCode, InputId, Mem, NoMemory};
 use std::alloc::Global;
 
 /// DRAIN_PLAYBACK_STREAM: `NoEntity` where the connection has no stream of this number, else its sink is asked to play it
-/// without waiting and to say when all of it was played. The client has its reply then.
+/// without waiting for prebuf and to send a notice when all of it was played. The client gets its reply then.
 pub fn drain<P: Drop>(
     alloc: Global,
     stream: Option<Input>,
@@ -33,14 +32,14 @@ pub fn drain<P: Drop>(
     asked(alloc, &x, message, Awaited::Drained, tag)
 }
 
-// Whether a request is a drain of an input under a tag.
+// Whether `request` is a DRAIN of an input under a tag.
 fn is_drain_under(input: InputId, tag: u32, request: &Waiting) -> bool
     ensures { result ≡ is_drain_under input tag request.now }
 {
     request.input.0 == input.0 && request.tag == tag && matches!(request.awaited, Awaited::Drained)
 }
 
-// The first drain of an input under a tag that waits.
+// The first waiting DRAIN of an input under a tag.
 fn drain_under(waiting: &[Waiting], input: InputId, tag: u32) -> Option<&Waiting>
     ensures { option_map (λ request. request.now) result ≡ drain_under waiting.now input tag }
 {
@@ -49,7 +48,7 @@ fn drain_under(waiting: &[Waiting], input: InputId, tag: u32) -> Option<&Waiting
         .find(|request| is_drain_under(input, tag, request))
 }
 
-// The request has a reply without fields, where it waits.
+// Replies to the request without fields, where it waits.
 fn drain_answered<P: Drop>(
     alloc: Global,
     owner: Option<Connection>,
@@ -66,9 +65,8 @@ fn drain_answered<P: Drop>(
     }
 }
 
-/// A sink has played all of the input that it has, if it has that one: the first drain under the tag that waits of it is
-/// answered by a reply without fields to the connection of the input, where that goes on. Ignored where the input has ended,
-/// and where no such request waits.
+/// An input of the sink has drained: the first DRAIN under the tag that waits on it is answered by a reply without fields to
+/// the connection of the input, where that is live. Ignored where the input has ended, and where no such request waits.
 pub fn drained<P: Drop>(
     alloc: Global,
     input: Option<Input>,

@@ -1,4 +1,4 @@
-//! A sink has another group of volumes, and is told the factors that this gives.
+//! A sink gets another group of volumes, and the factors that it gives are posted to the sink.
 
 ghost use Rattle.std.specs.Prelude.{◌≡◌, ◌++◌, ◌∷◌, [], List, None, Some, IsSome, IfOk, OnOk};
 ghost use Rattle.px_flat.specs.FlatVolume.{factors_for, member_of, real_of};
@@ -14,7 +14,7 @@ use px_types::{InputId, Mem, SinkId};
 use px_vol::{CVolume, Factors};
 use std::alloc::Global;
 
-// Whether an input is on a sink and belongs there.
+// Whether an input is on a sink and settled there.
 fn is_settled(sink: SinkId, x: &Input) -> bool
     ensures { result ≡ is_settled sink x.now }
 {
@@ -29,7 +29,7 @@ pub(crate) fn own_factors(group: &Group, input: InputId) -> Factors
     group.factors(input)
 }
 
-// The factors of one more input, where it is in the group.
+// Adds the factors of an input, where it is in the group.
 fn add_factors(
     list: &mut Vec<InputFactors>,
     group: &Group,
@@ -45,7 +45,7 @@ fn add_factors(
     Ok(())
 }
 
-// And where it is settled on the sink.
+// Adds them where the input is settled on the sink.
 fn add_settled(
     list: &mut Vec<InputFactors>,
     sink: SinkId,
@@ -81,14 +81,14 @@ fn settled_factors(
     Ok(list)
 }
 
-// Whether an input is settled on a sink, or is this one.
+// Whether an input is settled on a sink, or has this index.
 fn is_settled_with(sink: SinkId, index: InputId, x: &Input) -> bool
     ensures { result ≡ is_settled_with sink index x.now }
 {
     is_settled(sink, x) || x.index.0 == index.0
 }
 
-// The factors of one more input, where it is settled on the sink or is this one.
+// Adds the factors of an input, where it is settled on the sink or has this index.
 fn add_settled_with(
     list: &mut Vec<InputFactors>,
     sink: SinkId,
@@ -107,7 +107,7 @@ fn add_settled_with(
     Ok(())
 }
 
-// The factors of the inputs that are settled on a sink with this group, and of this one.
+// The factors of the inputs that are settled on a sink with this group, and of the input with this index.
 fn settled_factors_with(
     alloc: Global,
     sink: SinkId,
@@ -126,7 +126,7 @@ fn settled_factors_with(
     Ok(list)
 }
 
-// The factors of the inputs that are settled on a sink with this group, and of one more behind them.
+// The factors of the inputs that are settled on a sink with this group, followed by those of one more.
 fn factors_with(
     alloc: Global,
     sink: SinkId,
@@ -142,8 +142,8 @@ fn factors_with(
     Ok(list)
 }
 
-/// A sink has this group, and is told the factors of all inputs that are settled on it, in rising index. Own: PulseAudio sets each
-/// stream's soft volume for itself.
+/// Sets the group of a sink, and posts to it the factors of all inputs that are settled on it, in rising index. Own:
+/// PulseAudio sets each stream's soft volume for itself.
 pub fn regrouped<P: Drop>(
     alloc: Global,
     sink: SinkId,
@@ -157,7 +157,7 @@ pub fn regrouped<P: Drop>(
     Ok(Change::Regrouped(sink, group, Msg::Factors(FactorList::from_vec(list))))
 }
 
-/// And of one more behind them.
+/// The same, followed by those of one more.
 pub(crate) fn regrouped_with<P: Drop>(
     alloc: Global,
     sink: SinkId,
@@ -171,7 +171,7 @@ pub(crate) fn regrouped_with<P: Drop>(
     Ok(Change::Regrouped(sink, group, Msg::Factors(FactorList::from_vec(list))))
 }
 
-/// And of this one among them, which comes to the sink.
+/// The same, with those of the input with this index, which comes to the sink.
 pub(crate) fn regrouped_and<P: Drop>(
     alloc: Global,
     sink: SinkId,

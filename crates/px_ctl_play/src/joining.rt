@@ -17,7 +17,7 @@ use px_types::Mem;
 use px_vol::CVolume;
 use std::alloc::Global;
 
-// The greatest of some volumes.
+// The greatest of `volumes`.
 fn greatest_of(volumes: &[u32]) -> u32
     ensures { result ≡ greatest_of volumes.now }
 {
@@ -28,7 +28,7 @@ fn greatest_of(volumes: &[u32]) -> u32
     greatest
 }
 
-// Whether the client gave one volume for all channels that the input has on its sink, or one each.
+// Whether the client gave one volume for all channels of the input on its sink, or one each.
 fn gives_each(sink: &Target, a: &CreateFields) -> bool
     ensures { result ≡ gives_each sink.now a.now }
 {
@@ -36,7 +36,8 @@ fn gives_each(sink: &Target, a: &CreateFields) -> bool
     count == 1 || count == usize::from(channels_on(sink, a))
 }
 
-// The volume that it has on its sink: where that has other channels than the client gave volumes, the greatest of them for all.
+// The input's volume on its sink: where the number of channels differs from that of the volumes given, the greatest of them
+// for all.
 #[tactic(auto, using(crate::proofs::Joined::one_volume))]
 fn volume_on(sink: &Target, a: &CreateFields) -> CVolume
     requires { IsChannelVolume a.now.volume }
@@ -49,7 +50,7 @@ fn volume_on(sink: &Target, a: &CreateFields) -> CVolume
     }
 }
 
-/// The group of the sink with a new input, which isn't there yet, so fed and with the volume and the mute that the client gave.
+/// The sink's group with the new input, not in it yet, fed by `feed`, with the volume and the mute that the client gave.
 pub(crate) fn joined(
     alloc: Global,
     group: &Group,

@@ -1,5 +1,5 @@
-//! The end of a stream at another client's will: KILL_SINK_INPUT (PulseAudio: `command_kill` and `sink_input_kill_cb` of
-//! `pulsecore/protocol-native.c`; that requests which wait are told so is own).
+//! The end of a stream by another client's request: KILL_SINK_INPUT (PulseAudio: `command_kill` and `sink_input_kill_cb` of
+//! `pulsecore/protocol-native.c`; that waiting requests get an error is own).
 
 ghost use Rattle.std.specs.Prelude.{◌≡◌, IfOk, Ok};
 ghost use Rattle.px_outcome.specs.Handled.{HandledAs};
@@ -12,7 +12,7 @@ use px_outcome::{Connection, Input, Refusal, Sending, StepOutcome, Waiting, pres
 use px_types::{ErrorCode, Mem, NoMemory};
 use std::alloc::Global;
 
-// The errors for all requests that wait of an input, where its connection goes on.
+// The errors for all waiting requests of an input, where its connection `owner` is live.
 fn errors_to(
     alloc: Global,
     owner: Option<Connection>,
@@ -27,7 +27,7 @@ fn errors_to(
     }
 }
 
-// PLAYBACK_STREAM_KILLED to the connection of an input, where that goes on.
+// PLAYBACK_STREAM_KILLED to the connection `owner` of an input, where it is live.
 fn notified(alloc: Global, owner: Option<Connection>, x: &Input) -> Mem<Vec<Sending>>
     ensures { IfOk result (λ sent. sent.items ≡ sent_to owner (killed_message x.now)) }
 {
@@ -37,7 +37,7 @@ fn notified(alloc: Global, owner: Option<Connection>, x: &Input) -> Mem<Vec<Send
     }
 }
 
-// An input ends, and its own client is told.
+// An input ends, and its own client is notified.
 fn killed<M: Drop, G: Drop>(
     alloc: Global,
     x: &Input,
@@ -52,8 +52,8 @@ fn killed<M: Drop, G: Drop>(
     ended(alloc, x, errors, notified, tag)
 }
 
-/// KILL_SINK_INPUT of this input, whose connection is `owner` where that goes on: the input ends. Behind the plain reply the
-/// owner gets the error `NoEntity` for each request that waits of it, in the order in which they were asked, and then
+/// KILL_SINK_INPUT of this input, whose connection is `owner` where that is live: the input ends. After the plain reply the
+/// owner gets the error `NoEntity` for each waiting request of the input, in the order of the requests, and then
 /// PLAYBACK_STREAM_KILLED. Refused: `NoEntity` where there is no such input, or it has ended.
 pub fn kill_input<M: Drop, G: Drop>(
     alloc: Global,

@@ -1,6 +1,6 @@
-//! The commands of playback streams and what their sinks tell of them: each reads the parts of the state that its rule names,
-//! and gives an outcome or the reason why it is refused. It exports a call a command, and one a kind of notice, and
-//! `regrouped`, by which a sink is told the factors that its group of volumes gives.
+//! The commands of playback streams and the notices from their sinks: each reads the parts of the state that its handler
+//! names, and gives an outcome or the reason why it is refused. It exports a call a command, and one a kind of notice, and
+//! `regrouped`, which posts to a sink the factors that its group of volumes gives.
 #![tactic(auto)]
 
 mod answer;

@@ -13,14 +13,15 @@ use px_types::limits::MAX_INPUTS_ON_SINK;
 use px_types::{ErrorCode, SinkId};
 use std::alloc::Global;
 
-// Whether an input is on its way to another sink.
+// Whether an input is moving to another sink.
 fn is_moving(standing: Standing) -> bool
     ensures { result ≡ is_moving standing }
 {
     matches!(standing, Standing::Moving(_))
 }
 
-/// The stream channel that feeds each channel of a sink with this map, where there is a plan. Takes no memory.
+/// The stream channel that feeds each channel of a sink with this map; `None` where there is no channel plan. Takes no
+/// memory.
 pub(crate) fn feed_to(x: &Input, map: &Map) -> Option<Feed>
     ensures value { result ≡ feed_to x.now map.now }
     ensures feeds { IfSome result (FeedsAll (length x.now.map) (length map.now)) }
@@ -35,7 +36,7 @@ fn has_place(inputs: &[Input], sink: SinkId) -> bool
     count_bound(inputs, sink) < MAX_INPUTS_ON_SINK
 }
 
-// What is planned for an input that goes to a sink.
+// The outcome of a move that is accepted: the reply, and the move.
 fn sent<M: Drop, G: Drop>(
     alloc: Global,
     x: &Input,
@@ -50,7 +51,7 @@ fn sent<M: Drop, G: Drop>(
     Ok(StepOutcome::replied(alloc, reply, changes))
 }
 
-// An input goes to a sink that it isn't on.
+// The checks of a move to a sink that the input isn't on.
 fn sent_off<M: Drop, G: Drop>(
     alloc: Global,
     x: &Input,
@@ -67,7 +68,7 @@ fn sent_off<M: Drop, G: Drop>(
     sent(alloc, x, sink, tag)
 }
 
-// Where it is there already, nothing happens.
+// On the sink that it is on already, nothing changes.
 fn moved_to<M: Drop, G: Drop>(
     alloc: Global,
     x: &Input,
@@ -85,11 +86,12 @@ fn moved_to<M: Drop, G: Drop>(
     }
 }
 
-/// MOVE_SINK_INPUT of an input to a sink, where these inputs are there: it is to be on the sink, once the one that it is on has given
-/// up its stream; where it is there already, nothing happens. Refused, by the first of these that holds: `Invalid` where a sink is
-/// named twice over, or by nothing; `NoEntity` where no such input or no such sink is there; `Busy` where the input is on its way
-/// already; and, unless it is there, `Invalid` where its client said that it may not move; `NotSupported` where the sink has another
-/// rate, and where no plan feeds its channels from the stream's; `TooLarge` where 256 inputs are bound for it.
+/// MOVE_SINK_INPUT of an input to a sink, where `inputs` are all inputs: it is to be on the sink, once the one that it is on
+/// has detached its stream; where it is on that sink already, nothing changes. Refused, by the first of these that holds: `Invalid`
+/// where a sink is named by both index and name, or by neither; `NoEntity` where no such input or no such sink exists;
+/// `Busy` where the input is already moving; and, unless it is on that sink, `Invalid` where its client said that it may not move;
+/// `NotSupported` where the sink has another rate, and where no channel plan feeds its channels from the stream's;
+/// `TooLarge` where 256 inputs are bound for it.
 pub fn move_input<M: Drop, G: Drop>(
     alloc: Global,
     input: Option<Input>,

@@ -1,4 +1,4 @@
-//! What a sink tells of a stream that goes on (PulseAudio: `sink_input_process_msg` and the callbacks of
+//! Notices from a sink about a live stream (PulseAudio: `sink_input_process_msg` and the callbacks of
 //! `pulsecore/protocol-native.c`; which notices fit is own).
 
 ghost use Rattle.std.specs.Prelude.{◌≡◌, IfOk};
@@ -13,20 +13,20 @@ use px_tag::Packet;
 use px_types::{Mem, NoMemory};
 use std::alloc::Global;
 
-/// What a sink tells of a stream.
+/// A notice from a sink about a stream.
 #[derive(Clone, Copy, Debug, PartialEq, Eq)]
 pub enum News {
-    /// It asks for so many frames.
+    /// The sink requests this number of frames.
     Request(u32),
-    /// What was sent on it didn't fit.
+    /// Overflow: data written to it didn't fit.
     Overflow,
-    /// It has run out of frames.
+    /// Underrun: it has run out of frames.
     Underflow,
     /// It plays.
     Started,
 }
 
-/// The bytes of so many frames, or the last number of 32 bits where they are more. Takes no memory.
+/// The size of `frames` frames in bytes, saturated to 32 bits. Takes no memory.
 pub(crate) fn bytes_asked(x: &Input, frames: u32) -> u32
     ensures { result ≡ bytes_asked x.now frames }
 {
@@ -34,7 +34,7 @@ pub(crate) fn bytes_asked(x: &Input, frames: u32) -> u32
     bytes.min(0xFFFF_FFFF) as u32
 }
 
-// The message of this to the client.
+// The message to the client for this notice.
 fn message_of(alloc: Global, news: News, x: &Input) -> px_tag::Mem<Packet>
     ensures { IfOk result (λ packet. packet ≡ message_of news x.now) }
 {
@@ -46,8 +46,8 @@ fn message_of(alloc: Global, news: News, x: &Input) -> px_tag::Mem<Packet>
     }
 }
 
-/// A sink tells something of the input that it has, if it has that one: the connection of the input, where that goes on, is
-/// sent the message, unless the input has ended.
+/// A sink sends a notice about an input of its own: the message is sent to the connection of the input, where that is live,
+/// unless the input has ended.
 pub fn notify<P: Drop>(
     alloc: Global,
     input: Option<Input>,

@@ -1,4 +1,4 @@
-//! Why a stream that could be isn't made on its sink.
+//! Why a lawful stream isn't created on its sink.
 
 ghost use Rattle.std.specs.Prelude.{◌≡◌, ◌<◌, true, length};
 ghost use Rattle.px_outcome.specs.Input.{belongs_to, is_bound_for, bound_for, going_of, is_leaving, goes_on};
@@ -10,7 +10,7 @@ use px_outcome::{Connection, Input, Standing, Target};
 use px_types::SinkId;
 use px_types::limits::{MAX_INPUTS, MAX_INPUTS_ON_SINK, NO_INDEX};
 
-/// Whether the sink plays such a stream: no floating point, no variable rate, and the sink's own rate. Takes no memory.
+/// Whether the sink can play the stream: no floating point, no variable rate, and the sink's own rate. Takes no memory.
 pub(crate) fn is_supported(sink: &Target, a: &CreateFields) -> bool
     ensures { result ≡ is_supported sink.now a.now }
 {
@@ -18,7 +18,7 @@ pub(crate) fn is_supported(sink: &Target, a: &CreateFields) -> bool
     format != 5 && format != 6 && !a.variable_rate && rate_on(sink, a) == sink.spec.rate
 }
 
-// Whether an input on a sink belongs to this one.
+// Whether an input on the sink `on` belongs to `sink`.
 fn belongs_to(sink: SinkId, on: SinkId, standing: Standing) -> bool
     ensures { result ≡ belongs_to sink on standing }
 {
@@ -29,35 +29,35 @@ fn belongs_to(sink: SinkId, on: SinkId, standing: Standing) -> bool
     }
 }
 
-// Whether an input is settled on the sink, or on its way there.
+// Whether an input is settled on the sink, or moving there.
 fn is_bound_for(sink: SinkId, x: &Input) -> bool
     ensures { result ≡ is_bound_for sink x.now }
 {
     belongs_to(sink, x.sink, x.standing)
 }
 
-/// Whether an input goes on. Takes no memory.
+/// Whether an input is live: it hasn't ended. Takes no memory.
 pub(crate) fn goes_on(x: &Input) -> bool
     ensures { result ≡ goes_on x.now }
 {
     !matches!(x.standing, Standing::Leaving)
 }
 
-/// How many inputs are bound for a sink. Takes no memory.
+/// The number of inputs bound for a sink. Takes no memory.
 pub(crate) fn count_bound(inputs: &[Input], sink: SinkId) -> usize
     ensures { result ≡ length (bound_for inputs.now sink) }
 {
     inputs.iter().filter(|x| is_bound_for(sink, x)).count()
 }
 
-// How many inputs go on, on all sinks.
+// The number of live inputs, on all sinks.
 fn count_in_all(inputs: &[Input]) -> usize
     ensures { result ≡ length (going_of inputs.now) }
 {
     inputs.iter().filter(|x| goes_on(x)).count()
 }
 
-/// Whether there is room for one more input on a sink and in all, and numbers are left for it that none has had. Takes no
+/// Whether there is room for one more input on a sink and in all, and an unused index and stream number are left. Takes no
 /// memory. Own: PulseAudio counts the inputs of a sink alone.
 pub(crate) fn has_room(inputs: &[Input], made: u32, me: &Connection, sink: SinkId) -> bool
     ensures value { result ≡ has_room inputs.now made me.now sink }

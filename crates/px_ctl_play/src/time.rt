@@ -3,7 +3,7 @@
 ghost use Rattle.std.specs.Prelude.{◌≡◌, ◌≤◌};
 ghost use Rattle.px_ctl_play.specs.Time.{microseconds};
 
-/// So many frames in microseconds, at a rate in frames a second. Takes no memory.
+/// The duration of `frames` frames in microseconds, at `rate` frames a second. Takes no memory.
 pub(crate) fn microseconds(rate: u32, frames: u32) -> u64
     requires { 1 ≤ rate }
     ensures { result ≡ microseconds rate frames }

@@ -1,5 +1,5 @@
-//! How far a stream is: GET_PLAYBACK_LATENCY, and the sink's answer to it (PulseAudio: `command_get_playback_latency` of
-//! `pulsecore/protocol-native.c`; that the server tells the client's own time twice, and which notices fit, is own).
+//! A stream's indices and latency: GET_PLAYBACK_LATENCY, and the sink's notice (PulseAudio: `command_get_playback_latency`
+//! of `pulsecore/protocol-native.c`; that the reply gives the client's own time twice, and which notices fit, is own).
 
 ghost use Rattle.std.specs.Prelude.{◌≡◌, ◌≤◌, IfOk};
 ghost use Rattle.std.specs.Option.{option_map};
@@ -20,23 +20,23 @@ use px_tag::TimeVal;
 use px_types::{ErrorCode, InputId, Mem, NoMemory};
 use std::alloc::Global;
 
-/// How far a stream is, in frames, as its sink tells it.
+/// A stream's indices and run, in frames, as its sink reports them.
 #[derive(Clone, Copy, Debug, PartialEq, Eq)]
 pub struct Progress {
     /// The next frame to write.
     pub write: i64,
-    /// The read index once all rendered frames are given.
+    /// The read index after all rendered frames.
     pub read: i64,
-    /// How many frames wait in the sink's buffer.
+    /// The number of frames in the sink's buffer.
     pub buffered: u32,
-    /// Whether it plays then.
+    /// Whether it plays at `read`.
     pub playing: bool,
-    /// Its run then.
+    /// Its run at `read`.
     pub run: Run,
 }
 
-/// GET_PLAYBACK_LATENCY: `NoEntity` where the connection has no stream of this number, else its sink is asked how far the
-/// stream is. The client has its reply, with the time that it gives, once the sink has told it.
+/// GET_PLAYBACK_LATENCY: `NoEntity` where the connection has no stream of this number, else its sink is asked for the
+/// stream's indices. The client gets its reply, with the time that it gave, once the sink's notice has come.
 pub fn latency<P: Drop>(
     alloc: Global,
     stream: Option<Input>,
@@ -53,21 +53,21 @@ pub fn latency<P: Drop>(
     asked(alloc, &x, message, Awaited::Latency(time), tag)
 }
 
-// An index in bytes, or the nearest number of 64 bits.
+// An index in bytes, saturated to 64 bits.
 fn index_in_bytes(spec: Spec, index: i64) -> i64
     ensures { result ≡ index_in_bytes spec index }
 {
     index.saturating_mul(frame_size(spec) as i64)
 }
 
-// So many frames in bytes, or the last number of 64 bits where they are more.
+// `frames` in bytes, saturated to 64 bits.
 fn count_in_bytes(spec: Spec, frames: u64) -> u64
     ensures { result ≡ count_in_bytes spec frames }
 {
     frames.saturating_mul(frame_size(spec) as u64)
 }
 
-// For how many frames it has been silent.
+// The number of frames that it has been silent for.
 fn silent_for(run: Run) -> u64
     ensures { result ≡ silent_for run }
 {
@@ -77,7 +77,7 @@ fn silent_for(run: Run) -> u64
     }
 }
 
-// For how many frames it has played.
+// The number of frames that it has played for.
 fn playing_for(run: Run) -> u64
     ensures { result ≡ playing_for run }
 {
@@ -100,7 +100,7 @@ fn time_given(awaited: Awaited) -> TimeVal
     }
 }
 
-// What the client is told, that gave this time.
+// The fields of the reply to the client that gave this time.
 fn fields_of(rate: u32, x: &Input, progress: Progress, time: TimeVal) -> LatencyFields
     requires { 1 ≤ rate }
     ensures { result ≡ fields_of rate x.now progress time }
@@ -116,14 +116,14 @@ fn fields_of(rate: u32, x: &Input, progress: Progress, time: TimeVal) -> Latency
     }
 }
 
-// Whether a request asks how far an input is, under a tag.
+// Whether `request` is a latency request of an input under a tag.
 fn is_question_under(input: InputId, tag: u32, request: &Waiting) -> bool
     ensures { result ≡ is_question_under input tag request.now }
 {
     request.input.0 == input.0 && request.tag == tag && !matches!(request.awaited, Awaited::Drained)
 }
 
-// The first question of an input under a tag that waits.
+// The first waiting latency request of an input under a tag.
 fn question_under(waiting: &[Waiting], input: InputId, tag: u32) -> Option<&Waiting>
     ensures { option_map (λ request. request.now) result ≡ question_under waiting.now input tag }
 {
@@ -132,7 +132,7 @@ fn question_under(waiting: &[Waiting], input: InputId, tag: u32) -> Option<&Wait
         .find(|request| is_question_under(input, tag, request))
 }
 
-// The request has its reply, where it waits.
+// Replies to the request, where it waits.
 fn latency_answered<P: Drop>(
     alloc: Global,
     rate: u32,
@@ -154,9 +154,9 @@ fn latency_answered<P: Drop>(
     }
 }
 
-/// A sink of a rate, in frames a second, tells how far the input is that it has, if it has that one: the first question under
-/// the tag that waits of it is answered to the connection of the input, where that goes on. Ignored where the input has ended,
-/// and where no such request waits. What a field of the reply can't hold is the nearest end of the field.
+/// A sink of a rate, in frames a second, reports the indices of an input of its own: the first latency request under the tag
+/// that waits on the input is answered to the input's connection, where that is live. Ignored where the input has ended, and
+/// where no such request waits. A value that a field of the reply can't hold is saturated.
 pub fn measured<P: Drop>(
     alloc: Global,
     input: Option<Input>,

@@ -1,4 +1,5 @@
--- The volume of a sink and its mute: SET_SINK_VOLUME and SET_SINK_MUTE (PulseAudio: `command_set_volume` and `command_set_mute` of pulsecore/protocol-native.c; that one volume is for all channels is own).
+-- The volume of a sink and its mute: SET_SINK_VOLUME and SET_SINK_MUTE (PulseAudio: `command_set_volume` and `command_set_mute` of
+-- pulsecore/protocol-native.c; that one volume is for all channels is own).
 use Rattle.std.specs.Prelude.{ℕ, Bool, List, length, Option, Ok}
 use Rattle.px_types.specs.declared.error_code.ErrorCode.TheVariants.{Invalid, NoEntity}
 use Rattle.px_types.specs.declared.ids.SinkId.{SinkId}
@@ -13,13 +14,13 @@ use Rattle.px_outcome.specs.Target.{is_clear, target_of}
 use Rattle.px_ctl_vol.specs.Asked.{is_volume, fits}
 use Rattle.px_ctl_vol.specs.Factors.{regrouped}
 
--- a sink with this group has the volume, where its channels can have it, and its inputs follow
+-- sets the volume of a sink with this group, where it fits the sink's channels, and its inputs follow
 abbrev pub with_suiting_volume : {P : Type 0} → SinkId → FlatGroup → List Input → List ℕ → ℕ → Handled (OutcomeParts (Msg P) FlatGroup)
 with_suiting_volume sink group inputs volume tag = do
   suits ← check (fits volume (length (FlatGroup.reference group))) Invalid
   Ok (regrouped sink (with_sink_volume volume group) inputs tag)
 
--- the sink that is named, with this group, has the volume, and its inputs follow
+-- sets the volume of the named sink, with this group, and its inputs follow
 abbrev pub set_sink_volume : {P : Type 0} → Named → Option FlatGroup → List Input → List ℕ → ℕ → Handled (OutcomeParts (Msg P) FlatGroup)
 set_sink_volume named group inputs volume tag = do
   clear ← check (is_clear named) Invalid
@@ -28,7 +29,7 @@ set_sink_volume named group inputs volume tag = do
   group ← present group NoEntity
   with_suiting_volume (Target.index sink) group inputs volume tag
 
--- the sink that is named, with this group, is muted or not
+-- mutes or unmutes the named sink, with this group
 abbrev pub set_sink_mute : {P : Type 0} → Named → Option FlatGroup → List Input → Bool → ℕ → Handled (OutcomeParts (Msg P) FlatGroup)
 set_sink_mute named group inputs on tag = do
   clear ← check (is_clear named) Invalid

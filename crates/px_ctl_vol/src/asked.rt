@@ -9,14 +9,14 @@ ghost use Rattle.px_ctl_vol.specs.Asked.{is_volume, fits};
 use px_tag::RawVolume;
 use px_vol::{CVolume, MAX};
 
-// Whether none is above the greatest.
+// Whether no volume is above the maximum.
 fn are_in_range(volumes: &[u32]) -> bool
     ensures { result ≡ list_all (λ v. nat_le v greatest) volumes.now }
 {
     volumes.iter().all(|v| *v <= MAX)
 }
 
-/// Whether there can be such volumes: one at least, and none above the greatest.
+/// Whether the volumes are lawful: one at least, and none above the maximum.
 pub(crate) fn is_volume(volume: &RawVolume) -> bool
     ensures value { result ≡ is_volume volume.now }
     ensures valid { result ≡ true → IsChannelVolume volume.now }
@@ -25,7 +25,7 @@ pub(crate) fn is_volume(volume: &RawVolume) -> bool
     volumes.len() > 0 && are_in_range(volumes)
 }
 
-/// Whether they fit what has so many channels: one for all of them, or one each.
+/// Whether the volumes fit `channels` channels: one for all of them, or one each.
 pub(crate) fn fits(volume: &RawVolume, channels: usize) -> bool
     ensures value { result ≡ fits volume.now channels }
     ensures suits { result ≡ true → SuitsChannels volume.now channels }

@@ -1,4 +1,4 @@
-//! A sink has another group of volumes, and is told the factors that this gives.
+//! A sink gets another group of volumes, and the factors that it gives are posted to the sink.
 
 ghost use Rattle.std.specs.Prelude.{◌≡◌, ◌∷◌, [], Ok};
 ghost use Rattle.px_outcome.specs.Outcome.{replied};
@@ -26,8 +26,8 @@ fn replied<M: Drop, G: Drop>(
     Ok(StepOutcome::replied(alloc, reply, changes))
 }
 
-/// A sink has this group, and is told the factors of the inputs that are settled on it, in rising index; the client has a reply without
-/// fields.
+/// Sets a sink's group, and posts to the sink the factors of the inputs that are settled on it, in rising index; the client
+/// has a reply without fields.
 pub(crate) fn regrouped<P: Drop>(
     alloc: Global,
     sink: SinkId,

@@ -1,5 +1,5 @@
 //! SET_SINK_INPUT_VOLUME and SET_SINK_INPUT_MUTE (PulseAudio: `command_set_volume` and `command_set_mute` of
-//! `pulsecore/protocol-native.c`; that one volume is for all channels, and that an input on its way to another sink is busy, is own).
+//! `pulsecore/protocol-native.c`; that one volume is for all channels, and that a moving input is busy, is own).
 
 ghost use Rattle.std.specs.Prelude.{◌≡◌, length, IsSome, IfSome, Ok};
 ghost use Rattle.std.specs.Option.{option_map};
@@ -20,7 +20,7 @@ use px_tag::RawVolume;
 use px_types::{ErrorCode, InputId};
 use std::alloc::Global;
 
-// The member of an input, where it is there.
+// The member of an input, where there is one.
 fn found(members: &[Member], input: InputId) -> Option<&Member>
     ensures { option_map (λ m. m.now) result ≡ member_of members.now input }
 {
@@ -37,14 +37,14 @@ fn member_of(members: &[Member], input: InputId) -> Option<Member>
     }
 }
 
-// Whether an input is on its way to another sink.
+// Whether an input is moving to another sink.
 fn is_moving(standing: Standing) -> bool
     ensures { result ≡ is_moving standing }
 {
     matches!(standing, Standing::Moving(_))
 }
 
-// The input has this volume, and the sink and its other inputs follow.
+// Sets the volume of the input; the sink and its other inputs follow.
 fn with_volume<P: Drop>(
     alloc: Global,
     x: &Input,
@@ -63,7 +63,7 @@ fn with_volume<P: Drop>(
     regrouped(alloc, x.sink, changed, inputs, tag)
 }
 
-// The input, where it is a member of this group, has this volume, where its channels can have it and it isn't on its way.
+// Sets the volume of the input, a member of this group, where it fits its channels and the input isn't moving.
 fn with_suiting_volume<P: Drop>(
     alloc: Global,
     x: &Input,
@@ -84,7 +84,7 @@ fn with_suiting_volume<P: Drop>(
     with_volume(alloc, x, group, inputs, volume, tag)
 }
 
-// The input is muted, or not.
+// Mutes or unmutes the input.
 fn with_mute<P: Drop>(
     alloc: Global,
     x: &Input,
@@ -101,10 +101,11 @@ fn with_mute<P: Drop>(
     regrouped(alloc, x.sink, changed, inputs, tag)
 }
 
-/// SET_SINK_INPUT_VOLUME of an input, where the sink that it is on has this group: it has the volume, one for all channels of its
-/// stream or one each, the sink's volume is raised to it where it is below, and the sink is told the factors of the inputs that are
-/// settled on it. Refused, by the first of these that holds: `Invalid` for no volume or one above the greatest; `NoEntity` where no
-/// such input is there; `Invalid` for another count than 1 and that of its channels; `Busy` where it is on its way to another sink.
+/// SET_SINK_INPUT_VOLUME of an input, where the sink that it is on has this group: its volume is set, one for all channels
+/// of its stream or one each, the sink's volume is raised to it where it is below, and the factors of the inputs that are
+/// settled on the sink are posted to it. Refused, by the first of these that holds: `Invalid` for no volume or one above the
+/// maximum; `NoEntity` where no such input exists; `Invalid` for another count than 1 and that of its channels; `Busy`
+/// where it is moving to another sink.
 pub fn set_input_volume<P: Drop>(
     alloc: Global,
     input: Option<Input>,
@@ -123,9 +124,9 @@ pub fn set_input_volume<P: Drop>(
     with_suiting_volume(alloc, &x, group, inputs, volume, tag)
 }
 
-/// SET_SINK_INPUT_MUTE of an input, where the sink that it is on has this group: it is muted or not, and the sink is told the factors
-/// of the inputs that are settled on it. Refused, by the first of these that holds: `NoEntity` where no such input is there; `Busy`
-/// where it is on its way to another sink.
+/// SET_SINK_INPUT_MUTE of an input, where the sink that it is on has this group: it is muted or unmuted, and the factors of
+/// the inputs that are settled on the sink are posted to it. Refused, by the first of these that holds: `NoEntity` where no
+/// such input exists; `Busy` where it is moving to another sink.
 pub fn set_input_mute<P: Drop>(
     alloc: Global,
     input: Option<Input>,

@@ -1,4 +1,4 @@
-//! A law of the factors that a sink is told.
+//! A law of the factors that are posted to a sink.
 
 ghost use Rattle.std.specs.Prelude.{◌≡◌, List, map, filter, length};
 ghost use Rattle.std.specs.List.{AllByRecursion};

@@ -1,5 +1,6 @@
-//! The commands on volumes and mutes, of sinks and of inputs: each reads the group of a sink's volumes that it changes, and gives a
-//! outcome or the reason why it is refused. It exports a call a command, and what holds of the factors that they outcome.
+//! The commands on volumes and mutes, of sinks and of inputs: each reads the group of a sink's volumes that it changes, and
+//! gives an outcome or the reason why it is refused. It exports a call a command, and a law of the factors that are posted
+//! to a sink.
 #![tactic(auto)]
 
 mod asked;

@@ -18,7 +18,7 @@ use px_tag::RawVolume;
 use px_types::{ErrorCode, SinkId};
 use std::alloc::Global;
 
-// The sink has this volume, and its inputs follow. `Invalid` for another count than 1 and that of its channels.
+// Sets the volume of the sink; its inputs follow. `Invalid` for another count than 1 and that of its channels.
 fn with_volume<P: Drop>(
     alloc: Global,
     sink: SinkId,
@@ -39,7 +39,7 @@ fn with_volume<P: Drop>(
     regrouped(alloc, sink, changed, inputs, tag)
 }
 
-// The sink is muted, or not.
+// Mutes or unmutes the sink.
 fn with_mute<P: Drop>(
     alloc: Global,
     sink: SinkId,
@@ -55,10 +55,10 @@ fn with_mute<P: Drop>(
     regrouped(alloc, sink, changed, inputs, tag)
 }
 
-/// SET_SINK_VOLUME of the sink that is named, which has this group: it has the volume, one for all its channels or one each, each of
-/// its inputs keeps its ratio to it, and it is told the factors of those that are settled on it. Refused, by the first of these that
-/// holds: `Invalid` where a sink is named twice over or not at all, and for no volume or one above the greatest; `NoEntity` where no
-/// sink is there; `Invalid` for another count than 1 and that of its channels.
+/// SET_SINK_VOLUME of the named sink, which has this group: its volume is set, one for all its channels or one each, the
+/// ratio of each of its inputs to it stays, and the factors of those that are settled on it are posted to it. Refused, by
+/// the first of these that holds: `Invalid` where a sink is named by both index and name or not at all, and for no volume or
+/// one above the maximum; `NoEntity` where no such sink exists; `Invalid` for another count than 1 and that of its channels.
 pub fn set_sink_volume<P: Drop>(
     alloc: Global,
     named: Named,
@@ -78,9 +78,9 @@ pub fn set_sink_volume<P: Drop>(
     with_volume(alloc, sink.index, group, inputs, volume, tag)
 }
 
-/// SET_SINK_MUTE of the sink that is named, which has this group: it is muted or not, and is told the factors of the inputs that are
-/// settled on it. Refused, by the first of these that holds: `Invalid` where a sink is named twice over or not at all; `NoEntity`
-/// where no sink is there.
+/// SET_SINK_MUTE of the named sink, which has this group: it is muted or unmuted, and the factors of the inputs that are
+/// settled on it are posted to it. Refused, by the first of these that holds: `Invalid` where a sink is named by both index
+/// and name or not at all; `NoEntity` where no such sink exists.
 pub fn set_sink_mute<P: Drop>(
     alloc: Global,
     named: Named,

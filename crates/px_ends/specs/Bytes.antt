@@ -1,4 +1,4 @@
--- What the answers of the calls on bytes say of what departs and of what is taken, and of the counts.
+-- How the answers of reads and writes relate to the bytes that leave a source or reach a sink, and to the counts of faults.
 use Rattle.std.specs.Prelude.{◌≡◌, ℕ, ◌≤◌, List, length, take, Option}
 use Rattle.px_ends.specs.declared.bytes.Got.{Got}
 use Rattle.px_ends.specs.declared.bytes.Got.TheVariants as got
@@ -7,13 +7,13 @@ use Rattle.px_ends.specs.declared.bytes.Took.TheVariants as took
 use Rattle.px_ends.specs.Visible.{before_taking, after_adding, IsAtEnd}
 use Rattle.px_types.specs.Faults.{Rose}
 
--- n bytes departed from what was left, the first n that the buffer now has
+-- the first n bytes of what was left moved to the front of the buffer
 pub record Departs (n : ℕ) (buffer : List ℕ) (old new : Option (List ℕ)) : Type 0 where
   pub some : 1 ≤ n
   pub fit : n ≤ length buffer
   pub left : old ≡ before_taking (take n buffer) new
 
--- a read that answers so: the bytes, the end only where nothing is left, or nothing at all
+-- what a read with this answer did: moved bytes, found the end only where nothing is left, or moved nothing
 abbrev pub ReadGives : Got → List ℕ → Option (List ℕ) → Option (List ℕ) → Type 0
 ReadGives (got.Bytes n) buffer old new = Departs n buffer old new
 ReadGives got.End buffer old new = IsAtEnd old × (new ≡ old)
@@ -31,7 +31,7 @@ pub record Adds (n : ℕ) (bytes : List ℕ) (old new : Option (List ℕ)) : Typ
   pub fit : n ≤ length bytes
   pub held : new ≡ after_adding old (take n bytes)
 
--- a write that answers so
+-- what such a write did
 abbrev pub WriteTakes : Took → List ℕ → Option (List ℕ) → Option (List ℕ) → Type 0
 WriteTakes (took.Bytes n) bytes old new = Adds n bytes old new
 WriteTakes took.Failed bytes old new = new ≡ old

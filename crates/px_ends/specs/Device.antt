@@ -1,31 +1,31 @@
--- A device: it plays the frames that were put ahead, and they may be put anew as long as they aren't too near (PulseAudio: the
--- device's buffer of `pa_sink` in pulsecore/sink.h). Own: one record of all its numbers, with its bytes where it tells them.
+-- A device: it plays the frames put ahead of time, and those beyond the guard may be rewritten (PulseAudio: the device's buffer of
+-- `pa_sink` in pulsecore/sink.h). Own: one record of all its numbers, with its bytes where they are visible.
 use Rattle.std.specs.Prelude.{◌≡◌, ℕ, ◌+◌, ◌-◌, ◌*◌, ◌/◌, ◌^◌, ◌≤◌, min, Bool, true, IsFalse, List, ◌++◌, length, take, drop, Option, None, Some, ⊤, false}
 use Rattle.px_ends.specs.declared.device.DeviceShape.{DeviceShape}
 use Rattle.px_types.specs.Faults.{Rose}
 use Rattle.px_ends.specs.Visible.{after_adding, WhereVisible}
 
--- what a sync does: it consumes so many frames, or all that wait if those are fewer, or it fails
+-- what a sync does: it consumes n frames, or all that wait if those are fewer, or it fails
 pub data Next : Type 0 where
   consume : ℕ → Next
   fail : Next
 
 pub record DeviceState : Type 0 where
-  -- the bytes of a frame
+  -- bytes per frame
   pub frame : ℕ
-  -- frames past consumed that aren't put anew, and the most that wait in the buffer
+  -- frames past consumed that can't be rewritten, and the most frames that wait in the buffer
   pub guard : ℕ
   pub depth : ℕ
   -- frames consumed, and frames put
   pub consumed : ℕ
   pub filled : ℕ
-  -- the bytes of the frames from consumed to filled, and all that were played, each where it is told
+  -- the bytes of the frames from consumed to filled, and all that were played, each None where it isn't visible
   pub buffer : Option (List ℕ)
   pub played : Option (List ℕ)
   -- how many syncs failed, and whether one did: then all later ones do
   pub faults : ℕ
   pub failed : Bool
-  -- what the next sync does, where that is told
+  -- what the next sync does, where that is visible
   pub next : Option Next
 
 -- the numbers that a shape may have: bytes of a frame, frames a second, guard and depth
@@ -38,18 +38,18 @@ pub record IsShape (shape : DeviceShape) : Type 0 where
   pub low_depth : shape.depth ≤ 65536
   pub guard_within : shape.guard ≤ shape.depth
 
--- the buffer holds the frames from consumed to filled, where it is told
+-- the buffer holds exactly the frames from consumed to filled, where it is visible
 abbrev pub HoldsFrames : DeviceState → Type 0
 HoldsFrames d = WhereVisible d.buffer (λ bytes. length bytes ≡ (d.filled - d.consumed) * d.frame)
 
 -- ---- a sync
 
--- the bytes without the first n, where they are told
+-- the bytes without the first n, where they are visible
 abbrev pub without_front : ℕ → Option (List ℕ) → Option (List ℕ)
 without_front n None = None
 without_front n (Some bytes) = Some (drop n bytes)
 
--- what was played once the first n bytes of a buffer were too; one that doesn't tell its buffer doesn't tell what it played
+-- what was played once the first n bytes of the buffer were played too; not visible where the buffer isn't
 abbrev pub with_front : ℕ → Option (List ℕ) → Option (List ℕ) → Option (List ℕ)
 with_front n None played = None
 with_front n (Some bytes) played = after_adding played (take n bytes)
@@ -62,25 +62,25 @@ played_on n d = record d {
   played = with_front (n * d.frame) d.buffer d.played;
 }
 
--- where it is told what a sync does, that is to consume these n of the frames that wait
+-- the next sync, where visible, consumes these n of the frames that wait
 abbrev pub Consumes : Option Next → ℕ → ℕ → Type 0
 Consumes None waiting n = ⊤
 Consumes (Some (consume k)) waiting n = n ≡ min k waiting
 Consumes (Some fail) waiting n = ⊥
 
--- where it is told what a sync does, that is to fail
+-- the next sync, where visible, fails
 abbrev pub MayFail : Option Next → Type 0
 MayFail None = ⊤
 MayFail (Some (consume k)) = ⊥
 MayFail (Some fail) = ⊤
 
--- whether it is told that the next sync fails
+-- the next sync visibly fails
 abbrev pub is_failing : Option Next → Bool
 is_failing None = false
 is_failing (Some (consume k)) = false
 is_failing (Some fail) = true
 
--- a sync that answers this count of frames consumed; how many the next one consumes is open, but not whether it is told to fail
+-- a sync that answers this count of frames consumed; how many the next one consumes is open, but not whether it visibly fails
 pub record Plays (consumed : ℕ) (before after : DeviceState) : Type 0 where
   pub going : IsFalse before.failed
   pub forward : before.consumed ≤ consumed
@@ -89,7 +89,7 @@ pub record Plays (consumed : ℕ) (before after : DeviceState) : Type 0 where
   pub steady : is_failing after.next ≡ is_failing before.next
   pub state : after ≡ record (played_on (consumed - before.consumed) before) { next = after.next }
 
--- after a sync that failed when it had played n more bytes, with so many faults
+-- after a sync that failed once it had played n more bytes, with this count of faults
 abbrev pub failed_at : ℕ → ℕ → DeviceState → DeviceState
 failed_at n faults d = record d { played = with_front n d.buffer d.played; faults = faults; failed = true }
 
@@ -114,12 +114,12 @@ pub record IsPut (d : DeviceState) (at : ℕ) (bytes : List ℕ) : Type 0 where
   pub fit : at + frames_in d bytes ≤ d.consumed + d.depth
   pub countable : at + frames_in d bytes ≤ 2 ^ 61
 
--- the bytes from place n on were put anew, where they are told
+-- the bytes from place n on were rewritten, where they are visible
 abbrev pub put_from : ℕ → List ℕ → Option (List ℕ) → Option (List ℕ)
 put_from n more None = None
 put_from n more (Some bytes) = Some (take n bytes ++ more)
 
--- the frames from this one on were put anew
+-- the frames from this one on were rewritten
 abbrev pub put_at : ℕ → List ℕ → DeviceState → DeviceState
 put_at at bytes d = record d {
   filled = at + frames_in d bytes;

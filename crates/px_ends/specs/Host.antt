@@ -43,13 +43,13 @@ fewer_parts l = record l { devices = l.devices - 1; recorders = l.recorders - 1 
 abbrev pub fewer_cores : Lent → Lent
 fewer_cores l = record l { cores = l.cores - 1 }
 
--- a count of what is taken back that isn't 0 counts once
+-- taking back something with a nonzero count adds one
 abbrev pub Counts : ℕ → ℕ → ℕ → Type 0
 Counts count before now = (count ≡ 0 → now ≡ before) × (0 < count → Rose before now)
 
 -- with devices D, recorders of sinks R and recorders of the core C
 pub record HostState (D R C : Type 0) : Type 0 where
-  -- how many of its calls failed, and how often it told that no link comes any more
+  -- how many of its calls failed, and how often it answered that no link comes any more
   pub faults : ℕ
   pub overs : ℕ
   -- how many links it handed out
@@ -58,9 +58,9 @@ pub record HostState (D R C : Type 0) : Type 0 where
   pub device_faults : ℕ
   pub recorder_faults : ℕ
   pub fulls : ℕ
-  -- what it made and hasn't taken back, where it tells
+  -- what it made and hasn't taken back, where visible
   pub lent : Option Lent
-  -- the bytes of its header file, the options of each start, and what it took back, each in order and where it tells
+  -- the bytes of its header file, the options of each start, and what it took back, each in order and where visible
   pub header : Option (List ℕ)
   pub started : Option (List ServeOptions)
   pub parts : Option (List (Part D R))
@@ -84,7 +84,7 @@ pub record IsNewDevice (shape : DeviceShape) (d : DeviceState) : Type 0 where
   pub faults : d.faults ≡ 0
   pub going : d.failed ≡ false
 
--- a recorder that holds these entries, where it tells, with these counts: none, and never failed or found full
+-- a new recorder with these entries, where visible, and these counts: it holds none, and never failed or was found full
 abbrev pub IsNewRecorder : {E : Type 0} → Option (List E) → ℕ → ℕ → Type 0
 IsNewRecorder None faults fulls = (faults ≡ 0) × (fulls ≡ 0)
 IsNewRecorder (Some entries) faults fulls = (entries ≡ []) × (faults ≡ 0) × (fulls ≡ 0)
@@ -95,7 +95,7 @@ module _ {D R C : Type 0} where
   abbrev pub with_faults : ℕ → HostState D R C → HostState D R C
   with_faults faults h = record h { faults = faults }
 
-  -- nothing but a fault more
+  -- one more fault, and no other change
   abbrev pub FailsOnce : HostState D R C → HostState D R C → Type 0
   FailsOnce before after = Rose before.faults after.faults × (after ≡ with_faults after.faults before)
 
@@ -104,7 +104,7 @@ module _ {D R C : Type 0} where
   abbrev pub started_by : ServeOptions → HostState D R C → HostState D R C
   started_by options h = record h { started = noted options h.started }
 
-  -- a start with these options that answers so: the bytes of the header file, or nothing changes but for a fault
+  -- a start with these options and this answer: the bytes of the header file, or one more fault and no other change
   abbrev pub Starts : HeaderRead → ServeOptions → HostState D R C → HostState D R C → Type 0
   Starts (read.Bytes text) options before after = WhereVisible before.header (λ bytes. text ≡ bytes) × (after ≡ started_by options before)
   Starts read.NoMemory options before after = after ≡ before
@@ -118,7 +118,7 @@ module _ {D R C : Type 0} where
   abbrev pub with_overs : ℕ → HostState D R C → HostState D R C
   with_overs overs h = record h { overs = overs }
 
-  -- an accept that answers so
+  -- an accept with this answer
   abbrev pub Accepts : {L : Type 0} → Accepted L → HostState D R C → HostState D R C → Type 0
   Accepts (accepted.Link link) before after = (before.links < most_links) × (after ≡ one_link before)
   Accepts accepted.Over before after = Rose before.overs after.overs × (after ≡ with_overs after.overs before)
@@ -127,7 +127,7 @@ module _ {D R C : Type 0} where
 
   -- ---- what it makes
 
-  -- a call that makes something, by what that does to the host
+  -- a call that makes something, by its effect on the host
   abbrev pub Makes : {X : Type 0} → (HostState D R C → HostState D R C) → Result X HostFault → HostState D R C → HostState D R C → Type 0
   Makes made (Ok x) before after = after ≡ made before
   Makes made (Err fault.NoMemory) before after = after ≡ before
@@ -144,11 +144,11 @@ module _ {D R C : Type 0} where
 
   -- ---- what it takes back
 
-  -- it made more devices and recorders of sinks than it took back, where it tells
+  -- it made more devices and recorders of sinks than it took back, where visible
   abbrev pub HasPart : HostState D R C → Type 0
   HasPart h = IfSome h.lent (λ l. (1 ≤ l.devices) × (1 ≤ l.recorders))
 
-  -- it made more recorders of the core than it took back, where it tells
+  -- it made more recorders of the core than it took back, where visible
   abbrev pub HasCore : HostState D R C → Type 0
   HasCore h = IfSome h.lent (λ l. 1 ≤ l.cores)
 
@@ -161,7 +161,7 @@ module _ {D R C : Type 0} where
     parts = noted part h.parts;
   }
 
-  -- it takes back a sink's device with so many faults, and its recorder with so many faults and Fulls
+  -- it takes back a sink's device, by its count of faults, and its recorder, by its counts of faults and Fulls
   abbrev pub TakesPart : ℕ → ℕ → ℕ → Part D R → HostState D R C → HostState D R C → Type 0
   TakesPart failed faulty full part before after =
       Counts failed before.device_faults after.device_faults × Counts faulty before.recorder_faults after.recorder_faults × Counts full before.fulls after.fulls
@@ -175,7 +175,7 @@ module _ {D R C : Type 0} where
     core_recorders = noted recorder h.core_recorders;
   }
 
-  -- it takes back the core's recorder with so many faults and Fulls
+  -- it takes back the core's recorder, by its counts of faults and Fulls
   abbrev pub TakesCore : ℕ → ℕ → C → HostState D R C → HostState D R C → Type 0
   TakesCore faulty full recorder before after =
       Counts faulty before.recorder_faults after.recorder_faults × Counts full before.fulls after.fulls

@@ -1,4 +1,4 @@
--- What the answers of a link's calls say of its bytes and of its three counts.
+-- How the answers of a link's calls relate to its bytes and its three counts.
 use Rattle.std.specs.Prelude.{◌≡◌, ℕ, List, Option}
 use Rattle.px_ends.specs.declared.link.Recv.{Recv}
 use Rattle.px_ends.specs.declared.link.Recv.TheVariants as recv
@@ -8,7 +8,7 @@ use Rattle.px_ends.specs.Visible.{IsAtEnd}
 use Rattle.px_types.specs.Faults.{Rose}
 use Rattle.px_ends.specs.Bytes.{Departs, Adds}
 
--- how often a call failed, told the end, or found the link not ready
+-- how often a call failed, answered the end, or found the link not ready
 pub record LinkCounts : Type 0 where
   pub faults : ℕ
   pub ends : ℕ
@@ -25,7 +25,7 @@ SendTakes (sent.Bytes n) bytes old new = Adds n bytes old new
 SendTakes sent.NotYet bytes old new = new ≡ old
 SendTakes sent.Failed bytes old new = new ≡ old
 
--- one count rose, and the others stand
+-- one count rose, and the others are unchanged
 abbrev pub OneFault : LinkCounts → LinkCounts → Type 0
 OneFault before now = Rose before.faults now.faults × (now.ends ≡ before.ends) × (now.not_yets ≡ before.not_yets)
 

@@ -22,12 +22,12 @@ pub record MemorySource : Type 0 where
   pub calls : ℕ
   pub faults : ℕ
 
--- as many bytes as are left and fit, or the end
+-- all bytes that are left, up to the room of the buffer, or the end
 abbrev pub got_from : List ℕ → ℕ → Got
 got_from [] room = got.End
 got_from (byte ∷ more) room = got.Bytes (min room (length (byte ∷ more)))
 
--- what a read into a buffer of this room answers
+-- what a read into a buffer with this room answers
 abbrev pub read_answer : MemorySource → ℕ → Got
 read_answer s room = if is_listed s.failing (next_count s.calls) then got.Failed else got_from s.left room
 
@@ -44,7 +44,7 @@ pub record MemorySink : Type 0 where
   pub calls : ℕ
   pub faults : ℕ
 
--- as many of so many bytes as there is room for; no room at all is a fault
+-- how many of the bytes of a write fit into the room that is left; no room at all is a fault
 abbrev pub took_of : ℕ → ℕ → Took
 took_of room count = if room == 0 then took.Failed else took.Bytes (min room count)
 

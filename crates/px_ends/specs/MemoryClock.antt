@@ -1,16 +1,16 @@
--- A clock in memory: it tells the moments of its list one after the other, and then the last one again.
+-- A clock in memory: it answers the moments of its list one after the other, and then the last one again.
 use Rattle.std.specs.Prelude.{ℕ, max, List, slice_get}
 use Rattle.std.specs.Option.{unwrap_or}
 use Rattle.px_types.specs.Faults.{next_count}
 
 pub record MemoryClock : Type 0 where
   pub moments : List ℕ
-  -- how often it was asked
+  -- how often it was read
   pub calls : ℕ
-  -- the last moment that it told
+  -- the last moment that it answered
   pub latest : ℕ
 
--- what it tells next: the next of its moments, or none where all were told; never one before the last
+-- its next answer: the next moment of the list, the last one again after the end of the list, and never one before the last
 abbrev pub moment_in : MemoryClock → ℕ
 moment_in c = max c.latest (unwrap_or (slice_get c.moments c.calls) c.latest)
 

@@ -1,4 +1,4 @@
--- A device in memory, which tells all of its bytes and consumes what it was set to.
+-- A device in memory, all of whose bytes are visible, and which consumes what it was set to.
 use Rattle.std.specs.Prelude.{ℕ, ◌+◌, ◌-◌, ◌*◌, ◌/◌, min, Bool, true, false, ◌||◌, List, [], ◌++◌, length, take, drop, Option, None, Some}
 use Rattle.std.specs.Option.{unwrap_or}
 use Rattle.px_types.specs.Faults.{next_count}
@@ -6,7 +6,7 @@ use Rattle.px_ends.specs.declared.device.DeviceShape.{DeviceShape}
 use Rattle.px_ends.specs.Device.{DeviceState, Next, consume, fail}
 
 pub record MemoryDevice : Type 0 where
-  -- the bytes of a frame, and guard, depth, consumed and filled in frames
+  -- bytes per frame, and guard, depth, consumed and filled in frames
   pub frame : ℕ
   pub guard : ℕ
   pub depth : ℕ
@@ -66,14 +66,14 @@ new_memory_device shape = record {
   left = 0;
 }
 
--- what the next sync consumes where so many frames wait
+-- what the next sync consumes where this many frames wait
 abbrev pub due_of : Option ℕ → ℕ → ℕ → ℕ → ℕ
 due_of armed each left waiting = min (set_of armed each left) waiting
 
 abbrev pub due_in : MemoryDevice → ℕ
 due_in d = due_of d.armed d.each d.left (d.filled - d.consumed)
 
--- how many are left of those for later syncs
+-- how many frames are left for later syncs to consume
 abbrev pub left_after : Option ℕ → ℕ → ℕ → ℕ
 left_after None left due = left - due
 left_after (Some armed) left due = left

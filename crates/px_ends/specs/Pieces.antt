@@ -1,4 +1,4 @@
--- Bytes that wait to be written.
+-- Bytes that wait for a write.
 use Rattle.std.specs.Prelude.{ℕ, List}
 
 pub record Waiting : Type 0 where
@@ -6,6 +6,6 @@ pub record Waiting : Type 0 where
   -- how many writes to it have failed, for want of memory
   pub faults : ℕ
 
--- how many bytes are a piece
+-- the bytes of a full piece
 abbrev pub PIECE : ℕ
 PIECE = 65536

@@ -1,11 +1,11 @@
--- What the loops over reads and writes give.
+-- The results of the loops over reads and writes.
 use Rattle.std.specs.Prelude.{◌≡◌, ℕ, ◌<◌, ◌≤◌, List, ◌++◌, length, take, Option}
 use Rattle.px_ends.specs.declared.whole.Filled.{Filled}
 use Rattle.px_ends.specs.declared.whole.Filled.TheVariants as filled
 use Rattle.px_ends.specs.Visible.{before_taking, after_adding, IsAtEnd}
 use Rattle.px_types.specs.Faults.{Rose}
 
--- so many bytes departed, which the buffer now has at its front
+-- the first n bytes of what was left moved to the front of the buffer
 pub record Front (n : ℕ) (buffer : List ℕ) (old new : Option (List ℕ)) : Type 0 where
   pub fit : n ≤ length buffer
   pub left : old ≡ before_taking (take n buffer) new

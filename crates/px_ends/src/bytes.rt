@@ -5,7 +5,7 @@ ghost use Rattle.px_ends.specs.Bytes.{ReadGives, ReadCounts, WriteTakes, WriteCo
 /// What a read answers.
 #[derive(Clone, Copy, Debug, PartialEq, Eq)]
 pub enum Got {
-    /// So many bytes, at least one, moved into the front of the buffer.
+    /// This many bytes, at least one, moved into the front of the buffer.
     Bytes(usize),
     /// Nothing is left.
     End,
@@ -15,10 +15,10 @@ pub enum Got {
 
 /// Where bytes come from.
 pub trait Source {
-    /// The bytes that it has left, where it tells.
+    /// The bytes that are left, where they are visible.
     ghost left: { Self → Option (List ℕ) };
 
-    /// How many of its calls failed. It never falls.
+    /// How many of its calls failed. Never falls.
     ghost faults: { Self → ℕ };
 
     /// Moves the first bytes that are left into the front of the buffer.
@@ -31,7 +31,7 @@ pub trait Source {
 /// What a write answers.
 #[derive(Clone, Copy, Debug, PartialEq, Eq)]
 pub enum Took {
-    /// So many of the bytes, at least one, from their front.
+    /// This many bytes, at least one, were taken from the front of those given.
     Bytes(usize),
     /// The write failed, or there is no room. Nothing was taken.
     Failed,
@@ -39,13 +39,13 @@ pub enum Took {
 
 /// Where bytes go.
 pub trait Sink {
-    /// The bytes that it has taken, where it tells.
+    /// The bytes that it has taken, where they are visible.
     ghost held: { Self → Option (List ℕ) };
 
-    /// How many of its calls failed. It never falls.
+    /// How many of its calls failed. Never falls.
     ghost faults: { Self → ℕ };
 
-    /// Takes the first of these bytes.
+    /// Takes the first of these bytes, or none.
     fn write(&mut self, bytes: &[u8]) -> Took
         requires { 0 < length bytes.now }
         ensures bytes { WriteTakes result bytes.now (held self.old) (held self.new) }

@@ -1,4 +1,4 @@
-// The numbers of the calls of an end in memory that are to fail, or to come too early.
+// The numbers of the calls of an end in memory that are to fail, or to find it not ready.
 ghost use Rattle.std.specs.Prelude.{◌≡◌, []};
 ghost use Rattle.px_ends.specs.Memory.{is_listed};
 

@@ -1,7 +1,7 @@
-// The front of a buffer departs, or is played.
+// Bytes that leave the front of a buffer, or are played from it.
 ghost use Rattle.std.specs.Prelude.{◌≡◌, ◌+◌, ◌≤◌, ◌++◌, take, drop, length, vec_capacity};
 
-/// Removes the first so many bytes. Takes no memory, and gives none back.
+/// Removes the first `count` bytes. Takes no memory, and gives none back.
 pub fn remove_front(bytes: &mut Vec<u8>, count: usize)
     requires { count ≤ length bytes.old.items }
     ensures rest { bytes.new.items ≡ drop count bytes.old.items }
@@ -15,7 +15,7 @@ pub fn remove_front(bytes: &mut Vec<u8>, count: usize)
     bytes.truncate(left);
 }
 
-/// Moves the first so many bytes of a buffer behind those that were played. Takes no memory: there is room for them.
+/// Moves the first `count` bytes of `buffer` to the end of `played`. Takes no memory: there is room for them.
 pub fn play_front(buffer: &mut Vec<u8>, played: &mut Vec<u8>, count: usize)
     requires inside { count ≤ length buffer.old.items }
     requires fits { length played.old.items + count ≤ vec_capacity played.old }
@@ -30,7 +30,7 @@ pub fn play_front(buffer: &mut Vec<u8>, played: &mut Vec<u8>, count: usize)
     remove_front(buffer, count);
 }
 
-/// Puts bytes in place of all from place `from` on. Takes no memory: there is room for them.
+/// Replaces all bytes from place `from` on by `bytes`. Takes no memory: there is room for them.
 pub fn put_behind(buffer: &mut Vec<u8>, from: usize, bytes: &[u8])
     requires inside { from ≤ length buffer.old.items }
     requires fits { from + length bytes.now ≤ vec_capacity buffer.old }

@@ -1,4 +1,4 @@
-// What a server runs on beside its input, output and log.
+// What a server runs on besides its input, output and log.
 ghost use Rattle.std.specs.Prelude.{◌≡◌, IsTrue, IsFalse, IfOk};
 ghost use Rattle.px_ends.specs.Device.{IsShape};
 ghost use Rattle.px_ends.specs.Host.{HostState, FailsOnce, Starts, Accepts, Makes, IsNewDevice, IsNewRecorder, one_device, one_recorder, one_core, HasPart, HasCore, TakesPart, TakesCore};
@@ -9,8 +9,8 @@ use px_types::{SinkId, Text};
 use std::alloc::Global;
 use thiserror::Error;
 
-/// What a server is to be: the paths of its header file, of its socket and of the folder for what its sinks play, how many links it
-/// takes, 1 to 65,535, and whether its histories are kept in memory.
+/// The options of a server: the paths of its header file, of its socket and of the folder for what its sinks play, how many links it takes,
+/// 1 to 65,535, and whether its histories are held in memory.
 #[derive(Debug, Drop)]
 pub struct ServeOptions {
     pub header: Text,
@@ -25,9 +25,9 @@ pub struct ServeOptions {
 pub enum HeaderRead {
     /// The bytes of the header file.
     Bytes(Text),
-    /// There was no memory for them.
+    /// There was no memory for its bytes.
     NoMemory,
-    /// The file can't be read, or nobody can be listened for.
+    /// The file can't be read, or listening for clients failed.
     Failed,
 }
 
@@ -36,15 +36,15 @@ pub enum HeaderRead {
 pub enum Accepted<L> {
     /// A client.
     Link(L),
-    /// No more come.
+    /// No more clients come.
     Over,
-    /// There was no memory for one.
+    /// There was no memory for a link.
     NoMemory,
     /// The accept failed.
     Failed,
 }
 
-/// Why a host doesn't make something.
+/// Why a host couldn't make something.
 #[derive(Clone, Copy, Debug, PartialEq, Eq, Error)]
 pub enum HostFault {
     /// There was no memory.
@@ -55,8 +55,8 @@ pub enum HostFault {
     Failed,
 }
 
-/// What a server runs on: it reads the header, hands out the clients' links, makes a device and a recorder for each sink and a recorder
-/// for the core, and takes these back in the end. No count of it falls. Own.
+/// What a server runs on: it reads the header, hands out the clients' links, makes a device and a recorder for each sink and a recorder for
+/// the core, and takes these back in the end. None of its counts falls. Own.
 pub trait Host {
     type L: Link + Drop + Send;
 
@@ -68,26 +68,26 @@ pub trait Host {
 
     type C: Recorder<CoreEntry> + Drop + Send;
 
-    /// All that is told of it.
+    /// Its state, as far as visible.
     ghost now: { Self → HostState Self.D Self.R Self.C };
 
     /// Reads the header file, and begins to listen for clients.
     fn start(&mut self, alloc: Global, options: &ServeOptions) -> HeaderRead
         ensures { Starts result options.now (now self.old) (now self.new) };
 
-    /// Waits for the next client, with what the host itself has for that. At most 65,535 links are handed out.
+    /// Waits for the next client, in memory that the host already has. Hands out at most 65,535 links.
     fn accept(&mut self, alloc: Global) -> Accepted<Self::L>
         ensures { Accepts result (now self.old) (now self.new) };
 
-    /// The half of a link that sends, for others. `None` where it has none: then whoever has the link sends through it, and nobody else. What
-    /// is sent through that half isn't told by the link.
+    /// The sending half of a link, for other threads. `None` where it has none: then only the owner of the link sends. What is sent through
+    /// that half isn't visible at the link.
     fn outlet(&mut self, link: &mut Self::L) -> Option<Self::O>
         ensures host { now self.new ≡ now self.old }
         ensures left { Self.L.left link.new ≡ Self.L.left link.old }
         ensures sent { Self.L.sent link.new ≡ Self.L.sent link.old }
         ensures counts { Self.L.counts link.new ≡ Self.L.counts link.old };
 
-    /// A device for the sink of a name, which has consumed and played nothing.
+    /// Makes a device for the sink with this name, which has consumed and played nothing.
     fn device(
         &mut self,
         alloc: Global,
@@ -98,12 +98,12 @@ pub trait Host {
         ensures device { IfOk result (λ device. IsNewDevice shape.now (Self.D.now device)) }
         ensures host { Makes one_device result (now self.old) (now self.new) };
 
-    /// A recorder for a sink, which holds nothing.
+    /// Makes an empty recorder for a sink.
     fn lane_recorder(&mut self, alloc: Global) -> Result<Self::R, HostFault>
         ensures recorder { IfOk result (λ recorder. IsNewRecorder (Self.R.visible recorder) (Self.R.faults recorder) (Self.R.fulls recorder)) }
         ensures host { Makes one_recorder result (now self.old) (now self.new) };
 
-    /// A recorder for the core, which holds nothing.
+    /// Makes an empty recorder for the core.
     fn core_recorder(&mut self, alloc: Global) -> Result<Self::C, HostFault>
         ensures recorder { IfOk result (λ recorder. IsNewRecorder (Self.C.visible recorder) (Self.C.faults recorder) (Self.C.fulls recorder)) }
         ensures host { Makes one_core result (now self.old) (now self.new) };
@@ -113,7 +113,7 @@ pub trait Host {
         ensures yes { IsTrue result → now self.new ≡ now self.old }
         ensures no { IsFalse result → FailsOnce (now self.old) (now self.new) };
 
-    /// Takes back what it made for a sink. Takes no memory: the room for it was taken when these were made.
+    /// Takes back the device and the recorder of a sink. Takes no memory: the room was taken when these were made.
     fn retire(&mut self, sink: SinkId, device: Self::D, recorder: Self::R)
         requires { HasPart (now self.old) }
         ensures { TakesPart (Self.D.now device).faults (Self.R.faults recorder) (Self.R.fulls recorder) (record { sink = sink; device = device; recorder = recorder }) (now self.old) (now self.new) };

@@ -1,6 +1,7 @@
-//! The outside as traits, each with its told content and a count of faults that never falls, and their forms in memory for
-//! replays and tests. It exports `Source`, `Sink`, `Link`, `Outlet`, `Clock`, `Device` and `Host`, their answers and shapes, `Calls`,
-//! `MemSource`, `MemSink`, `MemLink`, `MemClock`, `MemDevice` with `Played`, `NoHost` and `NoOutlet`, `Pieces` for output that is gathered and written in few calls, and the loops that fill a buffer or write all bytes.
+//! The outside as traits, each with its visible content and a count of faults that never falls, and their forms in memory for replays and
+//! tests. It exports `Source`, `Sink`, `Link`, `Outlet`, `Clock`, `Device` and `Host`, their answers and shapes, `Calls`, `MemSource`,
+//! `MemSink`, `MemLink`, `MemClock`, `MemDevice` with `Played`, `NoHost` and `NoOutlet`, `Pieces` for output that is gathered and written
+//! in few calls, and the loops that fill a buffer or write all bytes.
 #![tactic(auto)]
 
 mod bytes;

@@ -1,4 +1,4 @@
-// A clock over moments in memory.
+// A clock over a list of moments in memory.
 ghost use Rattle.std.specs.Prelude.{◌≡◌, ◌≤◌, slice_get};
 ghost use Rattle.px_ends.specs.MemoryClock.{moment_in, clock_after};
 
@@ -27,7 +27,7 @@ impl Moments {
         Moments { moments }
     }
 
-    /// The moment of a number, from 0; `None` exactly where there are no more than that.
+    /// The moment at place `number`, from 0; `None` exactly where there are no more than that.
     pub fn get(&self, number: usize) -> Option<u64>
         ensures { result ≡ slice_get self.now number }
     {
@@ -35,8 +35,8 @@ impl Moments {
     }
 }
 
-/// A clock that tells these moments one after the other, and then the last one again. A moment that lies before one that was told is
-/// told as that.
+/// A clock that answers these moments one after the other, and then the last one again. A moment earlier than the one answered before is
+/// replaced by that one.
 #[derive(Debug, Drop)]
 pub struct MemClock {
     moments: Moments,
@@ -53,7 +53,7 @@ impl Model for MemClock {
 }
 
 impl MemClock {
-    /// A clock of these moments that has told none. Takes no memory.
+    /// A clock of these moments that hasn't been read yet. Takes no memory.
     pub fn new(moments: Moments) -> MemClock
         ensures { result ≡ record { moments = moments; calls = 0; latest = 0 } }
     {

@@ -11,7 +11,7 @@ use std::alloc::Global;
 use std::marker::Model;
 use std::mem;
 
-/// A device that consumes what it was set to and keeps what it played. It tells its buffer and what was played since it was last
+/// A device that consumes what it was set to and holds what it played. Its buffer is visible, and so is what was played since it was last
 /// taken. A sync that nothing was set for consumes nothing.
 #[derive(Debug, Drop)]
 pub struct MemDevice {
@@ -60,7 +60,7 @@ impl Model for MemDevice {
         × (length d.played.items + (unwrap_or d.armed 0 + d.left) * d.frame ≤ vec_capacity d.played) };
 }
 
-// The bytes of so many frames.
+// How many bytes `frames` frames are.
 fn bytes_of(frames: u64, frame: u32) -> usize
     requires few { frames ≤ 2 ^ 33 }
     requires small { frame ≤ 128 }
@@ -69,7 +69,7 @@ fn bytes_of(frames: u64, frame: u32) -> usize
     frames as usize * frame as usize
 }
 
-// The frames that a sync consumes where so many wait.
+// How many frames a sync consumes where `waiting` frames wait.
 fn due(armed: Option<u32>, each: u32, left: u32, waiting: u64) -> u64
     ensures { result ≡ due_of armed each left waiting }
 {
@@ -79,7 +79,7 @@ fn due(armed: Option<u32>, each: u32, left: u32, waiting: u64) -> u64
     }
 }
 
-// What is left to be consumed after a sync that consumed so many frames.
+// How many frames are left for later syncs after one that consumed `consumed` frames.
 fn left_of(armed: Option<u32>, left: u32, consumed: u64) -> u32
     requires { consumed ≤ unwrap_or armed left }
     ensures { result ≡ left_after armed left consumed }
@@ -113,8 +113,8 @@ impl MemDevice {
         })
     }
 
-    /// Sets how many frames the next sync consumes: so many, or what is buffered if that is less. Takes the room to play them; without
-    /// it nothing is set.
+    /// Sets the next sync to consume `frames` frames, or what is buffered if that is less. Takes the room to play them; without it nothing
+    /// is set.
     pub fn arm(&mut self, frames: u32) -> Mem<()>
         ensures ok { OnOk result (self.new ≡ record self.old { armed = Some (min frames self.old.depth) }) }
         ensures err { OnErr result (self.new ≡ self.old) }
@@ -153,8 +153,8 @@ impl MemDevice {
         self.stopping = true;
     }
 
-    /// Hands out the bytes that were played since the last take. What is set stays set: the room to play it is taken anew, so the call
-    /// takes memory only where frames are still set. Without it nothing changes.
+    /// Hands out the bytes played since the last take. What is set stays set: the room to play it is taken anew, so the call takes memory
+    /// only where frames are still set. Without memory nothing changes.
     pub fn take_played(&mut self, alloc: Global) -> Mem<Played>
         ensures ok { IfOk result (λ played. played ≡ self.old.played) }
         ensures after { OnOk result (self.new ≡ taken self.old) }

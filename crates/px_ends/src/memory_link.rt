@@ -9,8 +9,8 @@ use px_types::{Mem, NoMemory, Text};
 use std::alloc::Global;
 use std::marker::Model;
 
-/// A link that gives these bytes and then the end, and has room for so many sent bytes. Of its calls, those that are listed
-/// as late find it not ready, and those that are listed as failing fail. It tells what is left and what was sent.
+/// A link that gives these bytes and then the end, and has limited room for sent bytes. Of its calls, those listed as late find it not
+/// ready, and those listed as failing fail. What is left and what was sent are visible.
 #[derive(Debug, Drop)]
 pub struct MemLink {
     bytes: Text,
@@ -47,8 +47,8 @@ impl Model for MemLink {
 }
 
 impl MemLink {
-    /// A link that gives these bytes and takes up to so many. A send that finds it full fails. A call that is listed as late
-    /// and as failing fails.
+    /// A link that gives `bytes` and takes up to `room` bytes. A send that finds it full fails. A call that is listed as late and as
+    /// failing fails.
     pub fn new(alloc: Global, bytes: Text, room: usize, late: Calls, failing: Calls) -> Mem<MemLink>
         ensures { IfOk result (λ l. l ≡ record {
           left = bytes;

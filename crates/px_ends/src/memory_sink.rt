@@ -1,4 +1,4 @@
-// A sink that keeps what it takes in memory.
+// A sink that stores what it takes in memory.
 ghost use Rattle.std.specs.Prelude.{◌≡◌, ◌<◌, [], length, IfOk};
 ghost use Rattle.px_ends.specs.Bytes.{WriteTakes, WriteCounts};
 ghost use Rattle.px_ends.specs.Memory.{write_answer, sink_after};
@@ -8,7 +8,7 @@ use px_types::{Mem, NoMemory};
 use std::alloc::Global;
 use std::marker::Model;
 
-/// A sink with room for so many bytes, taken when it is made, whose listed calls fail. It tells what it took.
+/// A sink with a fixed room, taken when it is made, whose listed calls fail. What it took is visible.
 #[derive(Debug, Drop)]
 pub struct MemSink {
     taken: Vec<u8>,
@@ -30,7 +30,7 @@ impl Model for MemSink {
 }
 
 impl MemSink {
-    /// A sink that takes up to so many bytes in all. A write that finds it full fails, and so do the calls of these numbers.
+    /// A sink that takes up to `room` bytes in all. A write that finds it full fails, and so do the calls numbered in `failing`.
     pub fn new(alloc: Global, room: usize, failing: Calls) -> Mem<MemSink>
         ensures { IfOk result (λ s. s ≡ record { held = []; room = room; failing = failing; calls = 0; faults = 0 }) }
     {

@@ -7,7 +7,7 @@ use crate::{Calls, Got, Source};
 use px_types::Text;
 use std::marker::Model;
 
-/// A source that has these bytes, whose listed calls fail. It tells what is left.
+/// A source that has these bytes, whose listed calls fail. What is left is visible.
 #[derive(Debug, Drop)]
 pub struct MemSource {
     bytes: Text,
@@ -28,7 +28,7 @@ impl Model for MemSource {
     ghost invariant = { λ s. s.at ≤ length s.bytes };
 }
 
-// Copies as many bytes as are there and fit to the front of the buffer, and says how many.
+// Copies bytes to the front of the buffer until either ends, and answers how many.
 pub fn copy_front(from: &[u8], buffer: &mut [u8]) -> usize
     ensures count { result ≡ min (length buffer.old) (length from.now) }
     ensures front { take result buffer.new ≡ take result from.now }
@@ -39,7 +39,7 @@ pub fn copy_front(from: &[u8], buffer: &mut [u8]) -> usize
 }
 
 impl MemSource {
-    /// A source of these bytes whose calls of these numbers fail. Takes no memory.
+    /// A source of `bytes` whose calls numbered in `failing` fail. Takes no memory.
     pub fn new(bytes: Text, failing: Calls) -> MemSource
         ensures { result ≡ record { left = bytes; failing = failing; calls = 0; faults = 0 } }
     {

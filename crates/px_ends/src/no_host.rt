@@ -1,4 +1,4 @@
-// No host at all.
+// A host whose calls fail.
 ghost use Rattle.std.specs.Prelude.{◌≡◌};
 ghost use Rattle.px_types.specs.Faults.{Rose};
 
@@ -9,7 +9,7 @@ use px_annals::NoRecorder;
 use px_types::SinkId;
 use std::alloc::Global;
 
-/// No host at all, for runs that need none: each call that can fail does.
+/// The host of runs that need none: each call that can fail does.
 #[derive(Clone, Copy, Debug, PartialEq, Eq)]
 pub struct NoHost {
     faults: u64,
@@ -17,7 +17,7 @@ pub struct NoHost {
 }
 
 impl NoHost {
-    /// None of its calls has failed.
+    /// A host none of whose calls has failed yet.
     pub fn new() -> NoHost
         ensures { result ≡ record { faults = 0; device_faults = 0 } }
     {
@@ -27,7 +27,7 @@ impl NoHost {
         }
     }
 
-    // One fault more.
+    // Counts one more fault.
     fn fail(&mut self)
         ensures rose { Rose self.old.faults self.new.faults }
         ensures same { self.new ≡ record self.old { faults = self.new.faults } }

@@ -1,9 +1,9 @@
-// The outlet of connections that have none.
+// The outlet type of connections without one.
 ghost use Rattle.std.specs.Prelude.{◌≡◌, ◌<◌, length};
 
 use crate::{Outlet, Sent};
 
-/// The outlet of connections that have none, as links in memory: no call gives one. Each of its sends fails.
+/// The outlet type of links without one, such as links in memory: no call gives one. Each of its sends fails.
 #[derive(Clone, Copy, Debug, PartialEq, Eq)]
 pub struct NoOutlet {
     faults: u64,

@@ -1,4 +1,4 @@
-//! Bytes that wait in memory until they are a piece.
+//! Output gathered in memory until a piece is full.
 
 ghost use Rattle.std.specs.Prelude.{◌≡◌, ◌≤◌, ◌++◌, [], length, IsTrue, OnOk, OnErr, ◌↔◌};
 ghost use Rattle.px_ends.specs.Bytes.{WriteTakes, WriteCounts};
@@ -12,11 +12,11 @@ use crate::whole::{WriteFailed, write_all};
 use std::alloc::Global;
 use std::marker::Model;
 
-/// How many bytes are a piece: 64 KiB.
+/// The bytes of a full piece: 64 KiB.
 const PIECE: usize = 65_536;
 
-/// Bytes that wait to be written. It is a sink that takes all bytes of a write, and keeps them until they are flushed; a write
-/// fails only for want of memory. Contracts see what waits, and the count of writes that failed.
+/// Bytes that wait to be written. It is a sink that takes all bytes of a write, and holds them until they are flushed; a write fails only
+/// for want of memory. Contracts see what waits, and the count of writes that failed.
 #[derive(Drop)]
 pub struct Pieces {
     bytes: Vec<u8>,
@@ -32,7 +32,7 @@ impl Model for Pieces {
 }
 
 impl Pieces {
-    /// Nothing waits. Takes no memory.
+    /// Holds nothing. Takes no memory.
     pub fn new(alloc: Global) -> Pieces
         ensures { result ≡ record { bytes = []; faults = 0 } }
     {
@@ -42,15 +42,15 @@ impl Pieces {
         }
     }
 
-    /// Whether 64 KiB wait at least, which is a piece to write. Takes no memory.
+    /// Whether at least 64 KiB wait, a full piece to write. Takes no memory.
     pub fn is_piece(&self) -> bool
         ensures { IsTrue result ↔ (PIECE ≤ length self.now.bytes) }
     {
         self.bytes.len() >= PIECE
     }
 
-    /// Writes all that waits; the memory stays for what comes. After `WriteFailed` the output took a front of it, and nothing of it
-    /// is kept. Takes no memory.
+    /// Writes all that waits; the memory stays for later bytes. After `WriteFailed` the output took a front of it, and the rest is dropped.
+    /// Takes no memory.
     pub fn flush<K: Sink>(&mut self, output: &mut K) -> Result<(), WriteFailed>
         ensures ok { OnOk result (K.held output.new ≡ after_adding (K.held output.old) self.old.bytes) }
         ensures ok_count { OnOk result (K.faults output.new ≡ K.faults output.old) }

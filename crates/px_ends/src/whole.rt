@@ -11,7 +11,7 @@ use crate::{Got, Sink, Source, Took};
 pub enum Filled {
     /// Every place of the buffer was filled.
     Full,
-    /// The source ended after so many bytes.
+    /// The source ended after this many bytes.
     Ended(usize),
     /// A read failed.
     Failed,
@@ -33,7 +33,7 @@ pub fn fill<S: Source>(source: &mut S, buffer: &mut [u8]) -> Filled
     Filled::Full
 }
 
-/// A write that failed: a front of the bytes was taken, maybe nothing.
+/// A write that failed: some of the bytes may have been taken, from their front.
 #[derive(Clone, Copy, Debug, PartialEq, Eq)]
 pub struct WriteFailed;
 

@@ -13,7 +13,7 @@ pub record FlatGroup : Type 0 where
   -- the reference volume, one number a channel of the sink
   pub reference : List ℕ
   pub muted : Bool
-  -- in the order in which they came
+  -- in the order in which they were attached
   pub members : List Member
 
 -- ---- its members
@@ -31,7 +31,7 @@ without_first is (m ∷ members) = cond (is m) members (m ∷ without_first is m
 
 -- ---- the real volume
 
--- at a sink's channel: the greatest that a member has there
+-- at a sink's channel: the greatest volume that a member has there
 abbrev pub real_at : List Member → ℕ → ℕ
 real_at members s = greatest_of (map (volume_at s) members)
 
@@ -43,7 +43,7 @@ real_over reference (m ∷ members) = per_channel (length reference) (real_at (m
 abbrev pub real_of : FlatGroup → List ℕ
 real_of group = real_over group.reference group.members
 
--- the ratios to the real volume follow it
+-- the ratios to the real volume are set to match it
 abbrev pub followed_over : List ℕ → List Member → List Member
 followed_over reference members = map (to_real (real_over reference members)) members
 
@@ -54,7 +54,7 @@ followed group = record group { members = followed_over group.reference group.me
 abbrev pub raised_over : List ℕ → List Member → List ℕ
 raised_over reference members = raised_to reference (real_over reference members)
 
--- and all ratios follow
+-- and all ratios are set to match
 abbrev pub settled_over : List ℕ → List Member → List Member
 settled_over reference members =
     followed_over (raised_over reference members) (map (to_reference (raised_over reference members)) members)
@@ -67,7 +67,7 @@ settled group = record group {
 
 -- ---- the rules
 
--- a group with no input, at the volume that leaves sound as it is
+-- a group with no input, at the neutral volume
 abbrev pub new_group : ℕ → FlatGroup
 new_group channels = record { reference = replicate channels norm; muted = false; members = [] }
 
@@ -99,6 +99,6 @@ with_sink_mute on group = record group { muted = on }
 abbrev pub factors_of : FlatGroup → Member → List ℕ
 factors_of group m = factors_under (real_of group) (group.muted || m.muted) m
 
--- those of an input, where it is there
+-- those of an input, if it is in the group
 abbrev pub factors_for : FlatGroup → InputId → Option (List ℕ)
 factors_for group input = option_map (factors_of group) (member_of group.members input)

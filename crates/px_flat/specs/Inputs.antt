@@ -1,4 +1,4 @@
--- Which inputs a group has.
+-- The inputs of a group.
 use Rattle.std.specs.Prelude.{ℕ, List, map, filter}
 use Rattle.px_types.specs.declared.ids.InputId.{InputId}
 use Rattle.px_flat.specs.declared.member.Member.{Member}

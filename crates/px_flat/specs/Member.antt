@@ -1,4 +1,4 @@
--- An input as a member of its sink's group: its volume, one number a channel of its stream, and what ties it to the sink's.
+-- An input as a member of its sink's group: its volume, one number a channel of its stream, and its ratios to the sink's.
 use Rattle.std.specs.Prelude.{ℕ, ◌+◌, ◌≡◌, ◌⊎◌, Bool, List, length, replicate, nat_eq, if◌then◌else◌}
 use Rattle.px_types.specs.declared.ids.InputId.{InputId}
 use Rattle.px_chmap.specs.Plan.{FeedsAll}
@@ -35,7 +35,7 @@ with_mute on m = record m { muted = on }
 
 -- ---- its ratios
 
--- the ratio to the reference volume follows its volume
+-- the ratio to the reference volume is set to match its volume
 abbrev pub to_reference : List ℕ → Member → Member
 to_reference reference m = record m {
   ratios = record m.ratios {
@@ -43,7 +43,7 @@ to_reference reference m = record m {
   };
 }
 
--- the ratio to the real volume follows its volume
+-- the ratio to the real volume is set to match its volume
 abbrev pub to_real : List ℕ → Member → Member
 to_real real m = record m {
   ratios = record m.ratios {
@@ -57,7 +57,7 @@ to_real real m = record m {
 abbrev pub neutral : ℕ → Ratios
 neutral channels = record { reference = replicate channels norm; real = replicate channels norm }
 
--- the volume that it comes with, under a reference volume
+-- the volume of a new input, under a reference volume
 abbrev pub coming_volume : List ℕ → List ℕ → How → List ℕ → List ℕ
 coming_volume reference given Absolute feed = widened given (channels_of feed)
 coming_volume reference given Relative feed =
@@ -85,22 +85,22 @@ coming input reference given how muted feed = record {
 abbrev pub factor_at : List ℕ → Member → ℕ → ℕ
 factor_at real m s = cube_of (product_of (at m.ratios.real (at m.feed s)) (at real s))
 
--- and at each of them; nothing is heard of what is silent
+-- the same for each of them; 0 where the member or the sink is muted
 abbrev pub factors_under : List ℕ → Bool → Member → List ℕ
 factors_under real silent m = per_channel (length real) (λ s. if silent then 0 else factor_at real m s)
 
--- ---- what a member keeps
+-- ---- the invariant of a member
 
--- a volume given to so many channels: one for all, or one each
+-- a volume given for n channels: one for all, or one each
 abbrev pub SuitsChannels : List ℕ → ℕ → Type 0
 SuitsChannels volumes channels = (length volumes ≡ 1) ⊎ (length volumes ≡ channels)
 
--- ratios for so many channels
+-- ratios for n channels
 pub record AreRatios (channels : ℕ) (ratios : Ratios) : Type 0 where
   pub reference : length ratios.reference ≡ channels
   pub real : length ratios.real ≡ channels
 
--- ratios come only where they are for the channels
+-- ratios that an input brings have one number a channel
 abbrev pub SuitsHow : How → ℕ → Type 0
 SuitsHow Absolute channels = Unit
 SuitsHow Relative channels = Unit

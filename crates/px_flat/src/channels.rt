@@ -1,4 +1,4 @@
-//! The arithmetic of numbers that belong to channels. No call takes memory.
+//! The arithmetic of per-channel numbers. No call takes memory.
 ghost use Rattle.std.specs.Prelude.{◌≡◌, ◌<◌, ◌≤◌, length, replicate, max, ◌==◌, if◌then◌else◌};
 ghost use Rattle.px_vol.specs.Volume.{IsChannelVolume, norm, greatest};
 ghost use Rattle.px_flat.specs.Channels.{at, value_for, values_for, widened, products_of, raised_to, ratio_after, ratios_after};
@@ -7,7 +7,7 @@ ghost use Rattle.px_flat.specs.Member.{SuitsChannels};
 use px_chmap::Feed;
 use px_vol::{CVolume, NORM, divide, multiply};
 
-/// One number a channel.
+/// One volume a channel.
 pub fn in_channels(numbers: &[u32]) -> CVolume
     requires { IsChannelVolume numbers.now }
     ensures { result ≡ numbers.now }
@@ -15,7 +15,7 @@ pub fn in_channels(numbers: &[u32]) -> CVolume
     CVolume::new(numbers).unwrap()
 }
 
-/// The volume that leaves the sound as it is, in each of 1 to 32 channels.
+/// The neutral volume, which leaves the sound as it is, in each of 1 to 32 channels.
 pub fn neutral(channels: usize) -> CVolume
     requires some { 0 < channels }
     requires few { channels ≤ 32 }
@@ -24,7 +24,7 @@ pub fn neutral(channels: usize) -> CVolume
     in_channels(&[NORM; 32][..channels])
 }
 
-// The volume of a sink's channel for a stream's channel: 0 where that doesn't feed it.
+// The volume of a sink's channel for a stream's channel: 0 where the latter doesn't feed it.
 fn heard(fed: u8, channel: usize, volume: u32) -> u32
     requires { volume ≤ greatest }
     ensures value { result ≡ if fed == channel then volume else 0 }
@@ -66,7 +66,7 @@ pub fn values_for(feed: &Feed, volumes: &CVolume, channels: usize) -> CVolume
     in_channels(values)
 }
 
-/// A volume for 1 to 32 channels: one for all, or one each.
+/// A volume for 1 to 32 channels: the one given for all, or one each.
 pub fn widened(volume: &CVolume, channels: usize) -> CVolume
     requires some { 0 < channels }
     requires few { channels ≤ 32 }
@@ -82,7 +82,7 @@ pub fn widened(volume: &CVolume, channels: usize) -> CVolume
     in_channels(values)
 }
 
-/// Channel by channel one volume after another.
+/// The volumes multiplied channel by channel.
 pub fn products(ratios: &CVolume, volumes: &CVolume) -> CVolume
     requires { length ratios.now ≡ length volumes.now }
     ensures { result ≡ products_of ratios.now volumes.now }
@@ -96,7 +96,7 @@ pub fn products(ratios: &CVolume, volumes: &CVolume) -> CVolume
     in_channels(values)
 }
 
-/// Channel by channel the greater volume.
+/// The greater volume, channel by channel.
 pub fn raised(volumes: &CVolume, others: &CVolume) -> CVolume
     requires { length volumes.now ≡ length others.now }
     ensures value { result ≡ raised_to volumes.now others.now }
@@ -126,7 +126,7 @@ fn ratio_after(ratio: u32, volume: u32, base: u32) -> u32
     }
 }
 
-/// Channel by channel the ratio of a volume to a base. It stays where the base is 0, or where it gives the volume already.
+/// The ratio of a volume to a base, channel by channel. Unchanged where the base is 0, or where it already gives the volume.
 pub fn ratios_after(ratios: &CVolume, volumes: &CVolume, bases: &CVolume) -> CVolume
     requires volumes { length ratios.now ≡ length volumes.now }
     requires bases { length ratios.now ≡ length bases.now }

@@ -39,7 +39,7 @@ impl Model for Group {
 }
 
 impl Group {
-    /// The group of a sink of 1 to 32 channels that has no input, at the volume that leaves the sound as it is. Takes no memory.
+    /// The group of a sink of 1 to 32 channels without inputs, at the neutral volume. Takes no memory.
     pub fn new(alloc: Global, channels: u8) -> Group
         requires some { 0 < channels }
         requires few { channels ≤ 32 }
@@ -52,9 +52,8 @@ impl Group {
         }
     }
 
-    /// An input comes that isn't there, with the stream channel that feeds each channel of the sink, and a volume: one for all
-    /// channels of its stream, or one each. The reference volume is raised to the real volume. Where there is no memory for it,
-    /// nothing has changed.
+    /// Attaches an input that isn't in the group, with the stream channel that feeds each channel of the sink, and a volume: one for all
+    /// channels of its stream, or one each. The reference volume is raised to the real volume. Without memory nothing changes.
     pub fn attach(
         &mut self,
         input: InputId,
@@ -77,7 +76,8 @@ impl Group {
         Ok(())
     }
 
-    /// An input that is there leaves, with its ratios. The real volume follows, the reference volume stays. Takes no memory.
+    /// Detaches an input that is in the group, and answers its ratios. The real volume follows, the reference volume stays. Takes no
+    /// memory.
     pub fn detach(&mut self, input: InputId) -> Ratios
         requires { IsSome (member_of self.old.members input) }
         ensures group { self.new ≡ detached input self.old }
@@ -90,7 +90,7 @@ impl Group {
         ratios
     }
 
-    /// An input that is there has this volume: one for all channels, or one each. The reference volume is raised to the real
+    /// Sets the volume of an input that is in the group: one for all channels, or one each. The reference volume is raised to the real
     /// volume, and all ratios follow. Takes no memory.
     pub fn set_input(&mut self, input: InputId, volume: &CVolume)
         requires there { IsSome (member_of self.old.members input) }
@@ -102,7 +102,7 @@ impl Group {
         settle(&mut self.reference, &mut self.members);
     }
 
-    /// The sink has this volume: one for all channels, or one each. Each input keeps its ratio to it. Takes no memory.
+    /// Sets the sink's volume: one for all channels, or one each. Each input's ratio to it stays. Takes no memory.
     pub fn set_sink(&mut self, volume: &CVolume)
         requires { SuitsChannels volume.now (length self.old.reference) }
         ensures { self.new ≡ with_sink_volume volume.now self.old }
@@ -112,7 +112,7 @@ impl Group {
         set_all(&self.reference, &mut self.members);
     }
 
-    /// An input that is there is muted, or not. Its volume stays. Takes no memory.
+    /// Mutes an input that is in the group, or unmutes it. Its volume stays. Takes no memory.
     pub fn mute_input(&mut self, input: InputId, on: bool)
         requires { IsSome (member_of self.old.members input) }
         ensures { self.new ≡ with_input_mute input on self.old }
@@ -120,14 +120,14 @@ impl Group {
         mute(&mut self.members, input, on);
     }
 
-    /// The sink is muted, or not. Its volume stays. Takes no memory.
+    /// Mutes the sink, or unmutes it. Its volume stays. Takes no memory.
     pub fn mute_sink(&mut self, on: bool)
         ensures { self.new ≡ with_sink_mute on self.old }
     {
         self.muted = on;
     }
 
-    /// The linear factors of an input that is there, one a channel of the sink; 0 where it or the sink is muted. Takes no memory.
+    /// The linear factors of an input in the group, one a channel of the sink; 0 where it or the sink is muted. Takes no memory.
     pub fn factors(&self, input: InputId) -> Factors
         requires { IsSome (member_of self.now.members input) }
         ensures { IfSome (member_of self.now.members input) (λ m. result ≡ factors_of self.now m) }
@@ -137,8 +137,8 @@ impl Group {
         factors_under(&real, self.muted || member.muted, member)
     }
 
-    /// The linear factors of an input, one a channel of the sink, where this is the sink's real volume, so that it isn't taken anew for
-    /// each of many inputs; 0 where the input or the sink is muted. `None` exactly where the input isn't there. Takes no memory.
+    /// The linear factors of an input, one a channel of the sink, where `real` is the sink's real volume, so that it isn't computed anew
+    /// for each of many inputs; 0 where the input or the sink is muted. `None` exactly where the input isn't in the group. Takes no memory.
     pub fn factors_under(&self, real: &CVolume, input: InputId) -> Option<Factors>
         requires { real.now ≡ real_of self.now }
         ensures { result ≡ factors_for self.now input }
@@ -149,7 +149,7 @@ impl Group {
         }
     }
 
-    /// The volume of an input that is there, one number a channel of its stream. Takes no memory.
+    /// The volume of an input in the group, one number a channel of its stream. Takes no memory.
     pub fn volume(&self, input: InputId) -> CVolume
         requires { IsSome (member_of self.now.members input) }
         ensures { IfSome (member_of self.now.members input) (λ m. result ≡ m.volume) }
@@ -157,7 +157,7 @@ impl Group {
         member_of(self.members.as_slice(), input).volume
     }
 
-    /// The reference volume, one number a channel of the sink: what the sink's user has set, raised to its loudest input. Takes no
+    /// The reference volume, one number a channel of the sink: the volume that the user set, raised to the loudest input's. Takes no
     /// memory.
     pub fn reference(&self) -> CVolume
         ensures { result ≡ self.now.reference }
@@ -181,7 +181,7 @@ impl Group {
         self.muted
     }
 
-    /// The inputs, in the order in which they came. Takes no memory.
+    /// The inputs, in the order in which they were attached. Takes no memory.
     pub fn members(&self) -> &[Member]
         ensures members { result.now ≡ self.now.members }
         ensures each { AllByRecursion (IsMember (length self.now.reference)) result.now }

@@ -6,8 +6,8 @@ ghost use Rattle.px_flat.specs.declared.member.Member.{Member};
 ghost use Rattle.px_flat.specs.FlatVolume.{FlatGroup, with_input_volume, with_sink_volume, with_input_mute, with_sink_mute, factors_of};
 ghost use Rattle.px_flat.specs.Keeps.{HasSameInputs};
 
-/// No volume and no mute changes which inputs a group has, nor how many channels each of them and the sink has; and each input has one
-/// factor a channel of the sink. It does nothing: its contract is the law. Source: own.
+/// No change of a volume or a mute changes which inputs a group has, nor how many channels each of them and the sink has; and each input
+/// has one factor a channel of the sink. It does nothing: its contract is the law. Source: own.
 pub fn volumes_keep_inputs()
     ensures input_volume { (input : InputId) (volume : List ℕ) (group : FlatGroup) → HasSameInputs group (with_input_volume input volume group) }
     ensures sink_volume { (volume : List ℕ) (group : FlatGroup) → HasSameInputs group (with_sink_volume volume group) }

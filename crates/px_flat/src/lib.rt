@@ -1,6 +1,5 @@
-//! Flat volume groups: the volumes of a sink's inputs, of which the loudest sets the sink's own (PulseAudio's flat volumes).
-//! `channels` has the arithmetic of numbers that belong to channels, `member` an input in its group, `group` the group, `laws` what
-//! holds of it.
+//! Flat volume groups: the volumes of a sink's inputs, of which the loudest sets the sink's own (PulseAudio's flat volumes). `channels` has
+//! the arithmetic of per-channel numbers, `member` an input in its group, `group` the group, `laws` its laws.
 #![tactic(auto)]
 
 mod channels;

@@ -17,14 +17,14 @@ pub struct Ratios {
     pub real: CVolume,
 }
 
-/// How the volume is meant that an input comes with.
+/// How the volume of a new input is meant.
 #[derive(Clone, Copy, Debug, PartialEq, Eq, Drop)]
 pub enum How {
     /// As it is given.
     Absolute,
     /// As a part of the sink's reference volume.
     Relative,
-    /// As in the group that the input comes from: both ratios stay, and the volume is what the one to the reference volume gives.
+    /// As in the group that the input left: both ratios stay, and the volume follows from the ratio to the reference volume.
     Kept(Ratios),
 }
 
@@ -41,7 +41,7 @@ pub struct Member {
     pub feed: Feed,
 }
 
-/// How many channels a stream has that feeds a sink so: the feed names each of them.
+/// How many channels a stream with this feed has: the feed names each of them.
 pub fn channels_of(feed: &Feed) -> usize
     ensures value { result ≡ channels_of feed.now }
     ensures few { result ≤ 32 }
@@ -53,7 +53,7 @@ pub fn channels_of(feed: &Feed) -> usize
     usize::from(greatest) + 1
 }
 
-// The volume that an input comes with.
+// The volume of a new input.
 fn coming_volume(reference: &CVolume, given: &CVolume, how: &How, feed: &Feed) -> CVolume
     requires feeds { FeedsAll (channels_of feed.now) (length reference.now) feed.now }
     requires given { SuitsChannels given.now (channels_of feed.now) }
@@ -71,7 +71,7 @@ fn coming_volume(reference: &CVolume, given: &CVolume, how: &How, feed: &Feed) -
     }
 }
 
-// The ratios that an input comes with.
+// The ratios of a new input.
 fn coming_ratios(how: &How, feed: &Feed) -> Ratios
     ensures { result ≡ coming_ratios how.now feed.now }
 {
@@ -84,7 +84,7 @@ fn coming_ratios(how: &How, feed: &Feed) -> Ratios
     }
 }
 
-/// An input that comes to a sink with this reference volume.
+/// A new input of a sink with this reference volume.
 pub fn coming(
     input: InputId,
     reference: &CVolume,
@@ -127,7 +127,7 @@ impl Member {
         self.volume.values()[usize::from(self.feed.channels()[s])]
     }
 
-    /// Another volume: one for all channels, or one each.
+    /// Sets its volume: one for all channels, or one each.
     pub fn set_volume(&mut self, volume: &CVolume)
         requires { SuitsChannels volume.now (length self.old.volume) }
         ensures { self.new ≡ with_volume volume.now self.old }
@@ -136,7 +136,7 @@ impl Member {
         self.volume = widened(volume, channels);
     }
 
-    /// The volume that its ratio to this reference volume gives.
+    /// Sets its volume to what its ratio to this reference volume gives.
     pub fn set_at_reference(&mut self, reference: &CVolume)
         requires { IsMember (length reference.now) self.old }
         ensures { self.new ≡ at_reference reference.now self.old }
@@ -147,7 +147,7 @@ impl Member {
         self.volume = volume;
     }
 
-    /// Its ratio to the reference volume follows its volume.
+    /// Sets its ratio to the reference volume to match its volume.
     pub fn follow_reference(&mut self, reference: &CVolume)
         requires { IsMember (length reference.now) self.old }
         ensures { self.new ≡ to_reference reference.now self.old }
@@ -158,7 +158,7 @@ impl Member {
         self.ratios.reference = ratios;
     }
 
-    /// Its ratio to the real volume follows its volume.
+    /// Sets its ratio to the real volume to match its volume.
     pub fn follow_real(&mut self, real: &CVolume)
         requires { IsMember (length real.now) self.old }
         ensures { self.new ≡ to_real real.now self.old }
@@ -188,7 +188,7 @@ fn in_sink(factors: &[u32]) -> Factors
     Factors::new(factors).unwrap()
 }
 
-/// A member's linear factors, one a channel of the sink, under the sink's real volume; 0 where it is silent.
+/// A member's linear factors, one a channel of the sink, under the sink's real volume; 0 where it is `silent`.
 pub fn factors_under(real: &CVolume, silent: bool, member: &Member) -> Factors
     requires { IsMember (length real.now) member.now }
     ensures { result ≡ factors_under real.now silent member.now }

@@ -18,14 +18,14 @@ pub fn place_of(members: &[Member], input: InputId) -> Option<usize>
     members.iter().position(|member| member.input.0 == input.0)
 }
 
-/// The member of an input, where it is there.
+/// The member of an input, if it is in the group.
 pub fn found(members: &[Member], input: InputId) -> Option<&Member>
     ensures { option_map (λ m. m.now) result ≡ member_of members.now input }
 {
     members.iter().find(|member| member.input.0 == input.0)
 }
 
-/// The member of an input that is there.
+/// The member of an input that is in the group.
 pub fn member_of(members: &[Member], input: InputId) -> &Member
     requires { IsSome (member_of members.now input) }
     ensures { member_of members.now input ≡ Some result.now }
@@ -48,7 +48,7 @@ fn real_at(members: &[Member], sinks: usize, s: usize) -> u32
     loudest
 }
 
-/// The real volume of a sink: the greatest that a member has, channel by channel; the reference volume where there is none.
+/// The real volume of a sink: the greatest volume of its members, channel by channel; the reference volume where there is none.
 pub fn real_of(reference: &CVolume, members: &[Member]) -> CVolume
     requires { AllByRecursion (IsMember (length reference.now)) members.now }
     ensures value { result ≡ real_over reference.now members.now }
@@ -66,7 +66,7 @@ pub fn real_of(reference: &CVolume, members: &[Member]) -> CVolume
     in_channels(values)
 }
 
-// Each member's ratio to the real volume follows its volume.
+// Sets each member's ratio to the real volume to match its volume.
 fn each_follows_real(members: &mut [Member], real: &CVolume)
     requires { AllByRecursion (IsMember (length real.now)) members.old }
     ensures { members.new ≡ map (to_real real.now) members.old }
@@ -76,7 +76,7 @@ fn each_follows_real(members: &mut [Member], real: &CVolume)
     }
 }
 
-// Each member's ratio to the reference volume follows its volume.
+// Sets each member's ratio to the reference volume to match its volume.
 fn each_follows_reference(members: &mut [Member], reference: &CVolume)
     requires { AllByRecursion (IsMember (length reference.now)) members.old }
     ensures { members.new ≡ map (to_reference reference.now) members.old }
@@ -86,7 +86,7 @@ fn each_follows_reference(members: &mut [Member], reference: &CVolume)
     }
 }
 
-// Each member has the volume that its ratio to this reference volume gives.
+// Sets each member's volume to what its ratio to this reference volume gives.
 fn each_at_reference(members: &mut [Member], reference: &CVolume)
     requires { AllByRecursion (IsMember (length reference.now)) members.old }
     ensures { members.new ≡ map (at_reference reference.now) members.old }
@@ -96,7 +96,7 @@ fn each_at_reference(members: &mut [Member], reference: &CVolume)
     }
 }
 
-// The ratios to the real volume follow it.
+// Sets the ratios to the real volume to match it.
 fn each_follows(reference: &CVolume, members: &mut [Member])
     requires { AllByRecursion (IsMember (length reference.now)) members.old }
     ensures { members.new ≡ followed_over reference.now members.old }
@@ -105,7 +105,7 @@ fn each_follows(reference: &CVolume, members: &mut [Member])
     each_follows_real(members, &real);
 }
 
-// The reference volume is raised to the real volume, and all ratios follow.
+// Raises the reference volume to the real volume, and sets all ratios to match.
 fn each_settles(reference: &mut CVolume, members: &mut [Member])
     requires { AllByRecursion (IsMember (length reference.old)) members.old }
     ensures reference { reference.new ≡ raised_over reference.old members.old }
@@ -116,7 +116,7 @@ fn each_settles(reference: &mut CVolume, members: &mut [Member])
     each_follows(reference, members);
 }
 
-// Each member has the volume that its ratio to this reference volume gives, and the ratios to the real volume follow.
+// Sets each member's volume to what its ratio to this reference volume gives, and its ratio to the real volume to match.
 fn each_is_set(reference: &CVolume, members: &mut [Member])
     requires { AllByRecursion (IsMember (length reference.now)) members.old }
     ensures { members.new ≡ followed_over reference.now (map (at_reference reference.now) members.old) }
@@ -125,7 +125,7 @@ fn each_is_set(reference: &CVolume, members: &mut [Member])
     each_follows(reference, members);
 }
 
-/// The ratios to the real volume follow it.
+/// Sets the ratios to the real volume to match it.
 pub fn follow(reference: &CVolume, members: &mut Vec<Member>)
     requires { AllByRecursion (IsMember (length reference.now)) members.old.items }
     ensures { members.new.items ≡ followed_over reference.now members.old.items }
@@ -133,7 +133,7 @@ pub fn follow(reference: &CVolume, members: &mut Vec<Member>)
     each_follows(reference, members.as_mut_slice());
 }
 
-/// The reference volume is raised to the real volume, and all ratios follow.
+/// Raises the reference volume to the real volume, and sets all ratios to match.
 pub fn settle(reference: &mut CVolume, members: &mut Vec<Member>)
     requires { AllByRecursion (IsMember (length reference.old)) members.old.items }
     ensures reference { reference.new ≡ raised_over reference.old members.old.items }
@@ -142,7 +142,7 @@ pub fn settle(reference: &mut CVolume, members: &mut Vec<Member>)
     each_settles(reference, members.as_mut_slice());
 }
 
-/// Each member has the volume that its ratio to this reference volume gives, and the ratios to the real volume follow.
+/// Sets each member's volume to what its ratio to this reference volume gives, and its ratio to the real volume to match.
 pub fn set_all(reference: &CVolume, members: &mut Vec<Member>)
     requires { AllByRecursion (IsMember (length reference.now)) members.old.items }
     ensures { members.new.items ≡ followed_over reference.now (map (at_reference reference.now) members.old.items) }
@@ -150,7 +150,7 @@ pub fn set_all(reference: &CVolume, members: &mut Vec<Member>)
     each_is_set(reference, members.as_mut_slice());
 }
 
-/// An input's member has this volume: one for all channels, or one each.
+/// Sets the volume of an input's member: one for all channels, or one each.
 pub fn set_volume(members: &mut Vec<Member>, input: InputId, volume: &CVolume)
     requires { IfSome (member_of members.old.items input) (λ m. SuitsChannels volume.now (length m.volume)) }
     ensures { members.new.items ≡ change_first (is_input input) (with_volume volume.now) members.old.items }
@@ -160,7 +160,7 @@ pub fn set_volume(members: &mut Vec<Member>, input: InputId, volume: &CVolume)
     }
 }
 
-/// An input's member is muted, or not.
+/// Mutes an input's member, or unmutes it.
 pub fn mute(members: &mut Vec<Member>, input: InputId, on: bool)
     ensures { members.new.items ≡ change_first (is_input input) (with_mute on) members.old.items }
 {
@@ -169,7 +169,7 @@ pub fn mute(members: &mut Vec<Member>, input: InputId, on: bool)
     }
 }
 
-/// An input's member leaves.
+/// Removes an input's member.
 pub fn forget(members: &mut Vec<Member>, input: InputId)
     ensures { members.new.items ≡ without_first (is_input input) members.old.items }
 {

@@ -1,4 +1,4 @@
--- The descriptor before a frame's payload: how it is spelled, and which rules it keeps.
+-- The descriptor before a frame's payload: its spelling, and its rules.
 use Rattle.std.specs.Prelude.{ℕ, ◌+◌, ◌*◌, ◌/◌, ◌%◌, ◌^◌, ◌<◌, List, ◌++◌, if◌then◌else◌, ◌==◌, nat_lt, nat_le, take, drop, Option, Some, None, ℤ, slice_index}
 use Rattle.std.specs.Int.{to_be_bytes, from_be_bytes, cast_signed, cast_unsigned, w32, w64}
 use Rattle.px_frame.specs.declared.descriptor.Descriptor.{Descriptor}
@@ -20,7 +20,7 @@ pub record HasWords (d : Descriptor) : Type 0 where
   pub offset_low : d.offset_low < 2 ^ 32
   pub flags : d.flags < 2 ^ 32
 
--- the first rule that it breaks, and in which of its bytes: the length word's, or the flags word's
+-- the first rule that it breaks, and the offset in it of the word that does: the length, or the flags
 abbrev pub broken_rule : Descriptor → Option (FrameFault × ℕ)
 broken_rule d =
     if d.length == 0 then Some (ZeroLength, 0)
@@ -38,11 +38,11 @@ byte_offset d = cast_signed w64 (d.offset_high * 2 ^ 32 + d.offset_low)
 abbrev pub seek_of : Descriptor → ℕ
 seek_of d = d.flags % 256
 
--- of a control packet of so many bytes
+-- of a control packet of this many bytes
 abbrev pub control_descriptor : ℕ → Descriptor
 control_descriptor n = record { length = n; channel = CONTROL_CHANNEL; offset_high = 0; offset_low = 0; flags = 0 }
 
--- of a write of so many bytes to a stream, at an offset that counts from where the seek mode says
+-- of a write of n bytes to a stream, at a byte offset from the origin of the seek mode
 abbrev pub data_descriptor : ℕ → ℕ → ℤ → ℕ → Descriptor
 data_descriptor n stream offset seek =
     let bits = cast_unsigned w64 offset in
@@ -52,11 +52,11 @@ data_descriptor n stream offset seek =
 abbrev pub AreBytes : List ℕ → Type 0
 AreBytes bytes = (i : ℕ) → slice_index bytes i < 256
 
--- the number in the four bytes from a place on
+-- the number in the four bytes from this place on
 abbrev pub word_at : ℕ → List ℕ → ℕ
 word_at k bytes = from_be_bytes w32 (take 4 (drop k bytes))
 
--- the descriptor that twenty bytes are
+-- the descriptor that twenty bytes spell
 unfoldable pub descriptor_in : List ℕ → Descriptor
 descriptor_in bytes = record {
   length = word_at 0 bytes;

@@ -1,12 +1,12 @@
--- What a piece brings that comes behind the bytes that a decoder holds.
+-- What a piece brings after the bytes that a decoder holds.
 use Rattle.std.specs.Prelude.{◌≡◌, ℕ, List, ◌++◌}
 use Rattle.px_frame.specs.declared.fault.FrameFault.{FrameFault}
 use Rattle.px_frame.specs.declared.frame.Frame.{Frame}
 use Rattle.px_frame.specs.Frame.{offset_at}
 use Rattle.px_frame.specs.Reading.{Splits, IsBegun, IsEnding, Broken}
 
--- behind `held`, which stands at `start`, the piece has these frames; then `held'` at `start'` is less than a
--- frame, and `left` of the piece is not taken
+-- after `held`, which begins at the offset `start`, the piece completes these frames; then `held'` at `start'` is less than a frame, and
+-- `left` of the piece is not taken
 pub record Feeds (start : ℕ) (held piece : List ℕ) (frames : List Frame) (start' : ℕ) (held' left : List ℕ) :
     Type 0 where
   pub after : ℕ
@@ -14,7 +14,7 @@ pub record Feeds (start : ℕ) (held piece : List ℕ) (frames : List Frame) (st
   pub begun : IsBegun held'
   pub start_is : start' ≡ offset_at after
 
--- behind `held` it has these frames, and then this fault
+-- after `held` the piece completes these frames, and then breaks this rule
 pub record Breaks (start : ℕ) (held piece : List ℕ) (frames : List Frame) (fault : FrameFault) (at : ℕ) : Type 0 where
   pub after : ℕ
   pub rest : List ℕ

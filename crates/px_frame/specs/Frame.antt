@@ -1,4 +1,4 @@
--- A frame on the wire, and what it says.
+-- A frame on the wire, and its meaning.
 use Rattle.std.specs.Prelude.{◌≡◌, ℕ, ◌+◌, ◌-◌, ◌^◌, ◌<◌, ◌≤◌, ◌≢◌, min, List, ◌++◌, length, if◌then◌else◌, ◌==◌, None}
 use Rattle.px_frame.specs.declared.descriptor.Descriptor.{Descriptor}
 use Rattle.px_types.specs.declared.limits.TheConstants.{CONTROL_CHANNEL, MAX_PAYLOAD}
@@ -16,28 +16,28 @@ pub record Wire : Type 0 where
 abbrev pub wire_bytes : Wire → List ℕ
 wire_bytes w = descriptor_bytes w.descriptor ++ w.payload
 
--- it is a frame: its descriptor breaks no rule, and its payload has the length that it says
+-- a well-formed frame: its descriptor breaks no rule, and its payload has the length that the descriptor gives
 pub record IsFrame (w : Wire) : Type 0 where
   pub words : HasWords w.descriptor
   pub lawful : broken_rule w.descriptor ≡ None
   pub whole : length w.payload ≡ w.descriptor.length
 
--- an offset in the bytes of a connection stays at the last number of 64 bits once it is there
+-- an offset in the bytes of a connection stays at 2 ^ 64 - 1 once it reaches that
 abbrev pub offset_at : ℕ → ℕ
 offset_at n = min n (2 ^ 64 - 1)
 
--- what the descriptor says of the payload
+-- the meaning of a payload by its descriptor
 abbrev pub body_of : Descriptor → List ℕ → Body
 body_of d payload =
     if d.channel == CONTROL_CHANNEL then Control payload
     else Write d.channel (byte_offset d) (seek_of d) payload
 
--- what a frame can say: 1 to 16,777,216 bytes, and for a stream one of four seek modes
+-- a possible body: 1 to 16,777,216 bytes, and for a stream one of four seek modes
 abbrev pub IsBody : Body → Type 0
 IsBody (Control bytes) = (0 < length bytes) × (length bytes ≤ MAX_PAYLOAD)
 IsBody (Write stream offset seek bytes) =
     (stream ≢ CONTROL_CHANNEL) × (seek ≤ 3) × (0 < length bytes) × (length bytes ≤ MAX_PAYLOAD)
 
--- what a frame says that begins there: its offset is that of its payload
+-- the meaning of a frame that begins at this offset: its own offset is that of its payload
 abbrev pub frame_of : ℕ → Wire → Frame
 frame_of start w = record { at = offset_at (start + 20); body = body_of w.descriptor w.payload }

@@ -1,4 +1,4 @@
--- What a whole list of bytes is read as, frame by frame from its front: the only frames and the only ending that it has.
+-- The reading of a whole list of bytes, frame by frame from its front: its only frames and its only ending.
 use Rattle.std.specs.Prelude.{ℕ, zero, suc, ◌+◌, cond, nat_lt, List, [], ◌∷◌, length, take, drop, Option, Some, None}
 use Rattle.px_frame.specs.declared.descriptor.Descriptor.{Descriptor}
 use Rattle.px_frame.specs.declared.fault.FrameFault.{FrameFault}
@@ -15,13 +15,14 @@ pub record Meaning : Type 0 where
 abbrev pub unfinished : Meaning
 unfinished = record { frames = []; ending = Unfinished }
 
--- a descriptor that stands there, with the bytes behind it: the rule that it breaks, or its frame and the meaning of what follows, if all of its payload is there
+-- a descriptor at an offset, with the bytes after it: the rule that it breaks, or its frame and the meaning of what follows, if all of its
+-- payload is there
 abbrev pub described : ℕ → Descriptor → List ℕ → Option (FrameFault × ℕ) → Meaning → Meaning
 described start d behind (Some rule) later = record { frames = []; ending = Broken rule.0 (offset_at (start + rule.1)) }
 described start d behind None later = cond (nat_lt (length behind) d.length) unfinished
     (record { frames = frame_of start (record { descriptor = d; payload = take d.length behind }) ∷ later.frames; ending = later.ending })
 
--- the bytes from an offset on. Each frame has twenty bytes at least, so there are no more of them than bytes
+-- the bytes from an offset on. Each frame has at least twenty bytes, so the number of bytes bounds the number of frames
 abbrev pub meant_from : ℕ → ℕ → List ℕ → Meaning
 meant_from zero start bytes = unfinished
 meant_from (suc most) start bytes = cond (nat_lt (length bytes) 20) unfinished

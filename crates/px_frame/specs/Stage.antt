@@ -18,14 +18,14 @@ held_of (Head bytes got) = take got bytes
 held_of (Control d bytes missing) = descriptor_bytes d ++ bytes.items
 held_of (Write d bytes missing) = descriptor_bytes d ++ bytes
 
--- of the payload that the descriptor says, so many bytes have come and so many haven't
+-- of the payload whose length the descriptor gives, `got` bytes have come and `missing` haven't
 pub record IsAwaiting (d : Descriptor) (got missing : ℕ) : Type 0 where
   pub words : HasWords d
   pub lawful : broken_rule d ≡ None
   pub whole : got + missing ≡ d.length
   pub some : 0 < missing
 
--- less than a frame has come, on the right channel, and there is room for all of a control packet
+-- less than a frame has come, on the right channel, and there is room for a whole control packet
 abbrev pub IsPart : Part → Type 0
 IsPart (Head bytes got) = (length bytes ≡ 20) × (got < 20)
 IsPart (Control d bytes missing) =
@@ -33,7 +33,7 @@ IsPart (Control d bytes missing) =
     × (length bytes.items + missing ≤ vec_capacity bytes)
 IsPart (Write d bytes missing) = IsAwaiting d (length bytes) missing × (d.channel ≢ CONTROL_CHANNEL)
 
--- a step on from the bytes held: it takes some of the piece, and brings at most one frame, or a fault
+-- a step from the bytes held: it takes some of the piece, and completes at most one frame, or finds a fault
 abbrev pub IsStep : ℕ → List ℕ → List ℕ → Step → Type 0
 IsStep start held piece (On part start' taken frame) =
     Feeds start held piece (option_to_list frame) start' (held_of part) (drop taken piece)

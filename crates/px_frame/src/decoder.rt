@@ -16,19 +16,19 @@ use std::alloc::Global;
 use std::marker::Model;
 use std::mem;
 
-/// Where a decoder stands.
+/// The state of a decoder.
 #[derive(Drop)]
 pub enum Stage {
     /// In a frame.
     Within(Part),
-    /// Behind a fault.
+    /// After a fault.
     Failed { fault: FrameFault, at: u64 },
-    /// Nowhere: there was no memory.
+    /// Lost: there was no memory.
     Lost,
 }
 
-/// Takes the frames out of one connection's bytes (`do_read` in `pulsecore/pstream.c`). It holds the bytes of
-/// at most one frame. A contract sees it as where it stands: in a frame, behind a fault, or lost.
+/// Takes the frames out of one connection's bytes (`do_read` in `pulsecore/pstream.c`). It holds the bytes of at most one frame. A contract
+/// sees its state: within a frame, after a fault, or lost.
 #[derive(Drop)]
 pub struct Decoder {
     alloc: Global,
@@ -49,7 +49,7 @@ impl Model for Decoder {
 }
 
 impl Decoder {
-    /// A decoder that was fed nothing. Takes no memory.
+    /// A decoder that hasn't been fed yet. Takes no memory.
     pub fn new(alloc: Global) -> Decoder
         ensures value { result ≡ Within 0 [] }
         ensures fed { HasFed result [] [] }
@@ -61,24 +61,23 @@ impl Decoder {
         }
     }
 
-    /// Takes the next bytes of the connection, in whatever pieces they come, and gives the frames that are
-    /// whole now. A `Fault` gives those before it, with the offset of the word that breaks a rule, and all later
-    /// bytes are outside: each later feed answers `Failed` with the same fault. After `NoMemory` frames may be
-    /// lost, and each later feed answers it again. Payload bytes are copied once, into a packet whose room is
-    /// taken when its descriptor is whole, or into blocks of `blocks`.
+    /// Takes the next bytes of the connection, in whatever pieces they come, and gives the frames that are now whole. A `Fault` gives those
+    /// before it, with the offset of the word that breaks a rule, and all later bytes are ignored: each later feed answers `Failed` with
+    /// the same fault. After `NoMemory` frames may be lost, and each later feed answers it again. Payload bytes are copied once, into a
+    /// packet whose room is taken when its descriptor is whole, or into blocks of `blocks`.
     pub fn feed<B: BlockSource>(
         &mut self,
         piece: &[u8],
         blocks: &mut B,
     ) -> Result<Frames, FrameError>
-        // Whatever was fed before, and whatever frames it gave.
+        // For any bytes fed before, and the frames that they gave.
         ensures answers { (fed : List ℕ) (before : List Frame) → HasFed self.old fed before
             → Answers fed before piece.now result }
         ensures leaves { (fed : List ℕ) (before : List Frame) → HasFed self.old fed before
             → Leaves self.new fed before piece.now result }
         // Each frame has 1 to 16,777,216 bytes, and one for a stream has a stream's channel and a known seek mode.
         ensures bodies { GivesBodies result }
-        // It failed before, exactly where an earlier feed answered that fault.
+        // Answers `Failed` exactly where an earlier feed answered that fault.
         ensures failed { (fault : FrameFault) (at : ℕ) →
             (self.old ≡ Stopped fault at) ↔ (result ≡ Err (FrameError.Failed fault at)) }
         ensures stays { (fault : FrameFault) (at : ℕ) → self.old ≡ Stopped fault at → self.new ≡ self.old }
@@ -97,7 +96,7 @@ impl Decoder {
         }
     }
 
-    // Stands where the run ends, and answers what it brought.
+    // Takes the state at the end of the run, and answers what it brought.
     fn stand(&mut self, run: Run) -> Result<Frames, FrameError>
         requires { IsRemaining run }
         ensures answer { result ≡ answer_of run }
@@ -121,7 +120,7 @@ impl Decoder {
     }
 }
 
-/// What a whole piece brought.
+/// The result of a whole piece.
 #[derive(Drop)]
 pub enum Run {
     /// These frames, and a part of the next, which begins at `start`.
@@ -138,7 +137,7 @@ pub enum Run {
     },
 }
 
-// Takes the whole piece, or what stands before a fault.
+// Takes the whole piece, or what comes before a fault.
 fn take_piece<B: BlockSource>(
     alloc: Global,
     part: Part,

@@ -10,7 +10,7 @@ use px_types::limits::{CONTROL_CHANNEL, MAX_PAYLOAD};
 /// The length of a descriptor in bytes (`PA_PSTREAM_DESCRIPTOR_SIZE`).
 pub const DESCRIPTOR_SIZE: usize = 20;
 
-/// The five words of a descriptor, in the order in which they stand on the wire.
+/// The five words of a descriptor, in their order on the wire.
 #[derive(Clone, Copy, Debug, PartialEq, Eq)]
 pub struct Descriptor {
     pub length: u32,
@@ -35,7 +35,7 @@ impl Descriptor {
         }
     }
 
-    /// The first rule that it breaks, and in which of its bytes.
+    /// The first rule that it breaks, and the offset in it of that word.
     pub fn broken_rule(&self) -> Option<(FrameFault, u64)>
         ensures { result ≡ broken_rule self.now }
     {
@@ -75,7 +75,7 @@ impl Descriptor {
     }
 }
 
-// The word whose bytes begin there.
+// The word whose four bytes begin at place `at`.
 fn word(bytes: &[u8; 20], at: usize) -> u32
     requires { at + 4 ≤ 20 }
     ensures { to_be_bytes w32 result ≡ take 4 (drop at bytes.now) }
@@ -83,7 +83,7 @@ fn word(bytes: &[u8; 20], at: usize) -> u32
     u32::from_be_bytes([bytes[at], bytes[at + 1], bytes[at + 2], bytes[at + 3]])
 }
 
-// Copies into the descriptor's bytes, of which some are there, as many as are missing or given.
+// Copies the missing bytes of the descriptor, of which `got` are there, from the front of `rest`; answers how many.
 pub fn fill(bytes: &mut [u8; 20], got: usize, rest: &[u8]) -> usize
     requires { got < 20 }
     ensures bytes { take (got + result) bytes.new ≡ take got bytes.old ++ take result rest.now }

@@ -1,4 +1,4 @@
-// What can be wrong with a descriptor, and how a decoder says so.
+// The faults of a descriptor, and how a decoder reports them.
 
 ghost use Rattle.std.specs.Prelude.{◌≡◌};
 ghost use Rattle.px_frame.specs.Fault.{code_of};
@@ -45,7 +45,7 @@ impl FrameFault {
 /// Why a decoder gives no frames, or no more than these.
 #[derive(Debug, Drop, Error)]
 pub enum FrameError {
-    /// These frames came before the first fault.
+    /// A descriptor breaks a rule; these frames came before it.
     #[error("{fault} at byte {at}")]
     Fault {
         frames: Frames,

@@ -7,16 +7,16 @@ use px_block::{Blocks, Mem};
 use std::alloc::Global;
 use std::marker::Model;
 
-/// What one frame says.
+/// A frame that was read.
 #[derive(Debug, Drop)]
 pub struct Frame {
-    /// Where its payload begins, in the bytes of the connection. It stays at `u64::MAX` once it is there.
+    /// The offset of its payload in the bytes of the connection. It stays at `u64::MAX` once it reaches that.
     pub at: u64,
     /// What it carries.
     pub body: Body,
 }
 
-/// A frame's payload, 1 to 16,777,216 bytes, and what its descriptor says of it.
+/// A frame's payload, 1 to 16,777,216 bytes, and its meaning by the descriptor.
 #[derive(Debug, Drop)]
 pub enum Body {
     /// A control packet.
@@ -25,7 +25,7 @@ pub enum Body {
     Write {
         /// The stream's number at this connection, not 0xFFFFFFFF.
         stream: u32,
-        /// Where to write, in bytes, counted from where `seek` says.
+        /// Where to write, in bytes, from the origin that `seek` gives.
         offset: i64,
         /// The seek mode (`pa_seek_mode_t`): 0 relative to the write index, 1 absolute, 2 relative to the
         /// read index, 3 relative to the end.
@@ -60,7 +60,7 @@ impl Frames {
         }
     }
 
-    /// Appends a frame. After an `Err` the frame is dropped, and no other is.
+    /// Appends a frame. After an `Err` that frame alone is dropped.
     pub fn push(&mut self, frame: Frame) -> Mem<()>
         ensures ok { OnOk result (self.new ≡ self.old ++ frame ∷ []) }
         ensures err { OnErr result (self.new ≡ self.old) }
@@ -69,7 +69,7 @@ impl Frames {
         Ok(())
     }
 
-    /// Appends the frames of another list. After an `Err` those are dropped, and no other is.
+    /// Appends the frames of another list. After an `Err` those alone are dropped.
     pub fn append(&mut self, mut more: Frames) -> Mem<()>
         ensures ok { OnOk result (self.new ≡ self.old ++ more) }
         ensures err { OnErr result (self.new ≡ self.old) }

@@ -4,7 +4,7 @@ ghost use Rattle.std.specs.Prelude.{◌≡◌, ◌+◌, ◌≤◌, ◌++◌, len
 
 use std::marker::Model;
 
-/// A packet's bytes (`pa_packet`): the payload of a control frame, or a whole frame where it is to be sent.
+/// A packet's bytes (`pa_packet`): the payload of a control frame, or a whole frame to be sent.
 #[derive(Debug, Drop)]
 pub struct Packet {
     bytes: Vec<u8>,
@@ -41,7 +41,7 @@ impl Packet {
     }
 }
 
-/// Appends bytes for which there is room.
+/// Appends bytes that there is room for.
 pub fn append(bytes: &mut Vec<u8>, more: &[u8])
     requires { vec_len bytes.old + length more.now ≤ vec_capacity bytes.old }
     ensures items { bytes.new.items ≡ bytes.old.items ++ more.now }

@@ -1,4 +1,4 @@
-// A whole stream, in whatever pieces.
+// Decoding a whole stream, in whatever pieces.
 
 ghost use Rattle.std.specs.Prelude.{ℕ, List, [], ◌++◌, map};
 ghost use Rattle.std.specs.List.{concat};
@@ -12,8 +12,8 @@ use crate::frame::Frames;
 use px_block::BlockSource;
 use std::alloc::Global;
 
-/// The frames of a stream that comes in these pieces, or with `Fault` those before its first fault, as its bytes
-/// alone say. It is never `Failed`.
+/// The frames of a stream that comes in these pieces, or with `Fault` those before its first fault; both depend on its bytes alone. It is
+/// never `Failed`.
 pub fn decode<B: BlockSource>(
     alloc: Global,
     pieces: &[&[u8]],
@@ -25,7 +25,7 @@ pub fn decode<B: BlockSource>(
     feed_all(alloc, &mut decoder, pieces, blocks)
 }
 
-// The frames of all these pieces, or the error behind some of them.
+// The frames of all these pieces, or the error after some frames.
 fn feed_all<B: BlockSource>(
     alloc: Global,
     decoder: &mut Decoder,
@@ -42,14 +42,14 @@ fn feed_all<B: BlockSource>(
     Ok(all)
 }
 
-// The frames so far and those that this piece brings, or the error behind them.
+// The frames so far and those that this piece brings, or the error after them.
 fn more<B: BlockSource>(
     decoder: &mut Decoder,
     mut all: Frames,
     piece: &[u8],
     blocks: &mut B,
 ) -> Result<Frames, FrameError>
-    // Whatever bytes said the frames so far.
+    // For any bytes whose frames are those so far.
     ensures { (fed : List ℕ) → HasFed decoder.old fed all → IsRead fed all Unfinished
         → IsSoFar decoder.new (fed ++ piece.now) result }
 {
@@ -62,7 +62,7 @@ fn more<B: BlockSource>(
     }
 }
 
-// The error behind frames that came before it.
+// Puts earlier frames before an error.
 fn behind(mut all: Frames, error: FrameError) -> FrameError
     ensures { IsBehind all error result }
 {

@@ -1,4 +1,4 @@
-// How far a decoder is in the frame that has begun.
+// The part of the current frame that has come.
 
 ghost use Rattle.std.specs.Prelude.{◌≡◌, ◌≢◌, ℕ, ◌+◌, ◌<◌, ◌≤◌, List, [], ◌++◌, length, take, IfOk, None};
 ghost use Rattle.px_types.specs.declared.limits.TheConstants.{CONTROL_CHANNEL};
@@ -14,10 +14,10 @@ use px_block::{BlockSource, Blocks, Mem};
 use px_types::limits::CONTROL_CHANNEL;
 use std::alloc::Global;
 
-/// What has come of a frame.
+/// The part of a frame that has come.
 #[derive(Drop)]
 pub enum Part {
-    /// The first bytes of its descriptor, less than all.
+    /// The first bytes of its descriptor, not yet all.
     Head {
         bytes: [u8; 20],
         got: usize,
@@ -36,10 +36,10 @@ pub enum Part {
     },
 }
 
-/// What some bytes brought.
+/// The result of taking some bytes.
 #[derive(Drop)]
 pub enum Step {
-    /// So many bytes were taken, and with them at most one frame became whole.
+    /// `taken` bytes were taken, and at most one frame became whole.
     On {
         part: Part,
         start: u64,
@@ -54,7 +54,7 @@ pub enum Step {
 }
 
 impl Part {
-    /// Nothing of a frame.
+    /// No byte of a frame has come.
     pub fn new() -> Part
         ensures held { held_of result ≡ [] }
         ensures part { IsPart result }
@@ -113,7 +113,7 @@ fn head_step(alloc: Global, mut bytes: [u8; 20], got: usize, start: u64, piece: 
     Ok(waiting(part, start, count))
 }
 
-// No frame became whole.
+// A step that completes no frame.
 fn waiting(part: Part, start: u64, taken: usize) -> Step
     ensures { result ≡ Step.On part start taken None }
 {
@@ -125,7 +125,7 @@ fn waiting(part: Part, start: u64, taken: usize) -> Step
     }
 }
 
-// Nothing of the payload that the descriptor says. A control packet's room is taken here.
+// The part with a whole descriptor and no payload. A control packet's room is taken here.
 fn payload_part(alloc: Global, descriptor: Descriptor) -> Mem<Part>
     requires { broken_rule descriptor ≡ None }
     ensures part { IfOk result IsPart }
@@ -200,7 +200,7 @@ fn write_step<B: BlockSource>(
     Ok(whole(&descriptor, body, start, count))
 }
 
-// What a frame for a stream says. Its bytes wait in no more memory than they need.
+// The body of a frame for a stream. Its bytes hold no more memory than they need.
 fn write_body(descriptor: &Descriptor, mut bytes: Blocks) -> Body
     requires { descriptor.now.channel ≢ CONTROL_CHANNEL }
     ensures { result ≡ body_of descriptor.now bytes }
@@ -214,7 +214,7 @@ fn write_body(descriptor: &Descriptor, mut bytes: Blocks) -> Body
     }
 }
 
-// The frame became whole, and the next begins behind it.
+// The frame became whole, and the next begins after it.
 fn whole(descriptor: &Descriptor, body: Body, start: u64, taken: usize) -> Step
     ensures { IsWhole descriptor.now body start taken result }
 {

@@ -32,8 +32,8 @@ pub fn write_packet(alloc: Global, bytes: &[u8]) -> Mem<Packet>
     framed(alloc, &descriptor, bytes)
 }
 
-/// The frame of a write to a stream (`pa_pstream_send_memblock`): 1 to 16,777,216 bytes, for a stream other than
-/// 0xFFFFFFFF, with a byte offset that counts from where the seek mode says, 0 to 3.
+/// The frame of a write to a stream (`pa_pstream_send_memblock`): 1 to 16,777,216 bytes, for a stream other than 0xFFFFFFFF, with a byte
+/// offset from the origin of the seek mode, 0 to 3.
 pub fn write_data(alloc: Global, stream: u32, offset: i64, seek: u8, bytes: &[u8]) -> Mem<Packet>
     requires some { 0 < length bytes.now }
     requires few { length bytes.now ≤ MAX_PAYLOAD }

@@ -1,5 +1,4 @@
--- What the clients of a generated session say: each has a stream, the first three in stereo on the sink `a`, the fourth in mono on the
--- sink `b`.
+-- What the clients of a generated session send: each has a stream, the first three in stereo on the sink `a`, the fourth in mono on the sink `b`.
 use Rattle.std.specs.Prelude.{ℕ, ◌-◌, Bool, false, List, [], ◌∷◌, ◌++◌, length, replicate, None, pos, ◌==◌, if◌then◌else◌}
 use Rattle.std.specs.List.{flat_map}
 use Rattle.px_tag.specs.declared.raw.RawSpec.{RawSpec}
@@ -32,7 +31,7 @@ map_of conn = if is_mono conn then 0 ∷ [] else 1 ∷ 2 ∷ []
 abbrev pub spec_of : ℕ → RawSpec
 spec_of conn = record { format = 3; channels = length (map_of conn); rate = 48000 }
 
--- the server chooses maxlength, tlength and minreq; a frame is enough to begin
+-- the server chooses maxlength, tlength and minreq; prebuf is a byte: a frame is enough to begin
 abbrev pub create_fields : ℕ → CreateFields
 create_fields conn = record {
   spec = spec_of conn;
@@ -68,7 +67,7 @@ packet tag command = packet_of (number_of command) tag (fields_of command)
 unfoldable pub auth_packet : List ℕ
 auth_packet = packet 0 (Auth 13 cookie)
 
--- the parts of its fields: the sample spec, the channel map and the sink; what stands up to the volume; the flags behind that
+-- the parts of its fields: the sample spec, the channel map and the sink; those up to the volume; the flags after it
 abbrev pub shape : ℕ → List ℕ
 shape conn = spec (spec_of conn) ++ channel_map (map_of conn) ++ number (sink_of conn) ++ text None
 

@@ -1,5 +1,5 @@
--- The session that a number and a count give: four clients that play, and then as many steps, each of one client's frame and a turn of
--- its sink. Own.
+-- The session generated from a number and a count: four clients that play, and then `count` steps, each of one client's frame and a turn of its sink.
+-- Own.
 use Rattle.std.specs.Prelude.{ℕ, zero, suc, ◌+◌, ◌*◌, ◌/◌, ◌%◌, List, [], ◌∷◌, ◌++◌, length, codes, ◌==◌, if◌then◌else◌}
 use Rattle.std.specs.List.{flat_map}
 use Rattle.px_types.specs.declared.ids.ConnId.{ConnId}
@@ -37,7 +37,7 @@ header = record { cookie = cookie; sinks = sink_a ∷ sink_b ∷ [] }
 abbrev pub conn : ℕ → ConnId
 conn n = record { 0 = n }
 
--- a client connects, is let in, and has a stream
+-- a client connects, authenticates, and creates a stream
 abbrev pub client_events : ℕ → List Event
 client_events n = Connect (conn n) ∷ Bytes (conn n) (control_frame auth_packet) ∷ Bytes (conn n) (control_frame (create_packet n)) ∷ []
 
@@ -47,7 +47,7 @@ opening = flat_map client_events (1 ∷ 2 ∷ 3 ∷ 4 ∷ []) ++ (Turn 0 0 6 ∷
 
 -- ---- a step
 
--- the connection that a number chooses, and which of eight things its client does
+-- the connection that a number chooses, and which of eight actions its client does
 abbrev pub conn_in : ℕ → ℕ
 conn_in number = 1 + number % 4
 
@@ -61,21 +61,21 @@ frames = 64
 abbrev pub samples_of : ℕ → ℕ
 samples_of n = frames * length (map_of n)
 
--- the frame that the client says, by the state behind the step's first number: a volume, a cork, or samples
+-- the frame that the client sends, by the state after the step's first number: a volume, a cork, or samples
 unfoldable pub said : ℕ → ℕ → ℕ → List ℕ
 said n choice x =
     if choice == 0 then control_frame (volume_packet n (next_number x % 65537))
     else if choice == 1 then control_frame (cork_packet (next_number x % 4 == 0))
     else data_frame (samples (samples_of n) x)
 
--- the state behind these numbers
+-- the state after these numbers
 unfoldable pub state_said : ℕ → ℕ → ℕ → ℕ
 state_said n choice x =
     if choice == 0 then next_state x
     else if choice == 1 then next_state x
     else state_after (samples_of n) x
 
--- a step by its first number, and the state behind that
+-- a step by its first number, and the state after it
 abbrev pub events_by : ℕ → ℕ → List Event
 events_by number x = Bytes (conn (conn_in number)) (said (conn_in number) (choice_in number) x) ∷ Turn (sink_of (conn_in number)) frames 1 ∷ []
 
@@ -85,7 +85,7 @@ step_events x = events_by (next_number x) (next_state x)
 unfoldable pub step_state : ℕ → ℕ
 step_state x = state_said (conn_in (next_number x)) (choice_in (next_number x)) (next_state x)
 
--- the events of so many steps
+-- the events of this many steps
 abbrev pub steps : ℕ → ℕ → List Event
 steps zero x = []
 steps (suc n) x = step_events x ++ steps n (step_state x)

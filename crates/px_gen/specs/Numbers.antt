@@ -1,13 +1,13 @@
--- The numbers that a session is made of: a linear congruential generator of 64 bits, with the multiplier of Knuth's MMIX, of whose
--- states the highest 31 bits are given. Own.
+-- The numbers that a session is generated from: a linear congruential generator of 64 bits, with the multiplier of Knuth's MMIX; a number is the
+-- highest 31 bits of a state. Own.
 use Rattle.std.specs.Prelude.{ℕ, zero, suc, ◌+◌, ◌*◌, ◌/◌, ◌%◌, ◌^◌, List, [], ◌++◌}
 use Rattle.std.specs.Int.{w16, to_le_bytes}
 
--- the state behind a state
+-- the state after a state
 unfoldable pub next_state : ℕ → ℕ
 next_state x = (x * 6364136223846793005 + 1442695040888963407) % 2 ^ 64
 
--- the number of a state, and the one that comes next behind a state
+-- the number of a state, and the next one after a state
 unfoldable pub number_in : ℕ → ℕ
 number_in x = x / 2 ^ 33
 

@@ -8,7 +8,7 @@ use Rattle.px_ends.specs.Whole.{AddsFront}
 use Rattle.px_gen.specs.declared.writing.Stop.{Stop}
 use Rattle.px_gen.specs.declared.writing.Stop.TheVariants as stop
 
--- all bytes were added to what is held, or a front of them
+-- all bytes were appended to the visible ones, or a front of them
 abbrev pub Writes : {A : Type 0} → Result A Stop → List ℕ → Option (List ℕ) → Option (List ℕ) → Type 0
 Writes (Ok done) bytes before now = now ≡ after_adding before bytes
 Writes (Err e) bytes before now = AddsFront bytes before now
@@ -19,19 +19,19 @@ Counts (Ok done) before now = now ≡ before
 Counts (Err stop.NoMemory) before now = now ≡ before
 Counts (Err stop.Failed) before now = Rose before now
 
--- of what was given in all, a front was added to what the first ends held, and the rest waits
+-- a front of `given` was appended to the first visible bytes, and the rest waits
 pub record Gathered (given : List ℕ) (first now : Option (List ℕ)) (waiting : List ℕ) : Type 0 where
   pub front : List ℕ
   pub joined : given ≡ front ++ waiting
   pub held : now ≡ after_adding first front
 
--- all that is to be given was, or a part of it; or a write failed, and a front of it was added
+-- the same, where all bytes or a part of them were given; or a write failed, and a front of them was appended
 abbrev pub GatheredBy : {A : Type 0} → Result A Stop → List ℕ → Option (List ℕ) → Option (List ℕ) → List ℕ → Type 0
 GatheredBy (Ok done) given first now waiting = Gathered given first now waiting
 GatheredBy (Err stop.NoMemory) given first now waiting = (part : List ℕ) × (rest : List ℕ) × (given ≡ part ++ rest) × Gathered part first now waiting
 GatheredBy (Err stop.Failed) given first now waiting = AddsFront given first now
 
--- the same of a status; there is no other
+-- the same by a status; there is no other
 abbrev pub Leaves : Status → List ℕ → Option (List ℕ) → Option (List ℕ) → Type 0
 Leaves status.Ok bytes before now = now ≡ after_adding before bytes
 Leaves status.Memory bytes before now = AddsFront bytes before now

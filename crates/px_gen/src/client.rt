@@ -1,4 +1,4 @@
-// What the clients of a generated session say.
+// What the clients of a generated session send.
 
 ghost use Rattle.std.specs.Prelude.{◌≡◌, ◌<◌, ◌≤◌, ◌++◌, [], length, IfOk, OnOk};
 ghost use Rattle.px_gen.specs.Client.{shape, buffering, nine_flags, sink_of, map_of, auth_packet, create_packet, volume_packet, cork_packet, control_frame, data_frame};
@@ -41,7 +41,7 @@ fn auth_packet(alloc: Global) -> Mem<Packet>
     Ok(writer.finish())
 }
 
-// The nine flags of CREATE_PLAYBACK_STREAM behind the volume, none of them set.
+// The nine flags that follow the volume in CREATE_PLAYBACK_STREAM, none of them set.
 fn no_flags(writer: &mut TagWriter) -> Mem<()>
     ensures { OnOk result (writer.new ≡ writer.old ++ nine_flags) }
 {
@@ -71,7 +71,7 @@ fn put_shape(writer: &mut TagWriter, conn: u32) -> Mem<()>
     writer.text(None)
 }
 
-// The attributes, and what stands among them and behind them up to the volume.
+// The buffer attributes, and the fields around them up to the volume.
 fn put_buffering(writer: &mut TagWriter) -> Mem<()>
     ensures { OnOk result (writer.new ≡ writer.old ++ buffering) }
 {
@@ -84,7 +84,7 @@ fn put_buffering(writer: &mut TagWriter) -> Mem<()>
     writer.cvolume(&RawVolume::new(&[65_536]))
 }
 
-// What stands in CREATE_PLAYBACK_STREAM, with tag 1.
+// The fields of CREATE_PLAYBACK_STREAM, with tag 1.
 #[tactic(auto, using(crate::proofs::Sizes::create_joined))]
 fn put_creation(alloc: Global, writer: &mut TagWriter, conn: u32) -> Mem<()>
     requires { writer.old ≡ [] }
@@ -146,7 +146,7 @@ fn framed(alloc: Global, packet: &Packet) -> px_types::Mem<Text>
     }
 }
 
-/// The client asks to be let in.
+/// The client authenticates.
 #[tactic(auto, using(crate::proofs::Sizes::auth_some, crate::proofs::Sizes::auth_few))]
 pub(crate) fn auth(alloc: Global) -> px_types::Mem<Text>
     ensures { IfOk result (λ frame. frame ≡ control_frame auth_packet) }
@@ -157,7 +157,7 @@ pub(crate) fn auth(alloc: Global) -> px_types::Mem<Text>
     }
 }
 
-/// The client of a connection asks for its stream.
+/// The client of a connection creates its stream.
 #[tactic(auto, using(crate::proofs::Sizes::create_some, crate::proofs::Sizes::create_few))]
 pub(crate) fn create(alloc: Global, conn: u32) -> px_types::Mem<Text>
     ensures { IfOk result (λ frame. frame ≡ control_frame (create_packet conn)) }

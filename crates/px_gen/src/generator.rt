@@ -1,4 +1,4 @@
-// A session of a number and a count.
+// A session generated from a number and a count.
 
 ghost use Rattle.std.specs.Prelude.{◌≡◌, ℕ, List, [], ◌++◌, Option, Some, OnOk};
 ghost use Rattle.std.specs.List.{flat_map, AllByRecursion};
@@ -30,7 +30,7 @@ fn gather_step(alloc: Global, numbers: &mut Numbers, pieces: &mut Pieces) -> Res
     write_events(pieces, &events)
 }
 
-// Writes what waits where that is a piece.
+// Writes what waits once it has the size of a piece.
 fn write_piece<K: Sink>(pieces: &mut Pieces, out: &mut K) -> Result<(), Stop>
     ensures bytes { (first : Option (List ℕ)) (given : List ℕ) → Gathered given first (K.held out.old) pieces.old.bytes → GatheredBy result given first (K.held out.new) pieces.new.bytes }
     ensures count { Counts result (K.faults out.old) (K.faults out.new) }
@@ -44,7 +44,7 @@ fn write_piece<K: Sink>(pieces: &mut Pieces, out: &mut K) -> Result<(), Stop>
     }
 }
 
-// Gathers the events of the next step, and writes what waits where that is a piece.
+// Gathers the events of the next step, and writes what waits once it has the size of a piece.
 fn write_step<K: Sink>(
     alloc: Global,
     numbers: &mut Numbers,
@@ -62,7 +62,7 @@ fn write_step<K: Sink>(
     write_piece(pieces, out)
 }
 
-// Gathers and writes the events of so many steps.
+// Gathers and writes the events of `count` steps.
 #[tactic(auto, using(crate::proofs::Loops::behind_more))]
 fn write_steps<K: Sink>(
     alloc: Global,
@@ -83,7 +83,7 @@ fn write_steps<K: Sink>(
     Ok(())
 }
 
-// Writes a header and the events behind it.
+// Writes a header and the events after it.
 #[tactic(auto, using(crate::proofs::Written::stops_first, crate::proofs::Written::goes_on))]
 fn write_front<K: Sink>(out: &mut K, header: &Header, events: &[Event]) -> Result<(), Stop>
     requires header { FitsHeader header.now }
@@ -128,7 +128,7 @@ fn write_session<K: Sink>(
     }
 }
 
-// Writes what waits still, behind what was done so.
+// Writes the rest that waits, after a call with this result.
 #[tactic(auto, using(crate::proofs::Gathering::ends_all, crate::proofs::Gathering::ends_short, crate::proofs::Gathering::is_cut, crate::proofs::Gathering::short_cut))]
 fn finish<K: Sink>(done: Result<(), Stop>, pieces: &mut Pieces, out: &mut K) -> Result<(), Stop>
     ensures bytes { (first : Option (List ℕ)) (given : List ℕ) → GatheredBy done given first (K.held out.old) pieces.old.bytes → Writes result given first (K.held out.new) }
@@ -147,11 +147,11 @@ fn finish<K: Sink>(done: Result<(), Stop>, pieces: &mut Pieces, out: &mut K) -> 
     }
 }
 
-/// Writes the session that a number and a count give: a header of two sinks, four clients that play on them, `count` steps, each of one
-/// client's frame and a turn of its sink of 64 frames, and the end byte. The same number and count give the same bytes.
+/// Writes the session generated from a number and a count: a header of two sinks, four clients that play on them, `count` steps, each of one client's
+/// frame and a turn of its sink of 64 frames, and the end byte. The same number and count give the same bytes.
 ///
-/// `Ok`: all of it was written. `Memory`, for want of memory, and `WriteFault`, where a write of `output` failed and was counted: a
-/// front of it was written, maybe nothing. There is no other answer. Own: PulseAudio records no sessions.
+/// `Ok`: all of it was written. `Memory`, where memory ran out, and `WriteFault`, where a write of `output` failed and was counted: a front of it was
+/// written, maybe nothing. There is no other status. Own: PulseAudio records no sessions.
 pub fn generate<K: Sink>(alloc: Global, number: u64, count: u32, output: &mut K) -> Status
     ensures bytes { Leaves result (generated number count) (K.held output.old) (K.held output.new) }
     ensures faults { Faults result (K.faults output.old) (K.faults output.new) }

@@ -1,4 +1,4 @@
-//! How large the sessions are.
+//! The sizes of the sessions.
 
 ghost use Rattle.std.specs.Prelude.{◌≡◌, ◌+◌, ◌*◌, ◌++◌, ℕ, length};
 ghost use Rattle.px_gen.specs.Generator.{opening, steps, generated};

@@ -1,6 +1,5 @@
-//! Sessions made from a number, for loads and figures: four clients play on two sinks, and each step is one client's frame and a turn
-//! of its sink. It exports `generate`, which writes such a session, and the law on
-//! their sizes.
+//! Sessions generated from a number, for load tests and benchmarks: four clients play on two sinks, and each step is one client's frame and a turn of
+//! its sink. It exports `generate`, which writes such a session, and the law on their sizes.
 #![tactic(auto)]
 
 mod client;

@@ -1,4 +1,4 @@
-// The numbers that a session is made of.
+// The numbers that a session is generated from.
 
 ghost use Rattle.std.specs.Prelude.{◌≡◌, IfOk, OnOk};
 ghost use Rattle.px_gen.specs.Numbers.{next_state, number_in, state_after, samples};
@@ -6,14 +6,14 @@ ghost use Rattle.px_gen.specs.Numbers.{next_state, number_in, state_after, sampl
 use px_types::{Mem, NoMemory};
 use std::alloc::Global;
 
-/// The numbers behind a first state.
+/// The numbers that follow a first state.
 #[derive(Clone, Copy, Drop)]
 pub(crate) struct Numbers {
     state: u64,
 }
 
 impl Numbers {
-    /// The numbers behind this state. Takes no memory.
+    /// The numbers that follow this state. Takes no memory.
     pub(crate) fn new(state: u64) -> Numbers
         ensures { result.state ≡ state }
     {
@@ -33,7 +33,7 @@ impl Numbers {
         self.state / (1 << 33)
     }
 
-    /// So many numbers, each as a sample in 16 bits.
+    /// The next `count` numbers, each as a sample in 16 bits.
     #[tactic(auto, using(crate::proofs::Loops::samples_more, crate::proofs::Loops::state_more))]
     pub(crate) fn samples(&mut self, alloc: Global, count: u32) -> Mem<Vec<u8>>
         ensures bytes { IfOk result (λ bytes. bytes.items ≡ samples count self.old.state) }

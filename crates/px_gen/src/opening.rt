@@ -1,4 +1,4 @@
-// What stands before the steps: the header, and four clients that connect and play.
+// The header, and the events before the steps: four clients that connect and play.
 
 ghost use Rattle.std.specs.Prelude.{◌≡◌, ◌++◌, IfOk, OnOk};
 ghost use Rattle.px_chmap.specs.ChannelMap.{IsChannelMap};
@@ -50,7 +50,7 @@ pub(crate) fn header(alloc: Global) -> Mem<Header>
     })
 }
 
-// A client connects, is let in, and has a stream. Without memory some of these events may be added.
+// A client connects, authenticates, and creates a stream. Without memory some of these events may be appended.
 fn add_client(alloc: Global, events: &mut Vec<Event>, conn: u32) -> Mem<()>
     ensures { OnOk result (events.new.items ≡ events.old.items ++ client_events conn) }
 {

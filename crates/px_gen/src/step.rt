@@ -24,7 +24,7 @@ fn play(alloc: Global, conn: u32, numbers: &mut Numbers) -> Mem<Text>
     data(alloc, &samples)
 }
 
-// The frame that a client says, by its choice.
+// The frame that a client sends, by its choice.
 #[tactic(auto, unfolding(crate::specs::Generator::said, crate::specs::Generator::state_said))]
 fn said(alloc: Global, conn: u32, choice: u64, numbers: &mut Numbers) -> Mem<Text>
     requires { 1 ≤ conn }

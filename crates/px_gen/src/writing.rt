@@ -1,4 +1,4 @@
-// Events, written one behind the other.
+// Events, written one after the other.
 
 ghost use Rattle.std.specs.List.{flat_map, AllByRecursion};
 ghost use Rattle.px_session.specs.Spelling.{event};
@@ -11,7 +11,7 @@ use px_session::{Event, write_event};
 /// Why no more of a session is written.
 #[derive(Clone, Copy, Debug, PartialEq, Eq)]
 pub(crate) enum Stop {
-    /// Want of memory.
+    /// Memory ran out.
     NoMemory,
     /// A write of the sink failed.
     Failed,

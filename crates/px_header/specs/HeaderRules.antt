@@ -1,4 +1,4 @@
--- The rules of a header's fields, and what stands in a header.
+-- The rules of a header's fields, and of the whole header.
 use Rattle.std.specs.Prelude.{◌≡◌, ℕ, ◌≤◌, Bool, ◌&&◌, not, List, [], ◌∷◌, ◌++◌, length, Option, find, ◌==◌, nat_le, slice_index, bytes_eq, IsTrue}
 use Rattle.std.specs.List.{list_all}
 use Rattle.px_sample.specs.declared.format.Format.{Format}
@@ -34,7 +34,7 @@ is_depth guard depth = is_from_to 1 65536 depth && nat_le guard depth
 abbrev pub IsFromTo : ℕ → ℕ → ℕ → Type 0
 IsFromTo low high n = (low ≤ n) × (n ≤ high)
 
--- a sink that stands behind these others
+-- a sink that follows these others
 pub record IsSink (earlier : List SinkSpec) (s : SinkSpec) : Type 0 where
   pub name_size : IsFromTo 1 64 (length s.name)
   pub name : IsTrue (is_name s.name)
@@ -47,7 +47,7 @@ pub record IsSink (earlier : List SinkSpec) (s : SinkSpec) : Type 0 where
   pub depth : IsFromTo 1 65536 s.depth
   pub guard : s.guard ≤ s.depth
 
--- sinks that stand behind these others, in order
+-- sinks that follow these others, in order
 abbrev pub AreSinks : List SinkSpec → List SinkSpec → Type 0
 AreSinks earlier [] = Unit {0}
 AreSinks earlier (s ∷ sinks) = IsSink earlier s × AreSinks (earlier ++ s ∷ []) sinks

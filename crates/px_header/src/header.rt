@@ -1,4 +1,4 @@
-//! What stands before the events of a session: the cookie and the sinks.
+//! The header before the events of a session: the cookie and the sinks.
 
 ghost use Rattle.std.specs.Prelude.{◌≡◌, length};
 
@@ -10,7 +10,7 @@ use std::marker::Model;
 /// The header of a session. Own: PulseAudio records no sessions.
 #[derive(Debug, Drop)]
 pub struct Header {
-    /// The 256 bytes that a client shows to be let in, as PulseAudio's `pulsecore/authkey.c` has them.
+    /// The 256 bytes that a client must show to authenticate, as PulseAudio's `pulsecore/authkey.c` has them.
     pub cookie: Text,
     /// The sinks in the order of their indices, 1 to 16. The first is the default sink at first.
     pub sinks: SinkSpecs,
@@ -25,9 +25,9 @@ pub struct SinkSpec {
     pub spec: Spec,
     /// A speaker position for each channel.
     pub map: Map,
-    /// How many frames past the consumed ones no rewind touches, at most the depth. PulseAudio's `rewind_safeguard`.
+    /// How many frames past the last consumed one no rewind reaches, at most `depth` (PulseAudio: `rewind_safeguard`).
     pub guard: u32,
-    /// How many frames may be filled past the consumed ones, 1 to 65,536.
+    /// The most frames that may be filled past the last consumed one, 1 to 65,536.
     pub depth: u32,
 }
 

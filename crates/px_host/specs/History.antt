@@ -1,4 +1,4 @@
--- A history that is kept in memory, or not kept.
+-- A history in memory, or none.
 use Rattle.std.specs.Prelude.{ℕ, ◌≤◌, List, Option, None, Some, ⊤}
 use Rattle.px_annals.specs.History.{Limit}
 use Rattle.px_host.specs.declared.history.History.{History}

@@ -1,4 +1,4 @@
-// A client's connection over a socket, and the half of it that sends.
+// A client's connection over a socket, and its sending half.
 ghost use Rattle.std.specs.Prelude.{◌≡◌, ◌<◌, length, None};
 ghost use Rattle.px_ends.specs.Links.{SendTakes};
 
@@ -7,7 +7,7 @@ use std::io::{ErrorKind, Read, Write};
 use std::net::Shutdown;
 use std::os::unix::net::UnixStream;
 
-/// A link over a socket. A call that would wait, where the socket doesn't wait or not that long, finds it not ready.
+/// A link over a socket. A call that would block, on a socket that doesn't block or only for a time, finds the link not ready.
 #[derive(Drop)]
 pub struct Connected {
     stream: UnixStream,
@@ -16,7 +16,7 @@ pub struct Connected {
     not_yets: u64,
 }
 
-/// The half of a link that sends, over the link's own socket.
+/// The sending half of a link, over the link's own socket.
 #[derive(Drop)]
 pub struct Outgoing {
     stream: UnixStream,
@@ -24,7 +24,7 @@ pub struct Outgoing {
     not_yets: u64,
 }
 
-// A call that would wait.
+// Whether a call would block.
 fn is_waiting(kind: ErrorKind) -> bool {
     matches!(
         kind,
@@ -32,7 +32,7 @@ fn is_waiting(kind: ErrorKind) -> bool {
     )
 }
 
-// Sends the first of these bytes. A socket that takes nothing of some bytes has failed.
+// Sends a front of `bytes`. A socket that takes none of them has failed.
 fn send(stream: &mut UnixStream, bytes: &[u8]) -> Sent
     requires { 0 < length bytes.now }
     ensures { SendTakes result bytes.now None None }
@@ -58,7 +58,7 @@ impl Connected {
         }
     }
 
-    /// The half of it that sends. `None` where the system has no descriptor to spare. Takes no memory.
+    /// The sending half of the link. `None` where the system has no descriptor to spare. Takes no memory.
     pub fn outlet(&self) -> Option<Outgoing> {
         match self.stream.try_clone() {
             Ok(stream) => Some(Outgoing {

@@ -1,20 +1,20 @@
-// A history that is kept in memory, or not kept.
+// A history in memory, or none.
 ghost use Rattle.std.specs.Prelude.{◌≡◌};
 ghost use Rattle.px_host.specs.History.{fulls_of};
 
 use px_annals::{Entry, MemRecorder, RecordFault, Recorder};
 
-/// A recorder that keeps its entries in memory, or none.
+/// A recorder that stores its entries in memory, or drops them.
 #[derive(Debug, Drop)]
 pub enum History<E: Entry> {
-    /// They are kept.
+    /// Entries are stored.
     InMemory(MemRecorder<E>),
-    /// None is kept.
+    /// Entries are dropped.
     Discarded,
 }
 
 impl<E: Entry + Drop> History<E> {
-    /// How often it was found full.
+    /// The number of calls that found it full.
     pub fn fulls(&self) -> u64
         ensures { result ≡ fulls_of self.now }
     {

@@ -1,6 +1,5 @@
-//! The real outside: adapters of a few lines over std's readers, writers, streams and clock. Each keeps a count of its faults and tells
-//! nothing of content. It exports `Reading`, `Writing`, `Connected` with `Outgoing`, `SystemClock`, `History` and
-//! `SystemHost`.
+//! The real outside: adapters of a few lines over std's readers, writers, streams and clock. Each counts its faults, and its content isn't visible to
+//! contracts. It exports `Reading`, `Writing`, `Connected` with `Outgoing`, `SystemClock`, `History` and `SystemHost`.
 #![tactic(auto)]
 
 mod connected;

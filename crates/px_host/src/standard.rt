@@ -52,7 +52,7 @@ impl<W: Write> Sink for Writing<W> {
 
     ghost faults = { λ s. s.faults };
 
-    // A writer that takes nothing of some bytes has failed.
+    // A writer that takes none of some bytes has failed.
     fn write(&mut self, bytes: &[u8]) -> Took {
         match self.inner.write(bytes) {
             Ok(count) if count > 0 => Took::Bytes(count),

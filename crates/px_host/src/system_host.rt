@@ -19,14 +19,14 @@ use std::rt::{Clock, Files, Net};
 use std::time::Duration;
 use std::{fs, io};
 
-// How long a receive of a link waits, in milliseconds. What a client wasn't ready for is tried again that often; all else is sent by whoever
-// has it for the client, so nothing waits for a receive to end.
+// How long a receive of a link waits, in milliseconds. A send that found the client not ready is tried again that often; all else is sent by the
+// worker that has it for the client, so nothing waits for a receive to end.
 const PATIENCE: u64 = 100;
 
-// How long a send waits, in milliseconds: whoever sends may hold up others.
+// How long a send waits, in milliseconds: the sending worker may hold up others.
 const HASTE: u64 = 1;
 
-/// A host that listens at a Unix socket, makes a device for each sink over a file, and keeps histories in memory or not at all.
+/// A host that listens at a Unix socket, makes a device for each sink over a file, and stores histories in memory or not at all.
 #[derive(Drop)]
 pub struct SystemHost<S: Drop> {
     rt: S,
@@ -46,10 +46,19 @@ fn path(text: &Text) -> Option<&str> {
     str::from_utf8(text.as_slice()).ok()
 }
 
-// A socket is there, and nobody listens at it.
+// Whether a connection to the socket at `path` is refused: nobody listens there. Any other failure, as for want of a right or of
+// descriptors, says nothing of who listens.
+fn is_refused<R: Net>(rt: &R, path: &str) -> bool {
+    match UnixStream::connect(rt, path) {
+        Ok(_) => false,
+        Err(error) => error.kind() == ErrorKind::ConnectionRefused,
+    }
+}
+
+// Whether a socket is at `path` at which nobody listens.
 fn is_stale<R: Files + Net>(rt: &R, path: &str) -> bool {
     match fs::symlink_metadata(rt, path) {
-        Ok(found) => found.file_type().is_socket() && UnixStream::connect(rt, path).is_err(),
+        Ok(found) => found.file_type().is_socket() && is_refused(rt, path),
         Err(_) => false,
     }
 }
@@ -64,7 +73,7 @@ fn listen<R: Files + Net>(rt: &R, path: &str) -> io::Result<UnixListener> {
     Ok(listener)
 }
 
-// The header's bytes, and who listens.
+// The header's bytes, and the listener.
 fn begin<R: Files + Net + AllocGlobal>(
     rt: &R,
     options: &ServeOptions,
@@ -76,7 +85,7 @@ fn begin<R: Files + Net + AllocGlobal>(
     Ok((Text::from_vec(bytes), listen(rt, socket)?))
 }
 
-// A client, whose link's calls don't wait long.
+// Accepts a client; no call of its link waits long.
 fn connected(listener: &UnixListener) -> io::Result<Connected> {
     let (stream, _) = listener.accept()?;
     stream.set_read_timeout(Some(Duration::from_millis(PATIENCE)))?;
@@ -84,7 +93,7 @@ fn connected(listener: &UnixListener) -> io::Result<Connected> {
     Ok(Connected::new(stream))
 }
 
-// The file that a sink's frames go to, made anew; a pipe of that name is written to. A name with a slash in it names none.
+// Creates the file that a sink's frames go to; a pipe of that name is written to. A name with a slash in it is a fault.
 fn open<R: Files<File = File>>(rt: &R, alloc: Global, out: &Text, name: &[u8]) -> io::Result<File> {
     let (Some(folder), Ok(name)) = (path(out), str::from_utf8(name)) else {
         return Err(io::Error::from(ErrorKind::InvalidInput));
@@ -126,7 +135,7 @@ impl<S: Drop> SystemHost<S> {
         }
     }
 
-    // One fault more.
+    // Counts one more fault.
     fn fail(&mut self)
         ensures rose { Rose self.old.faults self.new.faults }
         ensures same { self.new ≡ record self.old { faults = self.new.faults } }

@@ -1,4 +1,4 @@
--- How a connection changes.
+-- The changes of a connection.
 use Rattle.std.specs.Prelude.{ℕ, true, Some}
 use Rattle.px_outcome.specs.declared.input.Connection.{Connection}
 

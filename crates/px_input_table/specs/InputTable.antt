@@ -5,7 +5,7 @@ use Rattle.px_outcome.specs.declared.input.Input.{Input}
 use Rattle.px_input_table.specs.declared.input_table.StreamKey.{StreamKey}
 use Rattle.px_outcome.specs.Input.{stream_of}
 
--- the inputs, how many the table holds without memory, and how many more streams
+-- the inputs, the number of inputs that the table holds without memory, and the number of further streams
 pub record RoomyInputs : Type 0 where
   pub items : List Input
   pub places : ℕ
@@ -18,10 +18,10 @@ key_of x = record { conn = x.conn; stream = x.stream }
 abbrev pub same_stream : StreamKey → StreamKey → Bool
 same_stream a b = nat_eq a.conn.0 b.conn.0 && nat_eq a.stream b.stream
 
--- the first input of a stream that goes on
+-- the first live input of a stream
 abbrev pub first_of : List Input → StreamKey → Option Input
 first_of inputs key = stream_of inputs key.conn key.stream
 
--- the entry of each stream is its first input that goes on
+-- the entry of each stream is its first live input
 abbrev pub AreByStream : {S : Type 0} → List Input → IndexMap StreamKey Input S → Type 0
 AreByStream inputs table = (key : StreamKey) → get same_stream table key ≡ first_of inputs key

@@ -1,4 +1,4 @@
--- How an input changes.
+-- The changes of an input.
 use Rattle.px_model.specs.declared.data.Attr.{Attr as Attributes}
 use Rattle.px_outcome.specs.declared.input.Input.{Input}
 use Rattle.px_types.specs.declared.ids.SinkId.{SinkId}
@@ -14,14 +14,14 @@ leaving x = record x { standing = Leaving }
 abbrev pub with_attr : Attributes → Input → Input
 with_attr attr x = record x { attr = attr }
 
--- its stream is there on its way
+-- with this `way` of its stream
 abbrev pub on_way : Way → Input → Input
 on_way way x = record x { way = way }
 
--- it is to be on a sink
+-- it is to move to a sink
 abbrev pub moving_to : SinkId → Input → Input
 moving_to to x = record x { standing = Moving to }
 
--- it is on the sink, and its stream is on its way there
+-- it is settled on the sink, and its stream is still to be handed over
 abbrev pub arrived_at : SinkId → Input → Input
 arrived_at to x = record x { sink = to; standing = Settled; way = Coming }

@@ -1,4 +1,4 @@
--- Lists of which the first element that is so changes or goes.
+-- Lists of which the first element that passes a test is changed or removed.
 use Rattle.std.specs.Prelude.{Bool, cond, List, [], ◌∷◌}
 
 abbrev pub change_first : {A : Type 0} → (A → Bool) → (A → A) → List A → List A

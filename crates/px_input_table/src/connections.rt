@@ -1,4 +1,5 @@
-//! How a connection changes: the first with a number, where there is one, is changed or goes. Nothing takes memory.
+//! Changes of a connection in a list: the first with a number, where there is one, is changed or removed. Nothing takes
+//! memory.
 
 ghost use Rattle.std.specs.Prelude.{◌≡◌, ◌<◌, ◌≤◌, vec_len, vec_capacity};
 ghost use Rattle.std.specs.List.{position};
@@ -16,7 +17,7 @@ fn place_of(connections: &[Connection], conn: ConnId) -> Option<usize>
     connections.iter().position(|c| c.conn.0 == conn.0)
 }
 
-/// A connection has agreed on a version.
+/// Sets the version that a connection agreed on.
 pub fn set_version(connections: &mut [Connection], conn: ConnId, version: u16)
     ensures { connections.new ≡ change_first (has_number conn) (authed version) connections.old }
 {
@@ -25,7 +26,7 @@ pub fn set_version(connections: &mut [Connection], conn: ConnId, version: u16)
     }
 }
 
-/// A connection has ended.
+/// Marks a connection as ended.
 pub fn mark(connections: &mut [Connection], conn: ConnId)
     ensures { connections.new ≡ change_first (has_number conn) marked connections.old }
 {
@@ -34,7 +35,7 @@ pub fn mark(connections: &mut [Connection], conn: ConnId)
     }
 }
 
-/// A connection's next stream has this number.
+/// Sets the number of a connection's next stream.
 pub fn set_streams(connections: &mut [Connection], conn: ConnId, streams: u32)
     ensures { connections.new ≡ change_first (has_number conn) (with_streams streams) connections.old }
 {
@@ -43,7 +44,7 @@ pub fn set_streams(connections: &mut [Connection], conn: ConnId, streams: u32)
     }
 }
 
-/// A connection is given up.
+/// Removes a connection.
 pub fn forget(connections: &mut Vec<Connection>, conn: ConnId)
     ensures items { connections.new.items ≡ drop_first (has_number conn) connections.old.items }
     ensures capacity { vec_capacity connections.new ≡ vec_capacity connections.old }

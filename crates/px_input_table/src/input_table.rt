@@ -28,12 +28,12 @@ pub(crate) struct StreamKey {
     stream: u32,
 }
 
-/// All inputs in rising index, of which those that go on are found by their streams without a walk. Contracts see the inputs,
+/// All inputs in rising index, of which the live ones are found by their streams without a walk. Contracts see the inputs,
 /// and the room for more.
 #[derive(Drop)]
 pub struct InputTable {
     all: Vec<Input>,
-    /// The first of each stream that goes on.
+    /// The first live input of each stream.
     by_stream: IndexMap<StreamKey, Input>,
 }
 
@@ -68,14 +68,14 @@ fn key_at(inputs: &[Input], index: InputId) -> Option<StreamKey>
     }
 }
 
-// The first input of a stream that goes on.
+// The first live input of a stream.
 fn first_of(inputs: &[Input], key: StreamKey) -> Option<&Input>
     ensures { option_map (λ x. x.now) result ≡ first_of inputs.now key }
 {
     inputs.iter().find(|x| x.conn.0 == key.conn.0 && x.stream == key.stream && goes_on(x))
 }
 
-// The entry of a stream is its first input that goes on; the others stay.
+// Sets the entry of a stream to its first live input; the others stay.
 fn renew(by_stream: &mut IndexMap<StreamKey, Input>, all: &[Input], key: StreamKey)
     requires { IsSome (first_of all.now key) → (0 < spare by_stream.old) ⊎ ContainsKey same_stream by_stream.old key }
     ensures entries { (other : Key) → get same_stream by_stream.new other
@@ -103,7 +103,7 @@ impl InputTable {
         }
     }
 
-    /// All, in rising index.
+    /// All inputs, in rising index.
     pub fn as_slice(&self) -> &[Input]
         ensures { result.now ≡ self.now.items }
     {
@@ -127,7 +127,7 @@ impl InputTable {
         }
     }
 
-    /// The input with an index, where it goes on. Takes no memory.
+    /// The input with an index, where it is live. Takes no memory.
     pub fn input_named(&self, index: u32) -> Option<Input>
         ensures { result ≡ input_named self.now.items index }
     {
@@ -137,7 +137,7 @@ impl InputTable {
         }
     }
 
-    /// Room for `more` inputs. The inputs stay.
+    /// Reserves room for `more` further inputs. The inputs stay.
     pub fn reserve(&mut self, more: usize) -> Mem<()>
         ensures items { self.new.items ≡ self.old.items }
         ensures places { OnOk result (length self.new.items + more ≤ self.new.places) }
@@ -160,7 +160,7 @@ impl InputTable {
         renew(&mut self.by_stream, &self.all, key_of(&input));
     }
 
-    /// The input with an index has ended.
+    /// Ends the input with an index.
     pub fn leave(&mut self, index: InputId)
         ensures items { self.new.items ≡ change_first (has_index index) leaving self.old.items }
         ensures len { length self.new.items ≤ length self.old.items }
@@ -173,7 +173,7 @@ impl InputTable {
         }
     }
 
-    /// The input with an index is to be on a sink. It goes on.
+    /// Sets the sink that the input with an index moves to. It stays live.
     pub fn depart(&mut self, index: InputId, to: SinkId)
         requires { IfSome (input_of self.old.items index) (λ x. goes_on x ≡ true) }
         ensures items { self.new.items ≡ change_first (has_index index) (moving_to to) self.old.items }
@@ -187,7 +187,7 @@ impl InputTable {
         }
     }
 
-    /// The input with an index is on a sink, and its stream is on its way there. It goes on.
+    /// Settles the input with an index on a sink; the message with its stream is still to be handed out. It stays live.
     pub fn arrive(&mut self, index: InputId, to: SinkId)
         requires { IfSome (input_of self.old.items index) (λ x. goes_on x ≡ true) }
         ensures items { self.new.items ≡ change_first (has_index index) (arrived_at to) self.old.items }
@@ -201,7 +201,7 @@ impl InputTable {
         }
     }
 
-    /// The input with an index has these buffer attributes.
+    /// Sets the buffer attributes of the input with an index.
     pub fn set_attr(&mut self, index: InputId, attr: Attr)
         ensures items { self.new.items ≡ change_first (has_index index) (with_attr attr) self.old.items }
         ensures len { length self.new.items ≤ length self.old.items }
@@ -214,7 +214,7 @@ impl InputTable {
         }
     }
 
-    /// The stream of the input with an index is there on its way.
+    /// Sets the `way` of the stream of the input with an index.
     pub fn set_way(&mut self, index: InputId, way: Way)
         ensures items { self.new.items ≡ change_first (has_index index) (on_way way) self.old.items }
     {
@@ -224,7 +224,7 @@ impl InputTable {
         }
     }
 
-    /// The input with an index is given up.
+    /// Removes the input with an index.
     pub fn remove(&mut self, index: InputId)
         ensures items { self.new.items ≡ drop_first (has_index index) self.old.items }
         ensures len { length self.new.items ≤ length self.old.items }

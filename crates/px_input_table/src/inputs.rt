@@ -1,4 +1,4 @@
-//! How an input in a list changes: the first with an index, where there is one, is changed or goes. Nothing takes memory.
+//! Changes of an input in a list: the first with an index, where there is one, is changed or removed. Nothing takes memory.
 
 ghost use Rattle.std.specs.Prelude.{◌≡◌, ◌≤◌, vec_len, vec_capacity};
 ghost use Rattle.std.specs.List.{position};
@@ -25,7 +25,7 @@ fn place_at(inputs: &[Input], index: InputId) -> Option<usize>
     inputs.iter().position(|x| x.index.0 == index.0)
 }
 
-/// An input has ended.
+/// Marks an input as ended.
 pub fn leave(inputs: &mut Vec<Input>, index: InputId)
     ensures items { inputs.new.items ≡ change_first (has_index index) leaving inputs.old.items }
     ensures capacity { vec_capacity inputs.new ≡ vec_capacity inputs.old }
@@ -36,7 +36,7 @@ pub fn leave(inputs: &mut Vec<Input>, index: InputId)
     }
 }
 
-/// An input has these buffer attributes.
+/// Sets an input's buffer attributes.
 pub fn set_attr(inputs: &mut Vec<Input>, index: InputId, attr: Attr)
     ensures items { inputs.new.items ≡ change_first (has_index index) (with_attr attr) inputs.old.items }
     ensures capacity { vec_capacity inputs.new ≡ vec_capacity inputs.old }
@@ -47,7 +47,7 @@ pub fn set_attr(inputs: &mut Vec<Input>, index: InputId, attr: Attr)
     }
 }
 
-/// An input's stream is there on its way.
+/// Sets the `way` of an input's stream.
 pub(crate) fn set_way(inputs: &mut Vec<Input>, index: InputId, way: Way)
     ensures items { inputs.new.items ≡ change_first (has_index index) (on_way way) inputs.old.items }
     ensures capacity { vec_capacity inputs.new ≡ vec_capacity inputs.old }
@@ -57,7 +57,7 @@ pub(crate) fn set_way(inputs: &mut Vec<Input>, index: InputId, way: Way)
     }
 }
 
-/// An input is to be on a sink.
+/// Sets the sink that an input moves to.
 pub fn depart(inputs: &mut Vec<Input>, index: InputId, to: SinkId)
     ensures items { inputs.new.items ≡ change_first (has_index index) (moving_to to) inputs.old.items }
     ensures capacity { vec_capacity inputs.new ≡ vec_capacity inputs.old }
@@ -68,7 +68,7 @@ pub fn depart(inputs: &mut Vec<Input>, index: InputId, to: SinkId)
     }
 }
 
-/// An input is on a sink, and its stream is on its way there.
+/// Settles an input on a sink; the message with its stream is still to be handed out.
 pub fn arrive(inputs: &mut Vec<Input>, index: InputId, to: SinkId)
     ensures items { inputs.new.items ≡ change_first (has_index index) (arrived_at to) inputs.old.items }
     ensures capacity { vec_capacity inputs.new ≡ vec_capacity inputs.old }
@@ -82,7 +82,7 @@ pub fn arrive(inputs: &mut Vec<Input>, index: InputId, to: SinkId)
     }
 }
 
-/// An input is given up.
+/// Removes an input.
 pub fn remove(inputs: &mut Vec<Input>, index: InputId)
     ensures items { inputs.new.items ≡ drop_first (has_index index) inputs.old.items }
     ensures capacity { vec_capacity inputs.new ≡ vec_capacity inputs.old }

@@ -1,5 +1,5 @@
-//! The sink inputs that are there, in rising index, of which those that go on are found by their streams without a walk. It
-//! exports the table, what changes an input in it or in a list, and what changes a connection in a list.
+//! The existing sink inputs, in rising index; the live ones are found by their streams without a walk. It exports the table,
+//! the changes of an input in it or in a list, and the changes of a connection in a list.
 #![tactic(auto)]
 
 mod connections;

@@ -5,7 +5,7 @@ ghost use Rattle.px_outcome.specs.Input.{goes_on};
 
 use px_outcome::{Input, Standing};
 
-/// Whether an input goes on: it hasn't ended. Takes no memory.
+/// Whether an input is live: it hasn't ended. Takes no memory.
 pub fn goes_on(x: &Input) -> bool
     ensures { result ≡ goes_on x.now }
 {

@@ -1,4 +1,4 @@
--- What streams add to the kept sums of a mix.
+-- What streams add to kept sums.
 use Rattle.std.specs.Prelude.{◌≡◌, ℕ, ℤ, ◌+◌, ◌-◌, ◌<◌, ◌≤◌, Bool, List, length, Option, Some, None, ⊤}
 use Rattle.px_sample.specs.declared.spec.Spec.{Spec}
 use Rattle.px_msg.specs.View.{sample_spec}
@@ -10,11 +10,11 @@ use Rattle.px_stream.specs.Samples.{samples}
 use Rattle.px_stream.specs.Heard.{SoundsSame}
 use Rattle.px_kept_mix.specs.Kept.{AreKept, IsSumOf, from_on, share_at, share_there}
 
--- the share of a stream in a channel of a sink, k frames ahead
+-- the share of a stream in a sink channel, k frames ahead
 abbrev pub share_in : Spec → Stream → ℕ → ℕ → ℤ
 share_in sink s channel k = share_at samples (sample_spec sink) s channel k
 
--- kept sums are what the streams of these inputs add up to, of each frame that they hold
+-- kept sums are what the streams of these inputs add up to, for each frame that they hold
 pub record IsKept (sink : Spec) (inputs : List Input) (kept : KeptSums) : Type 0 where
   pub channels : length kept.runs ≡ sink.channels
   pub sums : AreKept samples (sample_spec sink) kept.frames inputs (kept_at kept)
@@ -29,12 +29,12 @@ pub record IsAsLarge (before after : KeptSums) : Type 0 where
 abbrev pub AreSmall : ℕ → KeptSums → Type 0
 AreSmall n kept = (c k : ℕ) → c < length kept.runs → k < kept.frames → IsSumOf n (kept_at kept c k)
 
--- the share of a stream is added to each sum from a frame on, or taken away
+-- the share of a stream is added to each sum from frame `from` on, or taken away
 abbrev pub Shares : Bool → Spec → Stream → ℕ → KeptSums → KeptSums → Type 0
 Shares add sink s from before after =
     (c k : ℕ) → c < length before.runs → k < before.frames → kept_at after c k ≡ changed add (kept_at before c k) (from_on from k (share_in sink s c k))
 
--- each share of a stream from a frame on, up to another, is in range
+-- each share of a stream from frame `from` up to `to` is in range
 abbrev pub AreLittle : Spec → Stream → ℕ → ℕ → Type 0
 AreLittle sink s from to = (c k : ℕ) → c < sink.channels → from ≤ k → k < to → IsSumOf 1 (share_in sink s c k)
 
@@ -47,12 +47,12 @@ abbrev pub AreLittleThere : Spec → Option Stream → ℕ → ℕ → Type 0
 AreLittleThere sink None from to = ⊤
 AreLittleThere sink (Some s) from to = AreLittle sink s from to
 
--- a change of a stream, if that is there, leaves the first frames as they sound
+-- a change of a stream, if that is there, leaves the sound of the frames before `from`
 abbrev pub SoundsBefore : ℕ → (Stream → Stream) → Option Stream → Type 0
 SoundsBefore from f None = ⊤
 SoundsBefore from f (Some s) = (k : ℕ) → k < from → SoundsSame k s (f s)
 
--- the sums go so many frames forward
+-- the sums move `frames` frames forward
 pub record GoesBy (frames : ℕ) (before after : KeptSums) : Type 0 where
   pub frames_left : after.frames ≡ before.frames - frames
   pub channels : length after.runs ≡ length before.runs

@@ -25,13 +25,13 @@ use std::alloc::Global;
 use std::marker::Model;
 use std::sync::ledger::Ledger;
 
-/// What the streams of a sink add up to, frame by frame from the horizon on and channel by channel, before it is clipped, with the room to
-/// read a stream's values there (own: PulseAudio mixes anew what it rewinds).
+/// The sums of a sink's streams, for each frame from the horizon on and each channel, before clipping, with scratch room for a stream's values (own:
+/// PulseAudio mixes anew what it rewinds).
 #[derive(Debug, Drop)]
 pub struct KeptMix {
     cache: MixCache,
     frames: u32,
-    // a place for each sum
+    // scratch, one for each sum
     values: Vec<i32>,
 }
 
@@ -47,7 +47,7 @@ impl Model for KeptMix {
     ghost invariant = { λ k. (k.frames ≡ k.cache.frames) × (k.cache.frames ≤ k.cache.depth) × (k.cache.depth ≤ 65536) × (1 ≤ length k.cache.runs) × (length k.values.items ≡ length k.cache.runs * k.cache.depth) × All (FitsSigned w32) k.values.items };
 }
 
-// Silences places, from one up to another.
+// Zeroes the places from `from` up to `to`.
 fn silence(values: &mut [i32], from: usize, to: usize)
     requires order { from ≤ to }
     requires inside { to ≤ length values.old }
@@ -62,7 +62,7 @@ fn silence(values: &mut [i32], from: usize, to: usize)
     }
 }
 
-// Silences each run from place `given` on.
+// Zeroes each run from place `given` on.
 fn silence_behind(values: &mut [i32], runs: usize, run: usize, given: usize)
     requires runs { length values.old ≡ run * runs }
     requires few { given ≤ run }
@@ -79,7 +79,7 @@ fn silence_behind(values: &mut [i32], runs: usize, run: usize, given: usize)
     }
 }
 
-// Moves the first `given` values of each run together: `runs` runs of `given` values stand at the front.
+// Closes up the first `given` values of each of `runs` runs, at the front of `values`.
 fn close_up(values: &mut [i32], runs: usize, run: usize, given: usize)
     requires runs { length values.old ≡ run * runs }
     requires few { given ≤ run }
@@ -93,8 +93,8 @@ fn close_up(values: &mut [i32], runs: usize, run: usize, given: usize)
     }
 }
 
-// Shortens each run to its first `given` values, and answers the length of a run then.
-// Runs that are nearly full are left as long as they are, since to silence the rest costs less there than to move what is given.
+// Shortens each run to its first `given` values, and answers the length of a run then. Runs that are nearly full stay as long as they are, since
+// zeroing the rest costs less there than moving the values.
 fn shorten(values: &mut [i32], runs: usize, run: usize, given: usize) -> usize
     requires runs { length values.old ≡ run * runs }
     requires few { given ≤ run }
@@ -114,7 +114,7 @@ fn shorten(values: &mut [i32], runs: usize, run: usize, given: usize) -> usize
 }
 
 // Reads the work values of a stream's frames from `from` on, at most `run` for each sink channel, into runs at the front of `values`. Answers the
-// length of a run. Silence is 0, and past the runs the stream gives nothing but 0.
+// length of each run. Silence is 0, and past the runs the stream gives nothing.
 fn read<T: Ledger>(
     stream: &Stream,
     from: u32,
@@ -138,8 +138,8 @@ fn read<T: Ledger>(
     shorten(values, runs, run, given as usize)
 }
 
-// Adds to the sums from a frame on what a stream gives there, or takes it away. There is room for the values of as many frames; where the stream
-// gives none, nothing is added.
+// Adds (`add`) a stream's share to the sums from frame `from` on, or takes it away. `values` has room for those frames; where the stream gives none,
+// nothing changes.
 fn change<T: Ledger>(
     cache: &mut MixCache,
     values: &mut [i32],
@@ -178,7 +178,7 @@ fn change<T: Ledger>(
     );
 }
 
-// Adds to the sums from a frame on what the values give there by the factors, or takes it away.
+// Adds (`add`) values times factors to the sums from frame `from` on, or takes them away.
 fn put<T: Ledger>(
     cache: &mut MixCache,
     values: &[i32],
@@ -202,7 +202,7 @@ fn put<T: Ledger>(
     cache.change(from, values, factors, add, steps);
 }
 
-// The same over the first places for values, of `frames` frames.
+// The same with the first places of `values`, for `frames` frames.
 fn change_over<T: Ledger>(
     cache: &mut MixCache,
     values: &mut [i32],
@@ -285,7 +285,7 @@ impl KeptMix {
         self.frames = to;
     }
 
-    /// Adds what a stream gives to the sums, from a frame on, or takes it away. Takes no memory.
+    /// Adds (`add`) a stream's share to the sums from frame `from` on, or takes it away. Takes no memory.
     pub fn change<T: Ledger>(
         &mut self,
         sink: &Spec,
@@ -319,8 +319,8 @@ impl KeptMix {
         );
     }
 
-    /// Puts the frames from one on into `out`, all that are held, as a device gets them: each sum clipped to the sink's width, once, and
-    /// packed. Takes no memory.
+    /// Packs all held frames from frame `from` on into `out`, in the device's format: each sum is clipped to the sink's width, once, and packed.
+    /// Takes no memory.
     pub fn pack<T: Ledger>(&self, sink: &Spec, from: u32, out: &mut [u8], steps: &mut Steps<T>)
         requires linear { IsLinear sink.now.format }
         requires channels { length self.now.runs ≡ sink.now.channels }

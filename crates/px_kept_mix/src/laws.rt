@@ -10,8 +10,8 @@ ghost use Rattle.px_mixcache.specs.Cache.{KeptSums};
 ghost use Rattle.px_kept_mix.specs.Kept.{changed_there};
 ghost use Rattle.px_kept_mix.specs.Keeping.{IsKept, IsAsLarge, AreSmall, SharesThere, AreLittle, AreLittleThere, SoundsBefore, GoesBy};
 
-/// The sums of at most 256 inputs have room for a share more or less. Kept sums go forward with their streams, and asking for frames leaves
-/// them as they are. Source: own.
+/// The sums of at most 256 inputs have room for one share more or less. Kept sums go forward with their streams, and requests leave them as they are.
+/// Source: own.
 pub fn sums_are_kept()
     ensures small { (sink : Spec) (inputs : List Input) (kept : KeptSums) → IsKept sink inputs kept → length inputs ≤ 256 → AreSmall 256 kept }
     ensures one_more { (add : Bool) (sink : Spec) (s : Option Stream) (from n : ℕ) (before after : KeptSums) → AreSmall n before → IsAsLarge before after
@@ -23,9 +23,8 @@ pub fn sums_are_kept()
         → IsKept sink (map (with_stream (asked_stream mixed)) inputs) kept }
 {}
 
-/// Where the share of a stream is taken out of kept sums and the one put in that it has after a change, both from a frame on before which
-/// it sounds the same, they are kept sums after the change; likewise where a stream comes, also in the place of one with its index, and
-/// where one leaves. Source: own.
+/// Kept sums after a change of a stream: its old share is taken out and its new one put in, both from a frame on before which it sounds the same.
+/// Likewise where a stream comes, also in place of one with its index, and where one leaves. Source: own.
 pub fn shares_are_exchanged()
     ensures changed { (sink : Spec) (inputs : List Input) (i from : ℕ) (f : Stream → Stream) (before between after : KeptSums)
         → IsKept sink inputs before → IsRising inputs → SoundsBefore from f (stream_at i inputs)

@@ -1,5 +1,5 @@
-//! The incremental mix: what the streams of a sink add up to, kept from turn to turn; the share of a stream is added to the kept
-//! sums, or taken away. `kept` has the sums, `sums` and `laws` how they follow the streams.
+//! The incremental mix: the sums of a sink's streams, kept from turn to turn; a stream's share is added to the kept sums, or taken away. `kept` has
+//! the sums; `sums` and `laws` are the laws by which they follow the streams.
 #![tactic(auto)]
 
 mod kept;

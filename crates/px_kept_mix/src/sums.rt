@@ -9,8 +9,8 @@ ghost use Rattle.px_model.specs.Sink.{Input, IsRising, streams_of, stream_at, wi
 ghost use Rattle.px_model.specs.Turn.{asked_stream};
 ghost use Rattle.px_kept_mix.specs.Kept.{share_at, IsSumOf, AddLittle, AddsLittle, AreKept, Exchanges, SameBefore, changed_there, AddsLittleThere};
 
-/// Kept sums of as many inputs are in the range of as many shares. They go forward with their streams, asking for frames leaves them as they
-/// are, and one more input adds what its stream adds. Source: own.
+/// Kept sums of n inputs are in the range of n shares. They go forward with their streams, requests leave them as they are, and one more input adds
+/// its stream's share. Source: own.
 pub fn kept_sums_go_on()
     ensures bounded { (samples : Samples) (sink : SampleSpec) (n : ℕ) (inputs : List Input) (kept : ℕ → ℕ → ℤ) → AreKept samples sink n inputs kept
         → (channel k : ℕ) → channel < sink.channels → k < n → IsSumOf (length inputs) (kept channel k) }
@@ -23,8 +23,8 @@ pub fn kept_sums_go_on()
         → sum_of samples sink (streams_of (inputs ++ x ∷ [])) k channel ≡ sum_of samples sink (streams_of inputs) k channel +ℤ share_at samples sink x.stream channel k }
 {}
 
-/// Where the share of a stream is taken out of kept sums from the first place on at which it differs, and the share of the one that stands
-/// there then is put in, they are kept sums of the inputs with that stream changed, come or gone. Source: own.
+/// Kept sums after a change, coming or going of a stream: the share of the old stream is taken out from the first place on at which both differ, and
+/// that of the new one is put in. Source: own.
 pub fn kept_sums_change()
     ensures changed { (samples : Samples) (sink : SampleSpec) (n from : ℕ) (i : ℕ) (f : Stream → Stream) (inputs : List Input) (kept new : ℕ → ℕ → ℤ)
         → AreKept samples sink n inputs kept → IsRising inputs

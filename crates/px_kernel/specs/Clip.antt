@@ -20,6 +20,6 @@ abbrev pub clipped_from : List ℤ → ℕ → ℕ → List ℤ
 clipped_from sums most from =
     clipped most (at sums from) ∷ clipped most (at sums (from + 1)) ∷ clipped most (at sums (from + 2)) ∷ clipped most (at sums (from + 3)) ∷ []
 
--- the first so many are clipped
+-- the first n are clipped
 abbrev pub Clips : ℕ → List ℤ → ℕ → List ℤ → Type 0
 Clips most sums count out = (k : ℕ) → k < count → at out k ≡ clipped most (at sums k)

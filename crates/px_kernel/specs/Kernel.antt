@@ -1,4 +1,4 @@
--- What the loops over samples compute, sample by sample.
+-- The sums that the loops over samples compute, sample by sample.
 use Rattle.std.specs.Prelude.{◌≡◌, ℕ, ℤ, pos, ◌+ℤ◌, ◌-ℤ◌, ◌*ℤ◌, ◌<◌, ◌≤◌, Bool, true, false, List, [], ◌∷◌, ◌+◌, length, slice_index_or, FitsSigned}
 use Rattle.std.specs.Int.{w8, w16, w32, w64, int_div_euclid}
 use Rattle.std.specs.Int.{Width as Bits}
@@ -9,7 +9,7 @@ use Rattle.px_sample.specs.declared.format.Width.TheVariants.{W8, W16, W32}
 abbrev pub scaled : ℤ → ℕ → ℤ
 scaled value factor = int_div_euclid (value *ℤ pos factor) (pos 65536)
 
--- a sum to which a share is added, or from which it is taken away
+-- a sum with a share added or subtracted
 abbrev pub changed : Bool → ℤ → ℤ → ℤ
 changed true sum share = sum +ℤ share
 changed false sum share = sum -ℤ share
@@ -18,7 +18,7 @@ changed false sum share = sum -ℤ share
 abbrev pub at : List ℤ → ℕ → ℤ
 at run k = slice_index_or run k (pos 0)
 
--- sum k once the share of value k, by the factor, is added or taken away
+-- sum k once the share of value k, by the factor, is added or subtracted
 abbrev pub changed_at : Bool → List ℤ → List ℤ → ℕ → ℕ → ℤ
 changed_at add sums values factor k = changed add (at sums k) (scaled (at values k) factor)
 

@@ -1,4 +1,4 @@
-// Sums to which a stream's share is added, or from which it is taken away.
+// Adding a stream's share to sums, and subtracting it.
 ghost use Rattle.std.specs.Prelude.{◌≡◌, ◌∷◌, [], ℕ, ◌+◌, ◌<◌, ◌≤◌, ◌^◌, true, false, length, slice_set, FitsSigned};
 ghost use Rattle.std.specs.Int.{w32, w64};
 ghost use Rattle.std.specs.Simd.Lanes.{Each1};
@@ -23,7 +23,7 @@ pub fn add_scaled<T: Ledger>(sums: &mut [i64], values: &[i32], factor: u32, step
     change(sums, values, factor, true);
 }
 
-/// Takes away from each sum what `add_scaled` adds. Takes no memory.
+/// Subtracts from each sum what `add_scaled` adds. Takes no memory.
 pub fn sub_scaled<T: Ledger>(sums: &mut [i64], values: &[i32], factor: u32, steps: &mut Steps<T>)
     requires long { length values.now ≡ length sums.old }
     requires words { (k : ℕ) → k < length sums.old → FitsSigned w32 (at values.now k) }
@@ -37,7 +37,7 @@ pub fn sub_scaled<T: Ledger>(sums: &mut [i64], values: &[i32], factor: u32, step
     change(sums, values, factor, false);
 }
 
-// The factor of a stream that is added as it is, in 65536ths.
+// The factor of a stream that is added unscaled, in 65536ths.
 const WHOLE: u32 = 65_536;
 
 // Four sums at a time, and then the others.
@@ -56,7 +56,7 @@ fn change(sums: &mut [i64], values: &[i32], factor: u32, add: bool)
     change_rest(sums, values, from, factor, add);
 }
 
-// Sixteen sums at a time, by a factor of 1, which is known here to whoever compiles it: no number is multiplied. Answers how many were changed.
+// Sixteen sums at a time, by a factor of 1, a constant here for the compiler, so that nothing is multiplied. Answers how many were changed.
 fn change_whole(sums: &mut [i64], values: &[i32], add: bool) -> usize
     requires long { length values.now ≡ length sums.old }
     requires ready { AreReady add sums.old values.now 65536 0 }
@@ -70,7 +70,7 @@ fn change_whole(sums: &mut [i64], values: &[i32], add: bool) -> usize
     }
 }
 
-// Of `change_whole`, for whoever compiles it: each value is added.
+// Of `change_whole`, on its own for the compiler: each value is added.
 fn add_whole(sums: &mut [i64], values: &[i32]) -> usize
     requires long { length values.now ≡ length sums.old }
     requires ready { AreReady true sums.old values.now 65536 0 }
@@ -86,7 +86,7 @@ fn add_whole(sums: &mut [i64], values: &[i32]) -> usize
     from
 }
 
-// And taken away.
+// And subtracted.
 fn sub_whole(sums: &mut [i64], values: &[i32]) -> usize
     requires long { length values.now ≡ length sums.old }
     requires ready { AreReady false sums.old values.now 65536 0 }
@@ -113,7 +113,7 @@ fn change_eight(sums: &mut [i64], values: &[i32], from: usize, add: bool)
     change_four(sums, values, from + 4, WHOLE, add);
 }
 
-// The same by any factor that has lanes: one of 32 bits has none, since theirs are signed.
+// The same by any factor that fits signed lanes; one of 32 bits doesn't.
 fn change_fours(sums: &mut [i64], values: &[i32], factor: u32, add: bool) -> usize
     requires long { length values.now ≡ length sums.old }
     requires small { factor < 2 ^ 31 }
@@ -130,7 +130,7 @@ fn change_fours(sums: &mut [i64], values: &[i32], factor: u32, add: bool) -> usi
     from
 }
 
-// One of two equal factors, read anew for each four: so it is seen there to have 32 bits, and two such numbers are multiplied at once.
+// One of two equal factors, read anew for each four: so the compiler sees that it has 32 bits, and multiplies two such numbers at once.
 fn factor_for(factors: &[u32; 2], from: usize) -> u32
     ensures { (factor : ℕ) → factors.now ≡ factor ∷ factor ∷ [] → result ≡ factor }
 {
@@ -171,7 +171,7 @@ fn change_four(sums: &mut [i64], values: &[i32], from: usize, factor: u32, add: 
     }
 }
 
-// Puts four sums from a place on.
+// Stores four sums from place `from` on.
 fn put_four(sums: &mut [i64], from: usize, lanes: i64x4)
     requires inside { from + 4 ≤ length sums.old }
     requires room { Each1 (FitsSigned w64) lanes }

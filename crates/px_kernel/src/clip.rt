@@ -10,8 +10,7 @@ use px_sample::Width;
 use std::simd::prelude::*;
 use std::sync::ledger::Ledger;
 
-/// Clips each sum to the width: to its least value or its greatest where it lies outside. So `out` has work values, which `pack` of `px_sample`
-/// takes. Takes no memory.
+/// Clips each sum to the range of `width`, so that `out` has the work values that `pack` of `px_sample` takes. Takes no memory.
 pub fn clip_pack<T: Ledger>(sums: &[i64], width: Width, out: &mut [i32], steps: &mut Steps<T>)
     requires long { length out.old ≡ length sums.now }
     requires room { (k : ℕ) → k < length sums.now → FitsSigned w64 (at sums.now k) }

@@ -1,4 +1,4 @@
-//! The loops over samples, four at a time: what a stream adds to sums or takes away from them, and clipping sums. `change` has the first two,
+//! The loops over samples, four at a time: adding a stream's share to sums, subtracting it, and clipping sums. `change` has the first two,
 //! `clip` the third, `steps` the count of the samples that go through them.
 #![tactic(auto)]
 

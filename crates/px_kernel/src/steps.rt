@@ -5,7 +5,7 @@ use px_tick_key::Key;
 use std::marker::Model;
 use std::sync::ledger::{Blank, Book, Ledger, Share};
 
-/// How many steps were taken. It takes no bytes, nothing is done for it when the program runs, and only `tick` changes it.
+/// How many steps were taken. It takes no bytes and costs nothing at run time, and only `tick` changes it.
 #[derive(Drop)]
 pub struct Steps<T: Ledger> {
     book: Book<T>,
@@ -23,7 +23,7 @@ impl<T: Ledger> Model for Steps<T> {
 }
 
 impl<T: Ledger> Steps<T> {
-    /// No step was taken. Who may make a counter is said at `Key`.
+    /// A counter at 0. `Key` says who may make one.
     pub fn new(_: Key, blank: Blank) -> Steps<T>
         requires name { blank.name ≡ T.name }
         requires parts { blank.parts ≡ T.parts }
@@ -34,7 +34,7 @@ impl<T: Ledger> Steps<T> {
         Steps { book, share }
     }
 
-    /// So many steps more.
+    /// Counts `steps` more steps.
     pub fn tick(&mut self, steps: u64)
         ensures { self.new ≡ self.old + steps }
     {

@@ -1,4 +1,5 @@
--- What a turn costs at the most, in samples that are touched: a frame of a channel that a stream gives, that is added to kept sums or taken away from them, or that is clipped.
+-- The most that a turn costs, in samples touched: a sample that a stream gives, that is added to kept sums or taken away from them, or that is
+-- clipped.
 use Rattle.std.specs.Prelude.{ℕ, zero, suc, ◌+◌, ◌-◌, ◌*◌, Bool, false, not, ◌||◌, List, [], ◌∷◌, map, length, bytes_eq, Option, Some, None, ◌==◌, if◌then◌else◌}
 use Rattle.px_model.specs.Stream.{Stream}
 use Rattle.px_model.specs.Message.{Message, StreamMessage, InputFactors}
@@ -14,18 +15,18 @@ use Rattle.px_lane.specs.declared.lane.Turned.TheVariants.{Played, Stopped}
 
 -- ---- a message to one stream
 
--- how many of the next n frames sound as before once it is applied to a stream that may not be there
+-- how many of the next n frames sound as before once m is applied to a stream that may not be there
 abbrev pub unaltered_there : ℕ → StreamMessage → Option Stream → ℕ
 unaltered_there n m None = n
 unaltered_there n m (Some s) = unaltered_of n m s
 
--- of the other frames the stream's share is read and taken out, read and put in, and they are clipped again
+-- each altered frame is read and taken out of the sums, read and put in, and clipped again
 abbrev pub change_cost : ℕ → StreamMessage → Option Stream → ℕ
 change_cost n m o = 5 * (n - unaltered_there n m o)
 
 -- ---- factors
 
--- whether a stream that may not be there has others than these
+-- whether a stream that may not be there has factors other than these
 abbrev pub has_others : List ℕ → Option Stream → Bool
 has_others factors None = false
 has_others factors (Some s) = not (bytes_eq factors s.factors)
@@ -42,14 +43,14 @@ abbrev pub count_others : List InputFactors → List Input → ℕ
 count_others [] inputs = 0
 count_others (f ∷ each) inputs = (if is_named f.input each then 0 else others_at f.factors (stream_at f.input inputs)) + count_others each inputs
 
--- where so many inputs get others
+-- where t inputs get others, over n frames
 abbrev pub factors_cost : ℕ → ℕ → ℕ
 factors_cost n zero = 0
 factors_cost n (suc t) = (4 * suc t + 1) * n
 
 -- ---- the messages of a turn
 
--- a message, by the inputs just before it, where n frames are mixed past the horizon
+-- the cost of a message, by the inputs just before it, where n frames are mixed past the horizon
 abbrev pub cost_of : ℕ → Message Stream → List Input → ℕ
 cost_of n (Message.new new) inputs = 5 * n
 cost_of n (Message.attach i parcel feed factors) inputs = 5 * n
@@ -64,12 +65,12 @@ cost_of n (Message.attr i attr) inputs = change_cost n (StreamMessage.attr attr)
 cost_of n (Message.factors each) inputs = factors_cost n (count_others each inputs)
 cost_of n (Message.query i tag) inputs = 0
 
--- all of them, in order
+-- the cost of all, in order
 abbrev pub costs_of : ℕ → List (Message Stream) → List Input → ℕ
 costs_of n [] inputs = 0
 costs_of n (m ∷ messages) inputs = cost_of n m inputs + costs_of n messages (inputs_with n m inputs)
 
--- the same of a message with all the memory that it takes
+-- the same of a message with all the memory that it needs
 abbrev pub ready_cost : ℕ → Ready → List Input → ℕ
 ready_cost n (Insert input stream) inputs = 5 * n
 ready_cost n (Join input parcel feed factors) inputs = 5 * n
@@ -80,21 +81,21 @@ ready_cost n (Answer input tag) inputs = 0
 
 -- ---- a turn
 
--- so many new frames: each is read of each stream and added, and clipped
+-- `more` new frames: each is read of each of `streams` streams and added, and clipped
 abbrev pub mix_cost : ℕ → ℕ → ℕ
 mix_cost more streams = more * (2 * streams + 1)
 
--- the new frames of a turn whose sync consumed so many
+-- the new frames of a turn whose sync consumed `frames` frames
 abbrev pub more_frames : Sink → ℕ → ℕ
 more_frames sink frames = sink.consumed + frames + sink.depth - sink.filled
 
--- the messages are told at the new horizon, where the frames up to filled are mixed
+-- the messages are applied at the new horizon, where the frames up to filled are mixed
 abbrev pub turn_cost : Sink → ℕ → List (Message Stream) → ℕ
 turn_cost sink frames messages =
     sink.spec.channels * (mix_cost (more_frames sink frames) (length (with_messages (settled sink frames) messages).inputs)
     + costs_of (sink.filled - next_horizon sink frames) messages (settled sink frames).inputs)
 
--- by what the turn did; a stopped sink touches none
+-- the cost by what the turn did; a stopped sink touches none
 abbrev pub cost_by : Sink → List (Message Stream) → Turned → ℕ
 cost_by sink messages (Played consumed frames) = turn_cost sink frames messages
 cost_by sink messages (Stopped faults) = 0

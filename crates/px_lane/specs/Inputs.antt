@@ -1,4 +1,4 @@
--- The inputs of the code as those of the definitions.
+-- The inputs of the code as inputs of the model.
 use Rattle.std.specs.Prelude.{ℕ, ◌≤◌, List, map}
 use Rattle.px_model.specs.Sink.{Input as Stands}
 use Rattle.px_lane.specs.declared.input.Input.{Input}
@@ -9,6 +9,6 @@ input_of x = record { index = x.index.0; stream = x.stream.stream }
 abbrev pub inputs_of : List Input → List Stands
 inputs_of inputs = map input_of inputs
 
--- the stream of an input has room for so many messages with so many blocks in all
+-- the stream of an input has room for `room` messages with `blocks` blocks in all
 abbrev pub HasRoom : ℕ → ℕ → Input → Type 0
 HasRoom room blocks x = (room ≤ x.stream.room) × (blocks ≤ x.stream.block_room)

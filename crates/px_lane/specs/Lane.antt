@@ -16,7 +16,7 @@ pub record Mixer (D : Type 0) : Type 0 where
   -- how many syncs of the device failed
   pub faults : ℕ
 
--- what a sink keeps whose frames are bytes
+-- the invariant of a sink whose frames are bytes
 pub record IsLane (sink : Sink) : Type 0 where
   pub holds : IsSink sink
   pub few : map.len (specs_of sink.inputs) ≤ 256
@@ -24,7 +24,7 @@ pub record IsLane (sink : Sink) : Type 0 where
   pub some_bytes : 1 ≤ frame_size sink.spec
   pub whole : AreFramesOf (frame_size sink.spec) sink.buffer
 
--- a device that plays a sink's frames: its counts are the sink's, and so is its buffer, where it is told
+-- a device that plays a sink's frames: its counts are the sink's, and so is its buffer, where that is visible
 pub record IsAttached (device : DeviceState) (sink : Sink) : Type 0 where
   pub frame : device.frame ≡ frame_size sink.spec
   pub guard : device.guard ≡ sink.guard
@@ -33,12 +33,12 @@ pub record IsAttached (device : DeviceState) (sink : Sink) : Type 0 where
   pub filled : device.filled ≡ sink.filled
   pub buffer : WhereVisible device.buffer (λ bytes. bytes ≡ concat sink.buffer)
 
--- what a device has played once these bytes were played too, where it tells that; one that doesn't tell its buffer doesn't
+-- what a device has played once it played `bytes` too, where that is visible; it isn't where its buffer isn't
 abbrev pub played_more : Option (List ℕ) → Option (List ℕ) → List ℕ → Option (List ℕ)
 played_more None played bytes = None
 played_more (Some buffer) played bytes = after_adding played bytes
 
--- in the turn at which a lane stops its device's sync failed; after it the device isn't called any more
+-- in the turn that stops the lane the device's sync failed; after it the device isn't called any more
 abbrev pub StopsOver : {D : Type 0} → Bool → (D → DeviceState) → Mixer D → Mixer D → Type 0
 StopsOver true now before after = (after.device ≡ before.device) × (after.faults ≡ before.faults)
 StopsOver false now before after = Fails (now before.device) (now after.device) × (after.faults ≡ next_count before.faults)

@@ -1,4 +1,4 @@
--- Lists of messages and of notices as those of the definitions.
+-- Lists of messages and of notices of the code as those of the model.
 use Rattle.std.specs.Prelude.{ℕ, List, map}
 use Rattle.px_model.specs.Stream.{Stream}
 use Rattle.px_model.specs.Message.{Message}
@@ -8,12 +8,12 @@ use Rattle.px_msg.specs.declared.message.Msg.{Msg}
 use Rattle.px_msg.specs.declared.notice.Notice.{Notice as CodeNotice}
 use Rattle.px_stream.specs.HeldStream.{HeldStream}
 
--- messages in order, and how many the list holds without memory
+-- messages in order, and how many the list can hold without taking memory
 pub record BoundedMessages : Type 0 where
   pub messages : List (Message Stream)
   pub capacity : ℕ
 
--- notices in order, and how many the list holds without memory
+-- notices in order, and how many the list can hold without taking memory
 pub record BoundedNotices : Type 0 where
   pub notices : List (Notice Stream)
   pub capacity : ℕ

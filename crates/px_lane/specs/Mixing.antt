@@ -1,4 +1,4 @@
--- What a sink mixes, in the code as in the definitions.
+-- What a sink mixes, in the code as in the model.
 use Rattle.std.specs.Prelude.{ℕ, ◌+◌, ◌-◌, ◌^◌, ◌≤◌, Bool, true, List, take}
 use Rattle.px_sample.specs.declared.spec.Spec.{Spec}
 use Rattle.px_sample.specs.Format.{IsLinear, frame_size_of}
@@ -6,8 +6,8 @@ use Rattle.px_msg.specs.View.{sample_spec}
 use Rattle.px_model.specs.Frame.{frames_of}
 use Rattle.px_model.specs.Sink.{Sink, Input}
 
--- a sink, how many frames past its horizon are the mix of its streams as they stand, and how many more messages, with how many blocks in all,
--- its inputs take without memory
+-- a sink, how many frames past its horizon are the mix of its streams as they stand, and how many more messages, with how many blocks in all, its
+-- inputs take without memory
 pub record RoomySink : Type 0 where
   pub sink : Sink
   pub unaltered : ℕ
@@ -28,7 +28,7 @@ pub record Counts : Type 0 where
   pub filled : ℕ
   pub horizon : ℕ
 
--- a sink with its buffer out of bytes
+-- a sink with a buffer of bytes
 abbrev pub sink_of : Spec → Counts → Bool → List ℕ → List Input → Sink
 sink_of spec counts stopped bytes inputs = record {
   spec = sample_spec spec;
@@ -42,7 +42,7 @@ sink_of spec counts stopped bytes inputs = record {
   inputs = inputs;
 }
 
--- what the counts keep: consumed, horizon and filled in order, each near enough to the one before it
+-- the invariant of the counts: consumed, horizon and filled in order, each within its bound of the one before
 pub record AreInOrder (counts : Counts) : Type 0 where
   pub consumed_first : counts.consumed ≤ counts.horizon
   pub horizon_first : counts.horizon ≤ counts.filled
@@ -51,7 +51,7 @@ pub record AreInOrder (counts : Counts) : Type 0 where
   pub depth_bounded : counts.depth ≤ 65536
   pub countable : counts.filled ≤ 2 ^ 61
 
--- all from the horizon on is given up, for good
+-- all frames from the horizon on are dropped, and the sink is stopped
 abbrev pub given_up : Sink → Sink
 given_up sink = record sink {
   stopped = true;

@@ -1,4 +1,4 @@
--- How many notices a turn gives at the most.
+-- The most notices that a turn gives.
 use Rattle.std.specs.Prelude.{ℕ, ◌+◌, List, length, ⊤}
 use Rattle.std.specs.List.{sum_by}
 use Rattle.px_block.specs.Given.{blocks_for}
@@ -8,11 +8,11 @@ use Rattle.px_model.specs.Frame.{SampleSpec}
 use Rattle.px_model.specs.Orderly.{IsNewStream}
 use Rattle.px_model.specs.Sink.{Input}
 
--- of an input: that it starts and that it runs out, the answers to its drains, and a request
+-- of an input: Started, Underflow, the answers to its drains, and a Request
 abbrev pub needed_by_input : Input → ℕ
 needed_by_input x = 3 + length x.stream.draining
 
--- by a message: its own, and what the input that comes, or the drain, may give at the end
+-- of a message: its own, and the most that the input or drain it brings may add at the end of the turn
 abbrev pub needed_by : Message Stream → ℕ
 needed_by (Message.new n) = 2
 needed_by (Message.attach i parcel feed factors) = 2 + length parcel.draining
@@ -22,7 +22,7 @@ needed_by _ = 1
 abbrev pub needed : List Input → List (Message Stream) → ℕ
 needed inputs messages = sum_by needed_by_input inputs + sum_by needed_by messages
 
--- the blocks that a message brings
+-- how many blocks a message brings
 abbrev pub blocks_of : Message Stream → ℕ
 blocks_of (Message.write w) = blocks_for (length w.bytes)
 blocks_of _ = 0

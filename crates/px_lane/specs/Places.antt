@@ -1,4 +1,4 @@
--- Where an index stands in inputs of rising index.
+-- Where an index stands among inputs sorted by index.
 use Rattle.std.specs.Prelude.{◌≡◌, ℕ, zero, suc, ◌<◌, List, [], ◌∷◌, ⊤}
 use Rattle.px_model.specs.Sink.{AllAbove}
 use Rattle.px_lane.specs.declared.input.Input.{Input}

@@ -1,4 +1,4 @@
--- Worked rows of what turns cost, at a mono sink in 16 bits with a guard of 10 frames and a depth of 100.
+-- Worked examples of what turns cost, at a mono sink in 16 bits with a guard of 10 frames and a depth of 100.
 use Rattle.std.specs.Prelude.{List, [], ◌∷◌, pos}
 use Rattle.px_model.specs.Stream.{Stream}
 use Rattle.px_model.specs.Message.{Message}
@@ -15,7 +15,7 @@ two_streams =
 abbrev pub two_mixed : Sink
 two_mixed = turned s16_samples small_sink 0 two_streams
 
--- other factors for one of them, the same once more, and frames behind those that are mixed
+-- other factors for one of them, the same once more, and frames past those that are mixed
 abbrev pub other_factor : List (Message Stream)
 other_factor = factor 0 32768 ∷ []
 

@@ -1,4 +1,4 @@
--- Messages that a sink can take, what each needs before the turn, and what it is to the inputs once that is there.
+-- Messages that a sink can take, the memory that each needs before the turn, and what it does to the inputs once it has that.
 use Rattle.std.specs.Prelude.{◌≡◌, ℕ, ◌≤◌, Bool, true, false, if◌then◌else◌, List, [], ◌∷◌, map, length, Option, Some, None, ⊤}
 use Rattle.std.specs.List.{AllByRecursion}
 use Rattle.px_model.specs.Stream.{Stream}
@@ -22,22 +22,22 @@ use Rattle.px_lane.specs.declared.ready.Ready.TheVariants.{Insert, Join, Remove,
 
 -- ---- messages
 
--- a message fits the stream of an input, if that is there
+-- a message fits the stream of an input, if that stream is there
 abbrev pub SuitsAt : Option Stream → StreamMessage → Type 0
 SuitsAt None m = ⊤
 SuitsAt (Some s) m = Suits s m
 
--- the streams of the inputs are fed into so many channels
+-- the stream of each input has a feed for `channels` sink channels
 abbrev pub AreFed : ℕ → List Input → Type 0
 AreFed channels inputs = AllByRecursion (λ x. length (Stream.feed (Input.stream x)) ≡ channels) inputs
 
--- each input is fed into as many channels as it gets factors
+-- each entry has a factor for each channel that the inputs feed
 pub record FactorsFit (each : List InputFactors) (inputs : List Input) : Type 0 where
   pub channels : ℕ
   pub fed : AreFed channels inputs
   pub factors : AllByRecursion (λ f. length (InputFactors.factors f) ≡ channels) each
 
--- what it brings fits the stream that it names, or that comes by it
+-- what a message brings fits the stream that it names, or the parcel that it brings
 abbrev pub CanTake : Message Stream → List Input → Type 0
 CanTake (Message.attach i parcel feed factors) inputs = Suits parcel (StreamMessage.attach feed factors)
 CanTake (Message.write w) inputs = SuitsAt (stream_at w.input inputs) (StreamMessage.write w.seek w.offset w.frames w.bytes)
@@ -45,40 +45,40 @@ CanTake (Message.attr i attr) inputs = SuitsAt (stream_at i inputs) (StreamMessa
 CanTake (Message.factors each) inputs = FactorsFit each inputs
 CanTake _ inputs = ⊤
 
--- each in order, where so many frames are mixed ahead
+-- each message can be taken in order, with `mixed` frames mixed ahead
 abbrev pub CanTakeAll : ℕ → List (Message Stream) → List Input → Type 0
 CanTakeAll mixed [] inputs = ⊤
 CanTakeAll mixed (m ∷ messages) inputs = CanTake m inputs × CanTakeAll mixed messages (inputs_with mixed m inputs)
 
--- the stream that is to be made
+-- the stream that a New opens
 abbrev pub streams_of : Message Stream → List Stream
 streams_of (Message.new n) = new_stream n.spec n.feed n.factors n.attr n.corked ∷ []
 streams_of _ = []
 
 -- ---- room
 
--- for so many messages with so many blocks in all
+-- a stream has room for `room` messages with `blocks` blocks in all
 abbrev pub IsRoomy : ℕ → ℕ → HeldStream → Type 0
 IsRoomy room blocks s = (room ≤ s.room) × (blocks ≤ s.block_room)
 
--- a parcel that comes has it
+-- the parcel of an Attach has that room
 abbrev pub BringsRoom : ℕ → ℕ → Msg HeldStream → Type 0
 BringsRoom room blocks (Attach input parcel feed factors) = IsRoomy room blocks parcel
 BringsRoom room blocks _ = ⊤
 
--- ---- messages with all that they need
+-- ---- messages with all the memory that they need
 
--- whether it gives an Overflow of the stream of an input, if that is there
+-- whether a message gives an Overflow of an input's stream, if that is there
 abbrev pub overflows_at : ℕ → StreamMessage → Option Stream → Bool
 overflows_at mixed m None = false
 overflows_at mixed m (Some s) = overflows mixed m s
 
--- an answer of that
+-- whether it is Overflow
 abbrev pub is_overflow : Applied → Bool
 is_overflow Quiet = false
 is_overflow Overflow = true
 
--- the notice of input i where frames aren't held
+-- the Overflow notice of input i, where a write was refused
 abbrev pub overflow_if : ℕ → Bool → List (Notice Stream)
 overflow_if i refused = if refused then Notice.overflow i ∷ [] else []
 
@@ -87,7 +87,7 @@ HasRoomLeft room blocks (Insert input stream) = IsRoomy room blocks stream
 HasRoomLeft room blocks (Join input parcel feed factors) = IsRoomy room blocks parcel
 HasRoomLeft room blocks _ = ⊤
 
--- the blocks that it brings
+-- how many blocks it brings
 abbrev pub ready_blocks : Ready → ℕ
 ready_blocks (Change input change) = blocks_with (message_of change)
 ready_blocks _ = 0
@@ -112,7 +112,7 @@ ReadySuits (Change input change) inputs = SuitsAt (stream_at input.0 inputs) (me
 ReadySuits (Each list) inputs = FactorsFit (map gains list) inputs
 ReadySuits _ inputs = ⊤
 
--- it is to every sink what the message is
+-- a ready message does to every sink what the message m does
 pub record IsReadyFor (ready : Ready) (m : Message Stream) : Type 0 where
   pub inputs : (mixed : ℕ) (inputs : List Input) → ready_inputs mixed ready inputs ≡ inputs_with mixed m inputs
   pub notices : (mixed buffered : ℕ) (inputs : List Input) → ready_notices mixed buffered ready inputs ≡ message_notices mixed buffered m inputs

@@ -13,7 +13,7 @@ use Rattle.px_lane.specs.declared.lane.Turned.TheVariants.{Played, Stopped}
 use Rattle.px_lane.specs.declared.lane.LaneFault.{LaneFault}
 use Rattle.px_lane.specs.declared.lane.LaneFault.TheVariants.{NoMemory, Worn}
 
--- a turn whose sync consumed so many frames, after which so many are consumed in all
+-- a turn whose sync consumed `frames` frames, after which `consumed` are consumed in all
 pub record Plays {D : Type 0} (now : D → DeviceState) (before after : Mixer D) (messages : List (Message Stream)) (consumed frames : ℕ) : Type 0 where
   pub going : IsFalse before.sink.stopped
   pub there : frames ≤ before.sink.filled - before.sink.consumed
@@ -27,7 +27,7 @@ pub record Plays {D : Type 0} (now : D → DeviceState) (before after : Mixer D)
   pub steady : is_failing (now after.device).next ≡ is_failing (now before.device).next
   pub faults : after.faults ≡ before.faults
 
--- a turn whose sync failed, or that came after such a one
+-- a turn whose sync failed, or that came after such a turn
 pub record Stops {D : Type 0} (now : D → DeviceState) (before after : Mixer D) (messages : List (Message Stream)) (faults : ℕ) : Type 0 where
   pub sink : after.sink ≡ stopped_turn before.sink messages
   pub device : StopsOver before.sink.stopped now before after
@@ -35,14 +35,14 @@ pub record Stops {D : Type 0} (now : D → DeviceState) (before after : Mixer D)
   -- so a sync failed, in this turn or an earlier one
   pub cause : 1 ≤ faults
 
--- what a turn does and tells, by its answer
+-- what a turn does, and its notices, by its answer
 abbrev pub Turns : {D : Type 0} → (D → DeviceState) → Mixer D → Mixer D → List (Message Stream) → List (Notice Stream) → List (Notice Stream) → Turned → Type 0
 Turns now before after messages notices notices' (Played consumed frames) =
     Plays now before after messages consumed frames × (notices' ≡ notices ++ turn_notices samples before.sink frames messages)
 Turns now before after messages notices notices' (Stopped faults) =
     Stops now before after messages faults × (notices' ≡ notices ++ stopped_notices before.sink messages)
 
--- why there was no turn, where so many frames are filled: want of memory, or a count above the last index
+-- why there was no turn, with `filled` frames filled: out of memory, or filled above the last index, 2 ^ 60
 abbrev pub Refuses : ℕ → LaneFault → Type 0
 Refuses filled NoMemory = filled ≤ 2 ^ 60
 Refuses filled (Worn count) = (2 ^ 60 < filled) × (count ≡ filled)

@@ -1,11 +1,11 @@
--- What of a sink's mix stays from one turn to the next.
+-- What part of a sink's mix stays from one turn to the next.
 use Rattle.std.specs.Prelude.{◌≡◌, ℕ, ◌+◌, ◌-◌, ◌<◌, ◌≤◌, List, Some, slice_get}
 use Rattle.px_model.specs.Frame.{SampleSpec}
 use Rattle.px_model.specs.Mix.{mix_of}
 use Rattle.px_model.specs.Sink.{Sink, Input, streams_of}
 use Rattle.px_stream.specs.Samples.{samples}
 
--- the mix of the first n frames past the horizon is the same
+-- the mix of the first n frames past the horizon is the same for both lists of inputs
 abbrev pub MixesSame : SampleSpec → ℕ → List Input → List Input → Type 0
 MixesSame sink n before after = (k : ℕ) → k < n → mix_of samples sink (streams_of after) k ≡ mix_of samples sink (streams_of before) k
 

@@ -3,6 +3,6 @@ use Rattle.std.specs.Prelude.{◌≡◌, ℕ, List, length}
 use Rattle.std.specs.List.{AllByRecursion}
 use Rattle.px_model.specs.Frame.{Frame}
 
--- each frame has so many bytes
+-- each frame has `size` bytes
 abbrev pub AreFramesOf : ℕ → List Frame → Type 0
 AreFramesOf size frames = AllByRecursion (λ frame. length frame ≡ size) frames

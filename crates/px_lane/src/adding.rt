@@ -1,4 +1,4 @@
-// Frames that come to the kept sums of a sink.
+// New frames added to the kept sums of a sink.
 ghost use Rattle.std.specs.Prelude.{◌≡◌, ℕ, ◌+◌, ◌-◌, ◌*◌, ◌<◌, ◌≤◌, length, pos};
 ghost use Rattle.px_msg.specs.View.{sample_spec};
 ghost use Rattle.px_mixcache.specs.Cache.{kept_at};
@@ -14,7 +14,7 @@ use px_kernel::Steps;
 use px_sample::Spec;
 use std::sync::ledger::Ledger;
 
-/// Adds what the stream of each input gives to the sums from a frame on, where they hold nothing yet. Takes no memory.
+/// Adds each input's frames to the sums from frame `from` on, where they are still 0. Takes no memory.
 pub(crate) fn add_each<T: Ledger>(
     sink: &Spec,
     inputs: &[Input],

@@ -14,8 +14,8 @@ use std::alloc::Global;
 use std::marker::Model;
 use std::sync::ledger::Ledger;
 
-/// As many bytes as the depth of a sink has room for. They stand behind those that were given up at the front, with room for as many of
-/// these again, so that a byte is moved once where as many are given up as the depth has.
+/// As many bytes as the depth of a sink has room for. They follow up to `size` dropped bytes at the front, so that a byte is moved at most once for
+/// each `size` bytes that are dropped.
 #[derive(Debug, Drop)]
 pub(crate) struct Buffer {
     bytes: Vec<u8>,
@@ -33,7 +33,7 @@ impl Model for Buffer {
     ghost invariant = { λ b. (b.gone ≤ b.size) × (length b.bytes.items ≡ 2 * b.size) };
 }
 
-// So many bytes of zero.
+// `count` zero bytes.
 fn zeros(alloc: Global, count: usize) -> Mem<Vec<u8>>
     ensures { IfOk result (λ bytes. length bytes.items ≡ count) }
 {
@@ -41,7 +41,7 @@ fn zeros(alloc: Global, count: usize) -> Mem<Vec<u8>>
     Ok(bytes)
 }
 
-// Moves the bytes behind the first so many to the front. What stands behind them then is left over.
+// Moves the bytes from `count` on to the front. The last `count` bytes then hold anything.
 fn move_to_front(bytes: &mut Vec<u8>, count: usize)
     requires { count ≤ length bytes.old.items }
     ensures size { length bytes.new.items ≡ length bytes.old.items }
@@ -50,7 +50,7 @@ fn move_to_front(bytes: &mut Vec<u8>, count: usize)
     bytes.copy_within(count.., 0);
 }
 
-// Puts the bytes of the frames that are mixed, from one on, in place of those from place `at` up to place `to`.
+// Packs the mixed frames from frame `from` on over bytes `at` to `to`.
 fn pack_between<T: Ledger>(
     inputs: &MixedInputs,
     from: u32,
@@ -70,7 +70,7 @@ fn pack_between<T: Ledger>(
 }
 
 impl Buffer {
-    /// So many bytes of zero. Takes its room.
+    /// `size` zero bytes. Takes memory for twice as many.
     pub(crate) fn new(alloc: Global, size: usize) -> Mem<Buffer>
         requires { size ≤ 2 ^ 32 }
         ensures { IfOk result (λ b. length b ≡ size) }
@@ -82,7 +82,7 @@ impl Buffer {
         })
     }
 
-    /// Gives up the first so many bytes. As many come in at the end, and these are left over.
+    /// Drops the first `count` bytes. As many with any value come in at the end.
     pub(crate) fn advance(&mut self, count: usize)
         requires { count ≤ length self.old }
         ensures size { length self.new ≡ length self.old }
@@ -95,7 +95,7 @@ impl Buffer {
         }
     }
 
-    /// Puts the bytes of the frames that are mixed, from one on, in place of the last bytes, those from place `at` on.
+    /// Packs the mixed frames from frame `from` on over the bytes from `at` to the end.
     pub(crate) fn pack<T: Ledger>(
         &mut self,
         inputs: &MixedInputs,

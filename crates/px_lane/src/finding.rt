@@ -1,4 +1,4 @@
-// Inputs of rising index with the one of an index changed, put in or left out.
+// Inputs sorted by index: finding one, and changing, inserting or removing it.
 ghost use Rattle.std.specs.Prelude.{ℕ, ◌≡◌, ◌≤◌, ◌<◌, ◌+◌, ◌-◌, ◌*◌, ◌++◌, length, map, slice_index_or, vec_len, vec_capacity, IsTrue, IfOk, IfErr, MatchOption, None, Some};
 ghost use Rattle.std.specs.List.{AllByRecursion};
 ghost use Rattle.px_model.specs.Message.{Message};
@@ -28,7 +28,7 @@ use px_types::InputId;
 use px_vol::Factors;
 use std::sync::ledger::Ledger;
 
-// The place of an index where those of all inputs follow one another, as they do until a stream leaves or goes to another sink.
+// The place of an index where the indices of all inputs are consecutive, as they are until a stream leaves or goes to another sink.
 fn place_if_consecutive(inputs: &[Input], index: InputId) -> usize {
     match inputs.first() {
         Some(first) => index.0.saturating_sub(first.index.0) as usize,
@@ -36,7 +36,7 @@ fn place_if_consecutive(inputs: &[Input], index: InputId) -> usize {
     }
 }
 
-// Whether an index stands at a place.
+// Whether the input at `place` has this index.
 fn is_at(inputs: &[Input], place: usize, index: InputId) -> bool
     ensures inside { IsTrue result → place < length inputs.now }
     ensures same { (d : DeclaredInput) → IsTrue result → (DeclaredInput.index (slice_index_or inputs.now place d)).0 ≡ index.0 }
@@ -47,7 +47,7 @@ fn is_at(inputs: &[Input], place: usize, index: InputId) -> bool
     inputs[place].index.0 == index.0
 }
 
-// How many of the first indices lie below this one. It is looked for by halves where it doesn't stand in a row with the first.
+// How many inputs have a lower index. It is a binary search, unless the indices up to this one are consecutive.
 fn place(inputs: &[Input], index: InputId) -> usize
     requires { IsRising (inputs_of inputs.now) }
     ensures below { AreBelow index.0 result inputs.now }
@@ -61,7 +61,7 @@ fn place(inputs: &[Input], index: InputId) -> usize
     halved(inputs, index)
 }
 
-// The same by halves.
+// The same by binary search.
 fn halved(inputs: &[Input], index: InputId) -> usize
     requires { IsRising (inputs_of inputs.now) }
     ensures below { AreBelow index.0 result inputs.now }
@@ -81,7 +81,7 @@ fn halved(inputs: &[Input], index: InputId) -> usize
     low
 }
 
-/// The place of this index, or else the one where it belongs.
+/// The place of this index, or else the place where it would be inserted.
 pub(crate) fn find(inputs: &[Input], index: InputId) -> Result<usize, usize>
     requires { IsRising (inputs_of inputs.now) }
     ensures ok { IfOk result (λ place. IsAt index.0 place inputs.now) }
@@ -99,8 +99,7 @@ pub(crate) fn find(inputs: &[Input], index: InputId) -> Result<usize, usize>
     Err(place)
 }
 
-/// Applies a message to the stream of this index, if it is there, where so many frames are mixed past its read index, and answers
-/// whether frames were written that aren't held.
+/// Applies a message to the stream of this index, if it is there, with `mixed` frames mixed past its read index; answers whether a write was refused.
 pub(crate) fn change_at<B: BlockSource>(
     inputs: &mut [Input],
     index: InputId,
@@ -124,7 +123,7 @@ pub(crate) fn change_at<B: BlockSource>(
     }
 }
 
-/// How many of the next `mixed` frames the stream of this index, if it is there, gives as before once a message is applied.
+/// How many of the next `mixed` frames of this index's stream, if it is there, sound as before once a message is applied.
 pub(crate) fn unaltered_at(inputs: &[Input], index: InputId, change: &StreamMsg, mixed: u64) -> u64
     requires rising { IsRising (inputs_of inputs.now) }
     requires suits { SuitsAt (stream_at index.0 (inputs_of inputs.now)) (message_of change.now) }
@@ -136,7 +135,7 @@ pub(crate) fn unaltered_at(inputs: &[Input], index: InputId, change: &StreamMsg,
     }
 }
 
-/// Whether the stream of this index, if it is there, has other factors.
+/// Whether the stream of this index, if it is there, has factors other than these.
 pub(crate) fn has_others_at(inputs: &[Input], index: InputId, factors: &Factors) -> bool
     requires { IsRising (inputs_of inputs.now) }
     ensures { result ≡ has_others factors.now (stream_at index.0 (inputs_of inputs.now)) }
@@ -147,7 +146,7 @@ pub(crate) fn has_others_at(inputs: &[Input], index: InputId, factors: &Factors)
     }
 }
 
-/// Adds the share of the stream of this index, if it is there, to kept sums from a frame on, or takes it away.
+/// Adds (`add`) the share of this index's stream, if it is there, to the kept sums from frame `from` on, or takes it away.
 pub(crate) fn share_at<T: Ledger>(
     inputs: &[Input],
     index: InputId,
@@ -179,7 +178,7 @@ fn is_overflow(applied: Applied) -> bool
     matches!(applied, Applied::Overflow)
 }
 
-/// Puts an input at its place, or in the place of one with its index. There is room for it.
+/// Inserts an input at its place, or replaces the one with its index. There is room for it.
 pub(crate) fn open_at(items: &mut Vec<Input>, input: Input)
     requires rising { IsRising (inputs_of items.old.items) }
     requires free { vec_len items.old < vec_capacity items.old }
@@ -194,7 +193,7 @@ pub(crate) fn open_at(items: &mut Vec<Input>, input: Input)
     }
 }
 
-/// Takes the input of this index out, if it is there.
+/// Removes the input of this index, if it is there.
 pub(crate) fn close_at(items: &mut Vec<Input>, index: InputId) -> Option<Stream>
     requires { IsRising (inputs_of items.old.items) }
     ensures stream { MatchOption result (stream_at index.0 (inputs_of items.old.items) ≡ None) (λ s. stream_at index.0 (inputs_of items.old.items) ≡ Some s.stream) }
@@ -212,7 +211,7 @@ pub(crate) fn close_at(items: &mut Vec<Input>, index: InputId) -> Option<Stream>
     }
 }
 
-/// Tells where the stream of this index stands, if it is there.
+/// Pushes a Latency notice for the stream of this index, if it is there.
 pub(crate) fn answer_at(
     inputs: &[Input],
     index: InputId,
@@ -232,7 +231,7 @@ pub(crate) fn answer_at(
     }
 }
 
-// Where a stream stands, with so many frames mixed past the horizon and so many in the sink's buffer, as the answer to a tag.
+// The Latency notice of a stream, with `mixed` frames mixed past the horizon and `buffered` in the sink's buffer, for a query's tag.
 fn latency(stream: &Stream, input: InputId, tag: u32, mixed: u64, buffered: u32) -> Notice<Stream>
     ensures { plain_notice result ≡ ModelNotice.latency input.0 tag (latency_of mixed buffered stream.now.stream) }
 {

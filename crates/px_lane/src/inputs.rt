@@ -33,7 +33,7 @@ use std::alloc::Global;
 use std::marker::Model;
 use std::sync::ledger::Ledger;
 
-/// The inputs of a sink (PulseAudio: the inputs of `thread_info` in pulsecore/sink.h), in rising index, with room for messages to them.
+/// The inputs of a sink (PulseAudio: the inputs of `thread_info` in pulsecore/sink.h), sorted by index, with room for messages to them.
 #[derive(Debug, Drop)]
 pub(crate) struct Inputs {
     items: Vec<Input>,
@@ -67,14 +67,14 @@ impl Inputs {
         }
     }
 
-    /// The inputs, in rising index.
+    /// The inputs, sorted by index.
     pub(crate) fn as_slice(&self) -> &[Input]
         ensures { inputs_of result.now ≡ self.now.inputs }
     {
         self.items.as_slice()
     }
 
-    /// Makes room for so many messages, with so many blocks in all. Without memory the inputs stay what they are.
+    /// Makes room for `messages` messages, with `blocks` blocks in all. Without memory the inputs stay what they are.
     pub(crate) fn reserve(&mut self, messages: u32, blocks: u32) -> Mem<()>
         ensures inputs { self.new.inputs ≡ self.old.inputs }
         ensures ok { OnOk result ((self.new.room ≡ messages) × (self.new.block_room ≡ blocks)) }
@@ -86,7 +86,7 @@ impl Inputs {
         Ok(())
     }
 
-    /// A stream comes in at its place. It has room for as many messages as the others are to have left.
+    /// Inserts a stream at its place. It has room for as many messages as the others have left after this one.
     pub(crate) fn insert(&mut self, input: InputId, stream: Stream)
         requires room { 1 ≤ self.old.room }
         requires stream_room { IsRoomy (self.old.room - 1) self.old.block_room stream }
@@ -104,7 +104,7 @@ impl Inputs {
         );
     }
 
-    /// A stream leaves, if it is there.
+    /// Removes a stream, if it is there.
     pub(crate) fn remove(&mut self, input: InputId) -> Option<Stream>
         ensures stream { MatchOption result (stream_at input.0 self.old.inputs ≡ None) (λ s. stream_at input.0 self.old.inputs ≡ Some s.stream) }
         ensures inputs { self.new.inputs ≡ without_input input.0 self.old.inputs }
@@ -114,8 +114,8 @@ impl Inputs {
         close_at(&mut self.items, input)
     }
 
-    /// Applies a message to a stream, if it is there, where so many frames of the sink are mixed ahead, and answers whether frames were
-    /// written that aren't held. Takes room for one message with its blocks.
+    /// Applies a message to a stream, if it is there, with `mixed` frames of the sink mixed ahead, and answers whether a write was refused. Uses up
+    /// the room of one message with its blocks.
     pub(crate) fn change<B: BlockSource>(
         &mut self,
         input: InputId,
@@ -137,7 +137,7 @@ impl Inputs {
         change_at(self.items.as_mut_slice(), input, change, mixed, blocks)
     }
 
-    /// How many of the next `mixed` frames a stream, if it is there, gives as before once a message is applied.
+    /// How many of the next `mixed` frames of a stream, if it is there, sound as before once a message is applied.
     pub(crate) fn unaltered(&self, input: InputId, change: &StreamMsg, mixed: u64) -> u64
         requires { SuitsAt (stream_at input.0 self.now.inputs) (message_of change.now) }
         ensures { result ≡ unaltered_there mixed (message_of change.now) (stream_at input.0 self.now.inputs) }
@@ -145,7 +145,7 @@ impl Inputs {
         unaltered_at(self.items.as_slice(), input, change, mixed)
     }
 
-    /// Whether a stream, if it is there, has other factors.
+    /// Whether a stream, if it is there, has factors other than these.
     pub(crate) fn has_others(&self, input: InputId, factors: &Factors) -> bool
         ensures others { result ≡ has_others factors.now (stream_at input.0 self.now.inputs) }
         ensures rising { IsRising self.now.inputs }
@@ -153,7 +153,7 @@ impl Inputs {
         has_others_at(self.items.as_slice(), input, factors)
     }
 
-    /// Adds the share of the stream of an input, if it is there, to kept sums from a frame on, or takes it away.
+    /// Adds (`add`) the share of an input's stream, if it is there, to the kept sums from frame `from` on, or takes it away.
     pub(crate) fn share<T: Ledger>(
         &self,
         input: InputId,
@@ -192,8 +192,7 @@ impl Inputs {
         change_at(self.items.as_mut_slice(), input, change, 0, blocks);
     }
 
-    /// Tells where a stream stands, if it is there, as the answer to a tag, with so many frames mixed past the horizon and so many in the
-    /// sink's buffer.
+    /// Pushes a Latency notice for a stream, if it is there, with `mixed` frames mixed past the horizon and `buffered` in the sink's buffer.
     pub(crate) fn answer(
         &self,
         input: InputId,
@@ -209,7 +208,7 @@ impl Inputs {
         answer_at(self.items.as_slice(), input, tag, mixed, buffered, out);
     }
 
-    /// All go so many frames of their sink forward. Of each it tells that it starts, and that it runs out.
+    /// Moves all streams `frames` frames of their sink forward, and pushes their Started and Underflow notices.
     pub(crate) fn go<B: BlockSource>(&mut self, frames: u64, out: &mut NoticeList, blocks: &mut B)
         requires { length out.old.notices + length (flat_map (going_notices frames) self.old.inputs) ≤ out.old.capacity }
         ensures inputs { self.new.inputs ≡ map (with_stream (λ s. after s frames)) self.old.inputs }
@@ -221,8 +220,7 @@ impl Inputs {
         go_each(self.items.as_mut_slice(), frames, out, blocks);
     }
 
-    /// Of each it tells the drains that are answered, where it has ended, and the frames that it asks for, where so many frames are mixed
-    /// ahead.
+    /// Pushes the Drained notices of streams that have ended, and Request notices, with `mixed` frames mixed ahead.
     pub(crate) fn ask(&mut self, mixed: u64, out: &mut NoticeList)
         requires { length out.old.notices + length (flat_map (asked_notices mixed) self.old.inputs) ≤ out.old.capacity }
         ensures inputs { self.new.inputs ≡ map (with_stream (asked_stream mixed)) self.old.inputs }
@@ -252,7 +250,7 @@ fn go_each<B: BlockSource>(inputs: &mut [Input], frames: u64, out: &mut NoticeLi
     ensures notices { out.new.notices ≡ out.old.notices ++ flat_map (going_notices frames) (inputs_of inputs.old) }
     ensures capacity { out.new.capacity ≡ out.old.capacity }
 {
-    // where the horizon stays, streams stay where they are, and have nothing to tell
+    // where the horizon stays, streams stay where they are, and no notice is due
     if frames == 0 {
         return;
     }

@@ -31,18 +31,18 @@ use std::sync::ledger::Ledger;
 /// What a turn did.
 #[derive(Clone, Copy, Debug, PartialEq, Eq)]
 pub enum Turned {
-    /// The device consumed so many frames in this turn, and so many in all.
+    /// The device consumed `frames` frames in this turn, and `consumed` in all.
     Played { consumed: u64, frames: u32 },
-    /// The sink has stopped; so many syncs of its device failed, at least one.
+    /// The sink has stopped; `faults` syncs of its device failed, at least one.
     Stopped { faults: u64 },
 }
 
 /// Why there was no turn.
 #[derive(Clone, Copy, Debug, PartialEq, Eq)]
 pub enum LaneFault {
-    /// Want of memory.
+    /// Out of memory.
     NoMemory,
-    /// So many frames are filled that an index could pass its range: more than 2^60.
+    /// `filled` is more than 2^60, so that an index could pass its range.
     Worn { filled: u64 },
 }
 
@@ -66,7 +66,7 @@ impl<D> Model for Lane<D> {
 }
 
 impl<D: Device + Drop> Lane<D> {
-    /// A lane with no inputs, over a device that has played nothing. Takes the room of its buffer.
+    /// A lane with no inputs, over a device that has played nothing. Takes the memory of its buffer.
     pub fn new(alloc: Global, sink: &SinkSpec, device: D) -> Mem<Lane<D>>
         requires mixed { IsMixed sink.now.spec }
         requires low_depth { sink.now.depth ≤ 65536 }
@@ -102,18 +102,18 @@ impl<D: Device + Drop> Lane<D> {
         &mut self.device
     }
 
-    /// The device, for good.
+    /// The device, without its lane.
     pub fn into_device(self) -> D
         ensures { result ≡ self.device }
     {
         self.device
     }
 
-    /// A turn: the device plays what it consumed, the messages are taken, all frames from the horizon on are mixed afresh and put, and
-    /// each stream is asked. A turn whose sync fails stops the sink, and each later one is the same without a call of the device. The list
-    /// of messages is empty then, and the notices stand behind those that were there. Without memory, and where the sink is worn, nothing
-    /// changes: all memory is taken before the sync. The list of messages keeps its room, and that of notices may have more. Blocks that
-    /// fall out of use go back to their source. (PulseAudio: `pa_sink_render` and `pa_sink_process_rewind` of pulsecore/sink.c.)
+    /// Runs one turn: the device plays what it consumed, the messages are applied, all frames from the horizon on are mixed afresh and put to it, and
+    /// each stream asks for frames. A turn whose sync fails stops the sink, and later turns don't call the device. The list of messages is empty
+    /// then, and the notices follow those already in `out`. Without memory, and where `filled` is more than 2^60, nothing changes: all memory is
+    /// taken before the sync. The list of messages has the room that it had, and that of notices may have more. Blocks that fall out of use go back
+    /// to their source. (PulseAudio: `pa_sink_render` and `pa_sink_process_rewind` of pulsecore/sink.c.)
     pub fn turn<B: BlockSource, T: Ledger>(
         &mut self,
         alloc: Global,
@@ -155,7 +155,7 @@ impl<D: Device + Drop> Lane<D> {
     }
 }
 
-// A turn for which all memory was taken.
+// A turn whose memory has all been taken.
 fn run<D: Device, B: BlockSource, T: Ledger>(
     mixer: &mut SinkMixer,
     device: &mut D,
@@ -199,7 +199,7 @@ fn run<D: Device, B: BlockSource, T: Ledger>(
     }
 }
 
-// A turn after a sync that answered so many frames consumed.
+// A turn after a sync that answered `consumed` frames consumed in all.
 fn play<D: Device, B: BlockSource, T: Ledger>(
     mixer: &mut SinkMixer,
     device: &mut D,

@@ -1,8 +1,8 @@
-//! A sink's mixer over a device: its streams, their mix, and a turn. All the memory of a turn is taken before its first message
-//! (`MsgList::prepare`); from then on nothing can fail but the device. `lane` has the turn over a device, `mixer` the sink without it, `buffer` its bytes,
-//! `mixed` the inputs with the kept sums of their mix, `taking` the messages to them, `setting` their factors, `adding` the frames that
-//! come, `inputs` the list of inputs, `lists` what a turn takes and gives, `rows` what some turns cost. It exports `Lane` with `Turned`
-//! and `LaneFault`, `MsgList` and `NoticeList`, and the law `turns_cost_this`.
+//! A sink's mixer over a device: its streams, their mix, and a turn. All the memory of a turn is taken before its first message (`MsgList::prepare`);
+//! from then on nothing can fail but the device. `lane` has the turn over a device, `mixer` the sink without it, `buffer` its bytes, `mixed` the
+//! inputs with the kept sums of their mix, `taking` the messages to them, `setting` their factors, `adding` the frames that come, `inputs` the list
+//! of inputs, `lists` what a turn takes and gives, `rows` what some turns cost. It exports `Lane` with `Turned` and `LaneFault`, `MsgList` and
+//! `NoticeList`, and the law `turns_cost_this`.
 #![tactic(auto)]
 
 mod adding;

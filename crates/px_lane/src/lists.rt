@@ -1,4 +1,4 @@
-// What a turn takes and what it gives: lists of messages and of notices.
+// The lists of messages and of notices that a turn takes and fills.
 ghost use Rattle.std.specs.Prelude.{◌≡◌, ◌≤◌, ◌<◌, ◌+◌, ◌++◌, [], ◌∷◌, length, map, flat_map, MatchOption, IfOk, OnOk, OnErr, OnSome, slice_get};
 ghost use Rattle.std.specs.Option.{option_map};
 ghost use Rattle.std.specs.List.{AllByRecursion, sum_by};
@@ -22,7 +22,7 @@ use std::collections::VecDeque;
 use std::marker::Model;
 use std::mem::replace;
 
-/// Notices of a sink, in order, for the core.
+/// Notices from a sink to the core, in order.
 #[derive(Debug, Drop)]
 pub struct NoticeList {
     items: VecDeque<Notice<Stream>>,
@@ -54,7 +54,7 @@ impl NoticeList {
         self.items.len()
     }
 
-    /// Makes room for so many more notices. Without memory nothing changes.
+    /// Makes room for `notices` more notices. Without memory nothing changes.
     pub fn reserve(&mut self, notices: usize) -> Mem<()>
         ensures value { self.new.notices ≡ self.old.notices }
         ensures ok { OnOk result (length self.new.notices + notices ≤ self.new.capacity) }
@@ -64,7 +64,7 @@ impl NoticeList {
         Ok(())
     }
 
-    /// Adds a notice, where there is room for it. Takes no memory.
+    /// Appends a notice, where there is room for it. Takes no memory.
     pub fn push(&mut self, notice: Notice<Stream>)
         requires { length self.old.notices < self.old.capacity }
         ensures value { self.new.notices ≡ self.old.notices ++ plain_notice notice ∷ [] }
@@ -73,7 +73,7 @@ impl NoticeList {
         self.items.push_back_reserved(notice);
     }
 
-    /// Takes the first notice. Its room stays, so that it could be put back.
+    /// Takes the first notice. Its room stays, so that it can be put back.
     pub fn pop_front(&mut self) -> Option<Notice<Stream>>
         ensures room { OnSome result (length self.new.notices < self.new.capacity) }
         ensures value { MatchOption result ((self.old.notices ≡ []) × (self.new.notices ≡ [])) (λ first. self.old.notices ≡ plain_notice first ∷ self.new.notices) }
@@ -94,8 +94,7 @@ impl NoticeList {
     }
 }
 
-// Lets a queue that is empty begin at the front of its room again: so notices that come and go stay in a small part of it, however many once
-// waited. Takes no memory.
+// Restarts an empty queue at the front of its memory: so notices that come and go use a small part of it, however many once waited. Takes no memory.
 fn begin_anew<T>(queue: &mut VecDeque<T>)
     ensures items { queue.new.items ≡ queue.old.items }
     ensures len { deque_len queue.new ≡ deque_len queue.old }
@@ -108,7 +107,7 @@ fn begin_anew<T>(queue: &mut VecDeque<T>)
     }
 }
 
-/// Messages to a sink, in order, from the core.
+/// Messages from the core to a sink, in order.
 #[derive(Debug, Drop)]
 pub struct MsgList {
     items: VecDeque<Msg<Stream>>,
@@ -137,7 +136,7 @@ impl MsgList {
         }
     }
 
-    /// How many there are. Each parcel that comes by one is a stream with all that a stream keeps.
+    /// How many there are. Each parcel in them is a well-formed stream.
     pub fn len(&self) -> usize
         ensures count { result ≡ length self.now.messages }
         ensures parcels { AllByRecursion BringsStream self.now.messages }
@@ -145,7 +144,7 @@ impl MsgList {
         self.items.len()
     }
 
-    /// Makes room for so many more messages. Without memory nothing changes.
+    /// Makes room for `messages` more messages. Without memory nothing changes.
     pub fn reserve(&mut self, messages: usize) -> Mem<()>
         ensures value { self.new.messages ≡ self.old.messages }
         ensures ok { OnOk result (length self.new.messages + messages ≤ self.new.capacity) }
@@ -155,7 +154,7 @@ impl MsgList {
         Ok(())
     }
 
-    /// Adds a message, where there is room for it. Takes no memory.
+    /// Appends a message, where there is room for it. Takes no memory.
     pub fn push(&mut self, message: Msg<Stream>)
         requires { length self.old.messages < self.old.capacity }
         ensures value { self.new.messages ≡ self.old.messages ++ plain_message message ∷ [] }
@@ -165,16 +164,16 @@ impl MsgList {
         self.items.push_back_reserved(message);
     }
 
-    /// The message at a place, from 0; `None` exactly where there are no more than that.
+    /// The message at place `at`, from 0; `None` exactly where there are at most `at` messages.
     pub fn get(&self, at: usize) -> Option<&Msg<Stream>>
         ensures { option_map (λ message. plain_message message.now) result ≡ slice_get self.now.messages at }
     {
         self.items.get(at)
     }
 
-    /// Takes all the memory of a turn with these messages: the stream of each new input, room for all messages in each stream that is
-    /// there or comes, and in `out` for every notice of the turn. The list is empty then. Without memory nothing
-    /// changes that the definitions see: the messages stay.
+    /// Takes all the memory of a turn with these messages: the stream of each new input, room for all messages in each stream that is there or comes,
+    /// and room in `out` for every notice of the turn. The list is empty then. Without memory nothing changes that is visible to contracts: the
+    /// messages stay.
     pub(crate) fn prepare(
         &mut self,
         alloc: Global,
@@ -202,7 +201,7 @@ impl MsgList {
         Ok(Prepared::new(items, streams, count, blocks))
     }
 
-    /// Takes the list of messages back that a turn has taken, for its room. Takes no memory.
+    /// Takes back the list whose messages a turn has applied, for its room. Takes no memory.
     pub(crate) fn give_back(&mut self, prepared: Prepared)
         requires taken { prepared.messages ≡ [] }
         requires empty { self.old.messages ≡ [] }
@@ -213,7 +212,7 @@ impl MsgList {
     }
 }
 
-// A parcel that comes keeps what a stream keeps.
+// The parcel of a message is a well-formed stream.
 fn brings_stream(message: &Msg<Stream>)
     ensures { BringsStream (plain_message message.now) }
 {
@@ -225,7 +224,7 @@ fn brings_stream(message: &Msg<Stream>)
     }
 }
 
-// What a turn with these messages takes: the stream of each new input, and how many blocks the messages bring.
+// Takes a turn's memory for these messages: the stream of each new input, and the number of blocks that the messages bring.
 fn taken(
     alloc: Global,
     messages: &mut [Msg<Stream>],
@@ -257,7 +256,7 @@ fn taken(
     Ok((streams, blocks))
 }
 
-// How many notices a turn gives at the most. A number that passes all that memory can hold is want of memory.
+// The most notices that a turn gives. A number above what memory can hold counts as out of memory.
 fn needed_of(inputs: &[Input], messages: &[Msg<Stream>]) -> Mem<usize>
     ensures { IfOk result (λ notices. notices ≡ needed (inputs_of inputs.now) (messages_of messages.now)) }
 {

@@ -18,7 +18,7 @@ use px_types::{Mem, NoMemory};
 use std::alloc::Global;
 use std::collections::VecDeque;
 
-/// How many notices a turn gives at the most of the inputs that are there. `None` where that is no number.
+/// The most notices that a turn gives from the inputs that are there. `None` where that overflows.
 pub(crate) fn needed_by_inputs(inputs: &[Input]) -> Option<usize>
     ensures { MatchOption result ⊤ (λ notices. notices ≡ sum_by needed_by_input (inputs_of inputs.now)) }
 {
@@ -30,7 +30,7 @@ pub(crate) fn needed_by_inputs(inputs: &[Input]) -> Option<usize>
     Some(notices)
 }
 
-/// How many more it gives by the messages. `None` where that is no number.
+/// The most notices that the messages add. `None` where that overflows.
 pub(crate) fn needed_by_messages(messages: &[Msg<Stream>]) -> Option<usize>
     ensures { MatchOption result ⊤ (λ notices. notices ≡ sum_by needed_by (messages_of messages.now)) }
 {
@@ -52,7 +52,7 @@ fn notices_of(message: &Msg<Stream>) -> Option<usize>
     }
 }
 
-/// How many blocks the writes bring. `None` where that is no number of 32 bits.
+/// How many blocks the writes bring. `None` where that is above 32 bits.
 pub(crate) fn blocks_in(messages: &[Msg<Stream>]) -> Option<u32>
     ensures { MatchOption result ⊤ (λ blocks. blocks ≡ sum_by blocks_of (messages_of messages.now)) }
 {
@@ -76,7 +76,7 @@ fn blocks_of(message: &Msg<Stream>) -> Option<u32>
     }
 }
 
-/// The stream of each new input, in order, each with room for so many messages with so many blocks in all.
+/// The stream of each new input, in order, each with room for `room` messages with `blocks` blocks in all.
 pub(crate) fn opened(
     alloc: Global,
     messages: &[Msg<Stream>],
@@ -107,7 +107,7 @@ fn stream_of(alloc: Global, fresh: &NewStream, room: u32, blocks: u32) -> Mem<St
     Ok(stream)
 }
 
-/// Makes room for so many messages with so many blocks in all in each parcel that comes.
+/// Makes room for `room` messages with `blocks` blocks in all in the parcel of each Attach.
 pub(crate) fn reserve_parcels(messages: &mut [Msg<Stream>], room: u32, blocks: u32) -> Mem<()>
     ensures same { messages_of messages.new ≡ messages_of messages.old }
     ensures room { OnOk result (AllByRecursion (BringsRoom room blocks) messages.new) }
@@ -128,7 +128,7 @@ fn reserve_parcel(message: &mut Msg<Stream>, room: u32, blocks: u32) -> Mem<()>
     }
 }
 
-/// Makes room for so many messages with so many blocks in all in each stream that is there.
+/// Makes room for `room` messages with `blocks` blocks in all in each stream that is there.
 pub(crate) fn reserve_inputs(inputs: &mut [Input], room: u32, blocks: u32) -> Mem<()>
     ensures same { inputs_of inputs.new ≡ inputs_of inputs.old }
     ensures held { (old held : ℕ) → AllByRecursion (HasRoom old held) inputs.old → AllByRecursion (HasRoom old held) inputs.new }

@@ -37,7 +37,7 @@ use std::alloc::Global;
 use std::marker::Model;
 use std::sync::ledger::Ledger;
 
-/// The inputs of a sink, with what their streams add up to of each frame that is mixed past the horizon.
+/// The inputs of a sink, with the sums of their streams for each frame that is mixed past the horizon.
 #[derive(Debug, Drop)]
 pub(crate) struct MixedInputs {
     pub(crate) inputs: Inputs,
@@ -59,7 +59,7 @@ impl Model for MixedInputs {
     ghost invariant = { λ m. IsMixed m.spec × CanMix m.spec.channels m.inputs.inputs × IsKept m.spec m.inputs.inputs m.kept × (m.frames ≡ m.kept.frames) };
 }
 
-/// What a message led to: whether frames were written that aren't held, and how many frames past the horizon are mixed as before.
+/// What a message did: whether its write was refused, and how many frames past the horizon stay as mixed.
 #[derive(Clone, Copy, Debug, PartialEq, Eq)]
 pub(crate) struct Altered {
     pub refused: bool,
@@ -67,7 +67,7 @@ pub(crate) struct Altered {
 }
 
 impl MixedInputs {
-    /// No inputs, and no frames mixed. Takes the room of so many frames.
+    /// No inputs, and no frames mixed. Takes the memory of `depth` frames.
     pub(crate) fn new(alloc: Global, spec: Spec, depth: u32) -> Mem<MixedInputs>
         requires mixed { IsMixed spec }
         requires low { depth ≤ 65536 }
@@ -91,7 +91,7 @@ impl MixedInputs {
         self.frames
     }
 
-    /// Tells where a stream stands, if it is there, as the answer to a tag, with so many frames in the sink's buffer.
+    /// Pushes a Latency notice for a stream, if it is there, with `buffered` frames in the sink's buffer.
     pub(crate) fn answer(&self, input: InputId, tag: u32, buffered: u32, out: &mut NoticeList)
         requires { length out.old.notices + length (message_notices self.now.frames buffered (Message.query input.0 tag) self.now.inputs) ≤ out.old.capacity }
         ensures notices { out.new.notices ≡ out.old.notices ++ message_notices self.now.frames buffered (Message.query input.0 tag) self.now.inputs }
@@ -128,7 +128,7 @@ impl MixedInputs {
         messages.prepare(alloc, &mut self.inputs, out)
     }
 
-    /// All go so many frames of their sink forward, at most as many as are mixed. Of each it tells that it starts, and that it runs out.
+    /// Moves all streams `frames` frames forward, at most as many as are mixed, and pushes their Started and Underflow notices.
     pub(crate) fn go<B: BlockSource>(&mut self, frames: u64, out: &mut NoticeList, blocks: &mut B)
         requires there { frames ≤ self.old.frames }
         requires streams { AllByRecursion (λ x. IsStream (Stands.stream x)) self.old.inputs }
@@ -147,7 +147,7 @@ impl MixedInputs {
         self.frames -= frames as u32;
     }
 
-    /// Gives up all frames that are mixed.
+    /// Drops all frames that are mixed.
     pub(crate) fn drop_unplayed(&mut self)
         ensures spec { self.new.spec ≡ self.old.spec }
         ensures depth { self.new.depth ≡ self.old.depth }
@@ -160,7 +160,7 @@ impl MixedInputs {
         self.frames = 0;
     }
 
-    /// A stream comes in at its place, with its share of the sums.
+    /// Inserts a stream at its place, and adds its share to the sums.
     pub(crate) fn insert<T: Ledger>(&mut self, input: InputId, stream: Stream, steps: &mut Steps<T>)
         requires room { 1 ≤ self.old.room }
         requires stream_room { IsRoomy (self.old.room - 1) self.old.block_room stream }
@@ -180,7 +180,7 @@ impl MixedInputs {
         self.inputs.insert(input, stream);
     }
 
-    /// A stream leaves, if it is there, and its share with it.
+    /// Removes a stream, if it is there, and takes its share out of the sums.
     pub(crate) fn remove<T: Ledger>(
         &mut self,
         input: InputId,
@@ -201,8 +201,8 @@ impl MixedInputs {
         self.inputs.remove(input)
     }
 
-    /// Applies a message to a stream, if it is there, and exchanges its share from the first frame on that is altered. All that are mixed
-    /// are counted. Takes room for one message with its blocks.
+    /// Applies a message to a stream, if it is there, and exchanges its share from the first altered frame on. `unaltered` counts all mixed frames
+    /// where none is altered. Uses up the room of one message with its blocks.
     pub(crate) fn change<T: Ledger, B: BlockSource>(
         &mut self,
         input: InputId,
@@ -237,8 +237,7 @@ impl MixedInputs {
         Altered { refused, unaltered }
     }
 
-    /// Of each it tells the drains that are answered, where it has ended, and the frames that it asks for, where so many frames are mixed
-    /// ahead.
+    /// Pushes the Drained notices of streams that have ended, and Request notices, with `mixed` frames mixed ahead.
     pub(crate) fn ask(&mut self, mixed: u64, out: &mut NoticeList)
         requires { length out.old.notices + length (flat_map (asked_notices mixed) self.old.inputs) ≤ out.old.capacity }
         ensures spec { self.new.spec ≡ self.old.spec }
@@ -253,7 +252,7 @@ impl MixedInputs {
         self.inputs.ask(mixed, out);
     }
 
-    /// Mixes up to so many frames past the horizon: to those that come all streams add. Takes no memory.
+    /// Mixes up to `to` frames past the horizon: all streams add to the new frames. Takes no memory.
     pub(crate) fn mix<T: Ledger>(&mut self, to: u32, steps: &mut Steps<T>)
         requires more { self.old.frames ≤ to }
         requires fits { to ≤ self.old.depth }
@@ -280,7 +279,7 @@ impl MixedInputs {
         self.frames = to;
     }
 
-    /// Puts the frames from one on into `out`, all that are mixed, as a device gets them.
+    /// Packs all mixed frames from frame `from` on into `out`, in the device's format.
     pub(crate) fn pack<T: Ledger>(&self, from: u32, out: &mut [u8], steps: &mut Steps<T>)
         requires from { from ≤ self.now.frames }
         requires whole { length out.old ≡ (self.now.frames - from) * frame_size_of self.now.spec }

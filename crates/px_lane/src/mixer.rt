@@ -27,8 +27,8 @@ use std::alloc::Global;
 use std::marker::Model;
 use std::sync::ledger::Ledger;
 
-/// What a sink mixes: its counts, its buffer and its inputs (PulseAudio: `thread_info` of pulsecore/sink.h). The buffer's bytes are
-/// kept here from the first frame that isn't consumed on, as many as the depth has room for.
+/// What a sink mixes: its counts, its buffer and its inputs (PulseAudio: `thread_info` of pulsecore/sink.h). The buffer's bytes begin at the first
+/// frame that isn't consumed, as many as the depth has room for.
 #[derive(Debug, Drop)]
 pub(crate) struct SinkMixer {
     spec: Spec,
@@ -67,7 +67,7 @@ impl Model for SinkMixer {
 }
 
 impl SinkMixer {
-    /// A mixer that has mixed nothing, with no inputs. Takes the room of its buffer.
+    /// A mixer that has mixed nothing, with no inputs. Takes the memory of its buffer.
     pub(crate) fn new(alloc: Global, sink: &SinkSpec) -> Mem<SinkMixer>
         requires mixed { IsMixed sink.now.spec }
         requires low_depth { sink.now.depth ≤ 65536 }
@@ -110,7 +110,7 @@ impl SinkMixer {
         self.horizon
     }
 
-    /// Whether it mixes nothing any more.
+    /// Whether it has stopped, and mixes no more.
     pub(crate) fn is_stopped(&self) -> bool
         ensures { result ≡ self.now.sink.stopped }
     {
@@ -142,7 +142,7 @@ impl SinkMixer {
         self.inputs.prepare(alloc, messages, out)
     }
 
-    /// So many frames more are consumed, and all streams go forward to the new horizon.
+    /// Counts `frames` more frames as consumed, and moves all streams forward to the new horizon.
     pub(crate) fn settle<B: BlockSource>(
         &mut self,
         frames: u64,
@@ -170,7 +170,7 @@ impl SinkMixer {
         self.horizon = horizon;
     }
 
-    /// Takes all messages in order, at the horizon, and tells what they have to tell. Takes no memory.
+    /// Applies all messages in order, at the horizon, and pushes their notices. Takes no memory.
     pub(crate) fn take_all<T: Ledger, B: BlockSource>(
         &mut self,
         messages: &mut Prepared,
@@ -200,7 +200,7 @@ impl SinkMixer {
         self.unaltered = self.unaltered.min(same);
     }
 
-    /// Gives up all frames from the horizon on, for good.
+    /// Drops all frames from the horizon on, and stops the sink.
     pub(crate) fn drop_unplayed(&mut self)
         ensures value { self.new.sink ≡ given_up self.old.sink }
         ensures unaltered { self.new.unaltered ≡ 0 }
@@ -214,8 +214,8 @@ impl SinkMixer {
         self.stopped = true;
     }
 
-    /// Has all frames from the horizon on mixed afresh, up to the depth: those that are altered, and those that are new. Answers how many
-    /// past the horizon stay what they were.
+    /// Mixes all frames from the horizon on afresh, up to the depth: those that are altered, and those that are new. Answers how many past the
+    /// horizon stay what they were.
     pub(crate) fn remix<T: Ledger>(&mut self, steps: &mut Steps<T>) -> u64
         requires streams { AllByRecursion (λ x. IsStreamOf self.old.sink.spec (Stands.stream x)) self.old.sink.inputs }
         requires few { length self.old.sink.inputs ≤ 256 }
@@ -240,7 +240,7 @@ impl SinkMixer {
         stay
     }
 
-    /// Of each stream in order tells the drains that are answered, where it has ended, and asks for frames.
+    /// For each stream in order pushes the Drained notices, where it has ended, and a Request notice.
     pub(crate) fn ask(&mut self, out: &mut NoticeList)
         requires { length out.old.notices + length (flat_map (asked_notices (self.old.sink.filled - self.old.sink.horizon)) self.old.sink.inputs) ≤ out.old.capacity }
         ensures value { self.new.sink ≡ asked self.old.sink }
@@ -253,7 +253,7 @@ impl SinkMixer {
         self.inputs.ask(self.filled - self.horizon, out);
     }
 
-    /// The bytes of the frames behind so many past the horizon, once they are mixed up to the depth.
+    /// The bytes of the frames from `stay` past the horizon on, once they are mixed up to the depth.
     pub(crate) fn fresh(&self, stay: u64) -> &[u8]
         requires full { self.now.sink.filled ≡ self.now.sink.consumed + self.now.sink.depth }
         requires within { stay ≤ self.now.sink.filled - self.now.sink.horizon }
@@ -263,9 +263,9 @@ impl SinkMixer {
         &self.bytes.as_slice()[from..]
     }
 
-    /// A turn whose sync consumed so many frames: these leave the buffer and the streams go forward, the messages are taken, all frames
-    /// from the horizon on are mixed afresh, and the streams ask for more. Answers how many frames past the horizon stay what they were.
-    /// Takes no memory. (PulseAudio: `pa_sink_render` and `pa_sink_process_rewind` of pulsecore/sink.c.)
+    /// A turn whose sync consumed `frames` frames: these leave the buffer and the streams go forward, the messages are applied, all frames from the
+    /// horizon on are mixed afresh, and the streams ask for more. Answers how many frames past the horizon stay what they were. Takes no memory.
+    /// (PulseAudio: `pa_sink_render` and `pa_sink_process_rewind` of pulsecore/sink.c.)
     pub(crate) fn play<T: Ledger, B: BlockSource>(
         &mut self,
         frames: u64,
@@ -302,8 +302,8 @@ impl SinkMixer {
         stay
     }
 
-    /// A turn whose sync failed, and each after it: the streams go forward to the horizon, all past it is given up, the messages are
-    /// taken, and the streams ask for more. Takes no memory. (Own: a PulseAudio sink is unlinked.)
+    /// A turn whose sync failed, and each after it: the streams go forward to the horizon, all frames past it are dropped, the messages are applied,
+    /// and the streams ask for more. Takes no memory. (Own: a PulseAudio sink is unlinked.)
     pub(crate) fn stop<T: Ledger, B: BlockSource>(
         &mut self,
         messages: &mut Prepared,

@@ -1,4 +1,4 @@
-// The messages of a turn, with all the memory that they take.
+// The messages of a turn, with all the memory that they need.
 ghost use Rattle.std.specs.Prelude.{ℕ, ◌≡◌, ◌≤◌, ◌+◌, ◌-◌, ◌++◌, ◌∷◌, [], List, length, map, take, drop, flat_map, MatchOption, IfOk, OnOk, OnErr};
 ghost use Rattle.std.specs.List.{AllByRecursion, sum_by};
 ghost use Rattle.std.specs.VecDeque.{deque_capacity};
@@ -19,11 +19,11 @@ use px_stream::{Stream, StreamMsg};
 use std::collections::VecDeque;
 use std::marker::Model;
 
-/// The messages of a turn, in order, with all the memory that they take.
+/// The messages of a turn, in order, with all the memory that they need.
 #[derive(Debug, Drop)]
 pub(crate) struct Prepared {
     items: VecDeque<Msg<Stream>>,
-    // of each new input, in order
+    // the stream of each new input, in order
     streams: VecDeque<Stream>,
     room: u32,
     block_room: u32,
@@ -49,7 +49,7 @@ impl Model for Prepared {
 }
 
 impl Prepared {
-    /// These messages, with the stream of each new input, in order. Each stream that comes has room for so many messages with so many
+    /// These messages, with the stream of each new input, in order. Each of these streams and parcels has room for `room` messages with `block_room`
     /// blocks in all. Takes no memory.
     pub(crate) fn new(
         items: VecDeque<Msg<Stream>>,
@@ -70,7 +70,7 @@ impl Prepared {
         }
     }
 
-    /// The list of the messages, once all are taken: it begins at the front of its room again. Takes no memory.
+    /// The empty list of the messages, once all are taken: it begins at the front of its memory again. Takes no memory.
     pub(crate) fn into_items(self) -> VecDeque<Msg<Stream>>
         ensures messages { messages_of result.items ≡ self.messages }
         ensures capacity { deque_capacity result ≡ self.capacity }
@@ -93,7 +93,7 @@ impl Prepared {
     }
 }
 
-// The message with the memory that it takes, which stands first.
+// The first message with its memory: a New takes the first of `streams`.
 fn ready(message: Msg<Stream>, streams: &mut VecDeque<Stream>) -> Ready
     requires streams { take (length (streams_of (plain_message message))) (map HeldStream.stream streams.old.items) ≡ streams_of (plain_message message) }
     ensures ready { IsReadyFor result (plain_message message) }

@@ -1,4 +1,4 @@
-// A message with all the memory that it takes.
+// A message with all the memory that it needs.
 
 use px_chmap::Feed;
 use px_msg::FactorList;
@@ -6,7 +6,7 @@ use px_stream::{Stream, StreamMsg};
 use px_types::InputId;
 use px_vol::Factors;
 
-/// A message with all the memory that it takes.
+/// A message with all the memory that it needs.
 #[derive(Debug, Drop)]
 pub(crate) enum Ready {
     /// A new stream comes.
@@ -30,7 +30,7 @@ pub(crate) enum Ready {
     },
     /// Some inputs get new factors.
     Each(FactorList),
-    /// The tag is answered with where the stream stands.
+    /// A query with this tag, answered by a Latency notice.
     Answer {
         input: InputId,
         tag: u32,

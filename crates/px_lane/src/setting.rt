@@ -21,8 +21,8 @@ use px_vol::Factors;
 use std::sync::ledger::Ledger;
 
 impl MixedInputs {
-    /// Replaces the factors of each of these inputs that is there. Of one that is named more than once the last entry decides. Answers
-    /// how many frames past the horizon are mixed as before: all of them where none gets other factors.
+    /// Replaces the factors of each of these inputs that is there; the last entry for an input counts. Answers how many frames past the horizon are
+    /// mixed as before: all of them where no input's factors differ from those it had, else 0.
     pub(crate) fn set_factors<T: Ledger, B: BlockSource>(
         &mut self,
         each: &[InputFactors],
@@ -49,8 +49,7 @@ impl MixedInputs {
         self.frames() as u64
     }
 
-    // Replaces the factors of the input that an entry names, unless one behind it names it too. Answers how many inputs get others: one or
-    // none.
+    // Replaces the factors of the input of `entry`, unless one of the entries after it names the same input. Answers how many inputs changed: 0 or 1.
     fn set_last<T: Ledger, B: BlockSource>(
         &mut self,
         entry: &InputFactors,
@@ -77,7 +76,7 @@ impl MixedInputs {
         self.set_one(entry.input, entry.factors, blocks, steps)
     }
 
-    // Replaces the factors of a stream, if it is there and has others, and exchanges its share. Answers how many got others: one or none.
+    // Replaces the factors of a stream, if it is there and has others, and exchanges its share. Answers how many inputs changed: 0 or 1.
     fn set_one<T: Ledger, B: BlockSource>(
         &mut self,
         input: InputId,

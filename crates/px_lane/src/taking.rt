@@ -1,4 +1,4 @@
-// The messages of a turn, taken by the inputs of a sink with the kept sums of their mix.
+// The messages of a turn, applied to the inputs of a sink and the kept sums of their mix.
 ghost use Rattle.std.specs.Prelude.{◌≡◌, ◌≤◌, ◌+◌, ◌-◌, ◌*◌, ◌++◌, ◌∷◌, [], length};
 ghost use Rattle.std.specs.List.{sum_by};
 ghost use Rattle.px_model.specs.Frame.{SampleSpec};
@@ -28,7 +28,7 @@ use px_vol::Factors;
 use std::sync::ledger::Ledger;
 
 impl MixedInputs {
-    // A stream comes from another sink, with a feed and factors for this one.
+    // Inserts a stream from another sink, with a feed and factors for this one.
     fn join<T: Ledger, B: BlockSource>(
         &mut self,
         input: InputId,
@@ -56,7 +56,7 @@ impl MixedInputs {
         self.insert(input, stream, steps);
     }
 
-    // A stream leaves, if it is there, and is told to have left.
+    // Removes a stream, if it is there, and pushes its Detached notice.
     fn leave<T: Ledger>(&mut self, input: InputId, out: &mut NoticeList, steps: &mut Steps<T>)
         requires mixes { CanMix self.old.spec.channels (without_input input.0 self.old.inputs) }
         requires capacity { length out.old.notices + length (notices_from (stream_at input.0 self.old.inputs) (λ s. Notices.detached input.0 s ∷ [])) ≤ out.old.capacity }
@@ -76,8 +76,8 @@ impl MixedInputs {
         }
     }
 
-    // A stream is changed, if it is there, and frames that aren't held are told. Answers how many frames past the horizon are mixed as
-    // before.
+    // Applies a message to a stream, if it is there, and pushes Overflow where a write is refused. Answers how many frames past the horizon are mixed
+    // as before.
     fn alter<T: Ledger, B: BlockSource>(
         &mut self,
         input: InputId,
@@ -109,8 +109,8 @@ impl MixedInputs {
         altered.unaltered
     }
 
-    /// Takes a message, where so many frames are in the sink's buffer, and tells what it has to tell. Answers how many frames past the
-    /// horizon are mixed as before. Takes room for one message with its blocks, and no memory.
+    /// Applies a message, with `buffered` frames in the sink's buffer, and pushes its notices. Answers how many frames past the horizon are mixed as
+    /// before. Uses up the room of one message with its blocks, and takes no memory.
     pub(crate) fn take<T: Ledger, B: BlockSource>(
         &mut self,
         message: Ready,
@@ -158,8 +158,8 @@ impl MixedInputs {
         0
     }
 
-    /// Takes all messages in order, where so many frames are in the sink's buffer, and tells what they have to tell. Answers how many
-    /// frames past the horizon are mixed as before. Takes no memory.
+    /// Applies all messages in order, with `buffered` frames in the sink's buffer, and pushes their notices. Answers how many frames past the horizon
+    /// are mixed as before. Takes no memory.
     pub(crate) fn take_all<T: Ledger, B: BlockSource>(
         &mut self,
         messages: &mut Prepared,

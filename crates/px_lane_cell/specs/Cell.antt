@@ -26,25 +26,25 @@ pub record Cell (D R : Type 0) : Type 0 where
   pub lane : Mixer D
   pub recorder : R
   pub ends : LaneEnds
-  -- those that were taken for a turn that wasn't made
+  -- messages taken for a turn that wasn't made
   pub messages : BoundedMessages
-  -- those that weren't posted yet
+  -- notices that aren't posted yet
   pub notices : BoundedNotices
   -- how many messages the last turn took
   pub taken : ℕ
-  -- how many notices stood behind it
+  -- how many notices there were after it
   pub given : ℕ
 
 -- ---- its mailboxes
 
--- what its passes have moved
+-- what its passes took and posted
 abbrev pub taken_in : LaneEnds → List (Msg HeldStream)
 taken_in ends = taken_by ends.passes.take.pass
 
 abbrev pub posted_in : LaneEnds → List (CodeNotice HeldStream)
 posted_in ends = posted_by ends.passes.post.pass
 
--- of each take from its inbox whether it found a message, and of each post to its outbox whether the notice was stored
+-- whether each take from its inbox found a message, and whether each post to its outbox stored the notice
 abbrev pub found_in : LaneEnds → List Bool
 found_in ends = found_by ends.passes.take.pass
 
@@ -64,9 +64,9 @@ pub record AreEnds (ends : LaneEnds) : Type 0 where
 abbrev pub IsKeyOf : LaneEnds → Sink → Type 0
 IsKeyOf ends sink = MatchOption (key_in ends) ⊥ (λ key. sample_spec key ≡ sink.spec)
 
--- ---- what it keeps
+-- ---- its invariant
 
--- the messages taken, but for those kept, have left its inputs there
+-- the messages taken, without those still held, have left the sink's inputs
 pub record HasLeft (sink : Sink) (taken held : List (Message Stream)) : Type 0 where
   pub gone : List (Message Stream)
   pub whole : taken ≡ gone ++ held
@@ -80,6 +80,6 @@ pub record IsCell {D R : Type 0} (now : D → DeviceState) (visible : R → Opti
   pub room : 256 ≤ cell.messages.capacity
   pub attached : IsFalse cell.lane.sink.stopped → IsAttached (now cell.lane.device) cell.lane.sink
   pub inputs : HasLeft cell.lane.sink (messages_of (taken_in cell.ends)) cell.messages.messages
-  -- where its recorder tells, all of its history
+  -- where its recorder's history is visible: all of it
   pub history : IfSome (visible cell.recorder) (λ entries. IsAfter (now cell.lane.device) cell.lane.sink (history_meant entries)
       (messages_of (taken_in cell.ends)) cell.messages.messages (notices_of (posted_in cell.ends)) cell.notices.notices)

@@ -21,7 +21,7 @@ use Rattle.px_model.specs.Deciding.{Entry, turn, stop}
 
 -- ---- a stream
 
--- the places from an index on, of frames that stand at rising indices: a hole at each index with no frame
+-- the places from an index on, of frames with rising indices: a hole at each index with no frame
 abbrev pub places_meant : ℤ → List PlainFrame → List (Option Frame)
 places_meant index [] = []
 places_meant index (f ∷ frames) = replicate (above f.index index) None ++ (Some f.bytes ∷ places_meant (onward f.index 1) frames)
@@ -81,7 +81,7 @@ message_meant (plain.Query input tag) = Message.query input tag
 
 -- ---- a turn
 
--- a turn by the frames that its sync consumed, none where the sink had stopped
+-- a turn by the frames that its sync consumed, None where the sink had stopped
 abbrev pub turn_meant : Option ℕ → List (Message Stream) → Entry
 turn_meant None messages = stop messages
 turn_meant (Some frames) messages = turn frames messages

@@ -22,22 +22,22 @@ parcel_spec s = s.stream.spec
 abbrev pub AreTaken : Option Spec → List (Msg HeldStream) → Type 0
 AreTaken key messages = IsLawful (λ (k : Spec) (letters : List (Msg HeldStream)). AreLawful parcel_spec (sample_spec k) letters) key messages
 
--- some were taken, and stand behind those that were there
+-- some messages were taken, and follow those that were waiting
 pub record Takes (taken taken' : List (Msg HeldStream)) (waiting waiting' : List (Message Stream)) : Type 0 where
   pub got : List (Msg HeldStream)
   pub moved : taken' ≡ taken ++ got
   pub stands : waiting' ≡ waiting ++ messages_of got
 
--- there are 256, or the last look into the inbox found it empty: what its pass wrote down before these looks and after them
+-- there are 256, or the last take found the inbox empty: what its pass had recorded before these takes and after them
 abbrev pub AreAll : List Bool → List Bool → Option Spec → List (Msg HeldStream) → List (Message Stream) → Type 0
 AreAll found found' key taken waiting = (length waiting ≡ 256) ⊎ (LastFails found found' × Held 0 (λ held. AreTaken key (taken ++ held)))
 
--- the first ones were posted, and the others are left
+-- the first notices were posted, and the others are left
 pub record Posts (posted posted' : List (CodeNotice HeldStream)) (notices left : List (Notice Stream)) : Type 0 where
   pub gone : List (CodeNotice HeldStream)
   pub moved : posted' ≡ posted ++ gone
   pub stays : notices ≡ notices_of gone ++ left
 
--- none is left, or the outbox was full at the last post: what its pass wrote down before these posts and after them
+-- none is left, or the outbox was full at the last post: what its pass had recorded before these posts and after them
 abbrev pub AreGone : List Bool → List Bool → List (CodeNotice HeldStream) → List (Notice Stream) → Type 0
 AreGone stored stored' posted left = (left ≡ []) ⊎ (LastFails stored stored' × Held 256 (IsHeldOf posted))

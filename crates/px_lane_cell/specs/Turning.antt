@@ -1,4 +1,4 @@
--- What a call of a cell for a turn does, by its answer.
+-- What a cell's call for a turn does, by its answer.
 use Rattle.std.specs.Prelude.{◌≡◌, ℕ, ◌^◌, ◌≤◌, ◌<◌, List, [], ◌++◌, length, Option, None, Some, Result, Ok, Err, ⊤}
 use Rattle.px_annals.specs.declared.entry.LaneEntry.{LaneEntry}
 use Rattle.px_annals.specs.declared.recorder.RecordFault.{RecordFault}
@@ -19,12 +19,12 @@ use Rattle.px_lane_cell.specs.Meaning.{messages_meant, entry_meant}
 use Rattle.px_lane_cell.specs.Moved.{Takes, AreAll, Posts, AreGone}
 use Rattle.px_lane_cell.specs.Cell.{Cell, taken_in, posted_in, found_in, stored_in, key_in}
 
--- the frames that a turn's sync consumed, none where the sink has stopped
+-- the frames that a turn's sync consumed, None where the sink has stopped
 abbrev pub consumed_in : Turned → Option ℕ
 consumed_in (Played consumed frames) = Some frames
 consumed_in (Stopped faults) = None
 
--- a turn with its entry: all of these messages stand in it, and it gives the sink and the notices after it
+-- a turn with its entry: it holds all of these messages, and its replay gives the sink and the notices after it
 pub record IsNoted {D : Type 0} (now : D → DeviceState) (before after : Mixer D) (messages : List (Message Stream)) (noticed noticed' : List (Notice Stream)) (turned : Turned) (entry : LaneEntry) : Type 0 where
   pub consumed : entry.consumed ≡ consumed_in turned
   pub whole : messages_meant entry.messages ≡ messages
@@ -32,7 +32,7 @@ pub record IsNoted {D : Type 0} (now : D → DeviceState) (before after : Mixer 
   pub notices : noticed' ≡ noticed ++ notices_by samples before.sink (entry_meant entry)
   pub turns : Turns now before after messages noticed noticed' turned
 
--- one entry is noted, and no message is kept
+-- one entry is recorded, and no message stays
 pub record Makes {D R : Type 0} (now : D → DeviceState) (visible : R → Option (List LaneEntry)) (before after : Cell D R) (turned : Turned) : Type 0 where
   pub entry : LaneEntry
   -- all messages of the turn, and all notices after it
@@ -48,7 +48,7 @@ pub record Makes {D R : Type 0} (now : D → DeviceState) (visible : R → Optio
   pub posts : Posts (posted_in before.ends) (posted_in after.ends) notices after.notices.notices
   pub gone : AreGone (stored_in before.ends) (stored_in after.ends) (posted_in after.ends) after.notices.notices
 
--- there is no turn: the messages that were taken are kept, and all else is what it was
+-- there is no turn: the messages that were taken stay, and nothing else changes
 pub record Keeps {D R : Type 0} (visible : R → Option (List LaneEntry)) (before after : Cell D R) : Type 0 where
   pub takes : Takes (taken_in before.ends) (taken_in after.ends) before.messages.messages after.messages.messages
   pub lane : after.lane ≡ before.lane
@@ -60,21 +60,21 @@ pub record Keeps {D R : Type 0} (visible : R → Option (List LaneEntry)) (befor
 
 -- ---- why there was no turn
 
--- what the recorder answered by the cell's answer, where it was asked: it was ready wherever it isn't the cause
+-- the recorder's answer by the cell's answer, where it was asked: it was ready wherever it isn't the cause
 abbrev pub recorder_said : Result Turned CellFault → Result ⊤ RecordFault
 recorder_said (Ok turned) = Ok tt
 recorder_said (Err NoMemory) = Ok tt
 recorder_said (Err (Worn filled)) = Ok tt
 recorder_said (Err (Recorder fault)) = Err fault
 
--- a cause of the recorder is what it says of itself; a turn is made where it says that it isn't full
+-- a cause of the recorder agrees with its limit and sizes; a turn is made only where it isn't full
 abbrev pub SaysWhy : Result Turned CellFault → Option Limit → Option (List ℕ) → Type 0
 SaysWhy (Ok turned) limit sizes = SaysFull {A = ⊤} (Ok tt) limit sizes
 SaysWhy (Err NoMemory) limit sizes = ⊤
 SaysWhy (Err (Worn filled)) limit sizes = SaysFull {A = ⊤} (Ok tt) limit sizes
 SaysWhy (Err (Recorder fault)) limit sizes = SaysFull {A = ⊤} (Err fault) limit sizes
 
--- a mixer is worn where more frames are filled than the last index, and none is that makes a turn
+-- a mixer is worn where `filled` is above the last index, and no such mixer makes a turn
 abbrev pub IsWorn : Result Turned CellFault → ℕ → Type 0
 IsWorn (Ok turned) filled = filled ≤ 2 ^ 60
 IsWorn (Err NoMemory) filled = ⊤

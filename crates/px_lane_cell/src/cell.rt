@@ -24,8 +24,7 @@ use std::alloc::Global;
 use std::marker::Model;
 use std::sync::Wait;
 
-/// A sink's mixer with its history and its mailboxes, in the hands of the one worker that makes its turns (PulseAudio: a sink with its
-/// `thread_mq`).
+/// A sink's mixer with its history and its mailboxes, owned by the one worker that makes its turns (PulseAudio: a sink with its `thread_mq`).
 #[derive(Drop)]
 pub struct LaneCell<D: Device, R: Recorder<LaneEntry>> {
     lane: Lane<D>,
@@ -47,7 +46,7 @@ impl<D: Device, R: Recorder<LaneEntry>> Model for LaneCell<D, R> {
     ghost invariant = { λ c. IsCell D.now R.visible (record { lane = c.lane; recorder = c.recorder; ends = c.ends; messages = c.messages; notices = c.notices; taken = c.taken; given = c.given }) };
 }
 
-/// What a cell was made of, with the messages and the notices that it kept.
+/// The parts of a cell, with the messages and the notices that it still held.
 #[derive(Drop)]
 pub struct LaneCellParts<D, R> {
     pub lane: Lane<D>,
@@ -57,7 +56,7 @@ pub struct LaneCellParts<D, R> {
     pub notices: NoticeList,
 }
 
-// A list with the room for the messages of a turn.
+// A list with room for the messages of a turn.
 fn room_for_turn(alloc: Global) -> Mem<MsgList>
     ensures { IfOk result (λ list. (list.messages ≡ []) × (256 ≤ list.capacity)) }
 {
@@ -66,7 +65,7 @@ fn room_for_turn(alloc: Global) -> Mem<MsgList>
     Ok(messages)
 }
 
-// Takes the messages of a turn, behind those kept before: how many there are then.
+// Takes messages for a turn, after those still held, and answers how many there are then.
 fn gather<W: Wait>(rt: &W, ends: &mut LaneEnds, messages: &mut MsgList) -> u32
     requires ends { AreEnds ends.old }
     requires lawful { AreTaken (key_in ends.old) (taken_in ends.old) }
@@ -87,7 +86,7 @@ fn gather<W: Wait>(rt: &W, ends: &mut LaneEnds, messages: &mut MsgList) -> u32
     messages.len() as u32
 }
 
-// Posts the notices behind a turn, of which those that are left stay in order: how many stood there.
+// Posts a turn's notices; those that don't fit stay in order. Answers how many there were before.
 fn deliver<W: Wait>(rt: &W, ends: &mut LaneEnds, notices: &mut NoticeList) -> usize
     requires ends { AreEnds ends.old }
     ensures ends { AreEnds ends.new }
@@ -103,7 +102,7 @@ fn deliver<W: Wait>(rt: &W, ends: &mut LaneEnds, notices: &mut NoticeList) -> us
 }
 
 impl<D: Device + Drop, R: Recorder<LaneEntry> + Drop> LaneCell<D, R> {
-    /// A cell with a mixer that has made no turn and a recorder that holds nothing. Takes the room for the messages of a turn.
+    /// A cell with a mixer that has made no turn and a recorder that holds nothing. Takes the memory for the messages of a turn.
     pub fn new(alloc: Global, lane: Lane<D>, recorder: R, ends: LaneEnds) -> Mem<LaneCell<D, R>>
         requires unturned { lane.sink ≡ unturned lane.sink }
         requires attached { IsAttached (D.now lane.device) lane.sink }
@@ -139,10 +138,10 @@ impl<D: Device + Drop, R: Recorder<LaneEntry> + Drop> LaneCell<D, R> {
         }
     }
 
-    /// Takes messages until there are 256, those kept before among them, or the inbox is found empty, and makes one turn with all of
-    /// them, whose entry is noted. Then posts the notices, those kept before first, until none is left or the outbox is full; the rest are
-    /// kept. The recorder is asked before the turn. Where it isn't ready, where there is no memory, and where the mixer is worn, the
-    /// messages are kept for the next call, and all else is what it was. Waits for nothing but the mailboxes.
+    /// Makes one turn. It takes messages until there are 256, with those held from before, or the inbox is found empty; all of them are applied, and
+    /// the turn's entry is recorded. Then it posts the notices, older ones first, until none is left or the outbox is full; the rest stay. The
+    /// recorder is asked before the turn. Where it isn't ready, where there is no memory, and where the mixer is worn, the messages stay for the next
+    /// call, and nothing else changes. Waits for nothing but the mailboxes.
     pub fn turn<W: Wait, B: BlockSource>(
         &mut self,
         rt: &W,
@@ -174,7 +173,7 @@ impl<D: Device + Drop, R: Recorder<LaneEntry> + Drop> LaneCell<D, R> {
         Ok(turned)
     }
 
-    /// How many messages the last turn took that was made, 0 before the first.
+    /// How many messages the last turn applied, 0 before the first.
     pub fn taken(&self) -> u32
         ensures count { result ≡ self.now.taken }
         ensures holds { IsCell D.now R.visible self.now }
@@ -182,15 +181,14 @@ impl<D: Device + Drop, R: Recorder<LaneEntry> + Drop> LaneCell<D, R> {
         self.taken
     }
 
-    /// How many notices stood behind the last turn that was made, those kept before it among them, 0 before the first. Each of them was posted or
-    /// is kept.
+    /// How many notices there were after the last turn, with those held from before it, 0 before the first. Each of them was posted or is still held.
     pub fn given(&self) -> usize
         ensures count { result ≡ self.now.given }
     {
         self.given
     }
 
-    /// The mixer, the recorder, the mailboxes with their passes, and the messages and notices that are kept. Takes no memory.
+    /// The mixer, the recorder, the mailboxes with their passes, and the messages and notices still held. Takes no memory.
     pub fn into_parts(self) -> LaneCellParts<D, R>
         ensures lane { result.lane ≡ self.lane }
         ensures recorder { result.recorder ≡ self.recorder }

@@ -19,7 +19,7 @@ pub struct LanePasses {
     pub post: PostPass<Notice<Stream>>,
 }
 
-/// What a sink's worker has of both mailboxes.
+/// Both mailboxes of a sink, with the rights of its worker.
 #[derive(Drop)]
 pub struct LaneEnds {
     pub boxes: Boxes,

@@ -2,13 +2,13 @@
 
 use px_annals::RecordFault;
 
-/// Why there was no turn. The messages that were taken are kept for the next call, and all else is what it was.
+/// Why there was no turn. The messages that were taken stay for the next call, and nothing else changes.
 #[derive(Clone, Copy, Debug, PartialEq, Eq)]
 pub enum CellFault {
-    /// Want of memory.
+    /// Out of memory.
     NoMemory,
-    /// So many frames are filled that an index could pass its range: more than 2^60.
+    /// `filled` is more than 2^60, so that an index could pass its range.
     Worn { filled: u64 },
-    /// The recorder isn't ready for one more entry, and this is its answer.
+    /// The recorder isn't ready for one more entry; this is its answer.
     Recorder(RecordFault),
 }

@@ -11,7 +11,7 @@ use px_stream::Stream;
 use px_types::limits::MAILBOX_PLACES;
 use std::sync::Wait;
 
-/// Takes messages until there are 256, those kept before among them, or the inbox is found empty.
+/// Takes messages until there are 256, with those held from before, or the inbox is found empty.
 pub(crate) fn take_messages<W: Wait>(
     rt: &W,
     inbox: &Mailbox<Msg<Stream>>,
@@ -38,7 +38,7 @@ pub(crate) fn take_messages<W: Wait>(
     }
 }
 
-/// Posts notices until none is left or the outbox is full. Those that are left stay in order.
+/// Posts notices until none is left or the outbox is full. The rest stay in order.
 pub(crate) fn post_notices<W: Wait>(
     rt: &W,
     outbox: &Mailbox<Notice<Stream>>,

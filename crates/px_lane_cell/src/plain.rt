@@ -18,7 +18,7 @@ use px_types::{InputId, Mem, Text};
 use px_vol::Factors;
 use std::alloc::Global;
 
-// A copy of numbers.
+// Copies numbers to a list.
 fn copied(alloc: Global, numbers: &[u32]) -> Mem<Numbers>
     ensures { IfOk result (λ copy. copy ≡ numbers.now) }
 {
@@ -27,7 +27,7 @@ fn copied(alloc: Global, numbers: &[u32]) -> Mem<Numbers>
     Ok(Numbers::from_vec(copy))
 }
 
-// Channels as numbers.
+// Copies channels as numbers.
 fn widened(alloc: Global, channels: &[u8]) -> Mem<Numbers>
     ensures { IfOk result (λ numbers. numbers ≡ channels.now) }
 {
@@ -38,14 +38,14 @@ fn widened(alloc: Global, channels: &[u8]) -> Mem<Numbers>
     Ok(Numbers::from_vec(numbers))
 }
 
-// Attributes in their order.
+// The four attributes, in order.
 fn listed(attr: &Attr) -> [u32; 4]
     ensures { attr_meant result ≡ attr.now }
 {
     [attr.maxlength, attr.tlength, attr.prebuf, attr.minreq]
 }
 
-// The bytes of blocks, one after the other.
+// The bytes of all blocks, in order.
 fn bytes_of(alloc: Global, blocks: &[Block]) -> Mem<Text>
     ensures { IfOk result (λ bytes. bytes ≡ concat (contents blocks.now)) }
 {
@@ -77,7 +77,7 @@ fn plain_factors(alloc: Global, list: &[InputFactors]) -> Mem<PlainFactorList>
     Ok(PlainFactorList::from_vec(each))
 }
 
-// A stream that comes with a message.
+// A parcel: the stream of an Attach.
 #[tactic(auto, using(crate::proofs::Meant::stream_same))]
 fn plain_stream(alloc: Global, stream: &Stream) -> Mem<PlainStream>
     ensures { IfOk result (λ plain. stream_meant plain ≡ stream.now.stream) }
@@ -149,7 +149,7 @@ fn plain_regained(alloc: Global, list: &FactorList) -> Mem<PlainMsg>
     Ok(PlainMsg::Factors(plain_factors(alloc, list.as_slice())?))
 }
 
-/// A message to a sink as plain numbers and bytes, as a history keeps it: it means the same message.
+/// A message to a sink as plain numbers and bytes, as a history holds it: it means the same message.
 pub fn plain_message(alloc: Global, message: &Msg<Stream>) -> Mem<PlainMsg>
     ensures { IfOk result (λ plain. message_meant plain ≡ plain_message message.now) }
 {
@@ -192,7 +192,7 @@ pub fn plain_message(alloc: Global, message: &Msg<Stream>) -> Mem<PlainMsg>
     }
 }
 
-/// All messages of a list so, in order.
+/// All messages of a list as plain data, in order.
 pub(crate) fn plain_messages(alloc: Global, messages: &MsgList) -> Mem<PlainMsgs>
     ensures { IfOk result (λ plain. messages_meant plain ≡ messages.now.messages) }
 {

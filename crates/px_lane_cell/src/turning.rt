@@ -23,7 +23,7 @@ use std::alloc::Global;
 use std::marker::Brand;
 use std::sync::ledger::{Blank, Ledger};
 
-// The frames that a turn's sync consumed, none where the sink has stopped.
+// The frames that a turn's sync consumed, `None` where the sink has stopped.
 fn consumed_in(turned: Turned) -> Option<u32>
     ensures { result ≡ consumed_in turned }
 {
@@ -36,7 +36,7 @@ fn consumed_in(turned: Turned) -> Option<u32>
     }
 }
 
-// Why a lane made no turn, as its cell says it.
+// The cell's fault for a lane's fault.
 fn lane_fault(fault: LaneFault) -> CellFault
     ensures said { recorder_said (Err result) ≡ Ok tt }
     ensures worn { (filled : ℕ) → Refuses filled fault → IsWorn (Err result) filled }
@@ -48,7 +48,7 @@ fn lane_fault(fault: LaneFault) -> CellFault
     }
 }
 
-// A turn with a count of the samples that it touches, which ends with it.
+// A turn with a step count of its own, of the samples that it touches.
 fn counted<D: Device + Drop, B: BlockSource, T: Ledger>(
     blank: Blank,
     alloc: Global,
@@ -72,7 +72,7 @@ fn counted<D: Device + Drop, B: BlockSource, T: Ledger>(
     lane.turn(alloc, messages, notices, blocks, &mut steps)
 }
 
-/// A turn with all of these messages, and its entry noted.
+/// A turn with all of these messages, whose entry is recorded.
 pub(crate) fn turn_noted<D: Device + Drop, R: Recorder<LaneEntry>, B: BlockSource>(
     alloc: Global,
     lane: &mut Lane<D>,

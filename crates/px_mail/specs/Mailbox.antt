@@ -1,16 +1,17 @@
--- A mailbox: what was posted is what was taken and then what it holds. One pass may post and has the list of all that was posted, one may take and has the list of all that was taken.
+-- A mailbox: the items posted are those taken followed by those it holds. One pass may post and has the list of all items posted, one may take and
+-- has the list of all items taken.
 use Rattle.std.specs.Prelude.{◌≡◌, ℕ, Bool, true, false, List, [], ◌∷◌, ◌++◌, Option, None, IfSome}
 use mathlib.Core.Option.{some}
 use lib.ListN.{get_elem?}
 use Rattle.crossbeam_queue.specs.Passes.{Pass, view}
 use Rattle.px_mail.specs.declared.step.Account.{Account}
 
--- of the calls that a pass has written down after these, the last one failed: a take found the mailbox empty, or a post found it full
+-- of the calls that a pass has recorded after these, the last one failed: a take found the mailbox empty, or a post found it full
 abbrev pub LastFails : List Bool → List Bool → Type 0
 LastFails before after = (calls : List Bool) × (after ≡ before ++ calls ++ false ∷ [])
 
 module _ {T : Type 0} where
-  -- some of what was posted was taken, and this is the rest
+  -- some of what was posted was taken, and `held` is the rest
   abbrev pub IsHeldOf : List T → List T → Type 0
   IsHeldOf posted held = (taken : List T) × (posted ≡ taken ++ held)
 
@@ -26,11 +27,11 @@ module _ {T K : Type 0} where
   abbrev pub taken_by : Pass T (Account T K) → List T
   taken_by p = (view p).taken
 
-  -- of each post by this pass, in order, whether its item was stored: false is a mailbox that was full
+  -- whether each post by this pass, in order, stored its item: false where the mailbox was full
   abbrev pub stored_by : Pass T (Account T K) → List Bool
   stored_by p = (view p).stored
 
-  -- of each take by this pass, in order, whether it found an item: false is a mailbox that was empty
+  -- whether each take by this pass, in order, found an item: false where the mailbox was empty
   abbrev pub found_by : Pass T (Account T K) → List Bool
   found_by p = (view p).found
 
@@ -39,7 +40,7 @@ module _ {T K : Type 0} where
   abbrev pub account : Bool → Bool → Option K → List T → List T → Account T K
   account a b key posted taken = record { posts = a; takes = b; key = key; posted = posted; taken = taken; stored = []; found = [] }
 
-  -- before there is a key: the one pass may do both, and has done neither
+  -- before there is a key: one pass may post and take, and has done neither
   abbrev pub unkeyed : Account T K
   unkeyed = account true true None [] []
 
@@ -53,7 +54,7 @@ module _ {T K : Type 0} where
   abbrev pub closer : Option K → List T → List T → Account T K
   closer key posted taken = account true true key posted taken
 
-  -- it may do nothing more
+  -- it has no rights left
   abbrev pub idle : Account T K
   idle = account false false None [] []
 
@@ -73,7 +74,7 @@ module _ {T K : Type 0} where
 
   -- ---- what a mailbox holds
 
-  -- what an account says is so of the mailbox
+  -- an account agrees with the mailbox
   abbrev pub Fits : ℕ → ℕ → Option K → List T → List T → ℕ → Account T K → Type 0
   Fits at_post at_take key posted taken port v =
       (v.posts ≡ true → (port ≡ at_post) × (v.key ≡ key) × (v.posted ≡ posted))
@@ -84,15 +85,15 @@ module _ {T K : Type 0} (lawful : K → List T → Type 0) where
   abbrev pub IsLawful : Option K → List T → Type 0
   IsLawful key letters = IfSome key (λ k. lawful k letters)
 
-  -- what was taken and then some held items are lawful
+  -- what was taken followed by some held items is lawful
   abbrev pub GoesOn : Option K → List T → Type 0
   GoesOn key taken = (held : List T) × IsLawful key (taken ++ held)
 
-  -- what was taken is a front of what was posted, and all that was posted is lawful
+  -- what was taken is a prefix of what was posted, and all that was posted is lawful
   abbrev pub Delivered : Option K → List T → List T → Type 0
   Delivered key posted taken = (held : List T) × (posted ≡ taken ++ held) × IsLawful key posted
 
-  -- the rule: what was posted is what was taken and then what is held, all of it is lawful, one pass at most posts and one takes
+  -- the rule: the items posted are those taken followed by those held, all of them are lawful, at most one pass posts and one takes
   abbrev pub Delivers : List T → List (Account T K) → Type 0
   Delivers held accounts =
       (at_post : ℕ) × (at_take : ℕ) × (key : Option K) × (posted : List T) × (taken : List T)

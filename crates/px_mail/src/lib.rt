@@ -1,6 +1,6 @@
-//! Mailboxes: ordered queues between two threads, whose every schedule delivers what was posted in order, each item once. `letter`
-//! says what a mailbox may carry, `pass` what each of the two threads holds, `mailbox` the queue itself, `shared` a mailbox with both
-//! threads' handles and passes.
+//! Mailboxes: ordered queues between two threads, which under every schedule deliver what was posted in order, each item once. `letter` is what a
+//! mailbox may carry, `pass` the right of each of the two threads, `mailbox` the queue itself, `shared` a mailbox with both threads' handles and
+//! passes.
 #![tactic(auto)]
 
 mod letter;

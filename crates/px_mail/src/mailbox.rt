@@ -16,12 +16,12 @@ use std::alloc::Global;
 use std::marker::Brand;
 use std::sync::Wait;
 
-/// The item that a full mailbox didn't take.
+/// The item that a full mailbox refused.
 #[derive(Debug, Drop)]
 pub struct Full<T>(pub T);
 
-/// An ordered queue of at most 256 items from one thread to another (PulseAudio: `pulsecore/asyncmsgq.c`). In every schedule what was
-/// posted is what was taken and then what it holds.
+/// An ordered queue of at most 256 items from one thread to another (PulseAudio: `pulsecore/asyncmsgq.c`). Under every schedule the items posted are
+/// those taken followed by those that it holds.
 #[derive(Drop)]
 pub struct Mailbox<T: Letter> {
     queue: RuledArrayQueue<T, Account<T, T::Key>, Delivery>,
@@ -38,8 +38,8 @@ impl<T: Letter + Drop> Mailbox<T> {
         made::<T, Brand>(alloc, key)
     }
 
-    /// Puts an item at the end of all that was posted. A full mailbox hands it back, only where it held 256 items at one moment of
-    /// this call, and nothing has changed. Takes no memory.
+    /// Appends an item to all that was posted. A full mailbox hands it back, only where it held 256 items at one moment of this call, and nothing has
+    /// changed. Takes no memory.
     pub fn post<R: Wait>(&self, rt: &R, pass: &mut PostPass<T>, item: T) -> Result<(), Full<T>>
         requires pass { IsPassOf self.now.queue pass.old.pass }
         requires lawful { IsLawful T.lawful (key_of pass.old.pass) (posted_by pass.old.pass ++ item ∷ []) }
@@ -56,8 +56,8 @@ impl<T: Letter + Drop> Mailbox<T> {
         }
     }
 
-    /// Takes the next item of all that was posted. None only where the mailbox held nothing at one moment of this call, and nothing
-    /// has changed. Takes no memory.
+    /// Takes the oldest item that it holds. `None` only where the mailbox was empty at one moment of this call, and nothing has changed. Takes no
+    /// memory.
     pub fn take<R: Wait>(&self, rt: &R, pass: &mut TakePass<T>) -> Option<T>
         requires pass { IsPassOf self.now.queue pass.old.pass }
         ensures pass { IsPassOf self.now.queue pass.new.pass × (key_of pass.new.pass ≡ key_of pass.old.pass) }
@@ -73,8 +73,8 @@ impl<T: Letter + Drop> Mailbox<T> {
         }
     }
 
-    /// Takes both passes in, and shows that what was taken is a front of what was posted. What the mailbox still holds stays there
-    /// until it is dropped. Takes no memory.
+    /// Takes both passes, and shows that the items taken are a prefix of those posted. Items that the mailbox still holds stay there until it is
+    /// dropped. Takes no memory.
     pub fn close(&self, post: PostPass<T>, take: TakePass<T>)
         requires post { IsPassOf self.now.queue post.pass }
         requires take { IsPassOf self.now.queue take.pass }
@@ -86,7 +86,7 @@ impl<T: Letter + Drop> Mailbox<T> {
     }
 }
 
-// The key is picked by the call, since no type may name a value that is made as the program runs.
+// The key is chosen by the call, since no type may name a value that is made as the program runs.
 fn made<T: Letter + Drop, B: Keyed<T::Key>>(
     alloc: Global,
     key: T::Key,

@@ -1,4 +1,4 @@
-//! What the two threads at a mailbox hold.
+//! The rights of the two threads at a mailbox.
 ghost use Rattle.std.specs.Prelude.{◌≡◌, true, IsSome};
 ghost use Rattle.crossbeam_queue.specs.Passes.{view};
 
@@ -6,8 +6,8 @@ use crate::letter::Letter;
 use crate::step::Account;
 use crossbeam_queue::Pass;
 
-/// The right to post to one mailbox. There is one such pass a mailbox, and it has no bytes. Contracts see its key and the list of
-/// all that was posted.
+/// The right to post to one mailbox, which has exactly one such pass. It has no bytes. Its key and the list of all items posted are visible to
+/// contracts.
 #[derive(Drop)]
 pub struct PostPass<T: Letter> {
     pub(crate) pass: Pass<T, Account<T, T::Key>>,
@@ -15,8 +15,8 @@ pub struct PostPass<T: Letter> {
     ghost keyed: { IsSome (view pass).key },
 }
 
-/// The right to take from one mailbox. There is one such pass a mailbox, and it has no bytes. Contracts see its key and the list of
-/// all that was taken.
+/// The right to take from one mailbox, which has exactly one such pass. It has no bytes. Its key and the list of all items taken are visible to
+/// contracts.
 #[derive(Drop)]
 pub struct TakePass<T: Letter> {
     pub(crate) pass: Pass<T, Account<T, T::Key>>,

@@ -11,7 +11,7 @@ use px_types::Mem;
 use std::alloc::Global;
 use std::sync::Arc;
 
-/// A mailbox that two threads hold, each by a handle of its own, and its two passes.
+/// A mailbox of two threads, with a handle for each, and its two passes.
 #[derive(Drop)]
 pub struct Shared<T: Letter> {
     /// The mailbox, for one thread.

@@ -6,8 +6,7 @@ use crossbeam_queue::protocol::{Join, Lesson, Outcome, Protocol, Split};
 use std::collections::LinkedList;
 use std::marker::{Brand, PhantomData};
 
-/// What the holder of a pass may do, the key it knows, what it has posted and taken, of each post whether its item was stored, and of
-/// each take whether it found one.
+/// What the holder of a pass may do, its key, what it has posted and taken, whether each post's item was stored, and whether each take found one.
 pub struct Account<T, K> {
     pub posts: bool,
     pub takes: bool,
@@ -18,7 +17,7 @@ pub struct Account<T, K> {
     pub found: LinkedList<bool>,
 }
 
-/// What was posted is what was taken and then what is held.
+/// The items posted are those taken followed by those held.
 pub struct Delivery;
 
 impl<T: Letter> Protocol<T, Account<T, T::Key>> for Delivery {
@@ -29,7 +28,7 @@ impl<T: Letter> Protocol<T, Account<T, T::Key>> for Delivery {
     ghost first = { unkeyed };
 }
 
-/// The key that a call picks.
+/// The key that a call chooses.
 pub trait Keyed<K> {
     ghost picked: { Option K };
 }
@@ -79,7 +78,7 @@ impl<T, K> Lesson<T, Account<T, K>> for Posts {
     ghost fact = { λ v held. IsHeldOf v.posted held };
 }
 
-/// A post that found the mailbox full is written down.
+/// A post that found the mailbox full is recorded.
 pub struct SawFull;
 
 impl<T, K> Split<Account<T, K>> for SawFull {
@@ -105,7 +104,7 @@ impl<T: Letter> Lesson<T, Account<T, T::Key>> for Takes {
     ghost fact = { λ v held. IsLawful T.lawful v.key (v.taken ++ held) };
 }
 
-/// A take that found the mailbox empty is written down.
+/// A take that found the mailbox empty is recorded.
 pub struct SawEmpty;
 
 impl<T, K> Split<Account<T, K>> for SawEmpty {
@@ -116,7 +115,7 @@ impl<T, K> Split<Account<T, K>> for SawEmpty {
     ghost right = { λ v. idle };
 }
 
-/// A take pass is taken in by the post pass.
+/// The post pass absorbs the take pass.
 pub struct Whole;
 
 impl<T, K> Join<Account<T, K>> for Whole {

@@ -1,4 +1,4 @@
--- A host in memory. All its calls that can fail are counted together, from 1, and the numbers of those that are to fail are listed. Own.
+-- A host in memory. All its calls that can fail are counted together, from 1, and the numbers of those that will fail are listed. Own.
 use Rattle.std.specs.Prelude.{◌≡◌, ℕ, Bool, true, false, List, [], ◌∷◌, Some, Result, Ok, Err}
 use Rattle.px_annals.specs.declared.entry.LaneEntry.{LaneEntry}
 use Rattle.px_annals.specs.declared.entry.CoreEntry.{CoreEntry}
@@ -23,18 +23,18 @@ TheState = HostState MemoryDevice (MemoryRecorder LaneEntry) (MemoryRecorder Cor
 pub record MemoryHost : Type 0 where
   -- the links that are still to be handed out
   pub links : List LinkPlan
-  -- how many frames each sync of its devices consumes, and how many all of a device's syncs do
+  -- the frames that each sync of its devices consumes, and that all syncs of a device consume
   pub each : ℕ
   pub total : ℕ
-  -- how much its recorders hold
+  -- the limit of its recorders
   pub limit : Limit
-  -- the calls that are to fail, and how many were made
+  -- the numbers of the calls that will fail, and how many were made
   pub failing : List ℕ
   pub calls : ℕ
-  -- what it tells as a host
+  -- its state as a host, for contracts
   pub visible : TheState
 
--- a host of this header that nothing was asked of
+-- a host of this header before any call
 abbrev pub new_state : List ℕ → TheState
 new_state header = record {
   faults = 0;
@@ -50,11 +50,11 @@ new_state header = record {
   core_recorders = Some [];
 }
 
--- whether the next call is to fail
+-- whether the next call will fail
 abbrev pub is_failing : MemoryHost → Bool
 is_failing h = is_listed h.failing (next_count h.calls)
 
--- one call more, with these links still to be handed out
+-- after one more call, with these links still to be handed out
 abbrev pub called : List LinkPlan → TheState → MemoryHost → MemoryHost
 called links visible h = record h { links = links; calls = next_count h.calls; visible = visible }
 
@@ -64,7 +64,7 @@ StartFails (read.Bytes text) listed = listed ≡ false
 StartFails read.NoMemory listed = listed ≡ false
 StartFails read.Failed listed = listed ≡ true
 
--- an accept hands out the first link that waits, tells Over exactly where none waits, and fails exactly where it is listed
+-- an accept hands out the first link that waits, returns Over exactly where none waits, and fails exactly where it is listed
 abbrev pub HandsOut : Accepted SharedState → Bool → List LinkPlan → List LinkPlan → Type 0
 HandsOut (accepted.Link link) listed before after = (listed ≡ false) × (plan : LinkPlan) × (before ≡ plan ∷ after) × (link ≡ new_link plan)
 HandsOut accepted.Over listed before after = (listed ≡ false) × (before ≡ []) × (after ≡ [])
@@ -77,7 +77,7 @@ FailsAs (Ok x) listed = listed ≡ false
 FailsAs (Err fault.NoMemory) listed = listed ≡ false
 FailsAs (Err fault.Failed) listed = listed ≡ true
 
--- and what it makes is this
+-- what it makes is this
 abbrev pub MakesAs : {X : Type 0} → Result X HostFault → X → Bool → Type 0
 MakesAs (Ok x) made listed = (listed ≡ false) × (x ≡ made)
 MakesAs (Err fault.NoMemory) made listed = listed ≡ false

@@ -1,4 +1,4 @@
--- A link in memory that shares what it was sent, and tells the end only once enough was. Own.
+-- A link in memory that shares what it was sent, and gives the end only once `end_after` bytes were sent. Own.
 use Rattle.std.specs.Prelude.{ℕ, Bool, true, false, ◌+◌, ◌-◌, ◌≡◌, List, [], drop, take, nat_le, if◌then◌else◌, ⊤}
 use Rattle.px_ends.specs.declared.link.Recv.{Recv}
 use Rattle.px_ends.specs.declared.link.Recv.TheVariants as recv
@@ -11,11 +11,11 @@ use Rattle.px_types.specs.Faults.{next_count}
 pub record SharedState : Type 0 where
   -- the bytes to be received
   pub left : List ℕ
-  -- how many bytes were sent, how many there is room for in all, and how many are sent before the end is told
+  -- the bytes sent, the most that it takes in all, and the number to be sent before it gives the end
   pub sent : ℕ
   pub room : ℕ
   pub end_after : ℕ
-  -- the calls that find it not ready and those that fail, and how many were made
+  -- the numbers of the calls that find it not ready and of those that fail, and how many were made
   pub late : List ℕ
   pub failing : List ℕ
   pub calls : ℕ
@@ -23,7 +23,7 @@ pub record SharedState : Type 0 where
   pub ends : ℕ
   pub not_yets : ℕ
 
--- the link of a plan, before any call
+-- the link of these settings, before any call
 abbrev pub new_link : LinkPlan → SharedState
 new_link plan = record {
   left = plan.bytes;
@@ -38,7 +38,7 @@ new_link plan = record {
   not_yets = 0;
 }
 
--- the end waits until enough was sent
+-- the end is given only once enough was sent
 abbrev pub end_once : Bool → Recv → Recv
 end_once true answer = answer
 end_once false recv.End = recv.NotYet
@@ -46,7 +46,7 @@ end_once false (recv.Bytes n) = recv.Bytes n
 end_once false recv.NotYet = recv.NotYet
 end_once false recv.Failed = recv.Failed
 
--- what a receive into a buffer of this room answers
+-- what a receive into a buffer of this room returns
 abbrev pub recv_answer : SharedState → ℕ → Recv
 recv_answer l room =
     if is_listed l.failing (next_count l.calls) then recv.Failed
@@ -66,14 +66,14 @@ GivesFront recv.End buffer left = left ≡ []
 GivesFront recv.NotYet buffer left = ⊤
 GivesFront recv.Failed buffer left = ⊤
 
--- what a send of so many bytes answers
+-- what a send of this many bytes returns
 abbrev pub send_answer : SharedState → ℕ → Sent
 send_answer l count =
     if is_listed l.failing (next_count l.calls) then sent.Failed
     else if is_listed l.late (next_count l.calls) then sent.NotYet
     else sent_of (l.room - l.sent) count
 
--- a send answers this, or fails where the shared list has no memory
+-- a send returns this, or fails where the shared list has no memory
 abbrev pub Answers : Sent → Sent → Type 0
 Answers sent.Failed expected = ⊤
 Answers (sent.Bytes n) expected = sent.Bytes n ≡ expected

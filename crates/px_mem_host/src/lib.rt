@@ -1,5 +1,5 @@
-//! The host in memory, for tests of a live server: its links, its devices and its histories, with what became of them. It exports `MemHost`
-//! with what it takes back (`Taken`, `Retired`), and `SharedLink` with `LinkPlan` and `LinkPlans`.
+//! The host in memory, for tests of a live server: its links, its devices and its histories, with what it took back. It exports `MemHost` with what
+//! it takes back (`Taken`, `Retired`), and `SharedLink` with `LinkPlan` and `LinkPlans`.
 #![tactic(auto)]
 
 mod memory_host;

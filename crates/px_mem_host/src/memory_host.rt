@@ -17,8 +17,8 @@ use std::collections::VecDeque;
 use std::marker::Model;
 use std::sync::Wait;
 
-/// A host that has its header and its links, and keeps what it takes back. It makes devices that consume by themselves, and histories in
-/// memory. Its calls that are listed fail. Own.
+/// A host that has its header and its links, and stores what it takes back. It makes devices that consume by themselves, and histories in memory. Its
+/// listed calls fail. Own.
 #[derive(Drop)]
 pub struct MemHost<R: Wait> {
     rt: R,
@@ -89,7 +89,7 @@ fn copied(alloc: Global, options: &ServeOptions) -> Mem<ServeOptions>
     })
 }
 
-// A copy of options behind the others. Without memory nothing is added.
+// Appends a copy of options. Without memory nothing is added.
 fn add_copy(alloc: Global, options: &ServeOptions, list: &mut Vec<ServeOptions>) -> Mem<()>
     ensures ok { OnOk result (list.new.items ≡ list.old.items ++ options.now ∷ []) }
     ensures err { OnErr result (list.new.items ≡ list.old.items) }
@@ -109,9 +109,9 @@ fn running(alloc: Global, shape: &DeviceShape, each: u32, total: u32) -> Mem<Mem
 }
 
 impl<R: Wait + Drop> MemHost<R> {
-    /// A host with the bytes of a header and with the links that it hands out, at most 65,535. Each device that it makes consumes `each`
-    /// frames at a sync, or what is buffered if that is less, until it consumed `total` frames. Each recorder that it makes holds so many
-    /// entries or so many bytes. Its calls of these numbers fail. Takes the room for all that its links are sent.
+    /// A host with the bytes of a header and with the links that it hands out, at most 65,535. Each device that it makes consumes `each` frames at a
+    /// sync, or what is buffered if that is less, until it consumed `total` frames. Each recorder that it makes holds at most `entries` entries and
+    /// `bytes` bytes. Its calls of the numbers in `failing` fail. Takes the room for all that its links are sent.
     pub fn new(
         rt: R,
         alloc: Global,
@@ -159,7 +159,7 @@ impl<R: Wait + Drop> MemHost<R> {
         })
     }
 
-    /// What became of it.
+    /// What it was given and took back.
     pub fn into_taken(self) -> Taken
         ensures started { self.visible.started ≡ Some result.started.items }
         ensures parts { self.visible.parts ≡ Some result.parts.items }
@@ -172,7 +172,7 @@ impl<R: Wait + Drop> MemHost<R> {
         }
     }
 
-    // One call more: whether it is to fail, which is a fault.
+    // Counts one more call, and returns whether it fails, which is a fault.
     fn fails(&mut self) -> bool
         ensures listed { result ≡ is_failing self.old }
         ensures yes { IsTrue result → FailsOnce self.old.visible self.new.visible }
@@ -241,7 +241,7 @@ impl<R: Wait + Copy + Drop + Send> Host for MemHost<R> {
         }
     }
 
-    // No other half: so what a client was sent is what went through its link.
+    // No sending half: what a client was sent all went through its link.
     fn outlet(&mut self, _link: &mut SharedLink<R>) -> Option<NoOutlet> {
         None
     }

@@ -1,4 +1,4 @@
-// What a link of a host in memory is to do.
+// The settings of a link of a host in memory.
 ghost use Rattle.std.specs.Prelude.{◌≡◌};
 
 use px_ends::Calls;
@@ -7,8 +7,8 @@ use std::alloc::Global;
 use std::marker::Model;
 use std::sync::{Arc, Mutex, Wait};
 
-/// A link that is to be handed out: the bytes that it gives, how many it takes, which of its calls find it not ready and which fail, and how
-/// many bytes are to be sent before it tells the end.
+/// A link to be handed out: the bytes that it gives, how many it takes, the numbers of its calls that find it not ready and of those that fail, and
+/// how many bytes are to be sent before it gives the end.
 #[derive(Drop)]
 pub struct LinkPlan {
     pub bytes: Text,
@@ -16,12 +16,12 @@ pub struct LinkPlan {
     pub late: Calls,
     pub fail: Calls,
     pub end_after: usize,
-    /// What was sent, for whoever keeps it too. It is emptied when its host is made.
+    /// What was sent, shared with the test. It is emptied when its host is made.
     pub sent: Arc<Mutex<Text>>,
 }
 
 impl LinkPlan {
-    // Empties the list of what was sent, with room for all that the link takes. Without memory it stays.
+    // Empties the list of sent bytes, with room for all that the link takes. Without memory it is unchanged.
     fn clear<R: Wait>(&self, rt: &R, alloc: Global) -> Mem<()> {
         let room = Vec::with_capacity(alloc, self.room)?;
         *self.sent.lock(rt) = Text::from_vec(room);

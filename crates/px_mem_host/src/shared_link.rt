@@ -9,8 +9,8 @@ use px_types::Text;
 use std::marker::Model;
 use std::sync::{Arc, Mutex, Wait};
 
-/// A link that gives some bytes and then the end, but not before so many were sent: until then it isn't ready. What it was sent stands in a
-/// list that its test keeps too, and it tells nothing of it. Own.
+/// A link that gives some bytes and then the end, but not before `end_after` bytes were sent: until then it isn't ready. What it was sent is in a
+/// list shared with its test, and not visible to contracts. Own.
 #[derive(Drop)]
 pub struct SharedLink<R: Wait> {
     rt: R,
@@ -50,7 +50,7 @@ impl<R: Wait> Model for SharedLink<R> {
     ghost invariant = { λ l. (l.at ≤ length l.bytes) × (l.sent ≤ l.room) };
 }
 
-// Copies as many bytes as are there and fit to the front of the buffer, and says how many.
+// Copies the front of `from` to the front of `buffer`, as far as both reach, and returns the number of bytes.
 fn copy_front(from: &[u8], buffer: &mut [u8]) -> usize
     ensures count { result ≡ min (length buffer.old) (length from.now) }
     ensures front { take result buffer.new ≡ take result from.now }
@@ -61,7 +61,7 @@ fn copy_front(from: &[u8], buffer: &mut [u8]) -> usize
 }
 
 impl<R: Wait> SharedLink<R> {
-    /// The link of a plan. Takes no memory.
+    /// The link of these settings. Takes no memory.
     pub fn new(rt: R, plan: LinkPlan) -> SharedLink<R>
         ensures { result ≡ new_link plan }
     {
@@ -123,7 +123,7 @@ impl<R: Wait> Link for SharedLink<R> {
         Recv::End
     }
 
-    // The shared list has room for all that is sent, unless whoever keeps it put another in its place.
+    // The shared list has room for all that is sent, unless its other owner put another in its place.
     fn send(&mut self, bytes: &[u8]) -> Sent
         requires { 0 < length bytes.now }
         ensures bytes { SendTakes result bytes.now None None }

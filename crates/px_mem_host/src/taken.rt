@@ -25,7 +25,7 @@ impl Model for Retired {
     ghost view = { λ r. record { sink = r.sink; device = r.device; recorder = r.recorder } };
 }
 
-/// What became of a host: the options of its starts, and what it took back of sinks and of the core, each in order.
+/// What a host took: the options of its starts, and what it took back of sinks and of the core, each in order.
 #[derive(Debug, Drop)]
 pub struct Taken {
     pub started: Vec<ServeOptions>,

@@ -13,27 +13,27 @@ pub record KeptSums : Type 0 where
   pub frames : ℕ
   pub runs : List KeptRun
 
--- the sum of a channel, k frames behind the first that is held; behind the last it is 0
+-- the sum of a channel at frame k, counted from the first held frame; past the last it is 0
 abbrev pub kept_at : KeptSums → ℕ → ℕ → ℤ
 kept_at c channel k = at (run_at c.runs channel).sums k
 
--- the values of a channel, where they stand channel by channel, so many frames of each
+-- the values of one channel, where `values` has `len` values of each channel, one channel after the other
 abbrev pub run_of : ℕ → List ℤ → ℕ → List ℤ
 run_of len values channel = take len (drop (channel * len) values)
 
--- what is added to sum k of a channel, or taken away, where values stand from a frame on
+-- the share to add to sum k of a channel, or subtract, where its values begin at frame `from`
 abbrev pub part_at : ℕ → ℕ → List ℤ → List ℕ → ℕ → ℕ → ℤ
 part_at from len values factors channel k = share_from from (run_of len values channel) (slice_index factors channel) k
 
--- the first so many frames of a run are given up
+-- a run without its first `frames` frames
 abbrev pub run_advanced : ℕ → KeptRun → KeptRun
 run_advanced frames run = record run { sums = drop frames run.sums }
 
--- frames of nothing behind those of a run, so that there are so many
+-- a run extended to `to` frames with silence
 abbrev pub run_extended : ℕ → KeptRun → KeptRun
 run_extended to run = record run { sums = run.sums ++ replicate (to - length run.sums) (pos 0) }
 
--- each run holds so many frames, and may hold so many
+-- each run has room for `depth` frames, and holds `frames`
 pub record AreLong (depth frames : ℕ) (runs : List KeptRun) : Type 0 where
   pub deep : (c : ℕ) → c < length runs → (run_at runs c).depth ≡ depth
   pub long : (c : ℕ) → c < length runs → length (run_at runs c).sums ≡ frames

@@ -18,8 +18,8 @@ use std::alloc::Global;
 use std::marker::Model;
 use std::sync::ledger::Ledger;
 
-/// What streams add up to, frame by frame and channel by channel, before it is clipped (own: PulseAudio mixes anew what it rewinds). It holds
-/// some frames from a first one on.
+/// The sums of all streams, frame by frame and channel by channel, before clipping (own: PulseAudio mixes anew what it rewinds). It holds
+/// consecutive frames.
 #[derive(Debug, Drop)]
 pub struct MixCache {
     runs: Vec<Run>,
@@ -39,7 +39,7 @@ impl Model for MixCache {
 }
 
 impl MixCache {
-    /// Sums of so many channels, 1 to 32, that hold no frames and may hold so many. Takes their room.
+    /// Empty sums for `channels` channels, 1 to 32, with room for `depth` frames. Takes that room.
     pub fn new(alloc: Global, channels: u8, depth: u32) -> Mem<MixCache>
         requires some { 1 ≤ channels }
         requires few { channels ≤ 32 }
@@ -52,7 +52,7 @@ impl MixCache {
         })
     }
 
-    /// Gives up the first so many frames. Takes no memory.
+    /// Drops the first `frames` frames. Takes no memory.
     pub fn advance(&mut self, frames: u32)
         requires { frames ≤ self.old.frames }
         ensures depth { self.new.depth ≡ self.old.depth }
@@ -65,7 +65,7 @@ impl MixCache {
         self.frames -= frames;
     }
 
-    /// Holds frames of nothing behind those that it holds, so that there are so many. Takes no memory.
+    /// Extends to `to` frames with silence. Takes no memory.
     pub fn extend(&mut self, to: u32)
         requires more { self.old.frames ≤ to }
         requires fits { to ≤ self.old.depth }
@@ -79,8 +79,8 @@ impl MixCache {
         self.frames = to as usize;
     }
 
-    /// Adds what values give to the frames from `at` on, each by the factor of its channel, or takes it away. The values stand channel by
-    /// channel, as many of each. Takes no memory.
+    /// Adds the values, each times the factor of its channel, to the frames from `at` on, or subtracts them. `values` has one run per
+    /// channel, all of equal length. Takes no memory.
     pub fn change<T: Ledger>(
         &mut self,
         at: u32,
@@ -111,7 +111,7 @@ impl MixCache {
         );
     }
 
-    /// Puts so many frames from `at` on into `out`, as a device gets them: each sum clipped to the format's width, once, and packed. Takes no
+    /// Writes the frames from `at` on into `out`, as a device gets them: each sum clipped once to the format's width, and packed. Takes no
     /// memory.
     pub fn frames<T: Ledger>(
         &self,

@@ -1,5 +1,5 @@
-//! The sums of a mix that are kept from turn to turn, unclipped, so that a change costs no more than what it changes. `run` has the sums of one
-//! channel, `runs` loops over those of all, `packing` the frames that they show, `cache` the whole.
+//! The sums of a mix that are kept from turn to turn, unclipped, so that a change costs no more than what it changes. `run` has the sums of
+//! one channel, `runs` loops over those of all, `packing` the frames that they become, `cache` the whole.
 #![tactic(auto)]
 
 mod cache;

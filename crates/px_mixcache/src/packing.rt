@@ -1,4 +1,4 @@
-// The frames that kept sums show.
+// The frames that the kept sums become.
 ghost use Rattle.std.specs.Prelude.{◌≡◌, ◌≢◌, ℕ, ◌+◌, ◌*◌, ◌%◌, ◌^◌, ◌<◌, ◌≤◌, map, length, pos};
 ghost use Rattle.std.specs.Int.{saturate_signed};
 ghost use Rattle.std.specs.List.{concat, range_with_len};
@@ -13,10 +13,10 @@ use px_kernel::{Steps, clip_pack};
 use px_sample::{Format, Width, pack};
 use std::sync::ledger::Ledger;
 
-// The most places of a stretch: 128 frames of 2 channels, or 8 of 32.
+// The most samples of a stretch: 128 frames of 2 channels, or 8 of 32.
 const PLACES: usize = 256;
 
-/// Puts the frames from `from` on into `out`, which has room for so many: each sum clipped to the format's width, once, and packed.
+/// Writes `frames` frames from `from` on into `out`, which has exactly that room: each sum clipped once to the format's width, and packed.
 pub(crate) fn pack_frames<T: Ledger>(
     runs: &[Run],
     from: usize,
@@ -86,7 +86,7 @@ fn pack_stretch<T: Ledger>(
     pack(format, values, out);
 }
 
-// Clips the sums of all channels, and puts them frame by frame.
+// Clips the sums of all channels, and stores them frame by frame.
 fn clip_channels<T: Ledger>(
     runs: &[Run],
     from: usize,
@@ -111,7 +111,7 @@ fn clip_channels<T: Ledger>(
     }
 }
 
-// Puts the values of a channel frame by frame.
+// Stores the values of a channel frame by frame.
 fn put_channel(from: &[i32], width: Width, channels: usize, channel: usize, values: &mut [i32])
     requires inside { channel < channels }
     requires places { length values.old ≡ channels * length from.now }

@@ -10,8 +10,8 @@ use std::alloc::Global;
 use std::marker::Model;
 use std::sync::ledger::Ledger;
 
-/// The sums of a channel, frame by frame. They stand behind those of frames that were given up, with room for as many of these as may be
-/// held, so that a sum is moved once where as many frames are given up as may be held.
+/// The sums of a channel, frame by frame. They follow the sums of dropped frames in memory, with room for a full depth of these, so that a
+/// sum is moved only once per full depth of dropped frames.
 #[derive(Debug, Drop)]
 pub(crate) struct Run {
     sums: Vec<i64>,
@@ -30,7 +30,7 @@ impl Model for Run {
     ghost invariant = { λ r. (r.gone ≤ r.depth) × (r.gone ≤ length r.sums.items) × (length r.sums.items ≤ r.gone + r.depth) × (2 * r.depth ≤ vec_capacity r.sums) × AreWords (drop r.gone r.sums.items) };
 }
 
-// Adds what values give to the sums from place `from` on, or takes it away.
+// Adds the values times `factor` to the sums from place `from` on, or subtracts them.
 fn change_sums<T: Ledger>(
     sums: &mut [i64],
     from: usize,
@@ -55,7 +55,7 @@ fn change_sums<T: Ledger>(
 }
 
 impl Run {
-    /// A run that holds no frames and may hold so many. Takes its room.
+    /// An empty run with room for `depth` frames. Takes that room.
     pub(crate) fn new(alloc: Global, depth: u32) -> Mem<Run>
         ensures { IfOk result (λ r. r ≡ record { depth = depth; sums = [] }) }
     {
@@ -66,7 +66,7 @@ impl Run {
         })
     }
 
-    /// Gives up the first so many frames.
+    /// Drops the first `frames` frames.
     pub(crate) fn advance(&mut self, frames: usize)
         requires { frames ≤ length self.old.sums }
         ensures { self.new ≡ record self.old { sums = drop frames self.old.sums } }
@@ -80,7 +80,7 @@ impl Run {
         }
     }
 
-    /// Puts frames of nothing behind those that are held, so that there are so many.
+    /// Extends to `to` frames with silence.
     pub(crate) fn extend(&mut self, to: usize)
         requires more { length self.old.sums ≤ to }
         requires fits { to ≤ self.old.depth }
@@ -89,7 +89,7 @@ impl Run {
         self.sums.resize(self.gone + to, 0).unwrap();
     }
 
-    /// Adds what values give to the sums from frame `from` on, by a factor, or takes it away.
+    /// Adds the values times `factor` to the sums from frame `from` on, or subtracts them.
     pub(crate) fn change<T: Ledger>(
         &mut self,
         from: usize,

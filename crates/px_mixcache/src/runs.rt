@@ -9,7 +9,7 @@ use px_types::{Mem, NoMemory};
 use std::alloc::Global;
 use std::sync::ledger::Ledger;
 
-/// Runs of so many channels that hold no frames and may hold so many each. Takes their room.
+/// Empty runs for `channels` channels, with room for `depth` frames each. Takes that room.
 pub(crate) fn empty_runs(alloc: Global, channels: u8, depth: u32) -> Mem<Vec<Run>>
     ensures { IfOk result (λ runs. runs.items ≡ replicate channels (record { depth = depth; sums = [] })) }
 {
@@ -20,7 +20,7 @@ pub(crate) fn empty_runs(alloc: Global, channels: u8, depth: u32) -> Mem<Vec<Run
     Ok(runs)
 }
 
-/// Gives up the first so many frames of each.
+/// Drops the first `frames` frames of each.
 pub(crate) fn advance_all(runs: &mut [Run], frames: usize)
     requires { (c : ℕ) → c < length runs.old → frames ≤ length (run_at runs.old c).sums }
     ensures long { length runs.new ≡ length runs.old }
@@ -31,7 +31,7 @@ pub(crate) fn advance_all(runs: &mut [Run], frames: usize)
     }
 }
 
-/// Puts frames of nothing behind those of each, so that there are so many.
+/// Extends each to `to` frames with silence.
 pub(crate) fn extend_all(runs: &mut [Run], to: usize)
     requires more { (c : ℕ) → c < length runs.old → length (run_at runs.old c).sums ≤ to }
     requires fits { (c : ℕ) → c < length runs.old → to ≤ (run_at runs.old c).depth }
@@ -43,7 +43,7 @@ pub(crate) fn extend_all(runs: &mut [Run], to: usize)
     }
 }
 
-/// Adds what the values of each channel give, so many of each, or takes it away.
+/// Adds the values of each channel, `len` of each, times its factor, or subtracts them.
 pub(crate) fn change_all<T: Ledger>(
     runs: &mut [Run],
     from: usize,

@@ -1,4 +1,4 @@
--- What a message does to the stream that it names, where so many frames are mixed past the stream's read index.
+-- What a message does to the stream that it names, with `mixed` frames mixed past the stream's read index.
 use Rattle.std.specs.Prelude.{ℕ, ℤ, pos, Bool, true, false, List, length}
 use Rattle.px_model.specs.Frame.{frame_size, frames_of}
 use Rattle.px_model.specs.Stream.{Stream}
@@ -7,7 +7,7 @@ use Rattle.px_model.specs.Write.{Outcome, stored, overflow, outside, outcome_of,
 use Rattle.px_model.specs.Control.{attached, corked_to, triggered, prebuffered, flushed, drained_by, with_attr, with_factors}
 use Rattle.px_model.specs.Message.{StreamMessage}
 
--- how a write ends, by the mode of its seek, its offset, its frames and their bytes; and the stream after it
+-- the outcome of a write, by the mode of its seek, its offset, its frames and their bytes; and the stream after it
 abbrev pub write_outcome : Stream → ℕ → ℤ → ℕ → List ℕ → ℕ → Outcome
 write_outcome s seek offset frames bytes mixed =
     outcome_of s.queue (pos s.maxlength) (target_of s.queue (seek_of seek) offset) (length (frames_of (frame_size s.spec) frames bytes)) (ahead_of s mixed)
@@ -29,7 +29,7 @@ applied mixed (StreamMessage.attr attr) s = with_attr s attr
 applied mixed (StreamMessage.factors factors) s = with_factors s factors
 applied mixed (StreamMessage.query tag) s = s
 
--- frames that aren't held, whether they would pass the limit or leave the range of indices
+-- the write is refused: its frames would pass the limit or leave the range of indices
 abbrev pub is_refused : Outcome → Bool
 is_refused stored = false
 is_refused overflow = true

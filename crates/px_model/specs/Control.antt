@@ -1,4 +1,5 @@
--- What each other message does to a stream (PulseAudio: the handlers of pulsecore/protocol-native.c, and `pa_memblockq_flush_write`, `pa_memblockq_prebuf_disable` and `pa_memblockq_prebuf_force` of pulsecore/memblockq.c).
+-- What each other message does to a stream (PulseAudio: the handlers of pulsecore/protocol-native.c, and `pa_memblockq_flush_write`,
+-- `pa_memblockq_prebuf_disable` and `pa_memblockq_prebuf_force` of pulsecore/memblockq.c).
 use Rattle.std.specs.Prelude.{ℕ, pos, Bool, false, ◌&&◌, List, [], ◌∷◌, ◌++◌, nat_lt}
 use Rattle.px_model.specs.declared.data.Attr.{Attr}
 use Rattle.px_model.specs.declared.data.Run.TheVariants.{Quiet}
@@ -8,15 +9,15 @@ use Rattle.px_model.specs.Stream.{Stream, with_queue}
 
 -- ---- the queue
 
--- a new queue holds where it has prebuffering
+-- a new queue holds (waits) where it has prebuffering
 abbrev pub new_queue : ℕ → Queue
 new_queue prebuf = record { held = []; read = pos 0; write = pos 0; hold = nat_lt 0 prebuf; prebuf = prebuf }
 
--- play without waiting
+-- it plays without waiting
 abbrev pub prebuf_disabled : Queue → Queue
 prebuf_disabled q = record q { hold = false }
 
--- wait again, with prebuffering
+-- it waits again, where it has prebuffering
 abbrev pub prebuf_forced : Queue → Queue
 prebuf_forced q = record q { hold = nat_lt 0 q.prebuf }
 
@@ -24,13 +25,13 @@ prebuf_forced q = record q { hold = nat_lt 0 q.prebuf }
 abbrev pub emptied : Queue → Queue
 emptied q = prebuf_forced (record q { held = []; write = q.read })
 
--- another prebuf; without prebuffering nothing waits
+-- a new prebuf; without prebuffering it doesn't wait
 abbrev pub with_prebuf : Queue → ℕ → Queue
 with_prebuf q prebuf = record q { hold = q.hold && nat_lt 0 prebuf; prebuf = prebuf }
 
 -- ---- the stream
 
--- New: nothing written, and tlength frames asked for
+-- New: nothing written, and tlength frames requested
 abbrev pub new_stream : SampleSpec → List ℕ → List ℕ → Attr → Bool → Stream
 new_stream spec feed factors attr corked = record {
   queue = new_queue attr.prebuf;
@@ -46,7 +47,7 @@ new_stream spec feed factors attr corked = record {
   factors = factors;
 }
 
--- Attach: a stream that comes from another sink goes on as it was, with a feed and factors of its own
+-- Attach: a stream from another sink goes on as it was, with a new feed and new factors
 abbrev pub attached : Stream → List ℕ → List ℕ → Stream
 attached s feed factors = record s { feed = feed; factors = factors }
 
@@ -66,7 +67,7 @@ triggered s = with_queue s (prebuf_disabled s.queue)
 abbrev pub prebuffered : Stream → Stream
 prebuffered s = with_queue s (prebuf_forced s.queue)
 
--- Drain: play what is there without waiting, and answer the tag at its end
+-- Drain: plays what is there without waiting, and answers the tag at its end
 abbrev pub drained_by : Stream → ℕ → Stream
 drained_by s tag = record s { queue = prebuf_disabled s.queue; draining = s.draining ++ tag ∷ [] }
 

@@ -1,4 +1,4 @@
--- The history of a sink, and the turn that decides a frame. Own: PulseAudio has no such notion, and its rewind is to give the same frames.
+-- The history of a sink, and the turn that decides a frame. Own: PulseAudio has no such notion, though its rewind is meant to give the same frames.
 use Rattle.std.specs.Prelude.{ℕ, ◌-◌, ◌<◌, ◌≤◌, ◌≡◌, false, List, [], ◌∷◌, ◌++◌, Option, Some, None, nat_le, if◌then◌else◌, ⊤, option_map}
 use Rattle.std.specs.Option.{option_or}
 use Rattle.px_model.specs.Frame.{Frame}
@@ -9,7 +9,7 @@ use Rattle.px_model.specs.Mix.{Samples}
 use Rattle.px_model.specs.Sink.{Sink}
 use Rattle.px_model.specs.Turn.{AreFor, frame_mixed, turned, stopped_turn, turn_notices, stopped_notices, played_by}
 
--- a turn with the frames that its sync consumed, or one whose sync failed, and the messages taken
+-- a turn with the number of frames that its sync consumed, or one whose sync failed (stop), each with its messages
 pub data Entry : Type 0 where
   turn : ℕ → List (Message Stream) → Entry
   stop : List (Message Stream) → Entry
@@ -39,7 +39,7 @@ abbrev pub replay_played : Samples → Sink → List Entry → List Frame
 replay_played samples sink [] = []
 replay_played samples sink (e ∷ history) = played_of sink e ++ replay_played samples (sink_after samples sink e) history
 
--- a turn consumes frames that are there, of a sink that isn't stopped
+-- a turn consumes frames that are there, on a sink that isn't stopped
 abbrev pub CanBe : Sink → Entry → Type 0
 CanBe sink (turn n messages) = (n ≤ sink.filled - sink.consumed) × (sink.stopped ≡ false)
 CanBe sink (stop messages) = ⊤
@@ -64,7 +64,7 @@ deciding samples sink (e ∷ history) f =
     option_or (deciding samples (sink_after samples sink e) history f)
     (if nat_le (sink_after samples sink e).horizon f then Some (sink_after samples sink e) else None)
 
--- what the deciding turn makes of frame f
+-- frame f as its deciding turn mixes it
 abbrev pub decided : Samples → Sink → List Entry → ℕ → Option Frame
 decided samples sink history f = option_map (frame_mixed samples f) (deciding samples sink history f)
 
@@ -73,7 +73,7 @@ abbrev pub ArePast : Samples → Sink → List Entry → ℕ → Type 0
 ArePast samples sink [] f = ⊤
 ArePast samples sink (e ∷ history) f = (f < (sink_after samples sink e).horizon) × ArePast samples (sink_after samples sink e) history f
 
--- a turn of the history left the sink as it is, with a horizon of at most f, and every later one left a horizon past f
+-- a turn of the history left the sink like this, with a horizon of at most f, and every later one left a horizon past f
 pub record IsLastReaching (samples : Samples) (start : Sink) (history : List Entry) (f : ℕ) (sink : Sink) : Type 0 where
   pub earlier : List Entry
   pub entry : Entry

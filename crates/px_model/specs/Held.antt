@@ -1,5 +1,5 @@
--- What a stream holds: a finite map from index to frame, as a list of places from the read index on. A place is the frame held there, or a hole.
--- Own: PulseAudio's pulsecore/memblockq.c keeps a list of blocks, whose holes are silence.
+-- The frames that a stream holds: a finite map from index to frame, as a list of places from the read index on. A place is the frame held there, or a
+-- hole. Own: PulseAudio's pulsecore/memblockq.c has a list of blocks, whose holes are silence.
 use Rattle.std.specs.Prelude.{ℕ, zero, suc, ◌+◌, ◌-◌, ◌<◌, List, [], ◌∷◌, ◌++◌, map, take, drop, replicate, length, Option, Some, None, IsSome, ℤ, int_lt, if◌then◌else◌}
 use Rattle.std.specs.List.{range_with_len}
 use Rattle.px_model.specs.Index.{above, onward}
@@ -15,7 +15,7 @@ place (o ∷ held) (suc k) = place held k
 abbrev pub IsTrimmed : List (Option Frame) → Type 0
 IsTrimmed held = 0 < length held → IsSome (place held (length held - 1))
 
--- frames over the places from p on: what is held below p, holes up to there, the frames, and what is held past them
+-- frames written over the places from p on: the places below p, holes where there are none, the frames, and the places past them
 abbrev pub overlay : ℕ → List Frame → List (Option Frame) → List (Option Frame)
 overlay p [] held = held
 overlay p (f ∷ frames) held =
@@ -25,9 +25,9 @@ overlay p (f ∷ frames) held =
 abbrev pub written_over : ℤ → ℤ → List Frame → List (Option Frame) → List (Option Frame)
 written_over read index frames held = overlay (above index read) (drop (above read index) frames) held
 
--- ---- the map that the list stands for
+-- ---- the map that the list represents
 
--- the frame held at index i, where the list begins at the read index
+-- the frame held at index i, for a list that begins at the read index
 abbrev pub frame_of : ℤ → List (Option Frame) → ℤ → Option Frame
 frame_of read held i = if int_lt i read then None else place held (above i read)
 

@@ -2,7 +2,7 @@
 use Rattle.std.specs.Prelude.{ℕ, ◌-◌, ◌^◌, ℤ, pos, neg_ℤ, ◌+ℤ◌, ◌-ℤ◌, ◌≤ℤ◌, int_le, Bool, ◌&&◌}
 use borrow.Author.Differences.{up, down}
 
--- the index n frames on
+-- the index n frames after i
 abbrev pub onward : ℤ → ℕ → ℤ
 onward i n = i +ℤ pos n
 

@@ -1,9 +1,10 @@
--- The messages from the core to a sink, as plain data (PulseAudio: the messages of `pa_sink` and of the playback stream, pulsecore/sink.h and pulsecore/protocol-native.c). P is the type of a parcel: a stream between two sinks.
+-- The messages from the core to a sink, as plain data (PulseAudio: the messages of `pa_sink` and of the playback stream, pulsecore/sink.h and
+-- pulsecore/protocol-native.c). P is the type of a parcel: a stream between two sinks.
 use Rattle.std.specs.Prelude.{ℕ, ℤ, Bool, List}
 use Rattle.px_model.specs.declared.data.Attr.{Attr}
 use Rattle.px_model.specs.Frame.{SampleSpec}
 
--- what a new stream begins with
+-- what a new stream starts with
 pub record NewStream : Type 0 where
   pub input : ℕ
   pub spec : SampleSpec
@@ -12,7 +13,7 @@ pub record NewStream : Type 0 where
   pub attr : Attr
   pub corked : Bool
 
--- the factors of one input, one a sink channel
+-- the factors of one input, one for each sink channel
 pub record InputFactors : Type 0 where
   pub input : ℕ
   pub factors : List ℕ

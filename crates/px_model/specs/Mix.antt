@@ -6,13 +6,13 @@ use Rattle.px_model.specs.Frame.{Frame, SampleSpec, sample_of}
 use Rattle.px_model.specs.Queue.{FrameAhead, nothing, silence, sound}
 use Rattle.px_model.specs.Stream.{Stream, frame_at}
 
--- What the mix asks of the sample formats, each by its code. The laws hold for any.
+-- What the mix needs of the sample formats, each by its code. The laws hold for any such functions.
 pub record Samples : Type 0 where
   -- the width at which a format's values are worked on
   pub width : ℕ → Width
   -- the work value of a sample's bytes
   pub work : ℕ → List ℕ → ℤ
-  -- a work value brought from one width to another
+  -- a work value converted from one width to another
   pub to : Width → Width → ℤ → ℤ
   -- the bytes of a work value
   pub packed : ℕ → ℤ → List ℕ
@@ -33,11 +33,11 @@ share_of samples sink s channel nothing = pos 0
 share_of samples sink s channel silence = pos 0
 share_of samples sink s channel (sound frame) = scaled (value_of samples sink s frame channel) (slice_index s.factors channel)
 
--- all that the streams add to a sink channel k frames ahead
+-- the sum of all streams in a sink channel, k frames ahead
 abbrev pub sum_of : Samples → SampleSpec → List Stream → ℕ → ℕ → ℤ
 sum_of samples sink streams k channel = fold ◌+ℤ◌ (pos 0) (map (λ s. share_of samples sink s channel (frame_at s k)) streams)
 
--- one sample of the mix k frames ahead: that sum, clipped once
+-- one sample of the mix k frames ahead: the sum, clipped once
 abbrev pub sample_mix : Samples → SampleSpec → List Stream → ℕ → ℕ → ℤ
 sample_mix samples sink streams k channel = saturate_signed (samples.width sink.format) (sum_of samples sink streams k channel)
 

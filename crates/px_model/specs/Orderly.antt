@@ -1,4 +1,5 @@
--- Which lists of messages a sink may be given: orderly from the inputs that are there, each with its sample spec. Own: PulseAudio's core and its sinks share their memory.
+-- Which lists of messages may be posted to a sink: orderly from the inputs that are there, each with its sample spec. Own: PulseAudio's core and its
+-- sinks share their memory.
 use Rattle.std.specs.Prelude.{◌≡◌, ℕ, ◌+◌, ◌-◌, ◌*◌, ◌<◌, ◌≤◌, ◌≢◌, List, [], ◌∷◌, length, All, MatchOption, IsSome, IsNone, ⊤}
 use Rattle.std.specs.List.{AllByRecursion}
 use Rattle.std.specs.Ordering.{nat_cmp}
@@ -28,7 +29,7 @@ pub record IsFeed (sink spec : SampleSpec) (feed : List ℕ) : Type 0 where
 abbrev pub AreFactors : SampleSpec → List ℕ → Type 0
 AreFactors sink factors = length factors ≡ sink.channels
 
--- attributes as repaired ones are
+-- attributes that are repaired
 pub record IsRepaired (attr : Attr) : Type 0 where
   pub minreq_positive : 1 ≤ attr.minreq
   pub minreq_bounded : attr.minreq ≤ attr.tlength
@@ -36,7 +37,7 @@ pub record IsRepaired (attr : Attr) : Type 0 where
   pub maxlength_bounded : attr.maxlength ≤ 4194304
   pub prebuf_bounded : attr.prebuf ≤ attr.tlength + 1 - attr.minreq
 
--- a mode of seeking, and exactly the bytes of its frames
+-- a known mode of seeking, and exactly the bytes of its frames
 pub record IsWhole (spec : SampleSpec) (w : FrameWrite) : Type 0 where
   pub seek_known : w.seek ≤ 3
   pub whole_frames : length w.bytes ≡ w.frames * frame_size spec
@@ -67,12 +68,12 @@ Fits spec_of sink inputs (Message.attr i attr) = IsRepaired attr
 Fits spec_of sink inputs (Message.factors each) = AllByRecursion (λ f. AreFactors sink (InputFactors.factors f)) each
 Fits spec_of sink inputs (Message.query i tag) = ⊤
 
--- it is new there, and there is room for it
+-- the input isn't there, and there is room for it
 pub record HasRoom (inputs : Inputs) (input : ℕ) : Type 0 where
   pub absent : IsNone (map.get inputs input)
   pub room : map.len inputs < 256
 
--- the input that it names is there, or for a new one isn't; Factors may name any
+-- the input that a message names is there, or for a new one isn't; Factors may name any
 abbrev pub NamesInput : {P : Type 0} → Inputs → Message P → Type 0
 NamesInput inputs (Message.new n) = HasRoom inputs n.input
 NamesInput inputs (Message.attach i parcel feed factors) = HasRoom inputs i
@@ -87,7 +88,7 @@ NamesInput inputs (Message.attr i attr) = IsSome (map.get inputs i)
 NamesInput inputs (Message.factors each) = ⊤
 NamesInput inputs (Message.query i tag) = IsSome (map.get inputs i)
 
--- the inputs after it
+-- the inputs after a message
 abbrev pub inputs_left : {P : Type 0} → (P → SampleSpec) → Inputs → Message P → Inputs
 inputs_left spec_of inputs (Message.new n) = map.insert inputs n.input n.spec
 inputs_left spec_of inputs (Message.attach i parcel feed factors) = map.insert inputs i (spec_of parcel)
@@ -102,7 +103,7 @@ inputs_left spec_of inputs (Message.attr i attr) = inputs
 inputs_left spec_of inputs (Message.factors each) = inputs
 inputs_left spec_of inputs (Message.query i tag) = inputs
 
--- the inputs after all of them, in order
+-- the inputs after all messages, in order
 abbrev pub inputs_left_by : {P : Type 0} → (P → SampleSpec) → Inputs → List (Message P) → Inputs
 inputs_left_by spec_of inputs [] = inputs
 inputs_left_by spec_of inputs (m ∷ messages) = inputs_left_by spec_of (inputs_left spec_of inputs m) messages

@@ -11,7 +11,7 @@ pub record Queue : Type 0 where
   -- the next frame to read, and the next to write
   pub read : ℤ
   pub write : ℤ
-  -- it waits for prebuf frames before it plays (`in_prebuf`)
+  -- it waits until prebuf frames are there before it plays (`in_prebuf`)
   pub hold : Bool
   pub prebuf : ℕ
 
@@ -19,23 +19,23 @@ pub record Queue : Type 0 where
 abbrev pub frame_held : Queue → ℤ → Option Frame
 frame_held q i = frame_of q.read q.held i
 
--- one past the last frame held, and the read index where none is held
+-- one past the last frame held; the read index where none is held
 abbrev pub end_of : Queue → ℤ
 end_of q = onward q.read (length q.held)
 
--- where the queue ends: the greater of the write index and the end, and the write index where nothing is held
+-- where the queue ends (its edge): the greater of the write index and the end; the write index where nothing is held
 abbrev pub edge_of : Queue → ℤ
 edge_of q = if length q.held == 0 then q.write else int_max q.write (end_of q)
 
--- the frames from the read index to that edge, none where it lies below
+-- the frames from the read index to the edge, 0 where that lies below
 abbrev pub left_of : Queue → ℕ
 left_of q = max (above q.write q.read) (length q.held)
 
--- it holds, and fewer than prebuf frames wait: the queue is short
+-- short: it holds, and fewer than prebuf frames wait
 abbrev pub is_short : Queue → Bool
 is_short q = q.hold && nat_lt (above q.write q.read) q.prebuf
 
--- the frame at a place ahead: none, silence, or one that is held
+-- the frame at a place ahead: nothing, silence, or a frame held
 pub data FrameAhead : Type 0 where
   nothing : FrameAhead
   silence : FrameAhead
@@ -46,11 +46,11 @@ abbrev pub sound_of : Option Frame → FrameAhead
 sound_of None = silence
 sound_of (Some frame) = sound frame
 
--- the frame k ahead of the read index: nothing where it is short, or past the edge
+-- the frame k ahead of the read index: nothing where the queue is short, or past its edge
 abbrev pub queue_frame : Queue → ℕ → FrameAhead
 queue_frame q k = if is_short q then nothing else (if nat_lt k (left_of q) then sound_of (place q.held k) else nothing)
 
--- what a queue keeps
+-- the invariant of a queue
 pub record IsQueue (q : Queue) : Type 0 where
   pub trimmed : IsTrimmed q.held
   pub read_in_range : IsIndex q.read

@@ -1,4 +1,4 @@
--- Worked rows: histories of a mono sink in 16 bits, the frames that they play and the notices that they give, reckoned by hand.
+-- Worked examples: histories of a mono sink in 16 bits, the frames that they play and their notices, calculated by hand.
 use Rattle.std.specs.Prelude.{ℕ, ◌+◌, ◌*◌, ◌/◌, ◌%◌, ◌^◌, ℤ, pos, negsuc, false, true, List, [], ◌∷◌, ◌++◌, flat_map, replicate, slice_index, Some}
 use Rattle.std.specs.Int.{w16, cast_signed, cast_unsigned}
 use Rattle.px_model.specs.declared.data.Attr.{Attr}
@@ -35,7 +35,7 @@ s16_samples = record {
 abbrev pub tone : ℤ → ℕ → List Frame
 tone x n = replicate n (s16 x)
 
--- a queue without prebuffering that holds nothing, with both its indices here
+-- a queue without prebuffering that holds nothing, with both indices at `read`
 abbrev pub empty_at : ℤ → Queue
 empty_at read = record { held = []; read = read; write = read; hold = false; prebuf = 0 }
 
@@ -47,7 +47,7 @@ small_sink = empty_sink mono 10 100
 abbrev pub attr_of : ℕ → ℕ → ℕ → Attr
 attr_of maxlength tlength prebuf = record { maxlength = maxlength; tlength = tlength; prebuf = prebuf; minreq = 1 }
 
--- the most that a client may ask for, in frames of two bytes, and 200 frames to wait
+-- the largest maxlength that a client may ask for, in frames of two bytes, and a tlength of 200 frames
 abbrev pub usual_attr : ℕ → Attr
 usual_attr prebuf = attr_of 2097152 200 prebuf
 
@@ -96,7 +96,7 @@ seek_played = tone (pos 1000) 20 ++ tone (pos 500) 10 ++ tone (pos 1000) 70
 abbrev pub seek_notices : List (Notice Stream)
 seek_notices = Notice.request 0 100 ∷ Notice.started 0 ∷ Notice.request 0 10 ∷ Notice.request 0 5 ∷ []
 
--- The limit: a second hundred frames are stored beside a maxlength of one hundred, since the first are rendered already. One frame more overflows.
+-- The limit: a second hundred frames are stored despite a maxlength of one hundred, since the first are rendered already. One frame more overflows.
 abbrev pub limit_history : List Entry
 limit_history =
     turn 0 (create 0 (attr_of 100 100 0) ∷ factor 0 65536 ∷ write 0 100 (tone (pos 1) 100) ∷ [])
@@ -192,7 +192,7 @@ drain_history =
 abbrev pub drain_notices : List (Notice Stream)
 drain_notices = Notice.request 0 100 ∷ Notice.started 0 ∷ Notice.drained 0 3 ∷ Notice.underflow 0 ∷ []
 
--- A sink that stopped hands its stream over as it stands at the horizon.
+-- A sink that stopped hands over its stream as it is at the horizon.
 abbrev pub stop_history : List Entry
 stop_history =
     turn 0 (create 0 (usual_attr 1) ∷ factor 0 65536 ∷ write 0 200 (tone (pos 1000) 200) ∷ [])
@@ -223,7 +223,7 @@ abbrev pub stop_notices : List (Notice Stream)
 stop_notices =
     Notice.request 0 100 ∷ Notice.started 0 ∷ Notice.request 0 20 ∷ Notice.latency 0 9 stop_latency ∷ Notice.detached 0 stop_parcel ∷ []
 
--- Prebuffering holds a stream that has less than prebuf, until a Trigger.
+-- Prebuffering holds back a stream that has less than prebuf, until a Trigger.
 abbrev pub hold_history : List Entry
 hold_history =
     turn 0 (create 0 (usual_attr 50) ∷ factor 0 65536 ∷ write 0 20 (tone (pos 1000) 20) ∷ [])
@@ -238,7 +238,7 @@ hold_played = tone (pos 0) 20 ++ (tone (pos 0) 10 ++ tone (pos 1000) 20 ++ tone 
 abbrev pub hold_notices : List (Notice Stream)
 hold_notices = Notice.request 0 20 ∷ Notice.started 0 ∷ Notice.underflow 0 ∷ []
 
--- A corked stream stands still, and goes on where it stood.
+-- A corked stream stands still, and resumes where it stood.
 abbrev pub cork_history : List Entry
 cork_history =
     turn 0 (create 0 (usual_attr 0) ∷ factor 0 65536 ∷ write 0 100 (tone (pos 1000) 100) ∷ Message.cork 0 true ∷ [])
@@ -256,7 +256,7 @@ cork_latency = record { write = pos 100; read = pos 0; buffered = 100; playing =
 abbrev pub cork_notices : List (Notice Stream)
 cork_notices = Notice.latency 0 5 cork_latency ∷ Notice.request 0 90 ∷ Notice.started 0 ∷ Notice.request 0 10 ∷ []
 
--- A flush gives up what is held; seeks from the read index and from the end leave holes, which are silent.
+-- A flush drops what is held; seeks from the read index and from the end leave holes, which are silent.
 abbrev pub flush_history : List Entry
 flush_history =
     turn 0 (create 0 (usual_attr 0) ∷ factor 0 65536 ∷ write 0 100 (tone (pos 1000) 100) ∷ [])
@@ -273,7 +273,7 @@ flush_played =
 abbrev pub flush_notices : List (Notice Stream)
 flush_notices = Notice.request 0 100 ∷ Notice.started 0 ∷ Notice.request 0 10 ∷ Notice.underflow 0 ∷ []
 
--- Fewer than minreq frames are asked for later, all at once.
+-- Fewer than minreq missing frames are requested later, all at once.
 abbrev pub minreq_history : List Entry
 minreq_history =
     turn 0 (create 0 (record { maxlength = 2097152; tlength = 200; prebuf = 0; minreq = 50 }) ∷ factor 0 65536 ∷ write 0 30 (tone (pos 1) 30) ∷ [])

@@ -6,14 +6,14 @@ use Rattle.px_model.specs.Frame.{Frame, SampleSpec}
 use Rattle.px_model.specs.Stream.{Stream, IsStream}
 use Rattle.px_model.specs.Orderly.{Inputs, IsPlayable, IsFeed, AreFactors}
 
--- a stream by its input index
+-- a stream with its input index
 pub record Input : Type 0 where
   pub index : ℕ
   pub stream : Stream
 
 pub record Sink : Type 0 where
   pub spec : SampleSpec
-  -- frames past consumed that no rewind touches, and the most that wait in the buffer
+  -- how many frames past consumed no rewind touches, and the most that wait in the buffer
   pub guard : ℕ
   pub depth : ℕ
   -- frames consumed, frames mixed, and the first frame that may still change
@@ -23,7 +23,7 @@ pub record Sink : Type 0 where
   pub stopped : Bool
   -- the frames from consumed to filled
   pub buffer : List Frame
-  -- in rising index, each stream standing at the horizon
+  -- sorted by index, each stream at the horizon
   pub inputs : List Input
 
 abbrev pub empty_sink : SampleSpec → ℕ → ℕ → Sink
@@ -51,7 +51,7 @@ abbrev pub stream_at : ℕ → List Input → Option Stream
 stream_at i [] = None
 stream_at i (x ∷ inputs) = if x.index == i then Some x.stream else stream_at i inputs
 
--- the inputs with one at its place, with one left out, and with one stream changed
+-- the inputs with one inserted at its place, with one removed, and with one stream changed
 abbrev pub with_input : ℕ → Stream → List Input → List Input
 with_input i s [] = record { index = i; stream = s } ∷ []
 with_input i s (x ∷ inputs) =
@@ -79,14 +79,14 @@ abbrev pub IsRising : List Input → Type 0
 IsRising [] = ⊤
 IsRising (x ∷ inputs) = AllAbove x.index inputs × IsRising inputs
 
--- a stream that a sink can mix: it keeps what a stream keeps, and has a spec that is played, and a channel and a factor for each sink channel
+-- a stream that a sink can mix: it has a stream's invariant, a playable spec, and a channel and a factor for each sink channel
 pub record IsStreamOf (sink : SampleSpec) (s : Stream) : Type 0 where
   pub holds : IsStream s
   pub playable : IsPlayable s.spec
   pub feed_fits : IsFeed sink s.spec s.feed
   pub factors_fit : AreFactors sink s.factors
 
--- what a sink keeps
+-- the invariant of a sink
 pub record IsSink (sink : Sink) : Type 0 where
   pub consumed_first : sink.consumed ≤ sink.horizon
   pub horizon_first : sink.horizon ≤ sink.filled

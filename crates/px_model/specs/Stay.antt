@@ -1,4 +1,5 @@
--- The stays of an input: on each sink that it comes to, from the turn that it comes in to the one that it leaves in. A stay may be any part of a sink's history, so an input may come back to a sink. Own.
+-- The stays of an input: one on each sink that it comes to, from the turn in which it comes to the one in which it leaves. A stay may be any part of
+-- a sink's history, so an input may come back to a sink. Own.
 use Rattle.std.specs.Prelude.{◌≡◌, ◌≤◌, ℕ, ◌+◌, ◌⊎◌, List, [], ◌∷◌, flat_map, ⊤}
 use Rattle.px_model.specs.Stream.{Stream}
 use Rattle.px_model.specs.Message.{Message}
@@ -12,7 +13,7 @@ abbrev pub HasOne : {X : Type 0} → (X → Type 0) → List X → Type 0
 HasOne P [] = ⊥
 HasOne P (x ∷ xs) = P x ⊎ HasOne P xs
 
--- a message brings an input by this parcel
+-- a message attaches the input, with this parcel
 abbrev pub Comes : ℕ → Stream → Message Stream → Type 0
 Comes i parcel (Message.new n) = ⊥
 Comes i parcel (Message.attach j given feed factors) = (j ≡ i) × (given ≡ parcel)
@@ -27,7 +28,7 @@ Comes i parcel (Message.attr j attr) = ⊥
 Comes i parcel (Message.factors each) = ⊥
 Comes i parcel (Message.query j tag) = ⊥
 
--- a notice hands over this parcel of an input
+-- a notice hands over the input, with this parcel
 abbrev pub Leaves : ℕ → Stream → Notice Stream → Type 0
 Leaves i parcel (Notice.request j frames) = ⊥
 Leaves i parcel (Notice.overflow j) = ⊥
@@ -49,12 +50,12 @@ pub record IsStay (samples : Samples) (i : ℕ) (stay : Stay) : Type 0 where
   pub orderly : IsOrderlyHistory samples stay.sink stay.history
   pub once : presence_of (stream_at i stay.sink.inputs) + history_opens i stay.history ≤ 1
 
--- it comes in the first turn
+-- the input comes in the first turn
 abbrev pub ComesIn : ℕ → Stream → List Entry → Type 0
 ComesIn i parcel [] = ⊥
 ComesIn i parcel (e ∷ history) = HasOne (Comes i parcel) (messages_of e)
 
--- it leaves in the last turn
+-- the input leaves in the last turn
 abbrev pub LeavesIn : Samples → ℕ → Stream → Sink → List Entry → Type 0
 LeavesIn samples i parcel sink [] = ⊥
 LeavesIn samples i parcel sink (e ∷ []) = HasOne (Leaves i parcel) (notices_of samples sink e)
@@ -66,12 +67,12 @@ pub record GoesOn (samples : Samples) (i : ℕ) (before next : Stay) : Type 0 wh
   pub leaves : LeavesIn samples i parcel before.sink before.history
   pub comes : ComesIn i parcel next.history
 
--- stay after stay
+-- one stay after another
 abbrev pub AreStays : Samples → ℕ → List Stay → Type 0
 AreStays samples i [] = ⊤
 AreStays samples i (a ∷ []) = IsStay samples i a
 AreStays samples i (a ∷ b ∷ stays) = IsStay samples i a × (GoesOn samples i a b × AreStays samples i (b ∷ stays))
 
--- the track over all of them
+-- the track over all stays
 abbrev pub track_over : Samples → ℕ → List Stay → List Stretch
 track_over samples i stays = flat_map (λ (a : Stay). track_of samples a.sink a.history i) stays

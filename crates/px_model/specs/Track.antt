@@ -1,4 +1,4 @@
--- The track of an input: the stream indices that it settles over a history of one sink. Own.
+-- The track of an input: the stream indices that it settles (gives as the horizon moves forward) over a history of one sink. Own.
 use Rattle.std.specs.Prelude.{ℕ, ◌+◌, ◌-◌, ◌≡◌, ◌⊎◌, ℤ, ◌≤ℤ◌, Bool, not, ◌&&◌, IsTrue, List, [], ◌∷◌, ◌++◌, map, flat_map, Option, Some, None, nat_lt, ◌==◌, if◌then◌else◌, ⊤}
 use Rattle.std.specs.List.{range_with_len, AllByRecursion}
 use Rattle.px_model.specs.Index.{onward}
@@ -12,7 +12,7 @@ use Rattle.px_model.specs.Sink.{Sink, Input, stream_at}
 use Rattle.px_model.specs.Turn.{next_horizon, inputs_with, message_notices}
 use Rattle.px_model.specs.Deciding.{Entry, turn, stop, sink_after, messages_of}
 
--- one going forward: from an index so many frames on, and whether the read index ran on past them, without prebuffering
+-- one move forward: `count` frames from an index on, and whether the read index ran on past them, without prebuffering
 pub record Stretch : Type 0 where
   pub from : ℤ
   pub count : ℕ
@@ -25,7 +25,7 @@ stretch_of s k = record {
   ran_on = not s.corked && not (is_short s.queue) && s.queue.prebuf == 0 && nat_lt (left_of s.queue) k;
 }
 
--- how far a turn goes forward
+-- how far an entry moves the horizon
 abbrev pub forward_by : Sink → Entry → ℕ
 forward_by sink (turn n messages) = next_horizon sink n - sink.horizon
 forward_by sink (stop messages) = next_horizon sink 0 - sink.horizon
@@ -47,7 +47,7 @@ indices_of stretch = map (onward stretch.from) (range_with_len 0 stretch.count)
 abbrev pub indices_of_all : List Stretch → List ℤ
 indices_of_all track = flat_map indices_of track
 
--- each index lies above the one before it, and the first at or past a bound
+-- each index is above the one before it, and the first at or past a bound
 abbrev pub RiseFrom : ℤ → List ℤ → Type 0
 RiseFrom bound [] = ⊤
 RiseFrom bound (i ∷ indices) = (bound ≤ℤ i) × RiseFrom (onward i 1) indices
@@ -56,7 +56,7 @@ abbrev pub Rise : List ℤ → Type 0
 Rise [] = ⊤
 Rise (i ∷ indices) = RiseFrom (onward i 1) indices
 
--- a stretch begins where the one before it ended, or past it where that one ran on
+-- a stretch begins where the one before it ended, or past that where that one ran on
 pub record Follows (before next : Stretch) : Type 0 where
   pub joined : (next.from ≡ onward before.from before.count) ⊎ IsTrue before.ran_on
   pub rising : onward before.from before.count ≤ℤ next.from
@@ -66,12 +66,12 @@ IsJoined [] = ⊤
 IsJoined (x ∷ []) = ⊤
 IsJoined (x ∷ y ∷ track) = Follows x y × IsJoined (y ∷ track)
 
--- 1 where a stream is there
+-- 1 where there is a stream
 abbrev pub presence_of : Option Stream → ℕ
 presence_of None = 0
 presence_of (Some s) = 1
 
--- how often a message opens an input, and how often all of them and a history do
+-- how often a message opens an input, and how often a list of them and a history do
 abbrev pub opens : ℕ → Message Stream → ℕ
 opens i (Message.new n) = if n.input == i then 1 else 0
 opens i (Message.attach j parcel feed factors) = if j == i then 1 else 0
@@ -94,14 +94,14 @@ abbrev pub history_opens : ℕ → List Entry → ℕ
 history_opens i [] = 0
 history_opens i (e ∷ history) = all_opens i (messages_of e) + history_opens i history
 
--- ---- where an input stands
+-- ---- the read index of an input
 
--- a stream, if there is one, stands at this read index
+-- a stream, if there is one, has this read index
 abbrev pub StandsAt : ℤ → Option Stream → Type 0
 StandsAt read None = ⊤
 StandsAt read (Some s) = s.queue.read ≡ read
 
--- a notice that hands over the input's parcel has it standing at this read index
+-- a notice that hands over the input's parcel hands it over at this read index
 abbrev pub HandsOverAt : ℕ → ℤ → Notice Stream → Type 0
 HandsOverAt i read (Notice.request j frames) = ⊤
 HandsOverAt i read (Notice.overflow j) = ⊤
@@ -111,7 +111,7 @@ HandsOverAt i read (Notice.drained j tag) = ⊤
 HandsOverAt i read (Notice.detached j parcel) = j ≡ i → parcel.queue.read ≡ read
 HandsOverAt i read (Notice.latency j tag answer) = ⊤
 
--- a notice that hands over a parcel hands over the whole stream of the input that it names, as it is among these inputs
+-- a notice that hands over a parcel hands over the whole stream of its input, as it is among these inputs
 abbrev pub HandsOver : List Input → Notice Stream → Type 0
 HandsOver inputs (Notice.request j frames) = ⊤
 HandsOver inputs (Notice.overflow j) = ⊤
@@ -121,7 +121,7 @@ HandsOver inputs (Notice.drained j tag) = ⊤
 HandsOver inputs (Notice.detached j parcel) = stream_at j inputs ≡ Some parcel
 HandsOver inputs (Notice.latency j tag answer) = ⊤
 
--- each message's notices do, of the inputs as the messages before it left them
+-- each message's notices do so, for the inputs as the messages before it left them
 abbrev pub AllHandOver : ℕ → ℕ → List (Message Stream) → List Input → Type 0
 AllHandOver mixed buffered [] inputs = ⊤
 AllHandOver mixed buffered (m ∷ messages) inputs =

@@ -1,4 +1,5 @@
--- A turn of a sink, and a turn whose device failed, each with its notices in order (PulseAudio: `pa_sink_render`, `pa_sink_process_rewind` and `pa_sink_input_process_rewind`; the order of messages and notices is own).
+-- A turn of a sink, and a turn whose device failed, each with its notices in order (PulseAudio: `pa_sink_render`, `pa_sink_process_rewind` and
+-- `pa_sink_input_process_rewind`; own: the order of messages and notices).
 use Rattle.std.specs.Prelude.{ℕ, ◌+◌, ◌-◌, min, Bool, true, false, not, ◌&&◌, ◌||◌, List, [], ◌∷◌, ◌++◌, map, flat_map, take, drop, length, Option, Some, None, nat_lt, nat_le, ◌==◌, if◌then◌else◌, ⊤}
 use Rattle.std.specs.List.{range_with_len, AllByRecursion}
 use Rattle.px_model.specs.declared.data.Run.{Run}
@@ -23,7 +24,7 @@ is_playing (Quiet u) = false
 
 -- ---- 1. play n frames, and go forward to the new horizon
 
--- the first frame that may still change after n frames more were consumed
+-- the first frame that may still change after n more frames were consumed
 abbrev pub next_horizon : Sink → ℕ → ℕ
 next_horizon sink n = min sink.filled (sink.consumed + n + sink.guard)
 
@@ -36,11 +37,11 @@ settled sink n = record sink {
   inputs = map (with_stream (λ s. after s (next_horizon sink n - sink.horizon))) sink.inputs;
 }
 
--- it was quiet, and gives a frame
+-- Started: it was silent, and gives a frame
 abbrev pub has_started : Stream → ℕ → Bool
 has_started s k = not (is_playing s.run) && nat_lt 0 (given_of s k)
 
--- it is quiet now, it played or gave a frame, and it isn't draining
+-- Underflow: it is silent now, it played or gave a frame, and it isn't draining
 abbrev pub has_run_out : Stream → ℕ → Bool
 has_run_out s k = (not (is_playing (after s k).run) && (is_playing s.run || nat_lt 0 (given_of s k))) && length s.draining == 0
 
@@ -71,13 +72,13 @@ inputs_with mixed (Message.attr i attr) inputs = with_change i (applied mixed (S
 inputs_with mixed (Message.factors each) inputs = with_each_factors each inputs
 inputs_with mixed (Message.query i tag) inputs = inputs
 
--- a write that isn't stored gives a notice
+-- a write that isn't stored gives an Overflow notice
 abbrev pub refusal_of : ℕ → Outcome → List (Notice Stream)
 refusal_of i stored = []
 refusal_of i overflow = Notice.overflow i ∷ []
 refusal_of i outside = Notice.overflow i ∷ []
 
--- where a stream stands, with so many frames mixed past the horizon and so many in the buffer
+-- the answer to a query, with `mixed` frames mixed past the horizon and `buffered` in the sink's buffer
 abbrev pub latency_of : ℕ → ℕ → Stream → Latency
 latency_of mixed buffered s = record {
   write = s.queue.write;
@@ -107,7 +108,7 @@ message_notices mixed buffered (Message.attr i attr) inputs = []
 message_notices mixed buffered (Message.factors each) inputs = []
 message_notices mixed buffered (Message.query i tag) inputs = notices_from (stream_at i inputs) (λ s. Notice.latency i tag (latency_of mixed buffered s) ∷ [])
 
--- all of them, in order
+-- after all messages, in order
 abbrev pub inputs_with_all : ℕ → List (Message Stream) → List Input → List Input
 inputs_with_all mixed [] inputs = inputs
 inputs_with_all mixed (m ∷ messages) inputs = inputs_with_all mixed messages (inputs_with mixed m inputs)
@@ -117,14 +118,14 @@ all_message_notices mixed buffered [] inputs = []
 all_message_notices mixed buffered (m ∷ messages) inputs =
     message_notices mixed buffered m inputs ++ all_message_notices mixed buffered messages (inputs_with mixed m inputs)
 
--- the sink after the second step, with what the messages change
+-- the sink after the second step, with the messages applied
 abbrev pub with_messages : Sink → List (Message Stream) → Sink
 with_messages sink messages = record sink { inputs = inputs_with_all (sink.filled - sink.horizon) messages sink.inputs }
 
 abbrev pub notices_of_messages : Sink → List (Message Stream) → List (Notice Stream)
 notices_of_messages sink messages = all_message_notices (sink.filled - sink.horizon) (sink.filled - sink.consumed) messages sink.inputs
 
--- frame f, at or past the horizon, as the sink's streams make it
+-- frame f, at or past the horizon, as mixed from the sink's streams
 abbrev pub frame_mixed : Samples → ℕ → Sink → Frame
 frame_mixed samples f sink = mix_of samples sink.spec (streams_of sink.inputs) (f - sink.horizon)
 
@@ -141,15 +142,15 @@ remixed samples sink = record sink {
 
 -- ---- 4. for each stream in order, answers to drains and a request for more
 
--- nothing is left at the horizon
+-- no frame is left at the horizon
 abbrev pub has_ended : Stream → Bool
 has_ended s = left_of s.queue == 0
 
--- the frames that tlength asks for past those that wait and those asked for already, with so many frames mixed past the horizon
+-- the frames missing of tlength, beyond those that wait and those requested already, with `mixed` frames mixed past the horizon
 abbrev pub missing_of : Stream → ℕ → ℕ
 missing_of s mixed = s.tlength - above s.queue.write (ahead_of s mixed) - s.requested
 
--- the frames of the request: all that are missing, where they are at least minreq
+-- the frames to request: all that are missing, where they are at least minreq
 abbrev pub request_of : Stream → ℕ → ℕ
 request_of s mixed = if nat_le s.minreq (missing_of s mixed) then missing_of s mixed else 0
 
@@ -170,7 +171,7 @@ asked sink = record sink { inputs = map (with_stream (asked_stream (sink.filled 
 
 -- ---- the turn
 
--- the sink after the sync consumed n frames and the messages were taken
+-- the sink after its sync consumed n frames and the messages were applied
 abbrev pub turned : Samples → Sink → ℕ → List (Message Stream) → Sink
 turned samples sink n messages = asked (remixed samples (with_messages (settled sink n) messages))
 
@@ -187,7 +188,7 @@ turn_notices samples sink n messages =
 
 -- ---- the turn whose sync failed: it plays nothing, and the sink is stopped from then on
 
--- the first step with no frame played, after which all past the horizon is given up
+-- the first step with no frame played, after which all frames past the horizon are dropped
 abbrev pub halted : Sink → Sink
 halted sink = record (settled sink 0) {
   stopped = true;
@@ -204,7 +205,7 @@ stopped_notices sink messages =
     ++ notices_of_messages (halted sink) messages
     ++ flat_map (asked_notices 0) (with_messages (halted sink) messages).inputs
 
--- a parcel that comes is a stream with all that a stream keeps
+-- the parcel of an Attach is a well-formed stream
 abbrev pub BringsStream : Message Stream → Type 0
 BringsStream (Message.new n) = ⊤
 BringsStream (Message.attach i parcel feed factors) = IsStream parcel
@@ -219,7 +220,7 @@ BringsStream (Message.attr i attr) = ⊤
 BringsStream (Message.factors each) = ⊤
 BringsStream (Message.query i tag) = ⊤
 
--- the messages that a sink may be given: orderly from its inputs, and with streams for parcels
+-- the messages that may be posted to a sink: orderly from its inputs, with streams for parcels
 pub record AreFor (sink : Sink) (messages : List (Message Stream)) : Type 0 where
   pub orderly : IsOrderly Stream.spec sink.spec (specs_of sink.inputs) messages
   pub parcels : AllByRecursion BringsStream messages

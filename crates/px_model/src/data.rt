@@ -1,10 +1,9 @@
-/// How long a stream has played or been silent, in frames (PulseAudio: `playing_for`,
-/// `underrun_for`).
+/// How long a stream has been playing or silent, in frames (PulseAudio: `playing_for`, `underrun_for`).
 #[derive(Clone, Copy, Debug, PartialEq, Eq)]
 pub enum Run {
-    /// Silent for so many frames.
+    /// Silent for this many frames.
     Quiet(u64),
-    /// Playing for so many frames.
+    /// Playing for this many frames.
     Playing(u64),
 }
 
@@ -26,10 +25,10 @@ pub enum Seek {
 pub struct Attr {
     /// The most frames that may wait ahead.
     pub maxlength: u32,
-    /// How many frames are to wait.
+    /// How many frames should wait.
     pub tlength: u32,
     /// How many frames must wait before the stream plays; 0 for no prebuffering.
     pub prebuf: u32,
-    /// The least number of frames that is asked for at once.
+    /// The least number of frames that is requested at once.
     pub minreq: u32,
 }

@@ -1,4 +1,4 @@
-//! The law of the deciding turn: what makes a frame that was played what it is.
+//! The law of the deciding turn: which turn determines a frame that was played.
 ghost use Rattle.std.specs.Prelude.{◌≡◌, ◌+◌, ◌-◌, ◌<◌, ◌≤◌, ◌++◌, List, IsSome, Some, length, ℕ, slice_get};
 ghost use Rattle.px_model.specs.Frame.{SampleSpec};
 ghost use Rattle.px_model.specs.Mix.{Samples};
@@ -6,10 +6,9 @@ ghost use Rattle.px_model.specs.Sink.{Sink, empty_sink};
 ghost use Rattle.px_model.specs.Turn.{played_by};
 ghost use Rattle.px_model.specs.Deciding.{Entry, replay, replay_notices, replay_played, IsHistory, deciding, decided, IsLastReaching};
 
-/// For every history of turns and stopped turns from the empty sink: as many frames are played as
-/// are consumed, and each is what its deciding turn makes it, the mix of the streams as that turn
-/// left them at the frame's distance from that turn's horizon. That turn is the last of the history
-/// whose horizon is at most the frame, and stands before the turn that plays it. Source: own.
+/// For every history of turns and stopped turns from the empty sink: as many frames are played as are consumed, and each is what its deciding turn
+/// makes it: the mix of the streams as that turn left them, at the frame's distance from that turn's horizon. The deciding turn is the last of the
+/// history whose horizon is at most the frame, and comes before the turn that plays it. Source: own.
 pub fn played_frames_are_decided()
     ensures all_consumed { (samples : Samples) (spec : SampleSpec) (guard depth : ℕ)
         (history : List Entry)
@@ -39,8 +38,7 @@ pub fn played_frames_are_decided()
         → IsLastReaching samples start history f sink }
 {}
 
-/// The replay of one history after another is that of the two joined: the sink, its notices and the
-/// frames played. Source: own.
+/// The replay of two histories joined is that of the first followed by that of the second: the sink, its notices and the frames played. Source: own.
 pub fn histories_join()
     ensures sink { (samples : Samples) (sink : Sink) (earlier later : List Entry)
         → replay samples sink (earlier ++ later)

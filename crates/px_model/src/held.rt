@@ -1,5 +1,4 @@
-//! Laws of what a queue holds: a list of places from the read index on, which stands for a map from
-//! index to frame.
+//! Laws of the frames that a queue holds: a list of places from the read index on, which represents a map from index to frame.
 ghost use Rattle.std.specs.Prelude.{◌≡◌, ◌<◌, ◌≤◌, ◌⊎◌, List, Option, None, length, slice_get, ℕ, ℤ, ◌≤ℤ◌, ◌<ℤ◌};
 ghost use Rattle.px_model.specs.Index.{onward, above};
 ghost use Rattle.px_model.specs.Frame.{Frame};
@@ -7,9 +6,8 @@ ghost use Rattle.px_model.specs.Held.{frame_of, places_of, written_over, overlay
 ghost use Rattle.px_model.specs.Queue.{Queue, IsQueue, frame_held, left_of, edge_of};
 ghost use Rattle.px_model.specs.Going.{queue_after};
 
-/// The list of places and the finite map from index to frame give each other: nothing is held below
-/// the read index nor past the list, the list comes back from its map and the map from its list,
-/// and equal maps are equal lists. Source: own.
+/// The list of places and the finite map from index to frame determine each other: nothing is held below the read index or past the list, the list
+/// comes back from its map and the map from its list, and equal maps are equal lists. Source: own.
 pub fn places_are_a_map()
     ensures below { (read : ℤ) (held : List (Option Frame)) (i : ℤ) → i <ℤ read
         → frame_of read held i ≡ None }
@@ -24,8 +22,7 @@ pub fn places_are_a_map()
         → ((i : ℤ) → frame_of read held i ≡ frame_of read other i) → held ≡ other }
 {}
 
-/// A write changes exactly its own indices from the read index on, and leaves no hole in the last
-/// place. Source: PulseAudio's `pa_memblockq_push`.
+/// A write changes exactly its own indices from the read index on. It leaves no hole in the last place. Source: PulseAudio's `pa_memblockq_push`.
 pub fn write_changes_its_indices()
     ensures inside { (read p : ℤ) (frames : List Frame) (held : List (Option Frame)) (k : ℕ)
         → k < length frames
@@ -39,9 +36,8 @@ pub fn write_changes_its_indices()
         → IsTrimmed (written_over read p frames held) }
 {}
 
-/// Going forward never moves the read index back, and keeps every frame at or past the new one; the
-/// frames that are left reach from the read index to the edge. Source: PulseAudio's
-/// `pa_memblockq_drop`.
+/// Moving forward never moves the read index back, and changes no frame at or past the new one. The frames left reach from the read index to the
+/// edge. Source: PulseAudio's `pa_memblockq_drop`.
 pub fn going_drops_the_past()
     ensures rises { (q : Queue) → IsQueue q → (k : ℕ) → q.read ≤ℤ (queue_after q k).read }
     ensures stays { (q : Queue) → IsQueue q → (k : ℕ) (i : ℤ) → (queue_after q k).read ≤ℤ i

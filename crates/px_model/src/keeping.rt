@@ -1,5 +1,4 @@
-//! Laws of what a stream keeps: its indices in range, its attributes in bounds, no hole in the last
-//! place.
+//! Laws of a stream's invariant: its indices in range, its attributes in bounds, no hole in the last place.
 ghost use Rattle.std.specs.Prelude.{List, Bool, ℕ, ℤ, length};
 ghost use Rattle.px_model.specs.declared.data.Attr.{Attr};
 ghost use Rattle.px_model.specs.Frame.{Frame, SampleSpec};
@@ -11,8 +10,7 @@ ghost use Rattle.px_model.specs.Control.{new_queue, prebuf_disabled, prebuf_forc
 ghost use Rattle.px_model.specs.Orderly.{IsRepaired};
 ghost use Rattle.px_model.specs.Turn.{asked_stream};
 
-/// A queue keeps what it keeps under every step: going forward, a write however it ends, and what
-/// the messages do to it. Source: own.
+/// A queue's invariant holds after every step: moving forward, a write with any outcome, and what the messages do to it. Source: own.
 pub fn queue_keeps()
     ensures going { (q : Queue) → IsQueue q → (k : ℕ) → IsQueue (queue_after q k) }
     ensures write { (q : Queue) → IsQueue q → (limit : ℤ) (p : ℤ) (frames : List Frame) (a : ℤ)
@@ -22,7 +20,7 @@ pub fn queue_keeps()
         × IsQueue (prebuf_forced q) × IsQueue (emptied q) × IsQueue (with_prebuf q prebuf) }
 {}
 
-/// A stream keeps what it keeps under every message and every step of a turn. Source: own.
+/// A stream's invariant holds after every message and every step of a turn. Source: own.
 pub fn stream_keeps()
     ensures new { (spec : SampleSpec) (feed factors : List ℕ) (attr : Attr) (corked : Bool)
         → IsRepaired attr

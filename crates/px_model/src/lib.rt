@@ -1,6 +1,5 @@
-//! The definitions of streams, mixes, sinks and turns that queues, streams, lanes and the whole
-//! world are proved against. Its functions have empty bodies: the contract of each is a law over
-//! these definitions, for every state.
+//! The model of streams, mixes, sinks and turns against which queues, streams, lanes and the whole world are proved. Its functions have empty bodies:
+//! the contract of each is a law over these definitions, for every state.
 #![tactic(auto)]
 
 mod data;

@@ -1,4 +1,4 @@
-//! Laws of orderly messages: what they leave at a sink, and one list after another.
+//! Laws of orderly messages: what they leave at a sink, and one list followed by another.
 ghost use Rattle.std.specs.Prelude.{◌≡◌, ◌++◌, List, ℕ, flat_map};
 ghost use Rattle.px_model.specs.Frame.{SampleSpec};
 ghost use Rattle.px_model.specs.Stream.{Stream};
@@ -10,9 +10,8 @@ ghost use Rattle.px_model.specs.Turn.{turned, stopped_turn, BringsStream};
 ghost use Rattle.px_model.specs.Deciding.{Entry, messages_of, IsOrderlyHistory};
 ghost use Rattle.std.specs.List.{AllByRecursion};
 
-/// The inputs that a turn's messages leave are those of the sink after the turn; and messages are
-/// orderly one list after another exactly where each list is orderly from the inputs that those
-/// before it left. So what is orderly from no inputs is orderly turn by turn. Source: own.
+/// The inputs that a turn's messages leave are those of the sink after the turn. Lists of messages in sequence are orderly exactly where each list is
+/// orderly from the inputs that the lists before it left. So what is orderly from no inputs is orderly turn by turn. Source: own.
 pub fn orderly_messages_go_on()
     ensures turn { (samples : Samples) (sink : Sink) (n : ℕ) (messages : List (Message Stream))
         → inputs_left_by Stream.spec (specs_of sink.inputs) messages

@@ -1,10 +1,10 @@
-//! Worked rows: what whole histories of a small sink play, and the notices that they give.
+//! Worked examples: the frames that whole histories of a small sink play, and their notices.
 ghost use Rattle.std.specs.Prelude.{◌≡◌, [], ◌∷◌, pos, negsuc};
 ghost use Rattle.px_model.specs.Deciding.{replay_played, replay_notices};
 ghost use Rattle.px_model.specs.Rows.{s16, s16_samples, small_sink, underrun_history, underrun_played, underrun_notices, seek_history, seek_played, seek_notices, limit_history, limit_played, limit_notices, overflow_history, overflow_played, overflow_notices, rewind_history, rewind_played, rewind_notices, late_history, late_played, late_notices, mix_history, loud_messages, deep_messages, balanced_messages, eighth_history, eighth_played, drain_history, drain_notices, stop_history, stop_notices, hold_history, hold_played, hold_notices, cork_history, cork_played, cork_notices, flush_history, flush_played, flush_notices, minreq_history, minreq_notices, last_history, last_notices};
 
-/// The definitions give these worked rows, sample by sample and notice by notice: a mono sink in 16
-/// bits with a guard of 10 frames and a depth of 100. Takes no memory. Source: own.
+/// The definitions give these worked examples, sample by sample and notice by notice: a mono sink in 16 bits with a guard of 10 frames and a depth of
+/// 100. Takes no memory. Source: own.
 pub fn worked_rows()
     ensures underrun_plays { replay_played s16_samples small_sink underrun_history
         ≡ underrun_played }

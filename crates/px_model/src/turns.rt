@@ -8,8 +8,8 @@ ghost use Rattle.px_model.specs.Sink.{Sink, IsSink, empty_sink, frame_in};
 ghost use Rattle.px_model.specs.Deciding.{Entry, IsHistory, IsOrderlyHistory, replay};
 ghost use Rattle.px_model.specs.Turn.{AreFor, turned, stopped_turn, frame_mixed};
 
-/// A sink keeps what it keeps under every turn, every stopped turn and so every history of them,
-/// where each turn's messages are orderly from its inputs; and its horizon never falls. Source: own.
+/// A sink's invariant holds after every turn, every stopped turn and so every history of them. Each turn's messages must be orderly from its inputs.
+/// The horizon never falls. Source: own.
 pub fn sink_keeps()
     ensures empty { (spec : SampleSpec) (guard depth : ℕ) → IsSink (empty_sink spec guard depth) }
     ensures turn { (samples : Samples) (sink : Sink) → IsSink sink → (n : ℕ)
@@ -29,9 +29,8 @@ pub fn sink_keeps()
         → sink.horizon ≤ (stopped_turn sink messages).horizon }
 {}
 
-/// A turn keeps the frames below its horizon, and each frame at or past it is the mix of the
-/// streams as the turn leaves them, of as many bytes as a frame of the sink has; a stopped turn
-/// keeps the frames below its horizon and gives up the others. Source: PulseAudio's rewinding.
+/// A turn changes no frame below its horizon, and each frame at or past it is the mix of the streams as the turn leaves them. The mix has as many
+/// bytes as a frame of the sink has. A stopped turn changes no frame below its horizon and drops the others. Source: PulseAudio's rewinding.
 pub fn turn_mixes_from_its_horizon()
     ensures stays { (samples : Samples) (sink : Sink) → IsSink sink → (n : ℕ)
         → n ≤ sink.filled - sink.consumed

@@ -6,11 +6,11 @@ use Rattle.px_model.specs.Orderly.{Inputs, IsOrderly, inputs_left_by}
 use Rattle.px_msg.specs.declared.message.Msg.{Msg}
 use Rattle.px_msg.specs.View.{message_of}
 
--- a sink that is new has no inputs
+-- a new sink has no inputs
 abbrev pub none_there : Inputs
 none_there = finite.empty
 
--- messages to a sink of this sample spec that is new: each names an input that is there then, or a new one, and fits; spec_of reads a parcel's
+-- messages to a new sink of this sample spec: each names an input that is there then, or a new one, and fits; spec_of reads a parcel's
 abbrev pub AreLawful : {P : Type 0} → (P → SampleSpec) → SampleSpec → List (Msg P) → Type 0
 AreLawful spec_of sink messages = IsOrderly spec_of sink none_there (map (message_of (λ p. p)) messages)
 

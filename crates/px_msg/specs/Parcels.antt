@@ -1,11 +1,11 @@
--- A message or a notice whose parcel is another, and all else of it the same.
+-- A message or a notice with another parcel, and otherwise the same.
 use Rattle.std.specs.Prelude.{◌≡◌}
 use Rattle.px_msg.specs.declared.message.Msg.{Msg}
 use Rattle.px_msg.specs.declared.message.Msg.TheVariants.{New, Attach, Detach, Write, Cork, Flush, Trigger, Prebuf, Drain, Attr, Factors, Query}
 use Rattle.px_msg.specs.declared.notice.Notice.{Notice}
 use Rattle.px_msg.specs.declared.notice.Notice.TheVariants.{Request, Overflow, Underflow, Started, Drained, Detached, Latency}
 
--- a message with its parcel, if it has one, as a function gives it
+-- a message with parcel_of applied to its parcel, if it has one
 abbrev pub message_with : {P Q : Type 0} → (P → Q) → Msg P → Msg Q
 message_with parcel_of (New n) = New n
 message_with parcel_of (Attach input parcel feed factors) = Attach input (parcel_of parcel) feed factors
@@ -20,7 +20,7 @@ message_with parcel_of (Attr input attr) = Attr input attr
 message_with parcel_of (Factors each) = Factors each
 message_with parcel_of (Query input tag) = Query input tag
 
--- a notice with its parcel, if it has one, as a function gives it
+-- a notice with parcel_of applied to its parcel, if it has one
 abbrev pub notice_with : {P Q : Type 0} → (P → Q) → Notice P → Notice Q
 notice_with parcel_of (Request input frames) = Request input frames
 notice_with parcel_of (Overflow input) = Overflow input
@@ -30,7 +30,7 @@ notice_with parcel_of (Drained input tag) = Drained input tag
 notice_with parcel_of (Detached input parcel) = Detached input (parcel_of parcel)
 notice_with parcel_of (Latency input tag write read buffered playing run) = Latency input tag write read buffered playing run
 
--- a message that is another but for its parcel, which is one of those that may be given for the other's
+-- a message that differs only in its parcel, which `gives` relates to that of the other
 abbrev pub IsMessageWith : {P Q : Type 0} → (P → Q → Type 0) → Msg P → Msg Q → Type 0
 IsMessageWith {P} {Q} gives (Attach input parcel feed factors) other = (given : Q) × gives parcel given × (other ≡ Attach input given feed factors)
 IsMessageWith gives (New n) other = other ≡ New n
@@ -45,7 +45,7 @@ IsMessageWith gives (Attr input attr) other = other ≡ Attr input attr
 IsMessageWith gives (Factors each) other = other ≡ Factors each
 IsMessageWith gives (Query input tag) other = other ≡ Query input tag
 
--- a notice so
+-- also a notice
 abbrev pub IsNoticeWith : {P Q : Type 0} → (P → Q → Type 0) → Notice P → Notice Q → Type 0
 IsNoticeWith {P} {Q} gives (Detached input parcel) other = (given : Q) × gives parcel given × (other ≡ Detached input given)
 IsNoticeWith gives (Request input frames) other = other ≡ Request input frames

@@ -1,10 +1,11 @@
--- How a server repairs the buffer attributes that a client asks for (PulseAudio: `fix_playback_buffer_attr` of pulsecore/protocol-native.c). What is asked is in bytes, in the order maxlength, tlength, prebuf, minreq; what is answered is in frames. Own: the numbers of step 1 to 4.
+-- How a server repairs the buffer attributes that a client asks for (PulseAudio: `fix_playback_buffer_attr` of pulsecore/protocol-native.c). What is
+-- asked is in bytes, in the order maxlength, tlength, prebuf, minreq; the answer is in frames. Own: the numbers of steps 1 to 4.
 use Rattle.std.specs.Prelude.{ℕ, ◌+◌, ◌-◌, ◌*◌, ◌/◌, cond, nat_eq, min, max, ◌≤◌, List, [], ◌∷◌, slice_index}
 use Rattle.px_model.specs.declared.data.Attr.{Attr}
 use Rattle.px_sample.specs.declared.spec.Spec.{Spec}
 use Rattle.px_sample.specs.Format.{frame_size_of}
 
--- what stands for an attribute that the client leaves to the server
+-- the value of an attribute that the client leaves to the server
 abbrev pub UNSET : ℕ
 UNSET = 0xFFFFFFFF
 
@@ -12,11 +13,11 @@ UNSET = 0xFFFFFFFF
 abbrev pub MAXLENGTH : ℕ
 MAXLENGTH = 4194304
 
--- the whole frames in so many bytes, or this many where the client asks for none
+-- the whole frames in `asked` bytes, or `unset` where the client leaves it to the server
 abbrev pub frames_asked : ℕ → ℕ → ℕ → ℕ
 frames_asked size unset asked = cond (nat_eq asked UNSET) unset (asked / size)
 
--- at least one frame, and at most so many
+-- `frames`, but at least 1 and at most `most`
 abbrev pub between_one_and : ℕ → ℕ → ℕ
 between_one_and most frames = min (max frames 1) most
 
@@ -54,7 +55,7 @@ with_tlength_of spec maxlength asked = with_minreq_of spec maxlength (tlength_of
 abbrev pub repaired : Spec → List ℕ → Attr
 repaired spec asked = with_tlength_of spec (maxlength_of (frame_size_of spec) (slice_index asked 0)) asked
 
--- what waits ahead at the most is at most MAXLENGTH bytes, and so is every other attribute
+-- maxlength is at most MAXLENGTH bytes, and so is every other attribute
 abbrev pub IsWithinBytes : Spec → Attr → Type 0
 IsWithinBytes spec attr = attr.maxlength * frame_size_of spec ≤ MAXLENGTH
 

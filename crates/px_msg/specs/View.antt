@@ -1,4 +1,4 @@
--- Messages and notices of the code as those of the definitions: numbers for their types, and a parcel as what a function gives of it.
+-- Messages and notices of the code as those of the model: numbers for their types, and a function applied to a parcel.
 use Rattle.std.specs.Prelude.{map}
 use Rattle.px_sample.specs.declared.spec.Spec.{Spec}
 use Rattle.px_sample.specs.Format.{code_of}
@@ -12,7 +12,7 @@ use Rattle.px_msg.specs.declared.factors.InputFactors.{InputFactors}
 use Rattle.px_msg.specs.declared.notice.Notice.{Notice}
 use Rattle.px_msg.specs.declared.notice.Notice.TheVariants.{Request, Overflow, Underflow, Started, Drained, Detached, Latency}
 
--- a sample spec by the code of its format
+-- a sample spec, with the code of its format
 abbrev pub sample_spec : Spec → SampleSpec
 sample_spec spec = record { format = code_of spec.format; channels = spec.channels; rate = spec.rate }
 
@@ -49,7 +49,7 @@ notice_of parcel_of (Detached input parcel) = ModelNotice.detached input.0 (parc
 notice_of parcel_of (Latency input tag write read buffered playing run) =
     ModelNotice.latency input.0 tag (record { write = write; read = read; buffered = buffered; playing = playing; run = run })
 
--- the notice of the code that is seen so
+-- the notice of the code that has this view
 abbrev pub notice_for : {P : Type 0} → ModelNotice P → Notice P
 notice_for (ModelNotice.request input frames) = Request (record { 0 = input }) frames
 notice_for (ModelNotice.overflow input) = Overflow (record { 0 = input })

@@ -29,7 +29,7 @@ fn frame_size(spec: &Spec) -> u32
     sample_size(spec.format) * u32::from(spec.channels)
 }
 
-// The whole frames in what is asked, or so many where that is left to the server.
+// The whole frames in `asked` bytes, or `unset` where the client leaves it to the server.
 fn frames_asked(size: u32, unset: u64, asked: u32) -> u64
     requires { 1 ≤ size }
     ensures { result ≡ frames_asked size unset asked }
@@ -41,7 +41,7 @@ fn frames_asked(size: u32, unset: u64, asked: u32) -> u64
     }
 }
 
-// At least one frame, and at most so many.
+// `frames`, but at least 1 and at most `most`.
 fn between_one_and(most: u32, frames: u64) -> u32
     ensures { result ≡ between_one_and most frames }
 {
@@ -73,12 +73,11 @@ fn prebuf_of(size: u32, tlength: u32, minreq: u32, asked: u32) -> u32
     asked.min(u64::from(most)) as u32
 }
 
-/// The buffer attributes, in frames, that a stream gets whose client asks for these bytes: maxlength, tlength, prebuf
-/// and minreq, in this order, where 0xFFFFFFFF leaves one to the server. In order: maxlength is at most 4,194,304
-/// bytes, in whole frames, at least one; tlength (two seconds where it is left) and minreq (20 milliseconds) are in
-/// whole frames, at least one, at most maxlength and tlength; prebuf is rounded up, and at most (as where it is left)
-/// one frame more than tlength less minreq. Takes no memory. Source: `fix_playback_buffer_attr` of
-/// `pulsecore/protocol-native.c`; own: the numbers.
+/// The buffer attributes, in frames, of a stream whose client asks for these bytes: maxlength, tlength, prebuf and minreq, in this order; 0xFFFFFFFF
+/// leaves one to the server. In order: maxlength is at most 4,194,304 bytes, in whole frames, at least one; tlength (two seconds where it is left)
+/// and minreq (20 milliseconds) are in whole frames, at least one, at most maxlength and tlength; prebuf is rounded up, and at most (as where it is
+/// left) one frame more than tlength less minreq. Takes no memory. Source: `fix_playback_buffer_attr` of `pulsecore/protocol-native.c`; own: the
+/// numbers.
 pub fn repair(spec: &Spec, asked: [u32; 4]) -> Attr
     requires { 1 ≤ spec.now.channels }
     ensures value { result ≡ repaired spec.now asked }
@@ -100,7 +99,7 @@ pub fn repair(spec: &Spec, asked: [u32; 4]) -> Attr
     }
 }
 
-// So many frames in bytes, where that many at the most are within the bound.
+// `frames` frames in bytes, where `most` frames are within the bound.
 fn bytes_in(size: u32, most: u32, frames: u32) -> u32
     requires within { frames ≤ most }
     requires bytes { most * size ≤ 4194304 }

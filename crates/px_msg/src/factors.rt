@@ -6,7 +6,7 @@ use px_types::InputId;
 use px_vol::Factors;
 use std::marker::Model;
 
-/// The factors of one input, one a channel of its sink.
+/// The factors of one input, one for each channel of its sink.
 #[derive(Debug, Drop)]
 pub struct InputFactors {
     pub input: InputId,

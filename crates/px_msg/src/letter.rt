@@ -34,8 +34,8 @@ impl<P> Letter for Notice<P> {
     ghost begins = { λ key. tt };
 }
 
-/// No messages are lawful, and so is each front of lawful ones. Messages are lawful exactly where a front of them is and the others are
-/// orderly from the inputs that it leaves. It does nothing: its contract is the law. Source: own.
+/// No messages are lawful, and so is each prefix of lawful ones. Messages are lawful exactly where a prefix of them is and the others are orderly
+/// from the inputs that it leaves. It does nothing: its contract is the law. Source: own.
 pub fn lawful_messages_go_on<P>()
     ensures none { (spec_of : P → SampleSpec) (sink : SampleSpec) → AreLawful spec_of sink [] }
     ensures front { (spec_of : P → SampleSpec) (sink : SampleSpec) (earlier later : List (Msg P))

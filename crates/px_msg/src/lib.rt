@@ -1,6 +1,6 @@
-//! What goes between the core and a sink's mixer: messages one way, notices the other. `message` and `notice` have
-//! them, `factors` the factors of several inputs, `attributes` the repair of buffer attributes, `parcel` what the core
-//! asks of a stream on its way from one sink to another, and `letter` which lists of them are lawful.
+//! What goes between the core and a sink's mixer: messages to the mixer, notices from it. `message` and `notice` are these, `factors` the factors of
+//! several inputs, `attributes` the repair of buffer attributes, `parcel` what the core reads of a stream on its way from one sink to another, and
+//! `letter` which lists of them are lawful.
 #![tactic(auto)]
 
 mod attributes;

@@ -10,30 +10,30 @@ use px_sample::Spec;
 use px_types::InputId;
 use px_vol::Factors;
 
-/// What a new stream begins with.
+/// What a new stream starts with.
 #[derive(Debug, Drop)]
 pub struct NewStream {
     /// Its index as a sink input.
     pub input: InputId,
     /// The sample spec of what is written to it.
     pub spec: Spec,
-    /// The stream channel that feeds each channel of the sink.
+    /// The stream channel that feeds each sink channel.
     pub feed: Feed,
-    /// The factor for each channel of the sink.
+    /// The factor for each sink channel.
     pub factors: Factors,
     /// Its buffer attributes, in frames, repaired.
     pub attr: Attr,
-    /// Whether it begins corked.
+    /// Whether it starts corked.
     pub corked: bool,
 }
 
-/// What the core tells a sink (PulseAudio: the messages of `pa_sink_input` and of the playback stream,
-/// `pulsecore/protocol-native.c`). `P` is the type of a parcel: a stream on its way from one sink to another.
+/// A message from the core to a sink (PulseAudio: the messages of `pa_sink_input` and of the playback stream, `pulsecore/protocol-native.c`). `P` is
+/// the type of a parcel: a stream on its way from one sink to another.
 #[derive(Debug, Drop)]
 pub enum Msg<P> {
     /// A new stream.
     New(NewStream),
-    /// A stream comes from another sink, and has this feed and these factors from then on.
+    /// A stream comes from another sink, and gets this feed and these factors.
     Attach {
         input: InputId,
         parcel: P,
@@ -53,7 +53,7 @@ pub enum Msg<P> {
         frames: u32,
         bytes: Blocks,
     },
-    /// A stream is corked or goes on.
+    /// A stream is corked or uncorked.
     Cork {
         input: InputId,
         on: bool,
@@ -62,15 +62,15 @@ pub enum Msg<P> {
     Flush {
         input: InputId,
     },
-    /// A stream plays without waiting.
+    /// A stream plays without waiting for prebuf.
     Trigger {
         input: InputId,
     },
-    /// A stream waits again.
+    /// A stream prebuffers again.
     Prebuf {
         input: InputId,
     },
-    /// The tag is answered once all is played.
+    /// The tag is answered once all frames are played.
     Drain {
         input: InputId,
         tag: u32,
@@ -82,7 +82,7 @@ pub enum Msg<P> {
     },
     /// New factors for some inputs.
     Factors(FactorList),
-    /// The tag is answered with where the stream stands.
+    /// The tag is answered by a Latency notice.
     Query {
         input: InputId,
         tag: u32,
@@ -90,7 +90,7 @@ pub enum Msg<P> {
 }
 
 impl<P> Msg<P> {
-    /// The message with its parcel, if it has one, as `give` gives it. Takes no memory of its own.
+    /// The message with `give` applied to its parcel, if it has one. Takes no memory of its own.
     pub fn with_parcel<Q, F: FnOnce(P) -> Q>(self, give: F) -> Msg<Q>
         requires { F.IsAlwaysCallable give }
         ensures { IsMessageWith (F.post give) self result }

@@ -5,33 +5,33 @@ ghost use Rattle.px_msg.specs.Parcels.{IsNoticeWith};
 use px_model::Run;
 use px_types::InputId;
 
-/// What a sink tells the core (PulseAudio: the messages of the playback stream, `pulsecore/protocol-native.c`). `P` is
-/// the type of a parcel: a stream on its way from one sink to another.
+/// A notice from a sink to the core (PulseAudio: the messages of the playback stream, `pulsecore/protocol-native.c`). `P` is the type of a parcel: a
+/// stream on its way from one sink to another.
 #[derive(Debug, Drop)]
 pub enum Notice<P> {
-    /// A stream asks for so many frames.
+    /// A stream asks for `frames` frames.
     Request {
         input: InputId,
         frames: u32,
     },
-    /// A write would have passed the stream's limit.
+    /// A write was refused: past the limit, or at no index.
     Overflow {
         input: InputId,
     },
-    /// A stream that played has run dry.
+    /// A stream that played has run out.
     Underflow {
         input: InputId,
     },
-    /// A stream that was quiet plays.
+    /// A stream that was silent plays.
     Started {
         input: InputId,
     },
-    /// All that was written before the tag is played.
+    /// All frames written before the drain are played.
     Drained {
         input: InputId,
         tag: u32,
     },
-    /// A stream has left, and is handed over.
+    /// A stream has left the sink, and is handed over.
     Detached {
         input: InputId,
         parcel: P,
@@ -50,7 +50,7 @@ pub enum Notice<P> {
 }
 
 impl<P> Notice<P> {
-    /// The notice with its parcel, if it has one, as `give` gives it. Takes no memory of its own.
+    /// The notice with `give` applied to its parcel, if it has one. Takes no memory of its own.
     pub fn with_parcel<Q, F: FnOnce(P) -> Q>(self, give: F) -> Notice<Q>
         requires { F.IsAlwaysCallable give }
         ensures { IsNoticeWith (F.post give) self result }

@@ -1,4 +1,4 @@
-//! What the core asks of a parcel.
+//! What the core reads of a parcel.
 
 ghost use Rattle.std.specs.Prelude.{◌≡◌};
 ghost use Rattle.px_model.specs.Frame.{SampleSpec};
@@ -6,7 +6,7 @@ ghost use Rattle.px_msg.specs.View.{sample_spec};
 
 use px_sample::Spec;
 
-/// A stream on its way from one sink to another. Of such a stream the core asks its sample spec alone.
+/// A stream on its way from one sink to another. The core reads only its sample spec.
 pub trait Parcel {
     /// The sample spec of what was written to it.
     ghost spec_of: { Self → SampleSpec };

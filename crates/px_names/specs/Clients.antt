@@ -1,4 +1,4 @@
--- The clients in order of connecting: which one a number means, and how one of them changes.
+-- The clients in order of connecting: the client of a number, and the change of one of them.
 use Rattle.std.specs.Prelude.{ℕ, Bool, cond, nat_eq, List, [], ◌∷◌, Option, None, Some}
 use Rattle.std.specs.List.{find}
 use Rattle.px_tag.specs.PropList.{updated}
@@ -23,12 +23,12 @@ client_on clients conn = find (is_on conn) clients
 abbrev pub client_numbered : List Client → ℕ → Option Client
 client_numbered clients index = find (has_index index) clients
 
--- the clients, where the first that is so is changed
+-- the clients, with the first that passes a test changed
 abbrev pub change_first : (Client → Bool) → (Client → Client) → List Client → List Client
 change_first is change [] = []
 change_first is change (c ∷ clients) = cond (is c) (change c ∷ clients) (c ∷ change_first is change clients)
 
--- the clients without the first that is so
+-- the clients without the first that passes a test
 abbrev pub without_first : (Client → Bool) → List Client → List Client
 without_first is [] = []
 without_first is (c ∷ clients) = cond (is c) clients (c ∷ without_first is clients)
@@ -42,7 +42,7 @@ with_list list client = record client { list = list }
 abbrev pub with_update : Mode → List Property → Client → Client
 with_update mode list client = record client { list = updated mode client.list list }
 
--- what a connection hears of; nothing where it has no client
+-- the facilities that a connection subscribes to; none where it has no client
 abbrev pub mask_of : Option Client → ℕ
 mask_of None = 0
 mask_of (Some client) = client.mask

@@ -5,7 +5,7 @@ use Rattle.px_types.specs.declared.ids.InputId.{InputId}
 use Rattle.px_tag.specs.PropList.{Property}
 use Rattle.px_names.specs.declared.input_lists.InputList.{InputList}
 
--- the lists, and how many the table holds without memory
+-- the lists, and the number of lists that the table holds without memory
 pub record RoomyLists : Type 0 where
   pub items : List InputList
   pub places : ℕ
@@ -14,16 +14,16 @@ pub record RoomyLists : Type 0 where
 abbrev pub is_of : InputId → InputList → Bool
 is_of input l = nat_eq l.input.0 input.0
 
--- what a list has; nothing where there is none
+-- the properties of a list; empty where there is none
 abbrev pub properties_of : Option InputList → List Property
 properties_of None = []
 properties_of (Some l) = l.list
 
--- the list of an input, which is empty as long as it has none
+-- the list of an input; empty where it has none
 abbrev pub list_of : List InputList → InputId → List Property
 list_of lists input = properties_of (find (is_of input) lists)
 
--- the lists, where that of an input is this one; a new one stands behind the others
+-- the lists, with that of an input set; a new one comes after the others
 abbrev pub with_list_of : InputId → List Property → List InputList → List InputList
 with_list_of input list [] = record { input = input; list = list } ∷ []
 with_list_of input list (l ∷ lists) = cond (is_of input l) (record l { list = list } ∷ lists) (l ∷ with_list_of input list lists)

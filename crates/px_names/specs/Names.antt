@@ -1,4 +1,4 @@
--- How a packet names a sink, and the names that a server keeps.
+-- The look-up of the sink that a packet names, and the names that a server holds.
 use Rattle.std.specs.Prelude.{ℕ, Bool, cond, nat_eq, nat_lt, List, length, codes, Option, None, Some, Result, Ok, Err}
 use Rattle.std.specs.Cmp.Lexicographic.{pointwise}
 use Rattle.std.specs.List.{position}
@@ -40,11 +40,11 @@ sink_called names name = cond (same_text name DEFAULT_NAME)
     (Ok names.fallback)
     (sink_or_none (position (λ sink. same_text sink name) names.sinks))
 
--- the sink where neither index nor name is given: the default sink where that will do
+-- the sink of a packet that gives neither index nor name: the default sink where `fallback` allows it
 abbrev pub sink_unnamed : Naming → Bool → Result SinkId ErrorCode
 sink_unnamed names fallback = cond fallback (Ok names.fallback) (Err Invalid)
 
--- the sink that a packet names by an index and a name; both at once are refused, as is neither where the default sink won't do
+-- the sink that a packet names by an index and a name; both at once are refused, as is neither where `fallback` is false
 abbrev pub sink_named : Naming → ℕ → Option (List ℕ) → Bool → Result SinkId ErrorCode
 sink_named names index None fallback = cond (nat_eq index NO_INDEX) (sink_unnamed names fallback) (sink_at names index)
 sink_named names index (Some name) fallback = cond (nat_eq index NO_INDEX) (sink_called names name) (Err Invalid)

@@ -1,4 +1,4 @@
--- What the names of a server's sinks always are.
+-- The invariant of the names of a server's sinks.
 use Rattle.std.specs.Prelude.{ℕ, ◌≤◌, List, length}
 
 -- 1 to 16 sinks

@@ -14,9 +14,9 @@ pub struct Client {
     pub conn: ConnId,
     /// The client's index, which no other client ever has.
     pub index: u32,
-    /// The facilities that its connection hears events of (`pa_subscription_mask_t`), a bit each.
+    /// The facilities that its connection subscribes to (`pa_subscription_mask_t`), a bit each.
     pub mask: u32,
-    /// What it says of itself.
+    /// Its property list.
     pub list: PropList,
 }
 

@@ -10,7 +10,7 @@ use px_types::{InputId, Mem};
 use std::alloc::Global;
 use std::marker::Model;
 
-/// What a sink input says of itself (`proplist` of `pa_sink_input`).
+/// The property list of a sink input (`proplist` of `pa_sink_input`).
 #[derive(Drop)]
 pub struct InputList {
     /// The input's index.
@@ -19,7 +19,7 @@ pub struct InputList {
 }
 
 /// The property lists of the sink inputs, in the order in which they were made, each found by its input's index. A contract
-/// sees the lists, and how many the table holds without memory.
+/// sees the lists, and the number of lists that the table holds without memory.
 #[derive(Drop)]
 pub struct InputLists {
     lists: Vec<InputList>,
@@ -42,7 +42,7 @@ fn place_of(lists: &[InputList], input: InputId) -> Option<usize>
     lists.iter().position(|l| l.input.0 == input.0)
 }
 
-// An input's list is this one, where it has one or there is room for one.
+// Sets an input's list, where it has one or there is room for one.
 fn put(lists: &mut Vec<InputList>, input: InputId, list: PropList)
     requires { vec_len lists.old + 1 ≤ vec_capacity lists.old }
     ensures items { lists.new.items ≡ with_list_of input list lists.old.items }
@@ -55,7 +55,7 @@ fn put(lists: &mut Vec<InputList>, input: InputId, list: PropList)
     }
 }
 
-// An input's list is given up.
+// Removes an input's list.
 fn drop_of(lists: &mut Vec<InputList>, input: InputId)
     ensures items { lists.new.items ≡ without_list_of input lists.old.items }
     ensures capacity { vec_capacity lists.new ≡ vec_capacity lists.old }
@@ -66,7 +66,7 @@ fn drop_of(lists: &mut Vec<InputList>, input: InputId)
     }
 }
 
-// One more list.
+// Copies one more list.
 fn add_copy(lists: &mut Vec<InputList>, one: &InputList) -> px_tag::Mem<()>
     ensures { OnOk result (lists.new.items ≡ lists.old.items ++ one.now ∷ []) }
 {
@@ -88,7 +88,7 @@ impl InputLists {
         }
     }
 
-    /// Room for so many more. The lists stay.
+    /// Reserves room for `more` further lists. The lists stay.
     pub fn reserve(&mut self, more: usize) -> Mem<()>
         ensures items { self.new.items ≡ self.old.items }
         ensures places { OnOk result (length self.new.items + more ≤ self.new.places) }
@@ -104,7 +104,7 @@ impl InputLists {
         self.lists.iter().find(|l| l.input.0 == input.0)
     }
 
-    /// The list of an input once more; empty where it has none.
+    /// A copy of an input's list; empty where it has none.
     pub fn copy_of(&self, input: InputId) -> px_tag::Mem<PropList>
         ensures { IfOk result (λ list. list ≡ list_of self.now.items input) }
     {
@@ -114,7 +114,7 @@ impl InputLists {
         }
     }
 
-    /// The same lists once more.
+    /// A copy of all lists.
     pub fn copy(&self) -> px_tag::Mem<InputLists>
         ensures { IfOk result (λ made. made.items ≡ self.now.items) }
     {
@@ -128,7 +128,7 @@ impl InputLists {
         })
     }
 
-    /// The list of an input is this one, in the place of the one that it has, else behind the others. Takes no memory.
+    /// Sets an input's list, in the place of its present one, else after the others. Takes no memory.
     pub fn set(&mut self, input: InputId, list: PropList)
         requires { length self.old.items + 1 ≤ self.old.places }
         ensures items { self.new.items ≡ with_list_of input list self.old.items }
@@ -138,7 +138,7 @@ impl InputLists {
         put(&mut self.lists, input, list);
     }
 
-    /// The list of an input is given up. Takes no memory.
+    /// Removes an input's list. Takes no memory.
     pub fn remove(&mut self, input: InputId)
         ensures items { self.new.items ≡ without_list_of input self.old.items }
         ensures len { length self.new.items ≤ length self.old.items }

@@ -1,5 +1,5 @@
-//! The names that a server keeps: its cookie, its sinks and its clients. `sinks` has the sinks' names, `client`
-//! a client with its mask and property list, and `names` all of them, and how a packet names a sink. Beside them
+//! The names that a server holds: its cookie, its sinks and its clients. `sinks` has the sinks' names, `client` a client
+//! with its mask and property list, and `names` all of them, and the look-up of the sink that a packet names. Beside them
 //! `input_lists` has the property lists of sink inputs.
 #![tactic(auto)]
 

@@ -16,7 +16,7 @@ use std::marker::Model;
 /// The name that always names the default sink (`pulse/def.h`).
 pub const DEFAULT_NAME: &[u8] = b"@DEFAULT_SINK@";
 
-/// The names that a server keeps: its cookie, its sinks' names with the default sink, and its clients in order of
+/// The names that a server holds: its cookie, its sinks' names with the default sink, and its clients in order of
 /// connecting. A contract sees them as a record of these four.
 #[derive(Drop)]
 pub struct Names {
@@ -89,7 +89,7 @@ impl Names {
         }
     }
 
-    // The sink where none is named.
+    // The sink of a packet that names none.
     fn sink_unnamed(&self, fallback: bool) -> Result<SinkId, ErrorCode>
         ensures { result ≡ sink_unnamed self.now fallback }
     {
@@ -100,10 +100,10 @@ impl Names {
         }
     }
 
-    /// The sink that a packet names by an index, where that isn't `NO_INDEX`, or by a name, where there is one;
-    /// the name `DEFAULT_NAME` is the default sink's, and so is neither where `fallback` is set. `Invalid` exactly
-    /// where both are given, or neither and `fallback` isn't set; else `NoEntity` exactly where no sink has the
-    /// index or the name. Takes no memory. Source: `pulsecore/protocol-native.c`; own: that both are refused.
+    /// The sink that a packet names by an index, where that isn't `NO_INDEX`, or by a name, where there is one; the name
+    /// `DEFAULT_NAME`, and neither where `fallback` is set, mean the default sink. `Invalid` exactly where both are given,
+    /// or neither and `fallback` isn't set; else `NoEntity` exactly where no sink has the index or the name. Takes no
+    /// memory. Source: `pulsecore/protocol-native.c`; own: that both are refused.
     pub fn sink(&self, index: u32, name: Option<&[u8]>, fallback: bool) -> Result<SinkId, ErrorCode>
         ensures { result ≡ sink_named self.now index (option_map (λ text. text.now) name.entry) fallback }
     {
@@ -123,7 +123,7 @@ impl Names {
         self.fallback
     }
 
-    /// Makes a sink that is there the default one. Takes no memory.
+    /// Makes an existing sink the default one. Takes no memory.
     pub fn set_default(&mut self, sink: SinkId)
         requires { sink.0 < length self.old.sinks }
         ensures { self.new ≡ record self.old { fallback = sink } }
@@ -159,7 +159,7 @@ impl Names {
         self.clients.iter().find(|client| client.index == index)
     }
 
-    /// The facilities that a connection hears events of, a bit each; 0 where it has no client. Takes no memory.
+    /// The facilities that a connection subscribes to, a bit each; 0 where it has no client. Takes no memory.
     pub fn mask(&self, conn: ConnId) -> u32
         ensures { result ≡ mask_of (client_on self.now.clients conn) }
     {
@@ -169,16 +169,16 @@ impl Names {
         }
     }
 
-    /// Sets the facilities that a connection hears events of. Takes no memory.
+    /// Sets the facilities that a connection subscribes to. Takes no memory.
     pub fn set_mask(&mut self, conn: ConnId, mask: u32)
         ensures { self.new ≡ record self.old { clients = change_first (is_on conn) (with_mask mask) self.old.clients } }
     {
         set_mask(&mut self.clients, conn, mask);
     }
 
-    /// Adds the client of a connection, with an index of its own, no facility and an empty property list. It is for the caller to
-    /// see that no other client has the connection or the index: the look-ups find the first that has. Where memory runs out,
-    /// nothing has changed.
+    /// Adds the client of a connection, with an index of its own, no facility and an empty property list. The caller has to
+    /// see that no other client has the connection or the index: the look-ups find the first that has. Where memory runs
+    /// out, nothing has changed.
     pub fn admit(&mut self, conn: ConnId, index: u32) -> Mem<()>
         ensures admitted { OnOk result (self.new ≡ record self.old { clients = self.old.clients ++ new_client conn index ∷ [] }) }
         ensures unchanged { OnErr result (self.new ≡ self.old) }

@@ -55,7 +55,7 @@ impl SinkNames {
         self.names.iter().position(|sink| sink.as_slice() == name)
     }
 
-    /// The same names once more.
+    /// A copy of the names.
     pub fn copy(&self, alloc: Global) -> Mem<SinkNames>
         ensures { IfOk result (λ made. made ≡ self.now) }
     {

@@ -1,4 +1,4 @@
--- A command's handler: a chain of checks, of which the first that fails refuses it with its code, and behind them what it gives.
+-- A command's handler: a chain of checks, of which the first that fails refuses it with its code, and after them the outcome.
 use Rattle.std.specs.Prelude.{◌≡◌, Bool, true, false, Option, None, Some, Result, Ok, Err}
 use Rattle.px_types.specs.declared.error_code.ErrorCode.{ErrorCode}
 use Rattle.px_outcome.specs.declared.refusal.Refusal.{Refusal}
@@ -12,17 +12,17 @@ abbrev pub ◌>>=◌ : {A B : Type 0} → Handled A → (A → Handled B) → Ha
 (Ok x) >>= f = f x
 (Err refusal) >>= f = Err refusal
 
--- what must hold
+-- a required condition
 abbrev pub check : Bool → ErrorCode → Handled (Unit {0})
 check true code = Ok tt
 check false code = Err (Code code)
 
--- what must be there
+-- a value that must be there
 abbrev pub present : {A : Type 0} → Option A → ErrorCode → Handled A
 present (Some x) code = Ok x
 present None code = Err (Code code)
 
--- A call answered what the handler gives, or refused it so; of want of memory nothing is said.
+-- A call returned what the handler gives, or the handler's refusal; NoMemory is always allowed.
 abbrev pub HandledAs : {A : Type 0} → Result A Refusal → Handled A → Type 0
 HandledAs (Ok x) handled = handled ≡ Ok x
 HandledAs (Err (Code code)) handled = handled ≡ Err (Code code)

@@ -25,27 +25,27 @@ is_leaving Settled = false
 is_leaving (Moving to) = false
 is_leaving Leaving = true
 
--- it goes on: it hasn't ended
+-- live: it hasn't ended
 abbrev pub goes_on : Input → Bool
 goes_on x = not (is_leaving x.standing)
 
--- it is on its way to another sink
+-- it is moving to another sink
 abbrev pub is_moving : Standing → Bool
 is_moving Settled = false
 is_moving (Moving to) = true
 is_moving Leaving = false
 
--- the sink that an input on this one belongs to is the sink
+-- an input on `on` belongs to `sink`
 abbrev pub belongs_to : SinkId → SinkId → Standing → Bool
 belongs_to sink on Settled = nat_eq on.0 sink.0
 belongs_to sink on (Moving to) = nat_eq to.0 sink.0
 belongs_to sink on Leaving = false
 
--- it is bound for the sink: settled there, or on its way there
+-- bound for the sink: settled there, or moving there
 abbrev pub is_bound_for : SinkId → Input → Bool
 is_bound_for sink x = belongs_to sink x.sink x.standing
 
--- it is on the sink and belongs there
+-- it is on the sink and settled there
 abbrev pub stays_on : SinkId → SinkId → Standing → Bool
 stays_on sink on Settled = nat_eq on.0 sink.0
 stays_on sink on (Moving to) = false
@@ -63,7 +63,7 @@ has_index index x = nat_eq x.index.0 index.0
 abbrev pub input_of : List Input → InputId → Option Input
 input_of inputs index = find (has_index index) inputs
 
--- and where it goes on: one that has ended isn't there for a command
+-- the input where it is live: for a command one that has ended doesn't exist
 abbrev pub going : Option Input → Option Input
 going None = None
 going (Some x) = cond (goes_on x) (Some x) None
@@ -71,7 +71,7 @@ going (Some x) = cond (goes_on x) (Some x) None
 abbrev pub input_named : List Input → ℕ → Option Input
 input_named inputs index = going (input_of inputs (record { 0 = index }))
 
--- it is that stream of the connection, and goes on
+-- it is stream `stream` of the connection, and live
 abbrev pub is_stream : ConnId → ℕ → Input → Bool
 is_stream conn stream x = nat_eq x.conn.0 conn.0 && nat_eq x.stream stream && goes_on x
 
@@ -79,11 +79,11 @@ is_stream conn stream x = nat_eq x.conn.0 conn.0 && nat_eq x.stream stream && go
 abbrev pub stream_of : List Input → ConnId → ℕ → Option Input
 stream_of inputs conn stream = find (is_stream conn stream) inputs
 
--- it is the connection's, and goes on
+-- it is the connection's, and live
 abbrev pub is_from : ConnId → Input → Bool
 is_from conn x = nat_eq x.conn.0 conn.0 && goes_on x
 
--- ---- those that are settled on a sink, those that are bound for it, and all that go on
+-- ---- the inputs settled on a sink, those bound for it, and all live ones
 
 abbrev pub settled_on : List Input → SinkId → List Input
 settled_on inputs sink = filter (is_settled sink) inputs

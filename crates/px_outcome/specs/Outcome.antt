@@ -1,4 +1,4 @@
--- The outcome of a step: what it changes and tells.
+-- The outcome of a step: its changes and its packets to clients.
 use Rattle.std.specs.Prelude.{ℕ, List, [], ◌∷◌, Option, None, Some}
 use Rattle.px_types.specs.declared.ids.ConnId.{ConnId}
 use Rattle.px_outcome.specs.declared.change.Change.{Change}
@@ -14,26 +14,26 @@ reason_code Killed = 3
 reason_code Cut = 4
 
 pub record OutcomeParts (M G : Type 0) : Type 0 where
-  -- what the connection is sent that asked
+  -- the reply to the connection that made the request
   pub reply : Option (List ℕ)
-  -- the errors for tags that wait
+  -- the errors for waiting requests
   pub errors : List Sending
-  -- the messages to clients
+  -- the packets to clients
   pub notified : List Sending
   pub changes : List (Change M G)
 
--- nothing changes, and nothing is told
+-- no changes and no packets
 abbrev pub idle : {M G : Type 0} → OutcomeParts M G
 idle = record { reply = None; errors = []; notified = []; changes = [] }
 
--- changes are made, and a packet goes to who asked
+-- changes, and `packet` as the reply
 abbrev pub replied : {M G : Type 0} → List ℕ → List (Change M G) → OutcomeParts M G
 replied packet changes = record { reply = Some packet; errors = []; notified = []; changes = changes }
 
--- changes are made, and nothing is told
+-- changes and no packets
 abbrev pub changing : {M G : Type 0} → List (Change M G) → OutcomeParts M G
 changing changes = record { reply = None; errors = []; notified = []; changes = changes }
 
--- a packet goes to a connection, and nothing changes
+-- no changes; `packet` goes to a connection
 abbrev pub notifying : {M G : Type 0} → ConnId → List ℕ → OutcomeParts M G
 notifying conn packet = record { reply = None; errors = []; notified = record { conn = conn; packet = packet } ∷ []; changes = [] }

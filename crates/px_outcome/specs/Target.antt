@@ -13,13 +13,13 @@ is_clear Unclear = false
 is_clear Unknown = true
 is_clear (Sink target) = true
 
--- the sink, where it is there
+-- the sink, where it exists
 abbrev pub target_of : Named → Option Target
 target_of Unclear = None
 target_of Unknown = None
 target_of (Sink target) = Some target
 
--- a sink that can be: a name without a zero byte, a channel and a rate, and a position for each channel
+-- a valid sink: a name without a zero byte, 1 to 32 channels, a rate, and a position for each channel
 pub record IsTarget (target : Target) : Type 0 where
   pub name : IsTrue (is_text target.name)
   pub some : 1 ≤ target.spec.channels
@@ -27,12 +27,12 @@ pub record IsTarget (target : Target) : Type 0 where
   pub rate : 1 ≤ target.spec.rate
   pub map_size : length target.map ≡ target.spec.channels
 
--- what is named can be, where it is there
+-- the named sink, where it exists, is valid
 abbrev pub IsNamed : Named → Type 0
 IsNamed Unclear = Unit {0}
 IsNamed Unknown = Unit {0}
 IsNamed (Sink target) = IsTarget target
 
--- a sample spec as packets have it
+-- a sample spec in the form that packets carry
 abbrev pub raw_of : Spec → RawSpec
 raw_of spec = record { format = code_of spec.format; channels = spec.channels; rate = spec.rate }

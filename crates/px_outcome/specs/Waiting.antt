@@ -1,4 +1,4 @@
--- Requests that were taken and are answered later, each under its tag, in the order in which they were asked.
+-- Accepted requests that are answered later, each under its tag, in the order of the requests.
 use Rattle.std.specs.Prelude.{ℕ, Bool, true, false, not, cond, ◌&&◌, nat_eq, List, filter, Option}
 use Rattle.std.specs.List.{find}
 use Rattle.px_types.specs.declared.ids.InputId.{InputId}
@@ -6,34 +6,34 @@ use Rattle.px_outcome.specs.declared.waiting.Awaited.{Awaited}
 use Rattle.px_outcome.specs.declared.waiting.Awaited.TheVariants.{Drained, Latency}
 use Rattle.px_outcome.specs.declared.waiting.Waiting.{Waiting}
 
--- it asks that a stream be drained, and not how far it is
+-- a DRAIN, not a latency request
 abbrev pub is_drain : Awaited → Bool
 is_drain Drained = true
 is_drain (Latency time) = false
 
--- it asks about an input, under a tag
+-- a request about `input` under `tag`
 abbrev pub is_under : InputId → ℕ → Waiting → Bool
 is_under input tag w = nat_eq w.input.0 input.0 && nat_eq w.tag tag
 
--- a drain of an input under a tag, and a question of one
+-- a DRAIN of `input` under `tag`, and a latency request of it
 abbrev pub is_drain_under : InputId → ℕ → Waiting → Bool
 is_drain_under input tag w = is_under input tag w && is_drain w.awaited
 
 abbrev pub is_question_under : InputId → ℕ → Waiting → Bool
 is_question_under input tag w = is_under input tag w && not (is_drain w.awaited)
 
--- the first of each that waits
+-- the first waiting request of each
 abbrev pub drain_under : List Waiting → InputId → ℕ → Option Waiting
 drain_under waiting input tag = find (is_drain_under input tag) waiting
 
 abbrev pub question_under : List Waiting → InputId → ℕ → Option Waiting
 question_under waiting input tag = find (is_question_under input tag) waiting
 
--- one is as the other: of the same input, under the same tag, and asking for the same
+-- two requests are equal: same input, same tag, same kind
 abbrev pub is_as : Waiting → Waiting → Bool
 is_as w = cond (is_drain w.awaited) (is_drain_under w.input w.tag) (is_question_under w.input w.tag)
 
--- what waits of an input, and what waits of others
+-- the waiting requests of an input, and those of other inputs
 abbrev pub asks_about : InputId → Waiting → Bool
 asks_about input w = nat_eq w.input.0 input.0
 

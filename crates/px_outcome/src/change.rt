@@ -1,4 +1,4 @@
-//! The changes of the server's state, of which every step is a list.
+//! The changes of the server's state; every step is a list of them.
 
 use crate::input::Input;
 use crate::sending::Reason;
@@ -6,55 +6,55 @@ use crate::waiting::Waiting;
 use px_tag::PropList;
 use px_types::{ConnId, InputId, SinkId};
 
-/// One change of the server's state, together with the message that it tells a sink, if it tells one. `M` is the type of
-/// a message to a sink, `G` that of a sink's group of volumes.
+/// One change of the server's state, together with the message that it posts to a sink, if any. `M` is the type of a message
+/// to a sink, `G` that of a sink's group of volumes.
 #[derive(Drop)]
 pub enum Change<M, G> {
-    /// A connection has shown the server's cookie, and agreed on a version.
+    /// A connection has presented the server's cookie, and agreed on a version.
     Authed(ConnId, u16),
-    /// The property list of a connection's client is this one.
+    /// Sets the property list of a connection's client.
     Named(ConnId, PropList),
-    /// A connection's client hears of these facilities, a bit each.
+    /// Sets the facilities that a connection's client subscribes to, a bit each.
     Masked(ConnId, u32),
-    /// This is the default sink.
+    /// Sets the default sink.
     Defaulted(SinkId),
-    /// A connection has a new input, and these are the numbers of its next stream and of the next input. Its sink is told
-    /// `new`.
+    /// A connection has a new input; sets the numbers of its next stream and of the next input. `new` is posted to its sink.
     Made {
         input: Input,
         new: M,
         streams: u32,
         inputs: u32,
     },
-    /// The property list of an input is this one.
+    /// Sets the property list of an input.
     Described(InputId, PropList),
-    /// An input has ended. Where it was settled its sink is to give up its stream. What waited of it waits no more.
+    /// An input has ended. Where it was settled its sink is to detach its stream. Its waiting requests and held messages are
+    /// dropped.
     Leaves(InputId),
-    /// A settled input is to be on this sink. The one that it is on is to give up its stream.
+    /// A settled input is to move to this sink. The one that it is on is to detach its stream.
     Moves(InputId, SinkId),
-    /// The sink that an input moves to is to have its stream, and is told this. The input is settled there.
+    /// The sink that an input moves to is to have its stream: this message is posted to it. The input is settled there.
     Arrives(InputId, M),
-    /// The first message of an input that waited while it moved waits for the sink that it is on.
+    /// The oldest message held for an input while it moved is queued for the sink that it is on.
     Released(InputId),
-    /// An input's sink is told this, once the input has arrived where it moves. Where it is told new buffer attributes, they are
-    /// the input's.
+    /// Posts this message to an input's sink, after the input has arrived where it moves. Buffer attributes in it become the
+    /// input's.
     Posted(InputId, M),
-    /// A sink has this group, and is told the factors that it gives.
+    /// Sets a sink's group, and posts the factors that it gives to the sink.
     Regrouped(SinkId, G, M),
-    /// A request is answered later.
+    /// A request waits: it is answered later.
     Asked(Waiting),
-    /// A request that waited is answered now: the first that is as this one waits no more.
+    /// A waiting request is answered now: the first that equals this one is removed.
     Answered(Waiting),
-    /// An ended input and its property list are given up.
+    /// An ended input and its property list are removed.
     Gone(InputId),
-    /// A connection that goes on has ended: by the server for a reason, or by the client. Where the reason is a rule of
-    /// the protocol, `fault` is the rule's number and `at` the offset in the connection's bytes; else both are 0.
+    /// A live connection has ended: by the server for a reason, or by the client. Where the reason is a rule of the
+    /// protocol, `fault` is the rule's number and `at` the offset in the connection's bytes; else both are 0.
     Ended {
         conn: ConnId,
         reason: Option<Reason>,
         fault: u8,
         at: u64,
     },
-    /// An ended connection and its client are given up.
+    /// An ended connection and its client are removed.
     Forgotten(ConnId),
 }

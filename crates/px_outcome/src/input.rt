@@ -1,11 +1,11 @@
-//! What the server keeps of a connection and of a sink input.
+//! The server's records of a connection and of a sink input.
 
 use px_chmap::Map;
 use px_model::Attr;
 use px_sample::Spec;
 use px_types::{ConnId, InputId, SinkId};
 
-/// A connection that is there (`pa_native_connection`).
+/// A connection in the server's table (`pa_native_connection`).
 #[derive(Clone, Copy, Debug, Drop)]
 pub struct Connection {
     /// Its number.
@@ -14,20 +14,20 @@ pub struct Connection {
     pub client: u32,
     /// The protocol version that it agreed on; `None` before a successful AUTH.
     pub version: Option<u16>,
-    /// The number of its next stream.
+    /// The number that its next stream gets.
     pub streams: u32,
-    /// Whether it has ended, and waits to be swept away.
+    /// Whether it has ended, and waits to be removed.
     pub marked: bool,
 }
 
-/// Where the stream of an input is on its way to a sink and from it.
+/// Where an input's stream is between the server and the sink.
 #[derive(Clone, Copy, Debug, PartialEq, Eq)]
 pub enum Way {
-    /// The message that brings it waits for the sink.
+    /// The message that brings it still waits in the sink's queue.
     Coming,
-    /// The sink has it.
+    /// The sink holds it.
     There,
-    /// The message that takes it away was handed out to the sink.
+    /// The message that takes it away was handed to the sink.
     Left,
 }
 
@@ -37,9 +37,9 @@ pub enum Way {
 pub enum Standing {
     /// To the sink that it is on.
     Settled,
-    /// To this sink, once the sink that it is on has given up its stream.
+    /// To this sink, once the sink that it is on has detached its stream.
     Moving(SinkId),
-    /// To none: it has ended, and is only there until its sink has given up its stream.
+    /// To none: it has ended, and stays only until its sink has detached its stream.
     Leaving,
 }
 
@@ -54,11 +54,11 @@ pub struct Input {
     pub stream: u32,
     /// The sink that it is on.
     pub sink: SinkId,
-    /// The sample spec of what is written to it, and a speaker position for each of its channels.
+    /// The sample spec of the data written to it, and a speaker position for each of its channels.
     pub spec: Spec,
     pub map: Map,
-    /// Whether it may not move, whether its channels go by their index alone, and whether one channel may not feed several
-    /// (`PA_STREAM_DONT_MOVE`, `NO_REMAP_CHANNELS`, `NO_REMIX_CHANNELS` of `pulse/def.h`).
+    /// Whether it may not move, whether its channels are matched by index alone, and whether one channel may not feed
+    /// several (`PA_STREAM_DONT_MOVE`, `NO_REMAP_CHANNELS`, `NO_REMIX_CHANNELS` of `pulse/def.h`).
     pub no_move: bool,
     pub no_remap: bool,
     pub no_remix: bool,

@@ -1,5 +1,6 @@
-//! The outcome of a command: the changes of the server's state and what is told, or why it is refused. It exports the parts of
-//! the state that a command reads, the `Change`s, a `StepOutcome` of them, and the checks that a command is a chain of.
+//! The outcome of a command: the changes of the server's state and the packets to clients, or why it is refused. It exports
+//! the parts of the state that a command reads, the `Change`s, a `StepOutcome` of them, and the checks that a command is a
+//! chain of.
 #![tactic(auto)]
 
 mod change;

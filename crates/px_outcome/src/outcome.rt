@@ -10,14 +10,14 @@ use px_types::{ConnId, Mem};
 use std::alloc::Global;
 use std::marker::Model;
 
-/// What a step changes and tells. Nothing has changed yet: the changes are made once there is room for all of them.
+/// The changes and packets of a step. Nothing has changed yet: the changes are made once there is room for all of them.
 #[derive(Drop)]
 pub struct StepOutcome<M, G> {
-    /// What the connection is sent that asked, not framed yet.
+    /// The reply to the connection that made the request, not framed yet.
     pub reply: Option<Packet>,
-    /// The errors for tags that wait, in the order in which they were asked.
+    /// The errors for waiting requests, in the order of the requests.
     pub errors: Vec<Sending>,
-    /// The messages to clients.
+    /// The other packets to clients.
     pub notified: Vec<Sending>,
     /// The changes, in order.
     pub changes: Vec<Change<M, G>>,
@@ -32,14 +32,14 @@ impl<M, G> Model for StepOutcome<M, G> {
 }
 
 impl<M, G> StepOutcome<M, G> {
-    /// Nothing changes, and nothing is told. Takes no memory.
+    /// No changes and no packets. Takes no memory.
     pub fn idle(alloc: Global) -> StepOutcome<M, G>
         ensures { result ≡ idle }
     {
         StepOutcome::changing(alloc, Vec::new(alloc))
     }
 
-    /// These changes are made, and nothing is told. Takes no memory.
+    /// These changes and no packets. Takes no memory.
     pub fn changing(alloc: Global, changes: Vec<Change<M, G>>) -> StepOutcome<M, G>
         ensures { result ≡ changing changes.items }
     {
@@ -51,7 +51,7 @@ impl<M, G> StepOutcome<M, G> {
         }
     }
 
-    /// These changes are made, and a packet goes to who asked. Takes no memory.
+    /// These changes, and `packet` as the reply. Takes no memory.
     pub fn replied(alloc: Global, packet: Packet, changes: Vec<Change<M, G>>) -> StepOutcome<M, G>
         ensures { result ≡ replied packet changes.items }
     {
@@ -65,7 +65,7 @@ impl<M, G> StepOutcome<M, G> {
 }
 
 impl<M: Drop, G: Drop> StepOutcome<M, G> {
-    /// A packet goes to a connection, and nothing changes.
+    /// No changes; `packet` goes to the connection `conn`.
     pub fn notifying(alloc: Global, conn: ConnId, packet: Packet) -> Mem<StepOutcome<M, G>>
         ensures { IfOk result (λ outcome. outcome ≡ notifying conn packet) }
     {

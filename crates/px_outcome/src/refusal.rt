@@ -1,4 +1,4 @@
-//! The checks of a command: each refuses it with a code of its own, or lets it go on.
+//! The checks of a command: each refuses it with its own error code, or passes.
 
 ghost use Rattle.std.specs.Prelude.{◌≡◌};
 ghost use Rattle.px_outcome.specs.declared.refusal.Refusal.TheVariants.{NoMemory as OutOfMemory};
@@ -48,7 +48,7 @@ impl<T: Drop> From<AllocFailed<T>> for Refusal {
     }
 }
 
-/// Goes on where the condition holds, else refuses with the code. Takes no memory.
+/// Passes where `holds`, else refuses with `code`. Takes no memory.
 pub fn check(holds: bool, code: ErrorCode) -> Result<(), Refusal>
     ensures { result ≡ check holds code }
 {
@@ -59,7 +59,7 @@ pub fn check(holds: bool, code: ErrorCode) -> Result<(), Refusal>
     }
 }
 
-/// The value where it is there, else refuses with the code. Takes no memory.
+/// The value where there is one, else refuses with `code`. Takes no memory.
 pub fn present<A>(value: Option<A>, code: ErrorCode) -> Result<A, Refusal>
     ensures { result ≡ present value code }
 {

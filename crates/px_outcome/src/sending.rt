@@ -1,4 +1,4 @@
-//! What is told, and why a connection is ended.
+//! Packets to send to clients, and why the server ends a connection.
 
 ghost use Rattle.std.specs.Prelude.{◌≡◌};
 ghost use Rattle.px_outcome.specs.Outcome.{reason_code};

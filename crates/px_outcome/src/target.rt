@@ -18,11 +18,11 @@ pub struct Target {
     pub spec: Spec,
     /// A speaker position for each of its channels.
     pub map: Map,
-    /// How many frames may be filled past the consumed ones.
+    /// The sink's depth: the most frames that are filled past the consumed ones.
     pub depth: u32,
 }
 
-/// What a command's index and name of a sink mean together.
+/// What a command's sink index and sink name mean together.
 #[derive(Debug, Drop)]
 pub enum Named {
     /// Nothing: both are given, or neither where one is needed.
@@ -34,14 +34,14 @@ pub enum Named {
 }
 
 impl Named {
-    /// Whether they name one sink, be it there or not. Takes no memory.
+    /// Whether index and name select one sink, existing or not. Takes no memory.
     pub fn is_clear(&self) -> bool
         ensures { result ≡ is_clear self.now }
     {
         !matches!(self, Named::Unclear)
     }
 
-    /// The sink that is named, where it is there. Takes no memory.
+    /// The sink that is named; `None` where it doesn't exist. Takes no memory.
     pub fn target(self) -> Option<Target>
         ensures { result ≡ target_of self }
     {
@@ -52,7 +52,7 @@ impl Named {
     }
 }
 
-/// A sample spec as packets have it. Takes no memory.
+/// The sample spec in the form that packets carry. Takes no memory.
 pub fn raw_of(spec: &Spec) -> RawSpec
     ensures { result ≡ raw_of spec.now }
 {

@@ -1,18 +1,18 @@
-//! What clients wait for.
+//! Requests answered later.
 
 use px_tag::TimeVal;
 use px_types::InputId;
 
-/// What a sink is to tell of a stream, so that a request is answered.
+/// The notice from a stream's sink by which a request is answered.
 #[derive(Clone, Copy, Debug)]
 pub enum Awaited {
-    /// That all of it was played (DRAIN_PLAYBACK_STREAM).
+    /// All of the stream was played (DRAIN_PLAYBACK_STREAM).
     Drained,
-    /// How far it is (GET_PLAYBACK_LATENCY); with the time that the client gave, which it is told again.
+    /// The stream's indices (GET_PLAYBACK_LATENCY); with the time that the client gave, which the reply repeats.
     Latency(TimeVal),
 }
 
-/// A request that was taken, and is answered under its tag once the stream's sink has told what it asks for.
+/// An accepted request, which is answered under its tag once the notice of the stream's sink has come.
 #[derive(Clone, Copy, Debug)]
 pub struct Waiting {
     /// The input of the stream that it asks about; the client is the input's.

@@ -5,7 +5,7 @@ use Rattle.px_types.specs.Faults.{next_count}
 use Rattle.px_ends.specs.declared.device.DeviceShape.{DeviceShape}
 use Rattle.px_ends.specs.Device.{DeviceState}
 
--- with the sink that its bytes go to, and its clock
+-- its state, with the sink that its bytes go to, and its clock
 pub record Paced (K C : Type 0) : Type 0 where
   -- the bytes of a frame, frames a second, guard and depth
   pub frame : ℕ
@@ -15,13 +15,13 @@ pub record Paced (K C : Type 0) : Type 0 where
   -- frames consumed, and frames put
   pub consumed : ℕ
   pub filled : ℕ
-  -- frames that were due and weren't there
+  -- frames that were due but not in the buffer
   pub skipped : ℕ
   -- the moment of the first sync, in microseconds
   pub began : Option ℕ
-  -- the bytes of the frames from consumed to filled
+  -- the bytes of the frames from `consumed` to `filled`
   pub buffer : List ℕ
-  -- how many syncs failed, and whether one did: then all later ones do
+  -- the number of failed syncs, and whether there was one: then all later ones fail
   pub faults : ℕ
   pub failed : Bool
   pub out : K
@@ -29,7 +29,7 @@ pub record Paced (K C : Type 0) : Type 0 where
 
 -- ---- frames that are due
 
--- the whole frames of so many microseconds
+-- the whole frames in `microseconds`, at `rate` frames a second
 abbrev pub frames_of : ℕ → ℕ → ℕ
 frames_of rate microseconds = microseconds * rate / 1000000
 
@@ -52,7 +52,7 @@ module _ {K C : Type 0} where
     clock = clock;
   }
 
-  -- it tells its numbers, and none of its bytes
+  -- contracts see its numbers, and none of its bytes
   abbrev pub state_of : Paced K C → DeviceState
   state_of d = record {
     frame = d.frame;
@@ -71,7 +71,7 @@ module _ {K C : Type 0} where
   abbrev pub due_at : ℕ → Paced K C → ℕ
   due_at moment d = frames_of d.rate (moment - unwrap_or d.began moment) - d.skipped - d.consumed
 
-  -- the frames that a sync consumes then: those due, or all that wait where these are fewer
+  -- the frames that a sync consumes at that moment: those due, or all in the buffer where these are fewer
   abbrev pub consumed_at : ℕ → Paced K C → ℕ
   consumed_at moment d = min (due_at moment d) (d.filled - d.consumed)
 
@@ -79,7 +79,7 @@ module _ {K C : Type 0} where
   abbrev pub bytes_at : ℕ → Paced K C → List ℕ
   bytes_at moment d = take (consumed_at moment d * d.frame) d.buffer
 
-  -- after a sync at a moment, with its sink and its clock as they are then: what is due and isn't there is skipped
+  -- after a sync at a moment, with its sink and its clock after it: what is due and not in the buffer is skipped
   abbrev pub synced : ℕ → K → C → Paced K C → Paced K C
   synced moment out clock d = record d {
     consumed = d.consumed + consumed_at moment d;
@@ -90,7 +90,7 @@ module _ {K C : Type 0} where
     clock = clock;
   }
 
-  -- once its time runs: it has begun at this moment, where it hadn't before
+  -- once its clock runs: it has begun at this moment, unless it had before
   abbrev pub begun_at : ℕ → K → C → Paced K C → Paced K C
   begun_at moment out clock d = record d { began = Some (unwrap_or d.began moment); out = out; clock = clock }
 
@@ -104,11 +104,11 @@ module _ {K C : Type 0} where
     clock = clock;
   }
 
-  -- after a sync behind one that failed
+  -- after a sync that follows a failed one
   abbrev pub fails_again : Paced K C → Paced K C
   fails_again d = record d { faults = next_count d.faults }
 
-  -- after frames were put from this one on
+  -- after frames were put at `from`
   abbrev pub after_put : ℕ → List ℕ → Paced K C → Paced K C
   after_put at bytes d = record d {
     filled = at + length bytes / d.frame;

@@ -14,8 +14,8 @@ use px_types::{Mem, NoMemory};
 use std::alloc::Global;
 use std::marker::Model;
 
-/// A device that consumes frames as its clock says and writes their bytes to a sink. A frame that is due and isn't there is skipped:
-/// silence, which isn't written. Own.
+/// A device that consumes frames as its clock says and writes their bytes to a sink. A frame that is due but not in the buffer is skipped: silence,
+/// which isn't written. Own.
 #[derive(Drop)]
 pub struct PacedSink<K, C> {
     frame: u32,
@@ -73,8 +73,8 @@ fn due(rate: u32, microseconds: u64, skipped: u64, consumed: u64) -> u64
 }
 
 impl<K: Sink + Drop, C: Clock + Drop> PacedSink<K, C> {
-    /// A device of this shape over a sink and a clock, that has consumed nothing, with nothing put. Its time begins with its first
-    /// sync. Takes the room of its buffer.
+    /// A device of this shape over a sink and a clock, with nothing consumed and nothing put. Its time begins with its first sync. Takes the room of
+    /// its buffer.
     pub fn new(alloc: Global, shape: &DeviceShape, out: K, clock: C) -> Mem<PacedSink<K, C>>
         requires { IsShape shape.now }
         ensures { IfOk result (λ d. d ≡ new_paced shape.now out clock) }
@@ -97,14 +97,14 @@ impl<K: Sink + Drop, C: Clock + Drop> PacedSink<K, C> {
         })
     }
 
-    /// How many frames were due and weren't there.
+    /// The number of frames that were due but not in the buffer.
     pub fn skipped(&self) -> u64
         ensures { result ≡ self.now.skipped }
     {
         self.skipped
     }
 
-    /// How many of its syncs failed.
+    /// The number of its failed syncs.
     pub fn faults(&self) -> u64
         ensures { result ≡ self.now.faults }
     {
@@ -120,8 +120,8 @@ impl<K: Sink + Drop, C: Clock + Drop> PacedSink<K, C> {
 }
 
 impl<K: Sink, C: Clock> PacedSink<K, C> {
-    // Consumes what is due by the moment that its clock tells, as far as it is there, and skips the rest of it. Where the write of its
-    // bytes fails, it has begun, and nothing else has changed.
+    // Consumes what is due by the clock's latest moment, as far as it is in the buffer, and skips the rest of it. Where the write of its bytes fails,
+    // it has begun, and nothing else has changed.
     fn play_due(&mut self) -> Result<(), WriteFailed>
         ensures after { OnOk result (self.new ≡ synced (C.latest self.new.clock) self.new.out self.new.clock self.old) }
         ensures out { OnOk result (K.held self.new.out ≡ after_adding (K.held self.old.out) (bytes_at (C.latest self.new.clock) self.old)) }
@@ -156,7 +156,7 @@ impl<K: Sink, C: Clock> Device for PacedSink<K, C> {
         ensures ok { IfOk result (λ consumed. Plays consumed (state_of self.old) (state_of self.new)) }
         ensures err { OnErr result (Fails (state_of self.old) (state_of self.new)) }
         ensures full { HoldsFrames (state_of self.old) × HoldsFrames (state_of self.new) }
-        // What is due by the moment that its clock tells is consumed, as far as it is there, and the rest of it is skipped.
+        // What is due by the clock's latest moment is consumed, as far as it is in the buffer, and the rest of it is skipped.
         ensures after { OnOk result (self.new ≡ synced (C.latest self.new.clock) self.new.out self.new.clock self.old) }
         ensures out { OnOk result (K.held self.new.out ≡ after_adding (K.held self.old.out) (bytes_at (C.latest self.new.clock) self.old)) }
         ensures ok_count { OnOk result (K.faults self.new.out ≡ K.faults self.old.out) }

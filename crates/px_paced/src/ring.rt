@@ -8,7 +8,7 @@ ghost use Rattle.px_ends.specs.Whole.{AddsFront};
 use circular_buffer::HeapCircularBuffer;
 use px_ends::{Sink, WriteFailed, write_all};
 
-/// Writes the first so many bytes of a ring, which keeps them. Takes no memory.
+/// Writes the first `count` bytes of a ring, which stay in it. Takes no memory.
 pub fn write_front<K: Sink>(
     ring: &HeapCircularBuffer<u8>,
     count: usize,
@@ -28,7 +28,7 @@ pub fn write_front<K: Sink>(
     }
 }
 
-/// Removes the first so many bytes. Takes no memory.
+/// Removes the first `count` bytes. Takes no memory.
 pub fn remove_front(ring: &mut HeapCircularBuffer<u8>, count: usize)
     requires { count ≤ length ring.old.items }
     ensures { ring.new ≡ buffer (drop count ring.old.items) ring.old.capacity }
@@ -36,7 +36,7 @@ pub fn remove_front(ring: &mut HeapCircularBuffer<u8>, count: usize)
     ring.truncate_front(ring.len() - count);
 }
 
-/// Puts bytes in place of all from place `from` on, for which there is room. Takes no memory.
+/// Replaces all bytes from place `from` on by `bytes`, for which there is room. Takes no memory.
 pub fn put_behind(ring: &mut HeapCircularBuffer<u8>, from: usize, bytes: &[u8])
     requires inside { from ≤ length ring.old.items }
     requires fits { from + length bytes.now ≤ ring.old.capacity }

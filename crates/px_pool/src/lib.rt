@@ -1,5 +1,5 @@
-//! A pool of used blocks, which threads share. `rule` has what is so of each block in it, `pool` the pool, `seat` a thread's place at it.
-//! It exports `Pool` and `PoolSeat`, a source of blocks.
+//! A pool of used blocks that threads share. `rule` has the invariant of its blocks, `pool` the pool, `seat` a thread's handle to it. It
+//! exports `Pool` and `PoolSeat`, a source of blocks.
 #![tactic(auto)]
 
 mod pool;

@@ -10,8 +10,8 @@ use px_block::{Block, Mem};
 use std::alloc::Global;
 use std::sync::{Arc, Wait};
 
-/// Used blocks that wait to be used again (PulseAudio: the free list of a `pa_mempool`), at most as many as the pool was made for. Each
-/// was emptied when it came. Threads take and give them by seats.
+/// Used blocks that wait to be used again (PulseAudio: the free list of a `pa_mempool`), at most the number that the pool was made for.
+/// Each was emptied when it came. Threads take and give them through seats.
 #[derive(Drop)]
 pub struct Pool {
     pub(crate) alloc: Global,
@@ -19,7 +19,7 @@ pub struct Pool {
 }
 
 impl Pool {
-    /// A pool with no blocks, for at most `count`, which is at least 1. It takes the memory for their places, and not for the blocks.
+    /// An empty pool for at most `count` blocks, at least 1. Takes the memory for their places, not for the blocks.
     pub fn new(alloc: Global, count: usize) -> Mem<Arc<Pool>>
         requires { 0 < count }
         ensures { IfOk result (λ pool. ruled_capacity (arc_value pool).queue ≡ count) }
@@ -28,7 +28,7 @@ impl Pool {
         Ok(Arc::new(alloc, Pool { alloc, queue })?)
     }
 
-    /// A seat of its own at the pool, which waits with this runtime. Takes no memory but the count of the pool's owners.
+    /// A thread's own seat at `pool`, which waits with the runtime `rt`. Takes no memory but the count of the pool's owners.
     pub fn seat<R: Wait + Copy>(rt: &R, pool: &Arc<Pool>) -> Mem<PoolSeat<R>>
         ensures { IfOk result (λ seat. arc_value seat.pool ≡ arc_value pool.now) }
     {

@@ -14,7 +14,7 @@ impl Protocol<Block, ()> for Emptied {
     ghost first = { tt };
 }
 
-/// A block is kept, or the pool is full.
+/// A block is stored, or the pool is full.
 pub struct Stores;
 
 impl Outcome<Block, ()> for Stores {

@@ -1,4 +1,4 @@
-//! A thread's place at a pool.
+//! A thread's handle to a pool.
 ghost use Rattle.std.specs.Prelude.{◌≡◌, ◌≤◌, [], None, IfOk};
 ghost use Rattle.std.specs.Arc.{arc_value};
 ghost use Rattle.crossbeam_queue.specs.Passes.{IsPassOf, ruled_capacity};
@@ -9,8 +9,8 @@ use crossbeam_queue::Pass;
 use px_block::{Block, BlockSource, Mem};
 use std::sync::{Arc, Wait};
 
-/// A source of blocks over a pool that it shares with others. A block that it takes is one of the pool's, or a new one where the pool is
-/// found empty; one that it is given is emptied and kept, or dropped where the pool is found full. It doesn't tell how many came back.
+/// A source of blocks over a shared pool. A block that it takes is one of the pool's, or a new one where the pool is found empty; one that
+/// it is given is emptied and stored, or dropped where the pool is found full. How many came back isn't visible.
 #[derive(Drop)]
 pub struct PoolSeat<R> {
     pub(crate) rt: R,
@@ -20,7 +20,7 @@ pub struct PoolSeat<R> {
 }
 
 impl<R: Wait> PoolSeat<R> {
-    /// How many blocks were spare in the pool at one moment of this call, at most as many as it was made for. Takes no memory.
+    /// How many blocks were free in the pool at one moment of this call, at most the number that it was made for. Takes no memory.
     pub fn spare(&mut self) -> usize
         ensures count { result ≤ ruled_capacity (arc_value self.old.pool).queue }
         ensures pool { arc_value self.new.pool ≡ arc_value self.old.pool }

@@ -1,4 +1,4 @@
--- What is heard of a queue, and what of it stays as frames are written.
+-- What is heard of a queue, and how much of it a write leaves unaltered.
 use Rattle.std.specs.Prelude.{ℕ, min, ℤ, Bool, true, false, not, List, Option, None, if◌then◌else◌}
 use Rattle.px_model.specs.Frame.{Frame}
 use Rattle.px_model.specs.Held.{place}
@@ -6,7 +6,7 @@ use Rattle.px_model.specs.Index.{above}
 use Rattle.px_model.specs.Queue.{Queue, is_short}
 use Rattle.px_model.specs.Write.{Outcome, stored, overflow, outside, queue_with}
 
--- the frame that is heard k ahead of the read index; a hole sounds as what lies past the edge, and as one that is short
+-- the frame heard k ahead of the read index: none in a hole, past the edge, or while the queue is short
 abbrev pub heard_of : Queue → ℕ → Option Frame
 heard_of q k = if is_short q then None else place q.held k
 
@@ -14,7 +14,7 @@ abbrev pub is_other : Bool → Bool → Bool
 is_other true b = not b
 is_other false b = b
 
--- of the next n frames those that a write which goes so far ahead leaves as they are: where the frames are held those before them, and else all
+-- how many of the next n frames a write `ahead` frames past the read index leaves as they are: those before it where it is stored, else all
 abbrev pub left_by : Outcome → ℕ → ℕ → ℕ
 left_by stored ahead n = min ahead n
 left_by overflow ahead n = n

@@ -10,9 +10,9 @@ pub record HeldQueue : Type 0 where
   pub room : ℕ
   -- how many blocks these may bring in all
   pub block_room : ℕ
-  -- how many blocks it keeps
+  -- how many blocks it holds
   pub blocks : ℕ
 
--- it waits for prebuf frames, or no more
+-- whether it waits for prebuf frames
 abbrev pub with_hold : Queue → Bool → Queue
 with_hold q on = record q { hold = on }

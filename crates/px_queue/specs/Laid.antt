@@ -4,7 +4,7 @@ use Rattle.std.specs.List.{AllByRecursion}
 use Rattle.px_block.specs.Shelved.{Shelves, under, references_to, one_of, bytes_of}
 use Rattle.px_queue.specs.Pieces.{Piece}
 
--- so many bytes of the block under a key, from a place in it on, laid from byte index `at` on
+-- `len` bytes of the block under `key`, from byte `place` of it on, laid at byte index `at`
 pub record Laid : Type 0 where
   pub at : ℕ
   pub key : ℕ
@@ -22,7 +22,7 @@ piece_of s c = record { at = c.at; bytes = take c.len (drop c.place (bytes_of (u
 abbrev pub pieces_of : Shelves → List Laid → List Piece
 pieces_of s chunks = map (piece_of s) chunks
 
--- its block has the bytes
+-- its block has all its bytes
 abbrev pub IsOn : Shelves → Laid → Type 0
 IsOn s c = c.place + c.len ≤ length (bytes_of (under s c.key))
 
@@ -31,19 +31,19 @@ abbrev pub refs_of : ℕ → List Laid → ℕ
 refs_of key [] = 0
 refs_of key (c ∷ chunks) = (if c.key == key then 1 else 0) + refs_of key chunks
 
--- each lies in a block of the shelf, which counts them; and no other block stands there
+-- each chunk lies in a block of the shelf, which counts its chunks; and the shelf has no other block
 pub record IsTied (s : Shelves) (chunks : List Laid) : Type 0 where
   pub on : AllByRecursion (IsOn s) chunks
   pub counted : (key : ℕ) → references_to (under s key) ≡ refs_of key chunks
   pub used : (key : ℕ) → one_of (under s key) ≤ references_to (under s key)
 
--- chunks in a line, and how many there is room for in all
+-- chunks in a line, and for how many in all it has room
 pub record Lined : Type 0 where
   pub items : List Laid
   pub capacity : ℕ
 
--- what a list of chunks keeps: the pieces before a byte index and behind it, how many blocks they lie in, and how many more chunks and blocks
--- there is room for
+-- a list of chunks: the pieces before the byte index of a write and those after it (`behind`), how many blocks they lie in, and for how many more
+-- chunks and blocks there is room
 pub record Chunked : Type 0 where
   pub before : List Piece
   pub behind : List Piece

@@ -8,12 +8,12 @@ use Rattle.px_model.specs.Held.{place}
 use Rattle.px_model.specs.Index.{onward}
 use Rattle.px_model.specs.Queue.{Queue}
 
--- what is held at an index: a frame, or nothing in a hole
+-- the frame held at an index; none in a hole
 abbrev pub frame_at : ℤ → Option Frame → List PlainFrame
 frame_at index None = []
 frame_at index (Some frame) = record { index = index; bytes = frame } ∷ []
 
--- the frames at the first so many places from the read index on
+-- the frames at the first `count` places from the read index on
 abbrev pub frames_up_to : Queue → ℕ → List PlainFrame
 frames_up_to q count = flat_map (λ k. frame_at (onward q.read k) (place q.held k)) (range_with_len 0 count)
 

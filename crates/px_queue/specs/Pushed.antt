@@ -11,7 +11,7 @@ outcome_for pushed.Stored = stored
 outcome_for (pushed.Overflow end limit) = overflow
 outcome_for (pushed.Outside at) = outside
 
--- the first of both ends of l frames at index p that lies outside the range of indices
+-- of l frames at index p, the first of begin and end that is no index
 abbrev pub first_outside : ℤ → ℕ → ℤ
 first_outside p l = if is_index p then onward p l else p
 
@@ -21,14 +21,14 @@ Carries p l limit pushed.Stored = ⊤
 Carries p l limit (pushed.Overflow end bound) = (end ≡ onward p l) × (bound ≡ limit)
 Carries p l limit (pushed.Outside at) = at ≡ first_outside p l
 
--- l frames at index p begin and end at these indices
+-- l frames at index p begin at index `at` and end at index `end`
 pub record IsPlaced (p : ℤ) (l : ℕ) (at end : ℤ) : Type 0 where
   pub first : at ≡ p
   pub last : end ≡ onward p l
   pub begins : IsIndex p
   pub ends : IsIndex (onward p l)
 
--- one of both is no index, and this is the first
+-- p or the end is no index, and `at` is the first such
 pub record IsMissed (p : ℤ) (l : ℕ) (at : ℤ) : Type 0 where
   pub outside : IsFalse (is_index p && is_index (onward p l))
   pub first : at ≡ first_outside p l

@@ -1,10 +1,10 @@
-// A chunk: part of a block on a shelf, laid from a byte index on.
+// A chunk: part of a block on a shelf, laid at a byte index.
 ghost use Rattle.std.specs.Prelude.{◌≡◌, ◌+◌, ◌-◌, ◌<◌, ◌≤◌, ◌^◌};
 ghost use Rattle.px_queue.specs.Laid.{TOP};
 
 use std::marker::Model;
 
-/// A `pa_memchunk`: so many bytes of the block under a key, from a place in it on, laid from byte index `at` on.
+/// A `pa_memchunk`: `len` bytes of the block under `key`, from byte `place` of it on, laid at byte index `at`.
 #[derive(Clone, Copy, Debug)]
 pub(crate) struct Chunk {
     at: u128,
@@ -27,7 +27,7 @@ impl Model for Chunk {
 }
 
 impl Chunk {
-    /// The first bytes of the block under a key.
+    /// The first `len` bytes of the block under `key`.
     pub(crate) fn new(at: u128, key: usize, len: u32) -> Chunk
         requires { at + len ≤ TOP }
         ensures { result ≡ record { at = at; key = key; place = 0; len = len } }
@@ -78,7 +78,7 @@ impl Chunk {
         self.len as usize
     }
 
-    /// What of it lies before a byte index inside.
+    /// The part of it before byte index `to`, which lies inside.
     pub(crate) fn head(&self, to: u128) -> Chunk
         requires from { self.now.at ≤ to }
         requires to { to ≤ self.now.at + self.now.len }
@@ -92,7 +92,7 @@ impl Chunk {
         }
     }
 
-    /// What of it lies from a byte index inside on.
+    /// The part of it from byte index `from` on, which lies inside.
     pub(crate) fn tail(&self, from: u128) -> Chunk
         requires from { self.now.at ≤ from }
         requires to { from ≤ self.now.at + self.now.len }
@@ -107,7 +107,7 @@ impl Chunk {
         }
     }
 
-    /// It with so many more bytes of its block behind it.
+    /// The chunk with the next `bytes` bytes of its block added at its end.
     pub(crate) fn longer(&self, bytes: u32) -> Chunk
         requires top { self.now.at + self.now.len + bytes ≤ TOP }
         requires block { self.now.place + self.now.len + bytes < 2 ^ 32 }

@@ -11,12 +11,12 @@ use px_block::{Block, BlockSource, Mem, Shelf};
 use std::alloc::Global;
 use std::marker::Model;
 
-/// The most bytes of a write that is put behind others. More lie in a block of their own, where they came: there they take little more than
-/// themselves, and aren't copied. A last block with no more than so many is given room for others.
+/// The most bytes of a write that is copied into the block of an earlier one. Larger writes stay in a block of their own, which takes little more
+/// than their bytes, and aren't copied. A last block of at most this size is given room for more bytes.
 const FEW: usize = 1_024;
 
-/// Chunks that rise, over the shelf of their blocks: those before the byte index at which a write is laid, and those behind it. At rest none is
-/// behind. It knows the key of the last block that was given room for more bytes.
+/// Chunks in rising order, over the shelf of their blocks: those before the byte index of a write (`before`), and those after it (`behind`), empty at
+/// rest. `open` is the key of the last block that was given room for more bytes.
 #[derive(Debug, Drop)]
 pub(crate) struct Chunks {
     shelf: Shelf,
@@ -45,7 +45,7 @@ impl Model for Chunks {
 }
 
 impl Chunks {
-    /// None, over an empty shelf.
+    /// No chunks, over an empty shelf.
     pub(crate) fn new(alloc: Global) -> Chunks
         ensures before { result.before ≡ [] }
         ensures behind { result.behind ≡ [] }
@@ -59,14 +59,14 @@ impl Chunks {
         }
     }
 
-    /// How many there are before.
+    /// The number of chunks in `before`.
     pub(crate) fn len(&self) -> usize
         ensures { result ≡ length self.now.before }
     {
         self.before.len()
     }
 
-    /// Whether there is none before.
+    /// Whether `before` is empty.
     pub(crate) fn is_empty(&self) -> bool
         ensures yes { IsTrue result → self.now.before ≡ [] }
         ensures no { IsFalse result → 0 < length self.now.before }
@@ -75,14 +75,14 @@ impl Chunks {
         self.before.is_empty()
     }
 
-    /// Whether any is behind.
+    /// Whether `behind` has any.
     pub(crate) fn has_behind(&self) -> bool
         ensures { result ≡ nat_lt 0 (length self.now.behind) }
     {
         !self.behind.is_empty()
     }
 
-    /// The byte index at which one before begins, by its number.
+    /// The byte index at which chunk `k` of `before` begins.
     pub(crate) fn first(&self, k: usize) -> u128
         requires { k < length self.now.before }
         ensures value { (d : Piece) → result ≡ (slice_index_or self.now.before k d).at }
@@ -91,7 +91,7 @@ impl Chunks {
         self.before.get(k).first()
     }
 
-    /// The byte index at which it ends, one past its last byte.
+    /// The byte index at which chunk `k` of `before` ends, one past its last byte.
     pub(crate) fn end(&self, k: usize) -> u128
         requires { k < length self.now.before }
         ensures value { (d : Piece) → result ≡ end_of (slice_index_or self.now.before k d) }
@@ -100,7 +100,7 @@ impl Chunks {
         self.before.get(k).end()
     }
 
-    /// The byte index at which the last one before begins.
+    /// The byte index at which the last chunk of `before` begins.
     pub(crate) fn last_first(&self) -> u128
         requires { 0 < length self.now.before }
         ensures { result ≡ (last_of self.now.before).at }
@@ -108,7 +108,7 @@ impl Chunks {
         self.first(self.len() - 1)
     }
 
-    /// The byte index at which it ends, one past its last byte.
+    /// The byte index at which that chunk ends, one past its last byte.
     pub(crate) fn last_end(&self) -> u128
         requires { 0 < length self.now.before }
         ensures value { result ≡ end_of (last_of self.now.before) }
@@ -117,7 +117,7 @@ impl Chunks {
         self.end(self.len() - 1)
     }
 
-    /// Moves the last one before to those behind.
+    /// Moves the last chunk of `before` to `behind`.
     pub(crate) fn step_back(&mut self)
         requires some { 0 < length self.old.before }
         ensures before { self.new.before ≡ front_of self.old.before }
@@ -130,7 +130,7 @@ impl Chunks {
         self.behind.push_front_reserved(last);
     }
 
-    /// Moves the first one behind to those before.
+    /// Moves the first chunk of `behind` to `before`.
     pub(crate) fn step_on(&mut self)
         requires some { 0 < length self.old.behind }
         ensures all { self.new.before ++ self.new.behind ≡ self.old.before ++ self.old.behind }
@@ -143,7 +143,7 @@ impl Chunks {
         self.before.push_back_reserved(first);
     }
 
-    /// Drops the last one before.
+    /// Drops the last chunk of `before`.
     pub(crate) fn drop_last<B: BlockSource>(&mut self, source: &mut B)
         requires some { 0 < length self.old.before }
         ensures before { self.new.before ≡ front_of self.old.before }
@@ -156,7 +156,7 @@ impl Chunks {
         let_go(&mut self.shelf, last.key(), source);
     }
 
-    /// Cuts the last one before at a byte index inside.
+    /// Cuts the last chunk of `before` at byte index `to`, inside it.
     pub(crate) fn cut_last(&mut self, to: u128)
         requires some { 0 < length self.old.before }
         requires from { (last_of self.old.before).at ≤ to }
@@ -171,7 +171,7 @@ impl Chunks {
         self.before.push_back_reserved(last.head(to));
     }
 
-    /// Splits the last one before at a byte index inside, in two that share its block.
+    /// Splits the last chunk of `before` at byte index `at`, inside it, in two chunks of one block.
     pub(crate) fn split_last(&mut self, at: u128)
         requires some { 0 < length self.old.before }
         requires from { (last_of self.old.before).at ≤ at }
@@ -189,7 +189,7 @@ impl Chunks {
         self.behind.push_front_reserved(last.tail(at));
     }
 
-    /// Lays a block behind the last one before.
+    /// Appends a block to `before` as a chunk, at byte index `at`.
     pub(crate) fn lay(&mut self, at: u128, block: Block)
         requires top { at + length block.bytes ≤ TOP }
         requires room { 1 ≤ self.old.room }
@@ -205,7 +205,7 @@ impl Chunks {
         self.before.push_back_reserved(Chunk::new(at, key, len));
     }
 
-    /// Drops the first one before.
+    /// Drops the first chunk of `before`.
     pub(crate) fn drop_first<B: BlockSource>(&mut self, source: &mut B)
         requires some { 0 < length self.old.before }
         ensures before { self.new.before ≡ drop 1 self.old.before }
@@ -218,7 +218,7 @@ impl Chunks {
         let_go(&mut self.shelf, first.key(), source);
     }
 
-    /// Cuts the first one before at a byte index inside, and keeps what lies from there on.
+    /// Cuts the first chunk of `before` at byte index `from`, inside it, and leaves what follows.
     pub(crate) fn cut_first(&mut self, from: u128)
         requires some { 0 < length self.old.before }
         requires from { (d : Piece) → (slice_index_or self.old.before 0 d).at ≤ from }
@@ -233,7 +233,7 @@ impl Chunks {
         self.before.push_front_reserved(first.tail(from));
     }
 
-    /// Takes room for so many more, in so many more blocks. Without memory nothing changes.
+    /// Makes room for `chunks` more chunks, in `blocks` more blocks. Without memory nothing changes.
     pub(crate) fn reserve(&mut self, chunks: usize, blocks: usize) -> Mem<()>
         ensures ok { OnOk result ((chunks ≤ self.new.room) × (blocks ≤ self.new.block_room)) }
         ensures before { self.new.before ≡ self.old.before }
@@ -250,8 +250,8 @@ impl Chunks {
         Ok(())
     }
 
-    /// Puts bytes behind the last one before, in its block, where they go on at its end and the block has the room, and answers whether it
-    /// does. Takes no memory.
+    /// Appends bytes to the block of the last chunk of `before`, where they begin at its end and the block has the room, and answers whether it did.
+    /// Takes no memory.
     pub(crate) fn append(&mut self, at: u128, bytes: &[u8]) -> bool
         requires { at + length bytes.now ≤ TOP }
         ensures some { IsTrue result → 0 < length self.old.before }
@@ -275,7 +275,8 @@ impl Chunks {
         false
     }
 
-    /// Takes room in the block of one before, by its number, where it ends with its block and that has few bytes, if there is memory.
+    /// Makes room in the block of chunk `k` of `before`, if there is memory. It does where the chunk ends with its block and that has at most `FEW`
+    /// bytes.
     pub(crate) fn open(&mut self, k: usize)
         requires { k < length self.old.before }
         ensures { self.new ≡ self.old }
@@ -290,7 +291,7 @@ impl Chunks {
         self.open = Some(key);
     }
 
-    /// Whether a block was given such room.
+    /// Whether a block has such room.
     pub(crate) fn is_open(&self) -> bool {
         self.open.is_some()
     }
@@ -305,7 +306,7 @@ impl Chunks {
         }
     }
 
-    /// So many bytes of one before, by its number, from a byte index inside on.
+    /// The `len` bytes of chunk `k` of `before` from byte index `from` on, inside it.
     pub(crate) fn bytes(&self, k: usize, from: u128, len: usize) -> &[u8]
         requires some { k < length self.now.before }
         requires from { (d : Piece) → (slice_index_or self.now.before k d).at ≤ from }
@@ -318,7 +319,7 @@ impl Chunks {
         self.shelf.bytes(chunk.key(), place, len)
     }
 
-    /// Fills a slice with bytes of one before, by its number, from a byte index inside on.
+    /// Fills `out` with bytes of chunk `k` of `before`, from byte index `from` on.
     pub(crate) fn copy(&self, k: usize, from: u128, out: &mut [u8])
         requires some { k < length self.now.before }
         requires from { (d : Piece) → (slice_index_or self.now.before k d).at ≤ from }
@@ -329,7 +330,7 @@ impl Chunks {
     }
 }
 
-// Lets go of one reference to the block under a key, which is there.
+// Drops one reference to the block under `key`, which is there.
 fn let_go<B: BlockSource>(shelf: &mut Shelf, key: usize, source: &mut B)
     requires { 1 ≤ references_to (under shelf.old key) }
     ensures slots { SetsOnly shelf.old shelf.new key (released (under shelf.old key)) }
@@ -341,8 +342,8 @@ fn let_go<B: BlockSource>(shelf: &mut Shelf, key: usize, source: &mut B)
     }
 }
 
-// Appends bytes to the block of a chunk, where they go on at its end, it ends with its block and the block has the room, and answers
-// whether it does.
+// Appends bytes to the block of chunk `last`, where they begin at its end, it ends with its block and the block has the room, and answers whether it
+// did.
 fn grow(shelf: &mut Shelf, last: &Chunk, at: u128, bytes: &[u8]) -> bool
     requires { 1 ≤ references_to (under shelf.old last.now.key) }
     ensures slots { SetsOnly shelf.old shelf.new last.now.key (appended (under shelf.old last.now.key) (if result then bytes.now else [])) }

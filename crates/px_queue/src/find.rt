@@ -1,4 +1,4 @@
-// Bytes are found by their indices, and copied out or lent.
+// Finding bytes by their indices, to copy or lend them.
 ghost use Rattle.std.specs.Prelude.{◌≡◌, ℕ, ◌+◌, ◌-◌, ◌<◌, ◌≤◌, length, min, take, slice_get, slice_index_or, IsTrue, IsSome, None};
 ghost use Rattle.px_queue.specs.Pieces.{Piece, byte_in, byte_at, end_of, Rise};
 ghost use Rattle.px_queue.specs.Laid.{TOP};
@@ -6,7 +6,7 @@ ghost use Rattle.px_queue.specs.Laid.{TOP};
 use crate::chunks::Chunks;
 
 impl Chunks {
-    /// How many bytes lie one after another from a byte index on, at most so many.
+    /// How many bytes from byte index `from` on are held without a gap, at most `most`.
     pub(crate) fn run(&self, from: u128, most: usize) -> usize
         requires rising { Rise 0 TOP self.now.before }
         requires top { from ≤ TOP }
@@ -27,7 +27,7 @@ impl Chunks {
         count
     }
 
-    /// Fills a slice with the bytes from a byte index on, which lie there.
+    /// Fills `out` with the bytes from byte index `from` on, all of which are held.
     pub(crate) fn copy_from(&self, from: u128, out: &mut [u8])
         requires rising { Rise 0 TOP self.now.before }
         requires top { from ≤ TOP }
@@ -45,7 +45,7 @@ impl Chunks {
         }
     }
 
-    /// Lends the bytes from a byte index on that lie in one block, at most so many: none where no byte lies there.
+    /// Lends the bytes from byte index `from` on that lie in one block, at most `most`: none where no byte is held there.
     pub(crate) fn lend(&self, from: u128, most: usize) -> &[u8]
         requires { Rise 0 TOP self.now.before }
         ensures few { length result.now ≤ most }
@@ -59,7 +59,7 @@ impl Chunks {
         self.bytes(place, from, len)
     }
 
-    /// How many byte indices from one on have no byte, at most so many.
+    /// How many byte indices from `from` on hold no byte, at most `most`.
     pub(crate) fn gap(&self, from: u128, most: usize) -> usize
         requires { Rise 0 TOP self.now.before }
         ensures few { result ≤ most }
@@ -77,7 +77,7 @@ impl Chunks {
         least(most, first - from)
     }
 
-    /// Takes room in the block that ends at a byte index, where it has few bytes and no other has such room, if there is memory.
+    /// Takes room for more bytes in the block that ends at byte index `at`, where it has few bytes and no other has such room, if there is memory.
     pub(crate) fn open_at(&mut self, at: u128)
         requires { Rise 0 TOP self.old.before }
         ensures { self.new ≡ self.old }
@@ -91,8 +91,8 @@ impl Chunks {
         }
     }
 
-    // The number of the chunk with the byte at an index, and how many bytes it has from there on, at most so many: none where no byte
-    // lies there. So many chunks before it are tried first.
+    // The number of the chunk with byte `from`, and how many of its bytes follow from there on, at most `most`: 0 where no byte is held there. It
+    // tries first whether `near` chunks end before.
     fn part_at(&self, near: usize, from: u128, most: usize) -> (usize, usize)
         requires { Rise 0 TOP self.now.before }
         ensures few { result.1 ≤ most }
@@ -113,7 +113,7 @@ impl Chunks {
         (place, least(most, self.end(place) - from))
     }
 
-    // How many of the first ones end at or before a byte index; they rise, so no other does. So many is tried first.
+    // How many chunks end at or before byte index `from`; they rise, so these are the first ones. `near` is tried first.
     fn ended(&self, near: usize, from: u128) -> usize
         requires { Rise 0 TOP self.now.before }
         ensures few { result ≤ length self.now.before }
@@ -127,7 +127,7 @@ impl Chunks {
         }
     }
 
-    // Whether exactly so many of the first ones end at or before a byte index, and there are more.
+    // Whether exactly `near` chunks end at or before byte index `from`, and more follow.
     fn parts(&self, near: usize, from: u128) -> bool
         requires { Rise 0 TOP self.now.before }
         ensures more { IsTrue result → near < length self.now.before }
@@ -146,7 +146,7 @@ impl Chunks {
         self.end(near - 1) <= from
     }
 
-    // How many of the first ones end at or before a byte index, by halves.
+    // How many chunks end at or before byte index `from`, by binary search.
     fn halved(&self, from: u128) -> usize
         requires { Rise 0 TOP self.now.before }
         ensures few { result ≤ length self.now.before }
@@ -167,7 +167,7 @@ impl Chunks {
     }
 }
 
-// The lesser of two.
+// The lesser of both.
 fn least(most: usize, bytes: u128) -> usize
     ensures { result ≡ min most bytes }
 {

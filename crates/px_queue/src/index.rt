@@ -52,14 +52,14 @@ impl Index {
         }
     }
 
-    /// It as a number.
+    /// The index as a number.
     pub(crate) fn number(self) -> i64
         ensures { result ≡ self }
     {
         self.frame
     }
 
-    /// How many frames it lies above another, 0 where it doesn't.
+    /// How many frames the index lies above `other`, 0 where it doesn't.
     pub(crate) fn above(self, other: Index) -> u64
         ensures { result ≡ above self other }
     {
@@ -70,21 +70,21 @@ impl Index {
         }
     }
 
-    /// Whether it lies below another.
+    /// Whether the index lies below `other`.
     pub(crate) fn is_below(self, other: Index) -> bool
         ensures { result ≡ int_lt self other }
     {
         self.frame < other.frame
     }
 
-    /// Whether it lies more than so many frames above a number.
+    /// Whether the index lies more than `frames` above `number`.
     pub(crate) fn is_past(self, number: i64, frames: i64) -> bool
         ensures { result ≡ int_lt frames (self -ℤ number) }
     {
         self.passes(number, frames)
     }
 
-    // The same, by what it says of the numbers.
+    // The same, stated as two inequalities of numbers.
     fn passes(self, number: i64, frames: i64) -> bool
         ensures yes { IsTrue result → frames <ℤ (self -ℤ number) }
         ensures no { IsFalse result → (self -ℤ number) ≤ℤ frames }
@@ -92,7 +92,7 @@ impl Index {
         self.frame as i128 - number as i128 > frames as i128
     }
 
-    /// The index so many frames past it, or before it where the offset is negative; the number itself where that is no index.
+    /// The index `offset` frames past it, or before it where `offset` is negative; an error with that number where it is no index.
     pub(crate) fn shifted(self, offset: i64) -> Result<Index, i128>
         ensures is { IsOk result ↔ IsTrue (is_index (self +ℤ offset)) }
         ensures ok { IfOk result (λ index. index ≡ self +ℤ offset) }
@@ -107,7 +107,7 @@ impl Index {
         })
     }
 
-    /// The index so many frames on; the number itself where that is no index.
+    /// The index `frames` frames past it; an error with that number where it is no index.
     pub(crate) fn after(self, frames: u32) -> Result<Index, i128>
         ensures is { IsOk result ↔ IsTrue (is_index (onward self frames)) }
         ensures ok { IfOk result (λ index. index ≡ onward self frames) }
@@ -122,7 +122,7 @@ impl Index {
         })
     }
 
-    /// The index so many frames on, where that is one.
+    /// The index `frames` frames past it, which is in range.
     pub(crate) fn onward(self, frames: u64) -> Index
         requires { IsIndex (onward self frames) }
         ensures { result ≡ onward self frames }
@@ -132,7 +132,7 @@ impl Index {
         }
     }
 
-    /// The byte index of the first byte of the frame at it, of frames of so many bytes.
+    /// The byte index of the first byte of this frame, where each frame has `size` bytes.
     pub(crate) fn byte_index(self, size: u32) -> u128
         ensures value { result ≡ byte_index size self }
         ensures few { result ≤ TOP }
@@ -141,7 +141,7 @@ impl Index {
     }
 }
 
-// The byte index of the first byte of a frame, by its number from the least index on.
+// The byte index of the first byte of frame `number`, counted from the least index on.
 fn first_byte(number: u64, size: u32) -> u128
     requires { number ≤ 2 ^ 61 }
     ensures value { result ≡ number * size }

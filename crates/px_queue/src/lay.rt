@@ -1,4 +1,4 @@
-// Bytes are laid behind those before them.
+// Laying bytes after those before them.
 ghost use Rattle.std.specs.Prelude.{◌≡◌, ℕ, ◌+◌, ◌≤◌, length, IsTrue, IsFalse, IfSome};
 ghost use Rattle.std.specs.List.{concat};
 ghost use Rattle.px_block.specs.Given.{after_giving, blocks_for};
@@ -11,8 +11,8 @@ use px_block::{Block, BlockSource, Blocks};
 use std::collections::VecDeque;
 
 impl Chunks {
-    /// Lays bytes behind those before. Few of them go into the last block there, where they go on at its end and it has the room;
-    /// their own goes back to its source then.
+    /// Lays bytes at the end of `before`. Few bytes are copied into the last block, where they begin at its end and it has the room; then their own
+    /// goes back to its source.
     pub(crate) fn put<B: BlockSource>(&mut self, at: u128, bytes: Blocks, source: &mut B)
         requires rising { Rise 0 at self.old.before }
         requires top { at + length bytes ≤ TOP }
@@ -33,8 +33,7 @@ impl Chunks {
         self.lay_all(at, bytes);
     }
 
-    // Puts bytes that lie in one block into the last block before, where they go on at its end and it has the room, and answers whether it
-    // does.
+    // Copies bytes of a single block into the last block of `before`, where they begin at its end and it has the room, and answers whether it did.
     fn extend(&mut self, at: u128, bytes: &Blocks) -> bool
         requires rising { Rise 0 at self.old.before }
         requires top { at + length bytes.now ≤ TOP }
@@ -52,7 +51,7 @@ impl Chunks {
         self.append(at, all)
     }
 
-    // Lays the blocks of these bytes one behind another.
+    // Lays the blocks of these bytes one after another.
     fn lay_all(&mut self, at: u128, bytes: Blocks)
         requires rising { Rise 0 at self.old.before }
         requires top { at + length bytes ≤ TOP }
@@ -68,7 +67,7 @@ impl Chunks {
         self.lay_blocks(at, VecDeque::from_vec(bytes.into_vec()));
     }
 
-    // The same by the blocks.
+    // The same of a list of blocks.
     fn lay_blocks(&mut self, at: u128, mut blocks: VecDeque<Block>)
         requires rising { Rise 0 at self.old.before }
         requires top { at + length (concat (contents blocks.items)) ≤ TOP }
@@ -90,7 +89,7 @@ impl Chunks {
     }
 }
 
-// The bytes that lie in one block; `None` where they don't.
+// The bytes, where they lie in one block; else `None`.
 fn only(bytes: &Blocks) -> Option<&[u8]>
     ensures { IfSome result (λ all. all.now ≡ bytes.now) }
 {

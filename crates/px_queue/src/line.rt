@@ -1,4 +1,4 @@
-// Chunks in a line, over one piece of memory.
+// A queue of chunks in one piece of memory.
 ghost use Rattle.std.specs.Prelude.{◌≡◌, ◌+◌, ◌<◌, ◌≤◌, ◌^◌, ◌==◌, [], ◌∷◌, ◌++◌, length, drop, slice_index_or, vec_len, vec_capacity, OnOk, ◌↔◌, IsSome};
 ghost use Rattle.std.specs.Option.{option_to_list};
 
@@ -6,12 +6,12 @@ use crate::chunk::Chunk;
 use std::alloc::{AllocError, Global};
 use std::marker::Model;
 
-/// So many chunks may have gone from the front before the others move there: few enough that their places stay near.
+/// How many chunks may have gone from the front before the others move there: few enough that they stay near it.
 const MOST_GONE: usize = 32;
 
-/// Chunks in order, which come at the back and go at the front. Those that have gone from the front leave their places free for a while, and
-/// the others move there once as many have gone as are left. So a line with few chunks keeps to the front of its memory, however much room
-/// it has, where a ring would wander through all of it.
+/// Chunks in order, which come at the back and go at the front. The `gone` places of those that left stay free at first, and the others move there
+/// once as many are gone as are left. So a line of few chunks stays at the front of its memory, however large that is, where a ring would go through
+/// all of it.
 #[derive(Debug, Drop)]
 pub(crate) struct Line {
     chunks: Vec<Chunk>,
@@ -30,7 +30,7 @@ impl Model for Line {
 }
 
 impl Line {
-    /// None, without room. Takes no memory.
+    /// No chunks, without room. Takes no memory.
     pub(crate) fn new(alloc: Global) -> Line
         ensures items { result.items ≡ [] }
         ensures capacity { result.capacity ≡ 0 }
@@ -41,7 +41,7 @@ impl Line {
         }
     }
 
-    /// How many there are.
+    /// The number of chunks.
     pub(crate) fn len(&self) -> usize
         ensures { result ≡ length self.now.items }
     {
@@ -55,7 +55,7 @@ impl Line {
         self.chunks.len() == self.gone
     }
 
-    /// One, by its number.
+    /// Chunk `k`, from 0.
     pub(crate) fn get(&self, k: usize) -> Chunk
         requires { k < length self.now.items }
         ensures { result ≡ slice_index_or self.now.items k result }
@@ -63,7 +63,7 @@ impl Line {
         self.chunks[self.gone + k]
     }
 
-    /// Takes the first one out.
+    /// Takes the first chunk out.
     pub(crate) fn pop_front(&mut self) -> Option<Chunk>
         ensures items { self.old.items ≡ option_to_list result ++ self.new.items }
         ensures variant { IsSome result ↔ (0 < length self.old.items) }
@@ -81,7 +81,7 @@ impl Line {
         Some(first)
     }
 
-    /// Takes the last one out.
+    /// Takes the last chunk out.
     pub(crate) fn pop_back(&mut self) -> Option<Chunk>
         ensures items { self.old.items ≡ self.new.items ++ option_to_list result }
         ensures variant { IsSome result ↔ (0 < length self.old.items) }
@@ -94,7 +94,7 @@ impl Line {
         self.chunks.pop()
     }
 
-    /// Puts one behind the others, where there is room. Takes no memory.
+    /// Appends a chunk, where there is room. Takes no memory.
     pub(crate) fn push_back_reserved(&mut self, chunk: Chunk)
         requires { length self.old.items < self.old.capacity }
         ensures items { self.new.items ≡ self.old.items ++ chunk ∷ [] }
@@ -107,7 +107,7 @@ impl Line {
         self.chunks.push_reserved(chunk);
     }
 
-    /// Puts one before the others, where there is room. Takes no memory.
+    /// Puts a chunk before the others, where there is room. Takes no memory.
     pub(crate) fn push_front_reserved(&mut self, chunk: Chunk)
         requires { length self.old.items < self.old.capacity }
         ensures items { self.new.items ≡ chunk ∷ self.old.items }
@@ -120,8 +120,7 @@ impl Line {
         self.chunks[self.gone] = chunk;
     }
 
-    /// Takes room for so many more, and for half as many as are there: so the others move to the front once in as many as those. Without
-    /// memory nothing changes.
+    /// Makes room for `more` more chunks, and for half as many as are there, so that moves to the front stay rare. Without memory nothing changes.
     pub(crate) fn reserve(&mut self, more: usize) -> Result<(), AllocError>
         ensures items { self.new.items ≡ self.old.items }
         ensures capacity { self.old.capacity ≤ self.new.capacity }
@@ -137,7 +136,7 @@ impl Line {
     }
 }
 
-// Moves the chunks from a place on to the front, and the others go.
+// Drops the first `gone` chunks, and moves the others to the front.
 fn move_up(chunks: &mut Vec<Chunk>, gone: usize)
     requires { gone ≤ vec_len chunks.old }
     ensures items { chunks.new.items ≡ drop gone chunks.old.items }
@@ -148,8 +147,8 @@ fn move_up(chunks: &mut Vec<Chunk>, gone: usize)
     chunks.truncate(left);
 }
 
-// Moves the chunks away from the front, and answers by how many places: half as many as there are, as far as there is room, so that those
-// that come to the front one after another seldom move them. A chunk stands in the places that are free.
+// Moves the chunks away from the front, and answers by how many places: half as many as there are chunks, as far as there is room, so that chunks put
+// in front one after another seldom move them. The free places hold copies of `chunk`.
 fn free_front(chunks: &mut Vec<Chunk>, chunk: Chunk) -> usize
     requires { vec_len chunks.old < vec_capacity chunks.old }
     ensures some { 1 ≤ result }

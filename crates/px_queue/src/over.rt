@@ -1,4 +1,4 @@
-// Bytes are laid over others, and those below a byte index go.
+// Laying bytes over others.
 ghost use Rattle.std.specs.Prelude.{◌≡◌, ℕ, ◌+◌, ◌<◌, ◌≤◌, [], ◌++◌, length, IsTrue, IsFalse};
 ghost use Rattle.px_block.specs.Given.{after_giving, blocks_for};
 ghost use Rattle.px_queue.specs.Pieces.{byte_in, byte_at, end_of, first_of, last_of, Rise};
@@ -8,7 +8,7 @@ use crate::chunks::Chunks;
 use px_block::{BlockSource, Blocks};
 
 impl Chunks {
-    /// Lays bytes over what lies there, up to a byte index. What lies under them goes, and a block without a reference back to its source.
+    /// Lays bytes from byte index `at` to `end`, over what is held there. A block whose last chunk goes returns to its source.
     pub(crate) fn write<B: BlockSource>(
         &mut self,
         at: u128,
@@ -34,7 +34,7 @@ impl Chunks {
         self.join();
     }
 
-    // Takes out what lies from one byte index to another, and stands between what is left.
+    // Takes out what lies from byte index `from` to `to`, and leaves `before` and `behind` split there.
     fn clear<B: BlockSource>(&mut self, from: u128, to: u128, source: &mut B)
         requires rest { self.old.behind ≡ [] }
         requires rising { Rise 0 TOP self.old.before }
@@ -58,7 +58,7 @@ impl Chunks {
         self.cut(from);
     }
 
-    // Whether the last one before begins at or past a byte index.
+    // Whether the last chunk of `before` begins at or past byte index `at`.
     fn begins_from(&self, at: u128) -> bool
         ensures some { IsTrue result → 0 < length self.now.before }
         ensures yes { IsTrue result → at ≤ (last_of self.now.before).at }
@@ -70,7 +70,7 @@ impl Chunks {
         self.last_first() >= at
     }
 
-    // Whether the last one before goes past a byte index.
+    // Whether the last chunk of `before` goes past byte index `at`.
     fn goes_past(&self, at: u128) -> bool
         ensures some { IsTrue result → 0 < length self.now.before }
         ensures yes { IsTrue result → at ≤ end_of (last_of self.now.before) }
@@ -82,7 +82,7 @@ impl Chunks {
         self.last_end() > at
     }
 
-    // Goes back until the last one before begins below a byte index.
+    // Moves chunks to `behind` until the last of `before` begins below byte index `at`.
     fn part(&mut self, at: u128)
         requires rest { self.old.behind ≡ [] }
         requires rising { Rise 0 TOP self.old.before }
@@ -99,7 +99,7 @@ impl Chunks {
         }
     }
 
-    // Splits the last one before where it goes past a byte index.
+    // Splits the last chunk of `before` at byte index `at`, where it goes past it.
     fn split(&mut self, at: u128)
         requires rising { Rise 0 TOP (self.old.before ++ self.old.behind) }
         requires last { 0 < length self.old.before → (last_of self.old.before).at < at }
@@ -117,7 +117,7 @@ impl Chunks {
         }
     }
 
-    // Drops the last ones before while they begin at or past a byte index.
+    // Drops the last chunks of `before` that begin at or past byte index `from`.
     fn drop_from<B: BlockSource>(&mut self, from: u128, source: &mut B)
         requires { (to : ℕ) × (from ≤ to) × Rise 0 to self.old.before }
         ensures before { (to : ℕ) → Rise 0 to self.old.before → Rise 0 to self.new.before }
@@ -133,7 +133,7 @@ impl Chunks {
         }
     }
 
-    // Cuts the last one before where it goes past a byte index.
+    // Cuts the last chunk of `before` at byte index `at`, where it goes past it.
     fn cut(&mut self, at: u128)
         requires rising { (to : ℕ) × (at ≤ to) × Rise 0 to self.old.before }
         requires last { 0 < length self.old.before → (last_of self.old.before).at < at }
@@ -149,7 +149,7 @@ impl Chunks {
         }
     }
 
-    // Goes on to the end.
+    // Moves `behind` to `before`.
     fn join(&mut self)
         ensures before { self.new.before ≡ self.old.before ++ self.old.behind }
         ensures rest { self.new.behind ≡ [] }

@@ -1,4 +1,4 @@
-// What lies before a byte index goes.
+// Dropping the bytes before a byte index.
 ghost use Rattle.std.specs.Prelude.{◌≡◌, ℕ, ◌<◌, ◌≤◌, [], length, slice_index_or, IsTrue, IsFalse};
 ghost use Rattle.px_block.specs.Given.{after_giving};
 ghost use Rattle.px_queue.specs.Pieces.{Piece, byte_at, end_of, Rise};
@@ -8,7 +8,7 @@ use crate::chunks::Chunks;
 use px_block::BlockSource;
 
 impl Chunks {
-    /// Drops what lies before a byte index. A block without a reference goes back to its source.
+    /// Drops the bytes before byte index `from`. A block whose last chunk goes returns to its source.
     pub(crate) fn forget<B: BlockSource>(&mut self, from: u128, source: &mut B)
         requires rising { Rise 0 TOP self.old.before }
         requires top { from ≤ TOP }
@@ -23,7 +23,7 @@ impl Chunks {
         self.cut_past(from);
     }
 
-    // Drops the first ones while they end at or before a byte index.
+    // Drops the first chunks that end at or before byte index `from`.
     fn drop_past<B: BlockSource>(&mut self, from: u128, source: &mut B)
         requires rising { Rise 0 TOP self.old.before }
         ensures rising { Rise 0 TOP self.new.before }
@@ -39,7 +39,7 @@ impl Chunks {
         }
     }
 
-    // Cuts the first one where it begins before a byte index.
+    // Cuts the first chunk at byte index `from`, where it begins before it.
     fn cut_past(&mut self, from: u128)
         requires rising { Rise 0 TOP self.old.before }
         requires top { from ≤ TOP }
@@ -56,7 +56,7 @@ impl Chunks {
         }
     }
 
-    // Whether the first one ends at or before a byte index.
+    // Whether the first chunk ends at or before byte index `from`.
     fn ends_by(&self, from: u128) -> bool
         ensures some { IsTrue result → 0 < length self.now.before }
         ensures yes { IsTrue result → (d : Piece) → end_of (slice_index_or self.now.before 0 d) ≤ from }
@@ -68,7 +68,7 @@ impl Chunks {
         self.end(0) <= from
     }
 
-    // Whether the first one begins before a byte index.
+    // Whether the first chunk begins before byte index `from`.
     fn begins_below(&self, from: u128) -> bool
         ensures some { IsTrue result → 0 < length self.now.before }
         ensures yes { IsTrue result → (d : Piece) → (slice_index_or self.now.before 0 d).at ≤ from }
@@ -80,7 +80,7 @@ impl Chunks {
         self.first(0) < from
     }
 
-    /// Drops all. Each block goes back to its source.
+    /// Drops all chunks. Each block goes back to its source.
     pub(crate) fn forget_all<B: BlockSource>(&mut self, source: &mut B)
         requires rest { self.old.behind ≡ [] }
         ensures before { self.new.before ≡ [] }

@@ -1,25 +1,25 @@
-// Frames are copied out, or lent.
+// Copying frames out, or lending them.
 ghost use Rattle.std.specs.Prelude.{◌≡◌, ℕ, ◌+◌, ◌*◌, ◌/◌, ◌<◌, ◌≤◌, length, take, drop, IsSome, None, Some};
 ghost use Rattle.px_model.specs.Held.{place};
 ghost use Rattle.px_queue.specs.Peeked.{Peeks, LendsFrames, Copies};
 
 use crate::FrameQueue;
 
-/// What stands at a place ahead of the read index.
+/// What a peek finds past the read index.
 #[derive(Clone, Copy, Debug, PartialEq, Eq)]
 pub enum Span {
-    /// So many frames, at least one.
+    /// The number of frames, at least one.
     Frames(u32),
-    /// So many places, at least one, at which none is held.
+    /// The number of silent places, at least one: no frame is held there.
     Silence(u32),
-    /// Nothing: the queue waits for more frames, or ends before.
+    /// Nothing: the queue is short of prebuf, or ends before.
     Nothing,
 }
 
 impl FrameQueue {
-    /// Copies the frames that are held from `k` frames past the read index on to the front of `out`, as many as there are one after
-    /// another and fit, or says how many places there are silent. The rest of `out` stays. Takes no memory.
-    /// (PulseAudio: `pa_memblockq_peek`, which lends a block; own: frames are copied.)
+    /// Copies the frames held from `k` frames past the read index on to the front of `out`. It stops at the first hole or the end of `out`; where
+    /// place `k` is a hole it answers how many places are silent there. The rest of `out` stays. Takes no memory. (PulseAudio: `pa_memblockq_peek`,
+    /// which lends a block; own: frames are copied.)
     pub fn peek(&self, k: u32, out: &mut [u8]) -> Span
         requires some { self.now.frame ≤ length out.old }
         requires whole { (n : ℕ) × (length out.old ≡ n * self.now.frame) }
@@ -39,9 +39,9 @@ impl FrameQueue {
         Span::Silence(self.holes(k, most))
     }
 
-    /// Lends the bytes of the frames that are held from `k` frames past the read index on, one after another: at most so many, and as many of
-    /// them as lie whole in the block that has the first byte. Empty where that is none: the queue waits for more frames, it ends before, no
-    /// frame is held there, or the frame lies in two blocks. Takes no memory. (PulseAudio: `pa_memblockq_peek`.)
+    /// Lends the bytes of the frames held from `k` frames past the read index on: at most `most`, and only whole frames of the block that has the
+    /// first byte. Empty where there is none: the queue is short of prebuf, it ends before, no frame is held there, or the frame lies in two blocks.
+    /// Takes no memory. (PulseAudio: `pa_memblockq_peek`.)
     pub fn lend(&self, k: u32, most: u32) -> &[u8]
         ensures { (n : ℕ) × LendsFrames self.now k most n result.now }
     {
@@ -54,7 +54,7 @@ impl FrameQueue {
         &bytes[..bytes.len() / size * size]
     }
 
-    // Copies the frames held from place k on, one after another, at most so many, and answers how many there are.
+    // Copies the frames held from place `k` on, up to the first hole and at most `most`, and answers how many.
     fn copy_frames(&self, k: u64, most: u32, out: &mut [u8]) -> u32
         requires { most * self.now.frame ≤ length out.old }
         ensures few { result ≤ most }
@@ -72,7 +72,7 @@ impl FrameQueue {
         frames as u32
     }
 
-    // How many places from place k on have no frame, one after another, at most so many.
+    // How many places from place `k` on are holes, at most `most`.
     fn holes(&self, k: u32, most: u32) -> u32
         ensures few { result ≤ most }
         ensures holes { (j : ℕ) → j < result → place self.now.queue.held (k + j) ≡ None }
@@ -89,7 +89,7 @@ impl FrameQueue {
         count
     }
 
-    // How many places from a place on have no frame, at most so many: none only where a frame is held at that place.
+    // How many places from place `k` on are surely holes, at most `most`: 0 only where a frame is held at `k`.
     fn hole(&self, k: u64, most: u32) -> u32
         requires some { 1 ≤ most }
         ensures few { result ≤ most }
@@ -112,7 +112,7 @@ impl FrameQueue {
         gap.max(1) as u32
     }
 
-    /// Copies the frame held at a place past the read index, and answers whether one is.
+    /// Copies the frame held at place `k` past the read index, and answers whether there is one.
     pub(crate) fn copy_frame(&self, k: u64, out: &mut [u8]) -> bool
         requires { length out.old ≡ self.now.frame }
         ensures { Copies result (place self.now.queue.held k) out.old out.new }
@@ -121,7 +121,7 @@ impl FrameQueue {
     }
 }
 
-// How many frames of so many bytes there are in these. One is found without a division.
+// How many whole frames of `size` bytes these bytes have. One is found without a division.
 fn frames_in(bytes: usize, size: usize) -> usize
     requires { 1 ≤ size }
     ensures { result ≡ bytes / size }

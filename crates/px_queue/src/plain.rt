@@ -10,7 +10,7 @@ use px_types::{Mem, Text};
 use std::alloc::Global;
 
 impl FrameQueue {
-    /// The frames that it holds, each with its index, in rising order, with its two indices and its prebuffering.
+    /// The frames that it holds, in rising order and each with its index, both indices, and the prebuffering.
     pub fn plain(&self, alloc: Global) -> Mem<PlainQueue>
         ensures { IfOk result (λ plain. plain ≡ plain_of self.now.queue) }
     {
@@ -23,7 +23,7 @@ impl FrameQueue {
         })
     }
 
-    // The frames that it holds.
+    // Its frames, each with its index.
     fn plain_frames(&self, alloc: Global) -> Mem<Vec<PlainFrame>>
         ensures { IfOk result (λ frames. frames.items ≡ frames_up_to self.now.queue (length self.now.queue.held)) }
     {
@@ -34,7 +34,7 @@ impl FrameQueue {
         Ok(frames)
     }
 
-    // One more, where it holds one at place k.
+    // Appends the frame at place `k`, where one is held.
     fn add_frame(&self, alloc: Global, k: u64, frames: &mut Vec<PlainFrame>) -> Mem<()>
         requires { k < length self.now.queue.held }
         ensures { OnOk result (frames.new.items ≡ frames.old.items ++ frame_at (onward self.now.queue.read k) (place self.now.queue.held k)) }

@@ -1,4 +1,4 @@
-// Frames are written.
+// Writing frames.
 ghost use Rattle.std.specs.Prelude.{◌≡◌, ℤ, List, ◌<◌, ◌+◌, ◌*◌, ◌≤◌, ◌-ℤ◌, int_lt, length, ◌==◌, ◌&&◌, ◌||◌, if◌then◌else◌, nat_lt, IfOk, IfErr};
 ghost use Rattle.px_block.specs.Given.{after_giving, blocks_for};
 ghost use Rattle.px_model.specs.Frame.{Frame, frames_of};
@@ -17,19 +17,18 @@ use px_block::{BlockSource, Blocks};
 pub enum Pushed {
     /// The frames are held.
     Stored,
-    /// They end at this index, past the end of what is held, and more than the limit past the ahead index. They aren't held, and the
-    /// write index stands behind them.
+    /// They would end at index `end`, past the end of what is held and more than `limit` past the ahead index. They aren't held, and the write index
+    /// goes to `end`.
     Overflow { end: i64, limit: i64 },
-    /// They would begin or end at this number, which is no index. Nothing changes.
+    /// They would begin or end at `at`, which is no index. Nothing changes.
     Outside { at: i128 },
 }
 
 impl FrameQueue {
-    /// Writes so many frames at the index that a seek goes to, where at most `limit` frames may wait past the index `ahead`: the mode of
-    /// the seek as on the wire, 0 to 3, and its offset in frames. They replace what is held there; what lies before the read index
-    /// is dropped. A block that isn't kept, or no longer, goes back to the source: one of frames that aren't held, that are copied behind others, or that
-    /// all are written over. Takes room for one write with its blocks, and no memory.
-    /// (PulseAudio: `pa_memblockq_seek` and `pa_memblockq_push`; own: the limit counts from the ahead index.)
+    /// Writes `frames` frames where a seek goes, with at most `limit` frames waiting past the index `ahead`. `seek` is its mode as on the wire, 0 to
+    /// 3, and `offset` is in frames. They replace what is held there; those before the read index are dropped. A block that isn't used, or no longer,
+    /// goes back to the source: of frames that aren't held, that are copied into another block, or that are all overwritten. Takes room for one write
+    /// with its blocks, and no memory. (PulseAudio: `pa_memblockq_seek` and `pa_memblockq_push`; own: the limit counts from the ahead index.)
     pub fn push<B: BlockSource>(
         &mut self,
         seek: u8,
@@ -71,9 +70,9 @@ impl FrameQueue {
         Pushed::Stored
     }
 
-    /// How many of the next `mixed` frames are heard as before once so many frames are written with this seek, where at most `limit` may
-    /// wait past the index `ahead`: all of them where the frames aren't held, and those before the frames where they are; none where the
-    /// queue was short and isn't, or is and wasn't.
+    /// How many of the next `mixed` frames sound as before once `frames` frames are written with this seek. At most `limit` may wait past the index
+    /// `ahead`. It is all of them where the frames aren't held, else those before the frames; none where the write changes whether the queue is
+    /// short.
     pub fn unaltered(
         &self,
         seek: u8,
@@ -96,7 +95,7 @@ impl FrameQueue {
         }
     }
 
-    // The same where the frames begin and end at these indices, by whether they go past the limit.
+    // The same for frames from index `at` to `end`; `refused` is whether they go past the limit.
     fn unaltered_between(&self, at: Index, end: Index, refused: bool, mixed: u64) -> u64
         ensures { (written : List Frame) → end ≡ onward at (length written)
             → result ≡ unaltered_by (if refused then overflow else stored) self.now.queue at written mixed }
@@ -110,14 +109,14 @@ impl FrameQueue {
         at.above(self.read).min(mixed)
     }
 
-    // Whether it waits for more frames before it plays with its write index there.
+    // Whether it would be short of prebuf with its write index at `write`.
     fn is_short_at(&self, write: Index) -> bool
         ensures { result ≡ is_short (record self.now.queue { write = write }) }
     {
         self.hold && write.above(self.read) < self.prebuf as u64
     }
 
-    // The indices at which so many frames begin and end; the first of the two numbers that is no index.
+    // The indices at which `frames` frames begin and end; an error with the first of them that is no index.
     fn place(&self, seek: u8, offset: i64, frames: u32) -> Result<(Index, Index), i128>
         ensures ok { IfOk result (λ both. IsPlaced (target_of self.now.queue (seek_of seek) offset) frames both.0 both.1) }
         ensures err { IfErr result (λ at. IsMissed (target_of self.now.queue (seek_of seek) offset) frames at) }
@@ -127,7 +126,7 @@ impl FrameQueue {
         Ok((at, end))
     }
 
-    // What the offset of a seek of this mode counts from.
+    // The index from which a seek of this mode counts its offset.
     fn origin(&self, seek: u8) -> Index
         ensures { result ≡ origin_of self.now.queue (seek_of seek) }
     {
@@ -139,14 +138,14 @@ impl FrameQueue {
         }
     }
 
-    // Whether frames that end there go past the end of what is held and past the limit.
+    // Whether frames that end at `end` go past the end of what is held and past the limit.
     fn overflows(&self, end: Index, ahead: i64, limit: i64) -> bool
         ensures { result ≡ ((length self.now.queue.held == 0 || int_lt (end_of self.now.queue) end) && int_lt limit (end -ℤ ahead)) }
     {
         (self.held == 0 || self.end().is_below(end)) && end.is_past(ahead, limit)
     }
 
-    // Goes on writing at an index, with nothing stored before it.
+    // Moves the write index to `end`, and stores nothing.
     fn skip_to(&mut self, end: Index)
         ensures queue { (p : ℤ) (frames : List Frame) → end ≡ onward p (length frames) → self.new.queue ≡ queue_with overflow self.old.queue p frames }
         ensures frame { self.new.frame ≡ self.old.frame }
@@ -157,7 +156,7 @@ impl FrameQueue {
         self.write = end;
     }
 
-    // Holds frames over what is held, and goes on writing behind them.
+    // Stores frames over what is held, and moves the write index to `end`.
     fn store<B: BlockSource>(
         &mut self,
         at: Index,
@@ -194,14 +193,14 @@ impl FrameQueue {
     }
 }
 
-// How far so many frames reach past a read index, that end there.
+// How far past the read index frames reach that end at `end`, 0 for no frames.
 fn reach(frames: u32, end: Index, read: Index) -> u64
     ensures { result ≡ (if nat_lt 0 frames then above end read else 0) }
 {
     if frames > 0 { end.above(read) } else { 0 }
 }
 
-// Whether two answers differ.
+// Whether both differ.
 fn is_other(one: bool, other: bool) -> bool
     ensures { result ≡ is_other one other }
 {

@@ -14,8 +14,8 @@ use px_types::{Mem, NoMemory};
 use std::alloc::Global;
 use std::marker::Model;
 
-/// A queue of frames (PulseAudio: `pa_memblockq`). Indices are frames, and its bytes whole frames of one size. It counts the places from
-/// the read index to the last frame held, and the writes and blocks that it has room for.
+/// A queue of frames (PulseAudio: `pa_memblockq`). Indices count frames, and its bytes are whole frames of one size. `held` counts the places from
+/// the read index to the last frame held; `room` and `block_room` are the writes and blocks that it has room for.
 #[derive(Debug, Drop)]
 pub struct FrameQueue {
     pub(crate) frame: u32,
@@ -51,7 +51,7 @@ impl Model for FrameQueue {
 }
 
 impl FrameQueue {
-    /// An empty queue of frames of so many bytes, at least one, with both indices at 0 and without prebuffering. Takes no memory.
+    /// An empty queue of frames of `frame_size` bytes, at least 1, with both indices at 0 and without prebuffering. Takes no memory.
     pub fn new(alloc: Global, frame_size: u32) -> FrameQueue
         requires { 1 ≤ frame_size }
         ensures queue { result.queue ≡ new_queue 0 }
@@ -71,9 +71,8 @@ impl FrameQueue {
         }
     }
 
-    /// Takes room for so many more writes, with so many blocks in all. Without memory nothing changes. (A write brings the memory of its
-    /// blocks: the room is for what names their parts.) Where the newest block has few bytes it gets room for others behind them, if there
-    /// is memory.
+    /// Makes room for `writes` more writes, with `blocks` blocks in all. Without memory nothing changes. (A write brings the memory of its blocks:
+    /// the room is for chunks.) Where the newest block has few bytes it gets room for more, if there is memory.
     pub fn reserve(&mut self, writes: u32, blocks: u32) -> Mem<()>
         ensures ok { OnOk result ((writes ≤ self.new.room) × (blocks ≤ self.new.block_room)) }
         ensures queue { self.new.queue ≡ self.old.queue }
@@ -120,28 +119,28 @@ impl FrameQueue {
         self.write.number().max(self.end().number())
     }
 
-    // One past the last frame held, and the read index where none is held.
+    // One past the last frame held; the read index where none is held.
     pub(crate) fn end(&self) -> Index
         ensures { result ≡ end_of self.now.queue }
     {
         self.read.onward(self.held)
     }
 
-    // How many frames wait, up to the write index or the last one held.
+    // How many frames wait, up to the write index or the last frame held.
     pub(crate) fn left(&self) -> u64
         ensures { result ≡ left_of self.now.queue }
     {
         self.write.above(self.read).max(self.held)
     }
 
-    // Whether it waits for more frames before it plays.
+    // Whether it is short: it waits for prebuf frames before it plays.
     pub(crate) fn is_short(&self) -> bool
         ensures { result ≡ is_short self.now.queue }
     {
         self.hold && self.write.above(self.read) < self.prebuf as u64
     }
 
-    /// How many of the next frames of its sink it gives, the first of them.
+    /// How many of the next `frames` frames of its sink it gives, always the first ones.
     pub fn given(&self, frames: u64) -> u64
         ensures { result ≡ queue_given self.now.queue frames }
     {
@@ -152,14 +151,14 @@ impl FrameQueue {
         }
     }
 
-    /// Its read index once so many frames of its sink are given.
+    /// Its read index after `frames` more frames of its sink.
     pub fn ahead_index(&self, frames: u64) -> i64
         ensures { result ≡ (queue_after self.now.queue frames).read }
     {
         self.ahead(frames).number()
     }
 
-    // Its read index so many frames of its sink on.
+    // Its read index after `frames` more frames of its sink.
     fn ahead(&self, frames: u64) -> Index
         ensures { result ≡ (queue_after self.now.queue frames).read }
     {
@@ -175,8 +174,8 @@ impl FrameQueue {
         self.read.onward(step)
     }
 
-    /// Goes so many frames of its sink forward, and answers how many of them it gave, the first ones. What lies before the read index goes.
-    /// Takes no memory. (PulseAudio: `pa_memblockq_drop`.)
+    /// Moves `frames` frames of its sink forward, and answers how many of them it gave, always the first ones. What lies before the read index is
+    /// dropped. Takes no memory. (PulseAudio: `pa_memblockq_drop`.)
     pub fn settle<B: BlockSource>(&mut self, frames: u64, blocks: &mut B) -> u64
         ensures value { result ≡ queue_given self.old.queue frames }
         ensures queue { self.new.queue ≡ queue_after self.old.queue frames }
@@ -191,7 +190,7 @@ impl FrameQueue {
         given
     }
 
-    // Goes so many frames of its sink forward.
+    // Moves the read index `frames` frames of its sink forward.
     fn go(&mut self, frames: u64)
         ensures queue { self.new.queue ≡ queue_after self.old.queue frames }
         ensures frame { self.new.frame ≡ self.old.frame }
@@ -209,7 +208,7 @@ impl FrameQueue {
         self.read = self.read.onward(step);
     }
 
-    // Lets go of what lies before the read index.
+    // Drops the bytes before the read index.
     fn forget<B: BlockSource>(&mut self, blocks: &mut B)
         ensures queue { self.new.queue ≡ self.old.queue }
         ensures frame { self.new.frame ≡ self.old.frame }
@@ -236,8 +235,8 @@ impl FrameQueue {
         self.hold = self.prebuf > 0;
     }
 
-    /// Whether it waits for prebuf frames before it plays; it can only where prebuf is above 0. (PulseAudio: `pa_memblockq_prebuf_force`
-    /// and `pa_memblockq_prebuf_disable`.)
+    /// Sets whether it waits for prebuf frames before it plays; it does only where prebuf is above 0. (PulseAudio: `pa_memblockq_prebuf_force` and
+    /// `pa_memblockq_prebuf_disable`.)
     pub fn set_hold(&mut self, on: bool)
         requires { IsTrue on → 0 < self.old.queue.prebuf }
         ensures queue { self.new.queue ≡ with_hold self.old.queue on }
@@ -249,7 +248,7 @@ impl FrameQueue {
         self.hold = on;
     }
 
-    /// Waits for so many frames from then on; at 0 for none.
+    /// Sets prebuf to `frames`; at 0 it waits for none.
     pub fn set_prebuf(&mut self, frames: u32)
         ensures queue { self.new.queue ≡ with_prebuf self.old.queue frames }
         ensures frame { self.new.frame ≡ self.old.frame }
@@ -262,7 +261,7 @@ impl FrameQueue {
     }
 }
 
-// How far the read index goes: to the last index without prebuffering, and to the last frame with it.
+// How far the read index goes: up to the last index (`room`) without prebuffering, and up to the last frame (`left`) with it.
 fn step(prebuf: u32, frames: u64, room: u64, left: u64) -> u64
     ensures { result ≡ step_by prebuf frames room left }
 {
@@ -273,7 +272,7 @@ fn step(prebuf: u32, frames: u64, room: u64, left: u64) -> u64
     }
 }
 
-// Whether the frames run out with prebuffering.
+// Whether it runs out within `frames` frames, with prebuffering.
 fn runs_out(prebuf: u32, frames: u64, left: u64) -> bool
     ensures { result ≡ (nat_lt 0 prebuf && nat_lt left frames) }
 {

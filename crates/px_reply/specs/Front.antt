@@ -1,8 +1,8 @@
--- How the server's packets begin, and what several of them have.
+-- The common parts of the server's packets.
 use Rattle.std.specs.Prelude.{ℕ, List, ◌++◌, codes, slice_index, Some}
 use Rattle.px_tag.specs.Item.{number, text}
 
--- a reply: 2, and the tag of the packet that asked
+-- a reply: 2, and the tag of the command that it answers
 abbrev pub reply_to : ℕ → List ℕ
 reply_to tag = number 2 ++ number tag
 
@@ -22,6 +22,6 @@ nothing = 0xFFFFFFFF
 abbrev pub driver : List ℕ
 driver = text (Some (codes "pulse_rw"))
 
--- bytes, and then maxlength, tlength, prebuf and minreq
+-- bytes, followed by maxlength, tlength, prebuf and minreq
 abbrev pub with_attributes : List ℕ → List ℕ → List ℕ
 with_attributes bytes attr = bytes ++ number (slice_index attr 0) ++ number (slice_index attr 1) ++ number (slice_index attr 2) ++ number (slice_index attr 3)

@@ -1,4 +1,4 @@
--- What the server tells of itself, its sinks, inputs and clients.
+-- Descriptions of the server, its sinks, inputs and clients.
 use Rattle.std.specs.Prelude.{ℕ, List, [], ◌++◌, codes, fold, None, Some}
 use Rattle.px_tag.specs.Item.{number, text, flag, usec, spec, channel_map, channel_volumes, proplist}
 use Rattle.px_reply.specs.declared.info.ServerInfo.{ServerInfo}
@@ -11,21 +11,21 @@ use Rattle.px_reply.specs.Front.{reply_to, nothing, driver}
 abbrev pub server_reply : ℕ → ServerInfo → List ℕ
 server_reply tag i = reply_to tag ++ driver ++ text (Some (codes "1")) ++ text (Some (codes "pulse")) ++ text (Some (codes "localhost")) ++ spec i.spec ++ text (Some i.name) ++ text None ++ number 0
 
--- bytes, and then a sink: index, name, description, spec, map, module, volume, mute, monitor's index and name, latency,
--- driver, flags, properties, configured latency
+-- bytes, followed by a sink: index, name, description, spec, map, module, volume, mute, monitor's index and name, latency, driver, flags,
+-- properties, configured latency
 abbrev pub with_sink : List ℕ → SinkInfo → List ℕ
 with_sink bytes i = bytes ++ number i.index ++ text (Some i.name) ++ text (Some i.name) ++ spec i.spec ++ channel_map i.map ++ number nothing ++ channel_volumes i.volume ++ flag i.mute ++ number nothing ++ text None ++ usec 0 ++ driver ++ number 0x60 ++ proplist [] ++ usec 0
 
--- bytes, and then a sink input: index, name, module, client, sink, spec, map, volume, buffer's and sink's latency,
--- resample method, driver, mute, properties
+-- bytes, followed by a sink input: index, name, module, client, sink, spec, map, volume, buffer's and sink's latency, resample method,
+-- driver, mute, properties
 abbrev pub with_input : List ℕ → InputInfo → List ℕ
 with_input bytes i = bytes ++ number i.index ++ text i.name ++ number nothing ++ number i.client ++ number i.sink ++ spec i.spec ++ channel_map i.map ++ channel_volumes i.volume ++ usec 0 ++ usec 0 ++ text None ++ driver ++ flag i.mute ++ proplist i.list
 
--- bytes, and then a client: index, name, module, driver, properties
+-- bytes, followed by a client: index, name, module, driver, properties
 abbrev pub with_client : List ℕ → ClientInfo → List ℕ
 with_client bytes i = bytes ++ number i.index ++ text i.name ++ number nothing ++ driver ++ proplist i.list
 
--- one behind the other
+-- one sink after the other
 abbrev pub sinks_reply : ℕ → List SinkInfo → List ℕ
 sinks_reply tag infos = fold with_sink (reply_to tag) infos
 

@@ -1,12 +1,12 @@
--- The replies that a command gets, and the messages that the server sends by itself.
+-- The replies to the stream commands, and the messages that the server sends by itself.
 use Rattle.std.specs.Prelude.{ℕ, false, List, ◌++◌, slice_index, Some}
 use Rattle.px_tag.specs.Item.{number, text, flag, usec, wide, signed, time, spec, channel_map}
 use Rattle.px_reply.specs.declared.played.Created.{Created}
 use Rattle.px_reply.specs.declared.played.LatencyFields.{LatencyFields}
 use Rattle.px_reply.specs.Front.{reply_to, message, with_attributes}
 
--- CREATE_PLAYBACK_STREAM: stream, input, the bytes asked for, attributes, spec, map, sink index and name, not
--- suspended, microseconds of latency
+-- CREATE_PLAYBACK_STREAM: stream, input, the bytes requested, attributes, spec, map, sink index and name, not suspended, microseconds of
+-- latency
 abbrev pub created_reply : ℕ → Created → List ℕ
 created_reply tag c = with_attributes (reply_to tag ++ number c.stream ++ number c.input ++ number (slice_index c.attr 1)) c.attr ++ spec c.spec ++ channel_map c.map ++ number c.sink ++ text (Some c.name) ++ flag false ++ usec c.usec
 

@@ -1,9 +1,9 @@
-//! What the server tells of itself, its sinks, inputs and clients.
+//! Descriptions of the server, its sinks, inputs and clients.
 
 use px_tag::{PropList, RawMap, RawSpec, RawVolume};
 use px_types::Text;
 
-/// The server: the default sink's spec, name and map. The map is told from version 15 on.
+/// The server: the default sink's spec, name and map. The map is sent from version 15 on.
 #[derive(Drop)]
 pub struct ServerInfo {
     pub spec: RawSpec,

@@ -39,7 +39,7 @@ fn of_numbers(alloc: Global, command: u32, first: u32, second: u32) -> Mem<Packe
     Ok(writer.finish())
 }
 
-/// REQUEST: the stream may be sent so many bytes more.
+/// REQUEST: the client may send `bytes` more bytes for the stream.
 pub fn request(alloc: Global, stream: u32, bytes: u32) -> Mem<Packet>
     ensures { IfOk result (λ packet. packet ≡ message 61 ++ number stream ++ number bytes) }
 {
@@ -53,14 +53,14 @@ pub fn overflow(alloc: Global, stream: u32) -> Mem<Packet>
     of_number(alloc, 62, stream)
 }
 
-/// UNDERFLOW: the stream has run out of frames.
+/// UNDERFLOW: the stream has run out of frames (an underrun).
 pub fn underflow(alloc: Global, stream: u32) -> Mem<Packet>
     ensures { IfOk result (λ packet. packet ≡ message 63 ++ number stream) }
 {
     of_number(alloc, 63, stream)
 }
 
-/// PLAYBACK_STREAM_KILLED: the stream is no more.
+/// PLAYBACK_STREAM_KILLED: the stream was killed.
 pub fn killed(alloc: Global, stream: u32) -> Mem<Packet>
     ensures { IfOk result (λ packet. packet ≡ message 64 ++ number stream) }
 {
@@ -74,7 +74,7 @@ pub fn started(alloc: Global, stream: u32) -> Mem<Packet>
     of_number(alloc, 86, stream)
 }
 
-/// SUBSCRIBE_EVENT: what happened (facility and kind together), and to which index.
+/// SUBSCRIBE_EVENT: `kind` is the facility and the type of the event together, `index` the object's index.
 pub fn event(alloc: Global, kind: u32, index: u32) -> Mem<Packet>
     ensures { IfOk result (λ packet. packet ≡ message 66 ++ number kind ++ number index) }
 {

@@ -1,10 +1,10 @@
-//! What the replies to the commands of playback streams say.
+//! The contents of the replies to the commands of playback streams.
 
 use px_tag::{RawMap, RawSpec, TimeVal};
 use px_types::Text;
 
-/// What CREATE_PLAYBACK_STREAM made. `attr` is maxlength, tlength, prebuf and minreq, in bytes; `usec` is the
-/// sink's latency in microseconds.
+/// A stream that CREATE_PLAYBACK_STREAM made. `attr` is maxlength, tlength, prebuf and minreq, in bytes; `usec` is the sink's latency in
+/// microseconds.
 #[derive(Drop)]
 pub struct Created {
     pub stream: u32,
@@ -17,8 +17,7 @@ pub struct Created {
     pub usec: u64,
 }
 
-/// Where a stream is. `usec` is what is buffered, in microseconds; the indices and the last two numbers are in
-/// bytes.
+/// How far a stream has played. `usec` is what is buffered, in microseconds; the indices and the last two numbers are in bytes.
 #[derive(Clone, Copy, Debug, PartialEq, Eq)]
 pub struct LatencyFields {
     pub usec: u64,

@@ -1,4 +1,4 @@
-//! Replies of a number or none, and errors.
+//! Replies with one number or none, and errors.
 
 ghost use Rattle.std.specs.Prelude.{◌≡◌, ◌++◌, IfOk};
 ghost use Rattle.px_tag.specs.Item.{number};
@@ -28,7 +28,7 @@ fn of_number(alloc: Global, tag: u32, value: u32) -> Mem<Packet>
     Ok(writer.finish())
 }
 
-/// The error with this code, for the packet that had the tag.
+/// The error with this code, for the command with this tag.
 pub fn error(alloc: Global, tag: u32, code: ErrorCode) -> Mem<Packet>
     ensures { IfOk result (λ packet. packet ≡ refusal tag (code_of code)) }
 {

@@ -1,4 +1,4 @@
-//! Replies to the commands that ask what there is.
+//! Replies to the commands that get infos.
 
 ghost use Rattle.std.specs.Prelude.{◌≡◌, ◌++◌, ◌≤◌, [], None, Some, codes, All, IsTrue, IfOk, OnOk};
 ghost use Rattle.px_tag.specs.Item.{number, text, usec, spec, proplist, is_text, IsText};
@@ -12,8 +12,8 @@ use px_types::Text;
 use px_types::limits::NO_INDEX;
 use std::alloc::Global;
 
-/// What a sink can do: its latency is known, and its volume is in decibels (`PA_SINK_LATENCY`,
-/// `PA_SINK_DECIBEL_VOLUME` of `pulse/def.h`).
+/// The flags of every sink: its latency is known, and its volume is in decibels (`PA_SINK_LATENCY`, `PA_SINK_DECIBEL_VOLUME` of
+/// `pulse/def.h`).
 const SINK_FLAGS: u32 = 0x0060;
 
 fn put_driver(writer: &mut TagWriter) -> Mem<()>
@@ -59,7 +59,7 @@ pub fn server_info(alloc: Global, tag: u32, _version: u16, info: &ServerInfo) ->
     Ok(writer.finish())
 }
 
-// Appends what is the same of every sink: no monitor, no latency, the driver, the flags, no properties, no configured latency.
+// Appends what is the same for every sink: no monitor, no latency, the driver, the flags, no properties, no configured latency.
 fn put_unvaried(alloc: Global, writer: &mut TagWriter) -> Mem<()>
     ensures { OnOk result (writer.new ≡ writer.old ++ number nothing ++ text None ++ usec 0 ++ driver ++ number 0x60 ++ proplist [] ++ usec 0) }
 {

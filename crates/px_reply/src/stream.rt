@@ -21,7 +21,7 @@ pub(crate) fn put_attributes(writer: &mut TagWriter, attr: [u32; 4]) -> Mem<()>
     writer.number(minreq)
 }
 
-// Appends what a new stream is: its index, its input's, the bytes asked for and its attributes.
+// Appends a new stream's index, its input's index, the bytes requested and its attributes.
 fn put_made(writer: &mut TagWriter, fields: &Created) -> Mem<()>
     ensures { OnOk result (writer.new ≡ with_attributes (writer.old ++ number fields.now.stream ++ number fields.now.input ++ number (slice_index fields.now.attr 1)) fields.now.attr) }
 {
@@ -31,7 +31,7 @@ fn put_made(writer: &mut TagWriter, fields: &Created) -> Mem<()>
     put_attributes(writer, fields.attr)
 }
 
-// Appends where it plays: its spec, its map, its sink, which isn't suspended, and the microseconds of latency.
+// Appends where it plays: its spec, its map, its sink, which isn't suspended, and the latency in microseconds.
 fn put_place(writer: &mut TagWriter, fields: &Created) -> Mem<()>
     requires name { IsTrue (is_text fields.now.name) }
     requires channels { fields.now.spec.channels ≤ 32 }
@@ -57,7 +57,7 @@ pub fn created(alloc: Global, tag: u32, fields: &Created) -> Mem<Packet>
     Ok(writer.finish())
 }
 
-// Appends how far a stream is: write and read index, bytes of underrun, bytes playing.
+// Appends a stream's progress: write and read index, bytes of underrun, bytes playing.
 fn put_progress(writer: &mut TagWriter, fields: &LatencyFields) -> Mem<()>
     ensures { OnOk result (writer.new ≡ writer.old ++ signed fields.now.write ++ signed fields.now.read ++ wide fields.now.underrun ++ wide fields.now.played) }
 {

@@ -17,15 +17,14 @@ abbrev pub a_law_magnitude : ℕ → ℕ → ℕ
 a_law_magnitude zero step = 2 * step + 1
 a_law_magnitude (suc segment) step = (2 * step + 33) * 2 ^ segment
 
--- mu-law codes are sent with every bit inverted, and the highest says negative; four 14-bit steps are
--- one in 16 bits
+-- mu-law codes are sent with every bit inverted, and the highest bit means negative; four 14-bit steps are one in 16 bits
 abbrev pub mu_law_of : ℕ → ℤ
 mu_law_of code =
     let plain = 255 - code in
     let magnitude = 4 * mu_law_magnitude (segment_of plain) (step_of plain) in
     if nat_eq (plain / 128) 1 then neg_ℤ (pos magnitude) else pos magnitude
 
--- A-law codes are sent with every other bit inverted, and the highest says positive
+-- A-law codes are sent with every other bit inverted, and the highest bit means positive
 abbrev pub a_law_of : ℕ → ℤ
 a_law_of code =
     let plain = bit_xor code 0x55 in

@@ -1,4 +1,4 @@
--- Sample formats: their codes, how many bytes a sample has, and how wide its work value is.
+-- Sample formats: their codes, bytes per sample, and the width of their work values.
 use Rattle.std.specs.Prelude.{ℕ, ◌*◌, List, [], ◌∷◌, slice_index_or}
 use Rattle.px_sample.specs.declared.format.Width.{Width}
 use Rattle.px_sample.specs.declared.format.Width.TheVariants.{W8, W16, W32}
@@ -29,7 +29,7 @@ formats = U8 ∷ Alaw ∷ Ulaw ∷ S16Le ∷ S16Be ∷ Float32Le ∷ Float32Be �
 abbrev pub format_with : ℕ → Format
 format_with code = slice_index_or formats code U8
 
--- how many bytes a sample has
+-- bytes per sample
 abbrev pub size_of : Format → ℕ
 size_of U8 = 1
 size_of Alaw = 1
@@ -45,7 +45,7 @@ size_of S24Be = 3
 size_of S24In32Le = 4
 size_of S24In32Be = 4
 
--- how wide the work values of a format are
+-- the width of a format's work values
 abbrev pub width_of : Format → Width
 width_of U8 = W8
 width_of Alaw = W16
@@ -75,6 +75,6 @@ IsLinear Float32Le = ⊥
 IsLinear Float32Be = ⊥
 IsLinear _ = Unit {0}
 
--- how many bytes a frame has, one sample a channel
+-- bytes per frame, which has one sample a channel
 abbrev pub frame_size_of : Spec → ℕ
 frame_size_of spec = size_of spec.format * spec.channels

@@ -11,12 +11,12 @@ use Rattle.px_sample.specs.Format.{size_of}
 use Rattle.px_sample.specs.Bytes.{little_endian, big_endian, little_bytes, big_bytes, signed_of, unsigned_of}
 use Rattle.px_sample.specs.CompandedPcm.{a_law_of, mu_law_of}
 
--- the values that a width has room for
+-- the values that fit a width
 pub record IsWithin (width : Width) (value : ℤ) : Type 0 where
   pub low : neg_ℤ (pos (2 ^ (bits_of width - 1))) ≤ℤ value
   pub high : value <ℤ pos (2 ^ (bits_of width - 1))
 
--- the work value of a sample, from its bytes; floating point has none, and stands as silence
+-- the work value of a sample, from its bytes; floating point has none, and counts as silence
 abbrev pub work_value_of : Format → List ℕ → ℤ
 work_value_of U8 sample = pos (little_endian sample) -ℤ pos 128
 work_value_of Alaw sample = a_law_of (little_endian sample)
@@ -66,7 +66,7 @@ cleared_of S24In32Le sample = take 3 sample ++ 0 ∷ []
 cleared_of S24In32Be sample = 0 ∷ drop 1 sample
 cleared_of _ sample = sample
 
--- a work value brought to another width, rounded down where bits fall away
+-- a work value brought to another width, rounded down where bits are dropped
 abbrev pub at_width : Width → Width → ℤ → ℤ
 at_width from to value =
     int_div_euclid (value *ℤ pos (2 ^ (bits_of to - bits_of from))) (pos (2 ^ (bits_of from - bits_of to)))

@@ -25,7 +25,7 @@ pub trait WriteSample<const SIZE: usize> {
         ensures { result ≡ packed_sample format value };
 }
 
-/// The work values of samples, each in its place of `out`.
+/// Reads samples, and puts the work value of each into its place of `out`.
 pub fn read_all<const SIZE: usize, C: ReadSample<SIZE>>(bytes: &[u8], out: &mut [i32])
     requires some { 0 < SIZE }
     requires few { SIZE ≤ 4 }
@@ -39,7 +39,7 @@ pub fn read_all<const SIZE: usize, C: ReadSample<SIZE>>(bytes: &[u8], out: &mut 
     }
 }
 
-/// The samples that carry work values, one after another.
+/// Writes work values as samples, one after another.
 pub fn write_all<const SIZE: usize, C: WriteSample<SIZE>>(values: &[i32], out: &mut [u8])
     requires few { SIZE ≤ 4 }
     requires within { All (IsWithin (width_of C.format)) values.now }

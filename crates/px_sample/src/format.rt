@@ -2,10 +2,9 @@ ghost use Rattle.std.specs.Prelude.{◌≡◌, ◌≤◌, ◌↔◌, IsSome, IfS
 ghost use Rattle.px_sample.specs.Format.{code_of, size_of, width_of, IsWhole, IsLinear};
 ghost use Rattle.px_sample.specs.Width.{bits_of};
 
-/// How one sample lies in bytes: the formats of `pa_sample_format_t` in PulseAudio's `pulse/sample.h`,
-/// in the order of their codes, 0 to 12. `Le` has the least significant byte first, `Be` the most
-/// significant. `Alaw` and `Ulaw` are those of ITU-T G.711. `S24In32Le` and `S24In32Be` have 24 bits
-/// in the lower three bytes of four.
+/// The coding of a sample as bytes: the formats of `pa_sample_format_t` in PulseAudio's `pulse/sample.h`, in the order of their codes, 0 to
+/// 12. `Le` has the least significant byte first, `Be` the most significant. `Alaw` and `Ulaw` are those of ITU-T G.711. `S24In32Le` and
+/// `S24In32Be` have 24 bits in the lower three bytes of four.
 #[derive(Clone, Copy, Debug, PartialEq, Eq, Drop)]
 pub enum Format {
     U8,
@@ -23,7 +22,7 @@ pub enum Format {
     S24In32Be,
 }
 
-/// How wide a work value is, in bits with its sign.
+/// The width of work values, in bits with the sign.
 #[derive(Clone, Copy, Debug, PartialEq, Eq, Drop)]
 pub enum Width {
     W8,
@@ -63,7 +62,7 @@ impl Format {
         self as u8
     }
 
-    /// How many bytes a sample has: 1, 2, 3 or 4. Takes no memory.
+    /// Bytes per sample: 1, 2, 3 or 4. Takes no memory.
     pub fn size(self) -> usize
         ensures { result ≡ size_of self }
     {
@@ -80,8 +79,8 @@ impl Format {
         }
     }
 
-    /// How wide the work values are: 8 bits for `U8`, 16 for `S16` and G.711, else 32. Takes no
-    /// memory. (Own: PulseAudio mixes at the sink's format.)
+    /// The width of its work values: 8 bits for `U8`, 16 for `S16` and G.711, else 32. Takes no memory. (Own: PulseAudio mixes at the
+    /// sink's format.)
     pub fn width(self) -> Width
         ensures { result ≡ width_of self }
     {
@@ -116,7 +115,7 @@ impl Format {
 }
 
 impl Width {
-    /// How many bits a work value has, its sign among them: 8, 16 or 32. Takes no memory.
+    /// The bits of a work value, its sign among them: 8, 16 or 32. Takes no memory.
     pub fn bits(self) -> u32
         ensures { result ≡ bits_of self }
     {

@@ -49,7 +49,7 @@ fn a_law(code: u8) -> i32
     if plain < 0x80 { -magnitude } else { magnitude }
 }
 
-/// How far a mu-law code is from 0, at 16 bits.
+/// The distance of a mu-law code from 0, at 16 bits.
 fn mu_law_size(plain: u8) -> u32
     ensures value { result ≡ 4 * mu_law_magnitude (segment_of plain) (step_of plain) }
     ensures small { result < 2 ^ 15 }
@@ -58,7 +58,7 @@ fn mu_law_size(plain: u8) -> u32
     (((step << 3) + 132) << ((plain & 0x70) >> 4)) - 132
 }
 
-/// How far an A-law code is from 0, at 16 bits.
+/// The distance of an A-law code from 0, at 16 bits.
 fn a_law_size(plain: u8) -> u32
     ensures value { result ≡ 8 * a_law_magnitude (segment_of plain) (step_of plain) }
     ensures small { result < 2 ^ 15 }

@@ -1,7 +1,6 @@
-//! Sample formats, and the work values that samples are mixed as.
-//! `format` has the formats and their sizes and widths, `spec` the sample spec of a stream or a sink,
-//! `sample` reading and writing, `width` the way from one width to another. `coding` has the loops over
-//! samples, `linear` and `g711` one sample of each format.
+//! Sample formats, and the work values that samples are mixed as. `format` has the formats and their sizes and widths, `spec` the sample
+//! spec of a stream or a sink, `sample` reading and writing, `width` the conversion between widths. `coding` has the loops over samples,
+//! `linear` and `g711` one sample of each format.
 #![tactic(auto)]
 
 mod coding;

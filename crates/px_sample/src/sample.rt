@@ -7,10 +7,9 @@ use crate::format::Format;
 use crate::g711::{Alaw, Ulaw};
 use crate::linear::{S16Be, S16Le, S24Be, S24In32Be, S24In32Le, S24Le, S32Be, S32Le, U8};
 
-/// Reads samples of a whole-number format, and puts the work value of each into its place of `out`, at
-/// the format's own width. `bytes` has as many samples as `out` has places. 24 bits are read as the
-/// upper ones of 32, and the upper byte of `S24In32` is passed over. G.711 is expanded to 16 bits. Takes
-/// no memory. Source: PulseAudio's `pulsecore/sconv.c`, and ITU-T G.711.
+/// Reads samples of a whole-number format, and puts the work value of each into its place of `out`, at the format's own width. `bytes` has
+/// one sample for each place of `out`. 24 bits are read as the upper ones of 32, and the upper byte of `S24In32` is ignored. G.711 is
+/// expanded to 16 bits. Takes no memory. Source: PulseAudio's `pulsecore/sconv.c`, and ITU-T G.711.
 pub fn unpack(format: Format, bytes: &[u8], out: &mut [i32])
     requires whole { IsWhole format }
     requires lengths { length bytes.now ≡ size_of format * length out.old }
@@ -33,10 +32,9 @@ pub fn unpack(format: Format, bytes: &[u8], out: &mut [i32])
     }
 }
 
-/// Writes work values as samples of a linear format, one after another, so that `out` is full. The
-/// values are at the format's own width. Of 32 bits a 24-bit format keeps the upper ones; the upper byte
-/// of `S24In32` becomes 0 (own: PulseAudio leaves it open). Takes no memory. Source: PulseAudio's
-/// `pulsecore/sconv.c`.
+/// Writes work values as samples of a linear format, one after another, so that `out` is full. The values are at the format's own width. A
+/// 24-bit format takes the upper 24 of 32 bits; the upper byte of `S24In32` becomes 0 (own: PulseAudio leaves it open). Takes no memory.
+/// Source: PulseAudio's `pulsecore/sconv.c`.
 pub fn pack(format: Format, values: &[i32], out: &mut [u8])
     requires linear { IsLinear format }
     requires within { All (IsWithin (width_of format)) values.now }

@@ -3,8 +3,8 @@ ghost use Rattle.px_sample.specs.Format.{frame_size_of};
 
 use crate::format::Format;
 
-/// The sample spec of a stream or a sink, as `pa_sample_spec` in PulseAudio's `pulse/sample.h`: the
-/// format, how many channels there are, and the frames of a second.
+/// The sample spec of a stream or a sink, as `pa_sample_spec` in PulseAudio's `pulse/sample.h`: the format, the number of channels, and the
+/// frames per second.
 #[derive(Clone, Copy, Debug, PartialEq, Eq, Drop)]
 pub struct Spec {
     pub format: Format,
@@ -13,7 +13,7 @@ pub struct Spec {
 }
 
 impl Spec {
-    /// How many bytes a frame has, one sample a channel: from 0 to 1,020. Takes no memory.
+    /// Bytes per frame, which has one sample a channel: from 0 to 1,020. Takes no memory.
     pub fn frame_size(self) -> usize
         ensures { result ≡ frame_size_of self }
     {

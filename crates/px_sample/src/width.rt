@@ -3,7 +3,7 @@ ghost use Rattle.px_sample.specs.WorkValue.{at_width, IsWithin};
 
 use crate::format::Width;
 
-/// A step from one width to another.
+/// A conversion from one width to another.
 trait Rescale {
     ghost use Rattle.px_sample.specs.declared.format.Width.{Width};
 
@@ -112,9 +112,8 @@ impl Rescale for From32To16 {
 }
 
 #[tactic(auto, using(crate::proofs::WidthLemmas::same_width))]
-/// Brings work values from one width to another, in place: to a wider one by zeros below, to a
-/// narrower one by dropping bits, so that values round towards minus infinity. Takes no memory. (Own:
-/// PulseAudio converts to the sink's format.)
+/// Converts work values from one width to another, in place: to a wider one by zeros below, to a narrower one by dropping bits, so that
+/// values round towards minus infinity. Takes no memory. (Own: PulseAudio converts to the sink's format.)
 pub fn to_work(from: Width, to: Width, values: &mut [i32])
     requires { All (IsWithin from) values.old }
     ensures values { values.new ≡ map (at_width from to) values.old }

@@ -20,7 +20,7 @@ use Rattle.px_server.specs.declared.served.LanePart.{LanePart}
 use Rattle.px_workers.specs.declared.stop.Stop.{Stop}
 use Rattle.px_workers.specs.declared.stop.Stop.TheVariants as stops
 use Rattle.px_server.specs.Causes.{decided, undecided}
-use Rattle.px_workers.specs.Hosted.{IsLater, IsCauseOf}
+use Rattle.px_workers.specs.Hosted.{IsLater, IsCalm, IsCauseOf}
 use Rattle.px_server.specs.Hosted.{HasLent}
 use Rattle.px_workers.specs.Working.{Start, start_of, Unworked}
 use Rattle.px_server.specs.Parts.{Worked, AreParts, IsFrontOf, unworked, starts_of, starts_from}
@@ -37,6 +37,10 @@ pub replay_agreed : {C : Type 0} (began : State PlainStream) (cell : Cell C) (co
 replay_agreed began cell None none i e is = tt
 replay_agreed began cell (Some entries) replay i e is =
     let same : i ≡ 0 + i = omega arith in subst (λ (n : ℕ). IsAgreed began entries n e) same (replay.agreed i e is)
+
+starts_count : (index : ℕ) (sinks : List SinkSpec) → length (starts_from index sinks) ≡ length sinks
+starts_count index [] = refl
+starts_count index (s ∷ sinks) = ap suc (starts_count (index + 1) sinks)
 
 module _ {D R C : Type 0} (now : D → DeviceState) (visible : R → Option (List LaneEntry)) (faults fulls : R → ℕ) (core_visible : C → Option (List CoreEntry)) (core_faults core_fulls : C → ℕ) where
   -- a call whose workers were joined
@@ -120,11 +124,17 @@ module _ {D R C : Type 0} (now : D → DeviceState) (visible : R → Option (Lis
         starts_all : {xs ys : List Start} → xs ≡ ys → ys ≡ xs ++ []
         starts_all same = search rules
 
+  -- where the core's recorder came back, there is a part for each sink of the header
+  pub served_count : (header : Header) (before after : HostState D R C) (answered : Status) (parts : List (LanePart D R)) (core : Option C)
+      → IsServed core_visible core_faults core_fulls now visible faults fulls header before after answered parts core → IsSome core → length parts ≡ length header.sinks
+  served_count header before after answered parts core s some =
+      parts_count _ _ now visible faults fulls s.ends.works parts s.ends.lanes ∙ sym (length-map s.ends.works (λ w. Worked.start w)) ∙ ap length s.ends.all ∙ ap length (s.all some) ∙ starts_count 0 header.sinks
+
   -- it is the same call seen from before the host made its parts
   pub served_since : (header : Header) (before made after : HostState D R C) (answered : Status) (parts : List (LanePart D R)) (core : Option C)
-      → IsLater before made → IsServed core_visible core_faults core_fulls now visible faults fulls header made after answered parts core
+      → IsLater before made → IsCalm before made → IsServed core_visible core_faults core_fulls now visible faults fulls header made after answered parts core
       → IsServed core_visible core_faults core_fulls now visible faults fulls header before after answered parts core
-  served_since header before made after answered parts core first s =
+  served_since header before made after answered parts core first calm s =
       let d = s.ends.decided in record {
         later = later_later before made after first s.later;
         lent = s.lent;
@@ -135,14 +145,10 @@ module _ {D R C : Type 0} (now : D → DeviceState) (visible : R → Option (Lis
           works = s.ends.works;
           all = s.ends.all;
           lanes = s.ends.lanes;
-          decided = record { stop = d.stop; cause = cause_later d.stop before made after first d.cause; fault = d.fault; recorder_back = d.recorder_back; status = d.status };
+          decided = record { stop = d.stop; cause = cause_later d.stop before made after first calm d.cause; fault = d.fault; recorder_back = d.recorder_back; status = d.status };
         };
         whole = s.whole;
       }
-
-starts_count : (index : ℕ) (sinks : List SinkSpec) → length (starts_from index sinks) ≡ length sinks
-starts_count index [] = refl
-starts_count index (s ∷ sinks) = ap suc (starts_count (index + 1) sinks)
 
 -- as many sinks as the header has, or fewer
 pub few_begin : {D R : Type 0} (sinks : List SinkSpec) (idle : List (Unworked D R)) → IsFrontOf (map start_of idle) (starts_of sinks) → length idle ≤ length sinks

@@ -1,4 +1,4 @@
--- The statuses of a serving call, by what was met, in the order in which causes decide.
+-- The status of a serving call, by the causes that ended it, in the order in which they decide.
 use Rattle.std.specs.Prelude.{Option, None, Some}
 use Rattle.px_types.specs.declared.status.Status.{Status}
 use Rattle.px_types.specs.declared.status.Status.TheVariants as status
@@ -19,22 +19,22 @@ status_of_fault sink_fault.Nothing = None
 status_of_fault sink_fault.Stopped = Some status.Device
 status_of_fault (sink_fault.Unrecorded fault) = Some (status_of_record fault)
 
--- what the workers met decides where nothing else did
+-- the status of the sinks' workers, where no earlier cause decides
 abbrev pub met_or_fine : Option Status → Status
 met_or_fine None = status.Ok
 met_or_fine (Some answered) = answered
 
--- the fault that the core's recorder had first, and then what the sinks' workers met
+-- the first fault of the core's recorder, and then the status of the sinks' workers
 abbrev pub recorded_or_met : Option RecordFault → Option Status → Status
 recorded_or_met (Some fault) sink_fault = status_of_record fault
 recorded_or_met None sink_fault = met_or_fine sink_fault
 
--- a core whose recorder isn't ready keeps that fault
+-- the status of a core's recorder that isn't ready
 abbrev pub recorded : Option RecordFault → Status
 recorded (Some fault) = status_of_record fault
 recorded None = status.Memory
 
--- what made the call itself stop comes first
+-- the status of a call: what made the call itself stop comes first
 abbrev pub decided : Stop → Option RecordFault → Option Status → Status
 decided stop.Over fault sink_fault = recorded_or_met fault sink_fault
 decided stop.Memory fault sink_fault = status.Memory

@@ -1,4 +1,4 @@
--- What went between the core and a sink, by the histories of both.
+-- What passed between the core and a sink, by the histories of both.
 use Rattle.std.specs.Prelude.{◌≡◌, List, ◌++◌, map, flat_map}
 use Rattle.px_types.specs.declared.ids.SinkId.{SinkId}
 use Rattle.px_annals.specs.declared.entry.CoreEntry.{CoreEntry}
@@ -47,25 +47,25 @@ plain_notice (Notice.drained input tag) = Notice.drained input tag
 plain_notice (Notice.detached input parcel) = Notice.detached input (plain_of parcel)
 plain_notice (Notice.latency input tag answer) = Notice.latency input tag answer
 
--- ---- what went between them
+-- ---- what passed between them
 
--- the messages of a sink's turns
+-- the messages that a sink's turns took
 abbrev pub messages_taken : List LaneEntry → List (Message PlainStream)
 messages_taken entries = map plain_message (flat_map messages_of (history_meant entries))
 
--- what its turns told
+-- the notices that a sink's turns gave
 abbrev pub turn_notices : Sink → List LaneEntry → List (Notice PlainStream)
 turn_notices start entries = map plain_notice (replay_notices samples start (history_meant entries))
 
--- the messages that the core handed out to it
+-- the messages that the core handed out to the sink
 abbrev pub messages_handed : State PlainStream → SinkId → List CoreEntry → List (Message PlainStream)
 messages_handed began sink entries = map (message_of (λ p. p)) (posted_by_steps spec_of sink began (steps_in entries))
 
--- the notices of it that came to the core
+-- the notices of the sink that came to the core
 abbrev pub notices_heard : SinkId → List CoreEntry → List (Notice PlainStream)
 notices_heard sink entries = map (notice_of (λ p. p)) (noticed_by sink.0 entries)
 
--- what was taken is a front of what was handed out, both ways
+-- what was taken is a front of what was handed out, in both directions
 pub record IsDelivered (began : State PlainStream) (core : List CoreEntry) (sink : SinkId) (start : Sink) (lane : List LaneEntry) : Type 0 where
   pub messages : IsFrontOf (messages_taken lane) (messages_handed began sink core)
   pub notices : IsFrontOf (notices_heard sink core) (turn_notices start lane)

@@ -7,7 +7,7 @@ use Rattle.px_lane.specs.Lane.{IsAttached}
 use Rattle.px_header.specs.declared.header.SinkSpec.{SinkSpec}
 use Rattle.px_server.specs.Parts.{sink_for}
 
--- a device of the sink that has played nothing, and a recorder that holds nothing, where they tell; neither has failed
+-- a device of the sink that has played nothing, and an empty recorder, where they are visible; neither has failed
 pub record IsFresh (sink : SinkSpec) (device : DeviceState) (visible : Option (List LaneEntry)) (faults fulls : ℕ) : Type 0 where
   pub attached : IsAttached device (sink_for sink)
   pub unplayed : WhereVisible device.played (λ bytes. bytes ≡ [])

@@ -11,27 +11,27 @@ use Rattle.px_server.specs.Mailboxes.{boxes_in}
 use Rattle.px_server.specs.Parts.{start_for}
 
 module _ {D E : Type 0} (taped : Bool) where
-  -- for the entry with this index: a sink that begins as the entry says and keeps its turns where there is a tape, and the core's ends of its mailboxes, through which
-  -- nothing has gone
+  -- for the entry with index `index`: a sink that begins as the entry says and records its turns where there is a tape, and the core's ends of its
+  -- mailboxes, which are unused
   pub record IsMade (index : SinkId) (sink : SinkSpec) (one : Unworked D E) (end : CoreEnd) : Type 0 where
     pub start : start_of one ≡ start_for index sink
     pub fresh : ends_of end ≡ fresh_ends sink
     pub boxes : boxes_in one ≡ boxes_of end
     pub tapes : tapes_in one ≡ taped
 
-  -- those for all entries, in order, where the first has this index
+  -- those for all entries, in order, the first of which has this index
   abbrev pub AreMade : ℕ → List SinkSpec → List (Unworked D E) → List CoreEnd → Type 0
   AreMade index [] idle ends = (idle ≡ []) × (ends ≡ [])
   AreMade index (s ∷ sinks) [] ends = ⊥
   AreMade index (s ∷ sinks) (one ∷ idle) [] = ⊥
   AreMade index (s ∷ sinks) (one ∷ idle) (end ∷ ends) = IsMade (record { 0 = index }) s one end × AreMade (index + 1) sinks idle ends
 
-  -- one came behind those that were there
+  -- a sink and its ends were appended
   abbrev pub AddsOne : SinkId → SinkSpec → List (Unworked D E) → List CoreEnd → List (Unworked D E) → List CoreEnd → Type 0
   AddsOne index sink idle ends more more_ends =
       (one : Unworked D E) × (end : CoreEnd) × IsMade index sink one end × (more ≡ idle ++ one ∷ []) × (more_ends ≡ ends ++ end ∷ [])
 
-  -- those for all entries did
+  -- those for all entries were appended
   abbrev pub AddsAll : ℕ → List SinkSpec → List (Unworked D E) → List CoreEnd → List (Unworked D E) → List CoreEnd → Type 0
   AddsAll index sinks idle ends more more_ends =
       (ones : List (Unworked D E)) × (theirs : List CoreEnd) × AreMade index sinks ones theirs × (more ≡ idle ++ ones) × (more_ends ≡ ends ++ theirs)

@@ -5,7 +5,7 @@ use Rattle.px_lane_cell.specs.declared.ends.LaneEnds.{LaneEnds}
 use Rattle.px_core_cell.specs.Boxes.{Boxes, name_of}
 use Rattle.px_workers.specs.Working.{Unworked, mailboxes_of}
 
--- mailboxes, by their names
+-- the names of these mailboxes
 abbrev pub names_of : Held → Boxes
 names_of b = record { inbox = name_of (arc_value b.inbox).queue; outbox = name_of (arc_value b.outbox).queue }
 

@@ -28,11 +28,11 @@ use Rattle.px_server.specs.Delivered.{IsDelivered}
 abbrev pub sink_for : SinkSpec → Sink
 sink_for s = empty_sink (sample_spec (SinkSpec.spec s)) (SinkSpec.guard s) (SinkSpec.depth s)
 
--- how it begins, where the entry has this index
+-- how the sink of an entry with this index begins
 abbrev pub start_for : SinkId → SinkSpec → Start
 start_for index s = record { index = index; sink = sink_for s }
 
--- those of all entries, where the first has this index
+-- the same for all entries, the first of which has this index
 abbrev pub starts_from : ℕ → List SinkSpec → List Start
 starts_from index [] = []
 starts_from index (s ∷ sinks) = start_for (record { 0 = index }) s ∷ starts_from (index + 1) sinks
@@ -45,7 +45,7 @@ pub record HasPlayed (start : Sink) (device : DeviceState) (entries : List LaneE
   pub turns : IsHistory samples start (history_meant entries)
   pub played : WhereVisible device.played (ArePlayed (concat (replay_played samples start (history_meant entries))) (concat (left_at_stop start (history_meant entries))))
 
--- a sink's work: how it began, and what its worker met
+-- a sink's work: its start, and the first fault of its worker
 pub record Worked : Type 0 where
   pub start : Start
   pub sink_fault : SinkFault
@@ -53,18 +53,18 @@ pub record Worked : Type 0 where
 abbrev pub worked : Start → SinkFault → Worked
 worked start sink_fault = record { start = start; sink_fault = sink_fault }
 
--- that of a sink that no worker has any more
+-- the work of a sink not owned by a running worker
 abbrev pub unworked : {D E : Type 0} → Unworked D E → Worked
 unworked u = worked (start_of u) u.sink_fault
 
--- what the core's recorder tells, where there is one
+-- the visible entries of the core's recorder, where there is one
 abbrev pub visible_there : {C : Type 0} → (C → Option (List CoreEntry)) → Option C → Option (List CoreEntry)
 visible_there visible None = None
 visible_there visible (Some recorder) = visible recorder
 
 module _ {D R : Type 0} (began : State PlainStream) (core : Option (List CoreEntry)) (now : D → DeviceState) (visible : R → Option (List LaneEntry)) (faults fulls : R → ℕ) where
-  -- what is left of a sink: its device has played what its recorder holds, where both tell; what its worker met has its cause in them; and where the
-  -- core's recorder tells too, what was taken on either side is a front of what was handed out on the other
+  -- what is left of a sink: its device has played what its recorder holds, where both are visible; its worker's fault has its cause in them; and
+  -- where the core's recorder is visible too, what was taken on either side is a front of what was handed out on the other
   pub record IsPart (work : Worked) (part : LanePart D R) : Type 0 where
     pub sink : part.sink ≡ work.start.index
     pub played : IfSome (visible part.recorder) (HasPlayed work.start.sink (now part.device))
@@ -78,11 +78,11 @@ module _ {D R : Type 0} (began : State PlainStream) (core : Option (List CoreEnt
   AreParts (work ∷ works) [] = ⊥
   AreParts (work ∷ works) (part ∷ parts) = IsPart work part × AreParts works parts
 
--- a front of some items came behind those that were there
+-- a front of some items was appended
 abbrev pub Adds : {X : Type 0} → List X → List X → List X → Type 0
 Adds before more after = (added : List _) × IsFrontOf added more × (after ≡ before ++ added)
 
--- sinks and the core's ends of their mailboxes, in the same order: what was posted to each sink and taken from it is what the core's entries say of it
+-- sinks and the core's ends of their mailboxes, in the same order: what was posted to each sink and taken from it is as in the core's entries
 abbrev pub AreAgreed : {D E : Type 0} → State PlainStream → Option (List CoreEntry) → List (Unworked D E) → List CoreEnd → Type 0
 AreAgreed began core [] [] = ⊤
 AreAgreed began core [] (end ∷ ends) = ⊥

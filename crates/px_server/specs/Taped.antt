@@ -9,28 +9,28 @@ use Rattle.px_server.specs.declared.served.LanePart.{LanePart}
 use Rattle.px_workers.specs.Working.{Unworked, tapes_in}
 use Rattle.px_tape.specs.Tape.{turns_in}
 
--- all sinks keep their turns for a tape
+-- all sinks record their turns for a tape
 abbrev pub AreTaping : {D E : Type 0} → List (Unworked D E) → Type 0
 AreTaping idle = AllByRecursion (λ on. on ≡ true) (map tapes_in idle)
 
--- one more list, and how many entries all have
+-- the number of entries with one more list, where all are visible
 abbrev pub added : Option (List LaneEntry) → Option ℕ → Option ℕ
 added None total = None
 added (Some entries) None = None
 added (Some entries) (Some total) = Some (length entries + total)
 
 module _ {D R : Type 0} (visible : R → Option (List LaneEntry)) where
-  -- how many entries the recorders of sinks have together, where all of them tell
+  -- the number of entries in all recorders of the sinks, where all of them are visible
   abbrev pub entries_in : List (LanePart D R) → Option ℕ
   entries_in [] = Some 0
   entries_in (part ∷ parts) = added (visible part.recorder) (entries_in parts)
 
-  -- they have so many
+  -- that number, where it is visible, is `count`
   abbrev pub AreCounted : List (LanePart D R) → ℕ → Type 0
   AreCounted parts count = IfSome (entries_in parts) (λ entries. count ≡ entries)
 
-  -- the events of the tape, where there is one: as many of them are turns as the recorders of the sinks have entries together, where these tell; with
-  -- status Ok they are there
+  -- the events of the tape, where there is one: the number of turns among them is that of all entries in the sinks' recorders, where these are
+  -- visible; with status Ok the events are there
   pub record HasTape (taped : Bool) (answered : Status) (parts : List (LanePart D R)) (tape : Option (List Event)) : Type 0 where
     pub none : taped ≡ false → tape ≡ None
     pub turns : IfSome tape (λ events. AreCounted parts (turns_in events))

@@ -1,13 +1,13 @@
 //! The serving call.
-ghost use Rattle.std.specs.Prelude.{◌≡◌, ◌+◌, ◌≤◌, [], length, map, IfOk, IfErr, OnOk, IfSome, None, vec_capacity};
+ghost use Rattle.std.specs.Prelude.{◌≡◌, ◌+◌, ◌≤◌, [], length, map, IfOk, IfErr, OnOk, IsSome, IfSome, None, vec_capacity};
 ghost use Rattle.px_annals.specs.declared.stream.PlainStream.{PlainStream};
 ghost use Rattle.px_header.specs.HeaderRules.{IsHeader};
 ghost use Rattle.px_state.specs.State.{State, new_state};
 ghost use Rattle.px_core_cell.specs.Boxes.{boxes_of};
 ghost use Rattle.px_core_cell.specs.Cell.{ends_of};
 ghost use Rattle.px_core_cell.specs.History.{fresh_ends};
-ghost use Rattle.px_workers.specs.Hosted.{IsLater, IsCauseOf};
-ghost use Rattle.px_server.specs.Hosted.{HasLent};
+ghost use Rattle.px_workers.specs.Hosted.{IsLater, IsCalm, IsCauseOf};
+ghost use Rattle.px_server.specs.Hosted.{HasLent, Lends};
 ghost use Rattle.px_workers.specs.Working.{start_of};
 ghost use Rattle.px_server.specs.Parts.{starts_of, unworked, AreParts, IsFrontOf};
 ghost use Rattle.px_server.specs.Serving.{IsServed};
@@ -39,7 +39,7 @@ use std::thread::Threads;
 // One part for each of 65,535 links, one for each of 16 sinks, and one for the serving call.
 const PARTS: u64 = 65_552;
 
-// How many used blocks wait at most to be used again.
+// The most used blocks that wait to be used again.
 const SPARE_BLOCKS: usize = 1_024;
 
 // What the host makes before the core is there, with the core's ends of the sinks' mailboxes, and room for the sinks' turns.
@@ -51,7 +51,7 @@ struct Made<H: Host> {
     turns: Vec<SinkTurns>,
 }
 
-// A serving call that has made no core.
+// The result of a serving call that has made no core.
 fn unserved<H: Host>(
     mut lanes: Vec<LanePart<H::D, H::R>>,
     mut idle: VecDeque<SinkState<H::D, H::R>>,
@@ -73,7 +73,7 @@ fn unserved<H: Host>(
     }
 }
 
-// Room for what is left of `count` sinks, and for their turns.
+// Takes the room for what is left of `count` sinks, and for their turns.
 fn make_room<D: Drop, E: Drop>(
     count: usize,
     lanes: &mut Vec<LanePart<D, E>>,
@@ -88,7 +88,7 @@ fn make_room<D: Drop, E: Drop>(
     Ok(())
 }
 
-// All that the host makes: the sinks of a header, in order, and the core's recorder.
+// Has the host make its parts: for the sinks of a header, in order, and the core's recorder.
 fn make_outside<H: Host>(
     alloc: Global,
     taped: bool,
@@ -100,12 +100,15 @@ fn make_outside<H: Host>(
     requires header { IsHeader header.now }
     requires none { (idle.old.items ≡ []) × (ends.old.items ≡ []) }
     ensures later { IsLater (H.now host.old) (H.now host.new) }
+    ensures lends { OnOk result (Lends (length header.now.sinks) 1 (H.now host.old) (H.now host.new)) }
+    ensures calm { OnOk result (IsCalm (H.now host.old) (H.now host.new)) }
     ensures lent { HasLent (length idle.new.items) 0 (H.now host.new) }
     ensures core_lent { OnOk result (HasLent (length idle.new.items) 1 (H.now host.new)) }
     ensures cause { IfErr result (λ stop. IsCauseOf stop (H.now host.old) (H.now host.new)) }
     ensures made { OnOk result (AreMade taped 0 header.now.sinks idle.new.items ends.new.items) }
     ensures front { IsFrontOf (map start_of idle.new.items) (starts_of header.now.sinks) }
     ensures none { IfOk result (λ recorder. IfSome (H.C.visible recorder) (λ entries. entries ≡ [])) }
+    ensures unfailed { IfOk result (λ recorder. (H.C.faults recorder ≡ 0) × (H.C.fulls recorder ≡ 0)) }
 {
     make_all(alloc, taped, header, host, idle, ends)?;
     match host.core_recorder(alloc) {
@@ -114,7 +117,7 @@ fn make_outside<H: Host>(
     }
 }
 
-// A pool of used blocks.
+// A pool for used blocks.
 fn pool_of(alloc: Global) -> Mem<Arc<Pool>> {
     match Pool::new(alloc, SPARE_BLOCKS) {
         Ok(pool) => Ok(pool),
@@ -140,6 +143,7 @@ where
     requires boxes { map boxes_of ends.items ≡ L.boxes }
     requires ends { map ends_of ends.items ≡ map fresh_ends header.now.sinks }
     requires none { IfSome (C.visible recorder) (λ entries. entries ≡ []) }
+    requires unfailed { (C.faults recorder ≡ 0) × (C.fulls recorder ≡ 0) }
     ensures { IfOk result (λ made. made.1.parts ≡ 65552) }
 {
     let core = Core::new(alloc, header)?;
@@ -168,6 +172,7 @@ where
     requires boxes { map boxes_of ends.items ≡ L.boxes }
     requires ends { map ends_of ends.items ≡ map fresh_ends header.now.sinks }
     requires none { IfSome (C.visible recorder) (λ entries. entries ≡ []) }
+    requires unfailed { (C.faults recorder ≡ 0) × (C.fulls recorder ≡ 0) }
     ensures { IfOk result (λ handle. handle.seat.parts ≡ 65552) }
 {
     let pool = pool_of(alloc)?;
@@ -211,12 +216,15 @@ where
     requires boxes { map boxes_of made.ends.items ≡ L.boxes }
     requires made { AreMade taped 0 header.now.sinks made.idle.items made.ends.items }
     requires nothing_posted { IfSome (H.C.visible made.recorder) (λ entries. entries ≡ []) }
+    requires unfailed { (H.C.faults made.recorder ≡ 0) × (H.C.fulls made.recorder ≡ 0) }
     requires none { lanes.items ≡ [] }
     requires room { length made.idle.items ≤ vec_capacity lanes }
     requires no_turns { made.turns.items ≡ [] }
     requires turns_room { length made.idle.items ≤ vec_capacity made.turns }
     requires lent { HasLent (length made.idle.items) 1 (H.now host.old) }
     ensures served { IsServed H.C.visible H.C.faults H.C.fulls H.D.now H.R.visible H.R.faults H.R.fulls header.now (H.now host.old) (H.now host.new) result.status result.lanes.items result.core }
+    ensures lent { (H.now host.new).lent ≡ (H.now host.old).lent }
+    ensures count { IsSome result.core → length result.lanes.items ≡ length header.now.sinks }
     ensures tape { HasTape H.R.visible taped result.status result.lanes.items result.tape }
 {
     let Made {
@@ -257,6 +265,7 @@ where
     requires no_turns { turns.items ≡ [] }
     requires turns_room { length header.now.sinks ≤ vec_capacity turns }
     ensures served { IsServed H.C.visible H.C.faults H.C.fulls H.D.now H.R.visible H.R.faults H.R.fulls header.now (H.now host.old) (H.now host.new) result.status result.lanes.items result.core }
+    ensures exact { IsSome result.core → Lends (length result.lanes.items) 1 (H.now host.old) (H.now host.new) }
     ensures tape { HasTape H.R.visible taped result.status result.lanes.items result.tape }
 {
     let mut idle = VecDeque::new(alloc);
@@ -276,9 +285,9 @@ where
     }
 }
 
-/// Serves the clients that the host hands out, on the sinks of a header, until the host says that no more come and all have gone, or
-/// until something fails. What the host made comes back with it, and with `taped` the tape: what the server did, as the events of a session.
-/// (PulseAudio: `main` of daemon/main.c with its threads.)
+/// Serves the clients that the host hands out, on the sinks of a header, until the host says that no more come and all have gone, or until something
+/// fails. Hands back what the host made, and with `taped` the tape: what the server did, as the events of a session. (PulseAudio: `main` of
+/// daemon/main.c with its threads.)
 pub fn serve<R, H, G>(
     rt: &R,
     alloc: Global,
@@ -298,6 +307,7 @@ where
     G: Gate + Drop + Send + Sync + 'static,
     requires { IsHeader header.now }
     ensures served { IsServed H.C.visible H.C.faults H.C.fulls H.D.now H.R.visible H.R.faults H.R.fulls header.now (H.now host.old) (H.now host.new) result.status result.lanes.items result.core }
+    ensures exact { IsSome result.core → Lends (length result.lanes.items) 1 (H.now host.old) (H.now host.new) }
     ensures tape { HasTape H.R.visible taped result.status result.lanes.items result.tape }
 {
     let mut lanes = Vec::new(alloc);

@@ -20,7 +20,7 @@ use std::collections::VecDeque;
 use std::sync::{Arc, Wait};
 use std::thread::Threads;
 
-// What a call hands back that stopped so and whose workers have ended.
+// The result of a call with this stop, once its workers have ended.
 fn ended<R, H, L>(
     handle: CoreHandle<R, H::C, L, H::O>,
     stop: Stop,
@@ -57,7 +57,7 @@ where
     }
 }
 
-/// All that workers do, from their start to their end.
+/// Runs all workers, from their start to their end.
 pub(crate) fn run<R, H, G, L>(
     handle: CoreHandle<R, H::C, L, H::O>,
     host: &mut H,

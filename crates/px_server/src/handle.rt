@@ -1,5 +1,5 @@
-//! The workers' handle on the shared state: each call is the core handle's own. It stands here, so that where a handle is passed on the check
-//! loads none of the crates below that handle.
+//! The workers' handle on the shared state: each call is the core handle's own. It is a type of its own, so that where a handle is passed on the
+//! check loads none of the crates below that handle.
 ghost use Rattle.std.specs.Prelude.{◌≡◌};
 
 use px_annals::{CoreEntry, Recorder};

@@ -1,4 +1,4 @@
-//! What is left of sinks without workers.
+//! What is left of sinks not owned by a running worker.
 ghost use Rattle.std.specs.Prelude.{◌≡◌, ◌+◌, ◌≤◌, ◌<◌, ◌++◌, ◌∷◌, [], List, Option, None, length, map, IfSome, vec_len, vec_capacity};
 ghost use Rattle.px_annals.specs.declared.entry.CoreEntry.{CoreEntry as Entry};
 ghost use Rattle.px_annals.specs.declared.stream.PlainStream.{PlainStream};
@@ -31,7 +31,7 @@ use px_workers::SinkState;
 use std::collections::VecDeque;
 use std::sync::Wait;
 
-// What is left of a sink, where there is no core.
+// Takes a sink apart, where there is no core.
 fn part_of<D: Device + Drop, E: Recorder<LaneEntry> + Drop>(idle: SinkState<D, E>) -> LanePart<D, E>
     ensures { (began : State PlainStream) → IsPart began None D.now E.visible E.faults E.fulls (unworked idle) result }
 {
@@ -43,7 +43,7 @@ fn part_of<D: Device + Drop, E: Recorder<LaneEntry> + Drop>(idle: SinkState<D, E
     }
 }
 
-/// What is left of the sinks without workers, where there is no core. Takes no memory.
+/// Takes the sinks apart, where there is no core. Takes no memory.
 pub(crate) fn hand_back<D: Device + Drop, E: Recorder<LaneEntry> + Drop>(
     idle: &mut VecDeque<SinkState<D, E>>,
     lanes: &mut Vec<LanePart<D, E>>,
@@ -57,7 +57,7 @@ pub(crate) fn hand_back<D: Device + Drop, E: Recorder<LaneEntry> + Drop>(
     }
 }
 
-// What is left of a sink, whose mailboxes are closed with the core's ends of them.
+// Takes a sink apart, and closes its mailboxes with the core's ends of them.
 fn closed<D: Device + Drop, E: Recorder<LaneEntry> + Drop>(
     sink: SinkId,
     cell: LaneCell<D, E>,
@@ -89,7 +89,7 @@ fn closed<D: Device + Drop, E: Recorder<LaneEntry> + Drop>(
     }
 }
 
-// Keeps the turns of one sink more, where there is a tape.
+// Appends the turns of one more sink, where there is a tape.
 fn add_turns(turns: &mut Vec<SinkTurns>, made: Option<SinkTurns>)
     requires { vec_len turns.old < vec_capacity turns.old }
     ensures room { (vec_len turns.new ≤ vec_len turns.old + 1) × (vec_capacity turns.old ≤ vec_capacity turns.new) }
@@ -100,8 +100,8 @@ fn add_turns(turns: &mut Vec<SinkTurns>, made: Option<SinkTurns>)
     }
 }
 
-// What is left of the sinks without workers, whose mailboxes are closed with the core's ends of them, and the first status that one of their
-// workers met. The turns that they made for a tape are kept. Takes no memory.
+// Takes the sinks apart, closes their mailboxes with the core's ends of them, and gives the status of the first fault of their workers. The turns
+// that they made for a tape are appended. Takes no memory.
 fn close_all<D: Device + Drop, E: Recorder<LaneEntry> + Drop>(
     idle: &mut VecDeque<SinkState<D, E>>,
     ends: CoreEnds,
@@ -139,7 +139,7 @@ fn close_all<D: Device + Drop, E: Recorder<LaneEntry> + Drop>(
     first
 }
 
-/// What lay under the core's lock besides its ends of the mailboxes, and what the sinks' workers met first.
+/// What the core's lock guarded besides its ends of the mailboxes, and the status of the first fault of the sinks' workers.
 #[derive(Drop)]
 pub(crate) struct CoreLeft<C> {
     pub recorder: C,
@@ -147,7 +147,7 @@ pub(crate) struct CoreLeft<C> {
     pub sink_fault: Option<Status>,
 }
 
-// What lay under the core's lock besides the core itself.
+// What the core's lock guarded besides the core itself.
 fn without_core<C: Recorder<CoreEntry> + Drop>(parts: CoreParts<C>) -> (StepLog<C>, CoreEnds)
     ensures log { result.0 ≡ parts.log }
     ensures ends { result.1 ≡ parts.ends }
@@ -157,7 +157,7 @@ fn without_core<C: Recorder<CoreEntry> + Drop>(parts: CoreParts<C>) -> (StepLog<
     (log, ends)
 }
 
-/// What is left of the core, and of the sinks without workers (`close_all`), by a handle with all shares. Takes no memory.
+/// What is left of the core, and of the sinks (`close_all`), by a handle with all shares. Takes no memory.
 pub(crate) fn close_with<R, D, E, C, L, O>(
     handle: CoreHandle<R, C, L, O>,
     idle: &mut VecDeque<SinkState<D, E>>,

@@ -1,5 +1,6 @@
-//! The serving call of a live server: the core under its lock, with the workers of `px_workers`. `sinks` makes what the sinks need, `left` has what is left of
-//! them, `served` what the call hands back, `handle` the workers' handle on the shared state, `closing` its end, and `call` the call itself. It exports `serve` with `Served` and `LanePart`, and the crew's `Gate` with `PaceGate`.
+//! The serving call of a live server: the core under its lock, with the workers of `px_workers`. `sinks` makes what the sinks need, `left` has what
+//! is left of them, `served` what the call hands back, `handle` the workers' handle on the shared state, `closing` its end, and `call` the call
+//! itself. It exports `serve` with `Served` and `LanePart`, and the workers' `Gate` with `PaceGate`.
 #![tactic(auto)]
 
 mod call;

@@ -21,8 +21,8 @@ pub struct LanePart<D, R> {
     pub recorder: R,
 }
 
-/// What a serving call hands back: how it ended, the parts of its sinks in their order, and the core's recorder, where the host
-/// made one and there was memory for the core. Where a tape was asked for, the events of the server are there too, if their room was.
+/// What a serving call hands back: its status, the parts of its sinks in their order, and the core's recorder, where the host made one and there was
+/// memory for the core. Where a tape was asked for, the events of the server are there too, if there was room for them.
 #[derive(Drop)]
 pub struct Served<H: Host> {
     pub status: Status,
@@ -31,7 +31,7 @@ pub struct Served<H: Host> {
     pub tape: Option<Events>,
 }
 
-/// The stop that a host's fault is.
+/// The stop for a host's fault.
 pub(crate) fn stop_by(fault: HostFault) -> Stop
     ensures { result ≡ stop_by fault }
 {
@@ -52,7 +52,7 @@ pub(crate) fn status_of_record(fault: RecordFault) -> Status
     }
 }
 
-/// The status of what a sink's worker met, where it has one.
+/// The status for a fault of a sink's worker, where there is one.
 pub(crate) fn status_of_fault(sink_fault: SinkFault) -> Option<Status>
     ensures { result ≡ status_of_fault sink_fault }
 {
@@ -63,7 +63,7 @@ pub(crate) fn status_of_fault(sink_fault: SinkFault) -> Option<Status>
     }
 }
 
-/// The status of a call by what made it stop, the first fault of the core's recorder, and what the sinks' workers met first.
+/// The status of a call by what made it stop, the first fault of the core's recorder, and the status of the sinks' workers.
 pub(crate) fn decided(stop: Stop, fault: Option<RecordFault>, sink_fault: Option<Status>) -> Status
     ensures { result ≡ decided stop fault sink_fault }
 {
@@ -91,7 +91,7 @@ pub(crate) fn undecided(stop: Stop) -> Status
     }
 }
 
-/// The events of a tape, where there is one. Where there is no memory for them, that ends a call that nothing else has stopped.
+/// The events of a tape, where there is one. Where memory runs out for them, a call that nothing else has stopped ends with `Memory`.
 pub(crate) fn woven(
     alloc: Global,
     taped: bool,

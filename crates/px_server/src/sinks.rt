@@ -10,8 +10,8 @@ ghost use Rattle.px_lane_cell.specs.Cell.{AreEnds, IsKeyOf, taken_in, posted_in}
 ghost use Rattle.px_core_cell.specs.Boxes.{boxes_of};
 ghost use Rattle.px_core_cell.specs.Cell.{ends_of};
 ghost use Rattle.px_core_cell.specs.History.{fresh_ends};
-ghost use Rattle.px_workers.specs.Hosted.{IsLater, IsCauseOf};
-ghost use Rattle.px_server.specs.Hosted.{stop_by, HasLent};
+ghost use Rattle.px_workers.specs.Hosted.{IsLater, IsCalm, IsCauseOf};
+ghost use Rattle.px_server.specs.Hosted.{stop_by, HasLent, Lends};
 ghost use Rattle.px_workers.specs.declared.sink_state.SinkFault.TheVariants.{Nothing};
 ghost use Rattle.px_workers.specs.Working.{start_of, IsHonest};
 ghost use Rattle.px_server.specs.Parts.{sink_for, starts_of, starts_from, IsFrontOf, Adds};
@@ -48,7 +48,7 @@ fn shape_of(sink: &SinkSpec) -> DeviceShape
     }
 }
 
-// A sink's mailboxes, through which nothing has gone: its worker's ends, and the core's.
+// The new mailboxes of a sink: its worker's ends, and the core's.
 fn mailboxes(alloc: Global, sink: &SinkSpec) -> Mem<(LaneEnds, CoreEnd)>
     ensures ends { IfOk result (λ made. AreEnds made.0 × IsKeyOf made.0 (sink_for sink.now)) }
     ensures unmoved { IfOk result (λ made. (taken_in made.0 ≡ []) × (posted_in made.0 ≡ [])) }
@@ -75,6 +75,8 @@ fn mailboxes(alloc: Global, sink: &SinkSpec) -> Mem<(LaneEnds, CoreEnd)>
 fn outside<H: Host>(alloc: Global, sink: &SinkSpec, host: &mut H) -> Result<(H::D, H::R), HostFault>
     requires { (earlier : List Spec) × IsSink earlier sink.now }
     ensures later { IsLater (H.now host.old) (H.now host.new) }
+    ensures lends { OnOk result (Lends 1 0 (H.now host.old) (H.now host.new)) }
+    ensures calm { OnOk result (IsCalm (H.now host.old) (H.now host.new)) }
     ensures lent { OnOk result ((n : ℕ) → HasLent n 0 (H.now host.old) → HasLent (n + 1) 0 (H.now host.new)) }
     ensures lent_stays { OnErr result ((n : ℕ) → HasLent n 0 (H.now host.old) → HasLent n 0 (H.now host.new)) }
     ensures cause { IfErr result (λ fault. IsCauseOf (stop_by fault) (H.now host.old) (H.now host.new)) }
@@ -128,7 +130,7 @@ fn cell_of<D: Device + Drop, E: Recorder<LaneEntry> + Drop>(
     Ok((cell, core))
 }
 
-// The turns of a sink that has made none, where there is a tape.
+// No turns of a sink yet, where there is a tape.
 fn turns_of(alloc: Global, sink: SinkId, taped: bool) -> Option<SinkTurns>
     ensures tapes { is_some result ≡ taped }
     ensures none { IfSome result (λ turns. turns.turns ≡ []) }
@@ -140,7 +142,7 @@ fn turns_of(alloc: Global, sink: SinkId, taped: bool) -> Option<SinkTurns>
     }
 }
 
-// A sink that no worker has had yet, with the core's ends of its mailboxes.
+// A sink not owned by a worker yet, with the core's ends of its mailboxes.
 fn new_sink_state<H: Host>(
     alloc: Global,
     taped: bool,
@@ -150,6 +152,8 @@ fn new_sink_state<H: Host>(
 ) -> Result<(SinkState<H::D, H::R>, CoreEnd), Stop>
     requires { (earlier : List Spec) × IsSink earlier sink.now }
     ensures later { IsLater (H.now host.old) (H.now host.new) }
+    ensures lends { OnOk result (Lends 1 0 (H.now host.old) (H.now host.new)) }
+    ensures calm { OnOk result (IsCalm (H.now host.old) (H.now host.new)) }
     ensures lent { OnOk result ((n : ℕ) → HasLent n 0 (H.now host.old) → HasLent (n + 1) 0 (H.now host.new)) }
     ensures lent_stays { OnErr result ((n : ℕ) → HasLent n 0 (H.now host.old) → HasLent n 0 (H.now host.new)) }
     ensures cause { IfErr result (λ stop. IsCauseOf stop (H.now host.old) (H.now host.new)) }
@@ -166,7 +170,7 @@ fn new_sink_state<H: Host>(
     Ok((idle, core))
 }
 
-// Room for one sink more.
+// Reserves room for one more sink.
 fn reserve_one<D: Device + Drop, E: Recorder<LaneEntry> + Drop>(
     idle: &mut VecDeque<SinkState<D, E>>,
     ends: &mut CoreEnds,
@@ -181,7 +185,7 @@ fn reserve_one<D: Device + Drop, E: Recorder<LaneEntry> + Drop>(
     Ok(())
 }
 
-// One sink more, for which there is room.
+// Appends one more sink, for which there is room.
 fn add_one<D: Device + Drop, E: Recorder<LaneEntry> + Drop>(
     idle: &mut VecDeque<SinkState<D, E>>,
     ends: &mut CoreEnds,
@@ -197,7 +201,7 @@ fn add_one<D: Device + Drop, E: Recorder<LaneEntry> + Drop>(
     ends.push_reserved(core);
 }
 
-// One sink. Where it can't be made, those that are there stay.
+// Makes one sink. On a fault the earlier ones stay.
 fn make_one<H: Host>(
     alloc: Global,
     taped: bool,
@@ -209,6 +213,8 @@ fn make_one<H: Host>(
 ) -> Result<(), Stop>
     requires { (earlier : List Spec) × IsSink earlier sink.now }
     ensures later { IsLater (H.now host.old) (H.now host.new) }
+    ensures lends { OnOk result (Lends 1 0 (H.now host.old) (H.now host.new)) }
+    ensures calm { OnOk result (IsCalm (H.now host.old) (H.now host.new)) }
     ensures lent { HasLent (length idle.old.items) 0 (H.now host.old) → HasLent (length idle.new.items) 0 (H.now host.new) }
     ensures cause { IfErr result (λ stop. IsCauseOf stop (H.now host.old) (H.now host.new)) }
     ensures made { OnOk result (AddsOne taped (record { 0 = index }) sink.now idle.old.items ends.old.items idle.new.items ends.new.items) }
@@ -222,7 +228,7 @@ fn make_one<H: Host>(
     Ok(())
 }
 
-// The sinks of these entries, in order, where the first has this index. Where one can't be made, those before it are there.
+// Makes the sinks of these entries, in order, the first of which has index `index`. On a fault the sinks before it stay.
 fn make_from<H: Host>(
     alloc: Global,
     taped: bool,
@@ -235,6 +241,8 @@ fn make_from<H: Host>(
     requires sinks { (earlier : List Spec) × AreSinks earlier sinks.now }
     requires few { index + length sinks.now ≤ 16 }
     ensures later { IsLater (H.now host.old) (H.now host.new) }
+    ensures lends { OnOk result (Lends (length sinks.now) 0 (H.now host.old) (H.now host.new)) }
+    ensures calm { OnOk result (IsCalm (H.now host.old) (H.now host.new)) }
     ensures lent { HasLent (length idle.old.items) 0 (H.now host.old) → HasLent (length idle.new.items) 0 (H.now host.new) }
     ensures cause { IfErr result (λ stop. IsCauseOf stop (H.now host.old) (H.now host.new)) }
     ensures made { OnOk result (AddsAll taped index sinks.now idle.old.items ends.old.items idle.new.items ends.new.items) }
@@ -249,7 +257,7 @@ fn make_from<H: Host>(
     }
 }
 
-/// The sinks of a header, in order. Where one can't be made, those before it are there.
+/// Makes the sinks of a header, in order. On a fault the sinks before it stay.
 pub(crate) fn make_all<H: Host>(
     alloc: Global,
     taped: bool,
@@ -261,6 +269,8 @@ pub(crate) fn make_all<H: Host>(
     requires header { IsHeader header.now }
     requires none { (idle.old.items ≡ []) × (ends.old.items ≡ []) }
     ensures later { IsLater (H.now host.old) (H.now host.new) }
+    ensures lends { OnOk result (Lends (length header.now.sinks) 0 (H.now host.old) (H.now host.new)) }
+    ensures calm { OnOk result (IsCalm (H.now host.old) (H.now host.new)) }
     ensures lent { HasLent 0 0 (H.now host.old) → HasLent (length idle.new.items) 0 (H.now host.new) }
     ensures cause { IfErr result (λ stop. IsCauseOf stop (H.now host.old) (H.now host.new)) }
     ensures made { OnOk result (AreMade taped 0 header.now.sinks idle.new.items ends.new.items) }

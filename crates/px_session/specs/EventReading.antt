@@ -14,7 +14,7 @@ abbrev pub ended_by : List ℕ → Reading Step
 ended_by [] place = Ok (step.End, place)
 ended_by (byte ∷ rest) place = Err (record { at = place.at; cause = cause.Trailing })
 
--- behind the end byte nothing follows
+-- nothing follows the end byte
 unfoldable pub end_at : Reading Step
 end_at place = ended_by place.rest place
 
@@ -27,7 +27,7 @@ conn_at made = do
   conn ← word_at
   done (step.Event (made (conn_of conn)))
 
--- the length is checked before the bytes are read; a refusal of it is at the kind byte, whose offset is given
+-- the length is checked before the bytes are read; its refusal is at the kind byte, whose offset is given
 unfoldable pub sized_at : ℕ → ℕ → Reading (List ℕ)
 sized_at kind_at size place =
     if nat_lt most_bytes size
@@ -57,7 +57,7 @@ collect_at = do
 abbrev pub no_event_at : ℕ → ℕ → Reading Step
 no_event_at kind_at kind place = Err (record { at = kind_at; cause = cause.Kind kind })
 
--- the fields behind the kind byte at an offset
+-- the fields after the kind byte at this offset
 unfoldable pub fields_at : ℕ → ℕ → Reading Step
 fields_at kind_at kind =
     if kind == 0 then end_at

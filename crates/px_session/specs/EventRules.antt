@@ -19,7 +19,7 @@ IsEvent (Cut conn) = IsConn conn
 IsEvent (Turn sink frames messages) = (sink < 256) × (frames < 2 ^ 32) × (messages < 2 ^ 32)
 IsEvent (Collect sink notices) = (sink < 256) × (notices < 2 ^ 32)
 
--- what a reader can give
+-- a step that a reader can give
 abbrev pub IsStep : Step → Type 0
 IsStep (step.Header h) = IsHeader h
 IsStep (step.Event e) = IsEvent e

@@ -1,4 +1,4 @@
--- What a look at the bytes at hand finds.
+-- The result of a look at the bytes at hand.
 use Rattle.std.specs.Prelude.{◌≡◌, ◌≢◌, ℕ, ◌≤◌, Bool, List, ◌++◌, length, drop, Option, None, Some, Result, Ok, Err}
 use Rattle.px_ends.specs.Visible.{before_taking}
 use Rattle.px_session.specs.declared.event.Step.{Step}
@@ -14,7 +14,7 @@ use Rattle.px_session.specs.Reader.{EndsWith}
 abbrev pub place_at : ℕ → List ℕ → Place
 place_at at bytes = record { at = at; rest = bytes }
 
--- the step, and the place behind it in these bytes
+-- the step, and the place after it in these bytes
 abbrev pub found_in : List ℕ → Found → Step × Place
 found_in bytes found = (found.step, record { at = found.at; rest = drop found.used bytes })
 
@@ -23,7 +23,7 @@ abbrev pub step_of : Result Found ReadError → Result Step ReadError
 step_of (Ok found) = Ok found.step
 step_of (Err e) = Err e
 
--- this stands next in the bytes, unless reading or memory failed
+-- this comes next in the bytes, unless reading or memory failed
 abbrev pub Finds : Result Found ReadError → List ℕ → Result (Step × Place) Refusal → Type 0
 Finds (Ok found) bytes read = (read ≡ Ok (found_in bytes found)) × (found.used ≤ length bytes)
 Finds (Err (error.Refused at cause)) bytes read = read ≡ Err (record { at = at; cause = cause })
@@ -50,7 +50,7 @@ abbrev pub NeverFails : Result Found ReadError → Type 0
 NeverFails (Ok found) = Unit {0}
 NeverFails (Err e) = e ≢ error.Failed
 
--- some bytes departed from the source and are held, and the answer is what stands next in those that are held
+-- some bytes left the source and are held, and the answer is what comes next in those that are held
 pub record Awaits (answer : Result Found ReadError) (begun : Bool) (at : ℕ) (old new : List ℕ) (before after : Option (List ℕ)) : Type 0 where
   pub taken : List ℕ
   pub departed : before ≡ before_taking taken after

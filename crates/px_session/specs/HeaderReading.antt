@@ -15,11 +15,11 @@ no_magic start = record { at = start; cause = cause.Magic }
 abbrev pub compared : ℕ → ℕ → ℕ → Reading ℕ
 compared start letter byte after = if byte == letter then Ok (byte, after) else Err (no_magic start)
 
--- a letter of the word that begins at an offset
+-- a letter of the word that begins at this offset
 unfoldable pub letter_at : ℕ → ℕ → Reading ℕ
 letter_at start letter place = go_on (byte_at place) (compared start letter)
 
--- The word PRS1. Where a letter is another, the refusal is at the first.
+-- The word PRS1. A wrong letter is refused at the word's first byte.
 unfoldable pub letters_at : ℕ → Reading ℕ
 letters_at start = do
   p ← letter_at start 0x50
@@ -30,7 +30,7 @@ letters_at start = do
 unfoldable pub magic_at : Reading ℕ
 magic_at place = letters_at place.at place
 
--- the length, and so many bytes
+-- the length, and that many bytes
 unfoldable pub name_at : List SinkSpec → Reading (List ℕ)
 name_at earlier = do
   size ← ruled (is_from_to 1 64) byte_at
@@ -50,14 +50,14 @@ spec_at = do
   rate ← ruled (is_from_to 1 192000) word_at
   done (record { format = format; channels = channels; rate = rate })
 
--- n more items behind the earlier ones, which are at hand where an item is read
+-- n more items after the earlier ones, which are at hand where an item is read
 unfoldable pub more_at : {A : Type 0} → (List A → Reading A) → List A → ℕ → Reading (List A)
 more_at item_at earlier zero = done earlier
 more_at item_at earlier (suc n) = do
   item ← item_at earlier
   more_at item_at (earlier ++ item ∷ []) n
 
--- a speaker position, which is a field of its own
+-- a speaker position, a field by itself
 abbrev pub position_at : List ℕ → Reading ℕ
 position_at earlier = ruled (λ p. nat_le p 50) byte_at
 

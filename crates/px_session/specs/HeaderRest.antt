@@ -1,4 +1,4 @@
--- What is left to read of a sink, and of a header, once its first fields are read.
+-- The rest of a sink, and of a header, once its first fields are read.
 use Rattle.std.specs.Prelude.{ℕ, List, []}
 use Rattle.px_sample.specs.declared.spec.Spec.{Spec}
 use Rattle.px_header.specs.declared.header.SinkSpec.{SinkSpec}

@@ -1,4 +1,4 @@
--- The grammar of an output: a record for each thing that the server did, in order, and then the end byte. Numbers have their highest byte first.
+-- The grammar of an output: a record for each thing that the server did, in order, and then the end byte. Numbers are big-endian.
 use Rattle.std.specs.Prelude.{ℕ, List, [], ◌∷◌, ◌++◌, length}
 use Rattle.std.specs.Int.{w64, to_be_bytes}
 use Rattle.px_session.specs.Spelling.{word, end_byte}
@@ -13,7 +13,7 @@ sent_record conn bytes = 1 ∷ word conn ++ word (length bytes) ++ bytes
 unfoldable pub closed_record : ℕ → ℕ → ℕ → ℕ → List ℕ
 closed_record conn reason fault at = 2 ∷ word conn ++ (reason ∷ fault ∷ to_be_bytes w64 at)
 
--- a sink's device has consumed frames, which have these bytes
+-- a sink's device has consumed frames with these bytes
 unfoldable pub played_record : ℕ → ℕ → List ℕ → List ℕ
 played_record sink frames bytes = 3 ∷ sink ∷ word frames ++ bytes
 

@@ -1,4 +1,4 @@
--- A place in a session, what is read from there, and what a call answers of it.
+-- A place in a session, what is read from there, and how calls answer it.
 use Rattle.std.specs.Prelude.{◌≡◌, ℕ, ◌+◌, ◌-◌, ◌^◌, min, List, length, take, drop, Result, Ok, Err, nat_lt, nat_le, if◌then◌else◌}
 use Rattle.px_session.specs.declared.fault.Cause.{Cause}
 use Rattle.px_session.specs.declared.fault.Cause.TheVariants as cause
@@ -14,7 +14,7 @@ pub record Place : Type 0 where
 abbrev pub start_of : List ℕ → Place
 start_of bytes = record { at = 0; rest = bytes }
 
--- the place behind the next n bytes
+-- the place after the next n bytes
 abbrev pub past : ℕ → Place → Place
 past n place = record { at = place.at + n; rest = drop n place.rest }
 
@@ -23,11 +23,11 @@ pub record Refusal : Type 0 where
   pub at : ℕ
   pub cause : Cause
 
--- What is read at a place: a value and the place behind it, or the first refusal.
+-- What is read at a place: a value and the place after it, or the first refusal.
 abbrev pub Reading : Type 0 → Type 0
 Reading A = Place → Result (A × Place) Refusal
 
--- the value, and the place stays
+-- the value, with the place unchanged
 abbrev pub done : {A : Type 0} → A → Reading A
 done value place = Ok (value, place)
 
@@ -35,7 +35,7 @@ abbrev pub go_on : {A B : Type 0} → Result (A × Place) Refusal → (A → Rea
 go_on (Ok read) next = next read.0 read.1
 go_on (Err refusal) next = Err refusal
 
--- first the one, and behind it the next
+-- one reading, and past it the next
 unfoldable pub and_then : {A B : Type 0} → Reading A → (A → Reading B) → Reading B
 and_then first next place = go_on (first place) next
 
@@ -51,7 +51,7 @@ limit = 2 ^ 40
 abbrev pub available : Place → ℕ
 available place = min (length place.rest) (limit - place.at)
 
--- the refusal where more is wanted than is available: the session goes on at the limit, or the input ends
+-- the refusal where fewer bytes are available than needed: the session goes on at the limit, or the input ends
 abbrev pub short_at : Place → Refusal
 short_at place =
     if nat_le limit (place.at + length place.rest)
@@ -62,7 +62,7 @@ short_at place =
 unfoldable pub bytes_at : ℕ → Reading (List ℕ)
 bytes_at n place = if nat_lt (available place) n then Err (short_at place) else Ok (take n place.rest, past n place)
 
--- the place has no field, but this refusal
+-- this refusal, in place of a field
 abbrev pub no_field : Refusal → Result Unit Refusal
 no_field refusal = Err refusal
 
@@ -76,7 +76,7 @@ abbrev pub Gives : {X Y : Type 0} → (X → Y) → Result X ReadError → Resul
 Gives view (Ok x) read = read ≡ Ok (view x)
 Gives view (Err e) read = Fails e read
 
--- A call that moves a place answered what is read there, and the place is behind it.
+-- A call that moves a place answered what is read there, and the place is now after it.
 abbrev pub Reads : {X Y : Type 0} → (X → Y) → Result X ReadError → Place → Result (Y × Place) Refusal → Type 0
 Reads view (Ok x) after read = read ≡ Ok (view x, after)
 Reads view (Err e) after read = Fails e read

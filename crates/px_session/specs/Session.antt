@@ -13,12 +13,12 @@ first_at = do
   header ← header_at
   done (step.Header header)
 
--- what stands next: the header where it is not read yet, and then an event or the end byte
+-- what comes next: the header where it is not read yet, else an event or the end byte
 abbrev pub step_at : Bool → Reading Step
 step_at false = first_at
 step_at true = event_at
 
--- how the events end: with the end byte, behind which nothing follows, or with the first refusal
+-- how the events end: with the end byte as the last byte, or with the first refusal
 pub data Ending : Type 0 where
   Ended : Ending
   Broken : Refusal → Ending
@@ -27,12 +27,12 @@ abbrev pub EndsSo : Ending → Place → Type 0
 EndsSo Ended place = (after : Place) × (event_at place ≡ Ok (step.End, after))
 EndsSo (Broken refusal) place = event_at place ≡ Err refusal
 
--- from the place on these events stand, one behind the other, and then the ending
+-- from the place on come these events, one after the other, and then the ending
 abbrev pub Stand : List Event → Ending → Place → Type 0
 Stand [] ending place = EndsSo ending place
 Stand (event ∷ events) ending place = (after : Place) × (event_at place ≡ Ok (step.Event event, after)) × Stand events ending after
 
--- what a list of bytes is: no header, but a refusal of it, or a header, events and their ending
+-- the meaning of a list of bytes: a refusal within the header, or a header, events and their ending
 pub data Session : Type 0 where
   NoHeader : Refusal → Session
   Events : Header → List Event → Ending → Session

@@ -11,7 +11,7 @@ use Rattle.px_session.specs.EventRules.{IsEvent}
 use Rattle.px_session.specs.Session.{Ending, Ended, Broken, EndsSo, Session, NoHeader, Events}
 use Rattle.px_session.specs.Spelling as spelling
 
--- what was read: a lawful header and lawful events, whose spellings stand at the front, and the ending behind them
+-- what was read: a lawful header and lawful events, whose spellings begin the bytes, and the ending after them
 pub record IsSpelled (bytes : List ℕ) (header : Header) (events : List Event) (ending : Ending) : Type 0 where
   pub header_lawful : IsHeader header
   pub events_lawful : AllByRecursion IsEvent events
@@ -27,7 +27,7 @@ IsRefusedBy (NoHeader refusal) f = refusal ≡ f
 IsRefusedBy (Events header events (Broken refusal)) f = refusal ≡ f
 IsRefusedBy (Events header events Ended) f = ⊥
 
--- from the one place to the other these events were read
+-- reading these events leads from the one place to the other
 abbrev pub Lead : List Event → Place → Place → Type 0
 Lead [] place after = after ≡ place
 Lead (event ∷ events) place after = (mid : Place) × (event_at place ≡ Ok (step.Event event, mid)) × Lead events mid after

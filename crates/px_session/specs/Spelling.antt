@@ -1,4 +1,4 @@
--- The one spelling of a header, of an event, and of a session. Numbers have their highest byte first.
+-- The one spelling of a header, of an event, and of a session. Numbers are big-endian.
 use Rattle.std.specs.Prelude.{ℕ, List, [], ◌∷◌, ◌++◌, length}
 use Rattle.std.specs.List.{flat_map}
 use Rattle.std.specs.Int.{w32, to_be_bytes}

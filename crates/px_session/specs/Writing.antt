@@ -1,4 +1,4 @@
--- What the writers are asked to write.
+-- The values that the writers can write.
 use Rattle.std.specs.Prelude.{ℕ, ◌<◌, ◌≤◌, ◌^◌, length}
 use Rattle.std.specs.List.{AllByRecursion}
 use Rattle.px_header.specs.declared.header.SinkSpec.{SinkSpec}
@@ -10,11 +10,11 @@ use Rattle.px_session.specs.declared.event.Step.TheVariants as step
 use Rattle.px_session.specs.declared.output.OutRecord.{OutRecord}
 use Rattle.px_session.specs.declared.output.OutRecord.TheVariants.{Sent}
 
--- the name's length has a byte
+-- the name's length fits a byte
 abbrev pub FitsSink : SinkSpec → Type 0
 FitsSink s = length s.name < 2 ^ 8
 
--- the count of sinks has a byte, and so has each name's length
+-- the count of sinks fits a byte, and so does each name's length
 pub record FitsHeader (h : Header) : Type 0 where
   pub count : length h.sinks < 2 ^ 8
   pub names : AllByRecursion FitsSink h.sinks
@@ -27,7 +27,7 @@ abbrev pub FitsEvent : Event → Type 0
 FitsEvent (Bytes conn bytes) = length bytes ≤ most_bytes
 FitsEvent _ = Unit {0}
 
--- the length of what was sent has four bytes
+-- the length of what was sent fits four bytes
 abbrev pub FitsRecord : OutRecord → Type 0
 FitsRecord (Sent conn bytes) = length bytes.now < 2 ^ 32
 FitsRecord _ = Unit {0}

@@ -1,14 +1,14 @@
-//! The events of a session, and what a reader gives.
+//! The events of a session, and the steps that a reader gives.
 
 use px_header::Header;
 use px_types::{ConnId, Text};
 
-/// An event of a session. A connection is named from its Connect to its Close. Own: PulseAudio records no sessions.
+/// An event of a session. A connection's number is in use from its Connect to its Close. Own: PulseAudio records no sessions.
 #[derive(Debug, Drop)]
 pub enum Event {
     /// A client connects.
     Connect(ConnId),
-    /// Up to 65,536 bytes come from a client.
+    /// Up to 65,536 bytes arrive from a client.
     Bytes(ConnId, Text),
     /// A client has closed its connection.
     Close(ConnId),

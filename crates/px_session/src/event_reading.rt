@@ -107,7 +107,7 @@ fn fields(
     }
 }
 
-/// The event or the end that stands at the place, which is then behind it.
+/// Reads the event or the end at the place, and moves the place past it.
 #[tactic(auto, unfolding(crate::specs::EventReading::event_at))]
 pub(crate) fn event(supply: &mut Supply, place: &mut Place<'_>) -> Result<Step, ReadError>
     ensures { Reads (λ step. step) result (place_of place.new) (event_at (place_of place.old)) }

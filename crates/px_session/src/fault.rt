@@ -8,7 +8,7 @@ use thiserror::Error;
 /// Why a session is refused: the first rule that its bytes break, from left to right. Own: PulseAudio records no sessions.
 #[derive(Clone, Copy, Debug, PartialEq, Eq, Error)]
 pub enum Cause {
-    /// The first four bytes, or all of a shorter input, are no front of `PRS1`. At byte 0.
+    /// The first four bytes, or all of a shorter input, aren't a prefix of `PRS1`. At byte 0.
     #[error("magic")]
     Magic,
     /// A field of the header breaks its rule. At the field's first byte.
@@ -52,7 +52,7 @@ pub enum ReadError {
 /// Why a writer stopped.
 #[derive(Clone, Copy, Debug, PartialEq, Eq, Error)]
 pub enum WriteError {
-    /// A write of the sink failed. The sink took a front of what was to be written, maybe nothing.
+    /// A write of the sink failed. Some of the bytes may have been taken, from their front.
     #[error("write failed")]
     Failed,
 }

@@ -2,12 +2,12 @@
 
 use crate::event::Step;
 
-/// A step that stands in the bytes at hand.
+/// A step that was read from the bytes at hand.
 #[derive(Debug, Drop)]
 pub(crate) struct Found {
     pub(crate) step: Step,
     /// How many of the bytes it takes.
     pub(crate) used: usize,
-    /// The offset behind it.
+    /// The offset after it.
     pub(crate) at: u64,
 }

@@ -45,7 +45,7 @@ fn magic(place: Place<'_>) -> Result<(u8, Place<'_>), ReadError>
     letter(start, b'1', rest)
 }
 
-// A byte from low to high.
+// A byte from `low` to `high`.
 #[tactic(auto, unfolding(crate::specs::Field::ruled))]
 fn byte_within(place: Place<'_>, low: u8, high: u8) -> Result<(u8, Place<'_>), ReadError>
     ensures { Gives (λ read. (read.0, place_of read.1)) result (ruled (is_from_to low high) byte_at (place_of place.entry)) }
@@ -63,7 +63,7 @@ fn is_printable(name: &[u8]) -> bool
     name.iter().all(|byte| 0x21 <= *byte && *byte <= 0x7E)
 }
 
-// Names that begin with @ stand for a default.
+// Names that begin with @ are reserved for defaults.
 fn begins_with_at(name: &[u8]) -> bool
     ensures { result ≡ (slice_index name.now 0 == 0x40) }
 {
@@ -85,7 +85,7 @@ fn is_new_name(earlier: &[SinkSpec], name: &[u8]) -> bool
     earlier.iter().all(|s| s.name.as_slice() != name)
 }
 
-// Bytes that are a sink's name, which no earlier sink has.
+// Bytes that are a valid sink name, which no earlier sink has.
 #[tactic(auto, unfolding(crate::specs::Field::ruled))]
 fn name_bytes<'a>(
     earlier: &[SinkSpec],
@@ -173,7 +173,7 @@ fn room(place: Place<'_>) -> Result<(u32, u32, Place<'_>), ReadError>
     Ok((guard, depth, rest))
 }
 
-// So many speaker positions.
+// The next `count` speaker positions.
 fn positions(alloc: Global, count: u8, place: Place<'_>) -> Result<(Vec<u8>, Place<'_>), ReadError>
     ensures { Gives (λ read. (read.0.items, place_of read.1)) result (more_at position_at [] count (place_of place.entry)) }
 {
@@ -198,7 +198,7 @@ fn position(place: Place<'_>) -> Result<(u8, Place<'_>), ReadError>
     Ok((position, after))
 }
 
-// So many speaker positions, as the map that they are.
+// The next `count` speaker positions, as a channel map.
 fn map(alloc: Global, count: u8, place: &mut Place<'_>) -> Result<Map, ReadError>
     requires { IsFromTo 1 32 count }
     ensures { Reads (λ map. map) result (place_of place.new) (more_at position_at [] count (place_of place.old)) }
@@ -210,7 +210,7 @@ fn map(alloc: Global, count: u8, place: &mut Place<'_>) -> Result<Map, ReadError
     Ok(map)
 }
 
-// A sink of these fields.
+// The sink with these fields.
 fn sink_of(
     alloc: Global,
     name: &[u8],
@@ -230,7 +230,7 @@ fn sink_of(
     })
 }
 
-// The sink of this name and this sample spec, whose other fields stand at the place.
+// The sink with this name and this sample spec, whose other fields are read at the place.
 #[tactic(auto, unfolding(crate::specs::HeaderRest::rest_of_sink_at, crate::specs::Place::and_then))]
 fn rest_of_sink(
     alloc: Global,
@@ -268,7 +268,7 @@ fn sinks(alloc: Global, count: u8, place: &mut Place<'_>) -> Result<Vec<SinkSpec
     Ok(sinks)
 }
 
-// A header of this cookie and these sinks.
+// The header with this cookie and these sinks.
 fn header_of(alloc: Global, cookie: &[u8], sinks: Vec<SinkSpec>) -> Mem<Header>
     ensures { IfOk result (λ h. h ≡ record { cookie = cookie.now; sinks = sinks.items }) }
 {
@@ -284,7 +284,7 @@ fn header_of(alloc: Global, cookie: &[u8], sinks: Vec<SinkSpec>) -> Mem<Header>
     }
 }
 
-// The header of this cookie, whose other fields stand at the place.
+// The header with this cookie, whose other fields are read at the place.
 #[tactic(auto, unfolding(crate::specs::HeaderRest::rest_of_header_at, crate::specs::Place::and_then))]
 fn rest_of_header(alloc: Global, cookie: &[u8], place: &mut Place<'_>) -> Result<Header, ReadError>
     ensures { Reads (λ h. h) result (place_of place.new) (rest_of_header_at cookie.now (place_of place.old)) }
@@ -295,7 +295,7 @@ fn rest_of_header(alloc: Global, cookie: &[u8], place: &mut Place<'_>) -> Result
     Ok(header_of(alloc, cookie, sinks)?)
 }
 
-/// The header that stands at the place, which is then behind it.
+/// Reads the header at the place, and moves the place past it.
 #[tactic(auto, unfolding(crate::specs::HeaderReading::header_at, crate::specs::Place::and_then))]
 pub(crate) fn header(alloc: Global, place: &mut Place<'_>) -> Result<Header, ReadError>
     ensures { Reads (λ h. h) result (place_of place.new) (header_at (place_of place.old)) }

@@ -8,7 +8,7 @@ use px_types::Mem;
 use std::alloc::Global;
 use std::marker::Model;
 
-/// The bytes that are taken from a source at once, at most.
+/// The most bytes that are taken from a source at once.
 const BUFFER: usize = 65_536;
 
 /// What asking a source for more answers.
@@ -38,7 +38,7 @@ impl Model for Held {
     ghost invariant = { λ h. (h.from ≤ h.to) × (h.to ≤ length h.buffer.items) };
 }
 
-// Moves the bytes from one place to another to the front.
+// Moves the bytes between `from` and `to` to the front.
 fn move_to_front(buffer: &mut [u8], from: usize, to: usize)
     requires order { from ≤ to }
     requires inside { to ≤ length buffer.old }
@@ -49,7 +49,7 @@ fn move_to_front(buffer: &mut [u8], from: usize, to: usize)
     }
 }
 
-// Makes room behind the first bytes, which stay.
+// Makes room after the first `filled` bytes, which stay.
 fn make_room(buffer: &mut Vec<u8>, filled: usize) -> Mem<()>
     requires { filled ≤ length buffer.old.items }
     ensures room { OnOk result (filled < length buffer.new.items) }
@@ -65,7 +65,7 @@ fn make_room(buffer: &mut Vec<u8>, filled: usize) -> Mem<()>
 impl Held {
     ghost use Rattle.px_session.specs.Held.{MoreGives, ReadCounts, IsNoRefusal};
 
-    /// Nothing, and a buffer of 64 KiB.
+    /// Holds no bytes, and has a buffer of 64 KiB.
     pub(crate) fn new(alloc: Global) -> Mem<Held>
         ensures { IfOk result (λ held. held ≡ []) }
     {
@@ -83,7 +83,7 @@ impl Held {
         &self.buffer[self.from..self.to]
     }
 
-    /// Uses the first bytes.
+    /// Drops the first `count` bytes.
     pub(crate) fn use_front(&mut self, count: usize)
         requires { count ≤ length self.old }
         ensures { self.new ≡ drop count self.old }
@@ -91,7 +91,7 @@ impl Held {
         self.from += count;
     }
 
-    /// Takes more bytes from the source, as many as it gives in one read.
+    /// Takes more bytes from the source, with one read.
     pub(crate) fn more<S: Source>(&mut self, input: &mut S) -> Result<More, ReadError>
         ensures gives { MoreGives result self.old self.new (S.left input.old) (S.left input.new) }
         ensures counts { ReadCounts result (S.faults input.old) (S.faults input.new) }

@@ -1,4 +1,4 @@
-//! That sessions have one reading and one spelling, and refusals one place.
+//! The laws that sessions have one reading and one spelling, and refusals one place.
 
 ghost use Rattle.std.specs.Prelude.{◌≡◌, ◌≢◌, ◌≤◌, ◌<◌, ℕ, List, ◌++◌, length};
 ghost use Rattle.std.specs.List.{AllByRecursion};
@@ -13,15 +13,15 @@ ghost use Rattle.px_session.specs.Session.{Ending, Ended, Stand, Session, Events
 ghost use Rattle.px_session.specs.SessionLaw.{IsSpelled, IsRefusedBy, Lead};
 ghost use Rattle.px_session.specs.Spelling as spelling;
 
-/// Each list of bytes is exactly one session, or is refused once. What is spelled is read, and what is read is spelled so. It
-/// does nothing: its contract is the law.
+/// Each list of bytes is exactly one session, or is refused once. What is spelled is read, and what is read is spelled so. It does nothing:
+/// its contract is the law.
 pub fn one_reading()
     ensures some { (bytes : List ℕ) → (s : Session) × IsSession bytes s }
     ensures one { (bytes : List ℕ) (a b : Session) → IsSession bytes a → IsSession bytes b → a ≡ b }
     // What is spelled is read to its end, if it is within the limit.
     ensures again { (h : Header) (events : List Event) → IsHeader h → AllByRecursion IsEvent events
         → length (spelling.session h events) ≤ limit → IsSession (spelling.session h events) (Events h events Ended) }
-    // What is read is lawful, and its spelling stands there; behind it the session ends, or is refused.
+    // What is read is lawful, and its spelling begins the bytes; after it the session ends, or is refused.
     ensures found { (bytes : List ℕ) (h : Header) (events : List Event) (ending : Ending) → AreBytes bytes
         → IsSession bytes (Events h events ending) → IsSpelled bytes h events ending }
     // What is read to its end is the one spelling of it.
@@ -29,8 +29,8 @@ pub fn one_reading()
         → IsSession bytes (Events h events Ended) → bytes ≡ spelling.session h events }
 {}
 
-/// Where an early end and an endless session are refused: at the length of the bytes, which is below 2^40, and at 2^40, which
-/// is no more than their length. It does nothing: its contract is the law.
+/// Where an early end and an endless session are refused: at the length of the bytes, which is below 2^40, and at 2^40, which is at most
+/// their length. It does nothing: its contract is the law.
 pub fn refusals_at_the_end()
     ensures truncated { (bytes : List ℕ) (s : Session) (f : Refusal) → IsSession bytes s → IsRefusedBy s f
         → f.cause ≡ cause.Truncated → (f.at ≡ length bytes) × (length bytes < limit) }
@@ -38,8 +38,7 @@ pub fn refusals_at_the_end()
         → f.cause ≡ cause.Endless → (f.at ≡ limit) × (limit ≤ length bytes) }
 {}
 
-/// Events that were read one behind the other are the first of those that stand there. It does nothing: its contract is the
-/// law.
+/// Events that were read one after the other are the first of all events from that place on. It does nothing: its contract is the law.
 pub fn reading_in_steps()
     ensures joined { (given rest : List Event) (ending : Ending) (place after : Place) → Lead given place after
         → Stand rest ending after → Stand (given ++ rest) ending place }
@@ -47,8 +46,8 @@ pub fn reading_in_steps()
         → Stand whole ending place → (rest : List Event) × (whole ≡ given ++ rest) × Stand rest ending after }
 {}
 
-/// Bytes are refused at one place for one cause, and for a cause other than an early end they are so whatever follows them. It
-/// does nothing: its contract is the law.
+/// Bytes are refused at one place for one cause, and, unless the cause is an early end, whatever follows them. It does nothing: its
+/// contract is the law.
 pub fn refusals_are_final()
     ensures one { (bytes : List ℕ) (s t : Session) (f g : Refusal) → IsSession bytes s → IsSession bytes t → IsRefusedBy s f
         → IsRefusedBy t g → f ≡ g }

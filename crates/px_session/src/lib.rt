@@ -1,6 +1,6 @@
-//! Recorded sessions and output records: which bytes are a session, which are not, at which byte and for which cause, read from
-//! any source in any pieces and written in their one spelling. It exports `Reader`, `Header`, `Event` and what they are made
-//! of, `OutRecord`, and the writers.
+//! Recorded sessions and output records: which bytes are a session, and where and why others are refused, read from any source in any
+//! pieces and written in their one spelling. It exports `Reader`, `Header`, `Event` and what they are made of, `OutRecord`, and the
+//! writers.
 #![tactic(auto)]
 
 mod event;

@@ -16,9 +16,9 @@ pub enum OutRecord<'a> {
         conn: ConnId,
         /// 1 protocol, 2 limit, 3 killed, 4 cut.
         reason: u8,
-        /// The fault of the protocol, and 0 where the reason is another.
+        /// The number of the protocol fault, and 0 for every other reason.
         fault: u8,
-        /// The offset in the connection's bytes of that fault, and 0 where the reason is another.
+        /// The offset of that fault in the connection's bytes, and 0 for every other reason.
         at: u64,
     },
     /// A sink's device has consumed frames.

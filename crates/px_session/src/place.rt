@@ -1,4 +1,4 @@
-//! A place in a session, and the fields that stand there.
+//! A place in a session, and the readers of fields there.
 
 ghost use Rattle.std.specs.Prelude.{◌≡◌, ◌≤◌, ◌^◌, length, IfOk};
 
@@ -25,7 +25,7 @@ impl<'a> Place<'a> {
         self.rest.len().min((MAX_SESSION - self.at) as usize)
     }
 
-    /// The refusal where more is wanted than is available.
+    /// The refusal where fewer bytes are available than needed.
     fn short(self) -> ReadError
         ensures { Fails result (no_field (short_at (place_of self.entry))) }
     {
@@ -53,7 +53,7 @@ impl<'a> Place<'a> {
         }
     }
 
-    /// The next `count` bytes, and the place behind them.
+    /// The next `count` bytes, and the place after them.
     #[tactic(auto, unfolding(crate::specs::Place::bytes_at))]
     pub(crate) fn bytes(self, count: usize) -> Result<(&'a [u8], Place<'a>), ReadError>
         ensures gives { Gives (λ read. (read.0.now, place_of read.1)) result (bytes_at count (place_of self.entry)) }

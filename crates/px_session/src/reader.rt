@@ -58,15 +58,15 @@ impl Reader {
         self.at
     }
 
-    /// Takes back the bytes of an event that are done with, so that the next event's bytes may have their memory. One text is
-    /// kept: the last that came. Takes no memory.
+    /// Takes back the text of an event that is no longer needed, so that the next event's bytes may use its memory. Only the last text
+    /// given back is held. Takes no memory.
     pub fn reuse(&mut self, text: Text)
         ensures { self.new ≡ self.old }
     {
         self.supply.reclaim(text);
     }
 
-    // What stands next in the bytes that it took from the source.
+    // What comes next in the bytes that it took from the source.
     fn advance<S: Source>(&mut self, input: &mut S) -> Result<Step, ReadError>
         ensures takes { Takes result self.old self.new (S.left input.old) (S.left input.new) }
         ensures lawful { IfOk result IsStep }
@@ -80,22 +80,21 @@ impl Reader {
         Ok(found.step)
     }
 
-    /// What stands next: first the header, then events, then the end. `Refused` gives the first rule that the bytes break, and
-    /// the offset. `Failed` comes only where a read of the source failed. After `End` or an `Err` it isn't called again. It
-    /// takes the memory of what it gives, where no text that came back has room for it, and a few KiB beside its buffer where an
-    /// event is longer than that.
+    /// What comes next: first the header, then events, then the end. `Refused` gives the first rule that the bytes break, and the offset.
+    /// `Failed` comes only where a read of the source failed. After `End` or an `Err` it isn't called again. It takes the memory of what it
+    /// gives, where no text that came back has room for it, and a few KiB beside its buffer where an event is longer than that.
     pub fn next<S: Source>(&mut self, input: &mut S) -> Result<Step, ReadError>
-        // Where the source tells, the answer is what stands next in all bytes ahead, whatever the pieces.
+        // Where the source's bytes are visible, the answer is what comes next in all bytes ahead, whatever the pieces.
         ensures gives { Gives result self.old self.new (all_ahead self.old (S.left input.old)) (all_ahead self.new (S.left input.new)) }
-        // Told or not, the bytes that it took from the source spell it.
+        // Visible or not, the bytes that it took from the source spell it.
         ensures takes { Takes result self.old self.new (S.left input.old) (S.left input.new) }
-        // Told or not, a header and an event keep their rules.
+        // Visible or not, a header and an event follow their rules.
         ensures lawful { IfOk result IsStep }
         // What it gives can be written.
         ensures writable { IfOk result FitsStep }
-        // Each step has a byte, and a session at most 2^40.
+        // Each step has at least one byte, and a session at most 2^40.
         ensures forward { OnOk result ((self.old.at < self.new.at) × (self.new.at ≤ 2 ^ 40)) }
-        // The source's count of faults rises exactly in an answer of `Failed`.
+        // The source's count of faults rises exactly where the answer is `Failed`.
         ensures counts { ReadCounts result (S.faults input.old) (S.faults input.new) }
     {
         self.advance(input)

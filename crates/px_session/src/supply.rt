@@ -5,8 +5,8 @@ ghost use Rattle.std.specs.Prelude.{◌≡◌, Some, IsNone, IfOk};
 use px_types::{Mem, Text};
 use std::alloc::Global;
 
-/// Where the memory of what a reader gives comes from: an allocator, and for the bytes of an event at most one text that its
-/// caller is done with.
+/// Where the memory of what a reader gives comes from: an allocator, and for the bytes of an event at most one text that the caller gave
+/// back.
 #[derive(Debug, Drop)]
 pub(crate) struct Supply {
     alloc: Global,
@@ -26,14 +26,14 @@ impl Supply {
         self.alloc
     }
 
-    /// Keeps a text for the bytes of the next event, in place of one that it kept before. Takes no memory.
+    /// Holds a text for the bytes of the next event, in place of the one that it held before. Takes no memory.
     pub(crate) fn reclaim(&mut self, text: Text)
         ensures { self.new.used ≡ Some text }
     {
         self.used = Some(text);
     }
 
-    /// A copy of the bytes, in the text that it kept where there is one. Takes memory where that has too little room.
+    /// A copy of the bytes, in the text that it holds if there is one. Takes memory where that has too little room.
     pub(crate) fn copied(&mut self, bytes: &[u8]) -> Mem<Text>
         ensures { IfOk result (λ t. t ≡ bytes.now) }
     {

@@ -1,4 +1,4 @@
-//! What stands next in the bytes at hand, and the wait for enough of them.
+//! What comes next in the bytes at hand, and the wait for enough of them.
 
 ghost use Rattle.std.specs.Prelude.{◌≡◌, ◌<◌, ◌≤◌, ◌^◌, length, IfOk, MatchBool};
 ghost use Rattle.px_session.specs.Place.{Reads};
@@ -18,7 +18,7 @@ use crate::place::Place;
 use crate::supply::Supply;
 use px_ends::Source;
 
-// The header, or where it was read an event or the end.
+// The header, or, once that was read, an event or the end.
 #[tactic(auto, unfolding(crate::specs::Session::first_at, crate::specs::Place::and_then))]
 fn step(supply: &mut Supply, begun: bool, place: &mut Place<'_>) -> Result<Step, ReadError>
     ensures { Reads (λ step. step) result (place_of place.new) (step_at begun (place_of place.old)) }
@@ -65,7 +65,7 @@ fn settled(read: Result<Found, ReadError>) -> Option<Result<Found, ReadError>>
     if is_open(&read) { None } else { Some(read) }
 }
 
-/// What stands next, in the bytes that are held and as many more of the source's as that takes.
+/// What comes next, in the bytes that are held and the further bytes of the source that it needs.
 pub(crate) fn await_step<S: Source>(
     supply: &mut Supply,
     begun: bool,

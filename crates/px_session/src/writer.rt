@@ -83,7 +83,7 @@ pub fn write_header<K: Sink>(out: &mut K, header: &Header) -> Result<(), WriteEr
     write_sinks(out, header.sinks.as_slice())
 }
 
-// Writes what a record's first byte is, and the connection that it is of.
+// Writes a record's first byte, and its connection.
 fn write_connection<K: Sink>(out: &mut K, code: u8, conn: ConnId) -> Result<(), WriteError>
     ensures ok { OnOk result (K.held out.new ≡ after_adding (K.held out.old) (code ∷ word conn.0)) }
     ensures ok_count { OnOk result (K.faults out.new ≡ K.faults out.old) }
@@ -93,7 +93,7 @@ fn write_connection<K: Sink>(out: &mut K, code: u8, conn: ConnId) -> Result<(), 
     write_pieces(out, &[&[code], &conn.0.to_be_bytes()])
 }
 
-// Writes the same, and then the connection's bytes behind their count.
+// Writes the same, then the number of bytes, and the bytes.
 fn write_bytes<K: Sink>(out: &mut K, code: u8, conn: ConnId, bytes: &[u8]) -> Result<(), WriteError>
     requires { length bytes.now < 2 ^ 32 }
     ensures ok { OnOk result (K.held out.new ≡ after_adding (K.held out.old) (code ∷ word conn.0 ++ word (length bytes.now) ++ bytes.now)) }
@@ -175,7 +175,7 @@ fn write_closed<K: Sink>(
     )
 }
 
-// Writes that a sink's device has consumed frames, which have these bytes.
+// Writes that a sink's device has consumed frames with these bytes.
 fn write_played<K: Sink>(
     out: &mut K,
     index: u8,

@@ -1,4 +1,4 @@
--- What a step of the core is on a tape.
+-- The events of a step of the core on a tape.
 use Rattle.std.specs.Prelude.{◌≡◌, ℕ, List, [], ◌∷◌}
 use Rattle.px_frame.specs.Reading.{IsRead, Unfinished, Broken}
 use Rattle.px_session.specs.declared.event.Event.{Event}
@@ -7,7 +7,7 @@ use Rattle.px_core_cell.specs.declared.step.CoreStep.{CoreStep}
 use Rattle.px_core_cell.specs.declared.step.CoreStep.TheVariants as step
 use Rattle.px_tape.specs.Tape.{all_bytes}
 
--- a frame is the bytes that are read as it, and a fault those of a descriptor that has it; a sweep and messages that are posted are nothing
+-- a frame is bytes that are read as that frame, and a fault those of a descriptor that has it; a sweep and posted messages have no events
 abbrev pub AreEventsOf : CoreStep → List Event → Type 0
 AreEventsOf (step.Connect conn) events = events ≡ event.Connect conn ∷ []
 AreEventsOf (step.Frame conn frame) events = IsRead (all_bytes events) (record { at = 20; body = frame.body } ∷ []) Unfinished

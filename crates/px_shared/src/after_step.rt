@@ -124,12 +124,8 @@ impl<R: Wait + Copy, C: Recorder<CoreEntry> + Drop, L: Seats, O: Outlet + Drop> 
     fn put_back(&mut self, conn: ConnId, outlet: O, partly_sent: Option<PartlySent>)
         ensures seat { self.new.seat.parts ≡ self.old.seat.parts }
     {
-        if partly_sent.is_some() {
-            self.shared.worker_sends.store(true, Ordering::SeqCst);
-        }
-        self.shared
-            .queues
-            .lock(&self.rt)
-            .put_back(conn, outlet, partly_sent);
+        let mut queues = self.shared.queues.lock(&self.rt);
+        queues.put_back(conn, outlet, partly_sent);
+        self.shared.note_senders(&queues);
     }
 }

@@ -102,17 +102,19 @@ impl<R: Wait + Copy, C: Recorder<CoreEntry> + Drop, L: Seats, O: Outlet + Drop> 
     pub fn open_queue(&mut self, conn: ConnId, outlet: Option<O>) -> Mem<()>
         ensures seat { self.new.seat.parts ≡ self.old.seat.parts }
     {
-        if outlet.is_none() {
-            self.shared.worker_sends.store(true, Ordering::SeqCst);
-        }
-        self.shared.queues.lock(&self.rt).open(conn, outlet)
+        let mut queues = self.shared.queues.lock(&self.rt);
+        let opened = queues.open(conn, outlet);
+        self.shared.note_senders(&queues);
+        opened
     }
 
     /// Drops the output queue of the client `conn`, and shuts the half of its link that sends.
     pub fn close_queue(&mut self, conn: ConnId)
         ensures seat { self.new.seat.parts ≡ self.old.seat.parts }
     {
-        self.shared.queues.lock(&self.rt).close(conn);
+        let mut queues = self.shared.queues.lock(&self.rt);
+        queues.close(conn);
+        self.shared.note_senders(&queues);
     }
 
     /// Whether the client `conn` has an output queue.
@@ -122,14 +124,17 @@ impl<R: Wait + Copy, C: Recorder<CoreEntry> + Drop, L: Seats, O: Outlet + Drop> 
 
     /// Whether a client's own worker may have to send what waits for it. Else each worker that makes a step sends the packets of that step.
     pub fn worker_sends(&self) -> bool {
-        self.shared.worker_sends.load(Ordering::SeqCst)
+        self.shared.worker_sends.load(Ordering::SeqCst) > 0
     }
 
     /// Takes out the first packet of a client's output queue, for the client's own worker.
     pub fn next_packet(&mut self, conn: ConnId) -> Next
         ensures seat { self.new.seat.parts ≡ self.old.seat.parts }
     {
-        self.shared.queues.lock(&self.rt).next(conn)
+        let mut queues = self.shared.queues.lock(&self.rt);
+        let next = queues.next(conn);
+        self.shared.note_senders(&queues);
+        next
     }
 
     /// Connects the client `conn`.

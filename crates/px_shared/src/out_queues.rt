@@ -62,7 +62,7 @@ impl<O: Outlet + Drop> PendingSend<O> {
     }
 }
 
-// Sends `bytes` as far as the link is ready. Answers how many were sent.
+// Sends `bytes` as far as the link is ready, and returns how many were sent.
 fn sent_of<O: Outlet>(outlet: &mut O, bytes: &[u8]) -> usize {
     if bytes.is_empty() {
         return 0;
@@ -201,6 +201,14 @@ impl<O: Outlet + Drop> OutQueues<O> {
         }
     }
 
+    /// The number of clients whose own worker has to send what waits for them. Takes no memory.
+    pub(crate) fn worker_senders(&self) -> usize {
+        self.queues
+            .iter()
+            .filter(|queue| matches!(&queue.sender, Sender::Own(_)))
+            .count()
+    }
+
     /// Whether the client `conn` has a queue. Takes no memory.
     pub(crate) fn has(&self, conn: ConnId) -> bool {
         self.queues.iter().any(|queue| queue.conn == conn)
@@ -214,7 +222,7 @@ impl<O: Outlet + Drop> OutQueues<O> {
         }
     }
 
-    /// A client in whose queue a packet found no memory; each is answered once. Takes no memory.
+    /// A client in whose queue a packet found no memory; each is returned once. Takes no memory.
     pub(crate) fn take_out_of_memory(&mut self) -> Option<ConnId> {
         let queue = self.queues.iter_mut().find(|queue| queue.out_of_memory)?;
         queue.out_of_memory = false;

@@ -9,7 +9,7 @@ use px_ends::Outlet;
 use px_pool::Pool;
 use px_tape::Tape;
 use std::alloc::Global;
-use std::sync::atomic::AtomicBool;
+use std::sync::atomic::{AtomicBool, AtomicUsize, Ordering};
 use std::sync::{Arc, Mutex};
 
 /// The state that all workers share: the core, the packets that wait for each client with the half of its link that sends, used blocks, and the
@@ -23,8 +23,8 @@ pub struct Shared<C: Recorder<CoreEntry>, L: Seats, O> {
     pub(crate) out_of_memory: AtomicBool,
     // True where a packet may wait that nobody has tried to send. It is set under the queues' lock.
     pub(crate) waiting: AtomicBool,
-    // True from the first time on that a client's own worker may have to send what waits for it.
-    pub(crate) worker_sends: AtomicBool,
+    // The number of clients whose own worker has to send what waits for them. It changes under the queues' lock, and is read without it.
+    pub(crate) worker_sends: AtomicUsize,
     pub(crate) pool: Arc<Pool>,
     // True once the sinks' workers may end.
     pub(crate) stopping: AtomicBool,
@@ -49,12 +49,18 @@ impl<C: Recorder<CoreEntry>, L: Seats, O: Outlet + Drop> Shared<C, L, O> {
             queues: Mutex::new(OutQueues::new(alloc)),
             out_of_memory: AtomicBool::new(false),
             waiting: AtomicBool::new(false),
-            worker_sends: AtomicBool::new(false),
+            worker_sends: AtomicUsize::new(0),
             pool,
             stopping: AtomicBool::new(false),
             sinks,
             tape: Mutex::new(Tape::new(alloc)),
             taped,
         }
+    }
+
+    // Notes how many clients' own workers have to send, as `queues` has them.
+    pub(crate) fn note_senders(&self, queues: &OutQueues<O>) {
+        self.worker_sends
+            .store(queues.worker_senders(), Ordering::SeqCst);
     }
 }

@@ -15,11 +15,11 @@ use Rattle.px_outcome.specs.declared.target.Named.{Named}
 use Rattle.px_outcome.specs.declared.target.Named.TheVariants.{Unclear, Unknown, Sink}
 use Rattle.px_outcome.specs.Target.{target_of as target_in}
 
--- a sink that stands in a header behind others
+-- a sink of a header, whatever sinks precede it
 abbrev pub IsOfHeader : SinkSpec → Type 0
 IsOfHeader sink = (earlier : List SinkSpec) × IsSink earlier sink
 
--- its rate and its depth; a sink that isn't there has a rate of 1
+-- its rate and its depth; a sink that doesn't exist has a rate of 1
 abbrev pub rate_of : Option SinkSpec → ℕ
 rate_of None = 1
 rate_of (Some sink) = sink.spec.rate
@@ -31,7 +31,7 @@ abbrev pub depth_of : Option SinkSpec → ℕ
 depth_of None = 0
 depth_of (Some sink) = sink.depth
 
--- the sink of an input, where both are there
+-- the sink of an input, where both exist
 abbrev pub sink_of : List SinkSpec → Option Input → Option SinkSpec
 sink_of sinks None = None
 sink_of sinks (Some x) = slice_get sinks x.sink.0
@@ -54,7 +54,7 @@ named_as sinks (Ok index) = found_as index (slice_get sinks index.0)
 named_as sinks (Err Invalid) = Unclear
 named_as sinks (Err code) = Unknown
 
--- by an index or a name, or by neither where the default sink will do
+-- by an index or a name, or by neither where `fallback` is true
 abbrev pub named_by : Naming → List SinkSpec → SinkRef → Bool → Named
 named_by names sinks sink fallback = named_as sinks (sink_named names sink.index sink.name fallback)
 
@@ -62,7 +62,7 @@ abbrev pub group_of : List FlatGroup → Option Target → Option FlatGroup
 group_of groups None = None
 group_of groups (Some target) = slice_get groups target.index.0
 
--- where the sink is there
+-- where the sink exists
 abbrev pub group_named : List FlatGroup → Named → Option FlatGroup
 group_named groups named = group_of groups (target_in named)
 
@@ -77,7 +77,7 @@ group_under groups (Some x) = slice_get groups x.sink.0
 abbrev pub MOST_SINKS : ℕ
 MOST_SINKS = 16
 
--- these, the first of which has an index
+-- these sinks, the first of which has index `from`
 abbrev pub targets_from : ℕ → List SinkSpec → List Target
 targets_from index [] = []
 targets_from index (sink ∷ sinks) = target_of (record { 0 = index }) sink ∷ targets_from (index + 1) sinks

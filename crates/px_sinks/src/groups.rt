@@ -8,14 +8,14 @@ use px_flat::Group;
 use px_outcome::{Input, Named};
 use px_types::SinkId;
 
-/// The group of a sink, where it is there. Takes no memory.
+/// The group of a sink, where it exists. Takes no memory.
 pub fn group_on(groups: &[Group], sink: SinkId) -> Option<&Group>
     ensures { option_map (λ g. g.now) result ≡ slice_get groups.now sink.0 }
 {
     groups.get(sink.0 as usize)
 }
 
-/// The group of the sink that is named, where it is there. Takes no memory.
+/// The group of the named sink, where it exists. Takes no memory.
 pub fn group_named<'a>(groups: &'a [Group], named: &Named) -> Option<&'a Group>
     ensures { option_map (λ g. g.now) result ≡ group_named groups.now named.now }
 {
@@ -25,7 +25,7 @@ pub fn group_named<'a>(groups: &'a [Group], named: &Named) -> Option<&'a Group>
     }
 }
 
-/// The group of the sink that an input is on, where both are there. Takes no memory.
+/// The group of the sink that an input is on, where both exist. Takes no memory.
 pub fn group_under<'a>(groups: &'a [Group], input: &Option<Input>) -> Option<&'a Group>
     ensures { option_map (λ g. g.now) result ≡ group_under groups.now input.now }
 {
@@ -35,7 +35,7 @@ pub fn group_under<'a>(groups: &'a [Group], input: &Option<Input>) -> Option<&'a
     }
 }
 
-/// A sink has this group. Takes no memory.
+/// Sets the group of a sink. Takes no memory.
 pub fn set_group(groups: &mut Vec<Group>, sink: SinkId, group: Group)
     ensures { groups.new.items ≡ set groups.old.items sink.0 group }
 {

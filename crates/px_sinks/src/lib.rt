@@ -1,5 +1,5 @@
-//! The sinks of the header and their groups of volumes, as commands see them. It exports the look-ups: a sink by what a command
-//! says of it, its rate and depth, all sinks, and the group of a sink.
+//! The sinks of the header and their groups of volumes, as commands see them. It exports the look-ups: a sink by the index
+//! or name in a command, its rate and depth, all sinks, and the group of a sink.
 #![tactic(auto)]
 
 mod groups;

@@ -36,7 +36,7 @@ pub fn rate_on(sinks: &[SinkSpec], index: SinkId) -> u32
     rate_of(sink_at(sinks, index))
 }
 
-/// The sink of an input, where both are there. Takes no memory.
+/// The sink of an input, where both exist. Takes no memory.
 pub fn sink_of<'a>(sinks: &'a [SinkSpec], input: &Option<Input>) -> Option<&'a SinkSpec>
     requires { AreSinks [] sinks.now }
     ensures value { option_map (λ s. s.now) result ≡ sink_of sinks.now input.now }
@@ -109,7 +109,7 @@ fn found_as(alloc: Global, index: SinkId, sink: Option<&SinkSpec>) -> Mem<Named>
     }
 }
 
-// The name by which a sink is named, where it is.
+// The name in a sink reference, where there is one.
 fn name_of(sink: &SinkRef) -> Option<&[u8]>
     ensures { option_map (λ text. text.now) result ≡ sink.now.name }
 {
@@ -160,7 +160,7 @@ pub fn named_by(
     )
 }
 
-// One more sink as a command sees it.
+// Adds one more sink as a command sees it.
 fn add_target(alloc: Global, made: &mut Vec<Target>, index: SinkId, sink: &SinkSpec) -> Mem<()>
     requires { IsOfHeader sink.now }
     ensures value { OnOk result ((more : List SinkSpec) → made.new.items ++ targets_from (index.0 + 1) more ≡ made.old.items ++ targets_from index.0 (sink.now ∷ more)) }
@@ -187,7 +187,7 @@ fn targets_in(alloc: Global, sinks: &[SinkSpec]) -> Mem<Vec<Target>>
     Ok(made)
 }
 
-// As many as a header can have.
+// At most 16 sinks: the most of a header.
 #[tactic(auto, using(crate::proofs::Sinks::first_of_header, crate::proofs::Sinks::all_first))]
 fn first_of(sinks: &[SinkSpec]) -> &[SinkSpec]
     requires { AreSinks [] sinks.now }

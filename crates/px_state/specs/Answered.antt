@@ -1,4 +1,4 @@
--- The state after an outcome, and what it does to the outside.
+-- The state after an outcome, and the effects of the outcome.
 use Rattle.std.specs.Prelude.{List, ◌++◌, Option}
 use Rattle.px_types.specs.declared.ids.ConnId.{ConnId}
 use Rattle.px_state.specs.declared.effect.Effect.{Effect}
@@ -11,6 +11,6 @@ use Rattle.px_state.specs.Events.{step_events}
 abbrev pub answered : {P : Type 0} → State P → CoreOutcome P → State P
 answered state outcome = committed state outcome.changes
 
--- the effects of an outcome, and then what those are told who subscribe after it
+-- the effects of an outcome, and then the subscription events that its changes cause
 abbrev pub answer_effects : {P : Type 0} → Option ConnId → State P → CoreOutcome P → List Effect
 answer_effects asker state outcome = outcome_effects asker outcome ++ step_events state (answered state outcome)

@@ -37,7 +37,7 @@ renamed conn list names = record names { clients = change_client (is_on conn) (w
 abbrev pub masked : ConnId → ℕ → Naming → Naming
 masked conn mask names = record names { clients = change_client (is_on conn) (with_mask mask) names.clients }
 
--- a sink that is there is the default sink
+-- an existing sink becomes the default sink
 abbrev pub defaulted : SinkId → Naming → Naming
 defaulted sink names = cond (nat_lt sink.0 (length names.sinks)) (record names { fallback = sink }) names
 
@@ -59,7 +59,7 @@ joined conn state = record state {
 
 -- ---- messages
 
--- the lists, with one longer by a message
+-- the queues, with a message appended to one
 abbrev pub posted_to : {P : Type 0} → ℕ → Msg P → List (List (Msg P)) → List (List (Msg P))
 posted_to sink m posted = set posted sink (get_or posted sink [] ++ m ∷ [])
 
@@ -68,7 +68,7 @@ posting sink m state = record state { posted = posted_to sink m state.posted }
 
 -- ---- inputs
 
--- what waited of it waits no more
+-- without an input's requests and held messages
 abbrev pub without_standing : {P : Type 0} → InputId → State P → State P
 without_standing index state = record state {
   inputs = change_first (has_index index) leaving state.inputs;
@@ -76,7 +76,7 @@ without_standing index state = record state {
   delayed = delayed_of_others state.delayed index;
 }
 
--- an input ends: a settled one's sink is told to give up its stream, a moving one's was told already, and one that has ended stays so
+-- an input ends: a settled one's sink gets the message to detach its stream, a moving one's has it already, and one that has ended stays so
 abbrev pub ending : {P : Type 0} → Standing → Input → State P → State P
 ending Settled x state = posting x.sink.0 (Detach x.index) (without_standing x.index state)
 ending (Moving to) x state = without_standing x.index state
@@ -89,11 +89,11 @@ ending_of (Some x) state = ending x.standing x state
 abbrev pub noting : {P : Type 0} → InputId → Msg P → State P → State P
 noting index m state = record state { inputs = inputs_noted index m state.inputs }
 
--- a message waits while its input moves
+-- a message is held while its input moves
 abbrev pub delaying : {P : Type 0} → InputId → Msg P → State P → State P
 delaying index m state = record state { delayed = state.delayed ++ record { input = index; message = m } ∷ [] }
 
--- an input is told something: its sink is, where the input is settled there
+-- a message about an input is posted to its sink, where the input is settled there
 abbrev pub posting_to_input : {P : Type 0} → Standing → Input → Msg P → State P → State P
 posting_to_input Settled x m state = posting x.sink.0 m (noting x.index m state)
 posting_to_input (Moving to) x m state = delaying x.index m (noting x.index m state)
@@ -105,7 +105,7 @@ posting_if_there (Some x) m state = posting_to_input x.standing x m state
 
 -- ---- an input moves between sinks
 
--- a settled one's sink is told to give up its stream
+-- a settled one's sink gets the message to detach its stream
 abbrev pub departing : {P : Type 0} → SinkId → Input → State P → State P
 departing to x state = posting x.sink.0 (Detach x.index) (record state { inputs = change_first (has_index x.index) (moving_to to) state.inputs })
 
@@ -131,19 +131,19 @@ abbrev pub arrives_of : {P : Type 0} → Option Input → Msg P → State P → 
 arrives_of None m state = state
 arrives_of (Some x) m state = arrives x.standing x m state
 
--- a message that waited waits for the sink that its input is on
+-- a held message is queued for the sink that its input is on
 abbrev pub releasing : {P : Type 0} → Input → Option (Delayed P) → State P → State P
 releasing x None state = state
 releasing x (Some d) state = posting x.sink.0 d.message (record state { delayed = drop_first (is_of x.index) state.delayed })
 
--- the first of the input's
+-- the oldest of the input's
 abbrev pub releasing_of : {P : Type 0} → Option Input → State P → State P
 releasing_of None state = state
 releasing_of (Some x) state = releasing x (find (is_of x.index) state.delayed) state
 
 -- ---- volumes
 
--- a sink has this group
+-- a sink's group is set
 abbrev pub regrouping : {P : Type 0} → ℕ → FlatGroup → State P → State P
 regrouping sink group state = record state { groups = set state.groups sink group }
 

@@ -1,4 +1,4 @@
--- The messages of inputs on their way from one sink to another: they wait until the other sink has the stream.
+-- The messages of moving inputs: they are held until the new sink has the stream.
 use Rattle.std.specs.Prelude.{◌≡◌, Bool, true, not, nat_eq, List, filter, MatchOption}
 use Rattle.px_types.specs.declared.ids.InputId.{InputId}
 use Rattle.px_model.specs.Orderly.{IsRepaired, IsWhole}
@@ -19,7 +19,7 @@ delayed_of delayed index = filter (is_of index) delayed
 abbrev pub delayed_of_others : {P : Type 0} → List (Delayed P) → InputId → List (Delayed P)
 delayed_of_others delayed index = filter (λ d. not (is_of index d)) delayed
 
--- a message tells the stream of an input something: it names it, and fits it
+-- a message about the stream of an input: it names it, and fits it
 abbrev pub Suits : {P : Type 0} → Input → Msg P → Type 0
 Suits x (New n) = ⊥
 Suits x (Attach input parcel feed factors) = ⊥
@@ -35,7 +35,7 @@ Suits x (Attr input attr) = (input.0 ≡ x.index.0) × IsRepaired attr
 Suits x (Factors each) = ⊥
 Suits x (Query input tag) = input.0 ≡ x.index.0
 
--- its input moves, and it suits it
+-- its input moves, and the message suits it
 abbrev pub Waits : {P : Type 0} → Input → Msg P → Type 0
 Waits x m = (is_moving x.standing ≡ true) × Suits x m
 

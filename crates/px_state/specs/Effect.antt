@@ -1,4 +1,4 @@
--- What a step does to the outside.
+-- The effects of a step on clients.
 use Rattle.std.specs.Prelude.{◌≡◌, ℕ, ◌+◌, ◌-◌, ◌^◌, ◌<◌, ◌≤◌, min, Bool, cond, ◌&&◌, nat_lt, nat_le, List, [], ◌∷◌, ◌++◌, length}
 use Rattle.std.specs.List.{AllByRecursion}
 use Rattle.px_types.specs.declared.ids.ConnId.{ConnId}
@@ -26,11 +26,11 @@ MOST_BYTES = 16777216
 abbrev pub fits : List ℕ → Bool
 fits packet = nat_lt 0 (length packet) && nat_le (length packet) MOST_BYTES
 
--- a packet for a connection goes to it where a frame can carry it
+-- a packet is sent to a connection where a frame can carry it
 abbrev pub sending : ConnId → List ℕ → List Effect
 sending conn packet = cond (fits packet) (sent conn packet ∷ []) []
 
--- the number of a fault in a packet, behind the five of frames
+-- the number of a fault in a packet, after the five of frame faults
 abbrev pub fault_code : TagFault → ℕ
 fault_code (WrongTag at) = 6
 fault_code (Short at) = 7
@@ -44,7 +44,7 @@ fault_place (Short at) = at
 fault_place (BadValue at) = at
 fault_place (Left at) = at
 
--- an offset in a connection's bytes stays at the last number of 64 bits once it is there
+-- an offset in a connection's bytes, saturated to 64 bits
 abbrev pub offset_behind : ℕ → ℕ → ℕ
 offset_behind at place = min (at + place) (2 ^ 64 - 1)
 
@@ -56,7 +56,7 @@ closed_at conn fault at = Closed conn Protocol fault at
 abbrev pub closed_for : ConnId → Reason → Effect
 closed_for conn reason = Closed conn reason 0 0
 
--- ---- how long a packet is
+-- ---- the length of a packet
 
 -- these bytes are the whole frame of a packet of 1 to 16,777,216 bytes
 pub record IsFrame (bytes : List ℕ) : Type 0 where
@@ -65,7 +65,7 @@ pub record IsFrame (bytes : List ℕ) : Type 0 where
   pub some : 0 < length packet
   pub few : length packet ≤ MOST_BYTES
 
--- what goes to a client is such a frame
+-- bytes sent to a client are such a frame
 abbrev pub IsSendable : Effect → Type 0
 IsSendable (Sent conn bytes) = IsFrame bytes
 IsSendable (Closed conn reason fault at) = Unit {0}

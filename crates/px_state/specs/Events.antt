@@ -1,4 +1,4 @@
--- What a step tells those who subscribed, by the states before it and after it.
+-- The subscription events of a step, by the states before it and after it.
 use Rattle.std.specs.Prelude.{List}
 use Rattle.px_subscribe.specs.Scene.{Scene, scene_at}
 use Rattle.px_subscribe.specs.Moments.{notified_between}
@@ -6,7 +6,7 @@ use Rattle.px_state.specs.declared.effect.Effect.{Effect}
 use Rattle.px_state.specs.Outcome.{sent_all}
 use Rattle.px_state.specs.State.{State}
 
--- what infos and subscriptions read of a state
+-- the parts of a state that infos and subscriptions read
 abbrev pub scene_of : {P : Type 0} → State P → Scene
 scene_of state = scene_at state.names state.connections state.inputs state.lists state.groups state.inputs_made
 

@@ -13,7 +13,7 @@ IsOfClient (Ended conn reason fault at) = ⊤
 IsOfClient (Forgotten conn) = ⊤
 IsOfClient _ = ⊥
 
--- of an input that is there
+-- of an existing input
 abbrev pub IsOfInput : {P : Type 0} → Change P → Type 0
 IsOfInput (Described index list) = ⊤
 IsOfInput (Leaves index) = ⊤

@@ -10,11 +10,11 @@ use Rattle.px_outcome.specs.declared.input.Way.TheVariants.{Coming, There}
 use Rattle.px_state.specs.State.{State, input_of}
 use Rattle.px_state.specs.Out.{next_for, handed_out, put_back}
 
--- the stream of an input, where that is there, is so on its way
+-- the stream of an input, where that exists, has this `way`
 abbrev pub IsOnWay : List Input → InputId → Way → Type 0
 IsOnWay inputs index way = IfSome (input_of inputs index) (λ x. x.way ≡ way)
 
--- a message finds the stream that it names as such a message should: one that comes is on its way, and one that is to go is there
+-- the stream that a message names has the `way` that the message expects: one that is brought is `Coming`, and one to detach is `There`
 abbrev pub FindsItsStream : {P : Type 0} → Msg P → List Input → Type 0
 FindsItsStream (New n) inputs = IsOnWay inputs n.input Coming
 FindsItsStream (Attach input parcel feed factors) inputs = IsOnWay inputs input Coming

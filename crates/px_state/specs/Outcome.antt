@@ -1,4 +1,4 @@
--- The outcome of a step of the core: what it does to the outside, and the outcomes of refusals and of ends.
+-- The outcome of a step of the core: its effects, and the outcomes of refusals and of ends.
 use Rattle.std.specs.Prelude.{ℕ, Bool, true, cond, List, [], ◌∷◌, ◌++◌, flat_map, Option, None, Some, Ok, Err}
 use Rattle.px_types.specs.declared.ids.ConnId.{ConnId}
 use Rattle.px_types.specs.declared.error_code.ErrorCode.{ErrorCode}
@@ -23,9 +23,9 @@ use Rattle.px_state.specs.Change.{Change}
 abbrev pub CoreOutcome : Type 0 → Type 0
 CoreOutcome P = OutcomeParts (Msg P) FlatGroup
 
--- ---- what an outcome does to the outside
+-- ---- the effects of an outcome
 
--- the reply goes to who asked
+-- the reply goes to `asker`
 abbrev pub reply_to_asker : Option (List ℕ) → Option ConnId → List Effect
 reply_to_asker None asker = []
 reply_to_asker (Some packet) None = []
@@ -61,13 +61,13 @@ closed_in (Forgotten conn) = []
 abbrev pub closed_all : {P : Type 0} → List (Change P) → List Effect
 closed_all changes = flat_map closed_in changes
 
--- in this order: the reply, the errors for tags that wait, the messages to clients, the connections that are ended
+-- in this order: the reply, the errors for waiting requests, the packets to clients, the connections that are ended
 abbrev pub outcome_effects : {P : Type 0} → Option ConnId → CoreOutcome P → List Effect
 outcome_effects asker outcome = reply_to_asker outcome.reply asker ++ sent_all outcome.errors ++ sent_all outcome.notified ++ closed_all outcome.changes
 
 -- ---- a request is refused, or answered
 
--- who asked is sent an error, and nothing changes
+-- an error for the request under `tag`; nothing changes
 abbrev pub refused : {P : Type 0} → ℕ → ErrorCode → CoreOutcome P
 refused tag code = replied (refusal tag (code_of code)) []
 
@@ -75,11 +75,11 @@ abbrev pub reply_fits : Option (List ℕ) → Bool
 reply_fits None = true
 reply_fits (Some packet) = fits packet
 
--- where no frame can carry its reply, it is refused instead
+-- where no frame can carry its reply, a refusal instead
 abbrev pub fitting : {P : Type 0} → ℕ → CoreOutcome P → CoreOutcome P
 fitting tag outcome = cond (reply_fits outcome.reply) outcome (refused tag TooLarge)
 
--- what a command's handler gives, asked under a tag
+-- the outcome of a command's handler, for a request under a tag
 abbrev pub requested : {P : Type 0} → ℕ → Handled (CoreOutcome P) → CoreOutcome P
 requested tag (Ok outcome) = fitting tag outcome
 requested tag (Err (Code code)) = refused tag code

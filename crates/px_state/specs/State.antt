@@ -1,4 +1,6 @@
--- The state of the core: the names, the sinks, the connections with their streams, the requests that are answered later, and the messages that wait for each sink, with its group of volumes (PulseAudio: `pa_core`, and `pa_native_connection` of pulsecore/protocol-native.c; that messages wait as data is own).
+-- The state of the core: the names, the sinks, the connections with their streams, the requests that are answered later, and the messages queued for
+-- each sink, with its group of volumes (PulseAudio: `pa_core`, and `pa_native_connection` of pulsecore/protocol-native.c; that messages are queued as
+-- data is own).
 use Rattle.std.specs.Prelude.{ℕ, List, [], map, filter, length, replicate}
 use Rattle.px_names.specs.Names.{Naming}
 use Rattle.px_names.specs.declared.input_lists.InputList.{InputList}
@@ -13,7 +15,7 @@ pub use Rattle.px_outcome.specs.Input.{has_number, connection_of, is_leaving, go
 use Rattle.px_state.specs.declared.delayed.Delayed.{Delayed}
 pub use Rattle.px_outcome.specs.Waiting.{is_as, waiting_of_others}
 
--- P is the type of a parcel: a stream on its way from one sink to another
+-- P is the type of a parcel: a stream that moves from one sink to another
 pub record State (P : Type 0) : Type 0 where
   -- the cookie, the sinks' names with the default sink, and the clients in order of connecting
   pub names : Naming
@@ -25,15 +27,15 @@ pub record State (P : Type 0) : Type 0 where
   pub inputs : List Input
   -- the property lists of the inputs
   pub lists : List InputList
-  -- the requests that are answered later, in the order in which they were asked
+  -- the requests that are answered later, in the order of the requests
   pub waiting : List Waiting
-  -- for each sink the messages that wait for it, in order
+  -- for each sink the messages queued for it, in order
   pub posted : List (List (Msg P))
-  -- the messages that wait while their inputs move, in order
+  -- the messages held while their inputs move, in order
   pub delayed : List (Delayed P)
   -- for each sink its group: its volume, and those of the inputs on it
   pub groups : List FlatGroup
-  -- how many clients and inputs were ever made: the next index of each
+  -- the number of clients and inputs that were ever made: the next index of each
   pub clients_made : ℕ
   pub inputs_made : ℕ
 

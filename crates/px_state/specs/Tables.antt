@@ -1,4 +1,4 @@
--- The tables that the core keeps its state in, as the state, and the room that they have.
+-- The tables that hold the core's state, seen as the state, and the room that they have.
 use Rattle.std.specs.Prelude.{ℕ, zero, suc, ◌+◌, ◌-◌, ◌≤◌, List, [], ◌∷◌, map, length, vec_capacity}
 use Rattle.std.specs.List.{AllByRecursion}
 use Rattle.std.specs.VecDeque.{deque_len, deque_capacity}
@@ -27,14 +27,14 @@ state_of t = record {
   inputs_made = t.inputs_made;
 }
 
--- how many more messages each queue takes in without memory
+-- the number of further messages that each queue takes without memory
 abbrev pub rooms_of : {P Z : Type 0} → List (VecDeque (Msg P) Z) → List ℕ
 rooms_of queues = map (λ q. deque_capacity q - deque_len q) queues
 
 abbrev pub core_of : {P : Type 0} → Tables P → Roomy P
 core_of t = record { state = state_of t; room = rooms_of t.posted.items }
 
--- ---- room for so many more without memory
+-- ---- room for `n` more entries without memory
 
 abbrev pub HasPlaces : {P Z : Type 0} → ℕ → VecDeque (Msg P) Z → Type 0
 HasPlaces n q = deque_len q + n ≤ deque_capacity q

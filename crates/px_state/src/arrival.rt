@@ -1,4 +1,4 @@
-//! An input that moves comes to its new sink with the parcel that the old one gave up.
+//! The arrival of a moving input at its new sink, with the parcel that the old one detached.
 
 ghost use Rattle.std.specs.Prelude.{◌≡◌, ◌+◌, [], length, IfOk, IfErr, OnOk, OnErr, None};
 ghost use Rattle.px_ctl_play.specs.Arrival.{arriving_with};
@@ -17,7 +17,7 @@ use px_outcome::Change;
 use px_types::{InputId, Mem};
 use std::alloc::Global;
 
-// What an arrival does to the outside, whatever the parcel is.
+// The effects of an arrival, whatever the parcel is.
 fn arrival_effects<P>(
     alloc: Global,
     tables: &Tables<P>,
@@ -49,7 +49,7 @@ fn effects_with_room<P>(
     Ok(effects)
 }
 
-// The input is on its new sink with this parcel, and the changes behind that are made. Takes no memory.
+// Settles the input on its new sink with this parcel, and makes the changes after that. Takes no memory.
 fn make_changes<P: Drop>(
     tables: &mut Tables<P>,
     input: InputId,
@@ -69,8 +69,8 @@ fn make_changes<P: Drop>(
     commit(tables, made.later);
 }
 
-/// An input that moves is on its new sink with this parcel, and the changes behind that are made; its effects are left. Where there is no
-/// memory for them the parcel is handed back, and nothing has changed.
+/// Settles a moving input on its new sink with this parcel, makes the changes after that, and returns their effects. Where
+/// there is no memory for them the parcel is handed back, and nothing has changed.
 pub fn finish_arrival<P: Drop>(
     alloc: Global,
     tables: &mut Tables<P>,

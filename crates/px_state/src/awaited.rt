@@ -1,4 +1,5 @@
-//! The requests that are answered later: those that are answered, or whose stream has ended, wait no more. Nothing takes memory.
+//! The requests that are answered later: they are removed once answered, or once their stream has ended. Nothing takes
+//! memory.
 
 ghost use Rattle.std.specs.Prelude.{◌≡◌, ◌≤◌, length, vec_capacity};
 ghost use Rattle.std.specs.List.{position};
@@ -9,7 +10,7 @@ ghost use Rattle.px_state.specs.Change.{drop_first};
 use px_outcome::{Awaited, Waiting};
 use px_types::InputId;
 
-// Whether one asks that a stream be drained, and not how far it is.
+// Whether a request is a DRAIN, not a latency request.
 fn is_drain(w: &Waiting) -> bool
     ensures { result ≡ is_drain w.now.awaited }
 {
@@ -19,21 +20,21 @@ fn is_drain(w: &Waiting) -> bool
     }
 }
 
-// Whether another is as this one: of the same input, under the same tag, and asking for the same.
+// Whether two requests are equal: same input, same tag, same kind.
 fn is_as(w: &Waiting, other: &Waiting) -> bool
     ensures { result ≡ is_as w.now other.now }
 {
     other.input.0 == w.input.0 && other.tag == w.tag && is_drain(other) == is_drain(w)
 }
 
-// The place of the first that is as this one.
+// The place of the first request that equals `w`.
 fn place_of(waiting: &[Waiting], w: &Waiting) -> Option<usize>
     ensures { result ≡ position (is_as w.now) waiting.now }
 {
     waiting.iter().position(|other| is_as(w, other))
 }
 
-/// A request is answered: the first that is as this one waits no more.
+/// Removes the first request that equals `w`: it is answered.
 pub(crate) fn answer(waiting: &mut Vec<Waiting>, w: &Waiting)
     ensures items { waiting.new.items ≡ drop_first (is_as w.now) waiting.old.items }
     ensures capacity { vec_capacity waiting.new ≡ vec_capacity waiting.old }
@@ -44,7 +45,7 @@ pub(crate) fn answer(waiting: &mut Vec<Waiting>, w: &Waiting)
     }
 }
 
-/// An input has ended: what waited of it waits no more.
+/// Removes the requests of an input that has ended.
 pub(crate) fn remove_input(waiting: &mut Vec<Waiting>, input: InputId)
     ensures items { waiting.new.items ≡ waiting_of_others waiting.old.items input }
     ensures capacity { vec_capacity waiting.new ≡ vec_capacity waiting.old }

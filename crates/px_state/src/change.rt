@@ -1,4 +1,4 @@
-//! The changes of the core's state, of which every step is a list.
+//! The changes of the core's state; every step is a list of them.
 
 ghost use Rattle.std.specs.Prelude.{◌≡◌, ◌∷◌, [], IfOk};
 
@@ -8,8 +8,8 @@ use px_outcome::Change;
 use px_types::Mem;
 use std::alloc::Global;
 
-/// One change of the core's state, with the message that it tells a sink. `P` is the type of a parcel: a stream on its way from
-/// one sink to another.
+/// One change of the core's state, with the message that it posts to a sink. `P` is the type of a parcel: a stream that
+/// moves from one sink to another.
 pub type CoreChange<P> = Change<Msg<P>, Group>;
 
 /// This change alone.

@@ -12,7 +12,7 @@ use px_names::Names;
 use px_outcome::Change;
 use px_types::{ConnId, SinkId};
 
-// A sink that is there is the default sink.
+// Makes an existing sink the default sink.
 fn make_default(names: &mut Names, sink: SinkId)
     ensures { names.new ≡ defaulted sink names.old }
 {
@@ -21,7 +21,7 @@ fn make_default(names: &mut Names, sink: SinkId)
     }
 }
 
-// A connection speaks this version.
+// Sets the version that a connection agreed on.
 fn set_version<P>(tables: &mut Tables<P>, conn: ConnId, version: u16)
     ensures state { state_of tables.new ≡ changed (state_of tables.old) (Authed conn version) }
     ensures room { (n : ℕ) → HasRoom (n + 1) tables.old → HasRoom n tables.new }
@@ -29,7 +29,7 @@ fn set_version<P>(tables: &mut Tables<P>, conn: ConnId, version: u16)
     px_input_table::set_version(&mut tables.connections, conn, version);
 }
 
-// A connection is to end.
+// Marks a connection as ended.
 fn mark<P>(tables: &mut Tables<P>, conn: ConnId)
     ensures state { state_of tables.new ≡ with_connection conn marked (state_of tables.old) }
     ensures room { (n : ℕ) → HasRoom (n + 1) tables.old → HasRoom n tables.new }
@@ -37,7 +37,7 @@ fn mark<P>(tables: &mut Tables<P>, conn: ConnId)
     px_input_table::mark(&mut tables.connections, conn);
 }
 
-// A connection and its client are given up.
+// Removes a connection and its client.
 fn forget<P>(tables: &mut Tables<P>, conn: ConnId)
     ensures state { state_of tables.new ≡ changed (state_of tables.old) (Forgotten conn) }
     ensures room { (n : ℕ) → HasRoom (n + 1) tables.old → HasRoom n tables.new }
@@ -46,7 +46,7 @@ fn forget<P>(tables: &mut Tables<P>, conn: ConnId)
     tables.names.forget(conn);
 }
 
-/// One such change. Takes no memory.
+/// Makes a change of this kind. Takes no memory.
 pub(crate) fn apply<P: Drop>(tables: &mut Tables<P>, change: CoreChange<P>)
     requires { IsOfClient change }
     ensures state { state_of tables.new ≡ changed (state_of tables.old) change }

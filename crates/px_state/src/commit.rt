@@ -1,4 +1,4 @@
-//! Changes are made, one after the other, in room that was reserved for them.
+//! Makes changes, one after the other, in room that was reserved for them.
 
 ghost use Rattle.std.specs.Prelude.{◌≡◌, ◌≤◌, ◌+◌, [], ℕ, length, vec_capacity, Some, IfOk, OnOk, OnErr};
 ghost use Rattle.std.specs.List.{find};
@@ -27,7 +27,7 @@ use px_types::{ConnId, InputId, Mem, SinkId};
 use std::alloc::Global;
 use std::collections::VecDeque;
 
-/// Room for so many changes. The state stays.
+/// Reserves room for `more` changes. The state stays.
 pub(crate) fn reserve<P>(tables: &mut Tables<P>, more: usize) -> Mem<()>
     ensures state { state_of tables.new ≡ state_of tables.old }
     ensures room { OnOk result (HasRoom more tables.new) }
@@ -39,7 +39,7 @@ pub(crate) fn reserve<P>(tables: &mut Tables<P>, more: usize) -> Mem<()>
     queues::reserve(&mut tables.posted, more)
 }
 
-// A message waits for a sink, behind the others.
+// Appends a message to a sink's queue.
 fn post<P: Drop>(tables: &mut Tables<P>, sink: SinkId, msg: Msg<P>)
     requires { HavePlaces 1 tables.old.posted.items }
     ensures state { state_of tables.new ≡ posting sink.0 msg (state_of tables.old) }
@@ -52,7 +52,7 @@ fn post<P: Drop>(tables: &mut Tables<P>, sink: SinkId, msg: Msg<P>)
     queues::post(&mut tables.posted, sink, msg);
 }
 
-// New buffer attributes that an input is told of are its own.
+// Buffer attributes in a message to an input become the input's own.
 fn note<P>(inputs: &mut InputTable, index: InputId, msg: &Msg<P>)
     ensures items { inputs.new.items ≡ inputs_noted index msg.now inputs.old.items }
     ensures len { length inputs.new.items ≤ length inputs.old.items }
@@ -65,7 +65,7 @@ fn note<P>(inputs: &mut InputTable, index: InputId, msg: &Msg<P>)
     }
 }
 
-// A message waits while its input moves.
+// Holds a message while its input moves.
 fn delay<P: Drop>(tables: &mut Tables<P>, input: InputId, message: Msg<P>)
     requires { length tables.old.delayed.items + 1 ≤ vec_capacity tables.old.delayed }
     ensures state { state_of tables.new ≡ delaying input message (state_of tables.old) }
@@ -79,7 +79,8 @@ fn delay<P: Drop>(tables: &mut Tables<P>, input: InputId, message: Msg<P>)
     tables.delayed.push_reserved(Delayed { input, message });
 }
 
-/// An input is told something: its sink is, where the input is settled there. Takes one place of the room.
+/// Posts a message to an input's sink where the input is settled there; holds it while the input moves. Takes one place of
+/// the room.
 pub(crate) fn post_to_input<P: Drop>(tables: &mut Tables<P>, x: &Input, msg: Msg<P>)
     requires { HasRoom 1 tables.old }
     ensures state { state_of tables.new ≡ posting_to_input x.now.standing x.now msg (state_of tables.old) }
@@ -98,7 +99,7 @@ pub(crate) fn post_to_input<P: Drop>(tables: &mut Tables<P>, x: &Input, msg: Msg
     }
 }
 
-// A message for the sink of the input with an index.
+// Posts a message about the input with an index.
 fn post_by_index<P: Drop>(tables: &mut Tables<P>, index: InputId, msg: Msg<P>)
     requires { HasRoom 1 tables.old }
     ensures state { state_of tables.new ≡ changed (state_of tables.old) (Posted index msg) }
@@ -110,7 +111,7 @@ fn post_by_index<P: Drop>(tables: &mut Tables<P>, index: InputId, msg: Msg<P>)
     }
 }
 
-// An input ends: a settled one's sink is to give up its stream. What waited of it waits no more.
+// Ends an input: a settled one's sink is to detach its stream. Its waiting requests and held messages are dropped.
 fn end<P: Drop>(tables: &mut Tables<P>, x: &Input)
     requires { HasRoom 1 tables.old }
     ensures state { state_of tables.new ≡ ending x.now.standing x.now (state_of tables.old) }
@@ -132,7 +133,7 @@ fn end<P: Drop>(tables: &mut Tables<P>, x: &Input)
     }
 }
 
-// The input with an index ends.
+// Ends the input with an index.
 fn leave<P: Drop>(tables: &mut Tables<P>, index: InputId)
     requires { HasRoom 1 tables.old }
     ensures state { state_of tables.new ≡ changed (state_of tables.old) (Leaves index) }
@@ -144,7 +145,7 @@ fn leave<P: Drop>(tables: &mut Tables<P>, index: InputId)
     }
 }
 
-// A settled input is to be on a sink: the one that it is on is to give up its stream.
+// Moves a settled input to a sink: the one that it is on is to detach its stream.
 fn depart<P: Drop>(tables: &mut Tables<P>, x: &Input, to: SinkId)
     requires here { input_of tables.old.inputs.items x.now.index ≡ Some x.now }
     requires room { HasRoom 1 tables.old }
@@ -161,7 +162,7 @@ fn depart<P: Drop>(tables: &mut Tables<P>, x: &Input, to: SinkId)
     }
 }
 
-// The input with an index is to be on a sink.
+// Moves the input with an index to a sink.
 fn depart_by_index<P: Drop>(tables: &mut Tables<P>, index: InputId, to: SinkId)
     requires { HasRoom 1 tables.old }
     ensures state { state_of tables.new ≡ changed (state_of tables.old) (Moves index to) }
@@ -173,7 +174,7 @@ fn depart_by_index<P: Drop>(tables: &mut Tables<P>, index: InputId, to: SinkId)
     }
 }
 
-// An input that moves is on the sink that it moves to, which is told this.
+// Settles a moving input on the sink that it moves to, and posts this message there.
 fn arrive<P: Drop>(tables: &mut Tables<P>, x: &Input, msg: Msg<P>)
     requires here { input_of tables.old.inputs.items x.now.index ≡ Some x.now }
     requires room { HasRoom 1 tables.old }
@@ -190,7 +191,7 @@ fn arrive<P: Drop>(tables: &mut Tables<P>, x: &Input, msg: Msg<P>)
     }
 }
 
-// The input with an index is on the sink that it moves to.
+// Settles the input with an index on the sink that it moves to.
 fn arrive_by_index<P: Drop>(tables: &mut Tables<P>, index: InputId, msg: Msg<P>)
     requires { HasRoom 1 tables.old }
     ensures state { state_of tables.new ≡ changed (state_of tables.old) (Arrives index msg) }
@@ -202,7 +203,7 @@ fn arrive_by_index<P: Drop>(tables: &mut Tables<P>, index: InputId, msg: Msg<P>)
     }
 }
 
-// The first message of an input that waited while it moved waits for the sink that it is on.
+// Queues the oldest held message of an input for the sink that it is on.
 fn release<P: Drop>(tables: &mut Tables<P>, x: &Input)
     requires { HasRoom 1 tables.old }
     ensures state { state_of tables.new ≡ releasing x.now (find (is_of x.now.index) tables.old.delayed.items) (state_of tables.old) }
@@ -214,7 +215,7 @@ fn release<P: Drop>(tables: &mut Tables<P>, x: &Input)
     }
 }
 
-// And of the input with an index.
+// The same for the input with an index.
 fn release_by_index<P: Drop>(tables: &mut Tables<P>, index: InputId)
     requires { HasRoom 1 tables.old }
     ensures state { state_of tables.new ≡ changed (state_of tables.old) (Released index) }
@@ -226,7 +227,7 @@ fn release_by_index<P: Drop>(tables: &mut Tables<P>, index: InputId)
     }
 }
 
-// A new input is there, and its sink is to have its stream.
+// Adds a new input, and posts the message with its stream to its sink.
 fn make<P: Drop>(tables: &mut Tables<P>, x: Input, new: Msg<P>, streams: u32, inputs: u32)
     requires { HasRoom 1 tables.old }
     ensures state { state_of tables.new ≡ changed (state_of tables.old) (Made x new streams inputs) }
@@ -239,7 +240,7 @@ fn make<P: Drop>(tables: &mut Tables<P>, x: Input, new: Msg<P>, streams: u32, in
     post(tables, sink, new);
 }
 
-// An input has this property list.
+// Sets the property list of an input.
 fn describe<P>(tables: &mut Tables<P>, index: InputId, list: PropList)
     requires { HasRoom 1 tables.old }
     ensures state { state_of tables.new ≡ changed (state_of tables.old) (Described index list) }
@@ -248,7 +249,7 @@ fn describe<P>(tables: &mut Tables<P>, index: InputId, list: PropList)
     tables.lists.set(index, list);
 }
 
-// A sink has this group, and is to hear this.
+// Sets the group of a sink, and posts this message to it.
 fn regroup<P: Drop>(tables: &mut Tables<P>, sink: SinkId, group: Group, msg: Msg<P>)
     requires { HasRoom 1 tables.old }
     ensures state { state_of tables.new ≡ changed (state_of tables.old) (Regrouped sink group msg) }
@@ -258,7 +259,7 @@ fn regroup<P: Drop>(tables: &mut Tables<P>, sink: SinkId, group: Group, msg: Msg
     post(tables, sink, msg);
 }
 
-// A request is answered later.
+// Adds a request to those that wait.
 fn ask<P>(tables: &mut Tables<P>, w: Waiting)
     requires { HasRoom 1 tables.old }
     ensures state { state_of tables.new ≡ changed (state_of tables.old) (Asked w) }
@@ -267,7 +268,7 @@ fn ask<P>(tables: &mut Tables<P>, w: Waiting)
     tables.waiting.push_reserved(w);
 }
 
-// A request that waited is answered.
+// Removes an answered request from those that wait.
 fn answer<P>(tables: &mut Tables<P>, w: &Waiting)
     ensures state { state_of tables.new ≡ changed (state_of tables.old) (Answered w.now) }
     ensures room { (n : ℕ) → HasRoom (n + 1) tables.old → HasRoom n tables.new }
@@ -275,7 +276,7 @@ fn answer<P>(tables: &mut Tables<P>, w: &Waiting)
     awaited::answer(&mut tables.waiting, w);
 }
 
-// An ended input and its property list are given up.
+// Removes an ended input and its property list.
 fn remove_input<P: Drop>(tables: &mut Tables<P>, index: InputId)
     requires { HasRoom 1 tables.old }
     ensures state { state_of tables.new ≡ changed (state_of tables.old) (Gone index) }
@@ -285,7 +286,7 @@ fn remove_input<P: Drop>(tables: &mut Tables<P>, index: InputId)
     tables.lists.remove(index);
 }
 
-// One change of an input that is there, which takes one place of the room. Takes no memory.
+// Makes one change of an existing input, which takes one place of the room. Takes no memory.
 fn apply_to_input<P: Drop>(tables: &mut Tables<P>, change: CoreChange<P>)
     requires family { IsOfInput change }
     requires room { HasRoom 1 tables.old }
@@ -304,7 +305,7 @@ fn apply_to_input<P: Drop>(tables: &mut Tables<P>, change: CoreChange<P>)
     }
 }
 
-/// One change, which takes one place of the room. Takes no memory.
+/// Makes one change, which takes one place of the room. Takes no memory.
 pub(crate) fn apply<P: Drop>(tables: &mut Tables<P>, change: CoreChange<P>)
     requires { HasRoom 1 tables.old }
     ensures state { state_of tables.new ≡ changed (state_of tables.old) change }
@@ -336,7 +337,7 @@ pub(crate) fn apply<P: Drop>(tables: &mut Tables<P>, change: CoreChange<P>)
     }
 }
 
-/// All changes, in order. Takes no memory.
+/// Makes all changes, in order. Takes no memory.
 pub(crate) fn commit<P: Drop>(tables: &mut Tables<P>, changes: Vec<CoreChange<P>>)
     requires { HasRoom (length changes.items) tables.old }
     ensures state { state_of tables.new ≡ committed (state_of tables.old) changes.items }
@@ -347,7 +348,7 @@ pub(crate) fn commit<P: Drop>(tables: &mut Tables<P>, changes: Vec<CoreChange<P>
     }
 }
 
-// What an outcome does to the outside, with room for its changes. The state stays.
+// The effects of an outcome, with room for its changes. The state stays.
 fn effects_with_room<P>(
     alloc: Global,
     asker: Option<ConnId>,
@@ -364,7 +365,7 @@ fn effects_with_room<P>(
     Ok(effects)
 }
 
-/// The changes of an outcome are made, and its effects are left; the reply goes to who asked. Where there is no memory for them
+/// Makes the changes of an outcome and returns its effects; the reply goes to `asker`. Where there is no memory for them
 /// nothing has changed.
 pub fn finish<P: Drop>(
     alloc: Global,

@@ -1,4 +1,4 @@
-//! Connections are there, and are marked once they have ended.
+//! Adds connections, and marks them once they have ended.
 
 ghost use Rattle.std.specs.Prelude.{◌≡◌, ◌<◌, OnOk, OnErr};
 ghost use Rattle.px_state.specs.Change.{joined, marked, with_connection};
@@ -8,7 +8,7 @@ use crate::tables::Tables;
 use px_outcome::Connection;
 use px_types::{ConnId, Mem};
 
-/// One more connection, and its client. Where there is no memory for it nothing has changed.
+/// Adds a connection and its client. Where there is no memory for it nothing has changed.
 pub fn join<P>(tables: &mut Tables<P>, conn: ConnId) -> Mem<()>
     requires { tables.old.clients_made < 4294967295 }
     ensures after { OnOk result (state_of tables.new ≡ joined conn (state_of tables.old)) }
@@ -28,7 +28,7 @@ pub fn join<P>(tables: &mut Tables<P>, conn: ConnId) -> Mem<()>
     Ok(())
 }
 
-/// A connection has ended: it is marked until it is swept away. Takes no memory.
+/// Marks a connection as ended, until it is removed. Takes no memory.
 pub fn mark<P>(tables: &mut Tables<P>, conn: ConnId)
     ensures { state_of tables.new ≡ with_connection conn marked (state_of tables.old) }
 {

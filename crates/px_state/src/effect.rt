@@ -1,4 +1,4 @@
-//! What a step does to the outside.
+//! The effects of a step on clients.
 
 ghost use Rattle.std.specs.Prelude.{◌≡◌, ◌<◌, ◌≤◌, length, IfOk, IfSome};
 ghost use Rattle.std.specs.Option.{option_to_list};
@@ -11,7 +11,7 @@ use px_outcome::{Change, Reason};
 use px_types::{ConnId, Mem, NoMemory};
 use std::alloc::Global;
 
-/// What a step does to the outside.
+/// An effect of a step on a client.
 #[derive(Debug, Drop)]
 pub enum Effect {
     /// A whole frame goes to a client.
@@ -29,7 +29,7 @@ pub enum Effect {
     },
 }
 
-// The effect that a packet of 1 to 16,777,216 bytes goes to a client, as a whole frame.
+// The effect of sending a packet of 1 to 16,777,216 bytes to a client, as a whole frame.
 #[tactic(auto, unfolding(crate::specs::Effect::framed))]
 pub(crate) fn sent(alloc: Global, conn: ConnId, packet: &[u8]) -> Mem<Effect>
     requires some { 0 < length packet.now }
@@ -56,7 +56,7 @@ pub fn closed_for(conn: ConnId, reason: Reason) -> Effect
     }
 }
 
-/// That the server has ended a connection, where a change says so. Takes no memory.
+/// The end of a connection by the server, where the change is one. Takes no memory.
 pub(crate) fn closed_in<P>(change: &CoreChange<P>) -> Option<Effect>
     ensures value { option_to_list result ≡ closed_in change.now }
     ensures sendable { IfSome result IsSendable }

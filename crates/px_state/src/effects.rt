@@ -18,7 +18,7 @@ use px_types::{ConnId, Mem};
 use std::alloc::Global;
 use std::marker::Model;
 
-/// Effects in order. Contracts see them as a list. What goes to a client is the whole frame of a packet of 1 to 16,777,216
+/// Effects in order. Contracts see them as a list. Each frame to a client is the whole frame of a packet of 1 to 16,777,216
 /// bytes.
 #[derive(Debug, Drop)]
 pub struct Effects {
@@ -68,7 +68,7 @@ impl Effects {
         Ok(())
     }
 
-    /// Adds the effects of another list behind these. After an `Err` those are dropped, and these stay as they were.
+    /// Appends the effects of another list. After an `Err` those are dropped, and these stay as they were.
     #[tactic(auto, using(crate::proofs::Sendable::all_sendable))]
     pub fn append(&mut self, mut more: Effects) -> Mem<()>
         ensures ok { OnOk result (self.new ≡ self.old ++ more) }
@@ -95,7 +95,7 @@ impl Effects {
     }
 }
 
-/// Room for one effect, taken before the step that may have it.
+/// Room for one effect, reserved before the step that may cause it.
 #[derive(Debug, Drop)]
 pub struct EffectRoom {
     effects: Vec<Effect>,
@@ -111,7 +111,7 @@ impl EffectRoom {
         })
     }
 
-    /// The effect alone, or none. Takes no memory.
+    /// This effect alone, or none. Takes no memory.
     pub fn hold(self, effect: Option<Effect>) -> Effects
         requires { IfSome effect IsSendable }
         ensures { result ≡ option_to_list effect }
@@ -134,7 +134,7 @@ pub(crate) fn fits(packet: &Packet) -> bool
     !bytes.is_empty() && bytes.len() <= MAX_PAYLOAD as usize
 }
 
-// A packet goes to a connection, where a frame can carry it.
+// Sends a packet to a connection, where a frame can carry it.
 fn send(alloc: Global, effects: &mut Effects, conn: ConnId, packet: &Packet) -> Mem<()>
     ensures { OnOk result (effects.new ≡ effects.old ++ sending conn packet.now) }
 {
@@ -144,7 +144,7 @@ fn send(alloc: Global, effects: &mut Effects, conn: ConnId, packet: &Packet) -> 
     Ok(())
 }
 
-// The reply goes to who asked.
+// Sends the reply to `asker`.
 fn send_reply(
     alloc: Global,
     effects: &mut Effects,
@@ -162,14 +162,14 @@ fn send_reply(
     }
 }
 
-// One more of several packets.
+// Sends one of several packets.
 fn send_one(alloc: Global, effects: &mut Effects, one: &Sending) -> Mem<()>
     ensures { OnOk result ((more : List Sending) → effects.new ++ sent_all more ≡ effects.old ++ sent_all (one.now ∷ more)) }
 {
     send(alloc, effects, one.conn, &one.packet)
 }
 
-/// Each packet goes to its connection.
+/// Sends each packet to its connection.
 pub(crate) fn send_all(alloc: Global, effects: &mut Effects, sendings: &[Sending]) -> Mem<()>
     ensures { OnOk result (effects.new ≡ effects.old ++ sent_all sendings.now) }
 {
@@ -179,7 +179,7 @@ pub(crate) fn send_all(alloc: Global, effects: &mut Effects, sendings: &[Sending
     Ok(())
 }
 
-// The end of a connection, where a change is one.
+// Adds the end of a connection, where the change is one.
 fn close_one<P>(effects: &mut Effects, change: &CoreChange<P>) -> Mem<()>
     ensures { OnOk result ((more : List (Change P)) → effects.new ++ closed_all more ≡ effects.old ++ closed_all (change.now ∷ more)) }
 {
@@ -189,7 +189,7 @@ fn close_one<P>(effects: &mut Effects, change: &CoreChange<P>) -> Mem<()>
     }
 }
 
-// The ends of connections among changes.
+// Adds the ends of connections among changes.
 fn close_all<P>(effects: &mut Effects, changes: &[CoreChange<P>]) -> Mem<()>
     ensures { OnOk result (effects.new ≡ effects.old ++ closed_all changes.now) }
 {
@@ -199,7 +199,7 @@ fn close_all<P>(effects: &mut Effects, changes: &[CoreChange<P>]) -> Mem<()>
     Ok(())
 }
 
-/// Messages to clients, and the ends of connections among changes.
+/// The packets to clients, and the ends of connections among changes.
 pub(crate) fn notified_and_closed<P>(
     alloc: Global,
     notified: &[Sending],
@@ -213,7 +213,7 @@ pub(crate) fn notified_and_closed<P>(
     Ok(effects)
 }
 
-/// What an outcome does to the outside: the reply, the errors for tags that wait, the messages to clients, and the connections that
+/// The effects of an outcome: the reply, the errors for waiting requests, the packets to clients, and the connections that
 /// are ended.
 pub(crate) fn outcome_effects<P>(
     alloc: Global,

@@ -1,4 +1,4 @@
-//! What a step tells those who subscribed, reckoned before it is made: once it is, nothing may take memory.
+//! The subscription events of a step, computed before it is made: once it is, nothing may take memory.
 
 ghost use Rattle.std.specs.Prelude.{◌≡◌, ◌++◌, ◌∷◌, [], ◌+◌, ◌<◌, IfOk, OnOk};
 ghost use Rattle.px_header.specs.HeaderRules.{AreSinks};
@@ -20,7 +20,7 @@ use px_subscribe::{Scene, are_deaf, are_quiet, nobody_hears};
 use px_types::{ConnId, InputId, Mem};
 use std::alloc::Global;
 
-// What infos and subscriptions read of the state.
+// The parts of the state that infos and subscriptions read.
 fn scene_of<P>(alloc: Global, tables: &Tables<P>) -> Mem<Scene>
     ensures { IfOk result (λ scene. scene ≡ scene_of (state_of tables.now)) }
 {
@@ -35,7 +35,7 @@ fn scene_of<P>(alloc: Global, tables: &Tables<P>) -> Mem<Scene>
     )
 }
 
-// What those are told who subscribe once the changes are made.
+// Adds the subscription events that the changes will cause.
 fn add_events<P>(
     alloc: Global,
     effects: &mut Effects,
@@ -57,7 +57,7 @@ fn add_events<P>(
     Ok(())
 }
 
-/// What an outcome does to the outside, and what those are told who subscribe.
+/// The effects of an outcome, and then the subscription events that its changes cause.
 pub(crate) fn answer_effects<P>(
     alloc: Global,
     asker: Option<ConnId>,
@@ -72,7 +72,7 @@ pub(crate) fn answer_effects<P>(
     Ok(effects)
 }
 
-/// What those are told who subscribe once an input is on the sink that it moves to, and the changes after that are made.
+/// Adds the subscription events of an input's arrival at the sink that it moves to, and of the changes after that.
 pub(crate) fn add_arrival_events<P>(
     alloc: Global,
     effects: &mut Effects,
@@ -93,7 +93,7 @@ pub(crate) fn add_arrival_events<P>(
     Ok(())
 }
 
-/// What those are told who subscribe, of a client that connects.
+/// The subscription events of a client that connects.
 pub fn joined_events<P>(alloc: Global, tables: &Tables<P>, conn: ConnId) -> Mem<Effects>
     requires sinks { AreSinks [] tables.now.sinks }
     requires room { tables.now.clients_made < 4294967295 }

@@ -1,6 +1,6 @@
-//! The state of the control side: the tables that it is kept in, the messages that wait for each sink, and each change of it, with what
-//! that does to the outside. An outcome is made as a whole or not at all. It exports `Tables` with the calls that change them, `Effects`,
-//! and the outcomes of refusals and of ends.
+//! The state of the control side: the tables that hold it, the messages queued for each sink, and each change of it, with
+//! its effects on clients. An outcome is made as a whole or not at all. It exports `Tables` with the calls that change them,
+//! `Effects`, and the outcomes of refusals and of ends.
 #![tactic(auto)]
 
 mod arrival;

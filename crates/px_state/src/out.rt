@@ -1,5 +1,5 @@
-//! Messages are handed out to the sinks, and those that were are put back. Own: PulseAudio's `pa_asyncmsgq` keeps its
-//! messages itself.
+//! Hands messages to the sinks, and puts them back in their queue. Own: PulseAudio's `pa_asyncmsgq` holds its messages
+//! itself.
 
 ghost use Rattle.std.specs.Prelude.{◌≡◌, ◌<◌, length};
 ghost use Rattle.px_state.specs.Out.{inputs_past, inputs_before, waiting_for, next_for, sent, unsent, room_for};
@@ -12,7 +12,7 @@ use px_msg::Msg;
 use px_outcome::Way;
 use px_types::SinkId;
 
-// The way of the input that a message names, once it was handed out.
+// Updates the `way` of the input that a message names, when it is handed out.
 fn pass<P>(inputs: &mut InputTable, msg: &Msg<P>)
     ensures { inputs.new.items ≡ inputs_past msg.now inputs.old.items }
 {
@@ -24,7 +24,7 @@ fn pass<P>(inputs: &mut InputTable, msg: &Msg<P>)
     }
 }
 
-// The way of the input that a message names, before it is handed out.
+// Restores the `way` of the input that a message names, when it is put back.
 fn pass_back<P>(inputs: &mut InputTable, msg: &Msg<P>)
     ensures { inputs.new.items ≡ inputs_before msg.now inputs.old.items }
 {
@@ -36,14 +36,14 @@ fn pass_back<P>(inputs: &mut InputTable, msg: &Msg<P>)
     }
 }
 
-/// How many messages wait for a sink; 0 for one that isn't there. Takes no memory.
+/// The number of messages queued for a sink; 0 for an unknown one. Takes no memory.
 pub fn outgoing<P>(tables: &Tables<P>, sink: SinkId) -> usize
     ensures { result ≡ length (waiting_for (state_of tables.now) sink) }
 {
     queues::count(&tables.posted, sink)
 }
 
-/// The first message that waits for a sink is handed out. Takes no memory.
+/// Removes and returns the first message queued for a sink. Takes no memory.
 pub fn hand_out<P>(tables: &mut Tables<P>, sink: SinkId) -> Option<Msg<P>>
     ensures next { result ≡ next_for (state_of tables.old) sink }
     ensures after { core_of tables.new ≡ sent sink (core_of tables.old) }
@@ -57,7 +57,7 @@ pub fn hand_out<P>(tables: &mut Tables<P>, sink: SinkId) -> Option<Msg<P>>
     }
 }
 
-/// A message that was handed out is put back, before the others. Takes no memory.
+/// Puts a message that was handed out back at the front of the queue. Takes no memory.
 pub fn put_back<P: Drop>(tables: &mut Tables<P>, sink: SinkId, msg: Msg<P>)
     requires { 0 < room_for sink (rooms_of tables.old.posted.items) }
     ensures after { core_of tables.new ≡ unsent sink msg (core_of tables.old) }

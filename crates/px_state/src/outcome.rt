@@ -1,4 +1,4 @@
-//! The outcomes of the core: what a request comes to, and how a connection is ended.
+//! The outcomes of the core: of a request, and of a connection's end.
 
 ghost use Rattle.std.specs.Prelude.{◌≡◌, IfOk};
 ghost use Rattle.px_outcome.specs.Handled.{Handled, HandledAs};
@@ -14,7 +14,7 @@ use px_tag::{Packet, TagFault};
 use px_types::{ConnId, ErrorCode, Mem, NoMemory};
 use std::alloc::Global;
 
-/// Who asked under the tag is sent an error, and nothing changes.
+/// An error for the request under `tag`; nothing changes.
 pub fn refused<P: Drop>(alloc: Global, tag: u32, code: ErrorCode) -> Mem<StepOutcome<Msg<P>, Group>>
     ensures { IfOk result (λ outcome. outcome ≡ refused tag code) }
 {
@@ -34,7 +34,7 @@ fn reply_fits(reply: &Option<Packet>) -> bool
     }
 }
 
-// An outcome whose reply no frame can carry is refused instead.
+// Replaces an outcome by a refusal where no frame can carry its reply.
 fn fitting<P: Drop>(
     alloc: Global,
     tag: u32,
@@ -49,8 +49,8 @@ fn fitting<P: Drop>(
     }
 }
 
-/// What a command's handler has given, asked under a tag: its outcome where a frame can carry the reply, else an error. A handler that
-/// found no memory has none.
+/// The result of a command's handler, for a request under a tag: its outcome where a frame can carry the reply, else an
+/// error. `Err` where the handler found no memory.
 pub fn requested<P: Drop>(
     alloc: Global,
     tag: u32,
@@ -65,7 +65,7 @@ pub fn requested<P: Drop>(
     }
 }
 
-// The number of a fault in a packet, behind the five of frames.
+// The number of a fault in a packet, after the five of frame faults.
 fn fault_code(fault: TagFault) -> u8
     ensures { result ≡ fault_code fault }
 {

@@ -1,4 +1,4 @@
-//! The messages that wait for each sink, a queue a sink.
+//! The messages for the sinks: a queue for each sink.
 
 ghost use Rattle.std.specs.Prelude.{◌≡◌, ◌<◌, ◌+◌, ◌∷◌, ◌++◌, [], ℕ, length, drop, get_or, set, IsSome, IsNone, OnOk};
 ghost use Rattle.std.specs.Option.{option_to_list};
@@ -12,7 +12,7 @@ use px_types::{Mem, SinkId};
 use std::collections::VecDeque;
 use std::mem::replace;
 
-/// A message waits for a sink, behind the others. Takes no memory.
+/// Appends a message to a sink's queue. Takes no memory.
 pub(crate) fn post<P: Drop>(queues: &mut [VecDeque<Msg<P>>], sink: SinkId, msg: Msg<P>)
     requires { HavePlaces 1 queues.old }
     ensures posted { lists_of queues.new ≡ posted_to sink.0 msg (lists_of queues.old) }
@@ -24,7 +24,7 @@ pub(crate) fn post<P: Drop>(queues: &mut [VecDeque<Msg<P>>], sink: SinkId, msg: 
     }
 }
 
-/// How many messages wait for a sink. Takes no memory.
+/// The number of messages queued for a sink. Takes no memory.
 pub(crate) fn count<P>(queues: &[VecDeque<Msg<P>>], sink: SinkId) -> usize
     ensures { result ≡ length (get_or (lists_of queues.now) sink.0 []) }
 {
@@ -36,7 +36,7 @@ pub(crate) fn count<P>(queues: &[VecDeque<Msg<P>>], sink: SinkId) -> usize
     }
 }
 
-/// The first message that waits for a sink, taken out: its place is room for one more. Takes no memory.
+/// Removes and returns the first message queued for a sink: its place is room for one more. Takes no memory.
 pub(crate) fn take_first<P>(queues: &mut [VecDeque<Msg<P>>], sink: SinkId) -> Option<Msg<P>>
     ensures first { result ≡ first_of (get_or (lists_of queues.old) sink.0 []) }
     ensures rest { IsSome result → lists_of queues.new ≡ set (lists_of queues.old) sink.0 (rest_of (get_or (lists_of queues.old) sink.0 [])) }
@@ -51,8 +51,8 @@ pub(crate) fn take_first<P>(queues: &mut [VecDeque<Msg<P>>], sink: SinkId) -> Op
     }
 }
 
-// Takes the first item out of a queue, if there is one. A queue that is empty then begins at the front of its room again: so messages that come
-// and go stay in a small part of it, however many once waited. Takes no memory.
+// Removes the first item of a queue, if there is one. A queue that is empty then begins at the front of its room again: so
+// messages that come and go stay in a small part of it, however long the queue once was. Takes no memory.
 fn take_front<T>(queue: &mut VecDeque<T>) -> Option<T>
     ensures items { queue.old.items ≡ option_to_list result ++ queue.new.items }
     ensures rest { queue.new.items ≡ drop 1 queue.old.items }
@@ -77,7 +77,7 @@ fn begin_anew<T>(queue: &mut VecDeque<T>)
     }
 }
 
-/// A message waits for a sink, before the others. Takes no memory.
+/// Puts a message at the front of a sink's queue. Takes no memory.
 pub(crate) fn put_first<P: Drop>(queues: &mut [VecDeque<Msg<P>>], sink: SinkId, msg: Msg<P>)
     requires { 0 < room_for sink (rooms_of queues.old) }
     ensures lists { lists_of queues.new ≡ set (lists_of queues.old) sink.0 (msg ∷ get_or (lists_of queues.old) sink.0 []) }
@@ -89,7 +89,7 @@ pub(crate) fn put_first<P: Drop>(queues: &mut [VecDeque<Msg<P>>], sink: SinkId, 
     }
 }
 
-/// Room for so many more messages for each sink. No message changes.
+/// Reserves room for `more` further messages in each queue. No message changes.
 pub(crate) fn reserve<P>(queues: &mut [VecDeque<Msg<P>>], more: usize) -> Mem<()>
     ensures lists { lists_of queues.new ≡ lists_of queues.old }
     ensures room { OnOk result (HavePlaces more queues.new) }

@@ -19,7 +19,7 @@ use px_types::{Mem, Text};
 use std::alloc::Global;
 use std::collections::VecDeque;
 
-// A sink of the header once more.
+// A copy of a sink of the header.
 fn copied(alloc: Global, sink: &SinkSpec) -> Mem<SinkSpec>
     ensures { IfOk result (λ made. made ≡ sink.now) }
 {
@@ -32,7 +32,7 @@ fn copied(alloc: Global, sink: &SinkSpec) -> Mem<SinkSpec>
     })
 }
 
-// The sinks of the header once more.
+// A copy of the sinks of the header.
 fn copied_sinks(alloc: Global, sinks: &[SinkSpec]) -> Mem<Vec<SinkSpec>>
     ensures { IfOk result (λ made. made.items ≡ sinks.now) }
 {
@@ -54,7 +54,7 @@ fn names_of(alloc: Global, sinks: &[SinkSpec]) -> Mem<Vec<Text>>
     Ok(made)
 }
 
-// A queue with no message for each sink.
+// An empty queue for each sink.
 fn queues_for<P: Drop>(alloc: Global, sinks: &[SinkSpec]) -> Mem<Vec<VecDeque<Msg<P>>>>
     ensures { IfOk result (λ made. lists_of made.items ≡ replicate (length sinks.now) []) }
 {
@@ -65,7 +65,7 @@ fn queues_for<P: Drop>(alloc: Global, sinks: &[SinkSpec]) -> Mem<Vec<VecDeque<Ms
     Ok(made)
 }
 
-// The group of a sink that no input is on.
+// The group of a sink without inputs.
 fn group_for(alloc: Global, sink: &SinkSpec) -> Group
     requires { IsOfHeader sink.now }
     ensures { result ≡ new_group sink.now.spec.channels }
@@ -73,7 +73,7 @@ fn group_for(alloc: Global, sink: &SinkSpec) -> Group
     Group::new(alloc, sink.spec.channels)
 }
 
-// Such a group for each sink.
+// The group without inputs for each sink.
 fn groups_for(alloc: Global, sinks: &[SinkSpec]) -> Mem<Vec<Group>>
     requires { AllByRecursion IsOfHeader sinks.now }
     ensures { IfOk result (λ made. made.items ≡ map (λ s. new_group (SinkSpec.spec s).channels) sinks.now) }
@@ -105,7 +105,7 @@ fn names_and_sinks(alloc: Global, header: &Header) -> Mem<(Names, SinkSpecs)>
     Ok((names, SinkSpecs::from_vec(sinks)))
 }
 
-// A queue with no message for each sink, and a group that no input is in.
+// An empty queue for each sink, and a group without inputs.
 fn queues_and_groups<P: Drop>(
     alloc: Global,
     sinks: &[SinkSpec],

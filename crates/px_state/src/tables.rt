@@ -1,4 +1,4 @@
-//! The tables that the state is kept in.
+//! The tables that hold the state.
 
 use crate::delayed::Delayed;
 use px_flat::Group;
@@ -9,7 +9,7 @@ use px_names::{InputLists, Names};
 use px_outcome::{Connection, Waiting};
 use std::collections::VecDeque;
 
-/// The state of the core. `P` is the type of a parcel: a stream on its way from one sink to another.
+/// The state of the core. `P` is the type of a parcel: a stream that moves from one sink to another.
 #[derive(Drop)]
 pub struct Tables<P> {
     pub names: Names,
@@ -21,15 +21,15 @@ pub struct Tables<P> {
     pub inputs: InputTable,
     /// The property lists of the inputs.
     pub lists: InputLists,
-    /// The requests that are answered later, in the order in which they were asked.
+    /// The requests that are answered later, in the order of the requests.
     pub waiting: Vec<Waiting>,
-    /// The messages that wait for each sink, in order.
+    /// The messages queued for each sink, in order.
     pub posted: Vec<VecDeque<Msg<P>>>,
-    /// The messages that wait while their inputs move, in order.
+    /// The messages held while their inputs move, in order.
     pub delayed: Vec<Delayed<P>>,
     /// The group of volumes of each sink.
     pub groups: Vec<Group>,
-    /// How many clients were ever made, and how many inputs.
+    /// The number of clients that were ever made, and of inputs.
     pub clients_made: u32,
     pub inputs_made: u32,
 }

@@ -1,4 +1,4 @@
-//! Frames that a client writes wait for the sink of their stream.
+//! Posting of frames that a client writes to the sink of their stream.
 
 ghost use Rattle.std.specs.Prelude.{◌≡◌, Some, IfErr, OnOk, OnErr};
 ghost use Rattle.px_ctl_play.specs.Data.{written};
@@ -12,7 +12,8 @@ use px_block::Blocks;
 use px_ctl_play::Frames;
 use px_outcome::Input;
 
-/// These frames of a stream wait for its sink. Where there is no memory for them the bytes are handed back, and nothing has changed.
+/// Posts these frames to their stream's sink. Where there is no memory for them the bytes are handed back, and nothing has
+/// changed.
 pub fn post_frames<P: Drop>(
     tables: &mut Tables<P>,
     input: Input,

@@ -1,4 +1,4 @@
--- What is heard of a stream, and what of it stays as a message is applied.
+-- What is heard of a stream, and how much of it a message leaves unaltered.
 use Rattle.std.specs.Prelude.{◌≡◌, ℕ, Option, None, if◌then◌else◌}
 use Rattle.px_model.specs.Frame.{Frame, frame_size, frames_of}
 use Rattle.px_model.specs.Stream.{Stream}
@@ -18,7 +18,7 @@ pub record SoundsSame (k : ℕ) (before after : Stream) : Type 0 where
   pub factors : after.factors ≡ before.factors
   pub heard : heard_at after k ≡ heard_at before k
 
--- how many of the next n frames sound as before once a message is applied, where a sink has mixed so many
+-- how many of the next n frames sound as before once a message is applied, where a sink has mixed these n
 abbrev pub unaltered_of : ℕ → StreamMessage → Stream → ℕ
 unaltered_of n (StreamMessage.write seek offset frames bytes) s =
     unaltered_by (write_outcome s seek offset frames bytes n) s.queue (target_of s.queue (seek_of seek) offset) (frames_of (frame_size s.spec) frames bytes) n

@@ -1,4 +1,4 @@
--- A stream of the code as the stream of the definitions, with its room and its blocks.
+-- A stream of the code as a stream of the model, with its room and its blocks.
 use Rattle.std.specs.Prelude.{◌≡◌, ℕ, ◌<◌, Bool, List, length, All}
 use Rattle.px_model.specs.declared.data.Run.{Run}
 use Rattle.px_model.specs.Frame.{SampleSpec}
@@ -12,7 +12,7 @@ pub record HeldStream : Type 0 where
   pub room : ℕ
   -- how many blocks these may bring in all
   pub block_room : ℕ
-  -- how many blocks it keeps
+  -- how many blocks it holds
   pub blocks : ℕ
 
 abbrev pub stream_of : Queue → Bool → ℕ → ℕ → ℕ → ℕ → List ℕ → Run → SampleSpec → List ℕ → List ℕ → Stream
@@ -30,7 +30,7 @@ stream_of queue corked maxlength tlength minreq requested draining run spec feed
   factors = factors;
 }
 
--- what a stream of the code keeps: also that it can be mixed into a sink of as many channels as its feed has places
+-- the invariant of a stream of the code: also that it can be mixed into a sink with as many channels as its feed has places
 pub record IsMixable (s : Stream) : Type 0 where
   pub holds : IsStream s
   pub playable : IsPlayable s.spec

@@ -7,11 +7,11 @@ use Rattle.px_model.specs.Queue.{nothing}
 use Rattle.px_model.specs.Stream.{Stream, frame_at}
 use Rattle.px_stream.specs.Values.{value_at}
 
--- the work value of a sample among others, by its number
+-- the work value of sample i
 abbrev pub sample_at : List ℕ → ℕ → ℤ
 sample_at bytes i = work_value_of S16Le (take 2 (drop (i * 2) bytes))
 
--- these are the bytes of n frames from place k on, at most so many, and their samples are the values at a width
+-- these are the bytes of n frames from place k on, at most `most`, and their samples are the values at a width
 pub record LendsValues (width : Width) (s : Stream) (k most n : ℕ) (bytes : List ℕ) : Type 0 where
   pub few : n ≤ most
   pub small : n < 2 ^ 32

@@ -1,4 +1,4 @@
--- Messages to a stream as those of the definitions, and what they bring.
+-- Messages to a stream as those of the model, and what they bring.
 use Rattle.std.specs.Prelude.{◌≡◌, ℕ, ◌*◌, ◌<◌, ◌≤◌, Bool, true, false, length, All, ⊤}
 use Rattle.px_block.specs.Given.{blocks_for}
 use Rattle.px_model.specs.Frame.{frame_size}
@@ -31,18 +31,18 @@ Suits s (StreamMessage.attr attr) = IsRepaired attr
 Suits s (StreamMessage.factors factors) = length factors ≡ length s.feed
 Suits s _ = ⊤
 
--- the blocks that it brings
+-- how many blocks it brings
 abbrev pub blocks_with : StreamMessage → ℕ
 blocks_with (StreamMessage.write seek offset frames bytes) = blocks_for (length bytes)
 blocks_with _ = 0
 
--- the room that it takes
+-- how many messages' room it takes
 abbrev pub room_for : StreamMessage → ℕ
 room_for (StreamMessage.write seek offset frames bytes) = 1
 room_for (StreamMessage.drain tag) = 1
 room_for _ = 0
 
--- the answer, by whether frames were written that aren't held
+-- the answer: Overflow where a write was refused
 abbrev pub answer_for : Bool → Applied
 answer_for true = Overflow
 answer_for false = Quiet

@@ -11,7 +11,7 @@ abbrev pub plain_run : Run → PlainRun
 plain_run (Quiet frames) = plain.Quiet frames
 plain_run (Playing frames) = plain.Playing frames
 
--- all that it is
+-- the whole stream
 abbrev pub plain_of : Stream → PlainStream
 plain_of s = record {
   queue = plain_queue s.queue;

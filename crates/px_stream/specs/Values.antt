@@ -6,19 +6,19 @@ use Rattle.px_model.specs.Queue.{FrameAhead, nothing, silence, sound}
 use Rattle.px_model.specs.Stream.{Stream, frame_at}
 use Rattle.px_stream.specs.Samples.{samples, bit_width}
 
--- the value at a width of the stream's channel that feeds a sink's channel
+-- the value, at a width, of the stream channel that feeds a sink channel
 abbrev pub value_in : Width → Stream → ℕ → Frame → ℤ
 value_in width s channel frame =
     samples.to (samples.width s.spec.format) (bit_width width) (samples.work s.spec.format (sample_of s.spec frame (slice_index s.feed channel)))
 
--- the same of a frame ahead, where silence and nothing are 0
+-- the same of a frame ahead; 0 for silence and where there is none
 abbrev pub value_at : Width → Stream → ℕ → FrameAhead → ℤ
 value_at width s channel nothing = pos 0
 value_at width s channel silence = pos 0
 value_at width s channel (sound frame) = value_in width s channel frame
 
--- g frames from place k on are given, and their values stand at the front of each run of n values; the rest of each run stays. No further
--- frame is given, or there is no place for it, or its place ahead is past 32 bits
+-- g frames from place k on are given, and their values fill the front of each run of n values; the rest of each run stays. The next frame isn't
+-- given, or doesn't fit, or its place ahead is past 32 bits
 pub record GivesValues (width : Width) (s : Stream) (k n g : ℕ) (old new : List ℤ) : Type 0 where
   pub few : g ≤ n
   pub size : length new ≡ length old

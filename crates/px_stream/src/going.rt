@@ -1,4 +1,4 @@
-// A stream going forward with its sink, and what it asks for.
+// A stream moving forward with its sink, and its requests.
 ghost use Rattle.std.specs.Prelude.{◌≡◌, ◌≤◌, ◌+◌, ◌∷◌, ◌⊎◌, [], true, false, length, nat_lt, nat_le, MatchOption};
 ghost use Rattle.px_block.specs.Given.{after_giving};
 ghost use Rattle.px_model.specs.Going.{after, given_of, ahead_of};
@@ -11,21 +11,21 @@ use crate::state::{StreamState, less};
 use px_block::BlockSource;
 use px_model::Run;
 
-/// The notices that are due of a stream that went forward.
+/// The notices due once a stream has moved forward.
 #[derive(Clone, Copy, Debug, PartialEq, Eq)]
 pub struct Settled {
-    /// It was silent, and gave a frame.
+    /// Started: it was silent, and gave a frame.
     pub started: bool,
-    /// It is silent, played or gave a frame before, and has no drain to answer.
+    /// Underflow: it is silent, played or gave a frame before, and has no drain to answer.
     pub underflow: bool,
 }
 
-/// Where a stream stands once some frames more of its sink are given.
+/// Where a stream stands after some more frames of its sink.
 #[derive(Clone, Copy, Debug, PartialEq, Eq)]
 pub struct Ahead {
     /// Its read index then: the ahead index.
     pub read: i64,
-    /// How long it has played or been silent then.
+    /// How long it has been playing or silent then.
     pub run: Run,
 }
 
@@ -47,7 +47,7 @@ impl StreamState {
         settled
     }
 
-    // Goes so many frames of its sink forward.
+    // Moves `frames` frames of its sink forward.
     fn go<B: BlockSource>(&mut self, frames: u64, blocks: &mut B)
         ensures stream { self.new.stream ≡ after self.old.stream frames }
         ensures room { self.old.room ≤ self.new.room }
@@ -61,7 +61,7 @@ impl StreamState {
         self.queue.settle(frames, blocks);
     }
 
-    // How many of the next frames it gives, the first of them.
+    // How many of the next `frames` frames it gives, always the first ones.
     fn given(&self, frames: u64) -> u64
         ensures { result ≡ given_of self.now.stream frames }
     {
@@ -176,14 +176,14 @@ impl StreamState {
     }
 }
 
-// Whether a run is one of playing.
+// Whether it is playing.
 fn is_playing(run: Run) -> bool
     ensures { result ≡ is_playing run }
 {
     matches!(run, Run::Playing(_))
 }
 
-// How far an index lies above another, 0 where it doesn't.
+// How far `index` lies above `other`, 0 where it doesn't.
 fn above(index: i64, other: i64) -> u64
     ensures { result ≡ above index other }
 {

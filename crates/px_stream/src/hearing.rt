@@ -1,4 +1,4 @@
-// What of a stream sounds as before once a message is applied.
+// How much of a stream sounds as before once a message is applied.
 ghost use Rattle.std.specs.Prelude.{◌≡◌, ◌≤◌, ℕ, List};
 ghost use Rattle.px_model.specs.Message.{StreamMessage};
 ghost use Rattle.px_stream.specs.Messages.{message_of, Suits};
@@ -32,7 +32,7 @@ impl StreamState {
         }
     }
 
-    // Of a write.
+    // For a write.
     fn unwritten(&self, seek: u8, offset: i64, frames: u32, mixed: u64) -> u64
         requires { seek ≤ 3 }
         ensures { (bytes : List ℕ) → result ≡ unaltered_of mixed (StreamMessage.write seek offset frames bytes) self.now.stream }

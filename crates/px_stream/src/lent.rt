@@ -1,4 +1,4 @@
-// Work values that are read where the frames lie, in a block that their queue lends.
+// Work values read in place, from a block that the queue lends.
 ghost use Rattle.std.specs.Prelude.{◌≡◌, ℕ, ◌+◌, ◌*◌, ◌<◌, ◌≤◌, [], pos, length, slice_index, slice_index_or, All, FitsSigned, IsTrue};
 ghost use Rattle.std.specs.Int.{w32};
 ghost use Rattle.px_sample.specs.declared.format.Format.TheVariants.{S16Le};
@@ -10,8 +10,8 @@ use crate::state::StreamState;
 use px_sample::{Format, Width};
 
 impl StreamState {
-    /// The bytes of the frames from a place past the read index on, at most so many, as many as lie whole in the block that has the first of
-    /// them, where a sample is its own work value at the width. Empty where none lies so, or a sample isn't.
+    /// Lends the bytes of frames from place `k` past the read index on: at most `most`, and only whole frames of the block that has the first of
+    /// them. Empty where there is none, or where the format's samples aren't the work values at the width.
     pub(crate) fn lent(&self, k: u32, width: Width, most: usize) -> &[u8]
         ensures { (n : ℕ) × LendsValues width self.now.stream k most n result.now }
     {
@@ -22,7 +22,7 @@ impl StreamState {
     }
 }
 
-// Whether the samples of a format are the work values at a width, as 16 bits with the least significant byte first.
+// Whether samples of this format are the work values at this width: 16 bits, little-endian.
 fn is_value(format: Format, width: Width) -> bool
     ensures format { IsTrue result → format ≡ S16Le }
     ensures width { IsTrue result → width ≡ W16 }
@@ -33,7 +33,7 @@ fn is_value(format: Format, width: Width) -> bool
     }
 }
 
-/// Puts the values of so many frames, out of their bytes, at places of each run one after another, those of the channel that feeds it.
+/// Copies `frames` frames, given as bytes, into each run of `out` from `place` on, from the stream channel that feeds it.
 pub(crate) fn scatter_samples(
     bytes: &[u8],
     channels: usize,
@@ -64,7 +64,7 @@ pub(crate) fn scatter_samples(
     }
 }
 
-// Puts the values of a channel, so many frames of it, at places one after another.
+// Copies one channel of `frames` frames to consecutive places of `out`.
 fn put_samples(
     bytes: &[u8],
     channels: usize,
@@ -89,7 +89,7 @@ fn put_samples(
     }
 }
 
-// The same of two channels, which is known here to whoever compiles it.
+// The same for two channels, a number that the compiler knows here.
 fn put_samples_of_two(
     samples: &[[u8; 2]],
     channel: usize,
@@ -110,7 +110,7 @@ fn put_samples_of_two(
     }
 }
 
-// The same of any channels.
+// The same for any number of channels.
 fn put_samples_of_any(
     samples: &[[u8; 2]],
     channels: usize,
@@ -132,7 +132,7 @@ fn put_samples_of_any(
     }
 }
 
-// The work value of a sample of 16 bits, the least significant byte first.
+// The work value of a little-endian sample of 16 bits.
 fn read_sample(sample: &[u8; 2]) -> i32
     ensures { result ≡ work_value_of S16Le sample.now }
 {

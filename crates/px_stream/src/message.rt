@@ -1,13 +1,13 @@
-// What a message does to a stream.
+// The messages to a stream.
 use px_block::Blocks;
 use px_chmap::Feed;
 use px_model::Attr;
 use px_vol::Factors;
 
-/// What the core tells a stream that is there, once its sink has found it: the kinds of `Msg` without the input.
+/// A message to a stream that is there, once its sink has found it: the kinds of `Msg` without the input.
 #[derive(Debug, Drop)]
 pub enum StreamMsg {
-    /// It has come from another sink, and has this feed and these factors from then on.
+    /// It has come from another sink, and gets this feed and these factors.
     Attach {
         feed: Feed,
         factors: Factors,
@@ -19,17 +19,17 @@ pub enum StreamMsg {
         frames: u32,
         bytes: Blocks,
     },
-    /// It is corked or goes on.
+    /// It is corked or uncorked.
     Cork {
         on: bool,
     },
     /// What it holds is dropped.
     Flush,
-    /// It plays without waiting.
+    /// It plays without waiting for prebuf.
     Trigger,
-    /// It waits again.
+    /// It prebuffers again.
     Prebuf,
-    /// The tag is answered once all is played.
+    /// The tag is answered once all frames are played.
     Drain {
         tag: u32,
     },
@@ -41,17 +41,17 @@ pub enum StreamMsg {
     Factors {
         factors: Factors,
     },
-    /// Its sink answers the tag; the stream stays what it is.
+    /// The sink answers the tag; the stream doesn't change.
     Query {
         tag: u32,
     },
 }
 
-/// What a message led to.
+/// The outcome of a message.
 #[derive(Clone, Copy, Debug, PartialEq, Eq)]
 pub enum Applied {
     /// No notice is due.
     Quiet,
-    /// Frames were written that aren't held.
+    /// Overflow: a write was refused.
     Overflow,
 }

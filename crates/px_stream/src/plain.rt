@@ -8,7 +8,7 @@ use px_model::Run;
 use px_types::Mem;
 use std::alloc::Global;
 
-// How long it has played or been silent.
+// How long it has been playing or silent.
 fn plain_run(run: Run) -> PlainRun
     ensures { result ≡ plain_run run }
 {
@@ -18,7 +18,7 @@ fn plain_run(run: Run) -> PlainRun
     }
 }
 
-// A copy of numbers.
+// Copies numbers to a list.
 fn copied(alloc: Global, numbers: &[u32]) -> Mem<Numbers>
     ensures { IfOk result (λ copy. copy ≡ numbers.now) }
 {
@@ -27,7 +27,7 @@ fn copied(alloc: Global, numbers: &[u32]) -> Mem<Numbers>
     Ok(Numbers::from_vec(copy))
 }
 
-// Channels as numbers.
+// Copies channels as numbers.
 fn widened(alloc: Global, channels: &[u8]) -> Mem<Numbers>
     ensures { IfOk result (λ numbers. numbers ≡ channels.now) }
 {

@@ -1,10 +1,10 @@
-// How long a stream has played or been silent.
+// How long a stream has been playing or silent.
 ghost use Rattle.std.specs.Prelude.{◌≡◌, ◌≤◌};
 ghost use Rattle.px_model.specs.Going.{run_after, playing_on, quiet_on};
 
 use px_model::Run;
 
-/// The run after `frames` frames of which the first `given` were given. Takes no memory.
+/// The run after `frames` frames of the sink, of which the stream gave the first `given`. Takes no memory.
 pub(crate) fn run_after(run: Run, given: u64, frames: u64) -> Run
     requires { given ≤ frames }
     ensures { result ≡ run_after run given frames }

@@ -1,4 +1,4 @@
-// What a stream keeps, and what a message does to it.
+// The state of a stream, and what a message does to it.
 ghost use Rattle.std.specs.Prelude.{◌≡◌, ◌≤◌, ◌+◌, ◌-◌, ◌*◌, ℕ, length, All, ◌<◌, OnOk};
 ghost use Rattle.px_block.specs.Given.{after_giving, blocks_for};
 ghost use Rattle.px_msg.specs.View.{sample_spec, opened};
@@ -20,7 +20,7 @@ use px_vol::Factors;
 use std::alloc::Global;
 use std::marker::Model;
 
-/// What a stream keeps: a queue of frames with what a client and the core set. All counts are frames.
+/// The state of a stream: a queue of frames with what a client and the core set. All counts are frames.
 #[derive(Debug, Drop)]
 pub(crate) struct StreamState {
     pub(crate) queue: FrameQueue,
@@ -57,7 +57,7 @@ impl Model for StreamState {
 }
 
 impl StreamState {
-    /// A new stream, with nothing written and `tlength` frames asked for. It fits a sink. Takes no memory.
+    /// A new stream, with nothing written and `tlength` frames requested. It fits a sink. Takes no memory.
     pub(crate) fn new(alloc: Global, new: &NewStream) -> StreamState
         requires { (sink : SampleSpec) × IsNewStream sink (opened new.now) }
         ensures stream { result.stream ≡ new_stream (sample_spec new.now.spec) new.now.feed new.now.factors new.now.attr new.now.corked }
@@ -131,7 +131,7 @@ impl StreamState {
         Applied::Quiet
     }
 
-    // Writes frames, and answers whether they aren't held.
+    // Writes frames, and answers whether they were refused.
     fn write<B: BlockSource>(
         &mut self,
         seek: u8,
@@ -282,7 +282,7 @@ impl StreamState {
     }
 }
 
-// What is left of a count once so many frames are taken off.
+// `count` less `frames`, 0 where that is below 0.
 pub(crate) fn less(count: u32, frames: u64) -> u32
     ensures { result ≡ count - frames }
 {

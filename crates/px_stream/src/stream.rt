@@ -1,4 +1,4 @@
-// A stream, as those who have one hold it.
+// A stream, as its holders use it.
 ghost use Rattle.std.specs.Prelude.{◌≡◌, ◌≤◌, ◌+◌, ◌*◌, ◌∷◌, ◌⊎◌, [], ℕ, true, false, nat_lt, nat_le, length, All, FitsSigned, MatchOption, IfOk, OnOk};
 ghost use Rattle.std.specs.Int.{w32};
 ghost use Rattle.px_block.specs.Given.{after_giving};
@@ -28,8 +28,8 @@ use std::alloc::Global;
 use std::marker::Model;
 use std::sync::ledger::Ledger;
 
-/// A stream (PulseAudio: `pa_sink_input` with its playback stream). It keeps its state in a place of its own, so that a stream, and each message
-/// that may bring one, is cheap to move. All counts are frames.
+/// A stream (PulseAudio: `pa_sink_input` with its playback stream). Its state lies in a place of its own, so that a stream, and each message that may
+/// bring one, is cheap to move. All counts are frames.
 #[derive(Debug, Drop)]
 pub struct Stream {
     state: Box<StreamState>,
@@ -44,7 +44,7 @@ impl Model for Stream {
 }
 
 impl Stream {
-    /// A new stream, with nothing written and `tlength` frames asked for. It fits a sink. Takes the memory of what it keeps.
+    /// A new stream, with nothing written and `tlength` frames requested. It fits a sink. Takes the memory of its state.
     pub fn new(alloc: Global, new: &NewStream) -> Mem<Stream>
         requires { (sink : SampleSpec) × IsNewStream sink (opened new.now) }
         ensures stream { IfOk result (λ s. s.stream ≡ new_stream (sample_spec new.now.spec) new.now.feed new.now.factors new.now.attr new.now.corked) }
@@ -54,7 +54,7 @@ impl Stream {
         Ok(Stream { state })
     }
 
-    /// Takes room for so many messages more, with so many blocks in all. Without memory the stream stays what it is.
+    /// Makes room for `messages` more messages, with `blocks` blocks in all. Without memory the stream stays what it is.
     pub fn reserve(&mut self, messages: u32, blocks: u32) -> Mem<()>
         ensures ok { OnOk result ((messages ≤ self.new.room) × (blocks ≤ self.new.block_room)) }
         ensures stream { self.new.stream ≡ self.old.stream }
@@ -65,8 +65,8 @@ impl Stream {
         self.state.reserve(messages, blocks)
     }
 
-    /// Applies a message, where so many frames of its sink are mixed past its read index. It fits the stream. Blocks that fall out of
-    /// use go back to their source. A write takes room for one message with its blocks, and a drain for one. Takes no memory.
+    /// Applies a message that fits the stream, with `mixed` frames of its sink mixed past its read index. Blocks that fall out of use go back to
+    /// their source. A write uses up the room of one message with its blocks, and a drain that of one. Takes no memory.
     pub fn apply<B: BlockSource>(
         &mut self,
         message: StreamMsg,
@@ -85,9 +85,8 @@ impl Stream {
         self.state.apply(message, mixed, blocks)
     }
 
-    /// How many of the next `mixed` frames sound as before once a message is applied, where its sink has mixed so many past its read
-    /// index: all of them where nothing is changed or no frames are held, those before the frames of a write, and none for every other
-    /// message. Takes no memory.
+    /// How many of the next `mixed` frames, all that its sink has mixed past its read index, sound as before once a message is applied: all of them
+    /// where nothing changes or a write is refused, those before the frames of a write, and none for every other message. Takes no memory.
     pub fn unaltered(&self, message: &StreamMsg, mixed: u64) -> u64
         requires { Suits self.now.stream (message_of message.now) }
         ensures { result ≡ unaltered_of mixed (message_of message.now) self.now.stream }
@@ -95,7 +94,8 @@ impl Stream {
         self.state.unaltered(message, mixed)
     }
 
-    /// Goes so many frames of its sink forward. Blocks that fall out of use go back to their source. Takes no memory.
+    /// Moves `frames` frames of its sink forward, and answers which notices are due. Blocks that fall out of use go back to their source. Takes no
+    /// memory.
     pub fn settle<B: BlockSource>(&mut self, frames: u64, blocks: &mut B) -> Settled
         ensures started { result.started ≡ has_started self.old.stream frames }
         ensures underflow { result.underflow ≡ has_run_out self.old.stream frames }
@@ -107,7 +107,7 @@ impl Stream {
         self.state.settle(frames, blocks)
     }
 
-    /// Where it stands once so many frames more of its sink are given.
+    /// Where it stands after `frames` more frames of its sink.
     pub fn ahead(&self, frames: u64) -> Ahead
         ensures read { result.read ≡ ahead_of self.now.stream frames }
         ensures run { result.run ≡ (after self.now.stream frames).run }
@@ -115,8 +115,8 @@ impl Stream {
         self.state.ahead(frames)
     }
 
-    /// The frames that it asks for where so many are mixed past its read index: all that are missing of `tlength`, where they are at
-    /// least `minreq`, else 0.
+    /// Requests all frames that are missing of `tlength`, where they are at least `minreq`, else 0, with `mixed` frames mixed past its read
+    /// index. They count as requested from then on.
     pub fn request(&mut self, mixed: u64) -> u32
         ensures frames { result ≡ request_of self.old.stream mixed }
         ensures asked { nat_lt 0 result ≡ nat_le self.old.stream.minreq (missing_of self.old.stream mixed) }
@@ -128,8 +128,7 @@ impl Stream {
         self.state.request(mixed)
     }
 
-    /// The first tag of the drains that wait for an answer, which then waits no more. `None` where frames are left to play, or no tag
-    /// waits. Takes no memory.
+    /// Takes the tag of the oldest drain that waits for an answer. `None` where frames are left to play, or no drain waits. Takes no memory.
     pub fn drained(&mut self) -> Option<u32>
         ensures tag { MatchOption result (((has_ended self.old.stream ≡ false) ⊎ (self.old.stream.draining ≡ [])) × (self.new.stream ≡ self.old.stream))
             (λ tag. (has_ended self.old.stream ≡ true) × (self.old.stream.draining ≡ tag ∷ self.new.stream.draining)
@@ -149,9 +148,9 @@ impl Stream {
         self.state.draining()
     }
 
-    /// Gives the work values of the frames from `from` frames past the read index on, at a width: `out` has one run for each channel of
-    /// the sink, all of one length, and the frames fill a front of each run, from the stream's channel that feeds it. Silence is 0.
-    /// Answers how many frames it gave, and counts a step for each of them in each run. Takes no memory.
+    /// Reads the work values of the frames from `from` past the read index on into `out`, at a width. `out` has one run for each sink channel, all of
+    /// one length; the frames fill the front of each run, from the stream channel that feeds it. Silence is 0. Answers how many frames it gave, and
+    /// counts a step for each of them in each run. Takes no memory.
     pub fn frame_values<T: Ledger>(
         &self,
         from: u32,
@@ -167,7 +166,7 @@ impl Stream {
         self.state.frame_values(from, width, out, steps)
     }
 
-    /// The next frame to write.
+    /// The next index to write.
     pub fn write_index(&self) -> i64
         ensures { result ≡ self.now.stream.queue.write }
     {
@@ -181,7 +180,7 @@ impl Stream {
         self.state.corked()
     }
 
-    /// For each channel of the sink the factor of the stream there, in 65536ths.
+    /// The factor of the stream for each channel of the sink, in 65536ths.
     pub fn factors(&self) -> &Factors
         ensures value { result.now ≡ self.now.stream.factors }
         ensures places { length self.now.stream.factors ≡ length self.now.stream.feed }
@@ -189,7 +188,7 @@ impl Stream {
         self.state.factors()
     }
 
-    /// All that it is, as plain numbers and bytes.
+    /// The whole stream, as plain numbers and bytes. Takes memory.
     pub fn plain(&self, alloc: Global) -> Mem<PlainStream>
         ensures { IfOk result (λ plain. plain ≡ plain_of self.now.stream) }
     {

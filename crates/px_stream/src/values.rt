@@ -14,7 +14,7 @@ use px_queue::Span;
 use px_sample::{Format, Spec, Width, to_work, unpack};
 use std::sync::ledger::Ledger;
 
-/// The most samples that are read at once, and the most bytes of them.
+/// The most samples that are read at once, and their most bytes.
 const MOST_SAMPLES: usize = 256;
 
 const MOST_BYTES: usize = 1024;
@@ -38,7 +38,7 @@ impl StreamState {
         given
     }
 
-    /// The same without the count, for a mix that promises no bound on its steps. Takes no memory.
+    /// The same without counting steps, for a mix that promises no bound on them. Takes no memory.
     fn give_values(&self, from: u32, width: Width, out: &mut [i32]) -> u32
         requires { (n : ℕ) × (length out.old ≡ n * length self.now.stream.feed) }
         ensures values { (n : ℕ) → length out.old ≡ n * length self.now.stream.feed → GivesValues width self.now.stream from n result out.old out.new }
@@ -57,10 +57,10 @@ impl StreamState {
         count
     }
 
-    // Puts the values of the frames from a place past the read index on at places of each run one after another, at most so many, and
-    // answers how many frames it gave. There are two ways. Most streams have samples of 16 bits, which at that width have only to be put
-    // where they belong, and most frames lie whole in one block: these are read where they lie. Others go through scratch arrays, which takes
-    // any format to any width, and joins a frame that lies in two blocks.
+    // Reads the values of at most `most` frames from place `k` past the read index on into each run from `place` on, and answers how many frames it
+    // gave. There are two ways. Most streams have samples of 16 bits, which at that width need only be copied, and most frames lie whole in one
+    // block: these are read in place. Others go through scratch arrays, which takes any format to any width, and joins a frame that lies in two
+    // blocks.
     fn put_values(
         &self,
         k: u32,
@@ -92,7 +92,7 @@ impl StreamState {
         frames as u32
     }
 
-    // The same through scratch arrays, of at most as many frames as these have room for.
+    // The same through scratch arrays, of as many frames as fit these.
     fn put_read(
         &self,
         k: u32,
@@ -130,8 +130,8 @@ impl StreamState {
         given
     }
 
-    // Reads the values of at most so many frames from a place past the read index on, one for each of the stream's channels, and answers
-    // how many frames are given there.
+    // Reads the values of at most `frames` frames from place `k` past the read index on, one for each of the stream's channels, and answers how many
+    // frames it gave.
     fn read_values(&self, k: u32, width: Width, frames: usize, values: &mut [i32]) -> u32
         requires some { 1 ≤ frames }
         requires few { frames * self.now.stream.spec.channels ≤ 256 }
@@ -163,7 +163,7 @@ impl StreamState {
     }
 }
 
-// How many places a run has, where there are so many in all. One is found without a division.
+// The length of each of `runs` runs of `places` places in all. A length of 1 is found without a division.
 fn run_of(places: usize, runs: usize) -> usize
     requires { 1 ≤ runs }
     ensures { result ≡ places / runs }
@@ -171,7 +171,7 @@ fn run_of(places: usize, runs: usize) -> usize
     if places == runs { 1 } else { places / runs }
 }
 
-// How many frames of so many samples of 16 bits there are in these bytes. Of two channels they are found without a division.
+// How many frames of `channels` samples of 16 bits these bytes have. Those of two channels are found without a division.
 fn frames_in(bytes: usize, channels: usize) -> usize
     requires some { 1 ≤ channels }
     requires few { channels < 256 }
@@ -184,7 +184,7 @@ fn frames_in(bytes: usize, channels: usize) -> usize
     }
 }
 
-// How many bytes so many frames have.
+// The bytes of `frames` frames.
 fn bytes_of(spec: Spec, frames: usize) -> usize
     requires { frames * spec.channels ≤ 256 }
     ensures value { result ≡ frames * frame_size_of spec }
@@ -194,7 +194,7 @@ fn bytes_of(spec: Spec, frames: usize) -> usize
     frames * spec.frame_size()
 }
 
-// The work values of samples, at a width.
+// Reads the work values of samples, at a width.
 fn read_samples(format: Format, width: Width, bytes: &[u8], values: &mut [i32])
     requires whole { IsWhole format }
     requires size { length bytes.now ≡ size_of format * length values.old }
@@ -205,7 +205,7 @@ fn read_samples(format: Format, width: Width, bytes: &[u8], values: &mut [i32])
     to_work(format.width(), width, values);
 }
 
-// Puts the values of so many frames at places of each run one after another, those of the channel that feeds it.
+// Copies the values of `frames` frames into each run from `place` on, from the stream channel that feeds it.
 fn scatter(
     values: &[i32],
     channels: usize,
@@ -237,7 +237,7 @@ fn scatter(
     }
 }
 
-// Puts the values of a channel, so many frames of it, at places one after another.
+// Copies one channel of `frames` frames to consecutive places of `out`.
 fn put_channel(
     values: &[i32],
     channels: usize,
@@ -262,7 +262,7 @@ fn put_channel(
     }
 }
 
-// The same of two channels, which is known here to whoever compiles it.
+// The same for two channels, a number that the compiler knows here.
 fn put_of_two(values: &[i32], channel: usize, start: usize, frames: usize, out: &mut [i32])
     requires channel { channel < 2 }
     requires whole { frames * 2 ≤ length values.now }
@@ -278,7 +278,7 @@ fn put_of_two(values: &[i32], channel: usize, start: usize, frames: usize, out: 
     }
 }
 
-// The same of any channels.
+// The same for any number of channels.
 fn put_of_any(
     values: &[i32],
     channels: usize,

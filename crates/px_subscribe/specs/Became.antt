@@ -1,4 +1,4 @@
--- The events between two moments: what became of each object, by what is told of it then and now.
+-- The events between two moments: the kind of each object's event, by its info before and after.
 use Rattle.std.specs.Prelude.{◌≡◌, ℕ, ◌<◌, Bool, cond, ◌&&◌, nat_eq, bytes_eq, List, [], ◌++◌, filter, flat_map, Option, None, Some, option_map, option_to_list}
 use Rattle.std.specs.List.{range_with_len}
 use Rattle.px_reply.specs.Front.{reply_to}
@@ -15,7 +15,7 @@ use Rattle.px_subscribe.specs.Infos.{Infos, Given}
 abbrev pub NO_INDEX : ℕ
 NO_INDEX = 0xFFFFFFFF
 
--- what became of an object: it has come, gone, or changed where the bytes differ in which it is told
+-- the kind of an object's event: it is new, gone, or changed where the bytes of its info differ
 abbrev pub became : {A : Type 0} → (A → List ℕ) → Option A → Option A → Option Kind
 became info_bytes None None = None
 became info_bytes None (Some after) = Some New
@@ -29,7 +29,7 @@ event facility index kind = record { facility = facility; kind = kind; index = i
 abbrev pub events_at : {A : Type 0} → Facility → (A → List ℕ) → (ℕ → Option A) → (ℕ → Option A) → ℕ → List Event
 events_at facility info_bytes before after index = option_to_list (option_map (event facility index) (became info_bytes (before index) (after index)))
 
--- those of all objects of a facility, in rising index
+-- the events of all objects of a facility, in rising index
 abbrev pub events_of : {A : Type 0} → Facility → (A → List ℕ) → (ℕ → Option A) → (ℕ → Option A) → ℕ → List Event
 events_of facility info_bytes before after given = flat_map (events_at facility info_bytes before after) (range_with_len 0 given)
 
@@ -52,7 +52,7 @@ is_about facility index e = nat_eq (facility_code e.facility) (facility_code fac
 abbrev pub about : Facility → ℕ → List Event → List Event
 about facility index events = filter (is_about facility index) events
 
--- the events about an object are the one that says what became of it, or none
+-- the events about an object are the one of its kind by its infos, or none
 pub record SayWhatBecame (given : Given) (before after : Infos) : Type 0 where
   pub sinks : (i : ℕ) → i < given.sinks → about Sink i (events_between given before after) ≡ events_at Sink (with_sink (reply_to 0)) before.sinks after.sinks i
   pub inputs : (i : ℕ) → i < given.inputs → about Input i (events_between given before after) ≡ events_at Input (with_input (reply_to 0)) before.inputs after.inputs i

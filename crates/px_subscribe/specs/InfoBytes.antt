@@ -1,4 +1,4 @@
--- Objects with the bytes in which they are told, and the events between two moments of which all infos are given.
+-- Objects with the bytes of their infos, and the events between two moments of which all infos are given.
 use Rattle.std.specs.Prelude.{◌≡◌, ◌≤◌, ℕ, Bool, cond, ◌&&◌, nat_eq, nat_le, nat_lt, List, [], ◌∷◌, map, Option, None, Some, IsTrue, IfSome, All, option_map}
 use Rattle.std.specs.List.{find}
 use Rattle.px_tag.specs.Item.{IsText, is_text}
@@ -27,7 +27,7 @@ input_at infos i = find (λ x. nat_eq (InputInfo.index x) i) infos
 abbrev pub client_at : List ClientInfo → ℕ → Option ClientInfo
 client_at infos i = find (λ c. nat_eq (ClientInfo.index c) i) infos
 
--- ---- what a packet can say: names without a zero byte, and up to 32 channels
+-- ---- the limits of a packet: names without a zero byte, and up to 32 channels
 
 abbrev pub IsWritableSink : SinkInfo → Type 0
 IsWritableSink info = IsTrue (is_text info.name) × (info.spec.channels ≤ 32)
@@ -41,7 +41,7 @@ IsWritableClient info = IsText info.name
 abbrev pub IsWritableServer : ServerInfo → Type 0
 IsWritableServer info = IsTrue (is_text info.name) × (info.spec.channels ≤ 32)
 
--- ---- all that is told at one moment
+-- ---- all infos of one moment
 
 pub record InfoLists : Type 0 where
   pub sinks : List SinkInfo
@@ -63,7 +63,7 @@ pub record AreWritable (infos : InfoLists) : Type 0 where
   pub clients : All IsWritableClient infos.clients
   pub server : IfSome infos.server IsWritableServer
 
--- how many indices were given
+-- the number of indices that were given
 abbrev pub given_by : Counts → Given
 given_by counts = record { sinks = counts.sinks; inputs = counts.inputs; clients = counts.clients }
 

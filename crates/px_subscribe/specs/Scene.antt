@@ -26,7 +26,7 @@ use Rattle.px_input_table.specs.Connections.{authed, marked, with_streams}
 pub record Scene : Type 0 where
   -- the clients in order of connecting
   pub clients : List Client
-  -- how many sinks have names, and which is the default sink
+  -- the number of sinks with names, and the default sink
   pub sinks : ℕ
   pub fallback : SinkId
   -- in order of connecting
@@ -37,12 +37,12 @@ pub record Scene : Type 0 where
   pub lists : List InputList
   -- for each sink its group
   pub groups : List FlatGroup
-  -- how many inputs were ever made
+  -- the number of inputs that were ever made
   pub inputs_made : ℕ
 
 -- ---- inputs
 
--- one that hasn't ended yet ends
+-- a live one ends
 abbrev pub left_by : Standing → Input → List Input → List Input
 left_by Settled x inputs = change_first (has_index x.index) leaving inputs
 left_by (Moving to) x inputs = change_first (has_index x.index) leaving inputs
@@ -52,7 +52,7 @@ abbrev pub left_of : Option Input → List Input → List Input
 left_of None inputs = inputs
 left_of (Some x) inputs = left_by x.standing x inputs
 
--- a settled one is to be on a sink
+-- a settled one is to move to a sink
 abbrev pub sent_by : SinkId → Standing → Input → List Input → List Input
 sent_by to Settled x inputs = change_first (has_index x.index) (moving_to to) inputs
 sent_by to (Moving on) x inputs = inputs
@@ -62,7 +62,7 @@ abbrev pub sent_of : SinkId → Option Input → List Input → List Input
 sent_of to None inputs = inputs
 sent_of to (Some x) inputs = sent_by to x.standing x inputs
 
--- and one that moves is there
+-- and a moving one is settled there
 abbrev pub come_by : Standing → Input → List Input → List Input
 come_by Settled x inputs = inputs
 come_by (Moving to) x inputs = change_first (has_index x.index) (arrived_at to) inputs
@@ -72,7 +72,7 @@ abbrev pub come_of : Option Input → List Input → List Input
 come_of None inputs = inputs
 come_of (Some x) inputs = come_by x.standing x inputs
 
--- new buffer attributes that an input is told of are its own
+-- buffer attributes in a message to an input become its own
 abbrev pub inputs_noted : {P : Type 0} → InputId → Msg P → List Input → List Input
 inputs_noted index (New n) inputs = inputs
 inputs_noted index (Attach input parcel feed factors) inputs = inputs
@@ -137,7 +137,7 @@ is_of_clients (Ended conn reason fault at) = true
 is_of_clients (Forgotten conn) = true
 is_of_clients _ = false
 
--- what such a change changes, and what another
+-- the parts that such a change affects, and those that another does
 abbrev pub clients_changed : {P : Type 0} → Scene → Change (Msg P) FlatGroup → Scene
 clients_changed s change = cond (is_of_clients change) (scene_changed s change) s
 
@@ -148,7 +148,7 @@ inputs_changed s change = cond (is_of_clients change) s (scene_changed s change)
 abbrev pub scene_after : {P : Type 0} → Scene → List (Change (Msg P) FlatGroup) → Scene
 scene_after s changes = fold scene_changed s changes
 
--- a change of nothing that is told
+-- a change that affects no info
 abbrev pub is_quiet : {P : Type 0} → Change (Msg P) FlatGroup → Bool
 is_quiet (Authed conn version) = true
 is_quiet (Named conn list) = false
@@ -171,19 +171,19 @@ is_quiet (Forgotten conn) = false
 abbrev pub are_quiet : {P : Type 0} → List (Change (Msg P) FlatGroup) → Bool
 are_quiet changes = list_all is_quiet changes
 
--- a change of no mask
+-- a change that sets no mask
 abbrev pub is_maskless : {P : Type 0} → Change (Msg P) FlatGroup → Bool
 is_maskless (Masked conn mask) = false
 is_maskless _ = true
 
--- a client that hears of nothing
+-- a client that subscribes to nothing
 abbrev pub is_deaf : Client → Bool
 is_deaf client = nat_eq client.mask 0
 
 abbrev pub are_deaf : List Client → Bool
 are_deaf clients = list_all is_deaf clients
 
--- all clients hear of nothing, and go on so
+-- no client subscribes to anything, and the changes leave it so
 abbrev pub nobody_hears : {P : Type 0} → List Client → List (Change (Msg P) FlatGroup) → Bool
 nobody_hears clients changes = are_deaf clients && list_all is_maskless changes
 

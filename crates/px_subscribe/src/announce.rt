@@ -1,4 +1,4 @@
-//! Who is notified of events (PulseAudio: `subscription_cb` of `pulsecore/protocol-native.c`).
+//! The notification of clients of events (PulseAudio: `subscription_cb` of `pulsecore/protocol-native.c`).
 
 ghost use Rattle.std.specs.Prelude.{◌≡◌, ◌++◌, ◌∷◌, List, IfOk, OnOk};
 ghost use Rattle.px_subscribe.specs.declared.announce.Subscriber.{Subscriber};
@@ -10,7 +10,7 @@ use px_outcome::Sending;
 use px_types::{ConnId, Mem};
 use std::alloc::Global;
 
-/// A connection that hears of the facilities of a mask.
+/// A connection that subscribes to the facilities of a mask.
 #[derive(Clone, Copy, Debug, PartialEq, Eq)]
 pub struct Subscriber {
     pub conn: ConnId,
@@ -46,7 +46,7 @@ fn announce(
     Ok(())
 }
 
-// Notifies the subscribers of one event more.
+// Notifies the subscribers of one more event.
 fn announce_one(
     alloc: Global,
     sendings: &mut Vec<Sending>,
@@ -59,8 +59,8 @@ fn announce_one(
     announce(alloc, sendings, subscribers, *event)
 }
 
-/// Each event goes to the subscribers that hear of its facility: the events in their order, and of each the subscribers in
-/// theirs.
+/// Sends each event to the subscribers whose mask has its facility: the events in their order, and for each the subscribers
+/// in theirs.
 pub fn announce_all(
     alloc: Global,
     subscribers: &[Subscriber],

@@ -37,7 +37,7 @@ impl Model for Moment {
     ghost view = { λ m. record { sinks = m.sinks.items; inputs = m.inputs.items; clients = m.clients.items; server = m.server } };
 }
 
-/// How many indices were ever given, from 0 on.
+/// The number of indices that were ever given, from 0 on.
 #[derive(Clone, Copy, Debug, Drop)]
 pub struct Counts {
     pub sinks: u32,
@@ -45,7 +45,7 @@ pub struct Counts {
     pub clients: u32,
 }
 
-// What became of an object, by the bytes of its info before and after.
+// The kind of event of an object, by the bytes of its info before and after.
 fn became(before: Option<&[u8]>, after: Option<&[u8]>) -> Option<Kind>
     ensures { result ≡ became (λ bytes. bytes) (option_map (λ b. b.now) before.entry) (option_map (λ b. b.now) after.entry) }
 {
@@ -67,7 +67,7 @@ fn became(before: Option<&[u8]>, after: Option<&[u8]>) -> Option<Kind>
     }
 }
 
-// The event of one object, where there is one.
+// Adds the event of one object, where there is one.
 fn add_at(
     events: &mut Vec<Event>,
     facility: Facility,
@@ -87,7 +87,7 @@ fn add_at(
     Ok(())
 }
 
-// The events of all objects of a facility, in rising index: an object that is there at neither moment has none.
+// Adds the events of all objects of a facility, in rising index: an object that exists at neither moment has none.
 fn add_all(
     events: &mut Vec<Event>,
     facility: Facility,
@@ -133,7 +133,7 @@ fn slice_of(packet: &Option<Packet>) -> Option<&[u8]>
     }
 }
 
-// The server's event, where there is one.
+// Adds the server's event, where there is one.
 fn add_server(
     alloc: Global,
     events: &mut Vec<Event>,
@@ -156,7 +156,7 @@ fn add_server(
     Ok(())
 }
 
-// Those of all sinks.
+// The events of all sinks.
 #[tactic(auto, using(crate::proofs::Nearest::sinks_in_bytes_so))]
 fn add_sinks(
     alloc: Global,
@@ -175,7 +175,7 @@ fn add_sinks(
     Ok(())
 }
 
-// Those of all inputs.
+// The events of all inputs.
 #[tactic(auto, using(crate::proofs::Nearest::inputs_in_bytes_so))]
 fn add_inputs(
     alloc: Global,
@@ -194,7 +194,7 @@ fn add_inputs(
     Ok(())
 }
 
-// Those of all clients.
+// The events of all clients.
 #[tactic(auto, using(crate::proofs::Nearest::clients_in_bytes_so))]
 fn add_clients(
     alloc: Global,

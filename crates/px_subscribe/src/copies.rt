@@ -8,7 +8,7 @@ use px_tag::PropList;
 use px_types::{Mem, NoMemory};
 use std::alloc::Global;
 
-// One more client.
+// Copies one more client.
 fn add_client(copies: &mut Vec<Client>, client: &Client) -> Mem<()>
     ensures { OnOk result (copies.new.items ≡ copies.old.items ++ client.now ∷ []) }
 {
@@ -35,7 +35,7 @@ pub(crate) fn copy_clients(alloc: Global, clients: &[Client]) -> Mem<Vec<Client>
     Ok(copies)
 }
 
-// One more group.
+// Copies one more group.
 fn add_group(alloc: Global, copies: &mut Vec<Group>, group: &Group) -> Mem<()>
     ensures { OnOk result (copies.new.items ≡ copies.old.items ++ group.now ∷ []) }
 {

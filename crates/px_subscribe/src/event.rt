@@ -1,4 +1,4 @@
-//! An event: of which kind of object, what became of it, and which one (PulseAudio: `pa_subscription_event_type_t` and
+//! An event: the kind of object, the kind of event, and the object's index (PulseAudio: `pa_subscription_event_type_t` and
 //! `pa_subscription_mask_t` of `pulse/def.h`).
 
 ghost use Rattle.std.specs.Prelude.{◌≡◌, ◌≤◌, IfOk};
@@ -17,18 +17,18 @@ pub enum Facility {
     Server,
 }
 
-/// What became of an object.
+/// The kind of an event.
 #[derive(Clone, Copy, Debug, PartialEq, Eq)]
 pub enum Kind {
-    /// It is there, and wasn't before.
+    /// The object is new.
     New,
     /// Its info has changed.
     Change,
-    /// It is there no more.
+    /// The object is gone.
     Remove,
 }
 
-/// What became of one object.
+/// An event about one object.
 #[derive(Clone, Copy, Debug, PartialEq, Eq)]
 pub struct Event {
     pub facility: Facility,
@@ -74,7 +74,7 @@ impl Event {
         self.facility.code() + self.kind.code()
     }
 
-    /// SUBSCRIBE_EVENT of it.
+    /// Its SUBSCRIBE_EVENT packet.
     pub fn message(self, alloc: Global) -> Mem<Packet>
         ensures { IfOk result (λ packet. packet ≡ message_of self) }
     {

@@ -62,7 +62,7 @@ fn client_info_bytes(alloc: Global, info: &ClientInfo) -> Mem<InfoBytes>
     }
 }
 
-// One more sink.
+// Adds one more sink.
 fn add_sink(alloc: Global, all: &mut Vec<InfoBytes>, info: &SinkInfo) -> Mem<()>
     requires { IsWritableSink info.now }
     ensures { OnOk result ((more : List SinkInfo) → all.new.items ++ map sink_info_bytes more ≡ all.old.items ++ map sink_info_bytes (info.now ∷ more)) }
@@ -83,7 +83,7 @@ pub(crate) fn sinks_in_bytes(alloc: Global, infos: &[SinkInfo]) -> Mem<Vec<InfoB
     Ok(all)
 }
 
-// One more input.
+// Adds one more input.
 fn add_input(alloc: Global, all: &mut Vec<InfoBytes>, info: &InputInfo) -> Mem<()>
     requires { IsWritableInput info.now }
     ensures { OnOk result ((more : List InputInfo) → all.new.items ++ map input_info_bytes more ≡ all.old.items ++ map input_info_bytes (info.now ∷ more)) }
@@ -104,7 +104,7 @@ pub(crate) fn inputs_in_bytes(alloc: Global, infos: &[InputInfo]) -> Mem<Vec<Inf
     Ok(all)
 }
 
-// One more client.
+// Adds one more client.
 fn add_client(alloc: Global, all: &mut Vec<InfoBytes>, info: &ClientInfo) -> Mem<()>
     requires { IsWritableClient info.now }
     ensures { OnOk result ((more : List ClientInfo) → all.new.items ++ map client_info_bytes more ≡ all.old.items ++ map client_info_bytes (info.now ∷ more)) }

@@ -1,6 +1,7 @@
-//! Subscription events: what a step notifies the clients that subscribed of. `event` has an event and which facilities a mask hears,
-//! `announce` who is notified of it, `between` the events between two moments; `scene` is a copy of what infos and subscriptions read
-//! of the server's state, to which a command's changes are made first, and `moments` compares two of them. It exports these, and their laws.
+//! Subscription events: the notifications of a step to the clients that subscribed. `event` has an event and the facilities
+//! of a mask, `announce` the clients that are notified of it, `between` the events between two moments; `scene` is a copy of
+//! the parts of the server's state that infos and subscriptions read, to which a command's changes are made first, and
+//! `moments` compares two of them. It exports these, and their laws.
 #![tactic(auto)]
 
 mod announce;

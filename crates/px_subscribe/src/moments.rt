@@ -27,7 +27,7 @@ use px_types::limits::MAX_CHANNELS;
 use px_types::{ConnId, InputId, Mem, NoMemory, SinkId};
 use std::alloc::Global;
 
-// How many sinks there are, where that is a number of 32 bits.
+// The number of sinks, where it fits 32 bits.
 fn count_of(sinks: &[SinkSpec]) -> Mem<u32>
     ensures { IfOk result (λ count. count ≡ length sinks.now) }
 {
@@ -37,7 +37,7 @@ fn count_of(sinks: &[SinkSpec]) -> Mem<u32>
     }
 }
 
-// Whether each has few enough channels.
+// Whether each input has at most 32 channels.
 fn are_few(inputs: &[Input]) -> bool
     ensures { result ≡ true → All (λ x. (Input.spec x).channels ≤ 32) inputs.now }
 {
@@ -63,7 +63,7 @@ fn client_on(clients: &[Client], conn: ConnId) -> Option<&Client>
     clients.iter().find(|client| client.conn.0 == conn.0)
 }
 
-// Its mask; nothing where there is none.
+// The mask of a connection's client; 0 where there is none.
 fn mask_on(clients: &[Client], conn: ConnId) -> u32
     ensures { result ≡ mask_of (client_on clients.now conn) }
 {
@@ -73,7 +73,7 @@ fn mask_on(clients: &[Client], conn: ConnId) -> u32
     }
 }
 
-// One more connection, where it goes on.
+// Adds one more connection, where it is live.
 fn add_subscriber(all: &mut Vec<Subscriber>, clients: &[Client], c: &Connection) -> Mem<()>
     ensures { OnOk result ((more : List Connection) → all.new.items ++ subscribers_in clients.now more ≡ all.old.items ++ subscribers_in clients.now (c.now ∷ more)) }
 {
@@ -86,7 +86,7 @@ fn add_subscriber(all: &mut Vec<Subscriber>, clients: &[Client], c: &Connection)
     Ok(())
 }
 
-// The connections that go on, with the masks of their clients.
+// The live connections, with the masks of their clients.
 fn subscribers_in(
     alloc: Global,
     clients: &[Client],
@@ -102,8 +102,8 @@ fn subscribers_in(
 }
 
 impl Scene {
-    /// The infos that the commands for lists and for the server reply with, with these sinks. An input of more than 32 channels, which
-    /// no sink plays, has no info: then there is no answer, as for want of memory.
+    /// The infos that the commands for lists and for the server reply with, with these sinks. `Err` for want of memory, and
+    /// where an input has more than 32 channels: no sink plays it, and it has no info.
     pub fn moment(&self, alloc: Global, sinks: &[SinkSpec]) -> Mem<Moment>
         requires { AreSinks [] sinks.now }
         ensures value { IfOk result (λ notified. notified ≡ info_lists_of sinks.now self.now) }
@@ -121,7 +121,7 @@ impl Scene {
         })
     }
 
-    /// The connections that go on, in order of connecting, with the masks of their clients.
+    /// The live connections, in order of connecting, with the masks of their clients.
     pub fn subscribers(&self, alloc: Global) -> Mem<Vec<Subscriber>>
         ensures { IfOk result (λ all. all.items ≡ subscribers_of self.now) }
     {
@@ -151,7 +151,7 @@ impl Scene {
         announce_all(alloc, &subscribers, &events)
     }
 
-    // Makes the changes, and answers the subscription events since the moment `before`.
+    // Makes the changes, and returns the subscription events since the moment `before`.
     fn make_and_notify<P>(
         &mut self,
         alloc: Global,
@@ -168,7 +168,7 @@ impl Scene {
         self.notified_since(alloc, sinks, clients_made, before)
     }
 
-    // Makes the changes, and answers the subscription events that they cause.
+    // Makes the changes, and returns the subscription events that they cause.
     fn change_and_notify<P>(
         &mut self,
         alloc: Global,
@@ -183,7 +183,7 @@ impl Scene {
         self.make_and_notify(alloc, sinks, clients_made, changes, &before)
     }
 
-    // Lets an input that moves arrive, makes the changes `later`, and answers the subscription events of both.
+    // Settles a moving input on its new sink, makes the changes `later`, and returns the subscription events of both.
     fn arrive_and_notify<P>(
         &mut self,
         alloc: Global,
@@ -200,7 +200,7 @@ impl Scene {
         self.make_and_notify(alloc, sinks, clients_made, later, &before)
     }
 
-    // Admits a client, and answers the subscription events since the moment `before`.
+    // Admits a client, and returns the subscription events since the moment `before`.
     fn join_and_notify(
         &mut self,
         alloc: Global,

@@ -1,4 +1,4 @@
-//! Changes of nothing that an info shows.
+//! Changes that affect no info.
 
 ghost use Rattle.std.specs.Prelude.{◌≡◌, ℕ, List, [], true};
 ghost use Rattle.std.specs.List.{list_all};
@@ -15,7 +15,7 @@ use px_msg::Msg;
 use px_names::Client;
 use px_outcome::Change;
 
-// Whether a change is one of nothing that an info shows.
+// Whether a change affects no info.
 fn is_quiet<P>(change: &Change<Msg<P>, Group>) -> bool
     ensures { result ≡ is_quiet change.now }
 {
@@ -40,36 +40,36 @@ fn is_quiet<P>(change: &Change<Msg<P>, Group>) -> bool
     }
 }
 
-/// Whether none of these changes is one that an info shows: what a step of data, of a request that is answered later or of an
-/// answer to one comes to. Takes no memory.
+/// Whether none of these changes affects an info: so it is for a step of data, of a request that is answered later or of an
+/// answer to one. Takes no memory.
 pub fn are_quiet<P>(changes: &[Change<Msg<P>, Group>]) -> bool
     ensures { result ≡ are_quiet changes.now }
 {
     changes.iter().all(is_quiet)
 }
 
-// Whether a change is of no mask.
+// Whether a change sets no mask.
 fn is_maskless<P>(change: &Change<Msg<P>, Group>) -> bool
     ensures { result ≡ is_maskless change.now }
 {
     !matches!(change, Change::Masked(..))
 }
 
-// Whether none of these is.
+// Whether none of these sets a mask.
 fn are_maskless<P>(changes: &[Change<Msg<P>, Group>]) -> bool
     ensures { result ≡ list_all is_maskless changes.now }
 {
     changes.iter().all(is_maskless)
 }
 
-/// Whether none of these clients hears of anything. Takes no memory.
+/// Whether none of these clients subscribes to anything. Takes no memory.
 pub fn are_deaf(clients: &[Client]) -> bool
     ensures { result ≡ are_deaf clients.now }
 {
     clients.iter().all(|client| client.mask == 0)
 }
 
-/// Whether none of these clients hears of anything, and these changes leave it so. Takes no memory.
+/// Whether none of these clients subscribes to anything, and these changes leave it so. Takes no memory.
 pub fn nobody_hears<P>(clients: &[Client], changes: &[Change<Msg<P>, Group>]) -> bool
     ensures { result ≡ nobody_hears clients.now changes.now }
 {
@@ -84,7 +84,7 @@ pub fn the_deaf_are_not_notified<P>()
         → notified_between sinks clients_made s (scene_joined conn client s) ≡ [] }
 {}
 
-/// Of changes that no info shows nobody is notified. It does nothing: its contract is the law. Source: own.
+/// Changes that affect no info notify nobody. It does nothing: its contract is the law. Source: own.
 pub fn quiet_changes_notify_nobody<P>()
     ensures quiet { (sinks : List SinkSpec) (clients_made : ℕ) (s : Scene) (changes : List (Change (Msg P) FlatGroup)) → are_quiet changes ≡ true
         → notified_between sinks clients_made s (scene_after s changes) ≡ [] }

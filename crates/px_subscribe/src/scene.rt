@@ -1,4 +1,4 @@
-//! A copy of what infos and subscriptions read of the server's state.
+//! A copy of the parts of the server's state that infos and subscriptions read.
 
 ghost use Rattle.std.specs.Prelude.{◌≡◌, ◌++◌, ◌∷◌, [], List, IfOk, OnOk, cond, nat_lt, set, length};
 ghost use Rattle.px_names.specs.Clients.{is_on, change_first as change_client, without_first as without_client, with_list};
@@ -25,9 +25,9 @@ use px_types::{ConnId, InputId, Mem, NoMemory, SinkId};
 use std::alloc::Global;
 use std::marker::Model;
 
-/// What infos and subscriptions read of the server's state at one moment: the clients with their masks, the default sink, the
-/// connections, the inputs with their property lists, and the groups of volumes. Changes can be made to it before they are made
-/// to the state.
+/// The parts of the server's state that infos and subscriptions read, at one moment: the clients with their masks, the
+/// default sink, the connections, the inputs with their property lists, and the groups of volumes. Changes can be made to it
+/// before they are made to the state.
 #[derive(Drop)]
 pub struct Scene {
     pub(crate) clients: Vec<Client>,
@@ -164,7 +164,7 @@ fn remove_input(inputs: &mut Vec<Input>, lists: &mut InputLists, index: InputId)
 }
 
 impl Scene {
-    /// What is read of these parts of the state.
+    /// The scene of these parts of the state.
     pub fn of(
         alloc: Global,
         names: &Names,
@@ -188,7 +188,7 @@ impl Scene {
         })
     }
 
-    // A sink that is there is the default sink.
+    // Makes an existing sink the default sink.
     fn make_default(&mut self, sink: SinkId)
         ensures { self.new ≡ record self.old { fallback = cond (nat_lt sink.0 self.old.sinks) sink self.old.fallback } }
     {
@@ -208,7 +208,7 @@ impl Scene {
         Ok(())
     }
 
-    // A connection is forgotten, and its client with it.
+    // Removes a connection, and its client with it.
     fn forget(&mut self, conn: ConnId)
         ensures { self.new ≡ record self.old { connections = drop_first (has_number conn) self.old.connections; clients = without_client (is_on conn) self.old.clients } }
     {
@@ -216,7 +216,7 @@ impl Scene {
         px_names::forget(&mut self.clients, conn);
     }
 
-    // What a change changes of clients, of their connections and of the default sink.
+    // Makes a change's part on clients, on their connections and on the default sink.
     fn change_clients<P>(&mut self, change: &Change<Msg<P>, Group>) -> Mem<()>
         ensures { OnOk result (self.new ≡ clients_changed self.old change.now) }
     {
@@ -234,7 +234,7 @@ impl Scene {
         Ok(())
     }
 
-    // What it changes of inputs and of groups.
+    // Makes a change's part on inputs and on groups.
     fn change_inputs<P>(&mut self, alloc: Global, change: &Change<Msg<P>, Group>) -> Mem<()>
         ensures { OnOk result (self.new ≡ inputs_changed self.old change.now) }
     {
@@ -259,7 +259,7 @@ impl Scene {
         Ok(())
     }
 
-    // One change. Where there is no memory for it, some of it may be made.
+    // Makes one change. Where there is no memory for it, part of it may be made.
     fn change<P>(&mut self, alloc: Global, change: &Change<Msg<P>, Group>) -> Mem<()>
         ensures { OnOk result (self.new ≡ scene_changed self.old change.now) }
     {
@@ -267,14 +267,14 @@ impl Scene {
         self.change_inputs(alloc, change)
     }
 
-    /// An input that moves is on the sink that it moves to. Takes no memory.
+    /// Settles a moving input on the sink that it moves to. Takes no memory.
     pub(crate) fn arrive(&mut self, index: InputId)
         ensures { self.new ≡ scene_arrived index self.old }
     {
         bring(&mut self.inputs, index);
     }
 
-    /// A client connects. Where there is no memory for it, some of it may be there.
+    /// Adds a client that connects. Where there is no memory for it, part of it may be added.
     pub(crate) fn join(&mut self, alloc: Global, conn: ConnId, client: u32) -> Mem<()>
         ensures { OnOk result (self.new ≡ scene_joined conn client self.old) }
     {
@@ -294,14 +294,14 @@ impl Scene {
         Ok(())
     }
 
-    // One change of several.
+    // Makes one change of several.
     fn change_one<P>(&mut self, alloc: Global, change: &Change<Msg<P>, Group>) -> Mem<()>
         ensures { OnOk result ((more : List (Change (Msg P) FlatGroup)) → scene_after self.new more ≡ scene_after self.old (change.now ∷ more)) }
     {
         self.change(alloc, change)
     }
 
-    /// The changes are made, in order. Where there is no memory for them, some may be made.
+    /// Makes the changes, in order. Where there is no memory for them, some may be made.
     pub(crate) fn make<P>(&mut self, alloc: Global, changes: &[Change<Msg<P>, Group>]) -> Mem<()>
         ensures { OnOk result (self.new ≡ scene_after self.old changes.now) }
     {
@@ -311,7 +311,7 @@ impl Scene {
         Ok(())
     }
 
-    /// An input that moves is on the sink that it moves to, and then the changes are made.
+    /// Settles a moving input on the sink that it moves to, and then makes the changes.
     pub(crate) fn arrive_and_make<P>(
         &mut self,
         alloc: Global,

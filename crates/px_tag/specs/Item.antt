@@ -1,5 +1,4 @@
--- The one spelling of each kind of item: its tag byte, and what stands after it. Numbers are spelled with the
--- highest byte first.
+-- The one spelling of each kind of item: its tag byte, and what follows it. Numbers are big-endian.
 use Rattle.std.specs.Prelude.{◌≡◌, ℕ, ◌<◌, ◌≤◌, ◌^◌, ℤ, Bool, true, false, not, ◌==◌, IsTrue, List, [], ◌∷◌, ◌++◌, length, All, Option, None, Some}
 use Rattle.std.specs.Int.{w32, w64, to_be_bytes, cast_unsigned}
 use Rattle.std.specs.List.{flat_map, list_all}
@@ -41,7 +40,7 @@ unfoldable pub text : Option (List ℕ) → List ℕ
 text None = 0x4E ∷ []
 text (Some bytes) = 0x74 ∷ bytes ++ 0 ∷ []
 
--- bytes of any kind: x, how many they are, and they
+-- bytes of any kind: x, their number, and the bytes
 unfoldable pub arbitrary : List ℕ → List ℕ
 arbitrary bytes = 0x78 ∷ to_be_bytes w32 (length bytes) ++ bytes
 
@@ -49,11 +48,11 @@ arbitrary bytes = 0x78 ∷ to_be_bytes w32 (length bytes) ++ bytes
 unfoldable pub spec : RawSpec → List ℕ
 spec s = 0x61 ∷ s.format ∷ s.channels ∷ to_be_bytes w32 s.rate
 
--- a channel map: m, how many channels it has, and the position of each
+-- a channel map: m, the number of channels, and the position of each
 unfoldable pub channel_map : List ℕ → List ℕ
 channel_map positions = 0x6D ∷ length positions ∷ positions
 
--- channel volumes: v, how many they are, and each in four bytes
+-- channel volumes: v, their number, and each in four bytes
 unfoldable pub channel_volumes : List ℕ → List ℕ
 channel_volumes volumes = 0x76 ∷ length volumes ∷ flat_map (to_be_bytes w32) volumes
 
@@ -61,7 +60,7 @@ channel_volumes volumes = 0x76 ∷ length volumes ∷ flat_map (to_be_bytes w32)
 unfoldable pub time : TimeVal → List ℕ
 time t = 0x54 ∷ to_be_bytes w32 t.seconds ++ to_be_bytes w32 t.micros
 
--- a property: its key, how long its value is, and its value
+-- a property: its key, the length of its value, and its value
 unfoldable pub property : Property → List ℕ
 property p = text (Some p.0) ++ number (length p.1) ++ arbitrary p.1
 
@@ -69,7 +68,7 @@ property p = text (Some p.0) ++ number (length p.1) ++ arbitrary p.1
 unfoldable pub proplist : List Property → List ℕ
 proplist list = 0x50 ∷ flat_map property list ++ 0x4E ∷ []
 
--- ---- what has a spelling
+-- ---- values that have a spelling
 
 -- a string has no zero byte
 abbrev pub is_text : List ℕ → Bool
@@ -79,7 +78,7 @@ abbrev pub IsText : Option (List ℕ) → Type 0
 IsText None = Unit {0}
 IsText (Some bytes) = IsTrue (is_text bytes)
 
--- a property list as it is written; a key may be there twice
+-- a property list in its written form; a key may be there twice
 abbrev pub AreProperties : List Property → Type 0
 AreProperties list = IsTrue (list_all is_property list)
 
@@ -89,7 +88,7 @@ IsPropList list = IsTrue (is_proplist list)
 abbrev pub AnyFlag : Bool → Type 0
 AnyFlag b = Unit {0}
 
--- an arbitrary has fewer bytes than its count can say
+-- the length of an arbitrary fits its count
 abbrev pub IsCounted : List ℕ → Type 0
 IsCounted bytes = length bytes < 2 ^ 32
 

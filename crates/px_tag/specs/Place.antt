@@ -17,11 +17,11 @@ start_of packet = record { size = length packet; rest = packet }
 abbrev pub offset_of : Place → ℕ
 offset_of place = place.size - length place.rest
 
--- the place behind the next n bytes
+-- the place after the next n bytes
 abbrev pub past : ℕ → Place → Place
 past n place = record { size = place.size; rest = drop n place.rest }
 
--- What is read at a place: a value and the place behind it, or the first fault.
+-- What is read at a place: a value and the place after it, or the first fault.
 abbrev pub Reading : Type 0 → Type 0
 Reading A = Place → Result (A × Place) TagFault
 
@@ -35,13 +35,13 @@ abbrev pub Gives : {X Y : Type 0} → (X → Y) → Result X TagFault → Result
 Gives view (Ok x) read = read ≡ Ok (view x)
 Gives view (Err fault) read = read ≡ Err fault
 
--- A call of a reader answered what is read from the place where the reader was: the value, and the reader is
--- behind it, or the fault, and the reader is where it was.
+-- A call of a reader answered what is read from the place where the reader was: the value, with the reader past it, or the fault, with the
+-- reader where it was.
 abbrev pub Reads : {X Y : Type 0} → (X → Y) → Result X TagFault → Place → Place → Result (Y × Place) TagFault → Type 0
 Reads view (Ok x) before after read = read ≡ Ok (view x, after)
 Reads view (Err fault) before after read = (read ≡ Err fault) × (after ≡ before)
 
--- The same for a call that takes memory: where that ran out, the reader is where it was.
+-- The same for a call that takes memory: without memory the reader is where it was.
 abbrev pub GivesList : {X Y : Type 0} → (X → Y) → Result X ListFault → Result Y TagFault → Type 0
 GivesList view (Ok x) read = read ≡ Ok (view x)
 GivesList view (Err (Tag fault)) read = read ≡ Err fault

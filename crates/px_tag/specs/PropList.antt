@@ -12,14 +12,14 @@ Property = List ℕ × List ℕ
 abbrev pub same_key : List ℕ → List ℕ → Bool
 same_key a b = pointwise nat_eq a b
 
--- a key has a byte, and bytes from 0x01 to 0x7F alone
+-- a key has at least one byte, all of them from 0x01 to 0x7F
 abbrev pub is_key_byte : ℕ → Bool
 is_key_byte b = nat_le 0x01 b && nat_le b 0x7F
 
 abbrev pub is_key : List ℕ → Bool
 is_key key = nat_lt 0 (length key) && list_all is_key_byte key
 
--- a value has any bytes, 65,536 at the most
+-- a value has any bytes, at most 65,536
 abbrev pub is_value : List ℕ → Bool
 is_value value = nat_le (length value) 65536
 
@@ -35,7 +35,7 @@ abbrev pub is_distinct : List Property → Bool
 is_distinct [] = true
 is_distinct (p ∷ list) = not (has_key list p.0) && is_distinct list
 
--- what a property list always is
+-- the invariant of a property list
 abbrev pub is_proplist : List Property → Bool
 is_proplist list = list_all is_property list && is_distinct list
 
@@ -44,7 +44,7 @@ abbrev pub value_of : List Property → List ℕ → Option (List ℕ)
 value_of [] key = None
 value_of (p ∷ list) key = cond (same_key key p.0) (Some p.1) (value_of list key)
 
--- the list with a value for a key: a key that is there keeps its place, a new one goes last
+-- the list with a value for a key: a key that is there stays in its place, a new one goes last
 abbrev pub with_value : List Property → List ℕ → List ℕ → List Property
 with_value [] key value = (key, value) ∷ []
 with_value (p ∷ list) key value = cond (same_key key p.0) ((p.0, value) ∷ list) (p ∷ with_value list key value)
@@ -54,19 +54,19 @@ abbrev pub without : List Property → List ℕ → List Property
 without [] key = []
 without (p ∷ list) key = cond (same_key key p.0) list (p ∷ without list key)
 
--- the list with each of the others' values
+-- the list with all properties of the other list set
 abbrev pub with_all : List Property → List Property → List Property
 with_all list others = fold (λ done p. with_value done p.0 p.1) list others
 
--- the list that a written one means: a repeated key keeps its first place and takes its last value
+-- the list that a written one means: a repeated key stays in its first place, with its last value
 abbrev pub meaning : List Property → List Property
 meaning written = with_all [] written
 
--- the list with those of the others whose key wasn't there
+-- the list with those of the others whose keys weren't there
 abbrev pub with_missing : List Property → List Property → List Property
 with_missing list others = fold (λ done p. cond (has_key done p.0) done (with_value done p.0 p.1)) list others
 
--- an update: the other list, or what is missing of it, or all of it
+-- an update: becomes the other list, or gets what is missing of it, or all of it
 abbrev pub updated : Mode → List Property → List Property → List Property
 updated Set list other = other
 updated Merge list other = with_missing list other

@@ -1,4 +1,4 @@
--- What stands at a place, by the kind of item that is wanted there, and the first fault where none stands.
+-- The reading of an item of each kind at a place, and the first fault where there is none.
 use Rattle.std.specs.Prelude.{ℕ, zero, suc, ◌+◌, ℤ, Bool, true, false, List, [], ◌∷◌, length, take, position, Option, None, Some, Result, Ok, Err, nat_lt, nat_le, ◌&&◌, ◌==◌, if◌then◌else◌}
 use Rattle.std.specs.Int.{Width, w32, w64, byte_len, from_be_bytes, cast_signed}
 use Rattle.px_tag.specs.declared.fault.TagFault.{TagFault}
@@ -18,7 +18,7 @@ next_of (b ∷ rest) place = Ok (b, record { size = place.size; rest = rest })
 unfoldable pub next_at : Reading ℕ
 next_at place = next_of place.rest place
 
--- the place behind the wanted tag byte
+-- the place after the wanted tag byte
 unfoldable pub tagged_at : ℕ → Place → Result Place TagFault
 tagged_at tag place = do
   b ← next_at place
@@ -32,7 +32,7 @@ field_at w place = if nat_lt (length place.rest) (byte_len w) then Err (Short pl
 unfoldable pub bytes_at : ℕ → Reading (List ℕ)
 bytes_at n place = if nat_lt (length place.rest) n then Err (Short place.size) else Ok (take n place.rest, past n place)
 
--- the bytes before the first zero byte, and the place behind that
+-- the bytes before the first zero byte, and the place after that
 abbrev pub ended_at : Option ℕ → Reading (List ℕ)
 ended_at None place = Err (Short place.size)
 ended_at (Some zero_byte) place = Ok (take zero_byte place.rest, past (zero_byte + 1) place)
@@ -40,7 +40,7 @@ ended_at (Some zero_byte) place = Ok (take zero_byte place.rest, past (zero_byte
 unfoldable pub string_at : Reading (List ℕ)
 string_at place = ended_at (position (λ b. b == 0) place.rest) place
 
--- so many numbers of four bytes
+-- n numbers of four bytes
 unfoldable pub fields_at : ℕ → Reading (List ℕ)
 fields_at zero place = Ok ([], place)
 fields_at (suc n) place = do
@@ -93,7 +93,7 @@ arbitrary_at place = do
   count ← field_at w32 field
   bytes_at count.0 count.1
 
--- bytes of any kind, of which a rule says how many they are: the count is checked before they are read
+-- bytes of any kind, whose number a rule gives: the count is checked before they are read
 unfoldable pub counted_at : ℕ → Reading (List ℕ)
 counted_at n place = do
   field ← tagged_at 0x78 place
@@ -132,8 +132,7 @@ time_at place = do
 
 -- ---- property lists
 
--- a property's value: how long it is, and then an arbitrary that is as long, 65,536 bytes at the most; both are
--- checked before its bytes are read
+-- a property's value: its length, and then an arbitrary of that length, at most 65,536 bytes; both are checked before its bytes are read
 unfoldable pub value_at : Reading (List ℕ)
 value_at place = do
   size ← number_at place
@@ -141,7 +140,7 @@ value_at place = do
   count ← field_at w32 field
   if (count.0 == size.0) && nat_le size.0 65536 then bytes_at size.0 count.1 else Err (BadValue (offset_of size.1))
 
--- behind a key, which is checked first, its value; the null string ends the list
+-- after a key, which is checked first, its value; the null string ends the list
 abbrev pub keyed_at : Place → Option (List ℕ) → Reading (Option Property)
 keyed_at start None place = Ok (None, place)
 keyed_at start (Some key) place = if is_key key then (value_at place >>= λ value. Ok (Some (key, value.0), value.1)) else Err (BadValue (offset_of start))
@@ -152,12 +151,12 @@ property_at place = do
   key ← text_at place
   keyed_at place key.0 key.1
 
--- a property, and those behind it; or none
+-- a property, and those after it; or none
 abbrev pub followed_by : Option Property → Place → Result (List Property × Place) TagFault → Result (List Property × Place) TagFault
 followed_by None place others = Ok ([], place)
 followed_by (Some p) place others = others >>= λ list. Ok (p ∷ list.0, list.1)
 
--- the properties up to the list's end; each has a byte at least, so there are no more of them than bytes
+-- the properties up to the list's end; each has at least one byte, so the number of bytes bounds their number
 unfoldable pub properties_at : ℕ → Reading (List Property)
 properties_at zero place = Err (Short place.size)
 properties_at (suc most) place = do
@@ -170,7 +169,7 @@ listed_at place = do
   written ← properties_at (length place.rest) place
   Ok (meaning written.0, written.1)
 
--- a property list as it is written
+-- a property list in its written form
 unfoldable pub written_at : Reading (List Property)
 written_at place = do
   field ← tagged_at 0x50 place

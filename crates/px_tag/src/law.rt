@@ -1,4 +1,4 @@
-//! That items are an alphabet.
+//! The law that items are an alphabet.
 
 ghost use Rattle.std.specs.Prelude.{◌≡◌, ℕ, ◌<◌, ◌^◌, ◌++◌, List, Ok, FitsSigned};
 ghost use Rattle.std.specs.Int.{w64};
@@ -7,8 +7,8 @@ ghost use Rattle.px_tag.specs.PropList.{Property, meaning};
 ghost use Rattle.px_tag.specs.Reading.{number_at, byte_at, wide_at, signed_at, usec_at, flag_at, text_at, arbitrary_at, counted_at, spec_at, map_at, volumes_at, time_at, written_at, proplist_at};
 ghost use Rattle.px_tag.specs.Law.{HasOneSpelling};
 
-/// Each value of a kind has one spelling, and is read exactly where that stands, whatever follows it; no
-/// spelling begins another of its kind. The function does nothing: its contract is the law.
+/// Each value of a kind has one spelling, and is read exactly where that spelling is, whatever follows it; no spelling is the beginning of
+/// another of its kind. The function does nothing: its contract is the law.
 pub fn one_spelling()
     ensures numbers { HasOneSpelling (λ n. n < 2 ^ 32) number number_at }
     ensures bytes { HasOneSpelling (λ n. n < 2 ^ 8) byte byte_at }
@@ -26,6 +26,6 @@ pub fn one_spelling()
     ensures proplists { HasOneSpelling AreProperties proplist written_at }
     // A property list that the code holds is read again as it was.
     ensures stays { (list : List Property) (size : ℕ) (behind : List ℕ) → IsPropList list → proplist_at (record { size = size; rest = proplist list ++ behind }) ≡ Ok (list, record { size = size; rest = behind }) }
-    // What a written list means is one that the code may hold.
+    // The meaning of a written list is one that the code may hold.
     ensures meanings { (written : List Property) → AreProperties written → IsPropList (meaning written) }
 {}

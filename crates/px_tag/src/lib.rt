@@ -1,5 +1,5 @@
-//! The items of PulseAudio's tagstruct, the alphabet of the native protocol: each is read exactly where
-//! its one spelling stands in a packet, and written in that spelling. Property lists are kept in order.
+//! The items of PulseAudio's tagstruct, the alphabet of the native protocol: each is read exactly where its one spelling is in a packet,
+//! and written in that spelling. Property lists stay in order.
 #![tactic(auto)]
 
 mod fault;

@@ -6,7 +6,7 @@ use std::alloc::{AllocError, AllocFailed};
 #[derive(Clone, Copy, Debug, PartialEq, Eq)]
 pub struct NoMemory;
 
-/// What a call answers that takes memory.
+/// The answer of a call that takes memory.
 pub type Mem<T> = Result<T, NoMemory>;
 
 impl From<AllocError> for NoMemory {

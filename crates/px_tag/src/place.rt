@@ -1,4 +1,4 @@
-//! A place in a packet, and the parts that items are made of.
+//! A place in a packet, and the readers of the parts of items.
 
 ghost use Rattle.std.specs.Prelude.{◌≡◌, ◌<◌, ◌≤◌, ◌==◌, length, position, IfOk, IfSome};
 ghost use Rattle.std.specs.Int.{w32, w64};
@@ -42,7 +42,7 @@ impl<'a> Place<'a> {
         }
     }
 
-    /// The place behind the next `count` bytes, and these bytes.
+    /// The place after the next `count` bytes, and these bytes.
     #[tactic(auto, unfolding(crate::specs::Reading::bytes_at))]
     pub(crate) fn bytes(self, count: usize) -> Result<(&'a [u8], Place<'a>), TagFault>
         ensures value { Gives (λ read. (read.0.now, place_of read.1)) result (bytes_at count (place_of self.entry)) }
@@ -68,7 +68,7 @@ impl<'a> Place<'a> {
         }
     }
 
-    /// The place behind the tag byte.
+    /// The place after the tag byte.
     #[tactic(auto, unfolding(crate::specs::Reading::tagged_at))]
     pub(crate) fn tagged(self, tag: u8) -> Result<Place<'a>, TagFault>
         ensures value { Gives place_of result (tagged_at tag (place_of self.entry)) }
@@ -110,7 +110,7 @@ impl<'a> Place<'a> {
         Ok((number, self.before(rest)))
     }
 
-    /// The bytes before the next zero byte, and the place behind that.
+    /// The bytes before the next zero byte, and the place after that.
     #[tactic(auto, unfolding(crate::specs::Reading::string_at))]
     pub(crate) fn string(self) -> Result<(&'a [u8], Place<'a>), TagFault>
         ensures value { Gives (λ read. (read.0.now, place_of read.1)) result (string_at (place_of self.entry)) }

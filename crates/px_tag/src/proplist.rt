@@ -10,9 +10,8 @@ use indexmap::IndexMap;
 use std::alloc::Global;
 use std::marker::Model;
 
-/// A property list (`pulse/proplist.h`): keys with their values, in the order in which the keys came. A key
-/// has at least one byte, and bytes from 0x01 to 0x7F alone; a value has up to 65,536 bytes of any kind.
-/// A contract sees the list of pairs.
+/// A property list (`pulse/proplist.h`): keys with their values, in the order in which the keys came. A key has at least one byte, all from
+/// 0x01 to 0x7F; a value has up to 65,536 bytes of any kind. A contract sees the list of pairs.
 #[derive(Drop)]
 pub struct PropList {
     table: IndexMap<Vec<u8>, Vec<u8>>,
@@ -31,7 +30,7 @@ impl Model for PropList {
 }
 
 impl PropList {
-    /// A list without a key. Takes no memory.
+    /// An empty list. Takes no memory.
     pub fn new(alloc: Global) -> Self
         ensures { result ≡ [] }
     {
@@ -66,7 +65,7 @@ impl PropList {
         self.table.contains_key(key)
     }
 
-    /// The key and the value at a place in the order, or `None` past the last. Takes no memory.
+    /// The key and the value at place `index`, or `None` past the last. Takes no memory.
     pub fn get_index(&self, index: usize) -> Option<(&[u8], &[u8])>
         ensures entry { option_map (λ p. (p.0.now, p.1.now)) result ≡ slice_get self.now index }
         ensures rules { IfSome result (λ p. IsTrue (is_property (p.0.now, p.1.now))) }
@@ -77,8 +76,7 @@ impl PropList {
         }
     }
 
-    /// Gives a key a value. A key that is there keeps its place, and a new one goes last. Where memory runs
-    /// out, nothing has changed.
+    /// Sets the value of a key. A key that is there stays in its place, and a new one goes last. Without memory nothing has changed.
     pub fn set(&mut self, key: &[u8], value: &[u8]) -> Mem<()>
         requires key { IsTrue (is_key key.now) }
         requires value { IsTrue (is_value value.now) }
@@ -91,7 +89,7 @@ impl PropList {
         Ok(())
     }
 
-    /// Removes a key, and says whether it was there. The order closes up. Takes no memory.
+    /// Removes a key, and answers whether it was there. The order of the others stays. Takes no memory.
     pub fn remove(&mut self, key: &[u8]) -> bool
         ensures there { result ≡ has_key self.old key.now }
         ensures removed { self.new ≡ without self.old key.now }
@@ -99,7 +97,7 @@ impl PropList {
         self.table.shift_remove(key).is_some()
     }
 
-    // The property at a place in the order.
+    // The property at place `index`.
     pub(crate) fn property(&self, index: usize) -> (&[u8], &[u8])
         requires { index < length self.now }
         ensures entry { slice_get self.now index ≡ Some (result.0.now, result.1.now) }
@@ -143,7 +141,7 @@ impl PropList {
         Ok(())
     }
 
-    /// The same list once more.
+    /// A copy of the list.
     pub fn copy(&self) -> Mem<PropList>
         ensures { IfOk result (λ made. made ≡ self.now) }
     {

@@ -1,4 +1,4 @@
-//! The values of items that have parts.
+//! The values of items with several parts.
 
 ghost use Rattle.std.specs.Prelude.{◌≡◌, ◌≤◌, length, take, drop, ◌++◌};
 
@@ -7,8 +7,8 @@ use std::marker::Model;
 /// The most items that a channel map or channel volumes may have: `PA_CHANNELS_MAX` of `pulse/sample.h`.
 pub const CHANNELS_MAX: usize = 32;
 
-/// A sample spec as it stands in a packet (`pulse/sample.h`): any format code, up to 32 channels, any rate
-/// in frames a second. Whether they make sense is the command's to check.
+/// A sample spec as the packet has it (`pulse/sample.h`): any format code, up to 32 channels, any rate in frames a second. The command
+/// checks whether they make sense.
 #[derive(Clone, Copy, Debug, PartialEq, Eq)]
 pub struct RawSpec {
     pub format: u8,
@@ -16,15 +16,14 @@ pub struct RawSpec {
     pub rate: u32,
 }
 
-/// A time value as it stands in a packet: any numbers of seconds and microseconds.
+/// A time value as the packet has it: any numbers of seconds and microseconds.
 #[derive(Clone, Copy, Debug, PartialEq, Eq)]
 pub struct TimeVal {
     pub seconds: u32,
     pub micros: u32,
 }
 
-/// A channel map as it stands in a packet (`pulse/channelmap.h`): up to 32 positions, any bytes.
-/// A contract sees the list of them.
+/// A channel map as the packet has it (`pulse/channelmap.h`): up to 32 positions, any bytes. A contract sees the list of them.
 #[derive(Debug, Drop)]
 pub struct RawMap {
     count: u8,
@@ -64,8 +63,7 @@ impl RawMap {
     }
 }
 
-/// Channel volumes as they stand in a packet (`pulse/volume.h`): up to 32, any numbers.
-/// A contract sees the list of them.
+/// Channel volumes as the packet has them (`pulse/volume.h`): up to 32, any numbers. A contract sees the list of them.
 #[derive(Debug, Drop)]
 pub struct RawVolume {
     count: u8,

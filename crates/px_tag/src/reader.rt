@@ -43,7 +43,7 @@ impl<'a> TagReader<'a> {
         }
     }
 
-    /// The u32 (tag `L`) that stands here. Takes no memory.
+    /// Reads the u32 (tag `L`) here. Takes no memory.
     pub fn number(&mut self) -> Result<u32, TagFault>
         ensures { Reads (λ value. value) result self.old self.new (number_at self.old) }
     {
@@ -52,7 +52,7 @@ impl<'a> TagReader<'a> {
         Ok(value)
     }
 
-    /// The u8 (tag `B`) that stands here. Takes no memory.
+    /// Reads the u8 (tag `B`) here. Takes no memory.
     pub fn byte(&mut self) -> Result<u8, TagFault>
         ensures { Reads (λ value. value) result self.old self.new (byte_at self.old) }
     {
@@ -61,7 +61,7 @@ impl<'a> TagReader<'a> {
         Ok(value)
     }
 
-    /// The u64 (tag `R`) that stands here. Takes no memory.
+    /// Reads the u64 (tag `R`) here. Takes no memory.
     pub fn wide(&mut self) -> Result<u64, TagFault>
         ensures { Reads (λ value. value) result self.old self.new (wide_at self.old) }
     {
@@ -70,7 +70,7 @@ impl<'a> TagReader<'a> {
         Ok(value)
     }
 
-    /// The s64 (tag `r`) that stands here. Takes no memory.
+    /// Reads the s64 (tag `r`) here. Takes no memory.
     pub fn signed(&mut self) -> Result<i64, TagFault>
         ensures { Reads (λ value. value) result self.old self.new (signed_at self.old) }
     {
@@ -79,8 +79,8 @@ impl<'a> TagReader<'a> {
         Ok(value)
     }
 
-    /// The string (tag `t`, its bytes, a zero byte) that stands here, without its zero byte, or `None` for
-    /// the null string (tag `N`). Takes no memory.
+    /// Reads the string (tag `t`, its bytes, a zero byte) here, without its zero byte, or `None` for the null string (tag `N`). Takes no
+    /// memory.
     pub fn text(&mut self) -> Result<Option<&'a [u8]>, TagFault>
         ensures { Reads (option_map (λ bytes. bytes.now)) result self.old self.new (text_at self.old) }
     {
@@ -89,7 +89,7 @@ impl<'a> TagReader<'a> {
         Ok(value)
     }
 
-    /// The bytes (tag `x`, a u32 count, the bytes) that stand here, any bytes. Takes no memory.
+    /// Reads the bytes (tag `x`, a u32 count, the bytes) here, any bytes. Takes no memory.
     pub fn arbitrary(&mut self) -> Result<&'a [u8], TagFault>
         ensures { Reads (λ bytes. bytes.now) result self.old self.new (arbitrary_at self.old) }
     {
@@ -98,8 +98,8 @@ impl<'a> TagReader<'a> {
         Ok(value)
     }
 
-    /// The bytes (tag `x`) that stand here, where a rule says how many they are: another count is
-    /// `BadValue`, before the bytes are read. Takes no memory.
+    /// Reads the bytes (tag `x`) here, whose number is to be `count`: another count is `BadValue`, before the bytes are read. Takes no
+    /// memory.
     pub fn arbitrary_of(&mut self, count: u32) -> Result<&'a [u8], TagFault>
         ensures { Reads (λ bytes. bytes.now) result self.old self.new (counted_at count self.old) }
     {
@@ -108,7 +108,7 @@ impl<'a> TagReader<'a> {
         Ok(value)
     }
 
-    /// The bool (tag `1` or `0`) that stands here. Takes no memory.
+    /// Reads the bool (tag `1` or `0`) here. Takes no memory.
     pub fn flag(&mut self) -> Result<bool, TagFault>
         ensures { Reads (λ value. value) result self.old self.new (flag_at self.old) }
     {
@@ -117,8 +117,8 @@ impl<'a> TagReader<'a> {
         Ok(value)
     }
 
-    /// The sample spec (tag `a`) that stands here; more than 32 channels are `BadValue` (own: PulseAudio
-    /// leaves that to the command). Takes no memory.
+    /// Reads the sample spec (tag `a`) here; more than 32 channels are `BadValue` (own: PulseAudio leaves that to the command). Takes no
+    /// memory.
     pub fn spec(&mut self) -> Result<RawSpec, TagFault>
         ensures { Reads (λ value. value) result self.old self.new (spec_at self.old) }
     {
@@ -127,8 +127,8 @@ impl<'a> TagReader<'a> {
         Ok(value)
     }
 
-    /// The channel map (tag `m`, a u8 count, the positions) that stands here; a count above 32 is
-    /// `BadValue`, before the positions are read. Takes no memory.
+    /// Reads the channel map (tag `m`, a u8 count, the positions) here; a count above 32 is `BadValue`, before the positions are read.
+    /// Takes no memory.
     pub fn map(&mut self) -> Result<RawMap, TagFault>
         ensures { Reads (λ value. value) result self.old self.new (map_at self.old) }
     {
@@ -137,8 +137,8 @@ impl<'a> TagReader<'a> {
         Ok(value)
     }
 
-    /// The channel volumes (tag `v`, a u8 count, a u32 each) that stand here; a count above 32 is
-    /// `BadValue`, before the volumes are read. Takes no memory.
+    /// Reads the channel volumes (tag `v`, a u8 count, a u32 each) here; a count above 32 is `BadValue`, before the volumes are read. Takes
+    /// no memory.
     pub fn cvolume(&mut self) -> Result<RawVolume, TagFault>
         ensures { Reads (λ value. value) result self.old self.new (volumes_at self.old) }
     {
@@ -147,7 +147,7 @@ impl<'a> TagReader<'a> {
         Ok(value)
     }
 
-    /// The microseconds (tag `U`) that stand here. Takes no memory.
+    /// Reads the microseconds (tag `U`) here. Takes no memory.
     pub fn usec(&mut self) -> Result<u64, TagFault>
         ensures { Reads (λ value. value) result self.old self.new (usec_at self.old) }
     {
@@ -156,7 +156,7 @@ impl<'a> TagReader<'a> {
         Ok(value)
     }
 
-    /// The time value (tag `T`, u32 seconds, u32 microseconds) that stands here. Takes no memory.
+    /// Reads the time value (tag `T`, u32 seconds, u32 microseconds) here. Takes no memory.
     pub fn time(&mut self) -> Result<TimeVal, TagFault>
         ensures { Reads (λ value. value) result self.old self.new (time_at self.old) }
     {
@@ -165,10 +165,9 @@ impl<'a> TagReader<'a> {
         Ok(value)
     }
 
-    /// The property list (tag `P`, properties, the null string) that stands here; each property is a string,
-    /// a u32 and an arbitrary of that length. A key that is empty or has a byte above 0x7F, a value above
-    /// 65,536 bytes and two lengths that differ are `BadValue`. A repeated key keeps its first place and
-    /// takes its last value. Takes memory; where that runs out, the reader is where it was.
+    /// Reads the property list (tag `P`, properties, the null string) here; each property is a string, a u32 and an arbitrary of that
+    /// length. A key that is empty or has a byte above 0x7F, a value above 65,536 bytes and two lengths that differ are `BadValue`. A
+    /// repeated key stays in its first place, with its last value. Takes memory; where that runs out, the reader is where it was.
     pub fn proplist(&mut self, alloc: Global) -> Result<PropList, ListFault>
         ensures { ReadsList (λ list. list) result self.old self.new (proplist_at self.old) }
     {

@@ -1,4 +1,4 @@
-//! What stands at a place, by the kind of item that is wanted there.
+//! The reading of an item of each kind at a place.
 
 ghost use Rattle.std.specs.Prelude.{◌≡◌, ◌<◌, ◌≤◌, [], length, take, IsTrue, IfOk, IfSome};
 ghost use Rattle.std.specs.Option.{option_map};
@@ -18,7 +18,7 @@ use std::alloc::Global;
 /// The most bytes of a property's value.
 const VALUE_MAX: u32 = 65_536;
 
-// Whether each byte may stand in a property's key.
+// Whether each byte is allowed in a property's key.
 fn are_key_bytes(bytes: &[u8]) -> bool
     ensures { result ≡ list_all is_key_byte bytes.now }
 {
@@ -150,7 +150,7 @@ impl<'a> Place<'a> {
         Ok((RawMap::new(positions), place))
     }
 
-    // So many numbers of four bytes, before the rest of the array.
+    // The first `count` numbers of the array, four bytes each; the rest are 0.
     fn fields(self, count: u8) -> Result<([u32; 32], Place<'a>), TagFault>
         requires { count ≤ 32 }
         ensures { Gives (λ read. (take count read.0, place_of read.1)) result (fields_at count (place_of self.entry)) }
@@ -218,7 +218,7 @@ impl<'a> Place<'a> {
         Ok((Some((key, value)), place))
     }
 
-    // The properties up to the list's end, which an empty list gets.
+    // The properties up to the list's end, added to `list`, which is empty before.
     fn properties(self, list: &mut PropList) -> Result<Place<'a>, ListFault>
         requires none { list.old ≡ [] }
         ensures { GivesList (λ behind. (list.new, place_of behind)) result (listed_at (place_of self.entry)) }

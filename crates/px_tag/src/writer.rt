@@ -15,8 +15,8 @@ use crate::tag;
 use std::alloc::Global;
 use std::marker::Model;
 
-/// A packet that is being written, as `pulsecore/tagstruct.c` does. A contract sees its bytes so far.
-/// A call that answers `NoMemory` has written nothing.
+/// A packet that is being written, as `pulsecore/tagstruct.c` does. A contract sees its bytes so far. A call that answers `NoMemory` has
+/// written nothing.
 #[derive(Debug, Drop)]
 pub struct TagWriter {
     bytes: Vec<u8>,
@@ -30,7 +30,7 @@ impl Model for TagWriter {
     ghost view = { λ writer. writer.bytes.items };
 }
 
-// The first bytes that a packet takes room for: as many as a message of two numbers has, so that most packets take memory once.
+// The first room of a packet, in bytes: that of a message with two numbers, so that most packets take memory once.
 const FIRST_ROOM: usize = 32;
 
 // Appends a head, a body and a tail, or nothing.
@@ -59,7 +59,7 @@ fn append_fields(bytes: &mut Vec<u8>, fields: &[u32]) -> Mem<()>
 }
 
 impl TagWriter {
-    /// A packet without a byte. Takes no memory.
+    /// An empty packet. Takes no memory.
     pub fn new(alloc: Global) -> Self
         ensures { result ≡ [] }
     {

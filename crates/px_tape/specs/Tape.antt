@@ -19,12 +19,12 @@ turn_in (Cut conn) = 0
 turn_in (Turn sink frames messages) = 1
 turn_in (Collect sink notices) = 0
 
--- how many turns there are
+-- the number of turns among these events
 abbrev pub turns_in : List Event → ℕ
 turns_in [] = 0
 turns_in (e ∷ events) = turn_in e + turns_in events
 
--- the bytes that an event brings
+-- the bytes received in an event
 abbrev pub bytes_in : Event → List ℕ
 bytes_in (Connect conn) = []
 bytes_in (Bytes conn bytes) = bytes
@@ -33,7 +33,7 @@ bytes_in (Cut conn) = []
 bytes_in (Turn sink frames messages) = []
 bytes_in (Collect sink notices) = []
 
--- and all of them, in their order
+-- the bytes received in all events, in their order
 abbrev pub all_bytes : List Event → List ℕ
 all_bytes events = flat_map bytes_in events
 
@@ -41,13 +41,13 @@ all_bytes events = flat_map bytes_in events
 abbrev pub begun : Header → List Event → List ℕ
 begun h events = header h ++ flat_map event events
 
--- the turns that a sink made, and for how many there is room
+-- the turns that a sink made, and the number that it has room for
 pub record Turns : Type 0 where
   pub sink : ℕ
   pub turns : List Made
   pub capacity : ℕ
 
--- how many turns some sinks made
+-- the number of turns of all these sinks
 abbrev pub total : List Turns → ℕ
 total [] = 0
 total (t ∷ sinks) = length t.turns + total sinks
@@ -56,12 +56,12 @@ abbrev pub count_of : {A : Type 0} → Option A → ℕ
 count_of None = 0
 count_of (Some a) = 1
 
--- what stands at a place of a tape: an event of a session that is no turn, or a turn of a sink
+-- a mark on a tape is an event of a session that is no turn, or stands for a turn of a sink
 abbrev pub IsMark : Mark → Type 0
 IsMark (mark.Made e) = IsEvent e × (turn_in e ≡ 0)
 IsMark (mark.TurnOf sink) = sink < 2 ^ 8
 
--- the places so far, and how many the tape holds without memory
+-- the marks so far, and the number that the tape holds without taking memory
 pub record Taped : Type 0 where
   pub marks : List Mark
   pub capacity : ℕ

@@ -1,4 +1,4 @@
-//! Lists of events that a session can have.
+//! Lists of events that are possible in a session.
 ghost use Rattle.std.specs.Prelude.{◌≡◌, ◌++◌, ◌∷◌, [], length, IfOk, OnOk, OnErr};
 ghost use Rattle.std.specs.List.{flat_map, AllByRecursion};
 ghost use Rattle.px_ends.specs.Visible.{after_adding};
@@ -18,7 +18,7 @@ use px_types::{ConnId, Mem, SinkId};
 use std::alloc::Global;
 use std::marker::Model;
 
-/// Events of a session, in their order. Contracts see the list; each can stand in a session.
+/// Events of a session, in their order. Contracts see the list; each event is possible in a session.
 #[derive(Debug, Drop)]
 pub struct Events {
     events: Vec<Event>,
@@ -64,7 +64,7 @@ fn write_begun<K: Sink>(header: &Header, events: &[Event], out: &mut K) -> Resul
     write_events(events, out)
 }
 
-// Writes the session of a header with events.
+// Writes the session of a header and events.
 fn write_session<K: Sink>(header: &Header, events: &[Event], out: &mut K) -> Result<(), WriteError>
     requires header { IsHeader header.now }
     requires events { AllByRecursion IsEvent events.now }
@@ -87,7 +87,7 @@ impl Events {
         }
     }
 
-    /// One event behind those that are there. Without memory they stay.
+    /// Appends one event. Without memory the list is unchanged.
     pub(crate) fn push(&mut self, event: Event) -> Mem<()>
         requires { IsEvent event }
         ensures ok { OnOk result (self.new ≡ self.old ++ event ∷ []) }
@@ -97,7 +97,7 @@ impl Events {
         Ok(())
     }
 
-    // This event alone.
+    // A list of this event alone.
     fn one(alloc: Global, event: Event) -> Mem<Events>
         requires { IsEvent event }
         ensures { IfOk result (λ events. events ≡ event ∷ []) }
@@ -141,7 +141,7 @@ impl Events {
         )
     }
 
-    /// How many they are.
+    /// The number of events.
     pub fn len(&self) -> usize
         ensures { result ≡ length self.now }
     {
@@ -156,7 +156,7 @@ impl Events {
         self.events
     }
 
-    /// Writes the session of a header with these events. After `Failed` the sink took a front of it. Takes no memory.
+    /// Writes the session of a header with these events. After `Failed` a front of it was written. Takes no memory.
     pub fn write<K: Sink>(&self, header: &Header, out: &mut K) -> Result<(), WriteError>
         requires { IsHeader header.now }
         ensures lawful { AllByRecursion IsEvent self.now }

@@ -1,4 +1,4 @@
-//! What comes of a client, as events.
+//! A client's frames and faults, as events.
 ghost use Rattle.std.specs.Prelude.{◌≡◌, ℕ, List, ◌++◌, ◌∷◌, [], IfOk, OnOk, OnErr};
 ghost use Rattle.std.specs.List.{concat};
 ghost use Rattle.px_block.specs.HeldBlock.{HeldBlock, contents};
@@ -14,7 +14,7 @@ use px_types::limits::MAX_EVENT_BYTES;
 use px_types::{ConnId, Mem, NoMemory, Text};
 use std::alloc::Global;
 
-// Bytes of a client, cut where an event has no room for more.
+// The bytes of a client as events, split at the most bytes that an event has room for.
 fn cut(alloc: Global, conn: ConnId, bytes: &[u8]) -> Mem<Events>
     ensures turns { IfOk result (λ events. turns_in events ≡ 0) }
     ensures bytes { IfOk result (λ events. all_bytes events ≡ bytes.now) }
@@ -29,7 +29,7 @@ fn cut(alloc: Global, conn: ConnId, bytes: &[u8]) -> Mem<Events>
     Ok(events)
 }
 
-// The bytes of one block more.
+// Appends the bytes of one block.
 fn copy_block(bytes: &mut Text, block: &Block) -> Mem<()>
     ensures { OnOk result ((more : List HeldBlock) → bytes.new ++ concat (contents more) ≡ bytes.old ++ concat (contents (block.now ∷ more))) }
 {
@@ -47,7 +47,7 @@ fn copied(alloc: Global, blocks: &[Block]) -> Mem<Text>
     Ok(bytes)
 }
 
-// The bytes of a frame that says this.
+// The bytes of a frame with this body.
 fn spelled(alloc: Global, body: &Body) -> Mem<Text>
     requires { IsBody body.now }
     ensures { IfOk result (λ bytes. IsRead bytes (record { at = 20; body = body.now } ∷ []) Unfinished) }
@@ -70,7 +70,7 @@ fn spelled(alloc: Global, body: &Body) -> Mem<Text>
     }
 }
 
-// The twenty bytes of a descriptor that breaks this rule, and none before it.
+// The twenty bytes of a descriptor that breaks this rule, and no earlier one.
 fn fault_bytes(fault: FrameFault) -> [u8; 20]
     ensures { (at : ℕ) × IsRead result [] (Broken fault at) }
 {
@@ -86,7 +86,7 @@ fn fault_bytes(fault: FrameFault) -> [u8; 20]
 }
 
 impl Events {
-    /// A client's frame: its bytes are read as a frame that says this, and nothing else.
+    /// A client's frame: bytes that are read as one frame with this body, and nothing else.
     pub fn frame(alloc: Global, conn: ConnId, body: &Body) -> Mem<Events>
         requires { IsBody body.now }
         ensures turns { IfOk result (λ events. turns_in events ≡ 0) }
@@ -96,7 +96,7 @@ impl Events {
         cut(alloc, conn, bytes.as_slice())
     }
 
-    /// A fault in a client's bytes: twenty bytes that are read as no frame, but end by this fault.
+    /// A fault in a client's bytes: twenty bytes that aren't read as a frame, but end with this fault.
     pub fn fault(alloc: Global, conn: ConnId, fault: FrameFault) -> Mem<Events>
         ensures turns { IfOk result (λ events. turns_in events ≡ 0) }
         ensures bytes { IfOk result (λ events. (at : ℕ) × IsRead (all_bytes events) [] (Broken fault at)) }

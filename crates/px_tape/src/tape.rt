@@ -13,7 +13,7 @@ use std::alloc::Global;
 use std::collections::VecDeque;
 use std::marker::Model;
 
-/// A place of a tape.
+/// A mark on a tape.
 #[derive(Debug, Drop)]
 pub(crate) enum Mark {
     /// An event of the core.
@@ -22,8 +22,8 @@ pub(crate) enum Mark {
     TurnOf(u8),
 }
 
-/// What a live server has made, in its order: events of the core, and places for the turns of its sinks, which each sink keeps for itself.
-/// (PulseAudio records none; own.)
+/// What a live server has made, in its order: events of the core, and marks for the turns of its sinks, which each sink records itself. (PulseAudio
+/// records none; own.)
 #[derive(Debug, Drop)]
 pub struct Tape {
     marks: Vec<Mark>,
@@ -41,7 +41,7 @@ impl Model for Tape {
     ghost invariant = { λ t. AllByRecursion IsMark t.marks.items };
 }
 
-// Adds what stands at a place.
+// Appends the event that a mark stands for.
 fn add_mark(events: &mut Events, mark: Mark, turns: &mut [SinkTurns]) -> Mem<()>
     requires { IsMark mark }
     ensures { OnOk result (turns_in events.new + total turns.new ≡ turns_in events.old + total turns.old) }
@@ -55,7 +55,7 @@ fn add_mark(events: &mut Events, mark: Mark, turns: &mut [SinkTurns]) -> Mem<()>
     }
 }
 
-// Adds events of the core, for which there is room.
+// Appends marks for events of the core, for which there is room.
 fn add_made(marks: &mut Vec<Mark>, events: Vec<Event>)
     requires { vec_len marks.old + length events.items ≤ vec_capacity marks.old }
     ensures { marks.new.items ≡ marks.old.items ++ map Made events.items }
@@ -67,7 +67,7 @@ fn add_made(marks: &mut Vec<Mark>, events: Vec<Event>)
 }
 
 impl Tape {
-    /// A tape of nothing. Takes no memory.
+    /// An empty tape. Takes no memory.
     pub fn new(alloc: Global) -> Tape
         ensures { result.marks ≡ [] }
     {
@@ -76,7 +76,7 @@ impl Tape {
         }
     }
 
-    /// Room for so many more events.
+    /// Takes the room for `more` events.
     pub fn ready(&mut self, more: usize) -> Mem<()>
         ensures room { OnOk result (length self.new.marks + more ≤ self.new.capacity) }
         ensures marks { self.new.marks ≡ self.old.marks }
@@ -85,7 +85,7 @@ impl Tape {
         Ok(())
     }
 
-    /// Adds the events of a step of the core, none of which is a turn. Takes no memory.
+    /// Appends the events of a step of the core, none of which is a turn. Takes no memory.
     pub fn add(&mut self, events: Events)
         requires room { length self.old.marks + length events ≤ self.old.capacity }
         requires others { turns_in events ≡ 0 }
@@ -94,7 +94,7 @@ impl Tape {
         add_made(&mut self.marks, events.into_vec());
     }
 
-    /// Adds a turn of a sink, whose device consumed so many frames and which took so many messages. Takes no memory.
+    /// Appends a turn of a sink, whose device consumed `frames` frames and which took `take` messages. Takes no memory.
     pub fn add_turn(&mut self, turns: &mut SinkTurns, frames: u32, take: u32)
         requires room { length self.old.marks < self.old.capacity }
         requires own_room { length turns.old.turns < turns.old.capacity }
@@ -106,7 +106,7 @@ impl Tape {
         turns.push(frames, take);
     }
 
-    /// The events, where the sinks made these turns: each turn of theirs is one, and no other event is a turn.
+    /// The events of the tape of sinks that made these turns: each turn is one event, and no other event is a turn.
     pub fn into_events(self, alloc: Global, turns: Vec<SinkTurns>) -> Mem<Events>
         ensures { IfOk result (λ events. turns_in events ≡ total turns.items) }
     {

@@ -10,14 +10,14 @@ use std::alloc::Global;
 use std::collections::VecDeque;
 use std::marker::Model;
 
-/// A turn of a sink: how many frames its device consumed, and how many messages it took.
+/// A turn of a sink: the frames that its device consumed, and the messages that it took.
 #[derive(Clone, Copy, Debug, PartialEq, Eq)]
 pub(crate) struct Turn {
     pub frames: u32,
     pub take: u32,
 }
 
-/// The turns that one sink made, in their order. Contracts see the sink's index, the turns, and for how many there is room.
+/// The turns that one sink made, in their order. Contracts see the sink's index, the turns, and the number that there is room for.
 #[derive(Debug, Drop)]
 pub struct SinkTurns {
     sink: u8,
@@ -41,7 +41,7 @@ fn turn_event(sink: u8, frames: u32, take: u32) -> Event
 }
 
 impl SinkTurns {
-    /// A sink that has made no turn. Takes no memory.
+    /// No turns of this sink yet. Takes no memory.
     pub fn new(alloc: Global, sink: SinkId) -> SinkTurns
         ensures none { result.turns ≡ [] }
         ensures sink { result.sink ≡ sink.0 }
@@ -52,7 +52,7 @@ impl SinkTurns {
         }
     }
 
-    /// Room for one more turn.
+    /// Takes the room for one more turn.
     pub fn ready(&mut self) -> Mem<()>
         ensures room { OnOk result (length self.new.turns < self.new.capacity) }
         ensures turns { self.new.turns ≡ self.old.turns }
@@ -62,7 +62,7 @@ impl SinkTurns {
         Ok(())
     }
 
-    /// One more turn. Takes no memory.
+    /// Appends a turn. Takes no memory.
     pub(crate) fn push(&mut self, frames: u32, take: u32)
         requires { length self.old.turns < self.old.capacity }
         ensures turns { self.new.turns ≡ self.old.turns ++ (record { frames = frames; take = take }) ∷ [] }
@@ -78,7 +78,7 @@ impl SinkTurns {
         self.sink
     }
 
-    // The first turn that is left, as an event. It is taken out.
+    // Removes the first turn that is left, as an event.
     fn next(&mut self) -> Option<Event>
         ensures event { IfSome result (λ event. IsEvent event × (turn_in event ≡ 1)) }
         ensures count { length self.old.turns ≡ count_of result + length self.new.turns }
@@ -89,7 +89,7 @@ impl SinkTurns {
     }
 }
 
-/// The next turn of a sink, as an event, where it has one more. It is taken out.
+/// Removes the next turn of a sink, as an event, where it has one more.
 pub(crate) fn next_turn(turns: &mut [SinkTurns], sink: u8) -> Option<Event>
     ensures event { IfSome result (λ event. IsEvent event × (turn_in event ≡ 1)) }
     ensures count { total turns.old ≡ count_of result + total turns.new }
@@ -106,7 +106,7 @@ pub(crate) fn next_turn(turns: &mut [SinkTurns], sink: u8) -> Option<Event>
     }
 }
 
-// Adds the turns of one sink that are left.
+// Appends the turns of one sink that are left.
 fn add_left(events: &mut Events, turns: SinkTurns) -> Mem<()>
     ensures { OnOk result (turns_in events.new ≡ turns_in events.old + length turns.turns) }
 {
@@ -117,7 +117,7 @@ fn add_left(events: &mut Events, turns: SinkTurns) -> Mem<()>
     Ok(())
 }
 
-/// Adds all turns that are left, sink by sink.
+/// Appends all turns that are left, sink by sink.
 pub(crate) fn add_all_left(events: &mut Events, turns: Vec<SinkTurns>) -> Mem<()>
     ensures { OnOk result (turns_in events.new ≡ turns_in events.old + total turns.items) }
 {

@@ -1,4 +1,4 @@
-// Numbers that name a connection, an input and a sink.
+// Numbers that identify a connection, an input and a sink.
 
 /// The number of a client's connection. A recorded session chooses it; a live server counts.
 #[derive(Clone, Copy, Debug, PartialEq, Eq, PartialOrd, Ord, Hash)]

@@ -31,7 +31,7 @@ pub const MAX_LENGTH: u32 = 4_194_304;
 /// The most bytes of a packet's payload: `FRAME_SIZE_MAX_ALLOW` of `pulsecore/pstream.c`.
 pub const MAX_PAYLOAD: u32 = 16_777_216;
 
-/// The most messages, or notices, that wait between the core and a sink. Own.
+/// The most messages, or notices, that wait in the mailbox between the core and a sink. Own.
 pub const MAILBOX_PLACES: usize = 256;
 
 /// The greatest write or read index of a stream, and count of frames that a sink has filled, 2^60. Own.
@@ -43,10 +43,10 @@ pub const MAX_SESSION: u64 = 1 << 40;
 /// The most bytes of one Bytes event of a recorded session. Own.
 pub const MAX_EVENT_BYTES: usize = 65_536;
 
-/// The most entries of a history that is kept in memory. Own.
+/// The most entries of a history that is held in memory. Own.
 pub const MAX_HISTORY_ENTRIES: usize = 65_536;
 
-/// The most bytes of a history that is kept in memory. Own.
+/// The most bytes of a history that is held in memory. Own.
 pub const MAX_HISTORY_BYTES: usize = 268_435_456;
 
 /// The index that names nothing: `PA_INVALID_INDEX` of `pulse/def.h`.

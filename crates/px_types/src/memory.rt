@@ -3,11 +3,11 @@ use std::alloc::{AllocError, AllocFailed};
 use std::error::Error;
 use std::fmt;
 
-/// Want of memory. What a call that answers it leaves is said by that call.
+/// Want of memory. The call that answers it says what state it leaves.
 #[derive(Clone, Copy, Debug, PartialEq, Eq)]
 pub struct NoMemory;
 
-/// What a call answers that can fail by want of memory alone.
+/// The answer of a call that can fail only for want of memory.
 pub type Mem<T> = Result<T, NoMemory>;
 
 impl fmt::Display for NoMemory {

@@ -23,7 +23,7 @@ pub enum Status {
     Host,
     /// No sink has the name that was asked for.
     NoSuchSink,
-    /// A history that is kept in memory has reached its limit.
+    /// A history that is held in memory has reached its limit.
     HistoryFull,
 }
 

@@ -1,7 +1,7 @@
 ghost use Rattle.std.specs.Prelude.{◌≡◌, ◌≤◌, length, take};
 ghost use Rattle.px_vol.specs.Held.{IsHeld, padded};
 
-/// These numbers in place, with zeros after them.
+/// These numbers, padded with zeros.
 pub fn in_place(numbers: &[u32]) -> [u32; 32]
     requires { length numbers.now ≤ 32 }
     ensures held { IsHeld (length numbers.now) result }

@@ -1,6 +1,5 @@
-//! The numbers of PulseAudio's software volumes: what they multiply and divide to, and the linear
-//! factors that they mean. `volume` has the arithmetic, `laws` what holds of it, `channels` the volumes
-//! and the factors of all channels, and `held` keeps up to 32 numbers in place.
+//! The numbers of PulseAudio's software volumes: their products and quotients, and their linear factors. `volume` has the arithmetic,
+//! `laws` its laws, `channels` the volumes and the factors of all channels, and `held` stores up to 32 numbers in an array.
 #![tactic(auto)]
 
 mod channels;

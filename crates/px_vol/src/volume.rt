@@ -10,8 +10,8 @@ pub const MUTED: u32 = 0;
 /// The greatest volume, `PA_VOLUME_MAX`.
 pub const MAX: u32 = 0x7FFF_FFFF;
 
-/// Two volumes, one after the other: their product to the nearest, at most `MAX`. Each is at most `MAX`.
-/// Takes no memory. Source: `pa_sw_volume_multiply` in PulseAudio's `pulse/volume.c`.
+/// The product of two volumes, rounded to the nearest, at most `MAX`. Each is at most `MAX`. Takes no memory. Source:
+/// `pa_sw_volume_multiply` in PulseAudio's `pulse/volume.c`.
 pub fn multiply(a: u32, b: u32) -> u32
     requires first { a ≤ greatest }
     requires second { b ≤ greatest }
@@ -21,9 +21,8 @@ pub fn multiply(a: u32, b: u32) -> u32
     (product / u64::from(NORM)).min(u64::from(MAX)) as u32
 }
 
-/// The volume that makes `a` when it comes after `b`: their quotient to the nearest, at most `MAX`, and
-/// 0 where `b` is 0. Each is at most `MAX`. Takes no memory. Source: `pa_sw_volume_divide` in
-/// PulseAudio's `pulse/volume.c`.
+/// The volume that `b` must be multiplied by to give `a`: their quotient, rounded to the nearest, at most `MAX`, and 0 where `b` is 0. Each
+/// is at most `MAX`. Takes no memory. Source: `pa_sw_volume_divide` in PulseAudio's `pulse/volume.c`.
 pub fn divide(a: u32, b: u32) -> u32
     requires first { a ≤ greatest }
     requires second { b ≤ greatest }
@@ -36,9 +35,8 @@ pub fn divide(a: u32, b: u32) -> u32
     (scaled / u64::from(b)).min(u64::from(MAX)) as u32
 }
 
-/// The linear factor of a volume, in 16.16, so that `NORM` is the factor 1: the cube to the nearest, at
-/// most 2^31 - 1. The volume is at most `MAX`. Takes no memory. Source: `pa_sw_volume_to_linear` in
-/// PulseAudio's `pulse/volume.c`, in whole numbers.
+/// The linear factor of a volume, in 16.16, so that `NORM` is the factor 1: the cube, rounded to the nearest, at most 2^31 - 1. The volume
+/// is at most `MAX`. Takes no memory. Source: `pa_sw_volume_to_linear` in PulseAudio's `pulse/volume.c`, in whole numbers.
 pub fn cube(v: u32) -> u32
     requires { v ≤ greatest }
     ensures { result ≡ cube_of v }

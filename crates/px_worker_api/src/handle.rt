@@ -14,7 +14,7 @@ use std::sync::{Mutex, Wait};
 /// Why the core makes no more steps.
 #[derive(Clone, Copy, Debug, PartialEq, Eq)]
 pub enum CoreStop {
-    /// It has made as many as are counted.
+    /// Its counter of steps is at its maximum.
     Worn,
     /// Its recorder isn't ready for one more.
     Unrecorded(RecordFault),

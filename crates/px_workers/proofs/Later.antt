@@ -3,7 +3,7 @@ use Rattle.std.proofs.Common.{arith, refl, ◌∙◌}
 use Rattle.px_ends.specs.Host.{HostState}
 use Rattle.px_workers.specs.declared.stop.Stop.{Stop}
 use Rattle.px_workers.specs.declared.stop.Stop.TheVariants.{Over, Memory, Host, Unrecorded}
-use Rattle.px_workers.specs.Hosted.{IsLater, IsCauseOf, IsOwn}
+use Rattle.px_workers.specs.Hosted.{IsLater, IsCalm, IsCauseOf, IsOwn}
 
 pub later_refl : {D R C : Type 0} (h : HostState D R C) → IsLater h h
 later_refl h = record {
@@ -33,12 +33,13 @@ later_later a b c first then = record {
   cores = then.cores ∙ first.cores;
 }
 
--- a cause is one also from an earlier moment on
-pub cause_later : {D R C : Type 0} (stop : Stop) (a b c : HostState D R C) → IsLater a b → IsCauseOf stop b c → IsCauseOf stop a c
-cause_later Over a b c later rose = record { later = let one = later.overs in let two = rose.later in omega arith; more = let one = later.overs in let two = rose.more in omega arith }
-cause_later Memory a b c later cause = tt
-cause_later Host a b c later rose = record { later = let one = later.faults in let two = rose.later in omega arith; more = let one = later.faults in let two = rose.more in omega arith }
-cause_later (Unrecorded fault) a b c later cause = tt
+-- a cause is one also from an earlier moment on, where no call failed until then
+pub cause_later : {D R C : Type 0} (stop : Stop) (a b c : HostState D R C) → IsLater a b → IsCalm a b → IsCauseOf stop b c → IsCauseOf stop a c
+cause_later Over a b c later calm cause =
+    (record { later = let one = later.overs in let two = cause.0.later in omega arith; more = let one = later.overs in let two = cause.0.more in omega arith }, cause.1 ∙ calm)
+cause_later Memory a b c later calm cause = tt
+cause_later Host a b c later calm rose = record { later = let one = later.faults in let two = rose.later in omega arith; more = let one = later.faults in let two = rose.more in omega arith }
+cause_later (Unrecorded fault) a b c later calm cause = tt
 
 -- a cause that isn't the host's is one between any two moments
 pub cause_own : {D R C : Type 0} (stop : Stop) (before after : HostState D R C) → IsOwn stop → IsCauseOf stop before after

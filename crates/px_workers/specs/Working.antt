@@ -1,4 +1,4 @@
--- What the work of a sink goes by and keeps.
+-- What the work of a sink preserves.
 use Rattle.std.specs.Prelude.{◌≡◌, ℕ, ◌≤◌, List, length, Bool, Option, None, Some, IfSome, IsTrue, ⊤}
 use Rattle.std.specs.Option.{is_some}
 use Rattle.px_types.specs.declared.ids.SinkId.{SinkId}
@@ -16,7 +16,7 @@ use Rattle.px_workers.specs.declared.sink_state.TurnOutcome.{TurnOutcome}
 use Rattle.px_workers.specs.declared.sink_state.TurnOutcome.TheVariants.{Made, NotYet, Ended}
 use Rattle.px_tape.specs.Tape.{Turns}
 
--- what a worker met has its cause in its sink's device or recorder, by their counts of faults and of Fulls; it met nothing only where nothing failed
+-- a worker's fault has its cause in its sink's device or recorder, by their counts of faults and of Fulls; it is `Nothing` only where nothing failed
 abbrev pub IsFaultOf : ℕ → ℕ → ℕ → SinkFault → Type 0
 IsFaultOf device_faults faults fulls Nothing = (device_faults ≡ 0) × (faults ≡ 0) × (fulls ≡ 0)
 IsFaultOf device_faults faults fulls Stopped = 1 ≤ device_faults
@@ -24,23 +24,23 @@ IsFaultOf device_faults faults fulls (Unrecorded record_fault.NoMemory) = ⊤
 IsFaultOf device_faults faults fulls (Unrecorded (record_fault.Full entries bytes)) = 1 ≤ fulls
 IsFaultOf device_faults faults fulls (Unrecorded record_fault.Failed) = 1 ≤ faults
 
--- a cell whose worker met this so far
+-- the cell of a worker whose first fault so far is `seen`
 pub record IsHonest {D E : Type 0} (now : D → DeviceState) (faults fulls : E → ℕ) (cell : Cell D E) (seen : SinkFault) : Type 0 where
   pub sink_fault : IsFaultOf (now cell.lane.device).faults (faults cell.recorder) (fulls cell.recorder) seen
   pub stopped : IsTrue cell.lane.sink.stopped → 1 ≤ (now cell.lane.device).faults
 
--- where there is a tape and the recorder tells, as many turns are kept for it as the recorder has entries
+-- where there is a tape and the recorder is visible, the tape has one turn of the sink for each entry of the recorder
 abbrev pub AreTaped : {E : Type 0} → (E → Option (List LaneEntry)) → E → Option Turns → Type 0
 AreTaped visible recorder None = ⊤
 AreTaped visible recorder (Some t) = IfSome (visible recorder) (λ entries. length t.turns ≡ length entries)
 
--- what the recorder holds after a turn: one entry more where it was made
+-- what the recorder holds after a turn: one more entry where the turn was made
 abbrev pub Notes : {E : Type 0} → (E → Option (List LaneEntry)) → TurnOutcome → E → E → Type 0
 Notes visible (Made frames) before after = (entry : LaneEntry) × (visible after ≡ noted entry (visible before))
 Notes visible NotYet before after = visible after ≡ visible before
 Notes visible Ended before after = visible after ≡ visible before
 
--- a sink that no worker has, with what its worker met, if it had one, and the turns that it made, where there is a tape
+-- a sink not owned by a running worker, with the first fault of its worker, if it had one, and the turns that it made, where there is a tape
 pub record Unworked (D E : Type 0) : Type 0 where
   pub sink : SinkId
   pub cell : Cell D E
@@ -52,7 +52,7 @@ pub record Start : Type 0 where
   pub index : SinkId
   pub sink : Sink
 
--- one with this index, of a sink that may have made turns
+-- the start of the sink with this index, which may have made turns
 abbrev pub start_at : SinkId → Sink → Start
 start_at index sink = record { index = index; sink = unturned sink }
 
@@ -63,11 +63,11 @@ start_of u = start_at u.sink u.cell.lane.sink
 abbrev pub mailboxes_of : {D E : Type 0} → Unworked D E → Boxes
 mailboxes_of u = u.cell.ends.boxes
 
--- whether its turns are kept for a tape
+-- whether its turns are recorded for a tape
 abbrev pub tapes_in : {D E : Type 0} → Unworked D E → Bool
 tapes_in u = is_some u.turns
 
--- what stays of a sink, whatever its worker does: how it began, its mailboxes, and whether its turns are kept for a tape
+-- what of a sink its worker never changes: how it began, its mailboxes, and whether its turns are recorded for a tape
 pub record Lasting : Type 0 where
   pub start : Start
   pub boxes : Boxes

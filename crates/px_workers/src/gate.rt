@@ -14,7 +14,7 @@ pub trait Gate {
     /// Before each turn of a sink.
     fn before_turn(&self, sink: SinkId);
 
-    /// After each packet of a client was answered.
+    /// After each packet of a client was handled.
     fn after_packet(&self, conn: ConnId);
 }
 

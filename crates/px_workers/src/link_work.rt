@@ -30,7 +30,8 @@ enum Flow {
 pub(crate) struct LinkWork<W: Handle, A, G> {
     pub worker: Worker<W, G>,
     pub conn: ConnId,
-    pub link: A,
+    // `None` once the work has ended: the link ends with its work, and not only once the work is joined.
+    pub link: Option<A>,
 }
 
 // Sends the rest of the packet in `sending`, as far as the link is ready.
@@ -83,12 +84,12 @@ where
     }
 
     // Sends what waits for the client and no other worker has sent, as far as its link is ready.
-    fn send(&mut self, sending: &mut Option<PartlySent>) -> Flow
+    fn send(&mut self, link: &mut A, sending: &mut Option<PartlySent>) -> Flow
         ensures parts { W.parts self.new.worker.handle ≡ W.parts self.old.worker.handle }
     {
         let rt = self.worker.handle.rt();
         for _ in rt.forever() {
-            match send_rest(&mut self.link, sending) {
+            match send_rest(link, sending) {
                 Sent::Bytes(0) => {
                     if let Some(flow) = self.next_to_send(sending) {
                         return flow;
@@ -134,6 +135,7 @@ where
     // looked into as well.
     fn round(
         &mut self,
+        link: &mut A,
         sending: &mut Option<PartlySent>,
         decoder: &mut Decoder,
         piece: &mut [u8],
@@ -142,25 +144,31 @@ where
         ensures piece { length piece.new ≡ length piece.old }
         ensures parts { W.parts self.new.worker.handle ≡ W.parts self.old.worker.handle }
     {
-        match self.link.recv(piece) {
+        match link.recv(piece) {
             Recv::Bytes(count) => match self.receive(decoder, &piece[..count]) {
-                Ok(()) if self.worker.handle.worker_sends() => self.send(sending),
+                Ok(()) if self.worker.handle.worker_sends() => self.send(link, sending),
                 Ok(()) => Flow::On,
                 Err(_) => Flow::Ended,
             },
-            Recv::NotYet => self.send(sending),
+            Recv::NotYet => self.send(link, sending),
             Recv::End | Recv::Failed => Flow::Ended,
         }
     }
 
     // Makes rounds until the client or the server ends.
-    fn rounds(&mut self, sending: &mut Option<PartlySent>, decoder: &mut Decoder, piece: &mut [u8])
+    fn rounds(
+        &mut self,
+        link: &mut A,
+        sending: &mut Option<PartlySent>,
+        decoder: &mut Decoder,
+        piece: &mut [u8],
+    )
         requires { 0 < length piece.old }
         ensures parts { W.parts self.new.worker.handle ≡ W.parts self.old.worker.handle }
     {
         let rt = self.worker.handle.rt();
         for _ in rt.forever() {
-            if self.round(sending, decoder, piece) == Flow::Ended {
+            if self.round(link, sending, decoder, piece) == Flow::Ended {
                 return;
             }
         }
@@ -168,13 +176,13 @@ where
     }
 
     // Serves the client until it or the server ends.
-    fn serve(&mut self)
+    fn serve(&mut self, link: &mut A)
         ensures parts { W.parts self.new.worker.handle ≡ W.parts self.old.worker.handle }
     {
         let mut decoder = Decoder::new(self.worker.handle.alloc());
         let mut sending = None;
         let mut piece = [0u8; PIECE];
-        self.rounds(&mut sending, &mut decoder, &mut piece);
+        self.rounds(link, &mut sending, &mut decoder, &mut piece);
     }
 }
 
@@ -190,7 +198,9 @@ where
     ghost keeps = { λ before after. W.parts after.worker.handle ≡ W.parts before.worker.handle };
 
     fn work(&mut self) {
-        self.serve();
+        if let Some(mut link) = self.link.take() {
+            self.serve(&mut link);
+        }
         depart(&mut self.worker.handle, self.conn);
     }
 

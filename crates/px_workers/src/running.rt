@@ -14,7 +14,7 @@ use std::sync::{Arc, Wait};
 use std::thread;
 use std::thread::{Promise, PromisedHandle, Threads};
 
-/// The promise of a job's thread: the job that it hands back keeps the one that it was given.
+/// The promise of a job's thread: the job that it hands back is related (`keeps`) to the one that it was given.
 #[derive(Drop)]
 pub struct PreservesJob<J>(Snapshot<J>);
 

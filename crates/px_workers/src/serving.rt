@@ -1,7 +1,7 @@
 //! What a serving call has under way: its workers, from their start to their end.
 ghost use Rattle.std.specs.Prelude.{◌≡◌, ◌+◌, ◌≤◌, ◌<◌, ◌++◌, [], length, map, IfErr, OnOk};
 ghost use Rattle.std.specs.VecDeque.{deque_len, deque_capacity};
-ghost use Rattle.px_workers.specs.Hosted.{IsLater, IsCauseOf, IsOwn};
+ghost use Rattle.px_workers.specs.Hosted.{IsLater, IsCalm, IsCauseOf, IsOwn};
 ghost use Rattle.px_workers.specs.Accepting.{HasRoom, Starts, Takes};
 ghost use Rattle.px_workers.specs.Working.{start_of, mailboxes_of, tapes_in, lasting_of};
 
@@ -111,7 +111,7 @@ where
         add_client(&mut self.handle, &self.gate, &mut self.clients, conn, link)
     }
 
-    // Takes in a client.
+    // Admits a client.
     fn admit(&mut self, link: H::L, outlet: Option<H::O>) -> Result<(), Stop>
         requires { 1 < W.parts self.old.handle }
         ensures parts { W.parts self.new.handle + length self.new.clients.items ≡ W.parts self.old.handle + length self.old.clients.items }
@@ -129,12 +129,13 @@ where
         Ok(())
     }
 
-    // Takes in the next client, where one comes.
+    // Admits the next client, where one comes.
     #[tactic(auto, using(crate::proofs::Later::cause_own))]
     fn accept_one(&mut self, host: &mut H) -> Result<(), Stop>
         requires room { HasRoom (record { parts = W.parts self.old.handle; clients = length self.old.clients.items; sinks = self.old.sinks; host = H.now host.old }) }
         ensures takes { Takes (record { parts = W.parts self.old.handle; clients = length self.old.clients.items; sinks = self.old.sinks; host = H.now host.old }) (record { parts = W.parts self.new.handle; clients = length self.new.clients.items; sinks = self.new.sinks; host = H.now host.new }) }
         ensures links { OnOk result (((H.now host.old).links < 65535) × ((H.now host.new).links ≡ (H.now host.old).links + 1)) }
+        ensures calm { OnOk result (IsCalm (H.now host.old) (H.now host.new)) }
         ensures cause { IfErr result (λ stop. IsCauseOf stop (H.now host.old) (H.now host.new)) }
     {
         self.reap();
@@ -142,7 +143,7 @@ where
         self.admit(link, outlet)
     }
 
-    // Takes in clients until no more come: a host hands out at most 65,535 links.
+    // Admits clients until no more come: a host hands out at most 65,535 links.
     fn accept_all(&mut self, host: &mut H) -> Stop
         requires room { HasRoom (record { parts = W.parts self.old.handle; clients = length self.old.clients.items; sinks = self.old.sinks; host = H.now host.old }) }
         ensures takes { Takes (record { parts = W.parts self.old.handle; clients = length self.old.clients.items; sinks = self.old.sinks; host = H.now host.old }) (record { parts = W.parts self.new.handle; clients = length self.new.clients.items; sinks = self.new.sinks; host = H.now host.new }) }
@@ -155,7 +156,7 @@ where
         }
     }
 
-    // Starts the worker of the next sink, of those that there are, where the host lets it. Where that can't be, the sink stays.
+    // Starts the worker of the next sink in `idle`, where the host lets it. On a failure the sink stays.
     fn start_one(
         &mut self,
         idle: &mut VecDeque<SinkState<H::D, H::R>>,
@@ -165,6 +166,7 @@ where
         requires some { 0 < length idle.old.items }
         ensures starts { Starts (record { parts = W.parts self.old.handle; clients = self.old.clients; sinks = self.old.sinks.items; idle = idle.old.items; capacity = deque_capacity idle.old; host = H.now host.old }) (record { parts = W.parts self.new.handle; clients = self.new.clients; sinks = self.new.sinks.items; idle = idle.new.items; capacity = deque_capacity idle.new; host = H.now host.new }) }
         ensures fewer { OnOk result (length idle.new.items < length idle.old.items) }
+        ensures calm { OnOk result (IsCalm (H.now host.old) (H.now host.new)) }
         ensures cause { IfErr result (λ stop. IsCauseOf stop (H.now host.old) (H.now host.new)) }
     {
         ask(host)?;
@@ -174,7 +176,7 @@ where
         }
     }
 
-    // Starts the workers of the sinks, in order, as far as that can be.
+    // Starts the workers of the sinks, in order, as far as that works.
     fn start_sinks(
         &mut self,
         idle: &mut VecDeque<SinkState<H::D, H::R>>,
@@ -182,6 +184,7 @@ where
     ) -> Result<(), Stop>
         requires { length idle.old.items < W.parts self.old.handle }
         ensures starts { Starts (record { parts = W.parts self.old.handle; clients = self.old.clients; sinks = self.old.sinks.items; idle = idle.old.items; capacity = deque_capacity idle.old; host = H.now host.old }) (record { parts = W.parts self.new.handle; clients = self.new.clients; sinks = self.new.sinks.items; idle = idle.new.items; capacity = deque_capacity idle.new; host = H.now host.new }) }
+        ensures calm { OnOk result (IsCalm (H.now host.old) (H.now host.new)) }
         ensures cause { IfErr result (λ stop. IsCauseOf stop (H.now host.old) (H.now host.new)) }
     {
         while !idle.is_empty() {
@@ -190,7 +193,7 @@ where
         Ok(())
     }
 
-    // Starts the workers of the sinks, and takes in clients until no more come.
+    // Starts the workers of the sinks, and admits clients until no more come.
     fn work(&mut self, host: &mut H, idle: &mut VecDeque<SinkState<H::D, H::R>>) -> Stop
         requires idle { (self.old.sinks.items ≡ []) × (self.old.clients.items ≡ []) }
         requires seats { W.parts self.old.handle ≡ 65552 }
@@ -208,7 +211,7 @@ where
         }
     }
 
-    // Joins the workers of the sinks, which go before those that no worker had.
+    // Joins the workers of the sinks, which go before those that never had one.
     fn join_sinks(&mut self, idle: &mut VecDeque<SinkState<H::D, H::R>>)
         requires room { length self.old.sinks.items + length idle.old.items ≤ deque_capacity idle.old }
         ensures parts { W.parts self.new.handle ≡ W.parts self.old.handle + length self.old.sinks.items }
@@ -230,7 +233,7 @@ where
         self.join_sinks(idle);
     }
 
-    // Joins all workers. What is left is the call's own hold of the core, with all shares.
+    // Joins all workers. What is left is the call's own handle on the core, with all shares.
     fn joined(mut self, idle: &mut VecDeque<SinkState<H::D, H::R>>) -> W
         requires parts { W.parts self.handle + length self.sinks.items + length self.clients.items ≡ 65552 }
         requires room { length self.sinks.items + length idle.old.items ≤ deque_capacity idle.old }
@@ -241,7 +244,7 @@ where
         self.handle
     }
 
-    // All that workers do, from their start to their end. What is left is the call's own hold of the core, with all shares, and why it stopped.
+    // Runs all workers, from their start to their end. What is left is the call's own handle on the core, with all shares, and why it stopped.
     fn worked(mut self, host: &mut H, idle: &mut VecDeque<SinkState<H::D, H::R>>) -> (W, Stop)
         requires idle { (self.sinks.items ≡ []) × (self.clients.items ≡ []) }
         requires seats { W.parts self.handle ≡ 65552 }
@@ -257,9 +260,9 @@ where
     }
 }
 
-/// All that workers do, from their start to their end: one for each of these sinks, in order, and one for each client that the host hands out,
-/// until no more come or something fails. The handle has 65,552 shares: one for each link that a host can hand out, one for each of 16 sinks,
-/// and its own. What is left is the handle with all of them, and why the call stopped; the sinks are where they were, with what their workers met.
+/// Runs all workers, from their start to their end: one for each of these sinks, in order, and one for each client that the host hands out, until no
+/// more come or something fails. The handle has 65,552 shares: one for each link that a host can hand out, one for each of 16 sinks, and its own.
+/// What is left is the handle with all of them, and why the call stopped; the sinks are back in `idle`, with their workers' faults.
 pub fn serve_all<W, H, G>(
     handle: W,
     host: &mut H,

@@ -31,7 +31,7 @@ pub enum SinkFault {
 pub(crate) enum TurnOutcome {
     /// It was made, and the sink's device consumed this number of frames in it, 0 where the sink has stopped.
     Made(u32),
-    /// It wasn't made for want of memory; the next one may be.
+    /// It wasn't made, as memory ran out; the next one may be.
     NotYet,
     /// It wasn't made, and no more can be.
     Ended,

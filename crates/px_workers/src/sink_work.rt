@@ -10,11 +10,11 @@ use px_annals::{LaneEntry, Recorder};
 use px_ends::Device;
 use px_worker_api::{CoreStop, Handle};
 
-// The places of a mailbox: a turn that took as many messages found its inbox full.
+// The places of a mailbox: a turn that took this many messages found its inbox full.
 const FULL: u32 = 256;
 
-// How many turns a sink makes once the clients have gone: by the program's gate a tenth of a second, in which the frames that couldn't
-// change any more are played.
+// The turns that a sink makes once the clients have gone: by the program's gate a tenth of a second, in which the frames that couldn't change any
+// more are played.
 const LAST_TURNS: u32 = 20;
 
 /// The work of one sink: its turns, and the notices of each turn, which go to the core.
@@ -84,7 +84,7 @@ where
         true
     }
 
-    // Runs all turns, until the clients have gone and what they left was played.
+    // Runs all turns, until the clients have gone and their last frames were played.
     fn run(&mut self)
         ensures parts { W.parts self.new.worker.handle ≡ W.parts self.old.worker.handle }
         ensures goes { GoesOn self.old.state self.new.state }

@@ -19,7 +19,7 @@ use std::collections::VecDeque;
 use std::sync::Arc;
 use std::thread::Threads;
 
-// Starts a worker with a sink. Where that can't be, its handle and the sink come back.
+// Starts a worker with a sink. On a failure its handle and the sink come back.
 fn start_with<W, D, E, G>(
     worker: Worker<W, G>,
     idle: SinkState<D, E>,
@@ -50,7 +50,7 @@ where
     }
 }
 
-// Starts a worker with a sink, with one share of this handle's. Where that can't be, the sink comes back, and the share.
+// Starts a worker with a sink, with one share of this handle's. On a failure the sink comes back, and the share.
 fn start_sink<W, D, E, G>(
     handle: &mut W,
     gate: &Arc<G>,
@@ -91,14 +91,14 @@ pub(crate) fn connect<W: Handle>(
     if handle.open_queue(conn, outlet).is_err() {
         return Err(Stop::Memory);
     }
-    // a core that has made as many steps as are counted serves no more clients, and nothing has failed
+    // a core whose counter of steps is at its maximum serves no more clients, and nothing has failed
     if let Err(CoreStop::Unrecorded(fault)) = handle.connect(conn) {
         return Err(Stop::Unrecorded(fault));
     }
     Ok(())
 }
 
-// Starts a worker with a client's link. Where that can't be, its handle comes back.
+// Starts a worker with a client's link. On a failure its handle comes back.
 fn start_link<W, A, G>(worker: Worker<W, G>, conn: ConnId, link: A) -> Result<Client<W, A, G>, W>
 where
     W: Handle + Send,
@@ -111,14 +111,21 @@ where
 {
     let rt = worker.handle.rt();
     let alloc = worker.handle.alloc();
-    match start(&rt, alloc, LinkWork { worker, conn, link }) {
+    match start(
+        &rt,
+        alloc,
+        LinkWork {
+            worker,
+            conn,
+            link: Some(link),
+        },
+    ) {
         Ok(running) => Ok(Client { conn, running }),
         Err(job) => Err(job.into_handle()),
     }
 }
 
-/// Starts a worker with a client's link, with one share of this handle's, where there is room for it. Where that can't be, the share comes
-/// back.
+/// Starts a worker with a client's link, with one share of this handle's, where there is room for it. On a failure the share comes back.
 pub(crate) fn add_client<W, A, G>(
     handle: &mut W,
     gate: &Arc<G>,
@@ -150,7 +157,7 @@ where
     }
 }
 
-// Starts a sink's worker. Where that can't be, the sink comes back.
+// Starts a sink's worker. On a failure the sink comes back.
 fn add_sink<W, D, E, G>(
     handle: &mut W,
     gate: &Arc<G>,
@@ -185,7 +192,7 @@ pub(crate) fn depart<W: Handle>(handle: &mut W, conn: ConnId)
     handle.close_queue(conn);
 }
 
-/// Starts the worker of the next sink, of those that there are. Where that can't be, the sink stays.
+/// Starts the worker of the next sink of `idle`. On a failure the sink stays.
 pub(crate) fn start_next<W, D, E, G>(
     handle: &mut W,
     gate: &Arc<G>,

@@ -5,9 +5,9 @@ use px_annals::RecordFault;
 /// Why the serving call itself stops.
 #[derive(Clone, Copy, Debug, PartialEq, Eq)]
 pub enum Stop {
-    /// No link comes any more.
+    /// No more links come.
     Over,
-    /// Want of memory.
+    /// Memory ran out.
     Memory,
     /// The host failed.
     Host,

@@ -1,4 +1,5 @@
--- Which events a world admits, and the first cause for which it doesn't: the number that is named or the sink that is there, then a sink that is worn, then the frames, then the messages or notices.
+-- Which events a world admits, and the first cause of a refusal: the connection's number or the sink's index, then a worn sink, then the frames, then
+-- the messages or notices.
 use Rattle.std.specs.Prelude.{ℕ, ◌-◌, ◌^◌, cond, nat_lt, length, Option, None, Some}
 use Rattle.std.specs.List.{slice_get}
 use Rattle.px_session.specs.declared.event.Event.{Event}
@@ -12,7 +13,7 @@ use Rattle.px_world.specs.World.{World, Link, Mixer, link_of}
 abbrev pub LAST_FILLED : ℕ
 LAST_FILLED = 2 ^ 60
 
--- more are asked for than there are
+-- `asked` is more than `there`
 abbrev pub too_many : ℕ → ℕ → Option WorldFault
 too_many asked there = cond (nat_lt there asked) (Some (TooMany asked there)) None
 

@@ -1,4 +1,5 @@
--- What a world that runs keeps: the core keeps what a core keeps, each sink's mixer has the inputs that the core knows to be there, and each parcel is a stream with all that a stream keeps.
+-- The invariants of a running world: the core is consistent, each sink's mixer has the inputs that the core lists for it, and each parcel is a
+-- consistent stream.
 use Rattle.std.specs.Prelude.{◌≡◌, ℕ, List, length, Some}
 use Rattle.std.specs.List.{slice_get, AllByRecursion}
 use Rattle.px_header.specs.declared.header.SinkSpec.{SinkSpec}
@@ -12,11 +13,11 @@ use Rattle.px_core.specs.Orderly.{inputs_there}
 use Rattle.px_core.specs.Parcels.{given_by, AllCarry}
 use Rattle.px_world.specs.World.{Mixer}
 
--- a notice gives up no parcel but such a stream
+-- each parcel that the notice hands over is such a stream
 abbrev pub GivesStream : Notice Stream → Type 0
 GivesStream n = AllByRecursion IsStream (given_by (notice_for n))
 
--- the mixer of the sink with an index
+-- `m` is the mixer of the sink at `index`
 pub record IsMixerOf (core : State Stream) (index : ℕ) (s : SinkSpec) (m : Mixer) : Type 0 where
   pub spec : m.sink.spec ≡ sample_spec s.spec
   pub consistent : IsSink m.sink

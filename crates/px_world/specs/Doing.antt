@@ -18,7 +18,7 @@ use Rattle.px_world.specs.Event.{all_steps, links_after, mixers_after, change_at
 use Rattle.px_world.specs.Outcome.{IsOutcome}
 use Rattle.px_world.specs.Running.{Running, Open, StandsFor}
 
--- a fact that holds unless there was no memory
+-- a fact that holds unless memory ran out
 abbrev pub Unless : WorldFault → Type 0 → Type 0
 Unless Live fact = fact
 Unless NotLive fact = fact
@@ -27,7 +27,7 @@ Unless Worn fact = fact
 Unless (TooMany asked there) fact = fact
 Unless NoMemory fact = Unit {0}
 
--- What an answer says: what was done, or why the event was refused; nothing where there was no memory.
+-- An answer, taken apart: one fact of a result, another of a refusal; none where memory ran out.
 abbrev pub Answered : {A : Type 0} → Result A WorldFault → (A → Type 0) → (WorldFault → Type 0) → Type 0
 Answered (Ok x) done refused = done x
 Answered (Err fault) done refused = Unless fault (refused fault)
@@ -36,7 +36,7 @@ Answered (Err fault) done refused = Unless fault (refused fault)
 abbrev pub IsRefused : World → Event → WorldFault → Type 0
 IsRefused w e fault = refusal_of w e ≡ Some fault
 
--- there was none, so what was under way is lost
+-- memory ran out, so what was under way is lost
 abbrev pub loses : WorldFault → Bool
 loses Live = false
 loses NotLive = false
@@ -51,7 +51,7 @@ running_of core doors mixers = record { core = core; doors = doors; mixers = map
 
 -- ---- an event of a connection
 
--- it was admitted: the core has done its steps, and the doors are open to the links after it
+-- the event was admitted: the core has done its steps, and the doors are open to the links after it
 pub record Does (before after : State Stream) (doors : List Door) (w : World) (e : Event) (effects : List Effect) : Type 0 where
   pub admitted : refusal_of w e ≡ None
   pub core : after ≡ stepped_by Stream.spec before (all_steps w e)
@@ -60,7 +60,7 @@ pub record Does (before after : State Stream) (doors : List Door) (w : World) (e
 
 -- ---- an event of a sink
 
--- it was admitted: the core has done its steps, and the sink's mixer its part
+-- the event was admitted: the core has done its steps, and the sink's mixer its part
 pub record Plays (before after : State Stream) (mixers : List Mixer) (w : World) (e : Event) (outcome : Outcome) : Type 0 where
   pub admitted : refusal_of w e ≡ None
   pub core : after ≡ stepped_by Stream.spec before (all_steps w e)
@@ -69,7 +69,7 @@ pub record Plays (before after : State Stream) (mixers : List Mixer) (w : World)
   pub counted : outcome.frames ≡ length (frames_played w e)
   pub bytes : outcome.played ≡ concat (frames_played w e)
 
--- its device is to fail at the next turn, unless the sink is stopped
+-- the sink's device will fail at the next turn, unless the sink is stopped
 abbrev pub set_to_fail : Mixer → Mixer
 set_to_fail m = cond m.sink.stopped m (record m { failing = true })
 
@@ -91,7 +91,7 @@ IsSilent (Err fault) (Err other) = other ≡ fault
 
 -- ---- any event
 
--- it was admitted, with its outcome, and the world after it runs
+-- the event was admitted, with its outcome, and the world after it runs
 pub record Runs (after : Running) (w : World) (e : Event) (outcome : Outcome) : Type 0 where
   pub done : IsOutcome outcome w e
   pub stands : StandsFor after (world_after w e)

@@ -1,4 +1,4 @@
--- What an event does to a world: it is a list of steps of the core with a sweep behind them, and a turn of a sink, or none.
+-- What an event does to a world: a list of steps of the core that ends with a sweep, and at most one turn of a sink.
 use Rattle.std.specs.Prelude.{ℕ, Bool, false, cond, ◌||◌, List, [], ◌∷◌, ◌++◌, map, filter, not, length, take, drop, replicate, set, Option, None, Some}
 use Rattle.std.specs.List.{slice_get}
 use Rattle.px_types.specs.declared.ids.ConnId.{ConnId}
@@ -20,11 +20,11 @@ use Rattle.px_world.specs.World.{World, Link, Mixer, is_of, link_of, received_of
 
 -- ---- the steps of the core
 
--- the frames that a link's bytes newly have, once more came
+-- the frames that `bytes` complete on a link that has received `received`
 abbrev pub new_frames : List ℕ → List ℕ → List Frame
 new_frames received bytes = drop (length (frames_in received)) (frames_in (received ++ bytes))
 
--- and the fault that they newly have, if they have one
+-- the step for the fault of a connection's bytes, if there is one
 abbrev pub fault_steps : ConnId → Ending → List (Step Stream)
 fault_steps conn Unfinished = []
 fault_steps conn (Broken fault at) = broken conn fault at ∷ []
@@ -37,7 +37,7 @@ abbrev pub bytes_steps : ConnId → List ℕ → List ℕ → List (Step Stream)
 bytes_steps conn received bytes =
     map (frame conn) (new_frames received bytes) ++ new_fault conn (ending_in received) (ending_in (received ++ bytes))
 
--- the notices that a sink's mixer has given, if it is there
+-- the pending notices of a sink's mixer, if it is there
 abbrev pub notices_of : Option Mixer → List (Notice Stream)
 notices_of None = []
 notices_of (Some m) = m.notices
@@ -74,7 +74,7 @@ links_after links (Collect sink take_notices) = links
 abbrev pub messages_taken : World → ℕ → ℕ → List (Message Stream)
 messages_taken w sink n = map (message_of (λ p. p)) (take n (waiting_for w.core (record { 0 = sink })))
 
--- a turn; where the device is to fail, or the sink has stopped before, the sink is stopped then
+-- whether a turn stops the sink: its device will fail, or it has stopped before
 abbrev pub is_to_stop : Mixer → Bool
 is_to_stop m = m.sink.stopped || m.failing
 
@@ -104,7 +104,7 @@ mixers_after w (Collect sink n) = change_at w.mixers sink (slice_get w.mixers si
 
 -- ---- the event
 
--- the world that it leaves
+-- the world after an event
 abbrev pub world_after : World → Event → World
 world_after w e = record {
   core = stepped_by Stream.spec w.core (all_steps w e);
@@ -115,7 +115,7 @@ world_after w e = record {
 abbrev pub effects_after : World → Event → List Effect
 effects_after w e = effects_by Stream.spec w.core (all_steps w e)
 
--- the frames that a turn's device consumes of the buffer: none where it fails
+-- the frames of the buffer that the device consumes in a turn: none where it fails
 abbrev pub played_of : Option Mixer → ℕ → List (List ℕ)
 played_of None frames = []
 played_of (Some m) frames = cond (is_to_stop m) [] (played_by m.sink frames)

@@ -1,4 +1,4 @@
--- How far a sink is.
+-- The frame counts of a sink.
 use Rattle.px_world.specs.declared.frames.Frames.{Frames}
 use Rattle.px_world.specs.World.{Mixer}
 

@@ -47,20 +47,20 @@ abbrev pub played_by_run : World → List Event → ℕ → List Frame
 played_by_run w [] k = []
 played_by_run w (e ∷ events) k = played_on w e k ++ played_by_run (world_after w e) events k
 
--- the sink with an index before its first turn
+-- the sink at an index before its first turn
 abbrev pub begun : SinkSpec → Sink
 begun s = empty_sink (sample_spec s.spec) s.guard s.depth
 
--- the sink with an index, if it is there
+-- the sink at an index, if it is there
 abbrev pub sink_at : World → ℕ → Option Sink
 sink_at w k = option_map (λ m. Mixer.sink m) (slice_get w.mixers k)
 
--- frame f of those that a sink plays in a run is what its deciding turn made of it: the mix of the streams as that turn left them
+-- Frame `f` that sink `k` plays in a run is what its deciding turn made of it: the mix of the streams after that turn
 pub record IsDecided (header : Header) (events : List Event) (k : ℕ) (s : SinkSpec) (f : ℕ) : Type 0 where
-  -- the sink as that turn left it: of all turns of the sink in the run the last whose horizon is at most f
+  -- the sink after that turn: of all turns of the sink in the run the last whose horizon is at most `f`
   pub by : Sink
   pub last : IsLastReaching samples (begun s) (history_by (new_world header) events k) f by
-  -- when it ended, the frame wasn't played yet
+  -- at its end `f` wasn't played yet
   pub early : by.consumed ≤ f
   pub frame : slice_get (played_by_run (new_world header) events k) f ≡ Some (frame_mixed samples f by)
 

@@ -1,4 +1,4 @@
--- What the code's world answers to an event.
+-- The outcome of an event in the code's world.
 use Rattle.std.specs.Prelude.{◌≡◌, None, length}
 use Rattle.std.specs.List.{concat}
 use Rattle.px_session.specs.declared.event.Event.{Event}

@@ -14,12 +14,12 @@ use Rattle.px_world.specs.Event.{world_after, effects_after, frames_played}
 
 -- ---- records
 
--- a frame was sent to a connection, or the server has ended one
+-- a frame that was sent to a connection, or a connection that the server ended
 abbrev pub effect_record : Effect → List ℕ
 effect_record (Sent conn packet) = sent_record conn.0 packet
 effect_record (Closed conn reason fault at) = closed_record conn.0 (reason_code reason) fault at
 
--- one for a turn that consumed a frame at least
+-- the record of a turn that consumed at least one frame
 abbrev pub if_played : ℕ → List (List ℕ) → List ℕ
 if_played sink frames = cond (nat_eq (length frames) 0) [] (played_record sink (length frames) (concat frames))
 
@@ -36,21 +36,21 @@ records_of w e = flat_map effect_record (effects_after w e) ++ turn_record w e
 
 -- ---- a run
 
--- the world after the events, one after the other
+-- the world after the events, in order
 abbrev pub world_by : World → List Event → World
 world_by w [] = w
 world_by w (e ∷ events) = world_by (world_after w e) events
 
--- and the records of all of them
+-- the records of all of them
 abbrev pub records_by : World → List Event → List ℕ
 records_by w [] = []
 records_by w (e ∷ events) = records_of w e ++ records_by (world_after w e) events
 
--- each event is admitted by the world that those before it left
+-- each event is admitted by the world after those before it
 abbrev pub AreAdmitted : World → List Event → Type 0
 AreAdmitted w [] = Unit {0}
 AreAdmitted w (e ∷ events) = (refusal_of w e ≡ None) × AreAdmitted (world_after w e) events
 
--- what a session of admitted events gives
+-- the output of a session of admitted events
 abbrev pub output_of : Header → List Event → List ℕ
 output_of header events = ended_output (records_by (new_world header) events)

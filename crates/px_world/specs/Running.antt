@@ -1,4 +1,4 @@
--- A world as it runs: of each link it keeps no bytes, only where its decoder stands.
+-- A world as it runs: of each link it holds no bytes, only the state of its decoder.
 use Rattle.std.specs.Prelude.{◌≡◌, Bool, nat_eq, List, [], ◌∷◌, ◌++◌, map, None, Result, Ok, Err}
 use Rattle.px_types.specs.declared.ids.ConnId.{ConnId}
 use Rattle.px_frame.specs.declared.fault.FrameError.{FrameError}
@@ -12,7 +12,7 @@ use Rattle.px_core.specs.Step.{Step, frame, broken}
 use Rattle.px_world.specs.declared.doors.Door.{Door}
 use Rattle.px_world.specs.World.{World, Link, Mixer, link_of}
 
--- it is the one of a connection's number
+-- whether the door is that of connection `conn`
 abbrev pub is_door : ConnId → Door → Bool
 is_door conn door = nat_eq door.conn.0 conn.0
 
@@ -32,21 +32,21 @@ Open [] (link ∷ links) = ⊥
 Open (door ∷ doors) [] = ⊥
 Open (door ∷ doors) (link ∷ links) = Opens door link × Open doors links
 
--- no two links have one number
+-- no two links have the same number
 abbrev pub AreDistinct : List Link → Type 0
 AreDistinct [] = Unit {0}
 AreDistinct (link ∷ links) = (link_of links link.conn ≡ None) × AreDistinct links
 
 -- ---- a feed
 
--- it had the memory that it took
+-- the feed didn't run out of memory
 abbrev pub IsAnswered : Result (List Frame) FrameError → Type 0
 IsAnswered (Ok frames) = Unit {0}
 IsAnswered (Err (Fault frames fault at)) = Unit {0}
 IsAnswered (Err (Failed fault at)) = Unit {0}
 IsAnswered (Err NoMemory) = ⊥
 
--- the steps of the core that its answer makes: the frames, and the fault where it is new
+-- the core's steps for what a feed returned: the frames, and the fault where it is new
 abbrev pub steps_given : ConnId → Result (List Frame) FrameError → List (Step Stream)
 steps_given conn (Ok frames) = map (frame conn) frames
 steps_given conn (Err (Fault frames fault at)) = map (frame conn) frames ++ broken conn fault at ∷ []
@@ -55,7 +55,7 @@ steps_given conn (Err NoMemory) = []
 
 -- ---- the world
 
--- it is this world
+-- its state is this world
 pub record StandsFor (running : Running) (w : World) : Type 0 where
   pub core : running.core ≡ w.core
   pub doors : Open running.doors w.links

@@ -8,7 +8,7 @@ use Rattle.px_session.specs.declared.event.Event.{Event}
 use Rattle.px_session.specs.declared.event.Event.TheVariants.{Connect, Bytes, Close, Turn}
 use Rattle.px_session.specs.Spelling.{word, end_byte}
 
--- one sink, "a": mono in 16 bits, of which four frames may wait
+-- one sink, "a": mono in 16 bits, with room for four frames in the device's buffer
 abbrev pub small_sink : SinkSpec
 small_sink = record { name = 97 ∷ []; spec = record { format = S16Le; channels = 1; rate = 44100 }; map = 0 ∷ []; guard = 1; depth = 4 }
 
@@ -18,8 +18,8 @@ small_header = record { cookie = replicate 256 0; sinks = small_sink ∷ [] }
 abbrev pub client : ConnId
 client = record { 0 = 7 }
 
--- the first turn fills the buffer, and the second plays two frames of it. Twenty bytes of 0 are a descriptor of no length, and what comes
--- behind them is outside. The sink plays on
+-- the first turn fills the buffer, and the second plays two frames of it. Twenty bytes of 0 are a descriptor of length 0; the bytes after them are
+-- outside the session. The sink plays on
 abbrev pub small_events : List Event
 small_events =
     Connect client ∷ Turn 0 0 0 ∷ Turn 0 2 0 ∷ Bytes client (replicate 20 0) ∷ Bytes client (1 ∷ []) ∷ Turn 0 1 0 ∷ Close client ∷ []

@@ -10,12 +10,12 @@ use Rattle.px_model.specs.Notice.{Notice}
 use Rattle.px_msg.specs.View.{sample_spec}
 use Rattle.px_state.specs.State.{State, new_state}
 
--- a connection's number that is named, and all bytes that came from its client
+-- a live connection's number, and all bytes received from its client
 pub record Link : Type 0 where
   pub conn : ConnId
   pub received : List ℕ
 
--- a sink with its mixer: the notices that the core hasn't taken yet, and whether its device is to fail at the next turn, which no sink that is stopped has
+-- a sink with its mixer: the notices that the core hasn't taken yet, and whether its device will fail at the next turn; never so of a stopped sink
 pub record Mixer : Type 0 where
   pub sink : Sink
   pub notices : List (Notice Stream)
@@ -43,7 +43,7 @@ is_of conn link = nat_eq link.conn.0 conn.0
 abbrev pub link_of : List Link → ConnId → Option Link
 link_of links conn = find (is_of conn) links
 
--- what was received of a link, if it is there
+-- all bytes received on a link, if it is there
 abbrev pub received_of : Option Link → List ℕ
 received_of None = []
 received_of (Some link) = link.received

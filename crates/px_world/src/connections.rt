@@ -1,4 +1,4 @@
-//! What the events of a connection do, to the core and at the doors.
+//! What the events of a connection do to the core and to the doors.
 
 ghost use Rattle.std.specs.Prelude.{◌≡◌, ℕ, List, IfOk, IfSome, OnOk, None, Some};
 ghost use Rattle.std.specs.List.{position};
@@ -19,7 +19,7 @@ use px_core::{Effect, Effects};
 use px_types::{ConnId, Mem, Text};
 use std::alloc::Global;
 
-// A client connects whose number isn't named.
+// A client connects whose number isn't live.
 fn admit(core: &mut WorldCore, doors: &mut Vec<Door>, alloc: Global, conn: ConnId) -> Mem<Effects>
     requires { position (is_door conn) doors.old.items ≡ None }
     ensures done { IfOk result (λ effects. (w : World) → Open doors.old.items w.links → Does core.old.state core.new.state doors.new.items w (Connect conn) effects) }
@@ -48,7 +48,7 @@ pub(crate) fn connect(
     }
 }
 
-// Bytes come from the client behind the door at a place.
+// Bytes arrive for the door at `place`.
 fn hear(
     core: &mut WorldCore,
     doors: &mut [Door],
@@ -68,7 +68,7 @@ fn hear(
     Ok(effects)
 }
 
-// Bytes come from a client, if it is named.
+// Bytes arrive from client `conn`, if it is live.
 fn receive(
     core: &mut WorldCore,
     doors: &mut [Door],
@@ -87,7 +87,7 @@ fn receive(
     }
 }
 
-/// Bytes come from a client. The text that has them then waits to be used again.
+/// Bytes arrive from a client. Their text is then held as a spare, to be used again.
 pub(crate) fn bytes(
     core: &mut WorldCore,
     doors: &mut [Door],
@@ -105,7 +105,7 @@ pub(crate) fn bytes(
     done
 }
 
-// The client behind the door at a place has closed its connection.
+// The client of the door at `place` has closed its connection.
 fn leave(
     core: &mut WorldCore,
     doors: &mut Vec<Door>,
@@ -152,7 +152,7 @@ fn of_option(alloc: Global, effect: Option<Effect>) -> Mem<Effects>
     }
 }
 
-// The server ends a connection that is named.
+// The server ends connection `conn`, if it is live.
 fn cut_off(core: &mut WorldCore, alloc: Global, conn: ConnId) -> Mem<Effects>
     ensures done { IfOk result (λ effects. (doors : List Door) (place : ℕ) (w : World) → position (is_door conn) doors ≡ Some place → Open doors w.links → Does core.old.state core.new.state doors w (Cut conn) effects) }
     ensures consistent { OnOk result ((mixers : List Mixer) → AreConsistent core.old.state mixers → AreConsistent core.new.state mixers) }
@@ -163,7 +163,7 @@ fn cut_off(core: &mut WorldCore, alloc: Global, conn: ConnId) -> Mem<Effects>
     Ok(effects)
 }
 
-/// The server ends a connection for want of memory.
+/// The server ends a connection, as memory ran out.
 pub(crate) fn cut(
     core: &mut WorldCore,
     doors: &[Door],

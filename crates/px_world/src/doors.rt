@@ -21,16 +21,16 @@ pub(crate) struct Door {
     pub decoder: Decoder,
 }
 
-/// The place of the door with a number. Takes no memory.
+/// The place of the door of connection `conn`. Takes no memory.
 pub(crate) fn place_of(doors: &[Door], conn: ConnId) -> Option<usize>
     ensures { result ≡ position (is_door conn) doors.now }
 {
     doors.iter().position(|door| door.conn.0 == conn.0)
 }
 
-/// The next bytes of the client behind the door at a place, in whatever pieces they come: the frames that are whole now, or
-/// why there are no more (`Decoder::feed`). For whatever links the doors are open to, what it answers makes the steps of the
-/// core, and the doors are open to the links with these bytes, unless there was no memory.
+/// Decodes the next bytes of the client of the door at `place`, in whatever pieces they come: the frames that are complete, or the fault that ends
+/// them (`Decoder::feed`). For whatever links the doors are open to, the result makes the core's steps, and the doors are open to the links with
+/// these bytes, unless memory ran out.
 pub(crate) fn feed<B: BlockSource>(
     doors: &mut [Door],
     place: usize,
@@ -52,7 +52,7 @@ pub(crate) fn feed<B: BlockSource>(
     doors[place].decoder.feed(bytes, blocks)
 }
 
-/// A door for a client that connects, behind all others. Where there is no memory nothing changes.
+/// Appends a door for a client that connects. Where memory runs out nothing changes.
 pub(crate) fn add(doors: &mut Vec<Door>, alloc: Global, conn: ConnId) -> Mem<()>
     ensures after { OnOk result (doors.new.items ≡ doors.old.items ++ record { conn = conn; decoder = Within 0 [] } ∷ []) }
     ensures opened { IfOk result (λ _. (links : List Link) → Open doors.old.items links
@@ -64,7 +64,7 @@ pub(crate) fn add(doors: &mut Vec<Door>, alloc: Global, conn: ConnId) -> Mem<()>
     Ok(())
 }
 
-/// The door at a place goes. Takes no memory.
+/// Removes the door at `place`. Takes no memory.
 pub(crate) fn drop_at(doors: &mut Vec<Door>, place: usize)
     requires { place < length doors.old.items }
     ensures after { doors.new.items ≡ remove doors.old.items place }

@@ -1,27 +1,27 @@
-//! Why an event isn't done.
+//! Why an event is refused.
 
 use px_types::NoMemory;
 use thiserror::Error;
 
-/// Why an event isn't done: it names a state that the world hasn't. Own: PulseAudio records no sessions.
+/// Why an event is refused: it names a state that the world hasn't. Own: PulseAudio records no sessions.
 #[derive(Clone, Copy, Debug, PartialEq, Eq, Error)]
 pub enum WorldFault {
-    /// A Connect of a number that is named.
+    /// A Connect of a number that is live.
     #[error("live")]
     Live,
-    /// An event of a number that isn't named.
+    /// An event of a number that isn't live.
     #[error("not live")]
     NotLive,
     /// No sink has the index.
     #[error("no sink")]
     NoSink,
-    /// The sink has filled so many frames that it takes no more turns.
+    /// The sink has filled more than 2^60 frames, so that it takes no more turns.
     #[error("worn")]
     Worn,
     /// More frames, messages or notices are asked for than there are.
     #[error("too many, {asked} of {there}")]
     TooMany { asked: u32, there: u32 },
-    /// There was no memory.
+    /// Memory ran out.
     #[error("out of memory")]
     NoMemory,
 }

@@ -1,10 +1,10 @@
-//! How far a sink is.
+//! The frame counts of a sink.
 
-/// How far a sink is, in frames from its first.
+/// The frame counts of a sink, from its first frame.
 #[derive(Clone, Copy, Debug, PartialEq, Eq)]
 pub struct Frames {
-    /// How many its device has consumed.
+    /// Frames that its device has consumed.
     pub consumed: u64,
-    /// How many it was given: those behind the consumed ones wait in the device's buffer.
+    /// Frames written to its device: those after the consumed ones wait in the device's buffer.
     pub filled: u64,
 }

@@ -14,17 +14,15 @@ ghost use Rattle.px_world.specs.Output.{world_by, records_of, records_by, AreAdm
 ghost use Rattle.px_world.specs.History.{history_by, played_by_run, begun, sink_at, AreDecided};
 ghost use Rattle.px_world.specs.Worked.{small_header, small_events, small_output};
 
-/// In a run of admitted events every frame that a sink plays is what its deciding turn made of it: the mix of the
-/// sink's streams as that turn left them. That turn is the last one of the sink whose horizon is at most the frame,
-/// and ends before the frame is played. Source: own.
+/// In a run of admitted events every frame that a sink plays is what its deciding turn made of it: the mix of the sink's streams after that turn.
+/// That turn is the last one of the sink whose horizon is at most the frame, and ends before the frame is played. Source: own.
 pub fn played_frames_are_decided_by_a_turn()
     ensures { (header : Header) (events : List Event) → AreAdmitted (new_world header) events
         → AreDecided header events }
 {}
 
-/// What a run leaves of a sink is the replay of the sink's history, and the frames that it plays are those of that
-/// replay. Where the events are admitted the history is one that can be, and as many frames are played as are
-/// consumed. Source: own.
+/// The state of a sink after a run is the replay of the sink's history, and the frames that it plays are those of that replay. Where the events are
+/// admitted the history is a possible one, and the number of frames played is the number consumed. Source: own.
 pub fn sinks_replay_their_histories()
     ensures sinks { (header : Header) (events : List Event) (k : ℕ) (s : SinkSpec)
         → slice_get header.sinks k ≡ Some s
@@ -43,7 +41,7 @@ pub fn sinks_replay_their_histories()
         ≡ (replay samples (begun s) (history_by (new_world header) events k)).consumed }
 {}
 
-/// A run goes on event by event: the world, what is written and what is admitted. Source: own.
+/// A run proceeds event by event: the world, the output and the admission. Source: own.
 pub fn runs_go_on()
     ensures world { (w : World) (events : List Event) (e : Event)
         → world_by w (events ++ e ∷ []) ≡ world_after (world_by w events) e }
@@ -53,7 +51,7 @@ pub fn runs_go_on()
         → refusal_of (world_by w events) e ≡ None → AreAdmitted w (events ++ e ∷ []) }
 {}
 
-/// The definitions give what a small session writes as it was worked by hand. Source: own.
+/// The definitions give the output of a small session that was worked by hand. Source: own.
 pub fn worked_session()
     ensures admitted { AreAdmitted (new_world small_header) small_events }
     ensures output { output_of small_header small_events ≡ small_output }

@@ -8,7 +8,7 @@ use px_ends::Played;
 pub struct Outcome {
     /// What the core's steps did to the outside, in order.
     pub effects: Effects,
-    /// The bytes that a sink's device has consumed, and how many frames they are: none but of a turn.
+    /// The bytes that a sink's device has consumed, and their number of frames: 0 but for a turn.
     pub played: Played,
     pub frames: u32,
 }

@@ -8,8 +8,8 @@ use px_sample::Spec;
 use px_stream::Stream;
 use std::marker::Model;
 
-/// A stream between two sinks (PulseAudio: a sink input between `pa_sink_input_start_move` and `pa_sink_input_finish_move`). Contracts see the
-/// stream alone, without the room that it has.
+/// A stream between two sinks (PulseAudio: a sink input between `pa_sink_input_start_move` and `pa_sink_input_finish_move`). Contracts see the stream
+/// alone, without its spare room.
 #[derive(Debug, Drop)]
 pub(crate) struct Carried {
     stream: Stream,
@@ -33,14 +33,14 @@ impl Parcel for Carried {
     }
 }
 
-/// A message of the core as the sink's mixer takes it: a stream that comes is a stream again. Takes no memory.
+/// Converts a message of the core for the sink's mixer: a carried stream becomes a stream. Takes no memory.
 pub(crate) fn taken_over(message: Msg<Carried>) -> Msg<Stream>
     ensures { plain_message result ≡ message_of (λ s. s) message }
 {
     message.with_parcel(|carried| carried.stream)
 }
 
-/// A notice of a sink's mixer as the core takes it: a stream that leaves is carried. Takes no memory.
+/// Converts a notice of a sink's mixer for the core: a stream that leaves is carried. Takes no memory.
 pub(crate) fn handed_over(notice: Notice<Stream>) -> Notice<Carried>
     ensures { result ≡ notice_for (plain_notice notice) }
 {

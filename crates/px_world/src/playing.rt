@@ -34,7 +34,7 @@ pub(crate) struct Playing {
     pub notices: NoticeList,
 }
 
-/// What a device has consumed: so many frames, and their bytes.
+/// What a device has consumed in a turn: `frames` frames, and their bytes.
 #[derive(Drop)]
 pub(crate) struct Sound {
     pub frames: u32,
@@ -54,7 +54,7 @@ fn shape_of(sink: &SinkSpec) -> DeviceShape
     }
 }
 
-// A turn with a count of the samples that it touches, which ends with it.
+// A turn with a counter of the samples that it touches, dropped after it.
 fn counted<T: Ledger>(
     blank: Blank,
     alloc: Global,
@@ -96,7 +96,7 @@ impl Playing {
         })
     }
 
-    /// A turn whose device consumes so many frames, where it doesn't fail, and which takes these messages.
+    /// Runs one turn, whose device consumes `frames` frames unless it fails, and which takes `messages`.
     pub fn turn(
         &mut self,
         alloc: Global,
@@ -135,7 +135,7 @@ impl Playing {
         }
     }
 
-    /// The device fails at the next turn.
+    /// Makes the device fail at the next turn.
     pub fn stop(&mut self)
         ensures sink { self.new.lane.sink ≡ self.old.lane.sink }
         ensures mixer { mixer_of self.new ≡ set_to_fail (mixer_of self.old) }

@@ -1,4 +1,4 @@
-//! An event of a session, on the parts of the world.
+//! Dispatches an event of a session over the parts of the world.
 
 ghost use Rattle.std.specs.Prelude.{◌≡◌, map};
 ghost use Rattle.std.specs.List.{AllByRecursion};
@@ -33,7 +33,7 @@ fn silent(alloc: Global, done: Result<Effects, WorldFault>) -> Result<Outcome, W
     }
 }
 
-/// One event.
+/// Does one event.
 pub(crate) fn run(
     core: &mut WorldCore,
     doors: &mut Vec<Door>,

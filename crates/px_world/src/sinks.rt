@@ -1,4 +1,4 @@
-//! What the events of a sink do, to the core and to the sink's mixer.
+//! What the events of a sink do to the core and to the sink's mixer.
 
 ghost use Rattle.std.specs.Prelude.{◌≡◌, ◌<◌, ◌≤◌, ◌-◌, ◌^◌, [], ◌∷◌, ◌++◌, map, take, drop, length, replicate, IfOk, OnOk, Some};
 ghost use Rattle.std.specs.List.{concat, AllByRecursion};
@@ -27,7 +27,7 @@ use px_types::limits::MAX_INDEX;
 use px_types::{Mem, SinkId};
 use std::alloc::Global;
 
-// A number below one of 32 bits.
+// `n` in 32 bits; it is below `bound`.
 fn in_32_bits(n: u64, bound: u32) -> u32
     requires { n < bound }
     ensures { result ≡ n }
@@ -42,7 +42,7 @@ pub(crate) fn silence(alloc: Global) -> Played
     Played::from_vec(Vec::new(alloc))
 }
 
-// The core takes so many of a mixer's notices.
+// The core takes the first `count` of a mixer's notices.
 fn collect_from(
     core: &mut WorldCore,
     notices: &mut NoticeList,
@@ -61,7 +61,7 @@ fn collect_from(
     Ok(effects)
 }
 
-/// The core takes notices of a sink.
+/// The core takes the first `count` notices of a sink.
 pub(crate) fn collect(
     core: &mut WorldCore,
     mixers: &mut [Playing],
@@ -97,7 +97,7 @@ pub(crate) fn collect(
     })
 }
 
-// Why a mixer takes no such turn, if so many messages wait.
+// Why a mixer refuses a turn with `count` of the `waiting` messages, if it does.
 #[tactic(auto, using(crate::proofs::Sounding::turn_worn, crate::proofs::Sounding::turn_dry, crate::proofs::Sounding::turn_short, crate::proofs::Sounding::turn_goes))]
 fn turn_fault(playing: &Playing, frames: u32, count: u32, waiting: usize) -> Option<WorldFault>
     ensures { result ≡ turn_refusal (Some (mixer_of playing.now)) frames count waiting }
@@ -124,7 +124,7 @@ fn turn_fault(playing: &Playing, frames: u32, count: u32, waiting: usize) -> Opt
     None
 }
 
-// A turn of a mixer, with so many of the messages that wait for its sink.
+// A turn of a mixer, with the first `count` messages that wait for its sink.
 fn turn_of(
     core: &mut WorldCore,
     playing: &mut Playing,

@@ -1,4 +1,4 @@
-//! Blocks that were used, and a text, which wait to be used again.
+//! Used blocks, and a text, held to be used again.
 
 ghost use Rattle.std.specs.Prelude.{◌≡◌, Some, None};
 
@@ -7,9 +7,9 @@ use px_types::limits::MAX_INPUTS_ON_SINK;
 use px_types::{Mem, Text};
 use std::alloc::Global;
 
-/// Used blocks that wait to be used again (PulseAudio: the free list of a `pa_mempool`), at most 256 of them, one for each stream that a sink can have. A block that is taken is one of
-/// these, emptied, or a new one where none waits; one that comes back is kept, or dropped where so many wait. It doesn't tell how many came
-/// back. Beside them waits the text of the last bytes of a client, for who reads the session.
+/// Used blocks that wait to be used again (PulseAudio: the free list of a `pa_mempool`), at most 256 of them, one for each stream that a sink can
+/// have. A block that is taken is one of these, emptied, or a new one where none waits; one that comes back is held, or dropped where 256 wait. How
+/// many came back isn't visible. Beside them waits the text of a client's last bytes, for the session's reader.
 #[derive(Drop)]
 pub(crate) struct Spares {
     alloc: Global,
@@ -18,7 +18,7 @@ pub(crate) struct Spares {
 }
 
 impl Spares {
-    /// No blocks. Takes the memory for their places, and not for the blocks.
+    /// Holds no blocks. Takes the memory for their places, and not for the blocks.
     pub(crate) fn new(alloc: Global) -> Mem<Spares> {
         Ok(Spares {
             alloc,
@@ -27,14 +27,14 @@ impl Spares {
         })
     }
 
-    /// Keeps a text whose bytes are done with, in place of one that it kept before. Takes no memory.
+    /// Holds a text whose bytes are done with, in place of the one before. Takes no memory.
     pub(crate) fn reclaim_text(&mut self, text: Text)
         ensures { self.new.text ≡ Some text }
     {
         self.text = Some(text);
     }
 
-    /// The text that it keeps, if there is one. Takes no memory.
+    /// Takes the held text, if there is one. Takes no memory.
     pub(crate) fn take_text(&mut self) -> Option<Text>
         ensures { result ≡ self.old.text }
     {

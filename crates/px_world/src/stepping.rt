@@ -20,10 +20,10 @@ use px_types::{ConnId, Mem, NoMemory, SinkId};
 use std::alloc::Global;
 use std::collections::VecDeque;
 
-/// The core of the world: what goes between sinks are streams.
+/// The core of the world: what moves between sinks are streams.
 pub(crate) type WorldCore = Core<Carried>;
 
-// A frame of a connection, with its effects behind these.
+// Handles a frame of a connection, and appends its effects to `effects`.
 fn take_frame(core: &mut WorldCore, conn: ConnId, frame: Frame, effects: &mut Effects) -> Mem<()>
     requires { IsBody frame.body }
     ensures core { OnOk result (core.new.state ≡ stepped Plain.spec core.old.state (Step.frame conn frame)) }
@@ -35,7 +35,7 @@ fn take_frame(core: &mut WorldCore, conn: ConnId, frame: Frame, effects: &mut Ef
     }
 }
 
-/// The frames of a connection, in order, with their effects behind these.
+/// Handles the frames of a connection, in order, and appends their effects.
 pub(crate) fn take_frames(
     core: &mut WorldCore,
     conn: ConnId,
@@ -53,7 +53,7 @@ pub(crate) fn take_frames(
     Ok(())
 }
 
-// The frames of a connection, in order, and the fault behind them, with their effects behind these.
+// Handles the frames of a connection, in order, then the fault after them, and appends their effects.
 fn take_broken(
     core: &mut WorldCore,
     conn: ConnId,
@@ -72,7 +72,7 @@ fn take_broken(
     Ok(())
 }
 
-/// What a connection's decoder has given: the frames, and the fault where it is new.
+/// Handles what a connection's decoder returned: the frames, and the fault where it is new.
 pub(crate) fn take_given(
     core: &mut WorldCore,
     alloc: Global,
@@ -99,7 +99,7 @@ pub(crate) fn take_given(
     }
 }
 
-/// The first so many messages that wait for a sink, handed out behind these.
+/// Moves the first `count` messages that wait for a sink to the end of `messages`.
 pub(crate) fn take_messages(
     core: &mut WorldCore,
     sink: SinkId,
@@ -122,7 +122,7 @@ pub(crate) fn take_messages(
     Ok(())
 }
 
-// A notice of a sink, with its effects behind these.
+// Handles a notice of a sink, and appends its effects.
 fn take_notice(
     core: &mut WorldCore,
     sink: SinkId,
@@ -138,7 +138,7 @@ fn take_notice(
     }
 }
 
-/// The first so many notices of a sink, in order, with their effects behind these.
+/// Handles the first `count` notices of a sink, in order, and appends their effects.
 pub(crate) fn take_notices(
     core: &mut WorldCore,
     sink: SinkId,
@@ -162,7 +162,7 @@ pub(crate) fn take_notices(
     Ok(())
 }
 
-/// The connections that have ended are swept away, with the effects behind these.
+/// Sweeps the connections that have ended, and appends the effects.
 pub(crate) fn swept(core: &mut WorldCore, effects: Effects) -> Mem<Effects>
     ensures core { OnOk result (core.new.state ≡ stepped_by Plain.spec core.old.state (Step.sweep ∷ [])) }
     ensures effects { IfOk result (λ all. all ≡ effects ++ effects_by Plain.spec core.old.state (Step.sweep ∷ [])) }

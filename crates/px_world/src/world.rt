@@ -38,9 +38,9 @@ pub struct World {
     core: WorldCore,
     doors: Vec<Door>,
     mixers: Vec<Playing>,
-    // those that streams are done with, for what clients send
+    // blocks that streams are done with, for the next bytes of clients
     spares: Spares,
-    // There was no memory for an event: what was under way is lost.
+    // Memory ran out in an event: what was under way is lost.
     lost: bool,
 }
 
@@ -73,7 +73,7 @@ fn new_mixers(alloc: Global, sinks: &[SinkSpec]) -> Mem<Vec<Playing>>
     Ok(made)
 }
 
-// Whether a fault is want of memory.
+// Whether a fault is that memory ran out.
 fn is_want(fault: WorldFault) -> bool
     ensures { result ≡ loses fault }
 {
@@ -103,8 +103,8 @@ impl World {
         })
     }
 
-    /// One event. A fault other than `NoMemory` leaves the world unchanged; after `NoMemory` it isn't used again: each later event
-    /// answers it too.
+    /// Does one event. A fault other than `NoMemory` leaves the world unchanged; after `NoMemory` it isn't used again: each later event returns it
+    /// too.
     pub fn event(&mut self, alloc: Global, e: Event) -> Result<Outcome, WorldFault>
         ensures done { (w : SpecWorld) → StandsFor self.old w → IfOk result (λ outcome. IsOutcome outcome w e) }
         ensures after { (w : SpecWorld) → StandsFor self.old w → OnOk result (StandsFor self.new (world_after w e)) }
@@ -130,22 +130,22 @@ impl World {
         }
     }
 
-    /// The text of the last event that had bytes, whose bytes are done with: it can have those of another. `None` where there was no
-    /// such event since it was taken. Takes no memory.
+    /// Takes the text of the last event that had bytes, which are done with, to be filled again. `None` where there was no such event since the last
+    /// call. Takes no memory.
     pub fn used_text(&mut self) -> Option<Text>
         ensures { self.new ≡ self.old }
     {
         self.spares.take_text()
     }
 
-    /// How far the sink with an index is, if it is there. Takes no memory.
+    /// The frame counts of the sink at an index, if it is there. Takes no memory.
     pub fn frames(&self, sink: usize) -> Option<Frames>
         ensures { result ≡ option_map frames_of (slice_get self.now.mixers sink) }
     {
         frames_at(&self.mixers, sink)
     }
 
-    // Marks the mixer of a sink whose device is to fail.
+    // Marks the mixer of a sink whose device will fail.
     fn mark(&mut self, sink: SinkId)
         requires { sink.0 < length self.old.mixers }
         ensures { self.new ≡ record self.old { mixers = change_at self.old.mixers sink.0 (slice_get self.old.mixers sink.0) set_to_fail } }
@@ -153,8 +153,7 @@ impl World {
         stop_at(&mut self.mixers, sink.0 as usize);
     }
 
-    /// Makes the sink's device fail at its next turn, which then stops the sink; of a sink that is stopped already nothing changes.
-    /// Takes no memory.
+    /// Makes the sink's device fail at its next turn, which then stops the sink; a sink that is stopped already doesn't change. Takes no memory.
     pub fn stop(&mut self, sink: SinkId)
         requires { sink.0 < length self.old.mixers }
         ensures after { self.new ≡ record self.old { mixers = change_at self.old.mixers sink.0 (slice_get self.old.mixers sink.0) set_to_fail } }
@@ -164,7 +163,7 @@ impl World {
     }
 }
 
-// How far the sink of the mixer at a place is, if there is one.
+// The frame counts of the sink of the mixer at `place`, if there is one.
 fn frames_at(mixers: &[Playing], place: usize) -> Option<Frames>
     ensures { result ≡ option_map frames_of (slice_get (map mixer_of mixers.now) place) }
 {
@@ -175,7 +174,7 @@ fn frames_at(mixers: &[Playing], place: usize) -> Option<Frames>
     })
 }
 
-// Makes the device of the mixer at a place fail at its next turn.
+// Makes the device of the mixer at `place` fail at its next turn.
 fn stop_at(mixers: &mut [Playing], place: usize)
     requires { place < length mixers.old }
     ensures after { map mixer_of mixers.new ≡ change_at (map mixer_of mixers.old) place (slice_get (map mixer_of mixers.old) place) set_to_fail }

@@ -1,4 +1,4 @@
--- What the tests send to a mono sink: factors for inputs that needn't be there.
+-- What the tests post to a mono sink: factors for inputs that needn't exist.
 use Rattle.std.specs.Prelude.{◌≡◌, [], List, length, Option, MatchOption}
 use Rattle.std.specs.List.{AllByRecursion}
 use Rattle.px_ends.specs.MemoryDevice.{MemoryDevice, state_of}
@@ -11,13 +11,13 @@ use Rattle.px_stream.specs.HeldStream.{HeldStream}
 use Rattle.px_lane.specs.Lane.{Mixer, IsAttached}
 use Rattle.px_lane_cell.specs.History.{unturned}
 
--- it has one factor for each of some inputs
+-- the message has one factor for each of some inputs
 pub record IsGain (m : Msg HeldStream) : Type 0 where
   pub each : List InputFactors
   pub is : m ≡ Factors each
   pub one : AllByRecursion (λ f. length (InputFactors.factors f) ≡ 1) each
 
--- a mono sink's inbox, and all that was posted there is such
+-- a mono sink's inbox, where only such messages were posted
 pub record Sends (key : Option Spec) (posted : List (Msg HeldStream)) : Type 0 where
   pub mono : MatchOption key ⊥ (λ k. k.channels ≡ 1)
   pub gains : AllByRecursion IsGain posted

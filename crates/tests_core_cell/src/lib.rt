@@ -1,4 +1,4 @@
-//! Tests of the core under its lock: what a step owed is answered, a recorder that is full and has room again, and seats among threads. The
+//! Tests of the core under its lock: a step refused while a sweep is owed, a recorder that is full and has room again, and seats among threads. The
 //! crate has no other items.
 #![tactic(auto)]
 

@@ -1,5 +1,5 @@
-//! Tests of the queue of a stream: ranges that are written over and over, a frame in two blocks, and random writes beside a list of
-//! them, which is looked up from the newest back, with each block counted that comes and goes. The crate has no other items.
+//! Tests of the queue of a stream: ranges that are written over and over, a frame in two blocks, and random writes compared with a list of them,
+//! which is searched from the newest back, with a count of each block that comes and goes. The crate has no other items.
 #![tactic(auto)]
 
 #[cfg(test)]

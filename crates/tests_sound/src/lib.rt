@@ -1,4 +1,4 @@
-//! Arithmetic on volumes, with values reckoned by hand, some of which no session leads to. The crate has no other items.
+//! Arithmetic on volumes, with values computed by hand, some of which no session reaches. The crate has no other items.
 #![tactic(auto)]
 
 #[cfg(test)]

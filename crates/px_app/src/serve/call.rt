@@ -1,4 +1,4 @@
-//! Serving by words.
+//! The `serve` command's call.
 ghost use Rattle.std.specs.Prelude.{◌≡◌, map, string_bytes};
 ghost use Rattle.px_app.specs.Tape.{WritesTape, faulted, out_end};
 ghost use Rattle.px_header.specs.HeaderRules.{IsHeader};
@@ -18,18 +18,18 @@ use std::rt::Clock;
 use std::sync::{Arc, Wait};
 use std::thread::Threads;
 
-/// How serving by words ended.
+/// How the command `serve` ended.
 #[derive(Clone, Copy, Debug, PartialEq, Eq)]
 pub enum ServeEnd {
     /// The words aren't those of `serve`.
     Usage,
     /// The header file isn't a header: the first rule that it breaks, and the offset.
     Refused { at: u64, cause: Cause },
-    /// The serving call ended with this status, or what comes before it.
+    /// The serving call ended with this status, or its start failed with it.
     Ended(Status),
 }
 
-// The status of a call that ended so, and whose tape a write failed of: a fault of the output is the last of the causes.
+// The status of a call that ended with `status`, where a write of its tape fails: an earlier cause stays.
 fn faulted(status: Status) -> Status
     ensures { result ≡ faulted status }
 {
@@ -129,10 +129,10 @@ where
     }
 }
 
-/// Does what the words of `serve` say: starts the host with their options, serves the clients that it hands out on the sinks of the header
-/// that it reads, and hands back to it all that it made. With `--tape` it then writes to the output what the server did, as a session that can be
-/// replayed. See [`px_server::serve`] for the statuses; behind all of them stands `WriteFault`, where a write of the tape fails. Words of another
-/// kind are `Usage`, and then the host isn't called. (PulseAudio: `main` of daemon/main.c; it records nothing.)
+/// Carries out the command `serve`: starts the host with the words' options, serves the clients that it hands out on the sinks of the header that it
+/// reads, and hands back to it all that it made. With `--tape` it then writes to the output what the server did, as a session that can be replayed.
+/// See [`px_server::serve`] for the statuses; `WriteFault`, where a write of the tape fails, comes last of them. Words of another kind are `Usage`,
+/// and then the host isn't called. (PulseAudio: `main` of daemon/main.c; it records nothing.)
 pub fn serve_by<R, K, H>(
     rt: &R,
     alloc: Global,

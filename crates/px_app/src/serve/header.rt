@@ -9,7 +9,7 @@ use px_session::{Cause, ReadError, Reader, Step};
 use px_types::Text;
 use std::alloc::Global;
 
-// The header that stands first in a file of these bytes, or the first rule that they break. The reader has read nothing before.
+// Reads the header at the front of a file of these bytes; the error is the first rule that they break. The reader has read nothing before.
 fn first_header(reader: &mut Reader, bytes: Text) -> Result<Header, ReadError>
     requires { reader.old ≡ record { at = 0; ahead = []; begun = false } }
     ensures gives { FirstGives result bytes reader.new.at }
@@ -23,7 +23,7 @@ fn first_header(reader: &mut Reader, bytes: Text) -> Result<Header, ReadError>
     }
 }
 
-// A header that ends at `end` in a file of `size` bytes, where nothing follows it.
+// The header, which ends at offset `end` of a file of `size` bytes, where nothing follows it; else the error is `Trailing`.
 fn whole(header: Header, end: u64, size: u64) -> Result<Header, ReadError>
     requires { IsHeader header }
     ensures gives { (bytes : List ℕ) → length bytes ≡ size → FirstGives (Ok header) bytes end → HeaderGives result bytes }
@@ -39,7 +39,7 @@ fn whole(header: Header, end: u64, size: u64) -> Result<Header, ReadError>
     }
 }
 
-/// The header that these bytes of a file are, or the first rule that they break. Bytes after a header are refused at the first of them.
+/// Reads a header file of these bytes; the error is the first rule that they break. Bytes after a header are refused at the first of them.
 pub fn header_in(alloc: Global, bytes: Text) -> Result<Header, ReadError>
     ensures gives { HeaderGives result bytes }
     ensures lawful { IfOk result IsHeader }

@@ -6,7 +6,7 @@ use px_ends::{Got, Source};
 use px_types::Text;
 use std::marker::Model;
 
-/// A source of these bytes, no call of which fails. Contracts see what is left.
+/// A source of these bytes, no call of which fails. Contracts see the bytes that are left.
 #[derive(Debug, Drop)]
 pub(crate) struct FileBytes {
     bytes: Text,
@@ -23,7 +23,7 @@ impl Model for FileBytes {
     ghost invariant = { λ f. f.at ≤ length f.bytes };
 }
 
-// Copies as many bytes as are there and fit to the front of the buffer, and says how many.
+// Copies the front of `from` to the front of `buffer`, as far as both reach, and returns the number of bytes.
 fn copy_front(from: &[u8], buffer: &mut [u8]) -> usize
     ensures count { result ≡ min (length buffer.old) (length from.now) }
     ensures front { take result buffer.new ≡ take result from.now }
@@ -34,7 +34,7 @@ fn copy_front(from: &[u8], buffer: &mut [u8]) -> usize
 }
 
 impl FileBytes {
-    /// All of these bytes. Takes no memory.
+    /// A source of all of these bytes. Takes no memory.
     pub(crate) fn new(bytes: Text) -> FileBytes
         ensures { result ≡ bytes }
     {

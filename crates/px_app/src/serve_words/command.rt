@@ -1,4 +1,4 @@
-// The command `serve`, as clap is told of it: long options only.
+// The command `serve`, as clap is given it: long options only.
 ghost use Rattle.std.specs.Prelude.{◌≡◌, false, IfOk, codes};
 ghost use Rattle.clap.specs.Words.{app_of, rule_of, with_rule};
 ghost use Rattle.px_app.specs.ServeCommand.{serve_command, option_rule, path_rule, accept_rule, tape_rule};
@@ -25,7 +25,7 @@ fn path<'a>(alloc: Global, name: &'a str) -> Arg<'a>
         .value_parser(ValueParser::NonEmptyString)
 }
 
-// The option that says how many links are taken.
+// The option for the number of links to accept.
 fn accept<'a>(alloc: Global) -> Arg<'a>
     ensures rule { rule_of result ≡ accept_rule }
     ensures own { result.global ≡ false }
@@ -45,7 +45,7 @@ fn tape<'a>(alloc: Global) -> Arg<'a>
         .action(ArgAction::SetTrue)
 }
 
-// Adds the options that are paths of what there is to begin with.
+// Adds the paths of the header file and the socket.
 fn with_sources<'a>(alloc: Global, command: Command<'a>) -> Result<Command<'a>, AllocError>
     ensures { IfOk result (λ more. app_of more ≡ with_rule (with_rule (app_of command.entry) (path_rule (codes "header"))) (path_rule (codes "socket"))) }
 {
@@ -62,14 +62,14 @@ fn with_paths<'a>(alloc: Global, command: Command<'a>) -> Result<Command<'a>, Al
     with_sources(alloc, command)?.arg(path(alloc, "out"))
 }
 
-// Adds the options that may be left out, and aren't paths.
+// Adds the options that may be left out, and take no path.
 fn with_optional<'a>(alloc: Global, command: Command<'a>) -> Result<Command<'a>, AllocError>
     ensures { IfOk result (λ more. app_of more ≡ with_rule (with_rule (app_of command.entry) (option_rule (codes "history"))) tape_rule) }
 {
     command.arg(option(alloc, "history"))?.arg(tape(alloc))
 }
 
-// Adds the options that aren't paths.
+// Adds the options that take no path.
 fn with_others<'a>(alloc: Global, command: Command<'a>) -> Result<Command<'a>, AllocError>
     ensures { IfOk result (λ more. app_of more
         ≡ with_rule (with_rule (with_rule (app_of command.entry) accept_rule) (option_rule (codes "history"))) tape_rule) }

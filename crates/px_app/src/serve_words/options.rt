@@ -1,4 +1,4 @@
-// What the matches of the command say.
+// The options in the matches of the command.
 ghost use Rattle.std.specs.Prelude.{◌≡◌, ◌⊎◌, None, MatchResult, IsSome, Some, IfOk, codes, option_map};
 ghost use Rattle.clap.specs.Words.{found_of, rows_of, first_of};
 ghost use Rattle.px_app.specs.ServeCommand.{HasOptions, Reads, history_of, is_set};
@@ -10,7 +10,7 @@ use px_ends::ServeOptions;
 use px_types::{Mem, Text};
 use std::alloc::Global;
 
-// Whether histories are kept in memory, by the value of the option; `None` where it names no history.
+// Whether histories are stored in memory, by the value of the option; `None` where it names no history.
 fn history(value: Option<&str>) -> Option<bool>
     ensures { result ≡ history_of (option_map (λ text. text.now) value.entry) }
 {
@@ -22,7 +22,7 @@ fn history(value: Option<&str>) -> Option<bool>
     }
 }
 
-// Whether an option without a value stands, by the text that it leaves.
+// Whether an option without a value is set, by the text that it leaves.
 fn is_set(text: Option<&str>) -> bool
     ensures { result ≡ is_set (option_map (λ word. word.now) text.entry) }
 {
@@ -32,7 +32,7 @@ fn is_set(text: Option<&str>) -> bool
     }
 }
 
-// The value of an option that is there.
+// The value of an option that is set.
 fn value(alloc: Global, matches: &ArgMatches<'_>, name: &str) -> Mem<Text>
     requires { IsSome (first_of name.now (rows_of (found_of matches.now))) }
     ensures { IfOk result (λ text. first_of name.now (rows_of (found_of matches.now)) ≡ Some text) }
@@ -40,7 +40,7 @@ fn value(alloc: Global, matches: &ArgMatches<'_>, name: &str) -> Mem<Text>
     Text::copied(alloc, matches.get_str(name).unwrap().as_bytes())
 }
 
-// The options that the matches say.
+// The options that the matches give.
 pub fn options(alloc: Global, matches: &ArgMatches<'_>) -> Result<ServeWords, WordsFault>
     requires { HasOptions (rows_of (found_of matches.now)) }
     ensures { MatchResult result (Reads (rows_of (found_of matches.now)))

@@ -13,7 +13,7 @@ use crate::serve_words::{ServeWords, WordsFault};
 use clap::error::ErrorKind;
 use std::alloc::Global;
 
-// What a refusal of clap comes to, by its kind.
+// The fault for a refusal of clap, by its kind.
 fn refusal(kind: ErrorKind) -> WordsFault
     ensures memory { kind ≡ OutOfMemory → result ≡ fault.NoMemory }
     ensures usage { result ≡ fault.Usage → kind ≢ OutOfMemory }
@@ -24,10 +24,10 @@ fn refusal(kind: ErrorKind) -> WordsFault
     }
 }
 
-/// Reads the words of `serve`: all words of the command line behind the program's own name, of which the first is `serve`.
+/// Reads the words of `serve`: all words of the command line after the program's own name, of which the first is `serve`.
 ///
 /// `--header PATH --socket PATH --out DIR --accept N [--history none|memory] [--tape]`, in any order: paths as texts that aren't
-/// empty, and N links, 1 to 65,535. Without `--history` no history is kept. Plain words are never `Usage`, and the options are
+/// empty, and N links, 1 to 65,535. Without `--history` no history is stored. Plain words are never `Usage`, and the options are
 /// their values; other words are read as clap reads this command (`--out=DIR`, say, or a number with leading zeros), and are
 /// `Usage` where clap refuses them for another cause than memory, or where they name another history. Takes memory. Own.
 pub fn read_serve_words(alloc: Global, words: &[String]) -> Result<ServeWords, WordsFault>

@@ -1,23 +1,23 @@
-// What the words of `serve` say, and why they aren't taken.
+// The options in the words of `serve`, and why words are refused.
 use px_ends::ServeOptions;
 use px_types::NoMemory;
 use std::alloc::AllocError;
 use std::error::Error;
 use std::fmt;
 
-/// What the words of `serve` ask for: the options of the server, and whether it records a tape.
+/// The options in the words of `serve`: those of the server, and whether it records a tape.
 #[derive(Debug, Drop)]
 pub struct ServeWords {
     pub options: ServeOptions,
     pub tape: bool,
 }
 
-/// Why words of `serve` aren't taken.
+/// Why words of `serve` are refused.
 #[derive(Clone, Copy, Debug, PartialEq, Eq)]
 pub enum WordsFault {
     /// They aren't the words of this command.
     Usage,
-    /// There was no memory to read them.
+    /// Memory ran out while they were read.
     NoMemory,
 }
 

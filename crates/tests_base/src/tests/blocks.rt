@@ -3,7 +3,7 @@ ghost use Rattle.std.specs.Prelude.{◌≡◌, ◌≤◌, [], None, length};
 use px_block::{Block, BlockSource, Blocks, Fresh, Mem, NoMemory, Shelf};
 use std::alloc::Global;
 
-// A source whose first block is not there, as when memory is short for a while.
+// A source whose first block fails, as when memory is short for a while.
 #[derive(Drop)]
 struct Short {
     calls: u32,
@@ -27,7 +27,7 @@ impl BlockSource for Short {
     }
 }
 
-// Bytes that no block was there for go in at the next call, on in another block, and into one that was fitted to its bytes.
+// Bytes that found no block are appended by the next call, go on in another block, and into a block that was fitted to its bytes.
 fn go_on(blocks: &mut Blocks, source: &mut Short) -> Mem<bool> {
     let piece = [9; 40_000];
     let short = matches!(blocks.put(source, &piece), Err(NoMemory)) && blocks.count() == 0;
@@ -37,7 +37,7 @@ fn go_on(blocks: &mut Blocks, source: &mut Short) -> Mem<bool> {
     Ok(short && first && second && blocks.put(source, &piece)? == 25_536)
 }
 
-// Two full ones.
+// Two full blocks.
 fn are_full(blocks: &[Block]) -> bool {
     let full = |block: &Block| block.bytes().len() == 65_536
         && block.bytes().iter().all(|byte| *byte == 9);
@@ -55,14 +55,14 @@ fn bytes_go_on_in_the_next_block(rt: HostRuntime) {
     assert!(rt; went && are_full(&blocks.into_vec()));
 }
 
-// What comes back from the shelf with its last reference shows no old bytes once it is cleared.
+// A block that comes back from the shelf with its last reference shows no old bytes once it is cleared.
 fn is_used_again(block: &mut Block) -> bool {
     let old = block.bytes() == b"abcd".as_slice();
     block.clear();
     old && block.bytes().is_empty() && block.put(b"new") == 3 && block.bytes() == b"new".as_slice()
 }
 
-// A block with two references is there until the second is released, and is handed out then.
+// A block with two references stays on the shelf until the second is released, and is handed out then.
 fn is_shared(shelf: &mut Shelf, block: Block) -> bool
     requires { length block.bytes ≡ 4 }
 {

@@ -2,7 +2,7 @@ use px_ends::{Clock, MemClock, Moments};
 use px_types::Mem;
 use std::alloc::Global;
 
-// Whether a clock of these moments tells those, call by call.
+// Whether a clock of `moments` gives `wanted`, call by call.
 fn gives_moments(alloc: Global, moments: &[u64], wanted: &[u64]) -> Mem<bool> {
     let mut list = Vec::new(alloc);
     list.extend_from_slice(moments)?;

@@ -10,7 +10,7 @@ const SMALL: DeviceShape = DeviceShape {
     depth: 4,
 };
 
-// Nothing set consumes nothing; then two frames, and what is put anew behind the guard; a run; a stop for good.
+// An unarmed sync consumes nothing; then a sync of two frames, a put past the guard, and a run of three frames.
 fn played(alloc: Global) -> Mem<MemDevice> {
     let mut device = MemDevice::new(alloc, &SMALL)?;
     device.put(0, b"aabbccdd");
@@ -22,12 +22,12 @@ fn played(alloc: Global) -> Mem<MemDevice> {
     Ok(device)
 }
 
-// What was played since the last take is just these bytes.
+// Whether just these bytes were played since the last take.
 fn gives(alloc: Global, device: &mut MemDevice, bytes: &[u8]) -> bool {
     matches!(device.take_played(alloc), Ok(played) if played.as_slice() == bytes)
 }
 
-// Two frames, one more as the run has an end, and none; what was played is there once, and the device stays stopped.
+// Two frames, one more at the end of the run, and none; what was played is taken once, and the device stays stopped.
 fn ends(alloc: Global, device: &mut MemDevice) -> bool {
     let run = device.sync() == Ok(4) && device.sync() == Ok(5) && device.sync() == Ok(5);
     device.stop_next();

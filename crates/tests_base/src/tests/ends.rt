@@ -11,13 +11,13 @@ fn listed(alloc: Global, numbers: &[u64]) -> Mem<Calls> {
     Ok(Calls::from_vec(list))
 }
 
-// Ten bytes, of which the calls of these numbers give none.
+// A source of ten bytes whose calls of these numbers fail.
 fn ten(alloc: Global, failing: &[u64]) -> Mem<MemSource> {
     let failing = listed(alloc, failing)?;
     Ok(MemSource::new(Text::copied(alloc, b"0123456789")?, failing))
 }
 
-// Three bytes, a fault, a buffer of four that is filled, one that is cut short by the end, and no more.
+// Three bytes, a fault, a buffer of four that is filled, one that the end cuts short, and the end.
 fn reads<S: Source>(source: &mut S) -> bool {
     let mut three = [0u8; 3];
     let mut four = [0u8; 4];
@@ -31,7 +31,7 @@ fn reads<S: Source>(source: &mut S) -> bool {
         && source.read(&mut four) == Got::End
 }
 
-// Room for five bytes: three, a fault, two of three, and then no more.
+// Room for five bytes: three, a fault, two of three, and then a fault.
 fn writes<K: Sink>(sink: &mut K) -> bool {
     sink.write(b"abc") == Took::Bytes(3)
         && write_all(sink, b"def").is_err()
@@ -48,7 +48,7 @@ fn a_source_and_a_sink_go_on_after_a_call_that_failed(rt: HostRuntime) -> Mem<()
     Ok(())
 }
 
-// The calls of both directions are counted together: the second is late, the first and the fourth fail where they are listed.
+// The calls in both directions are counted together: the first fails, the second and the fourth aren't ready.
 fn exchanges<L: Link>(link: &mut L) -> bool {
     let mut buffer = [0u8; 8];
     link.recv(&mut buffer) == Recv::Failed
@@ -68,7 +68,7 @@ fn link(alloc: Global) -> Mem<MemLink> {
     MemLink::new(alloc, Text::copied(alloc, b"hi")?, 3, late, failing)
 }
 
-// No memory has so many bytes, which is an answer.
+// No memory has `usize::MAX` bytes; the result is `NoMemory`.
 fn has_no_room(alloc: Global) -> bool {
     matches!(
         MemSink::new(alloc, usize::MAX, Calls::none(alloc)),

@@ -8,7 +8,7 @@ use std::thread::Threads;
 // How often each of two threads takes a block and gives it back.
 const ROUNDS: u32 = 20_000;
 
-// An empty pool makes a block. Of two that come back to a pool of one it keeps the first, which was fitted to its bytes.
+// An empty pool makes a block. Of two that come back to a pool of one it holds the first, which was fitted to its bytes.
 fn pools_one<R: Wait>(seat: &mut PoolSeat<R>) -> Mem<bool> {
     let mut first = seat.take()?;
     let second = seat.take()?;
@@ -19,7 +19,7 @@ fn pools_one<R: Wait>(seat: &mut PoolSeat<R>) -> Mem<bool> {
     Ok(filled && seat.spare() == 1)
 }
 
-// The block that is kept, taken again, shows nothing and has its room, and the next block is made.
+// The pool's block, taken again, shows nothing and has its room, and the next block is a new one.
 fn takes_it_again<R: Wait>(seat: &mut PoolSeat<R>) -> Mem<bool> {
     let mut found = seat.take()?;
     let made = seat.take()?;
@@ -49,7 +49,7 @@ fn has_to_itself<R: Wait>(seat: &mut PoolSeat<R>, mark: u8) -> bool {
     empty && alone
 }
 
-// So in each round.
+// The same in each round.
 fn works<R: Wait + Copy>(mut seat: PoolSeat<R>, mark: u8) -> bool {
     let mut held = true;
     for _ in 0..ROUNDS {
@@ -58,7 +58,7 @@ fn works<R: Wait + Copy>(mut seat: PoolSeat<R>, mark: u8) -> bool {
     held
 }
 
-// Two threads at one pool, each at a seat of its own. Afterwards no more blocks are spare than two.
+// Two threads at one pool, each with a seat of its own. Afterwards at most two blocks are spare.
 fn share<R: Threads + Wait + Copy + Send + Sync>(rt: &R, alloc: Global) -> Mem<bool> {
     let pool = Pool::new(alloc, 16)?;
     let one = Pool::seat(rt, &pool)?;

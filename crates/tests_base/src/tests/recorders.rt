@@ -13,7 +13,7 @@ fn notes_a_step<R: Recorder<CoreEntry>>(recorder: &mut R) -> Result<(), RecordFa
     Ok(())
 }
 
-// A recorder with room for so many entries and bytes is full behind its last entry, or the one that passes its bytes.
+// A recorder with room for `room` entries and `most` bytes is full after its last entry, or the one that passes its bytes.
 fn is_full_at(alloc: Global, room: usize, most: usize, entries: usize) -> Mem<bool> {
     let mut recorder = MemRecorder::new(alloc, room, most)?;
     let mut held = true;
@@ -32,7 +32,7 @@ fn is_full_at(alloc: Global, room: usize, most: usize, entries: usize) -> Mem<bo
     )
 }
 
-// Room for entries and bytes, and how many entries are kept.
+// Room for entries and bytes, and the number of entries until it is full.
 const ROOMS: [(usize, usize, usize); 5] = [
     (2, 1000, 2),
     (9, 100, 2),

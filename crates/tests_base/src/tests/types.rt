@@ -2,7 +2,7 @@ use px_types::ErrorCode::{Command, Exist, NotImplemented, Protocol};
 use px_types::{ErrorCode, Mem, Text};
 use std::alloc::Global;
 
-// The numbers of PulseAudio's `pulse/def.h` that no session is answered with.
+// The numbers of PulseAudio's `pulse/def.h` that no session gets as an error.
 const CODES: [(ErrorCode, u32); 4] = [
     (Command, 2),
     (Exist, 4),

@@ -3,7 +3,7 @@ ghost use Rattle.std.specs.Prelude.{◌≡◌, []};
 use px_annals::{LaneEntry, PlainMsg, RecordFault, Recorder};
 use std::alloc::Global;
 
-/// A recorder that says once that it is full, when it holds so many entries.
+/// A recorder that is full once, when it holds `full_at` entries.
 #[derive(Drop)]
 pub struct Crowded {
     entries: Vec<LaneEntry>,
@@ -11,7 +11,7 @@ pub struct Crowded {
     fulls: u64,
 }
 
-// Whether a message has the factors for the input of a number.
+// Whether a message has the factors for input `number`.
 fn is_for(message: &PlainMsg, number: u32) -> bool {
     match message {
         PlainMsg::Factors(list) => matches!(list.as_slice(), [one] if one.input == number),
@@ -30,7 +30,7 @@ impl Crowded {
         }
     }
 
-    /// How many messages its entries have, where they are numbered from 0 in order.
+    /// The number of messages in its entries, where they are numbered from 0 in order.
     pub fn recorded(&self) -> Option<u32> {
         let mut number = 0;
         for entry in self.entries.as_slice() {

@@ -12,7 +12,7 @@ use px_types::Mem;
 use std::alloc::Global;
 use std::sync::Wait;
 
-// Five messages, and a turn after each: how many turns were made.
+// Posts five messages, makes a turn after each, and counts the turns that were made.
 fn turns_made<R: Wait>(
     rt: &R,
     alloc: Global,
@@ -34,7 +34,7 @@ fn turns_made<R: Wait>(
     Ok(turns)
 }
 
-// All messages stand in the history in order, each once, and none is kept.
+// Whether all messages stand in the history in order, each once, and the cell holds none.
 fn misses_nothing(cell: Cell) -> bool {
     let parts = cell.into_parts();
     let none_held = parts.messages.len() == 0 && parts.recorder.fulls() == 1;
@@ -43,7 +43,7 @@ fn misses_nothing(cell: Cell) -> bool {
     none_held && all_noted
 }
 
-// Five messages, a turn after each, a recorder that is full once, at so many entries, and a last turn.
+// Five messages, a turn after each, a recorder that is full once, at `full_at` entries, and a last turn.
 fn has_room_again<R: Wait>(rt: &R, alloc: Global, full_at: usize) -> Mem<bool> {
     let (mut cell, inbox, post) = opened(alloc, full_at)?;
     let turns = turns_made(rt, alloc, &mut cell, &inbox, post);

@@ -55,7 +55,7 @@ fn mixer(alloc: Global) -> Mem<Lane<MemDevice>>
     Lane::new(alloc, &sink, MemDevice::new(alloc, &SHAPE)?)
 }
 
-/// A cell with a recorder that is full once, at so many entries, its inbox, and what is at the other end of it.
+/// A cell with a recorder that is full once, at `full_at` entries, its inbox, and the posting end of that.
 pub fn opened(alloc: Global, full_at: usize) -> Mem<(Cell, Inbox, PostPass<Msg<Stream>>)>
     ensures pass { IfOk result (λ made. IsPassOf (arc_value made.1).queue made.2.pass) }
     ensures sends { IfOk result (λ made. Sends (key_of made.2.pass) (posted_by made.2.pass)) }
@@ -82,7 +82,7 @@ pub fn opened(alloc: Global, full_at: usize) -> Mem<(Cell, Inbox, PostPass<Msg<S
     Ok((cell, twin, post))
 }
 
-/// Factors for the input of a number.
+/// Factors for input `number`.
 pub fn factors_for(alloc: Global, number: u32) -> Mem<Msg<Stream>>
     ensures { IfOk result IsGain }
 {

@@ -14,7 +14,7 @@ use std::sync::Wait;
 use std::thread;
 use std::thread::Threads;
 
-// How many messages go through, and how many turns may pass.
+// The messages to post, and the most turns to make.
 const MESSAGES: u32 = 1_000;
 
 const TURNS: u32 = 1_000_000;
@@ -38,7 +38,7 @@ fn sends<R: Wait>(
     post
 }
 
-// Makes turns until as many messages were taken.
+// Makes turns until `MESSAGES` messages were taken.
 fn turns<R: Wait>(rt: &R, alloc: Global, mut cell: Cell) -> (Cell, u32) {
     let mut blocks = Fresh::new(alloc);
     let mut taken = 0;
@@ -52,7 +52,7 @@ fn turns<R: Wait>(rt: &R, alloc: Global, mut cell: Cell) -> (Cell, u32) {
     (cell, taken)
 }
 
-// The cell behind the turns of one thread, while another sends, and how many messages it took.
+// The cell after the turns of one thread, while another posts, and the number of messages that it took.
 fn exchanged<R: Threads + Wait + Sync>(
     rt: &R,
     alloc: Global,
@@ -74,7 +74,7 @@ fn exchanged<R: Threads + Wait + Sync>(
     made
 }
 
-// How many messages the history of a cell that ends has recorded, where it tells.
+// The number of messages in the history of a cell that ends, where they are in order.
 fn recorded(cell: Cell) -> Option<u32> {
     cell.into_parts().recorder.recorded()
 }

@@ -58,7 +58,7 @@ fn header_bytes(alloc: Global) -> Mem<Text> {
     Ok(Text::from_vec(bytes))
 }
 
-// It, read.
+// That header, read.
 fn header(alloc: Global, reader: &mut Reader) -> Mem<Header>
     ensures { IfOk result IsHeader }
 {
@@ -76,7 +76,7 @@ fn new_core(alloc: Global) -> Mem<Core<Stub>> {
     Core::new(alloc, &header)
 }
 
-// How many effects a control packet has, which comes back where memory is short, and is heard then as if for the first time.
+// The number of effects of a control packet; one that comes back, as memory is short, is handled again as if for the first time.
 fn asked(alloc: Global, core: &mut Core<Stub>, packet: &[u8], more: &[u8]) -> Mem<usize> {
     let mut bytes = Vec::new(alloc);
     bytes.extend_from_slice(packet)?;
@@ -95,7 +95,7 @@ fn asked(alloc: Global, core: &mut Core<Stub>, packet: &[u8], more: &[u8]) -> Me
     }
 }
 
-// The stream that was given up; the same of the notice.
+// The same for the notice that the stream was detached.
 fn detached(core: &mut Core<Stub>) -> Mem<usize> {
     let parcel = Stub { spec: MONO };
     let input = INPUT;
@@ -109,7 +109,7 @@ fn detached(core: &mut Core<Stub>) -> Mem<usize> {
     }
 }
 
-// How many inputs a message has factors for, and the new input, if it is such a message.
+// The number of inputs that a message has factors for, or the new input that it has.
 fn said_by(msg: &Msg<Stub>) -> (Option<usize>, Option<InputId>) {
     match msg {
         Msg::New(new) => (None, Some(new.input)),
@@ -131,7 +131,7 @@ fn hands_again(core: &mut Core<Stub>) -> bool {
         && core.sent(OUT).is_none()
 }
 
-// A client is let in and makes a stream.
+// A client authenticates and creates a stream.
 fn begins(alloc: Global, core: &mut Core<Stub>) -> Mem<bool> {
     let admitted = core.admit(CLIENT).is_ok() || core.admit(CLIENT).is_ok();
     let answers = [
@@ -141,7 +141,7 @@ fn begins(alloc: Global, core: &mut Core<Stub>) -> Mem<bool> {
     Ok(admitted && answers == [1, 1] && hands_again(core))
 }
 
-// The stream is given up.
+// The stream is detached.
 fn ends(alloc: Global, core: &mut Core<Stub>) -> Mem<bool> {
     let deleted = asked(alloc, core, DELETE, b"")?;
     let leaves = matches!(core.sent(OUT), Some(Msg::Detach { input: INPUT }));
@@ -150,7 +150,7 @@ fn ends(alloc: Global, core: &mut Core<Stub>) -> Mem<bool> {
     Ok(deleted == 1 && leaves && gone == 0 && last)
 }
 
-// A client is let in and makes a stream, which is given up.
+// A client authenticates and creates a stream, which is detached.
 fn lives(alloc: Global, core: &mut Core<Stub>) -> Mem<bool> {
     Ok(begins(alloc, core)? && ends(alloc, core)?)
 }

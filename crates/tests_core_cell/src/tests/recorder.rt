@@ -3,7 +3,7 @@ ghost use Rattle.std.specs.Prelude.{◌≡◌, []};
 use px_annals::{CoreEntry, Entry, RecordFault, Recorder};
 use std::alloc::Global;
 
-// A recorder that says once that it is full, when it holds so many entries.
+// A recorder that is full once, when it holds `full_at` entries.
 #[derive(Drop)]
 pub(crate) struct Crowded {
     entries: Vec<CoreEntry>,
@@ -22,7 +22,7 @@ impl Crowded {
         }
     }
 
-    // Whether both keep entries of the same sizes, in order.
+    // Whether both hold entries of the same sizes, in order.
     pub fn matches(&self, other: &Crowded) -> bool {
         let mut pairs = self.entries.iter().zip(other.entries.iter());
         self.len() == other.len() && pairs.all(|(one, two)| one.size() == two.size())

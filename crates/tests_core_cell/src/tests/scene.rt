@@ -19,7 +19,7 @@ use std::sync::{Arc, Wait};
 
 pub(crate) const OUT: SinkId = SinkId(0);
 
-// The other side of a sink's mailboxes.
+// The sink's side of its mailboxes.
 #[derive(Drop)]
 pub(crate) struct Mixer {
     pub inbox: Arc<Mailbox<Msg<Stream>>>,
@@ -30,7 +30,7 @@ pub(crate) struct Mixer {
     pub ghost posts: { IsPassOf (arc_value outbox).queue post.pass },
 }
 
-// A core before its first step, with its ends and the other side of its sink's mailboxes.
+// A core before its first step, with its ends and the sink's side of the mailboxes.
 #[derive(Drop)]
 pub(crate) struct Scene {
     pub core: CellCore,
@@ -63,7 +63,7 @@ fn sides(alloc: Global, sink: &SinkSpec) -> Mem<(CoreEnd, Mixer)>
     Ok((end, mixer))
 }
 
-// Those of all sinks, and the other side of the last one.
+// The sides of all sinks' mailboxes: the core's ends, and the last sink's own side.
 fn all_sides(alloc: Global, sinks: &[SinkSpec]) -> Mem<(CoreEnds, Option<Mixer>)>
     ensures { IfOk result (λ made. map ends_of made.0.items ≡ map fresh_ends sinks.now) }
 {
@@ -89,7 +89,7 @@ fn set_up(alloc: Global, header: &Header) -> Mem<Scene>
     Ok(Scene { core, ends, mixer })
 }
 
-// The header that stands first in a source.
+// The header at the front of a source.
 fn first_header(reader: &mut Reader, source: &mut MemSource) -> Mem<Header>
     ensures { IfOk result IsHeader }
 {

@@ -15,10 +15,10 @@ use std::sync::Wait;
 
 const CLIENT: ConnId = ConnId(7);
 
-// How many steps a run has.
+// The number of steps of a run.
 const STEPS: usize = 12;
 
-// The steps of a run, by their place: a client that is let in and makes a stream, the stream's notice, and its end.
+// The steps of a run, by their place: a client that authenticates and creates a stream, the stream's notice, and its end.
 fn step_at(alloc: Global, place: usize) -> Mem<CoreStep>
     ensures { IfOk result IsAsked }
 {
@@ -45,7 +45,7 @@ fn is_done<R: Wait, C: Recorder<CoreEntry>>(
     matches!(state.step(rt, alloc, step), Ok(Some(_)))
 }
 
-// Whether the step of a place is done.
+// Whether the step at a place is done.
 fn goes_on<R: Wait>(rt: &R, alloc: Global, state: &mut CoreState<Crowded>, place: usize) -> bool {
     match step_at(alloc, place) {
         Ok(step) => is_done(rt, alloc, state, step),
@@ -53,7 +53,7 @@ fn goes_on<R: Wait>(rt: &R, alloc: Global, state: &mut CoreState<Crowded>, place
     }
 }
 
-// Whether all steps of the run are done, each asked for again where it wasn't, and three messages come to the sink, which has one notice.
+// Whether all steps of the run are done, each made again where it wasn't, and three messages come to the sink, which has one notice.
 fn all_done<R: Wait>(
     rt: &R,
     alloc: Global,
@@ -77,7 +77,7 @@ fn recorder_of(state: CoreState<Crowded>) -> Crowded {
     state.into_parts().log.recorder
 }
 
-// What is kept of the whole run in a scene by a recorder that is full once at so many entries, and whether all of it is done.
+// The recorder of the whole run in a scene, which is full once at `full_at` entries, and whether all of the run is done.
 fn run_in<R: Wait>(rt: &R, alloc: Global, scene: Scene, full_at: usize) -> (Crowded, bool)
     requires { Begins scene.core.state (map ends_of scene.ends.items) }
 {
@@ -97,7 +97,7 @@ fn run<R: Wait>(rt: &R, alloc: Global, full_at: usize) -> Mem<(Crowded, bool)> {
     Ok(run_in(rt, alloc, scene, full_at))
 }
 
-// Whether a run whose recorder is full at each place once keeps what one keeps whose recorder never is.
+// Whether a recorder that is full once, at whichever place, holds the same as one that never is.
 fn misses_nothing<R: Wait>(rt: &R, alloc: Global) -> Mem<bool> {
     let (whole, done) = run(rt, alloc, STEPS)?;
     let mut right = done && whole.len() == STEPS && whole.fulls() == 0;
@@ -113,7 +113,7 @@ fn a_recorder_that_is_full_for_a_while_misses_nothing(rt: HostRuntime) {
     assert!(rt; matches!(misses_nothing(&rt, rt.alloc()), Ok(true)));
 }
 
-// Whether the very connection's end comes back, or the very notice, since a sweep is owed.
+// Whether the same step comes back, the connection's end or the notice, since a sweep is owed.
 fn comes_back<R: Wait>(
     rt: &R,
     alloc: Global,
@@ -128,7 +128,7 @@ fn comes_back<R: Wait>(
     )
 }
 
-// Whether steps for which a sweep is owed come back, and are done behind it. The sink has no notice.
+// Whether steps made while a sweep is owed come back, and are done after it. The sink has no notice.
 fn sweeps<R: Wait>(rt: &R, alloc: Global, state: &mut CoreState<NoRecorder>) -> bool {
     is_done(rt, alloc, state, CoreStep::Connect(CLIENT))
         && comes_back(rt, alloc, state, CoreStep::Close(CLIENT))

@@ -16,7 +16,7 @@ use std::sync::Wait;
 use std::sync::ledger::Blank;
 use std::thread::{Threads, map_vec};
 
-// A step of a thread's client, made once. Whether it was made; where a sweep is owed, the step comes back.
+// Makes a step of a thread's client once. Whether it was made; where a sweep is owed, the step comes back.
 fn attempted<L: Seats, R: Wait>(
     rt: &R,
     alloc: Global,
@@ -34,7 +34,7 @@ fn attempted<L: Seats, R: Wait>(
     }
 }
 
-// A step of a thread's client, once no sweep is owed any more. Whether it was made.
+// Makes a step of a thread's client, again until no sweep is owed. Whether it was made.
 fn is_made<L: Seats, R: Wait>(
     rt: &R,
     alloc: Global,
@@ -57,7 +57,7 @@ fn is_made<L: Seats, R: Wait>(
     unreachable!()
 }
 
-// The steps of a thread, by their place: its client is let in, makes a stream, and drains it again and again, by rising tags.
+// The steps of a thread, by their place: its client authenticates, creates a stream, and drains it again and again, with rising tags.
 fn step_at(alloc: Global, conn: ConnId, place: u8) -> Mem<CoreStep>
     ensures { IfOk result IsAsked }
 {
@@ -73,7 +73,7 @@ fn step_at(alloc: Global, conn: ConnId, place: u8) -> Mem<CoreStep>
 // What a thread works with: its seat, and its client.
 type Place<L> = (CoreSeat<L>, ConnId);
 
-// All steps of one thread. Whether they were made.
+// Makes all steps of one thread. Whether they were made.
 fn works<L: Seats, R: Wait>(
     rt: &R,
     alloc: Global,
@@ -91,7 +91,7 @@ fn works<L: Seats, R: Wait>(
     right
 }
 
-// Eight of them.
+// The places of eight threads.
 fn places<L: Seats>(alloc: Global, seat: &mut CoreSeat<L>) -> Mem<Vec<Place<L>>>
     requires { 8 < seat.old.parts }
 {
@@ -102,7 +102,7 @@ fn places<L: Seats>(alloc: Global, seat: &mut CoreSeat<L>) -> Mem<Vec<Place<L>>>
     Ok(all)
 }
 
-// Eight threads. Whether all steps were made.
+// Runs eight threads. Whether all steps were made.
 fn all_made<L: Seats + Send + Sync, R: Threads + Wait + Sync>(
     rt: &R,
     alloc: Global,

@@ -7,7 +7,7 @@ use std::sync::Wait;
 use std::thread;
 use std::thread::Threads;
 
-// How many letters go through.
+// The number of letters to post.
 const LETTERS: u32 = 100_000;
 
 // A numbered letter; every list of them is lawful.
@@ -74,7 +74,7 @@ fn sends<R: Wait>(
     post
 }
 
-// Takes as many letters, and says whether each had the next number.
+// Takes `LETTERS` letters, and returns whether each had the next number.
 fn receives<R: Wait>(
     rt: &R,
     mailbox: &Mailbox<Numbered>,

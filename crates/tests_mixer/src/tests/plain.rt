@@ -31,7 +31,7 @@ fn opened(alloc: Global) -> Option<Stream> {
     Stream::new(alloc, &new).ok()
 }
 
-// Two frames, so many past the write index.
+// Writes two frames, `offset` frames past the write index.
 fn writes(alloc: Global, stream: &mut Stream, source: &mut Fresh, offset: i64) -> Mem<bool> {
     views_agree();
     let mut bytes = Blocks::new(alloc);
@@ -48,7 +48,7 @@ fn writes(alloc: Global, stream: &mut Stream, source: &mut Fresh, offset: i64) -
     Ok(stream.apply(write, 0, source) == Applied::Quiet)
 }
 
-// Frames 0, 1, 4 and 5, of which the first is played, and a drain.
+// Frames 0, 1, 4 and 5, the first of which is played, and a drain.
 fn goes_on(alloc: Global, stream: &mut Stream) -> Mem<bool> {
     let mut source = Fresh::new(alloc);
     let written = writes(alloc, stream, &mut source, 0)? && writes(alloc, stream, &mut source, 2)?;
@@ -72,7 +72,7 @@ fn has_a_hole(queue: &PlainQueue) -> bool {
         && queue.prebuf == 0
 }
 
-// Of the 50 frames that were asked for, 46 are missing.
+// Of the 50 frames of tlength, 46 are requested.
 fn plays_and_drains(stream: &PlainStream) -> bool {
     !stream.corked
         && [stream.maxlength, stream.tlength, stream.minreq] == [100, 50, 1]

@@ -4,7 +4,7 @@ use std::os::unix::net::UnixStream;
 use std::thread::Threads;
 use std::{io, thread};
 
-// Two moments, of which none is before the other.
+// Whether two moments come in order.
 fn goes_on<C: Clock>(clock: &mut C) -> bool {
     let first = clock.now();
     first > 0 && first <= clock.now()
@@ -17,7 +17,7 @@ fn the_system_has_a_clock(rt: HostRuntime) {
 
 const MEBIBYTE: usize = 1_048_576;
 
-// Whether so many sevens are sent.
+// Whether a mebibyte of sevens is sent.
 fn sends<L: Link>(link: &mut L) -> bool {
     let mut left = MEBIBYTE;
     for _ in 0..MEBIBYTE {
@@ -32,7 +32,7 @@ fn sends<L: Link>(link: &mut L) -> bool {
     left == 0
 }
 
-// Whether as many are received.
+// Whether a mebibyte of sevens is received.
 fn receives<L: Link>(link: &mut L) -> bool {
     let mut piece = [0u8; 4096];
     let mut left = MEBIBYTE;
@@ -47,7 +47,7 @@ fn receives<L: Link>(link: &mut L) -> bool {
     false
 }
 
-// One end sends and then receives, in a thread of its own, and the other the other way round; then the first is gone.
+// One end sends and then receives, in a thread of its own, and the other in the opposite order; then the first end is gone.
 fn exchange<R: Threads>(rt: &R, near: UnixStream, far: UnixStream) -> bool {
     let (first, second) = thread::join(
         rt,
@@ -71,7 +71,7 @@ fn a_mebibyte_goes_both_ways_through_a_socket(rt: HostRuntime) -> io::Result<()>
     Ok(())
 }
 
-// What goes through a link's outlet comes to its peer, and once that is shut both find the end.
+// What a link's outlet sends comes to its peer, and once the outlet is shut both find the end.
 fn goes_out(near: UnixStream, far: UnixStream) -> bool {
     let mut link = Connected::new(near);
     let mut peer = Connected::new(far);

@@ -21,8 +21,8 @@ const MINUTE: &[u64] = &[7, 60_000_007];
 
 const STOP: Result<u64, DeviceFault> = Err(DeviceFault);
 
-// What the clock tells, the sink's room and the write of it that fails, 0 for none; what each sync answers, how many bytes were written
-// then, and how many frames were skipped.
+// The clock's moments, the sink's room and the number of its write that fails, 0 for none; the result of each sync, the number of bytes written by
+// then, and of frames skipped.
 type Row = (
     &'static [u64],
     usize,
@@ -32,7 +32,7 @@ type Row = (
     u64,
 );
 
-// 48 frames are due after a millisecond and 480 after ten, when 100 are there. After a sync that failed each fails, with no byte more.
+// 48 frames are due after a millisecond and 480 after ten, of 100 in the buffer. After a failed sync each fails, and no byte is written.
 const ROWS: [Row; 7] = [
     (ONE, 200, 0, &[Ok(0), Ok(48)], 96, 0),
     (TEN, 200, 0, &[Ok(0), Ok(48), Ok(100)], 200, 380),
@@ -49,7 +49,7 @@ fn listed(alloc: Global, numbers: &[u64]) -> Mem<Vec<u64>> {
     Ok(list)
 }
 
-// Bytes that are their numbers.
+// Bytes with the values of their places.
 fn numbers() -> [u8; 200] {
     let mut bytes = [0u8; 200];
     for number in 0..200 {
@@ -58,7 +58,7 @@ fn numbers() -> [u8; 200] {
     bytes
 }
 
-// Whether each sync of a device answers so.
+// Whether the syncs of a device have these results.
 fn answers_so(device: &mut Paced, answers: &[Result<u64, DeviceFault>]) -> bool {
     let mut right = true;
     for answer in answers {
@@ -67,7 +67,7 @@ fn answers_so(device: &mut Paced, answers: &[Result<u64, DeviceFault>]) -> bool 
     right
 }
 
-// A device in which a hundred frames wait, whose bytes are their numbers.
+// A device with a hundred frames in its buffer, whose bytes have the values of their places.
 fn filled(alloc: Global, row: &Row) -> Mem<Paced> {
     let (moments, room, failing, ..) = row;
     let calls = Calls::from_vec(listed(alloc, &[*failing])?);
@@ -77,7 +77,7 @@ fn filled(alloc: Global, row: &Row) -> Mem<Paced> {
     Ok(device)
 }
 
-// Whether it plays so.
+// Whether it plays as in `row`.
 fn plays_so(device: &mut Paced, row: &Row) -> bool {
     let (.., answers, written, skipped) = row;
     answers_so(device, answers)
@@ -86,7 +86,7 @@ fn plays_so(device: &mut Paced, row: &Row) -> bool {
         && device.skipped() == *skipped
 }
 
-// Whether a device in which a hundred frames wait plays so.
+// Whether a device with a hundred frames in its buffer plays as in `row`.
 fn plays(alloc: Global, row: &Row) -> Mem<bool> {
     let mut device = filled(alloc, row)?;
     Ok(plays_so(&mut device, row))

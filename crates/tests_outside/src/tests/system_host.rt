@@ -41,7 +41,7 @@ fn hears<L: Link + Drop>(mut link: L) -> bool {
         && link.recv(&mut buffer) == Recv::NotYet
 }
 
-// One client is heard, and no other.
+// One client is accepted and received from, and no other.
 fn accepts<H: Host>(alloc: Global, host: &mut H, client: &UnixStream) -> bool {
     let mut wire = client;
     let written = matches!(wire.write(b"hi"), Ok(2));
@@ -52,7 +52,7 @@ fn accepts<H: Host>(alloc: Global, host: &mut H, client: &UnixStream) -> bool {
     written && heard && matches!(host.accept(alloc), Accepted::Over)
 }
 
-// A device that plays into a file of its sink's name, and none outside of the folder.
+// A device that plays into a file of its sink's name, and a fault for one outside of the folder.
 fn makes<H: Host>(alloc: Global, host: &mut H) -> bool {
     let plays = match host.device(alloc, b"front", &SHAPE) {
         Ok(mut device) => device.sync() == Ok(0),
@@ -84,7 +84,7 @@ fn serves_alone(rt: HostRuntime) -> io::Result<bool> {
     Ok(served && !another_starts(rt))
 }
 
-// While one listens no other can, and behind it another does.
+// While one host listens no other can, and after it another does.
 #[test]
 fn a_client_is_heard_a_sink_has_a_file_and_a_stale_socket_is_replaced(
     rt: HostRuntime,

@@ -37,7 +37,7 @@ fn read(alloc: Global, line: &str) -> Result<ServeWords, WordsFault> {
     read_serve_words(alloc, words.as_slice())
 }
 
-// What the line says of the links, the histories and the tape, where its paths are `h`, `s` and `o`.
+// The links, the history and the tape in the options of a line, where its paths are `h`, `s` and `o`.
 fn said(alloc: Global, line: &str) -> Option<(u16, bool, bool)> {
     let Ok(said) = read(alloc, line) else {
         return None;
@@ -48,7 +48,7 @@ fn said(alloc: Global, line: &str) -> Option<(u16, bool, bool)> {
     named.then_some((said.options.accept, said.options.memory, said.tape))
 }
 
-// A line, and what it says; the last two only clap takes.
+// A line, and its options; the last two lines only clap takes.
 const RIGHT: [(&str, (u16, bool, bool)); 5] = [
     (
         "serve --header h --socket s --out o --accept 64",

@@ -1,4 +1,4 @@
-//! An input that gives one byte a read, and what a run asks of its runtime.
+//! An input that gives one byte a read, and what a run needs of its runtime.
 
 use px_ends::{Calls, Got, MemSource, Source};
 use px_types::{Mem, Text};
@@ -17,7 +17,7 @@ pub struct Drip {
     inner: MemSource,
 }
 
-/// A source of these bytes whose read of this number fails; 0 for none.
+/// A source of these bytes whose read number `failing` fails; 0 for none.
 pub fn dripping(alloc: Global, bytes: Vec<u8>, failing: u64) -> Mem<Drip> {
     let mut calls = Vec::new(alloc);
     calls.push(failing)?;

@@ -4,8 +4,8 @@ use px_ends::{Calls, MemSink, NoHost};
 use px_types::{Mem, Status};
 use std::alloc::Global;
 
-/// A header of one sink `out`, of guard 10 and depth 100, and a client of version 35 that says AUTH with the cookie, in one event:
-/// 590 bytes, and the end byte.
+/// A header of one sink `out`, of guard 10 and depth 100, and a client of version 35 that sends AUTH with the cookie, in one event: 590 bytes, and
+/// the end byte.
 pub fn session(alloc: Global) -> Mem<Vec<u8>> {
     let mut bytes = Vec::new(alloc);
     bytes.extend_from_slice(b"PRS1")?;
@@ -25,7 +25,7 @@ pub fn session(alloc: Global) -> Mem<Vec<u8>> {
 const OUTPUT: &[u8; 45] =
     b"\x01\0\0\0\x01\0\0\0\x23\0\0\0\x0f\xff\xff\xff\xff\0\0\0\0\0\0\0\0\0\0\0\0L\0\0\0\x02L\0\0\0\0L\0\0\0\x0d\0";
 
-// How a replay of the session ends whose read of a number fails, 0 for none.
+// The status of a replay of the session whose read number `read` fails, 0 for none.
 fn ended<R: Machine>(rt: &R, read: u64, output: &mut MemSink, log: &mut MemSink) -> Mem<Status> {
     let alloc = rt.alloc();
     let mut input = dripping(alloc, session(alloc)?, read)?;
@@ -34,8 +34,8 @@ fn ended<R: Machine>(rt: &R, read: u64, output: &mut MemSink, log: &mut MemSink)
     Ok(run(rt, &words, &mut input, output, log, &mut NoHost::new()))
 }
 
-// Whether it ends with this status, this much of the output and this line, where the read of a number fails, and the output and the log
-// have room for so many bytes.
+// Whether a replay ends with this status, this much of the output and this line, where the given read fails, and the output and the log have room for
+// the given numbers of bytes.
 fn ends<R: Machine>(rt: &R, row: &Row) -> Mem<bool> {
     let (read, [room, more], status, length, line) = *row;
     let mut output = MemSink::new(rt.alloc(), room, Calls::none(rt.alloc()))?;
@@ -53,8 +53,8 @@ type Row = (u64, [usize; 2], Status, usize, &'static [u8]);
 
 const READ: &[u8] = b"pulse_rw: read failed\n";
 
-// The whole run; a read that fails in the header, between events, within the one that is answered, and before the end byte; there with
-// the write of what waits behind it, where the first cause is told; and a log that fails within its line, which the status tells of.
+// The whole run; a read that fails in the header, between events, within the one that gets a reply, and before the end byte; there with the write of
+// the pending output after it, where the status is of the first cause; and a log that fails within its line, for which the status is `WriteFault`.
 const ROWS: [Row; 8] = [
     (0, [45, 0], Status::Ok, 45, b""),
     (1, [45, 99], Status::ReadFault, 0, READ),
@@ -66,7 +66,7 @@ const ROWS: [Row; 8] = [
     (1, [45, 9], Status::WriteFault, 0, b"pulse_rw:"),
 ];
 
-// A write that fails after so many bytes: they stand.
+// A write that fails after `length` bytes, which stay written.
 fn cut_at(length: usize) -> Row {
     let line = b"pulse_rw: write failed\n";
     (0, [length, 99], Status::WriteFault, length, line)

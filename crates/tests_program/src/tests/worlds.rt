@@ -10,7 +10,7 @@ use px_types::{ConnId, Mem, NoMemory, SinkId, Text};
 use px_world::{World, WorldFault};
 use std::alloc::Global;
 
-// The header that stands first in a source.
+// The header at the front of a source.
 fn first_header(reader: &mut Reader, source: &mut MemSource) -> Mem<Header>
     ensures { IfOk result IsHeader }
 {
@@ -28,7 +28,7 @@ fn header_read(alloc: Global) -> Mem<Header>
     first_header(&mut Reader::new(alloc)?, &mut source)
 }
 
-// How many effects an event has, and how many frames it consumes.
+// The number of effects of an event, and of frames that it consumes.
 fn met(alloc: Global, world: &mut World, event: Event) -> Result<(usize, u32), WorldFault> {
     match world.event(alloc, event) {
         Ok(outcome) => Ok((outcome.effects.as_slice().len(), outcome.frames)),
@@ -50,11 +50,11 @@ fn turned(
 const AUTH: &[u8] =
     b"\0\0\x01\x14\xff\xff\xff\xff\0\0\0\0\0\0\0\0\0\0\0\0L\0\0\0\x08L\0\0\0\0L\0\0\0\x0dx\0\0\x01\0";
 
-// A stream in S16LE, mono, without prebuffering; a drain and a question of it. Each in its frame.
+// CREATE_PLAYBACK_STREAM in S16LE, mono, without prebuffering; a drain and a latency query of it. Each in its frame.
 const ASKED: &[u8] =
     b"\0\0\0\x45\xff\xff\xff\xff\0\0\0\0\0\0\0\0\0\0\0\0L\0\0\0\x03L\0\0\0\x02a\x03\x01\0\0\xbb\x80m\x01\0L\xff\xff\xff\xffNL\xff\xff\xff\xff0L\xff\xff\xff\xffL\0\0\0\0L\xff\xff\xff\xffL\0\0\0\0v\x01\0\x01\0\x00000000000PN\0\0\0\x0f\xff\xff\xff\xff\0\0\0\0\0\0\0\0\0\0\0\0L\0\0\0\x0cL\0\0\0\x03L\0\0\0\0\0\0\0\x18\xff\xff\xff\xff\0\0\0\0\0\0\0\0\0\0\0\0L\0\0\0\x0eL\0\0\0\x04L\0\0\0\0T\0\0\0\x01\0\0\0\x02";
 
-// A client is let in, makes a stream, and asks twice of it.
+// A client authenticates, creates a stream, and sends two requests for it.
 fn asks(alloc: Global, world: &mut World) -> Mem<bool> {
     let mut bytes = Vec::new(alloc);
     bytes.extend_from_slice(AUTH)?;
@@ -67,8 +67,8 @@ fn asks(alloc: Global, world: &mut World) -> Mem<bool> {
     )
 }
 
-// A sink whose device has failed has no frame, at that turn and later, and still takes what it is told: it says how far a stream is, and
-// that all of it was played.
+// A sink whose device has failed plays no frame, in that turn and later, and still takes its messages: it answers how far a stream is, and that all
+// of it was played.
 fn answers(alloc: Global, world: &mut World) -> Mem<bool> {
     let none = Err(WorldFault::TooMany { asked: 1, there: 0 });
     let asked = asks(alloc, world)?;
@@ -81,7 +81,7 @@ fn answers(alloc: Global, world: &mut World) -> Mem<bool> {
     )
 }
 
-// Whether a world answers so whose sink's device is to fail before its first event.
+// Whether a world whose sink's device fails before its first event answers so.
 fn failing_answers(alloc: Global, header: &Header) -> Mem<bool>
     requires { IsHeader header.now }
 {

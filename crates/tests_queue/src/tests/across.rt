@@ -7,10 +7,10 @@ use px_queue::{FrameQueue, Pushed, Span};
 use px_types::{Mem, NoMemory};
 use std::alloc::Global;
 
-// Frames of three bytes, of which the last but one begins with the last byte of the first block.
+// Frames of three bytes, the last but one of which begins with the last byte of the first block.
 const FRAMES: u32 = 21_847;
 
-// Appends bytes, as many as the last block takes.
+// Appends bytes, as far as the last block takes them.
 fn put(alloc: Global, made: &mut Blocks, bytes: &[u8]) -> Mem<()>
     ensures { OnOk result (length made.new ≤ length made.old + length bytes.now) }
 {
@@ -20,7 +20,7 @@ fn put(alloc: Global, made: &mut Blocks, bytes: &[u8]) -> Mem<()>
     }
 }
 
-// Zeros up to the last byte of the first block, which is a, and bcdef in the second.
+// Zeros up to the last byte of the first block, which is `a`, and `bcdef` in the second.
 fn in_two(alloc: Global) -> Mem<Blocks>
     ensures { IfOk result (λ made. length made ≤ 65_541) }
 {
@@ -32,14 +32,14 @@ fn in_two(alloc: Global) -> Mem<Blocks>
     Ok(made)
 }
 
-// Frames are lent as far as they lie whole in one block: the last of those in the first, none of that in both, and the one in the second.
+// Frames are lent where they lie whole in one block: the last ones in the first block, none across both, and the one in the second.
 fn are_lent(queue: &FrameQueue) -> bool {
     let first = queue.lend(FRAMES - 3, 3) == b"\0\0\0".as_slice();
     let both = queue.lend(FRAMES - 2, 2).is_empty();
     first && both && queue.lend(FRAMES - 1, 2) == b"def".as_slice()
 }
 
-// Both frames at the end are read, the first of them out of both blocks; as it goes, so does the first block.
+// Both frames at the end are read, the first of them out of both blocks; the first block is released with that frame.
 fn are_read(queue: &mut FrameQueue, source: &mut Counting) -> bool
     requires { queue.old.frame ≡ 3 }
 {
@@ -50,7 +50,7 @@ fn are_read(queue: &mut FrameQueue, source: &mut Counting) -> bool
     read && some && past
 }
 
-// Writes these frames, and says whether they are held.
+// Writes these frames, and returns whether they are held.
 fn are_held(alloc: Global, queue: &mut FrameQueue, source: &mut Counting) -> Mem<bool>
     requires { queue.old.frame ≡ 3 }
     ensures { queue.new.frame ≡ 3 }

@@ -9,7 +9,7 @@ use std::alloc::Global;
 // Forty frames of one byte.
 const FORTY: &[u8] = &[7; 40];
 
-// Writes frames of one byte at an index, and says whether they are held.
+// Writes frames of one byte at an index, and returns whether they are held.
 fn write(
     alloc: Global,
     queue: &mut FrameQueue,
@@ -39,7 +39,7 @@ fn write_over(alloc: Global, queue: &mut FrameQueue, source: &mut Counting, othe
     Ok(held)
 }
 
-// A range that is written over keeps one block, and two ranges that meet keep two.
+// A range that is overwritten holds one block, and two ranges that overlap hold two.
 #[test]
 fn ranges_that_are_written_over_go_back(rt: HostRuntime) {
     let mut source = Counting::new(rt.alloc());

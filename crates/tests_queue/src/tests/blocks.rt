@@ -1,4 +1,4 @@
-// The blocks that a queue is brought and gives back.
+// The blocks that a queue takes and gives back.
 ghost use Rattle.std.specs.Prelude.{◌≡◌, ◌≤◌, None, IfOk, length};
 
 use px_block::{Block, BlockSource, Blocks, Fresh};

@@ -1,11 +1,11 @@
-// A list of writes, which is looked up from the newest back.
+// A list of writes, which is searched from the newest back.
 use px_types::Mem;
 use std::alloc::Global;
 
 /// The greatest index.
 pub const LAST: i64 = 1 << 60;
 
-// A write of frames of one byte: the index of the first, how many there are, and the first byte, from which the others count on.
+// A write of frames of one byte: the index of the first, the number of frames, and the first byte, from which the others count up.
 #[derive(Clone, Copy, Drop)]
 pub struct Write {
     at: i64,
@@ -13,7 +13,7 @@ pub struct Write {
     byte: u8,
 }
 
-// Writes, oldest first, both indices, and one past the last frame that was written.
+// Writes, oldest first, both indices, and the index past the last frame that was written.
 #[derive(Drop)]
 pub struct Former {
     writes: Vec<Write>,
@@ -22,7 +22,7 @@ pub struct Former {
     end: i64,
 }
 
-// How a write ends, and the number that it carries.
+// How a write ends, with the end index of an overflow.
 #[derive(Clone, Copy, PartialEq, Eq)]
 pub enum Ended {
     Stored,
@@ -52,7 +52,7 @@ impl Former {
         }
     }
 
-    // What lies at an index.
+    // The frame at an index.
     pub fn frame(&self, index: i64) -> Option<u8> {
         let mut found = None;
         for write in self.writes.iter() {

@@ -1,4 +1,4 @@
-// A queue beside the list of its writes.
+// A queue compared with the list of its writes.
 ghost use Rattle.std.specs.Prelude.{◌≡◌, ◌<◌, ◌≤◌, IfOk, length};
 
 use crate::tests::blocks::{Counting, packed};
@@ -21,7 +21,7 @@ fn throw(dice: &mut u64, sides: u64) -> u64
     (x >> 11) % sides
 }
 
-// So many bytes that count on from one, in one block.
+// `count` bytes that count up from `byte`, in one block.
 fn counted(alloc: Global, count: u32, byte: u8) -> Mem<Blocks>
     requires { count ≤ 40 }
     ensures { IfOk result (λ made. length made ≡ count) }
@@ -43,7 +43,7 @@ fn ending_of(pushed: Pushed) -> Ended {
     }
 }
 
-// Writes the same frames into both, and says whether it ended alike.
+// Writes the same frames into both, and returns whether it ended alike, and the number of blocks.
 fn write_both(
     alloc: Global,
     dice: &mut u64,
@@ -69,7 +69,7 @@ fn write_both(
     Ok((ending_of(pushed) == there, if count > 0 { 1 } else { 0 }))
 }
 
-// Whether so many bytes are those of the frames from an index on.
+// Whether `bytes` are those of the frames from index `from` on.
 fn are_there(former: &Former, from: i64, bytes: &[u8]) -> bool {
     let mut places = bytes.iter().enumerate();
     places.all(|(place, byte)| former.frame(from.wrapping_add(place as i64)) == Some(*byte))
@@ -79,7 +79,7 @@ fn are_silent(former: &Former, from: i64, count: u32) -> bool {
     (0..count).all(|place| former.frame(from.wrapping_add(place as i64)).is_none())
 }
 
-// Whether a peek at this place shows what the writes say, and how many frames it shows.
+// Whether a peek at place `k` agrees with the list of writes, and the number of frames that it shows.
 fn agrees(queue: &FrameQueue, former: &Former, k: u32) -> (bool, u32)
     requires { queue.now.frame ≡ 1 }
 {
@@ -95,7 +95,7 @@ fn agrees(queue: &FrameQueue, former: &Former, k: u32) -> (bool, u32)
     }
 }
 
-// Whether both are alike in their indices and frames.
+// Whether both agree in their indices and frames.
 fn agree(queue: &FrameQueue, former: &Former) -> bool
     requires { queue.now.frame ≡ 1 }
 {
@@ -114,7 +114,7 @@ fn agree(queue: &FrameQueue, former: &Former) -> bool
     alike
 }
 
-// So many writes into both, and turns of up to 30 frames between them. Answers whether all was alike, and how many blocks were brought.
+// Makes `writes` writes into both, and turns of up to 30 frames between them. Returns whether all agreed, and the number of blocks written.
 fn written(
     alloc: Global,
     queue: &mut FrameQueue,

@@ -15,7 +15,7 @@ use std::sync::atomic::{AtomicBool, Ordering};
 use std::thread::sleep;
 use std::time::Duration;
 
-// Holds the first turn of sink 0 until a packet was answered by another worker, for a million looks.
+// Holds the first turn of sink 0 until another worker has handled a packet, for at most a million looks.
 #[derive(Drop)]
 struct Meeting<R> {
     rt: R,
@@ -54,7 +54,7 @@ impl<R: Clock> Gate for Meeting<R> {
     }
 }
 
-// The header of that file.
+// The header of the host's file.
 fn header_read(alloc: Global) -> Mem<Header>
     ensures { IfOk result IsHeader }
 {
@@ -70,7 +70,7 @@ fn host_of_one<R: Machine>(rt: &R) -> Mem<MemHost<R>> {
     host(rt, header(rt.alloc())?, links, 0, 1000, 0)
 }
 
-// How a server of a header ends, whose turns and packets this gate holds.
+// The status of a server of a header, whose turns and packets this gate holds.
 fn status_of<R: Machine>(
     rt: &R,
     read: &Header,
@@ -82,7 +82,7 @@ fn status_of<R: Machine>(
     serve(rt, rt.alloc(), read, host, gate, false).status
 }
 
-// How it ends with one client.
+// The status of that server with one client.
 fn ended<R: Machine>(rt: &R, read: &Header, gate: Arc<Meeting<R>>) -> Mem<Status>
     requires { IsHeader read.now }
 {

@@ -15,7 +15,7 @@ pub trait Machine: AllocGlobal + Threads + Wait + Clock + Copy + Drop + Send + S
 
 impl<R: AllocGlobal + Threads + Wait + Clock + Copy + Drop + Send + Sync + 'static> Machine for R {}
 
-/// How many bytes a client that says hello is sent: the reply to its AUTH, in its frame.
+/// What a client that sends AUTH is sent: the reply, in its frame.
 pub const REPLY: &[u8; 35] =
     b"\0\0\0\x0f\xff\xff\xff\xff\0\0\0\0\0\0\0\0\0\0\0\0L\0\0\0\x02L\0\0\0\0L\0\0\0\x0d";
 
@@ -37,7 +37,7 @@ pub fn hello(alloc: Global) -> Mem<Text> {
     Ok(Text::from_vec(bytes))
 }
 
-/// What one client is sent, for its test.
+/// The empty list of what one client is sent, for its test.
 pub fn nothing_sent(alloc: Global) -> Mem<Arc<Mutex<Text>>> {
     Ok(Arc::new(alloc, Mutex::new(Text::from_vec(Vec::new(alloc))))?)
 }
@@ -48,7 +48,8 @@ fn listed(alloc: Global, numbers: &[u64]) -> Mem<Calls> {
     Ok(Calls::from_vec(list))
 }
 
-/// A client that sends this, and hangs up once it was sent so much. Its link is late at its calls 1 and 3, and fails at one; 0 for none.
+/// A client that sends `bytes`, and hangs up once it was sent `end_after` bytes. Its link is late at its calls 1 and 3, and fails at `failing`; 0 for
+/// none.
 pub fn client(
     alloc: Global,
     bytes: Text,
@@ -66,7 +67,7 @@ pub fn client(
     })
 }
 
-/// One client that says hello, and hangs up once it was sent the reply.
+/// One client that sends AUTH, and hangs up once it was sent the reply.
 pub fn one_client(alloc: Global, failing: u64, sent: Arc<Mutex<Text>>) -> Mem<LinkPlans>
     ensures { IfOk result (λ plans. length plans ≤ 65535) }
 {
@@ -76,8 +77,8 @@ pub fn one_client(alloc: Global, failing: u64, sent: Arc<Mutex<Text>>) -> Mem<Li
     Ok(LinkPlans::from_vec(plans))
 }
 
-/// A host with these bytes as header file, whose devices consume so many frames at a sync, whose recorders hold so many entries, and whose
-/// call of this number fails; 0 for none.
+/// A host with these bytes as header file, whose devices consume `frames` frames at a sync, whose recorders hold `entries` entries, and whose call
+/// number `failing` fails; 0 for none.
 pub fn host<R: Machine>(
     rt: &R,
     header: Text,
@@ -95,7 +96,7 @@ pub fn host<R: Machine>(
     )
 }
 
-/// How a run by the words of a line ends, with this input.
+/// The status of a run by the words of a line, with this input.
 pub fn ended<R: Machine>(
     rt: &R,
     line: &str,

@@ -8,7 +8,7 @@ use px_types::{Mem, Status, Text};
 use std::alloc::Global;
 use std::sync::Arc;
 
-// How a server by the words of a line ends, where nothing can be written.
+// The status of a server by these words, where no output can be written.
 fn unwritten<R: Machine>(
     rt: &R,
     words: &str,
@@ -20,7 +20,7 @@ fn unwritten<R: Machine>(
     ended(rt, words, input, &mut output, log, host)
 }
 
-// How it ends, if its log has just this line.
+// The status of that server, if its log has just this line.
 fn ends<R: Machine>(
     rt: &R,
     words: &str,
@@ -38,13 +38,13 @@ const PAPER: &str = "serve --header h --socket s --out o --accept 1 --history pa
 
 const TAPED: &str = "serve --header h --socket s --out o --accept 1 --tape";
 
-// The words, how many bytes the header file has, with a zero behind its 280, how many entries the recorders hold, the call of the host that
+// The words, the size of the header file, with a zero after its 280 bytes, the entries that the recorders hold, the number of the host's call that
 // fails, 0 for none, and how the server ends: its status, and its log's line without the name and the line feed.
 type Row = (&'static str, usize, usize, u64, Status, &'static [u8]);
 
 const USAGE: &[u8] = b"usage: replay [--raw SINK], summary, gen NUMBER COUNT, serve OPTIONS";
 
-// Of a tape that can't be written and a failure of the host the host's comes first.
+// Where the tape can't be written and the host fails, the host's fault decides.
 const ROWS: [Row; 6] = [
     (PLAIN, 280, 0, 0, HistoryFull, b"history full"),
     (PLAIN, 4, 9, 0, Refused, b"refused at 4: truncated"),
@@ -91,12 +91,12 @@ fn a_server_ends_where_its_host_fails(rt: HostRuntime) {
     );
 }
 
-// A host gets back the one sink that it made, and the core's recorder.
+// A host got back the one sink that it made, and the core's recorder.
 fn is_whole(taken: &Taken) -> bool {
     taken.started.len() == 1 && taken.parts.len() == 1 && taken.core_recorders.len() == 1
 }
 
-// Whether a server of these clients ends well, and its host gets all back.
+// Whether a server of these clients ends with Ok, and its host gets all back.
 fn ends_whole<R: Machine>(rt: &R, links: LinkPlans) -> Mem<bool>
     requires { length links ≤ 65535 }
 {
@@ -105,7 +105,7 @@ fn ends_whole<R: Machine>(rt: &R, links: LinkPlans) -> Mem<bool>
     Ok(is_well && is_whole(&host.into_taken()))
 }
 
-// Whether a server ends well whose client's link fails at a call, and was sent this.
+// Whether a server ends with Ok whose client's link fails at call `failing`, and was sent `wanted`.
 fn sends<R: Machine>(rt: &R, failing: u64, wanted: &[u8]) -> Mem<bool> {
     let sent = nothing_sent(rt.alloc())?;
     let links = one_client(rt.alloc(), failing, Arc::try_clone(&sent)?)?;

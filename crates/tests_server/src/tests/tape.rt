@@ -7,7 +7,7 @@ use px_mem_host::{LinkPlans, MemHost, Retired, Taken};
 use px_types::{Mem, Status, Text};
 use std::alloc::Global;
 
-// How many bytes a client is sent up to the reply to its DRAIN: those of AUTH, CREATE_PLAYBACK_STREAM, STARTED and DRAIN_PLAYBACK_STREAM.
+// The bytes that a client is sent up to the reply to its DRAIN: those of AUTH, CREATE_PLAYBACK_STREAM, STARTED and DRAIN_PLAYBACK_STREAM.
 const DRAINED: usize = 195;
 
 // A header of two sinks, `out` and `two`, in S16LE, mono, of guard 10 and depth 100.
@@ -57,7 +57,7 @@ fn clients(alloc: Global) -> Mem<LinkPlans>
     Ok(LinkPlans::from_vec(plans))
 }
 
-// Whether a run by the words of a line ends well, which writes to this output.
+// Whether a run by the words of a line, which writes to this output, ends with Ok.
 fn ends_well<R: Machine>(
     rt: &R,
     line: &str,
@@ -70,7 +70,7 @@ fn ends_well<R: Machine>(
     status.map(|status| status == Status::Ok)
 }
 
-// What a run by the words of a line writes to its output, if it ends well.
+// What a run by the words of a line writes to its output, if it ends with Ok.
 fn output_of<R: Machine>(
     rt: &R,
     line: &str,
@@ -85,7 +85,7 @@ fn output_of<R: Machine>(
     }
 }
 
-// What a replay of a tape writes by the words of a line, if it ends well.
+// What a replay of a tape writes by the words of a line, if it ends with Ok.
 fn replayed<R: Machine>(rt: &R, line: &str, tape: Text) -> Mem<Option<Text>> {
     let none = Text::from_vec(Vec::new(rt.alloc()));
     let links = LinkPlans::from_vec(Vec::new(rt.alloc()));
@@ -114,7 +114,7 @@ fn both_replay<R: Machine>(rt: &R, tape: &Text, parts: &mut [Retired]) -> Mem<bo
     )
 }
 
-// The tape of a server, if it ends well, and what its host takes back.
+// The tape of a server, if it ends with Ok, and what its host took back.
 fn taped<R: Machine>(rt: &R, clients: LinkPlans) -> Mem<(Option<Text>, Taken)>
     requires { length clients ≤ 65535 }
 {

@@ -2,10 +2,10 @@ use px_block::{Fresh, Mem};
 use px_frame::{Body, Decoder, decode, one_reading, reading_from_the_front, write_data};
 use std::alloc::Global;
 
-// A descriptor of a control packet without a byte.
+// A descriptor of a control packet with length 0.
 const ZERO: &[u8] = b"\0\0\0\0\xff\xff\xff\xff\0\0\0\0\0\0\0\0\0\0\0\0";
 
-// What a decoder says of a fault, and again of every piece behind it.
+// Whether a decoder returns this error for a piece.
 fn says(alloc: Global, decoder: &mut Decoder, piece: &[u8], wanted: &str) -> bool {
     match decoder.feed(piece, &mut Fresh::new(alloc)) {
         Ok(_) => false,

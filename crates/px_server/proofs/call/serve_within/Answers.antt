@@ -19,7 +19,7 @@ pub returns-in-Ok-clause-served : goal.returns-in-Ok-clause-served
 returns-in-Ok-clause-served g c =
     served_since g.H.D.Device.now g.H.R.Recorder.visible g.H.R.Recorder.faults g.H.R.Recorder.fulls g.H.C.Recorder.visible g.H.C.Recorder.faults g.H.C.Recorder.fulls
     c.args.header.now (g.H.Host.now c.args.host.now) (g.H.Host.now c.make_outside.new.host) (g.H.Host.now c.serve_made.new.host)
-    c.serve_made.result.status c.serve_made.result.lanes.items c.serve_made.result.core c.make_outside.ensures.later c.serve_made.ensures.served
+    c.serve_made.result.status c.serve_made.result.lanes.items c.serve_made.result.core c.make_outside.ensures.later c.in-Ok.ensures.calm c.serve_made.ensures.served
 
 pub returns-in-Ok-clause-tape : goal.returns-in-Ok-clause-tape
 returns-in-Ok-clause-tape g c = c.serve_made.ensures.tape

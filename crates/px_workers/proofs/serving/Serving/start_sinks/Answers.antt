@@ -1,14 +1,21 @@
+use Rattle.std.proofs.Common.{rules, refl, ◌∙◌}
+use Rattle.px_workers.specs.Hosted.{IsCalm}
 use Rattle.px_workers.proofs.Accepting.{starts_refl, starts_then}
 use Rattle.px_workers.proofs.serving.Serving.start_sinks.Goals as goal
 
 pub loop-self-init : goal.loop-self-init
-loop-self-init g c = starts_refl _
+loop-self-init g c = (starts_refl _, refl)
 
 pub loop-self-preserved : goal.loop-self-preserved
-loop-self-preserved g c = starts_then _ _ _ c.loop-self.invariant c.start_one.ensures.starts
+loop-self-preserved g c =
+    let calm : IsCalm (g.H.Host.now c.loop-self.host) (g.H.Host.now c.start_one.new.host) = search rules in
+    (starts_then _ _ _ c.loop-self.invariant.0 c.start_one.ensures.starts, calm ∙ c.loop-self.invariant.1)
 
 pub returns-clause-starts : goal.returns-clause-starts
-returns-clause-starts g c = c.loop-self.invariant
+returns-clause-starts g c = c.loop-self.invariant.0
+
+pub returns-clause-calm : goal.returns-clause-calm
+returns-clause-calm g c = c.loop-self.invariant.1
 
 pub returns-in_err-start_one-clause-starts : goal.returns-in_err-start_one-clause-starts
-returns-in_err-start_one-clause-starts g c = starts_then _ _ _ c.loop-self.invariant c.start_one.ensures.starts
+returns-in_err-start_one-clause-starts g c = starts_then _ _ _ c.loop-self.invariant.0 c.start_one.ensures.starts

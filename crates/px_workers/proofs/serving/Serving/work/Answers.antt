@@ -1,5 +1,6 @@
-use Rattle.std.proofs.Common.{◌≡◌, ◌++◌, ◌∙◌, length, ap, arith}
+use Rattle.std.proofs.Common.{rules, ◌≡◌, ◌++◌, ◌∙◌, length, ap, arith}
 use Rattle.px_workers.proofs.Accepting.{all_started, parts_started}
+use Rattle.px_workers.specs.Hosted.{IsCalm}
 use Rattle.px_workers.proofs.Later.{later_later, cause_later}
 use Rattle.px_workers.proofs.serving.Serving.work.Goals as goal
 
@@ -31,7 +32,9 @@ pub returns-in-Ok-clause-lent : goal.returns-in-Ok-clause-lent
 returns-in-Ok-clause-lent g c = c.accept_all.ensures.takes.lent ∙ c.start_sinks.ensures.starts.lent
 
 pub returns-in-Ok-clause-cause : goal.returns-in-Ok-clause-cause
-returns-in-Ok-clause-cause g c = cause_later c.accept_all.result _ _ _ c.start_sinks.ensures.starts.later c.accept_all.ensures.cause
+returns-in-Ok-clause-cause g c =
+    let calm : IsCalm (g.H.Host.now c.args.host.now) (g.H.Host.now c.start_sinks.new.host) = search rules in
+    cause_later c.accept_all.result _ _ _ c.start_sinks.ensures.starts.later calm c.accept_all.ensures.cause
 
 pub returns-in-Err-clause-parts : goal.returns-in-Err-clause-parts
 returns-in-Err-clause-parts g c =
