@@ -4,6 +4,7 @@ pub mod MeaningLemmas
 pub mod FeedingLemmas
 pub mod DecoderLemmas
 pub mod WriteLemmas
+pub mod SpellingLemmas
 pub mod PiecesLemmas
 pub mod BodyLemmas
 pub mod RunLemmas

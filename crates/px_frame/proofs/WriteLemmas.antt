@@ -36,7 +36,7 @@ frame-read d payload packet body words lawful whole says e =
     let splits = splits-one 0 w packet [] (record { words = words; lawful = lawful; whole = whole }) (e ∙ sym (append-nil (wire_bytes w))) in
     (0 + length (wire_bytes w), [], rw (← says) splits, inl (lit< tt))
 
-control-lawful : (n : ℕ) → 0 < n → n ≤ 16777216 → broken_rule (control_descriptor n) ≡ None
+pub control-lawful : (n : ℕ) → 0 < n → n ≤ 16777216 → broken_rule (control_descriptor n) ≡ None
 control-lawful n some few = grind (arith, common_steps)
 
 pub packet-read : (payload packet : List ℕ) → 0 < length payload → length payload ≤ 16777216 → packet ≡ descriptor_bytes (control_descriptor (length payload)) ++ payload
@@ -47,7 +47,7 @@ packet-read payload packet some few e =
     (record { length = omega arith; channel = lit< tt; offset_high = lit< tt; offset_low = lit< tt; flags = lit< tt })
     (control-lawful (length payload) some few) refl (body-control d payload refl) e
 
-data-lawful : (n stream : ℕ) (offset : ℤ) (seek : ℕ) → 0 < n → n ≤ 16777216 → stream ≢ 4294967295 → seek ≤ 3 → broken_rule (data_descriptor n stream offset seek) ≡ None
+pub data-lawful : (n stream : ℕ) (offset : ℤ) (seek : ℕ) → 0 < n → n ≤ 16777216 → stream ≢ 4294967295 → seek ≤ 3 → broken_rule (data_descriptor n stream offset seek) ≡ None
 data-lawful n stream offset seek some few other mode = grind (arith, common_steps)
 
 -- the two offset words are the offset
@@ -57,7 +57,7 @@ words-offset n stream offset seek fits =
     let whole : b / 2 ^ 32 * 2 ^ 32 + b % 2 ^ 32 ≡ b = omega arith in
     ap (cast_signed w64) whole ∙ to_z-of_z w64 offset fits
 
-high-fits : (offset : ℤ) → SFits w64 offset → cast_unsigned w64 offset / 2 ^ 32 < 2 ^ 32
+pub high-fits : (offset : ℤ) → SFits w64 offset → cast_unsigned w64 offset / 2 ^ 32 < 2 ^ 32
 high-fits offset sfits =
     let fits : Fits w64 (cast_unsigned w64 offset) = Fits-of_z sfits in
     below (cast_unsigned w64 offset) fits.fits

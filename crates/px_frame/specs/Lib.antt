@@ -3,6 +3,7 @@ pub mod Fault
 pub mod Frame
 pub mod Reading
 pub mod Meaning
+pub mod Spelling
 pub mod Feeding
 pub mod Stage
 pub mod Progress

@@ -15,7 +15,7 @@ mod write;
 pub use decoder::Decoder;
 pub use fault::{FrameError, FrameFault};
 pub use frame::{Body, Frame, Frames};
-pub use law::{one_reading, reading_from_the_front};
+pub use law::{frames_add_up, one_reading, reading_from_the_front};
 pub use packet::Packet;
 pub use pieces::decode;
 pub use write::{write_data, write_packet};
