@@ -46,6 +46,14 @@ unmarked (Some c) = cond c.marked None (Some c)
 abbrev pub going_on : List Connection → ConnId → Option Connection
 going_on connections conn = unmarked (connection_of connections conn)
 
+-- the version that a connection agreed on, where it exists and has authenticated
+abbrev pub version_in : Option Connection → Option ℕ
+version_in None = None
+version_in (Some c) = c.version
+
+abbrev pub version_of : List Connection → ConnId → Option ℕ
+version_of connections conn = version_in (connection_of connections conn)
+
 -- a live one ends: by the server for a reason, or by the client
 abbrev pub ended : {P : Type 0} → Option Connection → Option Reason → ℕ → ℕ → CoreOutcome P
 ended None reason fault at = idle

@@ -3,7 +3,7 @@
 ghost use Rattle.std.specs.Prelude.{◌≡◌, ◌<◌, ◌≤◌, length, slice_index_or};
 ghost use Rattle.std.specs.Option.{option_map};
 ghost use Rattle.px_state.specs.State.{connection_of};
-ghost use Rattle.px_core.specs.Connecting.{going_on};
+ghost use Rattle.px_core.specs.Connecting.{going_on, version_of};
 ghost use Rattle.px_core.specs.Consistency.{IsRising};
 ghost use Rattle.px_core.specs.Notice.{input_on, is_on};
 ghost use Rattle.px_core.specs.Places.{AreBelow};
@@ -17,6 +17,16 @@ pub(crate) fn connection_of(connections: &[Connection], conn: ConnId) -> Option<
     ensures { option_map (λ c. c.now) result ≡ connection_of connections.now conn }
 {
     connections.iter().find(|c| c.conn.0 == conn.0)
+}
+
+/// The version that the connection with a number agreed on, where it exists and has authenticated. Takes no memory.
+pub(crate) fn version_of(connections: &[Connection], conn: ConnId) -> Option<u16>
+    ensures { result ≡ version_of connections.now conn }
+{
+    match connection_of(connections, conn) {
+        Some(c) => c.version,
+        None => None,
+    }
 }
 
 /// The connection with a number, where it is live. Takes no memory.

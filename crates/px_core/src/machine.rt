@@ -6,12 +6,13 @@ ghost use Rattle.px_frame.specs.Frame.{IsBody};
 ghost use Rattle.px_header.specs.HeaderRules.{IsHeader};
 ghost use Rattle.px_state.specs.Effect.{IsSendable};
 ghost use Rattle.px_state.specs.State.{new_state};
+ghost use Rattle.px_core.specs.Connecting.{version_of};
 ghost use Rattle.px_core.specs.Step.{Step, stepped, effects_of};
 ghost use Rattle.px_core.specs.Consistency.{IsConsistent};
 ghost use Rattle.px_state.specs.Out.{waiting_for, next_for, put_back, sent, unsent, room_for};
 
 use crate::connecting::{break_off, connect, end, sweep_away};
-use crate::{frames, notice};
+use crate::{found, frames, notice};
 use px_frame::{Frame, FrameFault};
 use px_header::Header;
 use px_msg::{Msg, Notice, Parcel};
@@ -122,6 +123,14 @@ impl<P: Parcel + Drop> Core<P> {
         ensures err { OnErr result (self.new.state ≡ self.old.state) }
     {
         notice::take(self.alloc, &mut self.tables, sink, notice)
+    }
+
+    /// The protocol version that a connection agreed on; `None` where it doesn't exist, or hasn't authenticated. Takes no
+    /// memory.
+    pub fn version_of(&self, conn: ConnId) -> Option<u16>
+        ensures { result ≡ version_of self.now.state.connections conn }
+    {
+        found::version_of(&self.tables.connections, conn)
     }
 
     /// The number of messages queued for a sink; 0 for an unknown one. Takes no memory.

@@ -4,7 +4,10 @@ use Rattle.std.specs.List.{AllByRecursion}
 use Rattle.px_types.specs.declared.ids.ConnId.{ConnId}
 use Rattle.px_tag.specs.declared.fault.TagFault.{TagFault}
 use Rattle.px_tag.specs.declared.fault.TagFault.TheVariants.{WrongTag, Short, BadValue, Left}
+use Rattle.px_frame.specs.declared.frame.Body.{Body}
 use Rattle.px_frame.specs.Descriptor.{descriptor_bytes, control_descriptor}
+use Rattle.px_frame.specs.Frame.{IsBody}
+use Rattle.px_frame.specs.Spelling.{spelling_of, HasNumbers}
 use Rattle.px_outcome.specs.declared.sending.Reason.{Reason}
 use Rattle.px_outcome.specs.declared.sending.Reason.TheVariants.{Protocol}
 pub use Rattle.px_outcome.specs.Outcome.{reason_code}
@@ -15,7 +18,7 @@ use Rattle.px_state.specs.declared.effect.Effect.TheVariants.{Sent, Closed}
 unfoldable pub framed : List ℕ → List ℕ
 framed packet = descriptor_bytes (control_descriptor (length packet)) ++ packet
 
--- a packet goes to a connection
+-- a packet goes to a connection, as a whole frame
 abbrev pub sent : ConnId → List ℕ → Effect
 sent conn packet = Sent conn (framed packet)
 
@@ -58,12 +61,12 @@ closed_for conn reason = Closed conn reason 0 0
 
 -- ---- the length of a packet
 
--- these bytes are the whole frame of a packet of 1 to 16,777,216 bytes
+-- these bytes are one whole frame, of a control packet or of a write, with 1 to 16,777,216 bytes of payload
 pub record IsFrame (bytes : List ℕ) : Type 0 where
-  pub packet : List ℕ
-  pub is : bytes ≡ framed packet
-  pub some : 0 < length packet
-  pub few : length packet ≤ MOST_BYTES
+  pub body : Body
+  pub is : bytes ≡ spelling_of body
+  pub possible : IsBody body
+  pub numbers : HasNumbers body
 
 -- bytes sent to a client are such a frame
 abbrev pub IsSendable : Effect → Type 0

@@ -1,12 +1,16 @@
 //! The effects of a step on clients.
 
-ghost use Rattle.std.specs.Prelude.{◌≡◌, ◌<◌, ◌≤◌, length, IfOk, IfSome};
+ghost use Rattle.std.specs.Prelude.{◌≡◌, ◌≢◌, ◌<◌, ◌≤◌, length, IfOk, IfSome};
 ghost use Rattle.std.specs.Option.{option_to_list};
+ghost use Rattle.px_types.specs.declared.limits.TheConstants.{MAX_PAYLOAD, CONTROL_CHANNEL};
+ghost use Rattle.px_frame.specs.declared.frame.Body.TheVariants.{Write};
+ghost use Rattle.px_frame.specs.Spelling.{spelling_of};
+ghost use Rattle.px_state.specs.declared.effect.Effect.TheVariants.{Sent};
 ghost use Rattle.px_state.specs.Effect.{framed, sent, closed_for, IsSendable};
 ghost use Rattle.px_state.specs.Outcome.{closed_in};
 
 use crate::change::CoreChange;
-use px_frame::{Packet, write_packet};
+use px_frame::{Packet, write_data, write_packet};
 use px_outcome::{Change, Reason};
 use px_types::{ConnId, Mem, NoMemory};
 use std::alloc::Global;
@@ -29,17 +33,42 @@ pub enum Effect {
     },
 }
 
-// The effect of sending a packet of 1 to 16,777,216 bytes to a client, as a whole frame.
-#[tactic(auto, unfolding(crate::specs::Effect::framed))]
-pub(crate) fn sent(alloc: Global, conn: ConnId, packet: &[u8]) -> Mem<Effect>
-    requires some { 0 < length packet.now }
-    requires few { length packet.now ≤ 16777216 }
-    ensures value { IfOk result (λ effect. effect ≡ sent conn packet.now) }
-    ensures sendable { IfOk result IsSendable }
-{
-    match write_packet(alloc, packet) {
-        Ok(packet) => Ok(Effect::Sent { conn, packet }),
-        Err(_) => Err(NoMemory),
+impl Effect {
+    /// A control packet of 1 to 16,777,216 bytes goes to a client, as a whole frame (`pa_pstream_send_packet`).
+    #[tactic(auto, unfolding(crate::specs::Effect::framed))]
+    pub fn packet(alloc: Global, conn: ConnId, bytes: &[u8]) -> Mem<Effect>
+        requires some { 0 < length bytes.now }
+        requires few { length bytes.now ≤ MAX_PAYLOAD }
+        ensures value { IfOk result (λ effect. effect ≡ sent conn bytes.now) }
+        ensures sendable { IfOk result IsSendable }
+    {
+        match write_packet(alloc, bytes) {
+            Ok(packet) => Ok(Effect::Sent { conn, packet }),
+            Err(_) => Err(NoMemory),
+        }
+    }
+
+    /// Sound goes to a client, as a whole frame (`pa_pstream_send_memblock`): 1 to 16,777,216 bytes for a stream other than
+    /// 0xFFFFFFFF, at a byte offset from the origin of the seek mode, 0 to 3.
+    pub fn data(
+        alloc: Global,
+        conn: ConnId,
+        stream: u32,
+        offset: i64,
+        seek: u8,
+        bytes: &[u8],
+    ) -> Mem<Effect>
+        requires some { 0 < length bytes.now }
+        requires few { length bytes.now ≤ MAX_PAYLOAD }
+        requires channel { stream ≢ CONTROL_CHANNEL }
+        requires mode { seek ≤ 3 }
+        ensures value { IfOk result (λ effect. effect ≡ Sent conn (spelling_of (Write stream offset seek bytes.now))) }
+        ensures sendable { IfOk result IsSendable }
+    {
+        match write_data(alloc, stream, offset, seek, bytes) {
+            Ok(packet) => Ok(Effect::Sent { conn, packet }),
+            Err(_) => Err(NoMemory),
+        }
     }
 }
 

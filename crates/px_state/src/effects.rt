@@ -8,7 +8,7 @@ ghost use Rattle.px_state.specs.Effect.{fits, sending, IsSendable, AreSendable};
 ghost use Rattle.px_state.specs.Outcome.{reply_to_asker, sent_all, closed_all, outcome_effects};
 
 use crate::change::CoreChange;
-use crate::effect::{Effect, closed_in, sent};
+use crate::effect::{Effect, closed_in};
 use px_flat::Group;
 use px_msg::Msg;
 use px_outcome::{Sending, StepOutcome};
@@ -18,8 +18,8 @@ use px_types::{ConnId, Mem};
 use std::alloc::Global;
 use std::marker::Model;
 
-/// Effects in order. Contracts see them as a list. Each frame to a client is the whole frame of a packet of 1 to 16,777,216
-/// bytes.
+/// Effects in order. Contracts see them as a list. What goes to a client is one whole frame, of a control packet or of a
+/// write, with 1 to 16,777,216 bytes of payload.
 #[derive(Debug, Drop)]
 pub struct Effects {
     effects: Vec<Effect>,
@@ -139,7 +139,7 @@ fn send(alloc: Global, effects: &mut Effects, conn: ConnId, packet: &Packet) -> 
     ensures { OnOk result (effects.new ≡ effects.old ++ sending conn packet.now) }
 {
     if fits(packet) {
-        effects.push(sent(alloc, conn, packet.as_slice())?)?;
+        effects.push(Effect::packet(alloc, conn, packet.as_slice())?)?;
     }
     Ok(())
 }

@@ -46,6 +46,11 @@ abbrev pub records_by : World → List Event → List ℕ
 records_by w [] = []
 records_by w (e ∷ events) = records_of w e ++ records_by (world_after w e) events
 
+-- the effects of all of them
+abbrev pub effects_by_run : World → List Event → List Effect
+effects_by_run w [] = []
+effects_by_run w (e ∷ events) = effects_after w e ++ effects_by_run (world_after w e) events
+
 -- each event is admitted by the world after those before it
 abbrev pub AreAdmitted : World → List Event → Type 0
 AreAdmitted w [] = Unit {0}

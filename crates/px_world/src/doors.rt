@@ -2,6 +2,7 @@
 
 ghost use Rattle.std.specs.Prelude.{◌≡◌, ◌≢◌, ℕ, ◌<◌, List, [], ◌∷◌, ◌++◌, IfOk, OnOk, OnErr, Some, length};
 ghost use Rattle.std.specs.List.{position, remove, slice_get};
+ghost use Rattle.std.specs.Option.{is_some};
 ghost use Rattle.px_types.specs.declared.ids.ConnId.{ConnId};
 ghost use Rattle.px_frame.specs.Progress.{Within, GivesBodies};
 ghost use Rattle.px_session.specs.declared.event.Event.TheVariants.{Connect, Bytes, Close};
@@ -26,6 +27,13 @@ pub(crate) fn place_of(doors: &[Door], conn: ConnId) -> Option<usize>
     ensures { result ≡ position (is_door conn) doors.now }
 {
     doors.iter().position(|door| door.conn.0 == conn.0)
+}
+
+/// Whether there is a door of connection `conn`. Takes no memory.
+pub(crate) fn is_there(doors: &[Door], conn: ConnId) -> bool
+    ensures { (links : List Link) → Open doors.now links → result ≡ is_some (link_of links conn) }
+{
+    doors.iter().any(|door| door.conn.0 == conn.0)
 }
 
 /// Decodes the next bytes of the client of the door at `place`, in whatever pieces they come: the frames that are complete, or the fault that ends

@@ -9,8 +9,8 @@ ghost use Rattle.px_model.specs.Deciding.{replay, replay_played, IsHistory};
 ghost use Rattle.px_stream.specs.Samples.{samples};
 ghost use Rattle.px_world.specs.World.{World, new_world};
 ghost use Rattle.px_world.specs.Admission.{refusal_of};
-ghost use Rattle.px_world.specs.Event.{world_after};
-ghost use Rattle.px_world.specs.Output.{world_by, records_of, records_by, AreAdmitted, output_of};
+ghost use Rattle.px_world.specs.Event.{world_after, effects_after};
+ghost use Rattle.px_world.specs.Output.{world_by, records_of, records_by, effects_by_run, AreAdmitted, output_of};
 ghost use Rattle.px_world.specs.History.{history_by, played_by_run, begun, sink_at, AreDecided};
 ghost use Rattle.px_world.specs.Worked.{small_header, small_events, small_output};
 
@@ -41,14 +41,30 @@ pub fn sinks_replay_their_histories()
         ≡ (replay samples (begun s) (history_by (new_world header) events k)).consumed }
 {}
 
-/// A run proceeds event by event: the world, the output and the admission. Source: own.
+/// A run proceeds event by event: the world, the output, the effects and the admission. Source: own.
 pub fn runs_go_on()
     ensures world { (w : World) (events : List Event) (e : Event)
         → world_by w (events ++ e ∷ []) ≡ world_after (world_by w events) e }
     ensures records { (w : World) (events : List Event) (e : Event)
         → records_by w (events ++ e ∷ []) ≡ records_by w events ++ records_of (world_by w events) e }
+    ensures effects { (w : World) (events : List Event) (e : Event)
+        → effects_by_run w (events ++ e ∷ []) ≡ effects_by_run w events ++ effects_after (world_by w events) e }
     ensures admitted { (w : World) (events : List Event) (e : Event) → AreAdmitted w events
         → refusal_of (world_by w events) e ≡ None → AreAdmitted w (events ++ e ∷ []) }
+{}
+
+/// Two runs, one after the other, are one run: its world, its output, its effects and its admission. Source: own.
+pub fn runs_join()
+    ensures world { (w : World) (earlier later : List Event)
+        → world_by w (earlier ++ later) ≡ world_by (world_by w earlier) later }
+    ensures records { (w : World) (earlier later : List Event)
+        → records_by w (earlier ++ later) ≡ records_by w earlier ++ records_by (world_by w earlier) later }
+    ensures effects { (w : World) (earlier later : List Event)
+        → effects_by_run w (earlier ++ later) ≡ effects_by_run w earlier ++ effects_by_run (world_by w earlier) later }
+    ensures admitted { (w : World) (earlier later : List Event) → AreAdmitted w earlier
+        → AreAdmitted (world_by w earlier) later → AreAdmitted w (earlier ++ later) }
+    ensures split { (w : World) (earlier later : List Event) → AreAdmitted w (earlier ++ later)
+        → AreAdmitted w earlier × AreAdmitted (world_by w earlier) later }
 {}
 
 /// The definitions give the output of a small session that was worked by hand. Source: own.

@@ -2,9 +2,11 @@
 
 ghost use Rattle.std.specs.Prelude.{◌≡◌, ◌≢◌, ◌<◌, List, All, length, map, option_map, IfOk, OnOk, Err, Some};
 ghost use Rattle.std.specs.List.{AllByRecursion, slice_get};
+ghost use Rattle.std.specs.Option.{is_some};
 ghost use Rattle.px_header.specs.HeaderRules.{IsHeader, IsSink};
 ghost use Rattle.px_header.specs.declared.header.SinkSpec.{SinkSpec as Spec};
-ghost use Rattle.px_world.specs.World.{World as SpecWorld, new_mixer, new_world};
+ghost use Rattle.px_core.specs.Connecting.{version_of};
+ghost use Rattle.px_world.specs.World.{World as SpecWorld, new_mixer, new_world, link_of};
 ghost use Rattle.px_world.specs.Admission.{refusal_of};
 ghost use Rattle.px_world.specs.Event.{world_after, change_at};
 ghost use Rattle.px_world.specs.Outcome.{IsOutcome};
@@ -18,7 +20,7 @@ ghost use Rattle.px_world.specs.Doing.{loses, set_to_fail, world_stopping};
 ghost use Rattle.px_world.specs.declared.fault.WorldFault.{WorldFault};
 ghost use Rattle.px_world.specs.declared.fault.WorldFault.TheVariants.{NoMemory};
 
-use crate::doors::Door;
+use crate::doors::{Door, is_there};
 use crate::playing::Playing;
 use crate::run::run;
 use crate::spares::Spares;
@@ -27,7 +29,7 @@ use crate::{Frames, Outcome, WorldFault};
 use px_core::Core;
 use px_header::{Header, SinkSpec};
 use px_session::Event;
-use px_types::{Mem, SinkId, Text};
+use px_types::{ConnId, Mem, SinkId, Text};
 use std::alloc::Global;
 use std::marker::Model;
 
@@ -136,6 +138,20 @@ impl World {
         ensures { self.new ≡ self.old }
     {
         self.spares.take_text()
+    }
+
+    /// Whether a connection number is in use: from the Connect of it to its Close. Takes no memory.
+    pub fn is_named(&self, conn: ConnId) -> bool
+        ensures { (w : SpecWorld) → StandsFor self.now w → result ≡ is_some (link_of w.links conn) }
+    {
+        is_there(&self.doors, conn)
+    }
+
+    /// The protocol version that a connection agreed on; `None` where it doesn't exist, or hasn't authenticated. Takes no memory.
+    pub fn version_of(&self, conn: ConnId) -> Option<u16>
+        ensures { result ≡ version_of self.now.core.connections conn }
+    {
+        self.core.version_of(conn)
     }
 
     /// The frame counts of the sink at an index, if it is there. Takes no memory.
