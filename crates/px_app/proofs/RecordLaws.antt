@@ -10,8 +10,12 @@ use Rattle.px_session.specs.Output.{record_of}
 use Rattle.px_outcome.specs.declared.sending.Reason.{Reason}
 use Rattle.px_state.specs.declared.effect.Effect.{Effect}
 use Rattle.px_state.specs.declared.effect.Effect.TheVariants as effect
-use Rattle.px_frame.specs.Descriptor.{descriptor_bytes, control_descriptor}
-use Rattle.px_state.specs.Effect.{reason_code, framed, IsSendable}
+use Rattle.px_frame.specs.declared.frame.Body.{Body}
+use Rattle.px_frame.specs.declared.frame.Body.TheVariants.{Control, Write}
+use Rattle.px_frame.specs.Descriptor.{descriptor_bytes, control_descriptor, data_descriptor}
+use Rattle.px_frame.specs.Frame.{IsBody}
+use Rattle.px_frame.specs.Spelling.{spelling_of}
+use Rattle.px_state.specs.Effect.{reason_code, IsSendable}
 use Rattle.px_world.specs.World.{World}
 use Rattle.px_world.specs.Event.{effects_after, frames_played}
 use Rattle.px_world.specs.Output.{effect_record, turn_record, records_of}
@@ -48,10 +52,13 @@ outcome_is w e effects frames played same count bytes =
 
 -- ---- how long a record is
 
-framed_length : (packet : List ℕ) → length (framed packet) ≡ 20 + length packet
-unfolding framed descriptor_bytes
-framed_length packet = length-append (descriptor_bytes (control_descriptor (length packet))) packet
+-- a frame is its descriptor's twenty bytes and its payload
+frame_fits : (body : Body) → IsBody body → length (spelling_of body) < 2 ^ 32
+unfolding descriptor_bytes
+frame_fits (Control packet) (some, few) = omega (arith, few, length-append (descriptor_bytes (control_descriptor (length packet))) packet)
+frame_fits (Write stream offset seek bytes) (other, mode, some, few) =
+    omega (arith, few, length-append (descriptor_bytes (data_descriptor (length bytes) stream offset seek)) bytes)
 
 -- a frame that a client is sent has a length of four bytes
 pub sendable_fits : (conn : ConnId) (packet bytes : List ℕ) → bytes ≡ packet → IsSendable (effect.Sent conn packet) → length bytes < 2 ^ 32
-sendable_fits conn packet bytes same frame = omega (arith, ap (length {A = ℕ}) same, ap (length {A = ℕ}) frame.is, framed_length frame.packet, frame.few)
+sendable_fits conn packet bytes same frame = omega (arith, ap (length {A = ℕ}) same, ap (length {A = ℕ}) frame.is, frame_fits frame.body frame.possible)

@@ -28,11 +28,25 @@ fn takes_it_again<R: Wait>(seat: &mut PoolSeat<R>) -> Mem<bool> {
     Ok(empty && whole && found.bytes().iter().all(|byte| *byte == 8))
 }
 
+// A block of four bytes that came back shows only the two that were put in since.
+fn shows_the_new_bytes_alone<R: Wait>(seat: &mut PoolSeat<R>) -> Mem<bool> {
+    let mut first = seat.take()?;
+    let filled = first.put(&[1, 2, 3, 4]) == 4;
+    seat.give(first);
+    let mut again = seat.take()?;
+    let put = seat.spare() == 0 && again.put(&[5, 6]) == 2;
+    let shown = again.bytes() == [5u8, 6].as_slice();
+    seat.give(again);
+    Ok(filled && put && shown)
+}
+
 #[test]
 fn a_full_pool_drops_and_an_empty_one_makes(rt: HostRuntime) -> Mem<()> {
     let pool = Pool::new(rt.alloc(), 1)?;
     let mut seat = Pool::seat(&rt, &pool)?;
-    let held = pools_one(&mut seat)? && takes_it_again(&mut seat)?;
+    let held = shows_the_new_bytes_alone(&mut seat)?
+        && pools_one(&mut seat)?
+        && takes_it_again(&mut seat)?;
     assert!(rt; held);
     Ok(())
 }

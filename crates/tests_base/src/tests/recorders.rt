@@ -33,7 +33,8 @@ fn is_full_at(alloc: Global, room: usize, most: usize, entries: usize) -> Mem<bo
 }
 
 // Room for entries and bytes, and the number of entries until it is full.
-const ROOMS: [(usize, usize, usize); 5] = [
+const ROOMS: [(usize, usize, usize); 6] = [
+    (2, 100, 2),
     (2, 1000, 2),
     (9, 100, 2),
     (1, 64, 1),
