@@ -1,7 +1,8 @@
 -- What the events of a connection do, from what their parts do.
-use Rattle.std.proofs.Common.{◌≡◌, ◌<◌, ℕ, List, [], ◌∷◌, ◌++◌, map, length, Option, None, Some, Result, Ok, Err, refl, ap, sym, subst, ◌∙◌, append-nil}
+use Rattle.std.proofs.Common.{◌≡◌, ◌<◌, ℕ, true, List, [], ◌∷◌, ◌++◌, map, length, Option, None, Some, Result, Ok, Err, refl, ap, sym, subst, ◌∙◌, append-nil}
 use Rattle.std.specs.Prelude.{All}
 use Rattle.std.specs.List.{position, AllByRecursion}
+use Rattle.std.specs.Option.{is_some}
 use Rattle.std.proofs.lemmas.Option.{none-some}
 use Rattle.std.proofs.lemmas.List.Quantifiers.{position-Some}
 use Rattle.px_types.specs.declared.ids.ConnId.{ConnId}
@@ -22,12 +23,12 @@ use Rattle.px_core.specs.Consistency.{IsStep, Spares}
 use Rattle.px_core.specs.Parcels.{Takes}
 use Rattle.px_core.specs.Step.{Step, frame, broken, close, sweep, stepped, effects_of, stepped_by, effects_by}
 use Rattle.px_world.specs.declared.doors.Door.{Door}
-use Rattle.px_world.specs.declared.fault.WorldFault.TheVariants.{Live}
+use Rattle.px_world.specs.declared.fault.WorldFault.TheVariants.{Live, NotLive}
 use Rattle.px_world.specs.World.{Link, Mixer, link_of}
 use Rattle.px_world.specs.Admission.{if_new, if_named}
 use Rattle.px_world.specs.Running.{is_door, Open, steps_given}
 use Rattle.px_world.specs.Consistency.{AreConsistent}
-use Rattle.px_world.proofs.Openings.{refused-there}
+use Rattle.px_world.proofs.Openings.{door-absent, refused-there}
 use Rattle.px_world.proofs.Going.{all-first, all-rest}
 use Rattle.px_world.proofs.Consistent.{consistent-steps}
 
@@ -55,6 +56,15 @@ pub refused-found : (doors : List Door) (links : List Link) (conn : ConnId) (i :
     → (if_new (link_of links conn) ≡ Some Live) × (if_named (link_of links conn) ≡ None)
 refused-found [] links conn i found opened = absurd (none-some i found)
 refused-found (door ∷ doors) links conn i found opened = refused-there (door ∷ doors) links opened conn i door found
+
+-- a link has the number exactly where a door has it
+named_one : (o : Option Link) → if_named o ≡ None → true ≡ is_some o
+named_one None e = absurd (none-some NotLive (sym e))
+named_one (Some link) e = refl
+
+pub found-named : (doors : List Door) (links : List Link) (conn : ConnId) (o : Option ℕ) → o ≡ position (is_door conn) doors → Open doors links → is_some o ≡ is_some (link_of links conn)
+found-named doors links conn None e opened = sym (ap is_some (door-absent doors links opened conn (sym e)))
+found-named doors links conn (Some i) e opened = named_one (link_of links conn) (refused-found doors links conn i (sym e) opened).1
 
 -- where it was found among all of them
 pub found-by : (conn : ConnId) (slice all : List Door) (o : Option ℕ) → slice ≡ all → o ≡ position (is_door conn) slice → position (is_door conn) all ≡ o

@@ -33,7 +33,7 @@ pub(crate) fn place_of(doors: &[Door], conn: ConnId) -> Option<usize>
 pub(crate) fn is_there(doors: &[Door], conn: ConnId) -> bool
     ensures { (links : List Link) → Open doors.now links → result ≡ is_some (link_of links conn) }
 {
-    doors.iter().any(|door| door.conn.0 == conn.0)
+    place_of(doors, conn).is_some()
 }
 
 /// Decodes the next bytes of the client of the door at `place`, in whatever pieces they come: the frames that are complete, or the fault that ends
