@@ -26,6 +26,7 @@ pub mod CoreLaws
 pub mod BackLaws
 pub mod EndLaws
 pub mod RepliesLaws
+pub mod KindLaws
 pub mod RefusalLaws
 pub mod HearingLaws
 pub mod EventLaws

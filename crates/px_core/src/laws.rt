@@ -1,5 +1,5 @@
 //! Laws of the core's definitions: the invariants of its state, and the messages that are handed to a sink.
-ghost use Rattle.std.specs.Prelude.{◌≡◌, ℕ, ◌+◌, ◌<◌, ◌≤◌, List, [], ◌∷◌, ◌++◌, None, Some, map, flat_map, take, drop, replicate, slice_get};
+ghost use Rattle.std.specs.Prelude.{◌≡◌, ℕ, ◌+◌, ◌<◌, ◌≤◌, List, [], ◌∷◌, ◌++◌, None, Some, map, flat_map, take, drop, replicate, slice_get, Contains};
 ghost use Rattle.std.specs.List.{AllByRecursion};
 ghost use Rattle.px_types.specs.declared.ids.ConnId.{ConnId};
 ghost use Rattle.px_types.specs.declared.ids.SinkId.{SinkId};
@@ -11,12 +11,14 @@ ghost use Rattle.px_model.specs.Orderly.{IsOrderly, inputs_left_by};
 ghost use Rattle.px_msg.specs.declared.message.Msg.{Msg};
 ghost use Rattle.px_msg.specs.View.{sample_spec, message_of};
 ghost use Rattle.px_reply.specs.Front.{refusal};
+ghost use Rattle.px_outcome.specs.declared.input.Connection.{Connection};
+ghost use Rattle.px_state.specs.declared.effect.Effect.{Effect};
 ghost use Rattle.px_state.specs.Effect.{sent, closed_at};
 ghost use Rattle.px_state.specs.Change.{marked, with_connection};
 ghost use Rattle.px_state.specs.State.{State, new_state};
 ghost use Rattle.px_core.specs.Connecting.{going_on};
 ghost use Rattle.px_state.specs.Out.{Roomy, waiting_for, next_for, handed_out, put_back, sent_by, unsent_by};
-ghost use Rattle.px_core.specs.Step.{Step, out, sender_of, stepped, effects_of, stepped_by, effects_by};
+ghost use Rattle.px_core.specs.Step.{Step, connect, out, sender_of, stepped, effects_of, stepped_by, effects_by};
 ghost use Rattle.px_core.specs.Orderly.{specs_of, inputs_there, IsOrderlyState};
 ghost use Rattle.px_core.specs.Consistency.{IsConsistent, IsPosted, IsStep, Spares, handed_out_by, messages_out};
 ghost use Rattle.px_core.specs.Parcels.{given_in, Carries, AllCarry, IsAmong};
@@ -122,15 +124,22 @@ pub fn connections_end_once<P>()
         ≤ goes_on state.connections conn + begins_by spec_of conn state steps }
 {}
 
-/// Whatever is sent by a connection that doesn't exist, or has ended, has no effect and changes nothing; nor does any
-/// request change anything that is answered by an error alone. One that breaks a rule of the protocol marks its own
-/// connection, and changes nothing else. It does nothing: its contract is the law. Source: own.
+/// Whatever is sent by a connection that doesn't exist, or has ended, has no effect and changes nothing; nor does a client
+/// that connects with a number in use. A step whose first effect is an error has no other effect and changes nothing. One
+/// that breaks a rule of the protocol marks its own connection, and changes nothing else. It does nothing: its contract is
+/// the law. Source: own.
 pub fn refusals_change_nothing<P>()
     ensures ended { (spec_of : P → SampleSpec) (state : State P) (s : Step P) (conn : ConnId) → sender_of s ≡ Some conn
         → going_on state.connections conn ≡ None
         → (stepped spec_of state s ≡ state) × (effects_of spec_of state s ≡ []) }
+    ensures known { (spec_of : P → SampleSpec) (state : State P) (conn : ConnId) (c : Connection)
+        → Contains state.connections c → c.conn.0 ≡ conn.0
+        → (stepped spec_of state (connect conn) ≡ state) × (effects_of spec_of state (connect conn) ≡ []) }
     ensures refused { (spec_of : P → SampleSpec) (state : State P) (s : Step P) (conn : ConnId) (tag code : ℕ)
-        → effects_of spec_of state s ≡ sent conn (refusal tag code) ∷ [] → stepped spec_of state s ≡ state }
+        (more : List Effect) → effects_of spec_of state s ≡ sent conn (refusal tag code) ∷ more
+        → stepped spec_of state s ≡ state }
+    ensures alone { (spec_of : P → SampleSpec) (state : State P) (s : Step P) (conn : ConnId) (tag code : ℕ)
+        (more : List Effect) → effects_of spec_of state s ≡ sent conn (refusal tag code) ∷ more → more ≡ [] }
     ensures broken { (spec_of : P → SampleSpec) (state : State P) (s : Step P) (conn : ConnId) (fault at : ℕ)
         → effects_of spec_of state s ≡ closed_at conn fault at ∷ [] → stepped spec_of state s ≡ with_connection conn marked state }
 {}
