@@ -18,6 +18,8 @@ pub mod CreateLaws
 pub mod VolumeLaws
 pub mod RoadLaws
 pub mod ArrivalLaws
+pub mod MisfitLaws
+pub mod WayLaws
 pub mod JoinLaws
 pub mod StreamLaws
 pub mod StepLaws

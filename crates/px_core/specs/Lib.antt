@@ -1,5 +1,6 @@
 pub mod Connecting
 pub mod Notice
+pub mod Misfit
 pub mod Command
 pub mod Step
 pub mod Orderly

@@ -1,5 +1,5 @@
 //! Laws of the core's definitions: the invariants of its state, and the messages that are handed to a sink.
-ghost use Rattle.std.specs.Prelude.{◌≡◌, ℕ, ◌+◌, ◌<◌, ◌≤◌, List, [], ◌∷◌, ◌++◌, None, Some, map, flat_map, take, drop, replicate, slice_get, Contains};
+ghost use Rattle.std.specs.Prelude.{◌≡◌, ◌≢◌, ℕ, ◌+◌, ◌<◌, ◌≤◌, List, [], ◌∷◌, ◌++◌, None, Some, map, flat_map, take, drop, replicate, slice_get, Contains};
 ghost use Rattle.std.specs.List.{AllByRecursion};
 ghost use Rattle.px_types.specs.declared.ids.ConnId.{ConnId};
 ghost use Rattle.px_types.specs.declared.ids.SinkId.{SinkId};
@@ -9,16 +9,22 @@ ghost use Rattle.px_header.specs.HeaderRules.{IsHeader};
 ghost use Rattle.px_model.specs.Frame.{SampleSpec};
 ghost use Rattle.px_model.specs.Orderly.{IsOrderly, inputs_left_by};
 ghost use Rattle.px_msg.specs.declared.message.Msg.{Msg};
+ghost use Rattle.px_msg.specs.declared.notice.Notice.{Notice};
 ghost use Rattle.px_msg.specs.View.{sample_spec, message_of};
 ghost use Rattle.px_reply.specs.Front.{refusal};
 ghost use Rattle.px_outcome.specs.declared.input.Connection.{Connection};
+ghost use Rattle.px_outcome.specs.declared.input.Input.{Input};
+ghost use Rattle.px_outcome.specs.declared.input.Standing.TheVariants.{Settled, Leaving};
+ghost use Rattle.px_outcome.specs.declared.input.Way.TheVariants.{Left};
 ghost use Rattle.px_state.specs.declared.effect.Effect.{Effect};
 ghost use Rattle.px_state.specs.Effect.{sent, closed_at};
 ghost use Rattle.px_state.specs.Change.{marked, with_connection};
 ghost use Rattle.px_state.specs.State.{State, new_state};
 ghost use Rattle.px_core.specs.Connecting.{going_on};
+ghost use Rattle.px_core.specs.Notice.{IsNews};
+ghost use Rattle.px_core.specs.Misfit.{IsAbout, Misfits};
 ghost use Rattle.px_state.specs.Out.{Roomy, waiting_for, next_for, handed_out, put_back, sent_by, unsent_by};
-ghost use Rattle.px_core.specs.Step.{Step, connect, out, sender_of, stepped, effects_of, stepped_by, effects_by};
+ghost use Rattle.px_core.specs.Step.{Step, connect, notice, out, sender_of, stepped, effects_of, stepped_by, effects_by};
 ghost use Rattle.px_core.specs.Orderly.{specs_of, inputs_there, IsOrderlyState};
 ghost use Rattle.px_core.specs.Consistency.{IsConsistent, IsPosted, IsStep, Spares, handed_out_by, messages_out};
 ghost use Rattle.px_core.specs.Parcels.{given_in, Carries, AllCarry, IsAmong};
@@ -142,6 +148,20 @@ pub fn refusals_change_nothing<P>()
         (more : List Effect) → effects_of spec_of state s ≡ sent conn (refusal tag code) ∷ more → more ≡ [] }
     ensures broken { (spec_of : P → SampleSpec) (state : State P) (s : Step P) (conn : ConnId) (fault at : ℕ)
         → effects_of spec_of state s ≡ closed_at conn fault at ∷ [] → stepped spec_of state s ≡ with_connection conn marked state }
+{}
+
+/// A sink's notice that doesn't fit has no effect and changes nothing, and nor does news of an input that has ended. The sink
+/// of a settled input was handed no message to detach its stream since the input came there. It does nothing: its contract is
+/// the law. Source: own.
+pub fn misfits_change_nothing<P>()
+    ensures misfits { (spec_of : P → SampleSpec) (state : State P) (sink : SinkId) (n : Notice P) → IsConsistent spec_of state
+        → Misfits spec_of state sink n
+        → (stepped spec_of state (notice sink n) ≡ state) × (effects_of spec_of state (notice sink n) ≡ []) }
+    ensures ended { (spec_of : P → SampleSpec) (state : State P) (sink : SinkId) (n : Notice P) (x : Input)
+        → IsConsistent spec_of state → IsNews n → IsAbout state sink n x → x.standing ≡ Leaving
+        → (stepped spec_of state (notice sink n) ≡ state) × (effects_of spec_of state (notice sink n) ≡ []) }
+    ensures settled { (spec_of : P → SampleSpec) (state : State P) (x : Input) → IsConsistent spec_of state
+        → Contains state.inputs x → x.standing ≡ Settled → x.way ≢ Left }
 {}
 
 /// After the other effects of a step, each live connection is sent, in order, the subscription events of its mask, as it is
