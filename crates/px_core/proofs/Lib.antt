@@ -20,6 +20,8 @@ pub mod RoadLaws
 pub mod ArrivalLaws
 pub mod MisfitLaws
 pub mod WayLaws
+pub mod ActingLaws
+pub mod MissingLaws
 pub mod JoinLaws
 pub mod StreamLaws
 pub mod StepLaws

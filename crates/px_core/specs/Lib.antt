@@ -6,6 +6,8 @@ pub mod Step
 pub mod Orderly
 pub mod Grouped
 pub mod Consistency
+pub mod HandedOver
+pub mod Missing
 pub mod Places
 pub mod Parcels
 pub mod Lawful

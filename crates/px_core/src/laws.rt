@@ -1,5 +1,5 @@
 //! Laws of the core's definitions: the invariants of its state, and the messages that are handed to a sink.
-ghost use Rattle.std.specs.Prelude.{◌≡◌, ◌≢◌, ℕ, ◌+◌, ◌<◌, ◌≤◌, List, [], ◌∷◌, ◌++◌, None, Some, map, flat_map, take, drop, replicate, slice_get, Contains};
+ghost use Rattle.std.specs.Prelude.{◌≡◌, ◌≢◌, ℕ, ◌+◌, ◌<◌, ◌≤◌, List, [], ◌∷◌, ◌++◌, None, Some, map, flat_map, take, drop, replicate, slice_get, Contains, Err};
 ghost use Rattle.std.specs.List.{AllByRecursion};
 ghost use Rattle.px_types.specs.declared.ids.ConnId.{ConnId};
 ghost use Rattle.px_types.specs.declared.ids.SinkId.{SinkId};
@@ -10,11 +10,12 @@ ghost use Rattle.px_model.specs.Frame.{SampleSpec};
 ghost use Rattle.px_model.specs.Orderly.{IsOrderly, inputs_left_by};
 ghost use Rattle.px_msg.specs.declared.message.Msg.{Msg};
 ghost use Rattle.px_msg.specs.declared.notice.Notice.{Notice};
+ghost use Rattle.px_msg.specs.declared.notice.Notice.TheVariants.{Detached};
 ghost use Rattle.px_msg.specs.View.{sample_spec, message_of};
 ghost use Rattle.px_reply.specs.Front.{refusal};
 ghost use Rattle.px_outcome.specs.declared.input.Connection.{Connection};
 ghost use Rattle.px_outcome.specs.declared.input.Input.{Input};
-ghost use Rattle.px_outcome.specs.declared.input.Standing.TheVariants.{Settled, Leaving};
+ghost use Rattle.px_outcome.specs.declared.input.Standing.TheVariants.{Settled, Moving, Leaving};
 ghost use Rattle.px_outcome.specs.declared.input.Way.TheVariants.{Left};
 ghost use Rattle.px_state.specs.declared.effect.Effect.{Effect};
 ghost use Rattle.px_state.specs.Effect.{sent, closed_at};
@@ -23,6 +24,14 @@ ghost use Rattle.px_state.specs.State.{State, new_state};
 ghost use Rattle.px_core.specs.Connecting.{going_on};
 ghost use Rattle.px_core.specs.Notice.{IsNews};
 ghost use Rattle.px_core.specs.Misfit.{IsAbout, Misfits};
+ghost use Rattle.px_core.specs.HandedOver.{IsHandedOver, IsGrouped, others_than, with_settled, IsBrought};
+ghost use Rattle.px_core.specs.Missing.{sink_named_in, input_named_in};
+ghost use Rattle.px_core.specs.Command.{handle};
+ghost use Rattle.px_cmd.specs.declared.command.Command.{Command};
+ghost use Rattle.px_types.specs.declared.error_code.ErrorCode.TheVariants.{NoEntity};
+ghost use Rattle.px_outcome.specs.declared.refusal.Refusal.TheVariants.{Code};
+ghost use Rattle.px_outcome.specs.declared.target.Target.{Target};
+ghost use Rattle.px_outcome.specs.declared.target.Named.TheVariants.{Sink};
 ghost use Rattle.px_state.specs.Out.{Roomy, waiting_for, next_for, handed_out, put_back, sent_by, unsent_by};
 ghost use Rattle.px_core.specs.Step.{Step, connect, notice, out, sender_of, stepped, effects_of, stepped_by, effects_by};
 ghost use Rattle.px_core.specs.Orderly.{specs_of, inputs_there, IsOrderlyState};
@@ -162,6 +171,34 @@ pub fn misfits_change_nothing<P>()
         → (stepped spec_of state (notice sink n) ≡ state) × (effects_of spec_of state (notice sink n) ≡ []) }
     ensures settled { (spec_of : P → SampleSpec) (state : State P) (x : Input) → IsConsistent spec_of state
         → Contains state.inputs x → x.standing ≡ Settled → x.way ≢ Left }
+{}
+
+/// A stream that a sink hands over, where the sink was handed the message to detach it and the parcel fits: an input that has
+/// ended goes, and no other; one that moves is settled on its new sink, to which its parcel is posted. Every input is in the
+/// group of the sink that it is on. It does nothing: its contract is the law. Source: own.
+pub fn what_fits_acts<P>()
+    ensures grouped { (spec_of : P → SampleSpec) (state : State P) (x : Input) → IsConsistent spec_of state
+        → Contains state.inputs x → IsGrouped state x }
+    ensures ended { (spec_of : P → SampleSpec) (state : State P) (sink : SinkId) (x : Input) (parcel : P)
+        → IsConsistent spec_of state → IsHandedOver spec_of state sink x parcel → x.standing ≡ Leaving
+        → (stepped spec_of state (notice sink (Detached x.index parcel))).inputs ≡ others_than x.index state.inputs }
+    ensures moved { (spec_of : P → SampleSpec) (state : State P) (sink to : SinkId) (x : Input) (parcel : P)
+        → IsConsistent spec_of state → IsHandedOver spec_of state sink x parcel → x.standing ≡ Moving to
+        → (stepped spec_of state (notice sink (Detached x.index parcel))).inputs ≡ with_settled to x.index state.inputs }
+    ensures brought { (spec_of : P → SampleSpec) (state : State P) (sink to : SinkId) (x : Input) (parcel : P)
+        → IsConsistent spec_of state → IsHandedOver spec_of state sink x parcel → x.standing ≡ Moving to
+        → IsBrought to x.index parcel state (stepped spec_of state (notice sink (Detached x.index parcel))) }
+{}
+
+/// A command that names a sink, or a live input, that is there isn't answered NOENTITY for want of a group of volumes, or of a
+/// member. It does nothing: its contract is the law. Source: own.
+pub fn what_is_there_is_found<P>()
+    ensures sink { (spec_of : P → SampleSpec) (state : State P) (me : Connection) (tag : ℕ) (command : Command) (target : Target)
+        → IsConsistent spec_of state → sink_named_in state command ≡ Some (Sink target)
+        → handle state me tag command ≢ Err (Code NoEntity) }
+    ensures input { (spec_of : P → SampleSpec) (state : State P) (me : Connection) (tag : ℕ) (command : Command) (x : Input)
+        → IsConsistent spec_of state → input_named_in command ≡ Some x.index.0 → Contains state.inputs x
+        → x.standing ≢ Leaving → handle state me tag command ≢ Err (Code NoEntity) }
 {}
 
 /// After the other effects of a step, each live connection is sent, in order, the subscription events of its mask, as it is
