@@ -24,7 +24,7 @@ use Rattle.px_core.proofs.ListLaws.{heads, tails, no_cons, found_all, all_change
 
 -- ---- tests
 
-same_key : (i k : ℕ) → eq_by_cmp nat_cmp i k ≡ nat_eq k i
+pub same_key : (i k : ℕ) → eq_by_cmp nat_cmp i k ≡ nat_eq k i
 same_key i k = grind (arith, nat_tests)
 
 shadowed : {A : Type 0} (b : Bool) (x y z : A) → cond b x z ≡ cond b x (cond b y z)

@@ -18,6 +18,10 @@ pub mod CreateLaws
 pub mod VolumeLaws
 pub mod RoadLaws
 pub mod ArrivalLaws
+pub mod MisfitLaws
+pub mod WayLaws
+pub mod ActingLaws
+pub mod MissingLaws
 pub mod JoinLaws
 pub mod StreamLaws
 pub mod StepLaws
@@ -26,6 +30,7 @@ pub mod CoreLaws
 pub mod BackLaws
 pub mod EndLaws
 pub mod RepliesLaws
+pub mod KindLaws
 pub mod RefusalLaws
 pub mod HearingLaws
 pub mod EventLaws

@@ -1,10 +1,13 @@
 pub mod Connecting
 pub mod Notice
+pub mod Misfit
 pub mod Command
 pub mod Step
 pub mod Orderly
 pub mod Grouped
 pub mod Consistency
+pub mod HandedOver
+pub mod Missing
 pub mod Places
 pub mod Parcels
 pub mod Lawful

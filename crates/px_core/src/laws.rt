@@ -1,5 +1,5 @@
 //! Laws of the core's definitions: the invariants of its state, and the messages that are handed to a sink.
-ghost use Rattle.std.specs.Prelude.{◌≡◌, ℕ, ◌+◌, ◌<◌, ◌≤◌, List, [], ◌∷◌, ◌++◌, None, Some, map, flat_map, take, drop, replicate, slice_get};
+ghost use Rattle.std.specs.Prelude.{◌≡◌, ◌≢◌, ℕ, ◌+◌, ◌<◌, ◌≤◌, List, [], ◌∷◌, ◌++◌, None, Some, map, flat_map, take, drop, replicate, slice_get, Contains, Err};
 ghost use Rattle.std.specs.List.{AllByRecursion};
 ghost use Rattle.px_types.specs.declared.ids.ConnId.{ConnId};
 ghost use Rattle.px_types.specs.declared.ids.SinkId.{SinkId};
@@ -9,14 +9,31 @@ ghost use Rattle.px_header.specs.HeaderRules.{IsHeader};
 ghost use Rattle.px_model.specs.Frame.{SampleSpec};
 ghost use Rattle.px_model.specs.Orderly.{IsOrderly, inputs_left_by};
 ghost use Rattle.px_msg.specs.declared.message.Msg.{Msg};
+ghost use Rattle.px_msg.specs.declared.notice.Notice.{Notice};
+ghost use Rattle.px_msg.specs.declared.notice.Notice.TheVariants.{Detached};
 ghost use Rattle.px_msg.specs.View.{sample_spec, message_of};
 ghost use Rattle.px_reply.specs.Front.{refusal};
+ghost use Rattle.px_outcome.specs.declared.input.Connection.{Connection};
+ghost use Rattle.px_outcome.specs.declared.input.Input.{Input};
+ghost use Rattle.px_outcome.specs.declared.input.Standing.TheVariants.{Settled, Moving, Leaving};
+ghost use Rattle.px_outcome.specs.declared.input.Way.TheVariants.{Left};
+ghost use Rattle.px_state.specs.declared.effect.Effect.{Effect};
 ghost use Rattle.px_state.specs.Effect.{sent, closed_at};
 ghost use Rattle.px_state.specs.Change.{marked, with_connection};
 ghost use Rattle.px_state.specs.State.{State, new_state};
 ghost use Rattle.px_core.specs.Connecting.{going_on};
+ghost use Rattle.px_core.specs.Notice.{IsNews};
+ghost use Rattle.px_core.specs.Misfit.{IsAbout, Misfits};
+ghost use Rattle.px_core.specs.HandedOver.{IsHandedOver, IsGrouped, others_than, with_settled, IsBrought};
+ghost use Rattle.px_core.specs.Missing.{sink_named_in, input_named_in};
+ghost use Rattle.px_core.specs.Command.{handle};
+ghost use Rattle.px_cmd.specs.declared.command.Command.{Command};
+ghost use Rattle.px_types.specs.declared.error_code.ErrorCode.TheVariants.{NoEntity};
+ghost use Rattle.px_outcome.specs.declared.refusal.Refusal.TheVariants.{Code};
+ghost use Rattle.px_outcome.specs.declared.target.Target.{Target};
+ghost use Rattle.px_outcome.specs.declared.target.Named.TheVariants.{Sink};
 ghost use Rattle.px_state.specs.Out.{Roomy, waiting_for, next_for, handed_out, put_back, sent_by, unsent_by};
-ghost use Rattle.px_core.specs.Step.{Step, out, sender_of, stepped, effects_of, stepped_by, effects_by};
+ghost use Rattle.px_core.specs.Step.{Step, connect, notice, out, sender_of, stepped, effects_of, stepped_by, effects_by};
 ghost use Rattle.px_core.specs.Orderly.{specs_of, inputs_there, IsOrderlyState};
 ghost use Rattle.px_core.specs.Consistency.{IsConsistent, IsPosted, IsStep, Spares, handed_out_by, messages_out};
 ghost use Rattle.px_core.specs.Parcels.{given_in, Carries, AllCarry, IsAmong};
@@ -122,17 +139,66 @@ pub fn connections_end_once<P>()
         ≤ goes_on state.connections conn + begins_by spec_of conn state steps }
 {}
 
-/// Whatever is sent by a connection that doesn't exist, or has ended, has no effect and changes nothing; nor does any
-/// request change anything that is answered by an error alone. One that breaks a rule of the protocol marks its own
-/// connection, and changes nothing else. It does nothing: its contract is the law. Source: own.
+/// Whatever is sent by a connection that doesn't exist, or has ended, has no effect and changes nothing; nor does a client
+/// that connects with a number in use. A step whose first effect is an error has no other effect and changes nothing. One
+/// that breaks a rule of the protocol marks its own connection, and changes nothing else. It does nothing: its contract is
+/// the law. Source: own.
 pub fn refusals_change_nothing<P>()
     ensures ended { (spec_of : P → SampleSpec) (state : State P) (s : Step P) (conn : ConnId) → sender_of s ≡ Some conn
         → going_on state.connections conn ≡ None
         → (stepped spec_of state s ≡ state) × (effects_of spec_of state s ≡ []) }
+    ensures known { (spec_of : P → SampleSpec) (state : State P) (conn : ConnId) (c : Connection)
+        → Contains state.connections c → c.conn.0 ≡ conn.0
+        → (stepped spec_of state (connect conn) ≡ state) × (effects_of spec_of state (connect conn) ≡ []) }
     ensures refused { (spec_of : P → SampleSpec) (state : State P) (s : Step P) (conn : ConnId) (tag code : ℕ)
-        → effects_of spec_of state s ≡ sent conn (refusal tag code) ∷ [] → stepped spec_of state s ≡ state }
+        (more : List Effect) → effects_of spec_of state s ≡ sent conn (refusal tag code) ∷ more
+        → stepped spec_of state s ≡ state }
+    ensures alone { (spec_of : P → SampleSpec) (state : State P) (s : Step P) (conn : ConnId) (tag code : ℕ)
+        (more : List Effect) → effects_of spec_of state s ≡ sent conn (refusal tag code) ∷ more → more ≡ [] }
     ensures broken { (spec_of : P → SampleSpec) (state : State P) (s : Step P) (conn : ConnId) (fault at : ℕ)
         → effects_of spec_of state s ≡ closed_at conn fault at ∷ [] → stepped spec_of state s ≡ with_connection conn marked state }
+{}
+
+/// A sink's notice that doesn't fit has no effect and changes nothing, and nor does news of an input that has ended. The sink
+/// of a settled input was handed no message to detach its stream since the input came there. It does nothing: its contract is
+/// the law. Source: own.
+pub fn misfits_change_nothing<P>()
+    ensures misfits { (spec_of : P → SampleSpec) (state : State P) (sink : SinkId) (n : Notice P) → IsConsistent spec_of state
+        → Misfits spec_of state sink n
+        → (stepped spec_of state (notice sink n) ≡ state) × (effects_of spec_of state (notice sink n) ≡ []) }
+    ensures ended { (spec_of : P → SampleSpec) (state : State P) (sink : SinkId) (n : Notice P) (x : Input)
+        → IsConsistent spec_of state → IsNews n → IsAbout state sink n x → x.standing ≡ Leaving
+        → (stepped spec_of state (notice sink n) ≡ state) × (effects_of spec_of state (notice sink n) ≡ []) }
+    ensures settled { (spec_of : P → SampleSpec) (state : State P) (x : Input) → IsConsistent spec_of state
+        → Contains state.inputs x → x.standing ≡ Settled → x.way ≢ Left }
+{}
+
+/// A stream that a sink hands over, where the sink was handed the message to detach it and the parcel fits: an input that has
+/// ended goes, and no other; one that moves is settled on its new sink, to which its parcel is posted. Every input is in the
+/// group of the sink that it is on. It does nothing: its contract is the law. Source: own.
+pub fn what_fits_acts<P>()
+    ensures grouped { (spec_of : P → SampleSpec) (state : State P) (x : Input) → IsConsistent spec_of state
+        → Contains state.inputs x → IsGrouped state x }
+    ensures ended { (spec_of : P → SampleSpec) (state : State P) (sink : SinkId) (x : Input) (parcel : P)
+        → IsConsistent spec_of state → IsHandedOver spec_of state sink x parcel → x.standing ≡ Leaving
+        → (stepped spec_of state (notice sink (Detached x.index parcel))).inputs ≡ others_than x.index state.inputs }
+    ensures moved { (spec_of : P → SampleSpec) (state : State P) (sink to : SinkId) (x : Input) (parcel : P)
+        → IsConsistent spec_of state → IsHandedOver spec_of state sink x parcel → x.standing ≡ Moving to
+        → (stepped spec_of state (notice sink (Detached x.index parcel))).inputs ≡ with_settled to x.index state.inputs }
+    ensures brought { (spec_of : P → SampleSpec) (state : State P) (sink to : SinkId) (x : Input) (parcel : P)
+        → IsConsistent spec_of state → IsHandedOver spec_of state sink x parcel → x.standing ≡ Moving to
+        → IsBrought to x.index parcel state (stepped spec_of state (notice sink (Detached x.index parcel))) }
+{}
+
+/// A command that names a sink, or a live input, that is there isn't answered NOENTITY for want of a group of volumes, or of a
+/// member. It does nothing: its contract is the law. Source: own.
+pub fn what_is_there_is_found<P>()
+    ensures sink { (spec_of : P → SampleSpec) (state : State P) (me : Connection) (tag : ℕ) (command : Command) (target : Target)
+        → IsConsistent spec_of state → sink_named_in state command ≡ Some (Sink target)
+        → handle state me tag command ≢ Err (Code NoEntity) }
+    ensures input { (spec_of : P → SampleSpec) (state : State P) (me : Connection) (tag : ℕ) (command : Command) (x : Input)
+        → IsConsistent spec_of state → input_named_in command ≡ Some x.index.0 → Contains state.inputs x
+        → x.standing ≢ Leaving → handle state me tag command ≢ Err (Code NoEntity) }
 {}
 
 /// After the other effects of a step, each live connection is sent, in order, the subscription events of its mask, as it is
