@@ -84,6 +84,17 @@ abbrev pub AreExact : State PlainStream → List CoreEntry → Type 0
 AreExact began [] = ⊤
 AreExact began (e ∷ entries) = IsExact began e.step × AreExact (stepped_by spec_of began (steps_of e.step)) entries
 
+-- the number of messages that a step names for a sink
+abbrev pub named_in : ℕ → PlainStep → ℕ
+named_in index (steps.Connect conn) = 0
+named_in index (steps.Frame conn at body) = 0
+named_in index (steps.Broken conn fault at) = 0
+named_in index (steps.Close conn) = 0
+named_in index (steps.Cut conn) = 0
+named_in index steps.Sweep = 0
+named_in index (steps.Notice sink notice) = 0
+named_in index (steps.Out sink count) = cond (nat_eq sink index) count 0
+
 -- ---- the invariants of a core under its lock
 
 -- a sink's inbox is for its sample spec; all messages posted there are lawful, and the inputs that they leave are those that the core knows to be
