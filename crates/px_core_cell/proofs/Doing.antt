@@ -1,5 +1,5 @@
 -- What the parts of a step under the lock do, put together.
-use Rattle.std.proofs.Common.{◌≡◌, ℕ, zero, suc, ◌+◌, Bool, true, false, List, [], ◌∷◌, ◌++◌, set, replicate, Option, Some, None, Ok, refl, ap, sym, subst, ◌∙◌, arith}
+use Rattle.std.proofs.Common.{◌≡◌, ℕ, zero, suc, ◌+◌, ◌<◌, Bool, true, false, List, [], ◌∷◌, ◌++◌, set, replicate, length, Option, Some, None, Ok, refl, ap, sym, subst, ◌∙◌, arith}
 use Rattle.std.specs.Prelude.{nat_eq, slice_get, IfSome}
 use Rattle.std.specs.List.{AllByRecursion}
 use Rattle.std.specs.Option.{option_to_list}
@@ -31,7 +31,7 @@ use Rattle.px_core.proofs.HearingLaws.{nothing_posted}
 use Rattle.px_core_cell.specs.declared.step.CoreStep.{CoreStep}
 use Rattle.px_core_cell.specs.declared.step.CoreStep.TheVariants as asked
 use Rattle.px_core_cell.specs.Cell.{Logged, SinkEnds}
-use Rattle.px_core_cell.specs.History.{sink_at, noticed_in, owes}
+use Rattle.px_core_cell.specs.History.{sink_at, noticed_in, owes, IsExact}
 use Rattle.px_core_cell.specs.Parcel.{spec_of}
 use Rattle.px_core_cell.specs.Plain.{plain_run, plain_notice, plain_body, run_for, notice_for, body_for, fault_for, steps_of}
 use Rattle.px_core_cell.proofs.Places.{elsewhere, there}
@@ -120,6 +120,17 @@ own_owes owed asked.Sweep d own is = ap (owes owed) is
 own_owes owed (asked.Notice sink) d own is = absurd (true≢false (sym own))
 own_owes owed (asked.Out sink) d own is = absurd (true≢false (sym own))
 
+-- and its entry is exact in any state
+own_exact : (state : State PlainStream) (step : CoreStep) (d : PlainStep) → is_own step ≡ true → IsEntryFor step d → IsExact state d
+own_exact state (asked.Connect conn) d own is = subst (λ (x : PlainStep). IsExact state x) (sym is) tt
+own_exact state (asked.Frame conn f) d own is = subst (λ (x : PlainStep). IsExact state x) (sym is) tt
+own_exact state (asked.Broken conn fault at) d own is = subst (λ (x : PlainStep). IsExact state x) (sym is) tt
+own_exact state (asked.Close conn) d own is = subst (λ (x : PlainStep). IsExact state x) (sym is) tt
+own_exact state (asked.Cut conn) d own is = subst (λ (x : PlainStep). IsExact state x) (sym is) tt
+own_exact state asked.Sweep d own is = subst (λ (x : PlainStep). IsExact state x) (sym is) tt
+own_exact state (asked.Notice sink) d own is = absurd (true≢false (sym own))
+own_exact state (asked.Out sink) d own is = absurd (true≢false (sym own))
+
 own_unnoticed : (index : ℕ) (step : CoreStep) (d : PlainStep) → is_own step ≡ true → IsEntryFor step d → noticed_in index d ≡ []
 own_unnoticed index (asked.Connect conn) d own is = ap (noticed_in index) is
 own_unnoticed index (asked.Frame conn f) d own is = ap (noticed_in index) is
@@ -176,11 +187,11 @@ handed sink n before after e f h = record {
 
 module _ {C : Type 0} (visible : C → Option (List CoreEntry)) where
   pub logged_rests : (before after : Logged C) → after.state ≡ before.state → visible after.recorder ≡ visible before.recorder → after.steps ≡ before.steps → after.owed ≡ before.owed → LoggedDoes visible None before after
-  logged_rests before after state same steps owed = record { state = state; visible_new = same; steps = omega (arith, steps); owed = owed }
+  logged_rests before after state same steps owed = record { state = state; visible_new = same; steps = omega (arith, steps); owed = owed; exact = tt }
 
-  pub logged_moves : (d : PlainStep) (before after : Logged C) → after.state ≡ stepped_by spec_of before.state (steps_of d) → visible after.recorder ≡ noted (record { step = d }) (visible before.recorder) → after.steps ≡ before.steps + 1 → after.owed ≡ owes before.owed d
+  pub logged_moves : (d : PlainStep) (before after : Logged C) → after.state ≡ stepped_by spec_of before.state (steps_of d) → visible after.recorder ≡ noted (record { step = d }) (visible before.recorder) → after.steps ≡ before.steps + 1 → after.owed ≡ owes before.owed d → IsExact before.state d
       → LoggedDoes visible (Some d) before after
-  logged_moves d before after state is steps owed = record { state = state; visible_new = is; steps = steps; owed = owed }
+  logged_moves d before after state is steps owed exact = record { state = state; visible_new = is; steps = steps; owed = owed; exact = exact }
 
   -- no sink has a part in it
   pub apart : (made : Option PlainStep) (before after : Logged C) (ends : List SinkEnds) → LoggedDoes visible made before after → ((index : ℕ) → Spared before.state index made) → Does visible made (record { logged = before; ends = ends }) (record { logged = after; ends = ends })
@@ -213,16 +224,16 @@ module _ {C : Type 0} (visible : C → Option (List CoreEntry)) where
   Collects index held before after effects =
       IfSome held (λ n. (after ≡ stepped spec_of before (Step.notice (sink_at index) n)) × (effects ≡ effects_of spec_of before (Step.notice (sink_at index) n)))
 
-  -- one that was fetched and collected
-  pub notice_done : (index : ℕ) (before after : Logged C) (e k f : SinkEnds) (n : Notice PlainStream) (effects : List Effect) → Fetches e k → k.held ≡ Some n → f ≡ record k { held = None }
+  -- one that was fetched and collected, of a sink that exists
+  pub notice_done : (index : ℕ) (before after : Logged C) (e k f : SinkEnds) (n : Notice PlainStream) (effects : List Effect) → index < length before.state.sinks → Fetches e k → k.held ≡ Some n → f ≡ record k { held = None }
       → Collects index k.held before.state after.state effects → visible after.recorder ≡ noted (record { step = plain.Notice index (plain_notice n) }) (visible before.recorder) → after.steps ≡ before.steps + 1 → after.owed ≡ true
       → after.fault ≡ before.fault → NoticeGives visible index before after e f (Ok (Some effects))
-  notice_done index before after e k f n effects fetch has is collects same steps owed fault =
+  notice_done index before after e k f n effects exists fetch has is collects same steps owed fault =
       let did = subst (λ (o : Option (Notice PlainStream)). Collects index o before.state after.state effects) has collects in
       let back : Step.notice (sink_at index) n ≡ Step.notice (sink_at index) (notice_for (plain_notice n)) = ap (λ (m : Notice PlainStream). Step.notice (sink_at index) m) (sym (notice_back n)) in (
         n,
         record {
-          logged = logged_moves (plain.Notice index (plain_notice n)) before after (did.0 ∙ ap (λ (s : Step PlainStream). stepped spec_of before.state s) back) same steps owed;
+          logged = logged_moves (plain.Notice index (plain_notice n)) before after (did.0 ∙ ap (λ (s : Step PlainStream). stepped spec_of before.state s) back) same steps owed exists;
           end = collected before.state index e k f n fetch has is;
         },
         did.1 ∙ ap (λ (s : Step PlainStream). effects_of spec_of before.state s) back ∙ sym (one_effects before.state (Step.notice (sink_at index) (notice_for (plain_notice n)))),
@@ -236,7 +247,7 @@ module _ {C : Type 0} (visible : C → Option (List CoreEntry)) where
   own_done step d before after effects own is state same steps owed are fault = (
     d,
     is,
-    logged_moves d before after (state ∙ ap (λ (l : List (Step PlainStream)). stepped_by spec_of before.state l) (sym (own_steps step d own is))) same steps owed,
+    logged_moves d before after (state ∙ ap (λ (l : List (Step PlainStream)). stepped_by spec_of before.state l) (sym (own_steps step d own is))) same steps owed (own_exact before.state step d own is),
     are ∙ sym (one_effects before.state (step_for step)) ∙ ap (λ (l : List (Step PlainStream)). effects_by spec_of before.state l) (sym (own_steps step d own is)),
     fault,
   )

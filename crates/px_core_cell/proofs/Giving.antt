@@ -43,10 +43,14 @@ pub none_at : {B : Type 0} (seen : CoreEnd → B) (ends : List CoreEnd) (place n
 none_at seen ends place n count past e is =
     none-some e (sym (slice_get_past (map seen ends) place (omega (arith, count, past, length-map ends seen))) ∙ is)
 
+-- the index of a sink's ends is that of a sink
+pub is_sink : {C : Type 0} (cell : Cell C) (sink : SinkId) → IsSound cell → sink.0 < length cell.ends → sink.0 < length cell.logged.state.sinks
+is_sink cell sink h inside = subst (λ (n : ℕ). sink.0 < n) h.count inside
+
 -- a sink whose ends are there is there itself
 pub is_there : {C : Type 0} (cell : Cell C) (sink : SinkId) (e : SinkEnds) → IsSound cell → sink.0 < length cell.ends → slice_get cell.ends sink.0 ≡ Some e → IsThere sink cell.logged.state e
 is_there cell sink e h inside is =
-    let s = sink_there cell.logged.state.sinks sink.0 (subst (λ (n : ℕ). sink.0 < n) h.count inside) in
+    let s = sink_there cell.logged.state.sinks sink.0 (is_sink cell sink h inside) in
     (s.0, s.1, h.heard sink.0 s.0 e s.1 is)
 
 module _ {C : Type 0} (visible : C → Option (List CoreEntry)) where

@@ -29,10 +29,10 @@ use Rattle.px_core_cell.specs.declared.step.CoreStep.TheVariants as asked
 use Rattle.px_core_cell.specs.declared.step.StepFault.{StepFault}
 use Rattle.px_core_cell.specs.declared.step.StepFault.TheVariants.{NoMemory, Worn, Recorder, Owed}
 use Rattle.px_core_cell.specs.Cell.{Cell, SinkEnds}
-use Rattle.px_core_cell.specs.History.{sink_at, steps_in, noticed_in, noticed_by, owes, owed_by, IsHeard, IsSound, IsAgreed, IsReplay, IsCell, Begins, fresh_ends, first_cell}
+use Rattle.px_core_cell.specs.History.{sink_at, steps_in, replayed, noticed_in, noticed_by, owes, owed_by, AreExact, IsHeard, IsSound, IsAgreed, IsReplay, IsCell, Begins, fresh_ends, first_cell}
 use Rattle.px_core_cell.specs.Parcel.{spec_of}
 use Rattle.px_core_cell.specs.Plain.{steps_of}
-use Rattle.px_core_cell.specs.Step.{IsAsked, IsEntryFor, steps_done, noticed_done, entered, owed_after, IsEndAfter, Does, StepGives}
+use Rattle.px_core_cell.specs.Step.{IsAsked, IsEntryFor, steps_done, noticed_done, entered, owed_after, IsExactDone, IsEndAfter, Does, StepGives}
 use Rattle.px_core_cell.proofs.Handing.{heard_on, all_outs}
 use Rattle.px_core_cell.proofs.Doing.{own_steps}
 
@@ -57,6 +57,19 @@ those_count (Some d) = refl
 those_owed : (made : Option PlainStep) (entries : List CoreEntry) → owed_by (entries ++ those made) ≡ owed_after made (owed_by entries)
 those_owed None entries = ap owed_by (append-nil entries)
 those_owed (Some d) entries = fold-append (λ (owed : Bool) (e : CoreEntry). owes owed e.step) false entries (record { step = d } ∷ [])
+
+those_exact : (state : State PlainStream) (made : Option PlainStep) → IsExactDone state made → AreExact state (those made)
+those_exact state None h = tt
+those_exact state (Some d) h = (h, tt)
+
+-- exact entries, and after them others
+exact_joined : (began : State PlainStream) (entries later : List CoreEntry) → AreExact began entries → AreExact (replayed began entries) later → AreExact began (entries ++ later)
+exact_joined began [] later h more = more
+exact_joined began (e ∷ entries) later h more = (
+  h.0,
+  exact_joined (stepped_by spec_of began (steps_of e.step)) entries later h.1
+      (subst (λ (s : State PlainStream). AreExact s later) (fold-append (stepped spec_of) began (steps_of e.step) (steps_in entries)) more),
+)
 
 all_steps : (entries : List CoreEntry) (made : Option PlainStep) → steps_in (entries ++ those made) ≡ steps_in entries ++ steps_done made
 all_steps entries made =
@@ -110,6 +123,7 @@ module _ {C : Type 0} (visible : C → Option (List CoreEntry)) (began : State P
         ∙ sym (fold-append (stepped spec_of) began (steps_in entries) (steps_done made)) ∙ ap (λ (l : List (Step PlainStream)). stepped_by spec_of began l) (sym (all_steps entries made));
     steps = omega (arith, does.logged.steps, h.steps, those_count made, length-append entries (those made));
     owed = does.logged.owed ∙ ap (λ (b : Bool). owed_after made b) h.owed ∙ sym (those_owed made entries);
+    exact = exact_joined began entries (those made) h.exact (subst (λ (s : State PlainStream). AreExact s (those made)) h.state (those_exact before.logged.state made does.logged.exact));
     agreed = λ index f is.
         let e : SinkEnds = get_or before.ends index f in
         let end = end_after made before after does index f is in
@@ -194,6 +208,7 @@ module _ {C : Type 0} (visible : C → Option (List CoreEntry)) (began : State P
           state = refl;
           steps = refl;
           owed = refl;
+          exact = tt;
           agreed = λ index e is. by index e (slice_get h.header.sinks index) (at_end index ∙ is);
         });
       }

@@ -5,3 +5,4 @@ pub mod Handing
 pub mod Doing
 pub mod Keeping
 pub mod Giving
+pub mod Naming

@@ -1,5 +1,5 @@
 -- The history of a core: the meaning of its entries, and the invariants of a core under its lock.
-use Rattle.std.specs.Prelude.{◌≡◌, ℕ, Bool, true, false, cond, nat_eq, List, [], ◌∷◌, ◌++◌, map, flat_map, length, slice_get, Option, None, Some, IfSome}
+use Rattle.std.specs.Prelude.{◌≡◌, ℕ, ◌<◌, ◌≤◌, Bool, true, false, cond, nat_eq, List, [], ◌∷◌, ◌++◌, map, flat_map, length, slice_get, Option, None, Some, IfSome, ⊤}
 use Rattle.std.specs.List.{fold}
 use Rattle.std.specs.Option.{option_to_list}
 use Rattle.px_types.specs.declared.ids.SinkId.{SinkId}
@@ -14,6 +14,7 @@ use Rattle.px_msg.specs.declared.notice.Notice.{Notice}
 use Rattle.px_msg.specs.View.{sample_spec}
 use Rattle.px_msg.specs.Letters.{AreLawful, inputs_after}
 use Rattle.px_state.specs.State.{State, new_state}
+use Rattle.px_state.specs.Out.{waiting_for}
 use Rattle.px_core.specs.Consistency.{IsConsistent}
 use Rattle.px_core.specs.Orderly.{inputs_there}
 use Rattle.px_core.specs.Hearing.{posted_by_steps}
@@ -65,6 +66,35 @@ owes owed (steps.Out sink count) = owed
 abbrev pub owed_by : List CoreEntry → Bool
 owed_by entries = fold (λ owed e. owes owed (CoreEntry.step e)) false entries
 
+-- ---- entries that claim nothing that wasn't there
+
+-- a step is exact in the state before it: at least as many messages as it hands out are queued for its sink, and the sink of its notice exists
+abbrev pub IsExact : State PlainStream → PlainStep → Type 0
+IsExact state (steps.Connect conn) = ⊤
+IsExact state (steps.Frame conn at body) = ⊤
+IsExact state (steps.Broken conn fault at) = ⊤
+IsExact state (steps.Close conn) = ⊤
+IsExact state (steps.Cut conn) = ⊤
+IsExact state steps.Sweep = ⊤
+IsExact state (steps.Notice sink notice) = sink < length state.sinks
+IsExact state (steps.Out sink count) = count ≤ length (waiting_for state (sink_at sink))
+
+-- each entry's step is exact in the state that the entries before it leave
+abbrev pub AreExact : State PlainStream → List CoreEntry → Type 0
+AreExact began [] = ⊤
+AreExact began (e ∷ entries) = IsExact began e.step × AreExact (stepped_by spec_of began (steps_of e.step)) entries
+
+-- the number of messages that a step names for a sink
+abbrev pub named_in : ℕ → PlainStep → ℕ
+named_in index (steps.Connect conn) = 0
+named_in index (steps.Frame conn at body) = 0
+named_in index (steps.Broken conn fault at) = 0
+named_in index (steps.Close conn) = 0
+named_in index (steps.Cut conn) = 0
+named_in index steps.Sweep = 0
+named_in index (steps.Notice sink notice) = 0
+named_in index (steps.Out sink count) = cond (nat_eq sink index) count 0
+
 -- ---- the invariants of a core under its lock
 
 -- a sink's inbox is for its sample spec; all messages posted there are lawful, and the inputs that they leave are those that the core knows to be
@@ -87,11 +117,12 @@ pub record IsAgreed (began : State PlainStream) (entries : List CoreEntry) (inde
   pub posted : e.posted ≡ posted_by_steps spec_of (sink_at index) began (steps_in entries)
   pub taken : e.taken ≡ noticed_by index entries ++ option_to_list e.held
 
--- the core is the replay of its entries, one a step
+-- the core is the replay of its entries, one a step, and each of them is exact
 pub record IsReplay {C : Type 0} (began : State PlainStream) (cell : Cell C) (entries : List CoreEntry) : Type 0 where
   pub state : cell.logged.state ≡ replayed began entries
   pub steps : cell.logged.steps ≡ length entries
   pub owed : cell.logged.owed ≡ owed_by entries
+  pub exact : AreExact began entries
   pub agreed : (index : ℕ) (e : SinkEnds) → slice_get cell.ends index ≡ Some e → IsAgreed began entries index e
 
 -- all of it: `visible` gives the entries of a recorder whose content is visible

@@ -25,7 +25,7 @@ use Rattle.px_core_cell.specs.declared.step.StepFault.{StepFault}
 use Rattle.px_core_cell.specs.declared.step.StepFault.TheVariants.{NoMemory, Worn, Recorder, Owed}
 use Rattle.px_core_cell.specs.declared.log.StepLog.{StepLog}
 use Rattle.px_core_cell.specs.Cell.{Logged, Cell, Calls, SinkEnds, logged_of}
-use Rattle.px_core_cell.specs.History.{sink_at, noticed_in, owes}
+use Rattle.px_core_cell.specs.History.{sink_at, noticed_in, owes, IsExact}
 use Rattle.px_core_cell.specs.Parcel.{spec_of}
 use Rattle.px_core_cell.specs.Plain.{plain_notice, plain_body, steps_of}
 
@@ -93,6 +93,10 @@ abbrev pub owed_after : Option PlainStep → Bool → Bool
 owed_after None owed = owed
 owed_after (Some d) owed = owes owed d
 
+abbrev pub IsExactDone : State PlainStream → Option PlainStep → Type 0
+IsExactDone state None = ⊤
+IsExactDone state (Some d) = IsExact state d
+
 -- the ends at a sink: the messages that the step hands to it were posted to its inbox; the held and the newly taken notice are the step's notice of
 -- the sink, and then the one held afterwards
 pub record IsEndAfter (done : Option PlainStep) (state : State PlainStream) (index : ℕ) (e f : SinkEnds) : Type 0 where
@@ -102,12 +106,13 @@ pub record IsEndAfter (done : Option PlainStep) (state : State PlainStream) (ind
   pub taken : f.taken ≡ e.taken ++ took
   pub held : option_to_list e.held ++ took ≡ noticed_done index done ++ option_to_list f.held
 
--- the core makes the step, its recorder notes it, and it is counted
+-- the core makes the step, its recorder notes it, and it is counted; what is noted is exact in the state before
 pub record LoggedDoes {C : Type 0} (visible : C → Option (List CoreEntry)) (done : Option PlainStep) (before after : Logged C) : Type 0 where
   pub state : after.state ≡ stepped_by spec_of before.state (steps_done done)
   pub visible_new : visible after.recorder ≡ entered done (visible before.recorder)
   pub steps : after.steps ≡ before.steps + length (option_to_list done)
   pub owed : after.owed ≡ owed_after done before.owed
+  pub exact : IsExactDone before.state done
 
 -- and so do the ends of each sink
 pub record Does {C : Type 0} (visible : C → Option (List CoreEntry)) (done : Option PlainStep) (before after : Cell C) : Type 0 where

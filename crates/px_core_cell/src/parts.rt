@@ -1,6 +1,6 @@
 //! The content of the core's lock, and its steps.
 
-ghost use Rattle.std.specs.Prelude.{◌≡◌, ◌-◌, ◌^◌, ◌<◌, Some, true, slice_get, Ok, Err, IfOk, MatchResult, map};
+ghost use Rattle.std.specs.Prelude.{◌≡◌, ◌-◌, ◌^◌, ◌<◌, Some, true, length, slice_get, Ok, Err, IfOk, MatchResult, map};
 ghost use Rattle.px_header.specs.declared.header.SinkSpec.{SinkSpec};
 ghost use Rattle.px_core.specs.Consistency.{IsConsistent};
 ghost use Rattle.px_core_cell.specs.declared.step.CoreStep.TheVariants as asked;
@@ -68,6 +68,7 @@ fn notice_step<C: Recorder<CoreEntry>, R: Wait>(
     sink: SinkId,
 ) -> Result<Option<Effects>, StepFault>
     requires countable { log.old.steps < 2 ^ 64 - 1 }
+    requires exists { sink.0 < length core.old.state.sinks }
     ensures gives { NoticeGives C.visible sink.0 (logged_of core.old.state log.old) (logged_of core.new.state log.new) (ends_of end.old) (ends_of end.new) result }
     ensures stops { NoticeStops (calls_of end.old) (calls_of end.new) result }
     ensures said { StepSays C.limit C.visible C.faults C.fulls result log.old.recorder log.new.recorder }
@@ -173,6 +174,7 @@ impl<C: Recorder<CoreEntry>> CoreParts<C> {
         sink: SinkId,
     ) -> Result<Option<Effects>, StepFault>
         requires countable { self.old.log.steps < 2 ^ 64 - 1 }
+        requires sound { IsSound (cell_of self.old) }
         ensures gives { FreeGives C.visible (asked.Notice sink) (cell_of self.old) (cell_of self.new) result }
         ensures stops { Stops (asked.Notice sink) self.new.core.state (calls_in self.old) (calls_in self.new) result }
         ensures said { StepSays C.limit C.visible C.faults C.fulls result self.old.log.recorder self.new.log.recorder }

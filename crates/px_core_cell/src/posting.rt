@@ -1,6 +1,6 @@
 //! The messages and notices that go through the core's ends of a sink's mailboxes.
 
-ghost use Rattle.std.specs.Prelude.{◌≡◌, ◌⊎◌, ◌++◌, [], ◌∷◌, None, Some, true, false, slice_get, IsSome, IfSome, IfOk, OnOk, OnErr};
+ghost use Rattle.std.specs.Prelude.{◌≡◌, ◌≤◌, ◌⊎◌, ◌++◌, [], ◌∷◌, None, Some, true, false, length, slice_get, IsSome, IfSome, IfOk, OnOk, OnErr};
 ghost use Rattle.px_mail.specs.Mailbox.{stored_by, found_by};
 ghost use Rattle.px_header.specs.declared.header.SinkSpec.{SinkSpec};
 ghost use Rattle.px_state.specs.Out.{waiting_for};
@@ -82,6 +82,7 @@ impl CoreEnd {
         requires consistent { IsConsistent spec_of core.old.state }
         requires heard { (s : SinkSpec) × (slice_get core.old.state.sinks sink.0 ≡ Some s) × IsHeard core.old.state sink.0 s (ends_of self.old) }
         ensures posts { PostsMany sink result core.old.state core.new.state (ends_of self.old) (ends_of self.new) }
+        ensures queued { result ≤ length (waiting_for core.old.state sink) }
         ensures until { HandsAll sink core.new.state (ends_of self.new) }
         ensures calls { HandsOut sink core.new.state (calls_of self.old) (calls_of self.new) }
         ensures boxes { boxes_of self.new ≡ boxes_of self.old }

@@ -20,7 +20,8 @@ use std::sync::Wait;
 /// The core with its history (PulseAudio's `pa_core` has none; own). Contracts see the state that it began with and where it
 /// stands: its state, its recorder, the number of steps done, the messages and notices that went through each sink's
 /// mailboxes, and for each call at these whether it found room or a notice. Where the recorder's content is visible, the
-/// state is the replay of the entries from the beginning, one entry a step.
+/// state is the replay of the entries from the beginning, one entry a step; an entry that hands out messages names exactly as
+/// many as left, and the sink of a notice exists.
 #[derive(Drop)]
 pub struct CoreState<C: Recorder<CoreEntry>> {
     began: Snapshot<CellCore>,

@@ -10,7 +10,7 @@ returns-in-Ok-clause-gives g c =
     let used : ends_of c.collect.new.self ≡ record (ends_of c.fetch.new.self) { held = None } = c.in-Ok.ensures.used in
     let collects : Collects g.C.Recorder.visible c.args.sink.0 c.fetch.new.self.held c.args.core.now.state c.collect.new.core.state c.in-Ok.effects = c.in-Ok.ensures.done in
     notice_done g.C.Recorder.visible c.args.sink.0 (logged_of c.args.core.now.state c.args.log.now) (logged_of c.collect.new.core.state c.note.new.self) (ends_of c.args.end.now) (ends_of c.fetch.new.self) (ends_of c.collect.new.self)
-    c.in-Some.notice c.in-Ok.effects c.fetch.ensures.fetches held used collects
+    c.in-Some.notice c.in-Ok.effects c.requires.exists c.fetch.ensures.fetches held used collects
     (c.note.ensures.visible ∙ (λ i. noted (record { step = c.in_ok-entry.ensures.step i }) (c.in_ok-entry.ensures.visible i)))
     (c.note.ensures.steps ∙ ap (λ (n : ℕ). n + 1) c.in_ok-entry.ensures.steps)
     c.note.ensures.owed

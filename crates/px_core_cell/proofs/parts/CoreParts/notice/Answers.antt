@@ -1,11 +1,17 @@
-use Rattle.std.proofs.Common.{List, map, sym, subst, ◌∙◌, refl}
-use Rattle.std.proofs.lemmas.List.{map-set}
+use Rattle.std.proofs.Common.{◌<◌, List, map, length, sym, subst, ◌∙◌, refl, arith}
+use Rattle.std.proofs.lemmas.List.{map-set, length-map}
 use Rattle.px_core_cell.specs.declared.step.CoreStep.TheVariants as asked
 use Rattle.px_core_cell.specs.Cell.{SinkEnds, ends_of, logged_of, cell_of, calls_of}
 use Rattle.px_core_cell.specs.Step.{FreeGives}
-use Rattle.px_core_cell.proofs.Giving.{placed_at, none_at, boxes_stay, notice_gives}
+use Rattle.px_core_cell.proofs.Giving.{placed_at, none_at, boxes_stay, is_sink, notice_gives}
 use Rattle.px_core_cell.proofs.Calls.{notice_stops}
 use Rattle.px_core_cell.proofs.parts.CoreParts.notice.Goals as goal
+
+pub notice_step-requires-clause-exists : goal.notice_step-requires-clause-exists
+notice_step-requires-clause-exists g c =
+    let inside : c.args.sink.0 < length (map ends_of c.args.self.now.ends.items) =
+    omega (arith, c.if-place-len.true, c.len.ensures ∙ c.args.self.now.ends.ok.0, length-map c.args.self.now.ends.items ends_of) in
+    is_sink (cell_of c.args.self.now) c.args.sink c.requires.sound inside
 
 pub returns-then-place-len-clause-gives : goal.returns-then-place-len-clause-gives
 returns-then-place-len-clause-gives g c =
