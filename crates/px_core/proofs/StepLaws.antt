@@ -3,7 +3,7 @@ use Rattle.std.proofs.Common.{◌≡◌, ℕ, zero, suc, List, [], ◌∷◌, �
 use Rattle.std.specs.Prelude.{nat_eq, nat_le, ◌+◌, replicate, get_or, not, is_some, IsSome, Result, Ok, Err}
 use Rattle.std.specs.List.{AllByRecursion}
 use Rattle.std.specs.FinMap as finite
-use Rattle.std.proofs.lemmas.Bool.{cond_both, eqb-false, cases_lt, and_parts}
+use Rattle.std.proofs.lemmas.Bool.{cond_both, eqb-true, eqb-false, cases_lt, and_parts}
 use Rattle.std.proofs.lemmas.List.{length-replicate, get_or-replicate, get_or_past}
 use Rattle.std.proofs.lemmas.Option.{none-some}
 use Rattle.px_types.specs.declared.ids.ConnId.{ConnId}
@@ -54,14 +54,14 @@ use Rattle.px_state.specs.State.{State, new_state, goes_on, connection_of, input
 use Rattle.px_core.specs.Command.{default_sink, handle, read_answer, is_barred, command_answer, head_answer}
 use Rattle.px_core.specs.Connecting.{is_full, new_connection, joined, connected, ended, going_on}
 use Rattle.px_core.specs.Notice.{is_on, input_on, owner_of, notified_of, left_of, arrival_at, arrived_with, given_up_by, given_up, notice_answer}
-use Rattle.px_core.specs.Parcels.{given_by, given_in}
+use Rattle.px_core.specs.Parcels.{Brought, moved_stream, given_by, given_in}
 use Rattle.px_core.specs.Orderly.{inputs_there}
 use Rattle.px_core.specs.Consistency.{AreDistinct, AreInStep, IsConsistent, IsStep, Spares, handed_out_by}
 use Rattle.px_state.specs.Out.{next_for, handed_out}
 use Rattle.px_state.specs.Outcome.{CoreOutcome, refused, reply_fits, requested, broken_off}
 use Rattle.px_sinks.specs.Sinks.{rate_of, rate_on, depth_of, sink_of, named_by}
 use Rattle.px_core.specs.Step.{Step, connect, frame, broken, close, cut, sweep, notice, out, body_answer, frame_of, answered, answer_of, stepped, stepped_by}
-use Rattle.px_core.proofs.ListLaws.{all_push}
+use Rattle.px_core.proofs.ListLaws.{all_push, found_test}
 use Rattle.px_core.proofs.ChangeLaws.{sink_at, held_on}
 use Rattle.px_core.proofs.HandingLaws.{out_keeps, out_spares}
 use Rattle.px_core.proofs.GroupLaws.{changes_grouped, past_grouped, new_grouped}
@@ -234,17 +234,22 @@ notified_of_lawful state input about = notified_lawful state input (owner_of sta
 
 -- a sink has given up a stream
 given_up_sound : {P : Type 0} (spec_of : P → SampleSpec) (state : State P) → IsConsistent spec_of state → (sink : SinkId) (input : InputId) (parcel : P) (o : Option Input) → input_on state.inputs sink input ≡ o
-    → IsSound spec_of state (given_up spec_of state sink o parcel) (parcel ∷ [])
+    → IsSound spec_of state (given_up spec_of state sink o parcel) (moved_stream input.0 parcel ∷ [])
 given_up_sound spec_of state h sink input parcel None e = inl tt
-given_up_sound {P} spec_of state h sink input parcel (Some x) e = by x.standing refl
+given_up_sound {P} spec_of state h sink input parcel (Some x) e =
+    subst (λ index. IsSound spec_of state (given_up spec_of state sink (Some x) parcel) (moved_stream index parcel ∷ [])) own (by x.standing refl)
   where
+    -- it is of the input that is found
+    own : x.index.0 ≡ input.0
+    own = eqb-true x.index.0 input.0 (and_parts (nat_eq x.index.0 input.0) (nat_eq x.sink.0 sink.0) (found_test (is_on sink input) state.inputs x e)).0
+
     lawful : IsLawful state (left_of spec_of state sink (Some x) parcel)
     lawful = left_lawful spec_of state h sink input (spec_of parcel) (Some x) e
 
-    by : (standing : Standing) → x.standing ≡ standing → IsSound spec_of state (given_up_by spec_of state sink x parcel standing) (parcel ∷ [])
+    by : (standing : Standing) → x.standing ≡ standing → IsSound spec_of state (given_up_by spec_of state sink x parcel standing) (moved_stream x.index.0 parcel ∷ [])
     by Settled is = inl lawful
     by (Moving to) is =
-        cond_both (hands_over (spec_of parcel) x) (arrived_with x.index parcel (arrival_at state to x)) (left_of spec_of state sink (Some x) parcel) (λ outcome. IsSound spec_of state outcome (parcel ∷ []))
+        cond_both (hands_over (spec_of parcel) x) (arrived_with x.index parcel (arrival_at state to x)) (left_of spec_of state sink (Some x) parcel) (λ outcome. IsSound spec_of state outcome (moved_stream x.index.0 parcel ∷ []))
         (λ t.
         let parts = and_parts (has_left x.way) (same_spec (spec_of parcel) (sample_spec x.spec)) t in
         arrival_sound spec_of state h x to parcel (found_by_index (is_on sink input) state.inputs h.steady.rising x e) is (away x.way parts.0) (spec_is (spec_of parcel) (sample_spec x.spec) parts.1))
@@ -283,7 +288,7 @@ pub record Preserves {P : Type 0} (spec_of : P → SampleSpec) (before after : S
   pub consistent : IsConsistent spec_of after
   pub held : (k : ℕ) → held_on k after.inputs ≡ held_on k before.inputs
 
-sound_keeps : {P : Type 0} (spec_of : P → SampleSpec) (state : State P) (outcome : CoreOutcome P) (given : List P) → IsConsistent spec_of state → IsSound spec_of state outcome given → Preserves spec_of state (answered state outcome)
+sound_keeps : {P : Type 0} (spec_of : P → SampleSpec) (state : State P) (outcome : CoreOutcome P) (given : List (Brought P)) → IsConsistent spec_of state → IsSound spec_of state outcome given → Preserves spec_of state (answered state outcome)
 sound_keeps spec_of state outcome given h (inl lawful) =
     let after = changes_follow spec_of [] state outcome.changes h.steady lawful in
     record {

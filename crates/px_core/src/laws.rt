@@ -19,7 +19,7 @@ ghost use Rattle.px_state.specs.Out.{Roomy, waiting_for, next_for, handed_out, p
 ghost use Rattle.px_core.specs.Step.{Step, out, sender_of, stepped, effects_of, stepped_by, effects_by};
 ghost use Rattle.px_core.specs.Orderly.{specs_of, inputs_there, IsOrderlyState};
 ghost use Rattle.px_core.specs.Consistency.{IsConsistent, IsPosted, IsStep, Spares, handed_out_by, messages_out};
-ghost use Rattle.px_core.specs.Parcels.{given_in, Carries, AllCarry, IsAmong};
+ghost use Rattle.px_core.specs.Parcels.{given_in, Carries, AllCarry, IsNewOrAmong};
 ghost use Rattle.px_core.specs.Hearing.{posted_by_steps};
 ghost use Rattle.px_subscribe.specs.Became.{SayWhatBecame};
 ghost use Rattle.px_state.specs.Events.{step_events};
@@ -84,15 +84,15 @@ pub fn sinks_hear_what_is_orderly<P>()
         → (stepped_by spec_of state steps).sinks ≡ state.sinks }
 {}
 
-/// No parcel is queued for a sink, and none is handed to it, but those that came with notices. It does nothing: its contract
-/// is the law. Source: own.
+/// Each stream that a message brings to a sink, queued or handed to it, is a new one, or one that a notice among the steps
+/// gave up: of that very input, in that very parcel. It does nothing: its contract is the law. Source: own.
 pub fn parcels_are_those_given_up<P>()
     ensures waiting { (spec_of : P → SampleSpec) (header : Header) (steps : List (Step P)) → IsHeader header
         → AllByRecursion IsStep steps
-        → AllCarry (IsAmong (flat_map given_in steps)) (stepped_by spec_of (new_state header) steps) }
+        → AllCarry (IsNewOrAmong (flat_map given_in steps)) (stepped_by spec_of (new_state header) steps) }
     ensures posted { (spec_of : P → SampleSpec) (header : Header) (steps : List (Step P)) (sink : SinkId) → IsHeader header
         → AllByRecursion IsStep steps
-        → AllByRecursion (Carries (IsAmong (flat_map given_in steps))) (posted_by_steps spec_of sink (new_state header) steps) }
+        → AllByRecursion (Carries (IsNewOrAmong (flat_map given_in steps))) (posted_by_steps spec_of sink (new_state header) steps) }
 {}
 
 /// The messages that a sink is handed by some steps followed by others; by steps that hand it nothing; and by those that do
