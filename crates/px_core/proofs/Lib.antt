@@ -22,6 +22,8 @@ pub mod JoinLaws
 pub mod StreamLaws
 pub mod StepLaws
 pub mod ParcelLaws
+pub mod GivenLaws
+pub mod IndexLaws
 pub mod CoreLaws
 pub mod BackLaws
 pub mod EndLaws

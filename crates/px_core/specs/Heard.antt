@@ -1,9 +1,10 @@
 -- The changes of all infos over a step, and which connections are sent which of these events.
-use Rattle.std.specs.Prelude.{ℕ, Bool, false, nat_eq, List, [], map, filter, Option, None, Some}
+use Rattle.std.specs.Prelude.{◌≡◌, ℕ, ◌<◌, Bool, false, nat_eq, List, [], map, filter, Option, None, Some}
 use Rattle.px_types.specs.declared.ids.ConnId.{ConnId}
 use Rattle.px_model.specs.Frame.{SampleSpec}
 use Rattle.px_names.specs.declared.client.Client.{Client}
-use Rattle.px_names.specs.Clients.{client_on, mask_of}
+use Rattle.px_names.specs.Clients.{client_on, client_numbered, mask_of}
+use Rattle.px_ctl_info.specs.Clients.{info_of}
 use Rattle.px_outcome.specs.declared.input.Connection.{Connection}
 use Rattle.px_subscribe.specs.declared.event.Event.{Event}
 use Rattle.px_subscribe.specs.Event.{message_of, hears}
@@ -32,6 +33,12 @@ given_by state = given_in state.sinks state.clients_made (scene_of state)
 
 abbrev pub events_of : {P : Type 0} → State P → State P → List Event
 events_of before after = events_between (given_by after) (infos_of before) (infos_of after)
+
+-- a client is the one with its index, and events about it follow its own info
+pub record IsOwn {P : Type 0} (state : State P) (client : Client) : Type 0 where
+  pub given : client.index < (given_by state).clients
+  pub found : client_numbered state.names.clients client.index ≡ Some client
+  pub info : (infos_of state).clients client.index ≡ Some (info_of client)
 
 -- ---- who is notified
 

@@ -6,6 +6,7 @@ pub mod Orderly
 pub mod Grouped
 pub mod Consistency
 pub mod Places
+pub mod Indexed
 pub mod Parcels
 pub mod Lawful
 pub mod Ending

@@ -19,11 +19,12 @@ ghost use Rattle.px_state.specs.Out.{Roomy, waiting_for, next_for, handed_out, p
 ghost use Rattle.px_core.specs.Step.{Step, out, sender_of, stepped, effects_of, stepped_by, effects_by};
 ghost use Rattle.px_core.specs.Orderly.{specs_of, inputs_there, IsOrderlyState};
 ghost use Rattle.px_core.specs.Consistency.{IsConsistent, IsPosted, IsStep, Spares, handed_out_by, messages_out};
+ghost use Rattle.px_core.specs.Indexed.{IsIndexed};
 ghost use Rattle.px_core.specs.Parcels.{given_in, Carries, AllCarry, IsNewOrAmong};
 ghost use Rattle.px_core.specs.Hearing.{posted_by_steps};
 ghost use Rattle.px_subscribe.specs.Became.{SayWhatBecame};
 ghost use Rattle.px_state.specs.Events.{step_events};
-ghost use Rattle.px_core.specs.Heard.{infos_of, given_by, events_of, mask_on, heard, sent_events, sent_to, own_effects};
+ghost use Rattle.px_core.specs.Heard.{IsOwn, infos_of, given_by, events_of, mask_on, heard, sent_events, sent_to, own_effects};
 ghost use Rattle.px_core.specs.Ending.{ends_of, goes_on, begins_of, begins_by};
 
 /// A new state has the core's invariants, and every step preserves them; `spec_of` reads a parcel's sample spec. So the
@@ -93,6 +94,19 @@ pub fn parcels_are_those_given_up<P>()
     ensures posted { (spec_of : P → SampleSpec) (header : Header) (steps : List (Step P)) (sink : SinkId) → IsHeader header
         → AllByRecursion IsStep steps
         → AllByRecursion (Carries (IsNewOrAmong (flat_map given_in steps))) (posted_by_steps spec_of sink (new_state header) steps) }
+{}
+
+/// The indices of clients rise in the order of connecting, and no later client gets one of them again; each connection has
+/// its client and each client its connection; and the indices of a connection's streams rise. So every client is the one
+/// with its index, and subscribers are sent the events about each by its own info. It does nothing: its contract is the law.
+/// Source: own.
+pub fn indices_are_given_once<P>()
+    ensures new { (header : Header) → IsIndexed {P = P} (new_state header) }
+    ensures step { (spec_of : P → SampleSpec) (state : State P) (s : Step P) → IsStep s → IsConsistent spec_of state → IsIndexed state
+        → IsIndexed (stepped spec_of state s) }
+    ensures steps { (spec_of : P → SampleSpec) (state : State P) (steps : List (Step P)) → AllByRecursion IsStep steps
+        → IsConsistent spec_of state → IsIndexed state → IsIndexed (stepped_by spec_of state steps) }
+    ensures own { (state : State P) → IsIndexed state → AllByRecursion (IsOwn state) state.names.clients }
 {}
 
 /// The messages that a sink is handed by some steps followed by others; by steps that hand it nothing; and by those that do

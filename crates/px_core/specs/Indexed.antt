@@ -1,0 +1,59 @@
+-- The indices of clients, and of the streams of each connection: none is given twice.
+use Rattle.std.specs.Prelude.{◌≡◌, ℕ, ◌+◌, ◌<◌, List, map, filter, Option, None, Some, MatchOption}
+use Rattle.std.specs.List.{AllByRecursion}
+use Rattle.px_types.specs.declared.ids.ConnId.{ConnId}
+use Rattle.px_names.specs.declared.client.Client.{Client}
+use Rattle.px_outcome.specs.declared.input.Connection.{Connection}
+use Rattle.px_outcome.specs.declared.input.Input.{Input}
+use Rattle.px_state.specs.State.{State, connection_of, is_from}
+use Rattle.px_core.specs.Consistency.{IsIncreasing}
+
+-- indices that were given one after the other: they rise, and lie below the one that is given next
+pub record AreGiven (next : ℕ) (indices : List ℕ) : Type 0 where
+  pub rising : IsIncreasing indices
+  pub below : AllByRecursion (λ i. i < next) indices
+
+-- ---- clients
+
+-- a connection's number, with its client's index
+abbrev pub own_client : Connection → ℕ × ℕ
+own_client c = (c.conn.0, c.client)
+
+-- a client's index, with its connection's number
+abbrev pub own_connection : Client → ℕ × ℕ
+own_connection client = (client.conn.0, client.index)
+
+abbrev pub indices_of : List Client → List ℕ
+indices_of clients = map (λ client. Client.index client) clients
+
+-- ---- the streams of a connection
+
+-- its live inputs, in rising index
+abbrev pub inputs_from : List Input → ConnId → List Input
+inputs_from inputs conn = filter (is_from conn) inputs
+
+abbrev pub streams_of : List Input → ConnId → List ℕ
+streams_of inputs conn = map (λ x. Input.stream x) (inputs_from inputs conn)
+
+-- the index that its next stream gets
+abbrev pub next_stream : Option Connection → ℕ
+next_stream None = 0
+next_stream (Some c) = c.streams
+
+-- a new input's stream has the next index of its connection, and is counted
+pub record IsNextStream (connections : List Connection) (x : Input) (streams : ℕ) : Type 0 where
+  pub next : MatchOption (connection_of connections x.conn) ⊥ (λ c. x.stream ≡ c.streams)
+  pub counted : streams ≡ x.stream + 1
+
+-- ---- the state
+
+pub record AreIndexed (connections : List Connection) (clients : List Client) (clients_made : ℕ) (inputs : List Input) : Type 0 where
+  -- in the order of connecting
+  pub clients_given : AreGiven clients_made (indices_of clients)
+  -- each connection has its client and each client its connection, in the same order
+  pub paired : map own_client connections ≡ map own_connection clients
+  -- a connection that doesn't exist has no live stream
+  pub streams_given : (conn : ConnId) → AreGiven (next_stream (connection_of connections conn)) (streams_of inputs conn)
+
+abbrev pub IsIndexed : {P : Type 0} → State P → Type 0
+IsIndexed state = AreIndexed state.connections state.names.clients state.clients_made state.inputs
