@@ -1,17 +1,15 @@
 -- Each change keeps the indices of clients and streams as they are given, and so does each step.
-use Rattle.std.proofs.Common.{◌≡◌, ◌⊎◌, inl, inr, ℕ, ◌+◌, ◌<◌, List, [], ◌∷◌, ◌++◌, map, Option, Some, None, Bool, true, false, refl, ap, sym, subst, ◌∙◌, arith, cond}
+use Rattle.std.proofs.Common.{◌≡◌, ◌⊎◌, inl, inr, ℕ, ◌+◌, List, [], ◌∷◌, ◌++◌, map, Option, Some, None, Bool, true, false, refl, ap, sym, subst, ◌∙◌, cond}
 use Rattle.std.specs.Prelude.{◌&&◌, not, nat_eq, nat_lt, filter, length, IsSome, IfSome, MatchOption}
 use Rattle.std.specs.List.{AllByRecursion, find}
-use Rattle.std.specs.Option.{option_map}
-use Rattle.std.proofs.lemmas.Bool.{cond_both, cond-true, cond-false, eqb-true, eq-eqb, ne_eqb}
+use Rattle.std.proofs.lemmas.Bool.{cond_both, eqb-true, eq-eqb}
 use Rattle.std.proofs.lemmas.List.{map-append, append-nil}
 use Rattle.px_types.specs.declared.ids.ConnId.{ConnId}
 use Rattle.px_types.specs.declared.ids.InputId.{InputId}
 use Rattle.px_types.specs.declared.ids.SinkId.{SinkId}
 use Rattle.px_names.specs.declared.client.Client.{Client}
 use Rattle.px_names.specs.Names.{Naming}
-use Rattle.px_names.specs.Clients.{is_on, client_numbered, change_first as change_client, without_first, new_client, with_list, with_mask}
-use Rattle.px_ctl_info.specs.Clients.{info_of}
+use Rattle.px_names.specs.Clients.{is_on, change_first as change_client, without_first, new_client, with_list, with_mask}
 use Rattle.px_model.specs.Frame.{SampleSpec}
 use Rattle.px_msg.specs.declared.message.Msg.{Msg}
 use Rattle.px_msg.specs.declared.message.Msg.TheVariants.{New, Attach, Detach, Write, Cork, Flush, Trigger, Prebuf, Drain, Attr, Factors, Query}
@@ -29,10 +27,8 @@ use Rattle.px_state.specs.State.{State, has_number, connection_of, has_index, in
 use Rattle.px_state.specs.Change.{Change, change_first, drop_first, authed, marked, with_streams, leaving, with_attr, moving_to, arrived_at, inputs_noted, defaulted, ending, ending_of, posting_to_input, posting_if_there, departs, departs_of, arrives, arrives_of, releasing, releasing_of, changed, committed}
 use Rattle.px_state.specs.Outcome.{CoreOutcome}
 use Rattle.px_state.specs.Out.{on_way, inputs_past, next_for, past}
-use Rattle.px_subscribe.specs.InfoBytes.{client_at}
 use Rattle.px_core.specs.Connecting.{is_full, new_connection, joined, connected}
-use Rattle.px_core.specs.Consistency.{IsIncreasing, IsConsistent, IsStep}
-use Rattle.px_core.specs.Heard.{IsOwn}
+use Rattle.px_core.specs.Consistency.{IsConsistent, IsStep}
 use Rattle.px_core.specs.Indexed.{AreGiven, own_client, own_connection, indices_of, streams_of, next_stream, IsNextStream, AreIndexed, IsIndexed}
 use Rattle.px_core.specs.Lawful.{HasLeft, Lawful, AreLawfulOwing, owed_after}
 use Rattle.px_core.specs.Parcels.{Brought, given_in}
@@ -314,36 +310,3 @@ none_indexed = record {
   paired = refl;
   streams_given = λ conn. record { rising = tt; below = tt };
 }
-
--- ---- a client is the one with its index
-
-info_found : (clients : List Client) (i : ℕ) → client_at (map info_of clients) i ≡ option_map info_of (client_numbered clients i)
-info_found [] i = refl
-info_found (c ∷ cs) i = step (info_found cs i) (nat_eq c.index i)
-  where
-    step : client_at (map info_of cs) i ≡ option_map info_of (client_numbered cs i) → (b : Bool) → cond b (Some (info_of c)) (client_at (map info_of cs) i) ≡ option_map info_of (cond b (Some c) (client_numbered cs i))
-    step later true = refl
-    step later false = later
-
--- found among `all` by its own index
-abbrev IsFound : List Client → Client → Type 0
-IsFound all c = client_numbered all c.index ≡ Some c
-
-found_later : (c : Client) (cs ds : List Client) → AllByRecursion (λ j. c.index < j) (indices_of ds) → AllByRecursion (IsFound cs) ds → AllByRecursion (IsFound (c ∷ cs)) ds
-found_later c cs [] above h = tt
-found_later c cs (d ∷ ds) above h =
-    (cond-false (nat_eq c.index d.index) (Some c) (client_numbered cs d.index) (ne_eqb c.index d.index (λ (same : c.index ≡ d.index). absurd (omega (arith, above.0, same)))) ∙ h.0, found_later c cs ds above.1 h.1)
-
-all_found : (cs : List Client) → IsIncreasing (indices_of cs) → AllByRecursion (IsFound cs) cs
-all_found [] r = tt
-all_found (c ∷ cs) r = (cond-true (nat_eq c.index c.index) (Some c) (client_numbered cs c.index) (eq-eqb c.index c.index refl), found_later c cs cs r.0 (all_found cs r.1))
-
-own_each : {P : Type 0} (state : State P) (ds : List Client) → AllByRecursion (λ i. i < state.clients_made) (indices_of ds) → AllByRecursion (IsFound state.names.clients) ds → AllByRecursion (IsOwn state) ds
-own_each state [] below found = tt
-own_each state (d ∷ ds) below found = (
-  record { given = below.0; found = found.0; info = info_found state.names.clients d.index ∙ ap (λ (o : Option Client). option_map info_of o) found.0 },
-  own_each state ds below.1 found.1,
-)
-
-pub all_own : {P : Type 0} (state : State P) → IsIndexed state → AllByRecursion (IsOwn state) state.names.clients
-all_own state h = own_each state state.names.clients h.clients_given.below (all_found state.names.clients h.clients_given.rising)

@@ -24,6 +24,8 @@ pub mod StepLaws
 pub mod ParcelLaws
 pub mod GivenLaws
 pub mod IndexLaws
+pub mod AgainLaws
+pub mod OwnLaws
 pub mod CoreLaws
 pub mod BackLaws
 pub mod EndLaws

@@ -1,6 +1,6 @@
 -- The indices of clients, and of the streams of each connection: none is given twice.
-use Rattle.std.specs.Prelude.{◌≡◌, ℕ, ◌+◌, ◌<◌, List, map, filter, Option, None, Some, MatchOption}
-use Rattle.std.specs.List.{AllByRecursion}
+use Rattle.std.specs.Prelude.{◌≡◌, ℕ, ◌+◌, ◌<◌, ◌≤◌, List, map, filter, Option, None, Some, MatchOption}
+use Rattle.std.specs.List.{AllByRecursion, Contains}
 use Rattle.px_types.specs.declared.ids.ConnId.{ConnId}
 use Rattle.px_names.specs.declared.client.Client.{Client}
 use Rattle.px_outcome.specs.declared.input.Connection.{Connection}
@@ -57,3 +57,15 @@ pub record AreIndexed (connections : List Connection) (clients : List Client) (c
 
 abbrev pub IsIndexed : {P : Type 0} → State P → Type 0
 IsIndexed state = AreIndexed state.connections state.names.clients state.clients_made state.inputs
+
+-- ---- over steps
+
+-- an input's index, with the connection, the client and the stream that it was made for
+abbrev pub origin_of : Input → ℕ × ℕ × ℕ × ℕ
+origin_of x = (x.index.0, x.conn.0, x.client, x.stream)
+
+-- no index is given again: a client or an input with one that was given before was there before, and is of the same connection; and no count falls
+pub record GivesNoneAgain {P : Type 0} (before after : State P) : Type 0 where
+  pub clients : AllByRecursion (λ c. Client.index c < before.clients_made → Contains (map own_connection before.names.clients) (own_connection c)) after.names.clients
+  pub inputs : AllByRecursion (λ x. (Input.index x).0 < before.inputs_made → Contains (map origin_of before.inputs) (origin_of x)) after.inputs
+  pub counts : (before.clients_made ≤ after.clients_made) × (before.inputs_made ≤ after.inputs_made)

@@ -1,4 +1,6 @@
-use Rattle.px_core.proofs.IndexLaws.{none_indexed, step_indexed, steps_indexed, all_own}
+use Rattle.px_core.proofs.IndexLaws.{none_indexed, step_indexed, steps_indexed}
+use Rattle.px_core.proofs.AgainLaws.{none_again}
+use Rattle.px_core.proofs.OwnLaws.{all_own}
 use Rattle.px_core.proofs.laws.indices_are_given_once.Goals as goal
 
 pub returns-clause-new : goal.returns-clause-new
@@ -12,3 +14,6 @@ returns-clause-steps g c = steps_indexed
 
 pub returns-clause-own : goal.returns-clause-own
 returns-clause-own g c = all_own
+
+pub returns-clause-again : goal.returns-clause-again
+returns-clause-again g c = none_again
