@@ -259,7 +259,7 @@ module _ {P : Type 0} (spec_of : P → SampleSpec) (state : State P) (h : IsCons
   }
 
   next : IsNextStream state.connections x (me.streams + 1)
-  next = record { next = subst (λ (o : Option Connection). MatchOption o ⊥ (λ c. me.streams ≡ c.streams)) (sym here) refl; counted = refl }
+  next = record { next = subst (λ (o : Option Connection). MatchOption o ⊥ (λ c. me.streams ≡ c.streams)) (sym here) refl; counted = refl; client = subst (λ (o : Option Connection). MatchOption o ⊥ (λ c. me.client ≡ c.client)) (sym here) refl }
 
   rising : IsRising (settled_on state.inputs made.sink.index ++ x ∷ [])
   rising = rising_push (settled_on state.inputs made.sink.index) x (rising_filter (is_settled made.sink.index) state.inputs h.steady.rising) (all_filter (λ y. (Input.index y).0 < state.inputs_made) (is_settled made.sink.index) state.inputs

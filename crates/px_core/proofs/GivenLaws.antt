@@ -1,8 +1,8 @@
 -- Indices that were given one after the other, where some go and one more is given; and the clients and streams that connections have, where these change.
-use Rattle.std.proofs.Common.{◌≡◌, ◌⊎◌, inl, inr, ℕ, ◌+◌, ◌<◌, List, [], ◌∷◌, ◌++◌, map, Some, None, Bool, true, false, refl, ap, sym, subst, ◌∙◌, arith, cond}
-use Rattle.std.specs.Prelude.{◌&&◌, nat_eq, filter, IsSome}
+use Rattle.std.proofs.Common.{◌≡◌, ◌⊎◌, inl, inr, ℕ, ◌+◌, ◌<◌, List, [], ◌∷◌, ◌++◌, map, Option, Some, None, Bool, true, false, refl, ap, sym, subst, ◌∙◌, arith, cond}
+use Rattle.std.specs.Prelude.{◌&&◌, nat_eq, filter, IsSome, MatchOption}
 use Rattle.std.specs.List.{AllByRecursion}
-use Rattle.std.proofs.lemmas.Bool.{cond_both, cond-true, cond-false, eqb-true, false≢true}
+use Rattle.std.proofs.lemmas.Bool.{ne_eqb, eqb-false, cond_both, cond-true, cond-false, eqb-true, false≢true}
 use Rattle.std.proofs.lemmas.List.{map-append}
 use Rattle.std.proofs.lemmas.List.Elements.{filter-append}
 use Rattle.std.proofs.lemmas.Option.{same_Some}
@@ -15,7 +15,7 @@ use Rattle.px_state.specs.State.{has_number, connection_of, has_index, input_of,
 use Rattle.px_state.specs.Change.{change_first, drop_first, with_streams, leaving}
 use Rattle.px_core.specs.Connecting.{new_connection}
 use Rattle.px_core.specs.Consistency.{IsIncreasing}
-use Rattle.px_core.specs.Indexed.{AreGiven, own_client, own_connection, indices_of, streams_of, next_stream}
+use Rattle.px_core.specs.Indexed.{AreGiven, NamesClient, own_client, own_connection, indices_of, streams_of, next_stream}
 use Rattle.px_core.proofs.ListLaws.{heads, tails, no_cons, all_push, all_weaken, same_passed}
 
 -- ---- indices of which some go
@@ -130,6 +130,52 @@ next_joined n client conn (c ∷ cs) = behind (nat_eq c.conn.0 conn.0) (next_joi
     behind : (b : Bool) → next_stream (connection_of (cs ++ new_connection n client ∷ []) conn) ≡ next_stream (connection_of cs conn) → next_stream (cond b (Some c) (connection_of (cs ++ new_connection n client ∷ []) conn)) ≡ next_stream (cond b (Some c) (connection_of cs conn))
     behind true g = refl
     behind false g = g
+
+-- ---- a connection that exists, and of which something holds
+
+module _ (Q : Connection → Type 0) where
+  abbrev Has : Option Connection → Type 0
+  Has o = MatchOption o ⊥ Q
+
+  pub has_change : (n : ConnId) (f : Connection → Connection) → ((c : Connection) → (f c).conn.0 ≡ c.conn.0) → ((c : Connection) → Q c → Q (f c)) → (conn : ConnId) (cs : List Connection) → Has (connection_of cs conn) → Has (connection_of (change_first (has_number n) f cs) conn)
+  has_change n f keeps so conn [] h = h
+  has_change n f keeps so conn (c ∷ cs) h = step (has_change n f keeps so conn cs) (nat_eq c.conn.0 n.0)
+    where
+      own : (b d : Bool) → d ≡ b → Has (cond b (Some c) (connection_of cs conn)) → Has (cond d (Some (f c)) (connection_of cs conn))
+      own true true e h = so c h
+      own true false e h = absurd (false≢true e)
+      own false true e h = absurd (false≢true (sym e))
+      own false false e h = h
+
+      behind : (Has (connection_of cs conn) → Has (connection_of (change_first (has_number n) f cs) conn)) → (b : Bool) → Has (cond b (Some c) (connection_of cs conn)) → Has (cond b (Some c) (connection_of (change_first (has_number n) f cs) conn))
+      behind later true h = h
+      behind later false h = later h
+
+      step : (Has (connection_of cs conn) → Has (connection_of (change_first (has_number n) f cs) conn)) → (b : Bool) → Has (connection_of (cond b (f c ∷ cs) (c ∷ change_first (has_number n) f cs)) conn)
+      step later true = own (nat_eq c.conn.0 conn.0) (nat_eq (f c).conn.0 conn.0) (ap (λ m. nat_eq m conn.0) (keeps c)) h
+      step later false = behind later (nat_eq c.conn.0 conn.0) h
+
+  pub has_joined : (new : Connection) (conn : ConnId) (cs : List Connection) → Has (connection_of cs conn) → Has (connection_of (cs ++ new ∷ []) conn)
+  has_joined new conn [] h = absurd h
+  has_joined new conn (c ∷ cs) h = step (has_joined new conn cs) (nat_eq c.conn.0 conn.0) h
+    where
+      step : (Has (connection_of cs conn) → Has (connection_of (cs ++ new ∷ []) conn)) → (b : Bool) → Has (cond b (Some c) (connection_of cs conn)) → Has (cond b (Some c) (connection_of (cs ++ new ∷ []) conn))
+      step later true h = h
+      step later false h = later h
+
+-- the inputs of the connections that are left, once none of another is live
+pub forgotten_named : (n : ConnId) (cs : List Connection) (xs : List Input) → AllByRecursion (NamesClient cs) xs → filter (is_from n) xs ≡ [] → AllByRecursion (NamesClient (drop_first (has_number n) cs)) xs
+forgotten_named n cs [] h none = tt
+forgotten_named n cs (x ∷ xs) h none = step (forgotten_named n cs xs h.1) (is_from n x) refl none
+  where
+    apart : (b : Bool) → nat_eq x.conn.0 n.0 ≡ b → goes_on x ≡ true → is_from n x ≡ false → nat_eq n.0 x.conn.0 ≡ false
+    apart true e live t = absurd (false≢true (sym t ∙ (λ k. e k && live k)))
+    apart false e live t = ne_eqb n.0 x.conn.0 (λ (same : n.0 ≡ x.conn.0). eqb-false x.conn.0 n.0 e (sym same))
+
+    step : (filter (is_from n) xs ≡ [] → AllByRecursion (NamesClient (drop_first (has_number n) cs)) xs) → (b : Bool) → is_from n x ≡ b → cond b (x ∷ filter (is_from n) xs) (filter (is_from n) xs) ≡ [] → AllByRecursion (NamesClient (drop_first (has_number n) cs)) (x ∷ xs)
+    step later true t e = absurd (no_cons x (filter (is_from n) xs) e)
+    step later false t e =
+        ((λ live. subst (λ (o : Option Connection). MatchOption o ⊥ (λ c. x.client ≡ c.client)) (sym (next_left n x.conn (apart (nat_eq x.conn.0 n.0) refl live t) cs)) (h.0 live)), later e)
 
 -- ---- what is the same of each
 

@@ -2,7 +2,8 @@
 use Rattle.std.proofs.Common.{◌≡◌, ◌⊎◌, inl, inr, ℕ, ◌+◌, List, [], ◌∷◌, ◌++◌, map, Option, Some, None, Bool, true, false, refl, ap, sym, subst, ◌∙◌, cond}
 use Rattle.std.specs.Prelude.{◌&&◌, not, nat_eq, nat_lt, filter, length, IsSome, IfSome, MatchOption}
 use Rattle.std.specs.List.{AllByRecursion, find}
-use Rattle.std.proofs.lemmas.Bool.{cond_both, eqb-true, eq-eqb}
+use Rattle.std.proofs.lemmas.Bool.{false≢true, cond_both, eqb-true, eq-eqb}
+use Rattle.std.proofs.lemmas.Option.{same_Some}
 use Rattle.std.proofs.lemmas.List.{map-append, append-nil}
 use Rattle.px_types.specs.declared.ids.ConnId.{ConnId}
 use Rattle.px_types.specs.declared.ids.InputId.{InputId}
@@ -29,15 +30,15 @@ use Rattle.px_state.specs.Outcome.{CoreOutcome}
 use Rattle.px_state.specs.Out.{on_way, inputs_past, next_for, past}
 use Rattle.px_core.specs.Connecting.{is_full, new_connection, joined, connected}
 use Rattle.px_core.specs.Consistency.{IsConsistent, IsStep}
-use Rattle.px_core.specs.Indexed.{AreGiven, own_client, own_connection, indices_of, streams_of, next_stream, IsNextStream, AreIndexed, IsIndexed}
+use Rattle.px_core.specs.Indexed.{NamesClient, AreGiven, own_client, own_connection, indices_of, streams_of, next_stream, IsNextStream, AreIndexed, IsIndexed}
 use Rattle.px_core.specs.Lawful.{HasLeft, Lawful, AreLawfulOwing, owed_after}
 use Rattle.px_core.specs.Parcels.{Brought, given_in}
 use Rattle.px_core.specs.Step.{Step, connect, frame, broken, close, cut, sweep, notice, out, answer_of, stepped, stepped_by}
-use Rattle.px_core.proofs.ListLaws.{same_passed, same_left}
+use Rattle.px_core.proofs.ListLaws.{all_weaken, all_push, all_change, all_change_found, all_drop, same_passed, same_left}
 use Rattle.px_core.proofs.VerbLaws.{by_own}
 use Rattle.px_core.proofs.AnswerLaws.{IsLawful}
 use Rattle.px_core.proofs.ArrivalLaws.{IsArrival, arrival_committed}
-use Rattle.px_core.proofs.GivenLaws.{part_given, given_more, next_change, next_counted, next_other, next_left, next_joined, map_change, map_change_client, left_paired, left_indices, off, streams_left, streams_same, streams_pushed}
+use Rattle.px_core.proofs.GivenLaws.{has_change, has_joined, forgotten_named, part_given, given_more, next_change, next_counted, next_other, next_left, next_joined, map_change, map_change_client, left_paired, left_indices, off, streams_left, streams_same, streams_pushed}
 use Rattle.px_core.proofs.StepLaws.{answer_sound, step_keeps}
 
 -- ---- parts of the state change
@@ -48,6 +49,8 @@ module _ (cs : List Connection) (clients : List Client) (made : ℕ) (inputs : L
     clients_given = h.clients_given;
     paired = map_change (has_number n) f own_client client cs ∙ h.paired;
     streams_given = λ conn. subst (λ next. AreGiven next (streams_of inputs conn)) (sym (next_change n f number streams conn cs)) (h.streams_given conn);
+    clients_named = all_weaken (NamesClient cs) (NamesClient (change_first (has_number n) f cs))
+        (λ x k live. has_change (λ c. x.client ≡ Connection.client c) n f number (λ c e. e ∙ sym (ap (λ (p : ℕ × ℕ). p.1) (client c))) x.conn cs (k live)) inputs h.clients_named;
   }
 
   client_indexed : (n : ConnId) (f : Client → Client) → ((c : Client) → (f c).index ≡ c.index) → ((c : Client) → own_connection (f c) ≡ own_connection c) → AreIndexed cs (change_client (is_on n) f clients) made inputs
@@ -55,13 +58,15 @@ module _ (cs : List Connection) (clients : List Client) (made : ℕ) (inputs : L
     clients_given = subst (AreGiven made) (sym (map_change_client (is_on n) f (λ c. Client.index c) index clients)) h.clients_given;
     paired = h.paired ∙ sym (map_change_client (is_on n) f own_connection connection clients);
     streams_given = h.streams_given;
+    clients_named = h.clients_named;
   }
 
-  inputs_indexed : (after : List Input) → ((conn : ConnId) → streams_of after conn ≡ streams_of inputs conn) → AreIndexed cs clients made after
-  inputs_indexed after same = record {
+  inputs_indexed : (after : List Input) → ((conn : ConnId) → streams_of after conn ≡ streams_of inputs conn) → AllByRecursion (NamesClient cs) after → AreIndexed cs clients made after
+  inputs_indexed after same named = record {
     clients_given = h.clients_given;
     paired = h.paired;
     streams_given = λ conn. subst (AreGiven (next_stream (connection_of cs conn))) (sym (same conn)) (h.streams_given conn);
+    clients_named = named;
   }
 
   left_indexed : (q : Input → Bool) → AreIndexed cs clients made (change_first q leaving inputs)
@@ -69,6 +74,7 @@ module _ (cs : List Connection) (clients : List Client) (made : ℕ) (inputs : L
     clients_given = h.clients_given;
     paired = h.paired;
     streams_given = λ conn. part_given (next_stream (connection_of cs conn)) (streams_of (change_first q leaving inputs) conn) (streams_of inputs conn) (streams_left q conn inputs) (h.streams_given conn);
+    clients_named = all_change (NamesClient cs) q leaving (λ x k live. absurd (false≢true live)) inputs h.clients_named;
   }
 
   -- the connection goes, once none of its streams is live
@@ -77,6 +83,7 @@ module _ (cs : List Connection) (clients : List Client) (made : ℕ) (inputs : L
     clients_given = part_given made (indices_of (without_first (is_on n) clients)) (indices_of clients) (left_indices (is_on n) clients) h.clients_given;
     paired = left_paired n cs clients h.paired;
     streams_given = λ conn. by conn (nat_eq n.0 conn.0) refl;
+    clients_named = forgotten_named n cs inputs h.clients_named none;
   }
     where
       own : AreGiven (next_stream (connection_of (drop_first (has_number n) cs) n)) (streams_of inputs n)
@@ -93,6 +100,7 @@ module _ (cs : List Connection) (clients : List Client) (made : ℕ) (inputs : L
         ∙ ap (λ (pairs : List (ℕ × ℕ)). pairs ++ (n.0, made) ∷ []) h.paired
         ∙ sym (map-append own_connection clients (new_client n made ∷ []));
     streams_given = λ conn. subst (λ next. AreGiven next (streams_of inputs conn)) (sym (next_joined n made conn cs)) (h.streams_given conn);
+    clients_named = all_weaken (NamesClient cs) (NamesClient (cs ++ new_connection n made ∷ [])) (λ x k live. has_joined (λ c. x.client ≡ Connection.client c) (new_connection n made) x.conn cs (k live)) inputs h.clients_named;
   }
 
   -- one more stream
@@ -101,8 +109,14 @@ module _ (cs : List Connection) (clients : List Client) (made : ℕ) (inputs : L
     clients_given = h.clients_given;
     paired = map_change (has_number x.conn) (with_streams streams) own_client (λ c. refl) cs ∙ h.paired;
     streams_given = λ conn. by conn (nat_eq x.conn.0 conn.0) refl;
+    clients_named = all_push (NamesClient counted_cs) inputs x
+        (all_weaken (NamesClient cs) (NamesClient counted_cs) (λ y k on. has_change (λ c. y.client ≡ Connection.client c) x.conn (with_streams streams) (λ c. refl) (λ c e. e) y.conn cs (k on)) inputs h.clients_named)
+        (λ on. has_change (λ c. x.client ≡ Connection.client c) x.conn (with_streams streams) (λ c. refl) (λ c e. e) x.conn cs new.client);
   }
     where
+      counted_cs : List Connection
+      counted_cs = change_first (has_number x.conn) (with_streams streams) cs
+
       counted : (o : Option Connection) → MatchOption o ⊥ (λ c. x.stream ≡ c.streams) → IsSome o × (x.stream ≡ next_stream o)
       counted None own = absurd own
       counted (Some c) own = (refl, own)
@@ -168,17 +182,22 @@ module _ {P : Type 0} where
       by (Moving to) = ended
       by Leaving = h
 
-  same_indexed : (x : Input) (f : Input → Input) (state : State P) → input_of state.inputs x.index ≡ Some x → ((conn : ConnId) → is_from conn (f x) ≡ is_from conn x) → ((y : Input) → (f y).stream ≡ y.stream) → IsIndexed state
+  same_indexed : (x : Input) (f : Input → Input) (state : State P) → input_of state.inputs x.index ≡ Some x → ((conn : ConnId) → is_from conn (f x) ≡ is_from conn x) → ((y : Input) → (f y).stream ≡ y.stream)
+      → ((y : Input) → input_of state.inputs x.index ≡ Some y → NamesClient state.connections y → NamesClient state.connections (f y)) → IsIndexed state
       → AreIndexed state.connections state.names.clients state.clients_made (change_first (has_index x.index) f state.inputs)
-  same_indexed x f state here live stream h =
+  same_indexed x f state here live stream named h =
       inputs_indexed state.connections state.names.clients state.clients_made state.inputs h (change_first (has_index x.index) f state.inputs) (streams_same x f state.inputs here live stream)
+      (all_change_found (NamesClient state.connections) (has_index x.index) f state.inputs named h.clients_named)
 
   departs_indexed : (to : SinkId) (o : Option Input) (index : InputId) (state : State P) → input_of state.inputs index ≡ o → IsIndexed state → IsIndexed (departs_of to o state)
   departs_indexed to None index state e h = h
   departs_indexed to (Some x) index state e h = by x.standing refl
     where
+      here : input_of state.inputs x.index ≡ Some x
+      here = by_own state.inputs index x e
+
       by : (standing : Standing) → x.standing ≡ standing → IsIndexed (departs to standing x state)
-      by Settled is = same_indexed x (moving_to to) state (by_own state.inputs index x e) (λ conn. ap (λ standing. nat_eq x.conn.0 conn.0 && not (is_leaving standing)) (sym is)) (λ y. refl) h
+      by Settled is = same_indexed x (moving_to to) state here (λ conn. ap (λ standing. nat_eq x.conn.0 conn.0 && not (is_leaving standing)) (sym is)) (λ y. refl) (λ y found k on. k (ap (λ (z : Input). goes_on z) (same_Some y x (sym found ∙ here)) ∙ ap (λ standing. not (is_leaving standing)) is)) h
       by (Moving on) is = h
       by Leaving is = h
 
@@ -186,9 +205,12 @@ module _ {P : Type 0} where
   arrives_indexed None index m state e h = h
   arrives_indexed (Some x) index m state e h = by x.standing refl
     where
+      here : input_of state.inputs x.index ≡ Some x
+      here = by_own state.inputs index x e
+
       by : (standing : Standing) → x.standing ≡ standing → IsIndexed (arrives standing x m state)
       by Settled is = h
-      by (Moving to) is = same_indexed x (arrived_at to) state (by_own state.inputs index x e) (λ conn. ap (λ standing. nat_eq x.conn.0 conn.0 && not (is_leaving standing)) (sym is)) (λ y. refl) h
+      by (Moving to) is = same_indexed x (arrived_at to) state here (λ conn. ap (λ standing. nat_eq x.conn.0 conn.0 && not (is_leaving standing)) (sym is)) (λ y. refl) (λ y found k on. k (ap (λ (z : Input). goes_on z) (same_Some y x (sym found ∙ here)) ∙ ap (λ standing. not (is_leaving standing)) is)) h
       by Leaving is = h
 
   released_indexed : (o : Option Input) (state : State P) → IsIndexed state → IsIndexed (releasing_of o state)
@@ -213,12 +235,26 @@ module _ {P : Type 0} where
   noted_streams index (Factors each) inputs conn = refl
   noted_streams index (Query input tag) inputs conn = refl
 
+  noted_named : (index : InputId) (m : Msg P) (cs : List Connection) (inputs : List Input) → AllByRecursion (NamesClient cs) inputs → AllByRecursion (NamesClient cs) (inputs_noted index m inputs)
+  noted_named index (New n) cs inputs h = h
+  noted_named index (Attach input parcel feed factors) cs inputs h = h
+  noted_named index (Detach input) cs inputs h = h
+  noted_named index (Write input seek offset frames bytes) cs inputs h = h
+  noted_named index (Cork input on) cs inputs h = h
+  noted_named index (Flush input) cs inputs h = h
+  noted_named index (Trigger input) cs inputs h = h
+  noted_named index (Prebuf input) cs inputs h = h
+  noted_named index (Drain input tag) cs inputs h = h
+  noted_named index (Attr input attr) cs inputs h = all_change (NamesClient cs) (has_index index) (with_attr attr) (λ y k. k) inputs h
+  noted_named index (Factors each) cs inputs h = h
+  noted_named index (Query input tag) cs inputs h = h
+
   posted_indexed : (o : Option Input) (m : Msg P) (state : State P) → IsIndexed state → IsIndexed (posting_if_there o m state)
   posted_indexed None m state h = h
   posted_indexed (Some x) m state h = by x.standing
     where
       noted : AreIndexed state.connections state.names.clients state.clients_made (inputs_noted x.index m state.inputs)
-      noted = inputs_indexed state.connections state.names.clients state.clients_made state.inputs h (inputs_noted x.index m state.inputs) (noted_streams x.index m state.inputs)
+      noted = inputs_indexed state.connections state.names.clients state.clients_made state.inputs h (inputs_noted x.index m state.inputs) (noted_streams x.index m state.inputs) (noted_named x.index m state.connections state.inputs h.clients_named)
 
       by : (standing : Standing) → IsIndexed (posting_to_input standing x m state)
       by Settled = noted
@@ -242,7 +278,7 @@ module _ {P : Type 0} where
   change_indexed state (Asked w) lawful h = h
   change_indexed state (Answered w) lawful h = h
   change_indexed state (Gone index) lawful h =
-      inputs_indexed state.connections state.names.clients state.clients_made state.inputs h (drop_first (has_index index) state.inputs) (gone_streams state.inputs index lawful)
+      inputs_indexed state.connections state.names.clients state.clients_made state.inputs h (drop_first (has_index index) state.inputs) (gone_streams state.inputs index lawful) (all_drop (NamesClient state.connections) (has_index index) state.inputs h.clients_named)
   change_indexed state (Ended conn reason fault at) lawful h = connection_indexed state.connections state.names.clients state.clients_made state.inputs h conn marked (λ c. refl) (λ c. refl) (λ c. refl)
   change_indexed state (Forgotten conn) lawful h = forgotten_indexed state.connections state.names.clients state.clients_made state.inputs h conn lawful
 
@@ -271,9 +307,23 @@ module _ {P : Type 0} where
   past_streams (Factors each) inputs conn = refl
   past_streams (Query input tag) inputs conn = refl
 
+  past_named : (m : Msg P) (cs : List Connection) (inputs : List Input) → AllByRecursion (NamesClient cs) inputs → AllByRecursion (NamesClient cs) (inputs_past m inputs)
+  past_named (New n) cs inputs h = all_change (NamesClient cs) (has_index n.input) (on_way There) (λ y k. k) inputs h
+  past_named (Attach input parcel feed factors) cs inputs h = all_change (NamesClient cs) (has_index input) (on_way There) (λ y k. k) inputs h
+  past_named (Detach input) cs inputs h = all_change (NamesClient cs) (has_index input) (on_way Left) (λ y k. k) inputs h
+  past_named (Write input seek offset frames bytes) cs inputs h = h
+  past_named (Cork input on) cs inputs h = h
+  past_named (Flush input) cs inputs h = h
+  past_named (Trigger input) cs inputs h = h
+  past_named (Prebuf input) cs inputs h = h
+  past_named (Drain input tag) cs inputs h = h
+  past_named (Attr input attr) cs inputs h = h
+  past_named (Factors each) cs inputs h = h
+  past_named (Query input tag) cs inputs h = h
+
   out_indexed : (o : Option (Msg P)) (sink : SinkId) (state : State P) → IsIndexed state → IsIndexed (past o sink state)
   out_indexed None sink state h = h
-  out_indexed (Some m) sink state h = inputs_indexed state.connections state.names.clients state.clients_made state.inputs h (inputs_past m state.inputs) (past_streams m state.inputs)
+  out_indexed (Some m) sink state h = inputs_indexed state.connections state.names.clients state.clients_made state.inputs h (inputs_past m state.inputs) (past_streams m state.inputs) (past_named m state.connections state.inputs h.clients_named)
 
   arrival_indexed : (spec_of : P → SampleSpec) (state : State P) (outcome : CoreOutcome P) (given : List (Brought P)) → IsArrival spec_of state outcome given → IsIndexed state → IsIndexed (committed state outcome.changes)
   arrival_indexed spec_of state outcome given a h =
@@ -309,4 +359,5 @@ none_indexed = record {
   clients_given = record { rising = tt; below = tt };
   paired = refl;
   streams_given = λ conn. record { rising = tt; below = tt };
+  clients_named = tt;
 }

@@ -1,11 +1,11 @@
 -- The indices of clients, and of the streams of each connection: none is given twice.
-use Rattle.std.specs.Prelude.{◌≡◌, ℕ, ◌+◌, ◌<◌, ◌≤◌, List, map, filter, Option, None, Some, MatchOption}
+use Rattle.std.specs.Prelude.{◌≡◌, ℕ, ◌+◌, ◌<◌, ◌≤◌, true, List, map, filter, Option, None, Some, MatchOption}
 use Rattle.std.specs.List.{AllByRecursion, Contains}
 use Rattle.px_types.specs.declared.ids.ConnId.{ConnId}
 use Rattle.px_names.specs.declared.client.Client.{Client}
 use Rattle.px_outcome.specs.declared.input.Connection.{Connection}
 use Rattle.px_outcome.specs.declared.input.Input.{Input}
-use Rattle.px_state.specs.State.{State, connection_of, is_from}
+use Rattle.px_state.specs.State.{State, connection_of, goes_on, is_from}
 use Rattle.px_core.specs.Consistency.{IsIncreasing}
 
 -- indices that were given one after the other: they rise, and lie below the one that is given next
@@ -40,10 +40,15 @@ abbrev pub next_stream : Option Connection → ℕ
 next_stream None = 0
 next_stream (Some c) = c.streams
 
--- a new input's stream has the next index of its connection, and is counted
+-- a new input's stream has the next index of its connection, and is counted; and the input names its connection's client
 pub record IsNextStream (connections : List Connection) (x : Input) (streams : ℕ) : Type 0 where
   pub next : MatchOption (connection_of connections x.conn) ⊥ (λ c. x.stream ≡ c.streams)
   pub counted : streams ≡ x.stream + 1
+  pub client : MatchOption (connection_of connections x.conn) ⊥ (λ c. x.client ≡ c.client)
+
+-- a live input is of a connection that exists, and names that connection's client
+abbrev pub NamesClient : List Connection → Input → Type 0
+NamesClient connections x = goes_on x ≡ true → MatchOption (connection_of connections x.conn) ⊥ (λ c. x.client ≡ c.client)
 
 -- ---- the state
 
@@ -54,6 +59,7 @@ pub record AreIndexed (connections : List Connection) (clients : List Client) (c
   pub paired : map own_client connections ≡ map own_connection clients
   -- a connection that doesn't exist has no live stream
   pub streams_given : (conn : ConnId) → AreGiven (next_stream (connection_of connections conn)) (streams_of inputs conn)
+  pub clients_named : AllByRecursion (NamesClient connections) inputs
 
 abbrev pub IsIndexed : {P : Type 0} → State P → Type 0
 IsIndexed state = AreIndexed state.connections state.names.clients state.clients_made state.inputs

@@ -97,9 +97,10 @@ pub fn parcels_are_those_given_up<P>()
 {}
 
 /// The indices of clients rise in the order of connecting; each connection has its client, and each client its connection;
-/// and the indices of a connection's live streams rise. So each client is the one with its index, below the number given,
-/// and its info is the one found there. No index is given again: a client or an input with one that was given before was
-/// there before, and is of the same connection. It does nothing: its contract is the law. Source: own.
+/// the indices of a connection's live streams rise, and the inputs that they are of name its client. So each client is the
+/// one with its index, below the number given, and its info is the one found there. No index is given again: a client or an
+/// input with one that was given before was there before, and is of the same connection. It does nothing: its contract is
+/// the law. Source: own.
 pub fn indices_are_given_once<P>()
     ensures new { (header : Header) → IsIndexed {P = P} (new_state header) }
     ensures step { (spec_of : P → SampleSpec) (state : State P) (s : Step P) → IsStep s → IsConsistent spec_of state → IsIndexed state
